@@ -1,0 +1,151 @@
+-- A queue of names, each of which puts its children of some kind at the end, is served in walk order; and what is served is closed.
+use mathlib.Core.Path.{_≡_, refl, sym, ap, _∙_, subst}
+use mathlib.Core.Logic.{_⊎_, inl, inr, ⊎-elim}
+use mathlib.Core.Bool.{Bool, true, false}
+use mathlib.Core.List.{List, [], _∷_, _++_, List·Memᴰ, List·Memᴰ·head, List·Memᴰ·tail, List·Memᴰ·not-nil, List·Memᴰ·cases-cons, List·Memᴰ·append-cases, Memᴰ·append-left, Memᴰ·append-right}
+use Prim.Native.Nat.{ℕ, zero, suc, _+_, _≤_, _<_, compare, Ordering, Ordering·lt, Ordering·eq, Ordering·gt}
+use native.Mathlib.Omega.{arith}
+use lib.ListN.{length, length-append}
+use Rattle.listing_rules.specs.Orders.{byteOrder, thenBy}
+use Rattle.listing_rules.specs.Names.{levels, levelOrder, walkOrder}
+use Rattle.listing_rules.proofs.Order.{Total, swap, lt-compare, gt-compare}
+use Rattle.listing_rules.proofs.WalkOrder.{walk-total}
+use Rattle.listing_rules.proofs.Sorted.{Above, Asc, above-mem}
+use Rattle.listing_rules.proofs.Levels.{child, levels-child, walk-children, walk-same-depth}
+use Rattle.listing_rules.proofs.Percent.{oneLevel}
+
+abbrev pub Name : Type 0
+Name = List ℕ
+
+abbrev pub depth : Name → ℕ
+depth a = length (levels a)
+
+pub depth-child : (a x : Name) → oneLevel x ≡ true → depth (child a x) ≡ suc (depth a)
+depth-child a x h = ap length (levels-child a x h) ∙ length-append (levels a) (x ∷ []) ∙ omega arith
+
+pub walk-deeper : (a b : Name) → depth a < depth b → walkOrder a b ≡ Ordering·lt
+unfolding walkOrder thenBy
+walk-deeper a b h = rw (lt-compare (depth a) (depth b) h)
+
+pub walk-higher : (a b : Name) → depth b < depth a → walkOrder a b ≡ Ordering·gt
+unfolding walkOrder thenBy
+walk-higher a b h = rw (gt-compare (depth a) (depth b) h)
+
+-- children of names in walk order
+pub walk-cousins : (a b x y : Name) → depth a ≡ depth b → oneLevel x ≡ true → oneLevel y ≡ true → walkOrder a b ≡ Ordering·lt → walkOrder (child a x) (child b y) ≡ Ordering·lt
+unfolding thenBy
+walk-cousins a b x y e h k l = walk-children a b x y e h k ∙ rw (sym (walk-same-depth a b e) ∙ l)
+
+-- ascending lists, one behind the other
+above-append : (w : Name) (xs ys : List Name) → Above walkOrder w xs → Above walkOrder w ys → Above walkOrder w (xs ++ ys)
+above-append w [] ys a b = b
+above-append w (x ∷ xs) ys a b = (a .0, above-append w xs ys (a .1) b)
+
+above-all : (w : Name) (ys : List Name) → ((y : Name) → List·Memᴰ y ys → walkOrder w y ≡ Ordering·lt) → Above walkOrder w ys
+above-all w [] h = tt
+above-all w (y ∷ ys) h = (h y (List·Memᴰ·head refl), above-all w ys (λ z m. h z (List·Memᴰ·tail m)))
+
+pub asc-append : (xs ys : List Name) → Asc walkOrder xs → Asc walkOrder ys → ((x y : Name) → List·Memᴰ x xs → List·Memᴰ y ys → walkOrder x y ≡ Ordering·lt) → Asc walkOrder (xs ++ ys)
+asc-append [] ys a b h = b
+asc-append (x ∷ xs) ys a b h =
+    (above-append x xs ys (a .0) (above-all x ys (λ y m. h x y (List·Memᴰ·head refl) m)), asc-append xs ys (a .1) b (λ z y m k. h z y (List·Memᴰ·tail m) k))
+
+-- e is a child of some b before a, of a's depth
+pub record Cousin (a e : Name) : Type 0 where
+  pub parent : Name
+  pub last : Name
+  pub is : e ≡ child parent last
+  pub one : oneLevel last ≡ true
+  pub level : depth parent ≡ depth a
+  pub earlier : walkOrder parent a ≡ Ordering·lt
+
+abbrev pub Behind : Name → Name → Type 0
+Behind a e = (depth e ≡ depth a) ⊎ Cousin a e
+
+abbrev pub Good : List Name → Type 0
+Good [] = Unit {0}
+Good (a ∷ q) = Asc walkOrder (a ∷ q) × ((e : Name) → List·Memᴰ e q → Behind a e)
+
+module _ (kids : Name → List Name) (kidsAsc : (a : Name) → Asc walkOrder (kids a)) (kidsShape : (a e : Name) → List·Memᴰ e (kids a) → (x : Name) × (e ≡ child a x) × (oneLevel x ≡ true)) where
+  kid-depth : (a e : Name) → List·Memᴰ e (kids a) → depth e ≡ suc (depth a)
+  kid-depth a e m = let w = kidsShape a e m in ap depth (w .1) ∙ depth-child a (w .0) (w .2)
+
+  cousin-depth : (a e : Name) → Cousin a e → depth e ≡ suc (depth a)
+  cousin-depth a e c = ap depth (c .is) ∙ depth-child (c .parent) (c .last) (c .one) ∙ ap suc (c .level)
+
+  -- what stands in the queue comes before the new children
+  before-kid : (a e k : Name) → Behind a e → List·Memᴰ k (kids a) → walkOrder e k ≡ Ordering·lt
+  before-kid a e k (inl d) m = walk-deeper e k (omega (arith, kid-depth a k m))
+  before-kid a e k (inr c) m =
+      let w = kidsShape a k m in
+      rw (c .is, w .1) (walk-cousins (c .parent) a (c .last) (w .0) (c .level) (c .one) (w .2) (c .earlier))
+
+  later : (a b e : Name) → walkOrder a b ≡ Ordering·lt → depth b ≡ depth a → Behind a e → Behind b e
+  later a b e l d (inl h) = inl (h ∙ sym d)
+  later a b e l d (inr c) =
+      inr (record { parent = c .parent; last = c .last; is = c .is; one = c .one; level = c .level ∙ sym d; earlier = walk-total .trans (c .parent) a b (c .earlier) l })
+
+  kid-behind : (a b e : Name) → walkOrder a b ≡ Ordering·lt → depth b ≡ depth a → List·Memᴰ e (kids a) → Behind b e
+  kid-behind a b e l d m =
+      let w = kidsShape a e m in
+      inr (record { parent = a; last = w .0; is = w .1; one = w .2; level = sym d; earlier = l })
+
+  not-lt-higher : (b e : Name) → depth e < depth b → walkOrder b e ≡ Ordering·lt → ⊥
+  not-lt-higher b e h l = let g = walk-higher b e h in let z : _≡_ {A = ℕ} 0 1 = cc in omega arith
+
+  pub good-next : (a : Name) (q : List Name) → Good (a ∷ q) → Good (q ++ kids a)
+  good-next a [] g = start (kids a) (kidsAsc a) (λ e m. kid-depth a e m)
+    where
+      start : (ks : List Name) → Asc walkOrder ks → ((e : Name) → List·Memᴰ e ks → depth e ≡ suc (depth a)) → Good ks
+      start [] s d = tt
+      start (k ∷ ks) s d = (s, λ e m. inl (d e (List·Memᴰ·tail m) ∙ sym (d k (List·Memᴰ·head refl))))
+  good-next a (b ∷ q) g =
+      (asc-append (b ∷ q) (kids a) (g .0 .1) (kidsAsc a) (λ e k m n. before-kid a e k (g .1 e m) n), λ e m. split e (List·Memᴰ·append-cases q m))
+    where
+      a<b : walkOrder a b ≡ Ordering·lt
+      a<b = g .0 .0 .0
+
+      old : (e : Name) → List·Memᴰ e q → Behind a b → Behind a e → Behind b e
+      old e m (inl d) h = later a b e a<b d h
+      old e m (inr c) (inl d) = absurd (not-lt-higher b e (omega (arith, cousin-depth a b c)) (above-mem walkOrder walk-total b e q (g .0 .1 .0) m))
+      old e m (inr c) (inr k) = inl (cousin-depth a e k ∙ sym (cousin-depth a b c))
+
+      new : (e : Name) → List·Memᴰ e (kids a) → Behind a b → Behind b e
+      new e m (inl d) = kid-behind a b e a<b d m
+      new e m (inr c) = inl (kid-depth a e m ∙ sym (cousin-depth a b c))
+
+      split : (e : Name) → List·Memᴰ e q ⊎ List·Memᴰ e (kids a) → Behind b e
+      split e (inl m) = old e m (g .1 b (List·Memᴰ·head refl)) (g .1 e (List·Memᴰ·tail m))
+      split e (inr m) = new e m (g .1 b (List·Memᴰ·head refl))
+
+  -- the order of service
+  unfoldable pub served : ℕ → List Name → List Name
+  served zero q = []
+  served (suc k) [] = []
+  served (suc k) (a ∷ q) = a ∷ served k (q ++ kids a)
+
+  good-asc : (q : List Name) → Good q → Asc walkOrder q
+  good-asc [] g = tt
+  good-asc (a ∷ q) g = g .0
+
+  above-trans : (w x : Name) (l : List Name) → walkOrder w x ≡ Ordering·lt → Above walkOrder x l → Above walkOrder w l
+  above-trans w x [] e a = tt
+  above-trans w x (y ∷ ys) e a = (walk-total .trans w x y e (a .0), above-trans w x ys e (a .1))
+
+  -- before the queue, before all that is served
+  above-served : (k : ℕ) (w : Name) (q : List Name) → Above walkOrder w q → Asc walkOrder (served k q) → Above walkOrder w (served k q)
+  unfolding served
+  above-served zero w q a s = tt
+  above-served (suc k) w [] a s = tt
+  above-served (suc k) w (x ∷ q) a s = (a .0, above-trans w x (served k (q ++ kids x)) (a .0) (s .0))
+
+  above-next : (a : Name) (q : List Name) → Good (a ∷ q) → Above walkOrder a (q ++ kids a)
+  above-next a q g = above-append a q (kids a) (g .0 .0) (above-all a (kids a) (λ k m. walk-deeper a k (omega (arith, kid-depth a k m))))
+
+  pub served-asc : (k : ℕ) (q : List Name) → Good q → Asc walkOrder (served k q)
+  unfolding served
+  served-asc zero q g = tt
+  served-asc (suc k) [] g = tt
+  served-asc (suc k) (a ∷ q) g =
+      let s = served-asc k (q ++ kids a) (good-next a q g) in
+      (above-served k a (q ++ kids a) (above-next a q g) s, s)

@@ -1,0 +1,124 @@
+-- The collector's own commands are read as what they mean.
+use mathlib.Core.Path.{_≡_, refl, sym, ap, _∙_, subst}
+use mathlib.Core.Bool.{Bool, true, false, cond, _&&_, _||_, not, false≢true}
+use mathlib.Core.List.{List, [], _∷_, _++_, append-assoc}
+use mathlib.Core.Option.{Option, none, some}
+use Prim.Native.Nat.{ℕ, zero, suc, _+_, _*_, _≤_, _<_}
+use native.Mathlib.Omega.{arith}
+use lib.Dec.{eqb, leb}
+use lib.ListN.{length, length-append}
+use borrow.Author.Tests.{eqb-true, eq-eqb, ne-eqb, not-true, le-leb, leb-true}
+use Rattle.listing_rules.specs.Bytes.{text, quote, backslash, space, crlf, same, all, within, openBytes}
+use Rattle.listing_rules.specs.Lists.{openLists}
+use Rattle.listing_rules.specs.Orders.{openOrders}
+use Rattle.listing_rules.specs.Names.{nameByte, openNames}
+use Rattle.listing_rules.specs.Tokens.{unquoted, got, _>>=_, openTokens}
+use Rattle.listing_rules.specs.Options.{Options, openOptions}
+use Rattle.listing_rules.specs.Command.{lineByte, shaped, Parsed, listing, parsed, lineText, orRefuse, tagged, openCommand}
+use Rattle.listing_rules.specs.Match.{openMatch}
+use Rattle.listing_rules.specs.Listing.{openListing}
+use Rattle.listing_rules.specs.Lines.{escaped, quoted, openLines}
+use Rattle.listing_rules.specs.Reader.{openReader}
+use Rattle.listing_rules.specs.Walk.{commandLine, wantsSpecial, wantsRemote, when, openWalk}
+use Rattle.listing_rules.specs.Demand3.{walkOptions, openDemand3}
+use Rattle.listing_rules.proofs.Ancestors.{and-l, and-r, and-i}
+use Rattle.listing_rules.proofs.ReaderWriter.{unquoted-escaped}
+
+-- the shape of a line
+pub shaped-append : (x : List ℕ) → all lineByte x ≡ true → shaped (x ++ crlf) ≡ some x
+unfolding openBytes openLists openCommand openTokens openOptions openLines openReader
+shaped-append [] h = refl
+shaped-append (b ∷ x) h =
+    let this = and-l (lineByte b) (all lineByte x) h in
+    let not13 = not-true (eqb b 13) (and-r (within 0x01 0x7F b) (not (eqb b 13)) (and-l (within 0x01 0x7F b && not (eqb b 13)) (not (eqb b 10)) this)) in
+    step (lineByte b) this not13 (shaped-append x (and-r (lineByte b) (all lineByte x) h))
+  where
+    step : (o : Bool) → o ≡ true → eqb b 13 ≡ false → shaped (x ++ crlf) ≡ some x → cond (same (b ∷ (x ++ crlf)) crlf) (some []) (cond o (shaped (x ++ crlf) >>= λ u. some (b ∷ u)) none) ≡ some (b ∷ x)
+    step o e f ih = rw (f, e, ih)
+
+-- the bytes of an escaped name
+pub length-escaped : (n : List ℕ) → length (escaped n) ≤ 2 * length n
+unfolding openLines openTokens openReader
+length-escaped [] = omega arith
+length-escaped (b ∷ n) = go (eqb b quote || eqb b backslash) (length-escaped n)
+  where
+    go : (o : Bool) → length (escaped n) ≤ 2 * length n → length (cond o (backslash ∷ b ∷ escaped n) (b ∷ escaped n)) ≤ 2 * suc (length n)
+    go true h = omega arith
+    go false h = omega arith
+
+pub all-append : (p : ℕ → Bool) (a b : List ℕ) → all p a ≡ true → all p b ≡ true → all p (a ++ b) ≡ true
+unfolding openBytes openLists
+all-append p [] b h g = g
+all-append p (x ∷ a) b h g = and-i (p x) (all p (a ++ b)) (and-l (p x) (all p a) h) (all-append p a b (and-r (p x) (all p a) h) g)
+
+pub all-escaped : (n : List ℕ) → all lineByte n ≡ true → all lineByte (escaped n) ≡ true
+unfolding openBytes openLists openLines openTokens openReader openCommand openOptions
+all-escaped [] h = refl
+all-escaped (b ∷ n) h = go (eqb b quote || eqb b backslash) (all-escaped n (and-r (lineByte b) (all lineByte n) h))
+  where
+    go : (o : Bool) → all lineByte (escaped n) ≡ true → all lineByte (cond o (backslash ∷ b ∷ escaped n) (b ∷ escaped n)) ≡ true
+    go true ih = and-i (lineByte b) (all lineByte (escaped n)) (and-l (lineByte b) (all lineByte n) h) ih
+    go false ih = and-i (lineByte b) (all lineByte (escaped n)) (and-l (lineByte b) (all lineByte n) h) ih
+
+-- what stands before the reference and behind it
+abbrev before : Bool → Bool → List ℕ
+before true true = text "w LIST (SUBSCRIBED RECURSIVEMATCH SPECIAL-USE REMOTE) \""
+before true false = text "w LIST (SUBSCRIBED RECURSIVEMATCH SPECIAL-USE) \""
+before false true = text "w LIST (SUBSCRIBED RECURSIVEMATCH REMOTE) \""
+before false false = text "w LIST (SUBSCRIBED RECURSIVEMATCH) \""
+
+abbrev body : Bool → Bool → List ℕ → List ℕ
+body s r n = before s r ++ (escaped n ++ text "\" \"%\"")
+
+abbrev optionsFor : Bool → Bool → Options
+optionsFor s r =
+    record {
+      selSubscribed = true;
+      selRemote = r;
+      selRecursive = true;
+      selSpecial = s;
+      retSubscribed = false;
+      retChildren = false;
+      retSpecial = false;
+    }
+
+body-bytes : (s r : Bool) (n : List ℕ) → all lineByte n ≡ true → all lineByte (body s r n) ≡ true
+unfolding openBytes openLists openCommand openTokens openOptions
+body-bytes true true n h = all-append lineByte (escaped n) (text "\" \"%\"") (all-escaped n h) refl
+body-bytes true false n h = all-append lineByte (escaped n) (text "\" \"%\"") (all-escaped n h) refl
+body-bytes false true n h = all-append lineByte (escaped n) (text "\" \"%\"") (all-escaped n h) refl
+body-bytes false false n h = all-append lineByte (escaped n) (text "\" \"%\"") (all-escaped n h) refl
+
+fits : (n : List ℕ) → length n ≤ 254 → leb (length (n ++ (37 ∷ []))) 255 ≡ true
+fits n h = le-leb (length (n ++ (37 ∷ []))) 255 (omega (arith, length-append n (37 ∷ [])))
+
+body-read : (s r : Bool) (n : List ℕ) → length n ≤ 254 → tagged (body s r n) ≡ listing (text "w") (optionsFor s r) ((n ++ text "%") ∷ [])
+unfolding openBytes openLists openLines openTokens openReader openCommand openOptions openMatch
+body-read true true n h = rw (unquoted-escaped n (text " \"%\""), fits n h)
+body-read true false n h = rw (unquoted-escaped n (text " \"%\""), fits n h)
+body-read false true n h = rw (unquoted-escaped n (text " \"%\""), fits n h)
+body-read false false n h = rw (unquoted-escaped n (text " \"%\""), fits n h)
+
+-- a command of the collector, read
+line-is : (o : ℕ) (n : List ℕ) → commandLine o n ≡ body (wantsSpecial o) (wantsRemote o) n ++ crlf
+unfolding openBytes openLists openLines openTokens openReader openWalk openDemand3
+line-is o n = go (wantsSpecial o) (wantsRemote o)
+  where
+    go : (s r : Bool) → (text "w LIST (SUBSCRIBED RECURSIVEMATCH" ++ (when s (text " SPECIAL-USE") ++ (when r (text " REMOTE") ++ (text ") " ++ (quoted n ++ (text " \"%\"" ++ crlf)))))) ≡ body s r n ++ crlf
+    go true true = simp append-assoc
+    go true false = simp append-assoc
+    go false true = simp append-assoc
+    go false false = simp append-assoc
+
+short : (s r : Bool) (n : List ℕ) → length n ≤ 254 → length (body s r n ++ crlf) ≤ 2048
+unfolding openBytes openLists
+short true true n h = simp length-append (omega (arith, length-escaped n))
+short true false n h = simp length-append (omega (arith, length-escaped n))
+short false true n h = simp length-append (omega (arith, length-escaped n))
+short false false n h = simp length-append (omega (arith, length-escaped n))
+
+pub sent : (o : ℕ) (n : List ℕ) → all lineByte n ≡ true → length n ≤ 254 → parsed (commandLine o n) ≡ listing (text "w") (walkOptions o) ((n ++ text "%") ∷ [])
+unfolding parsed lineText orRefuse walkOptions
+sent o n h k =
+    rw (line-is o n, le-leb (length (body (wantsSpecial o) (wantsRemote o) n ++ crlf)) 2048 (short (wantsSpecial o) (wantsRemote o) n k), shaped-append (body (wantsSpecial o) (wantsRemote o) n) (body-bytes (wantsSpecial o) (wantsRemote o) n h))
+    (body-read (wantsSpecial o) (wantsRemote o) n k)

@@ -1,0 +1,74 @@
+-- Bytes as numbers, the document's texts as bytes, and tests on them.
+use mathlib.Core.List.{List, [], _∷_, _++_}
+use mathlib.Core.Bool.{Bool, true, false, cond, _&&_, _||_, not}
+use lib.Dec.{eqb, leb}
+use Prim.Native.Nat.{ℕ, _-_, _^_, _/_, _%_}
+use Prim.Native.String.{String, [] as end, _∷_ as _then_}
+use Prim.Native.Char.{code}
+
+-- a text of the document, as its bytes
+unfoldable pub text : String → List ℕ
+text end = []
+text (c then s) = code c ∷ text s
+
+unfoldable pub slash : ℕ
+slash = 47
+
+unfoldable pub quote : ℕ
+quote = 34
+
+unfoldable pub backslash : ℕ
+backslash = 92
+
+unfoldable pub space : ℕ
+space = 32
+
+unfoldable pub crlf : List ℕ
+crlf = 13 ∷ 10 ∷ []
+
+-- bit k of a number is set
+unfoldable pub bit : ℕ → ℕ → Bool
+bit k f = eqb (f / 2 ^ k % 2) 1
+
+-- b lies in lo to hi, both included
+unfoldable pub within : ℕ → ℕ → ℕ → Bool
+within lo hi b = leb lo b && leb b hi
+
+-- b is one of the bytes
+unfoldable pub oneOf : List ℕ → ℕ → Bool
+oneOf [] b = false
+oneOf (x ∷ xs) b = eqb x b || oneOf xs b
+
+-- every byte passes the test
+unfoldable pub all : (ℕ → Bool) → List ℕ → Bool
+all p [] = true
+all p (x ∷ xs) = p x && all p xs
+
+-- there is no byte
+unfoldable pub isEmpty : List ℕ → Bool
+isEmpty [] = true
+isEmpty (b ∷ t) = false
+
+-- the two texts are the same
+unfoldable pub same : List ℕ → List ℕ → Bool
+same [] [] = true
+same [] (y ∷ ys) = false
+same (x ∷ xs) [] = false
+same (x ∷ xs) (y ∷ ys) = eqb x y && same xs ys
+
+-- a letter a to z raised to A to Z; other bytes as they are
+unfoldable pub raise : ℕ → ℕ
+raise b = cond (within 97 122 b) (b - 32) b
+
+unfoldable pub raised : List ℕ → List ℕ
+raised [] = []
+raised (b ∷ t) = raise b ∷ raised t
+
+-- the text is the word in any case of letters; the word is written without small letters
+unfoldable pub spells : List ℕ → List ℕ → Bool
+spells t word = same (raised t) word
+
+-- opens every definition of this file, for a proof by computation
+unfoldable pub openBytes : Unit {0}
+unfolding text slash quote backslash space crlf bit within oneOf all isEmpty same raise raised spells
+openBytes = tt

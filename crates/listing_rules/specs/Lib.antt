@@ -1,0 +1,19 @@
+-- Document 01 as definitions, one file a topic, in the paper's order.
+pub mod Bytes
+pub mod Lists
+pub mod Orders
+pub mod Names
+pub mod Flags
+pub mod Table
+pub mod Namespaces
+pub mod Tokens
+pub mod Options
+pub mod Command
+pub mod Match
+pub mod Listing
+pub mod Lines
+pub mod Server
+pub mod Reader
+pub mod Walk
+pub mod Demand3
+pub mod Frames

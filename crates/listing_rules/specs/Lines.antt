@@ -1,0 +1,73 @@
+-- The text of an answer's lines.
+use mathlib.Core.List.{List, [], _∷_, _++_}
+use mathlib.Core.Bool.{Bool, true, false, cond, _||_}
+use lib.Dec.{eqb}
+use Prim.Native.Nat.{ℕ}
+use Rattle.listing_rules.specs.Bytes.{text, quote, backslash, space, crlf}
+
+-- "Attributes, these sixteen, in this order"
+unfoldable pub attributeNames : List (List ℕ)
+attributeNames =
+    text "\\Marked"
+    ∷ text "\\Unmarked"
+    ∷ text "\\Noselect"
+    ∷ text "\\NoInferiors"
+    ∷ text "\\Remote"
+    ∷ text "\\Subscribed"
+    ∷ text "\\NonExistent"
+    ∷ text "\\All"
+    ∷ text "\\Archive"
+    ∷ text "\\Drafts"
+    ∷ text "\\Flagged"
+    ∷ text "\\Junk"
+    ∷ text "\\Sent"
+    ∷ text "\\Trash"
+    ∷ text "\\HasChildren"
+    ∷ text "\\HasNoChildren"
+    ∷ []
+
+-- the names that are shown
+unfoldable pub chosen : List Bool → List (List ℕ) → List (List ℕ)
+chosen [] ns = []
+chosen (b ∷ bs) [] = []
+chosen (b ∷ bs) (n ∷ ns) = let r = chosen bs ns in cond b (n ∷ r) r
+
+-- with one space between two
+unfoldable pub spacedTail : List (List ℕ) → List ℕ
+spacedTail [] = []
+spacedTail (x ∷ xs) = space ∷ (x ++ spacedTail xs)
+
+unfoldable pub spaced : List (List ℕ) → List ℕ
+spaced [] = []
+spaced (x ∷ xs) = x ++ spacedTail xs
+
+-- "In quotes, '"' and '\' take a backslash."
+unfoldable pub escaped : List ℕ → List ℕ
+escaped [] = []
+escaped (b ∷ t) = let r = escaped t in cond (eqb b quote || eqb b backslash) (backslash ∷ b ∷ r) (b ∷ r)
+
+unfoldable pub quoted : List ℕ → List ℕ
+quoted t = quote ∷ (escaped t ++ (quote ∷ []))
+
+-- "then perhaps ` ("CHILDINFO" ("SUBSCRIBED"))`"
+unfoldable pub childInfoText : Bool → List ℕ
+childInfoText true = text " (\"CHILDINFO\" (\"SUBSCRIBED\"))"
+childInfoText false = []
+
+-- "Line: `* LIST (attributes) "/" "name"`, then perhaps ` ("CHILDINFO" ("SUBSCRIBED"))`, CR LF."
+unfoldable pub listLine : List Bool → List ℕ → Bool → List ℕ
+listLine bs n c =
+    text "* LIST (" ++ (spaced (chosen bs attributeNames) ++ (text ") \"/\" " ++ (quoted n ++ (childInfoText c ++ crlf))))
+
+-- "Root line: `* LIST (\Noselect) "/" ""`."
+unfoldable pub rootLine : List ℕ
+rootLine = text "* LIST (\\Noselect) \"/\" \"\"" ++ crlf
+
+-- "Every answer ends with the tag and ` OK done`, CR LF."
+unfoldable pub okLine : List ℕ → List ℕ
+okLine tag = tag ++ (text " OK done" ++ crlf)
+
+-- opens every definition of this file, for a proof by computation
+unfoldable pub openLines : Unit {0}
+unfolding attributeNames chosen spacedTail spaced escaped quoted childInfoText listLine rootLine okLine
+openLines = tt

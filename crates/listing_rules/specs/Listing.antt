@@ -1,0 +1,87 @@
+-- What is listed, and with which attributes.
+use mathlib.Core.List.{List, [], _∷_, map}
+use mathlib.Core.Bool.{Bool, _&&_, _||_, not}
+use Prim.Native.Nat.{ℕ}
+use Rattle.listing_rules.specs.Bytes.{bit}
+use Rattle.listing_rules.specs.Lists.{anyOf, keep, joined}
+use Rattle.listing_rules.specs.Orders.{byteOrder, sorted}
+use Rattle.listing_rules.specs.Names.{properAncestors, below}
+use Rattle.listing_rules.specs.Flags.{exists, subscribed, remote, noSelect, noInferiors, marked, unmarked, hasUse}
+use Rattle.listing_rules.specs.Table.{Row, hasRow, flagsOf}
+use Rattle.listing_rules.specs.Options.{Options}
+use Rattle.listing_rules.specs.Match.{matchesAny}
+
+-- "Candidates are the table's names and all their proper ancestors"; each once, ascending by name
+unfoldable pub candidates : List Row → List (List ℕ)
+candidates rs = sorted byteOrder (joined (map (λ r. r .name ∷ properAncestors (r .name)) rs))
+
+-- "An ancestor without a row is an implied name": a candidate that has no row. Its flags are 0 (law `implied-flags`).
+unfoldable pub implied : List Row → List ℕ → Bool
+implied rs n = not (hasRow rs n)
+
+-- "A candidate meets the criteria if: it exists or SUBSCRIBED is selected; it is local or REMOTE is selected; it is subscribed if
+--  SUBSCRIBED is selected; and it has a special use if SPECIAL-USE is selected." f are its flags.
+unfoldable pub meetsCriteria : Options → ℕ → Bool
+meetsCriteria o f =
+    (exists f || o .selSubscribed)
+    && (not (remote f) || o .selRemote)
+    && (not (o .selSubscribed) || subscribed f)
+    && (not (o .selSpecial) || hasUse f)
+
+unfoldable pub candidateMeets : List Row → Options → List ℕ → Bool
+candidateMeets rs o n = meetsCriteria o (flagsOf rs n)
+
+-- "some proper descendant meets the criteria, whether that one matches or not"
+unfoldable pub meetsBelow : List Row → Options → List ℕ → Bool
+meetsBelow rs o n = anyOf (λ d. below n d && candidateMeets rs o d) (candidates rs)
+
+-- "some descendant meets them and matches no pattern"
+unfoldable pub meetsUnmatchedBelow : List Row → Options → List (List ℕ) → List ℕ → Bool
+meetsUnmatchedBelow rs o ps n = anyOf (λ d. below n d && candidateMeets rs o d && not (matchesAny ps d)) (candidates rs)
+
+-- "A candidate that matches some pattern is listed if it meets the criteria, or, under RECURSIVEMATCH, if some descendant meets them
+--  and matches no pattern (RFC 5258, 3.3)."
+unfoldable pub listed : List Row → Options → List (List ℕ) → List ℕ → Bool
+listed rs o ps n = matchesAny ps n && (candidateMeets rs o n || (o .selRecursive && meetsUnmatchedBelow rs o ps n))
+
+-- "CHILDINFO is on a listed line exactly if RECURSIVEMATCH was given and some proper descendant meets the criteria"
+unfoldable pub childInfo : List Row → Options → List ℕ → Bool
+childInfo rs o n = o .selRecursive && meetsBelow rs o n
+
+-- "\HasChildren: some existing row lies below that is local, or REMOTE is selected."
+unfoldable pub hasChildren : List Row → Options → List ℕ → Bool
+hasChildren rs o n = anyOf (λ r. below n (r .name) && exists (r .flags) && (not (remote (r .flags)) || o .selRemote)) rs
+
+-- Which of the sixteen are shown, in their order. "\Subscribed is shown only if SUBSCRIBED is selected or returned, uses only if
+-- SPECIAL-USE is, the last two only with CHILDREN. Bits 2 to 6 always show, \NonExistent on all that do not exist."
+-- "Else \HasNoChildren, except beside \NoInferiors."
+unfoldable pub attributes : List Row → Options → List ℕ → List Bool
+attributes rs o n =
+    let f = flagsOf rs n in
+    let usesShow = o .selSpecial || o .retSpecial in
+    marked f
+    ∷ unmarked f
+    ∷ noSelect f
+    ∷ noInferiors f
+    ∷ remote f
+    ∷ (subscribed f && (o .selSubscribed || o .retSubscribed))
+    ∷ not (exists f)
+    ∷ (bit 8 f && usesShow)
+    ∷ (bit 9 f && usesShow)
+    ∷ (bit 10 f && usesShow)
+    ∷ (bit 11 f && usesShow)
+    ∷ (bit 12 f && usesShow)
+    ∷ (bit 13 f && usesShow)
+    ∷ (bit 14 f && usesShow)
+    ∷ (o .retChildren && hasChildren rs o n)
+    ∷ (o .retChildren && not (hasChildren rs o n) && not (noInferiors f))
+    ∷ []
+
+-- "Each name has at most one line; lines ascend by name."
+unfoldable pub listedNames : List Row → Options → List (List ℕ) → List (List ℕ)
+listedNames rs o ps = keep (listed rs o ps) (candidates rs)
+
+-- opens every definition of this file, for a proof by computation
+unfoldable pub openListing : Unit {0}
+unfolding candidates implied meetsCriteria candidateMeets meetsBelow meetsUnmatchedBelow listed childInfo hasChildren attributes listedNames
+openListing = tt

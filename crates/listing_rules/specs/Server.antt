@@ -1,0 +1,86 @@
+-- The server's answer, its refusals in order, and what they leave in the answer buffer.
+use mathlib.Core.List.{List, [], _∷_, _++_, map}
+use mathlib.Core.Bool.{Bool, cond}
+use lib.Dec.{eqb, leb}
+use lib.ListN.{length, drop}
+use Prim.Native.Nat.{ℕ}
+use Rattle.listing_rules.specs.Bytes.{text, crlf}
+use Rattle.listing_rules.specs.Lists.{joined}
+use Rattle.listing_rules.specs.Table.{Row, rows, passes}
+use Rattle.listing_rules.specs.Namespaces.{Entry, entries, namespacesPass, ofClass}
+use Rattle.listing_rules.specs.Options.{Options}
+use Rattle.listing_rules.specs.Command.{Parsed, refused, namespace, listing, rootOf, parsed}
+use Rattle.listing_rules.specs.Listing.{listedNames, attributes, childInfo}
+use Rattle.listing_rules.specs.Lines.{listLine, rootLine, okLine, quoted}
+
+-- a number of refusal, or the bytes of an answer
+pub data Reply : Type 0 where
+  refusal : ℕ → Reply
+  answered : List ℕ → Reply
+
+-- the line of a listed name
+unfoldable pub lineOf : List Row → Options → List ℕ → List ℕ
+lineOf rs o n = listLine (attributes rs o n) n (childInfo rs o n)
+
+-- the LIST lines, then the tagged line
+unfoldable pub listAnswer : List Row → List ℕ → Options → List (List ℕ) → List ℕ
+listAnswer rs tag o ps = joined (map (lineOf rs o) (listedNames rs o ps)) ++ okLine tag
+
+-- "a delimiter is quoted or NIL"
+unfoldable pub delimiterText : ℕ → List ℕ
+delimiterText d = cond (eqb d 0) (text "NIL") (quoted (d ∷ []))
+
+-- an entry "such as `("#mh/" "/")`"
+unfoldable pub entryText : Entry → List ℕ
+entryText e = text "(" ++ (quoted (e .prefix) ++ (text " " ++ (delimiterText (e .delimiter) ++ text ")")))
+
+-- "three classes, each NIL or entries"
+unfoldable pub classText : List Entry → List ℕ
+classText [] = text " NIL"
+classText (e ∷ es) = text " (" ++ (joined (map entryText (e ∷ es)) ++ text ")")
+
+-- "NAMESPACE: `* NAMESPACE` and three classes"
+unfoldable pub namespaceAnswer : List Entry → List ℕ → List ℕ
+namespaceAnswer es tag =
+    text "* NAMESPACE" ++ (classText (ofClass 0 es) ++ (classText (ofClass 1 es) ++ (classText (ofClass 2 es) ++ (crlf ++ okLine tag))))
+
+unfoldable pub answerTo : List Row → List Entry → Parsed → Reply
+answerTo rs es (refused k) = refusal k
+answerTo rs es (namespace tag) = answered (namespaceAnswer es tag)
+answerTo rs es (listing tag o ps) = answered (listAnswer rs tag o ps)
+answerTo rs es (rootOf tag) = answered (rootLine ++ okLine tag)
+
+-- "Server order: 1, 2, 3, tag 4, 5, rest 4, 6, 7, 8, 9." The first eight:
+unfoldable pub answer : List ℕ → List ℕ → List ℕ → Reply
+answer table spaces l =
+    let r = answerTo (rows table) (entries spaces) (parsed l) in
+    let e2 = cond (namespacesPass spaces) r (refusal 2) in
+    cond (passes table) e2 (refusal 1)
+
+-- "9: answer longer than its buffer"
+unfoldable pub limited : ℕ → Reply → Reply
+limited room (refusal k) = refusal k
+limited room (answered a) = cond (leb (length a) room) (answered a) (refusal 9)
+
+-- "A refusal has length 0 and no buffer byte changes; on success the bytes behind the answer stay as they were."
+unfoldable pub bufferAfter : List ℕ → Reply → List ℕ
+bufferAfter buffer (refusal k) = buffer
+bufferAfter buffer (answered a) = a ++ drop (length a) buffer
+
+-- the number of a refusal, 0 for none
+unfoldable pub numberOf : Reply → ℕ
+numberOf (refusal k) = k
+numberOf (answered a) = 0
+
+unfoldable pub lengthOf : Reply → ℕ
+lengthOf (refusal k) = 0
+lengthOf (answered a) = length a
+
+-- one command: the table, the namespace list, the line, and the answer buffer as it was lent
+unfoldable pub served : List ℕ → List ℕ → List ℕ → List ℕ → Reply
+served table spaces l buffer = limited (length buffer) (answer table spaces l)
+
+-- opens every definition of this file, for a proof by computation
+unfoldable pub openServer : Unit {0}
+unfolding lineOf listAnswer delimiterText entryText classText namespaceAnswer answerTo answer limited bufferAfter numberOf lengthOf served
+openServer = tt

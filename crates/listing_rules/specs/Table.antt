@@ -1,0 +1,68 @@
+-- The mailbox table: its rows, and check 1.
+use mathlib.Core.List.{List, [], _∷_, map}
+use mathlib.Core.Bool.{Bool, true, false, cond, _&&_, _||_, not}
+use lib.Dec.{leb}
+use lib.ListN.{length, take, drop, getD}
+use Prim.Native.Nat.{ℕ, zero, suc, _+_, _*_}
+use Rattle.listing_rules.specs.Bytes.{same}
+use Rattle.listing_rules.specs.Lists.{every, anyOf}
+use Rattle.listing_rules.specs.Orders.{ascends}
+use Rattle.listing_rules.specs.Names.{lawfulName, below}
+use Rattle.listing_rules.specs.Flags.{noInferiors, lawfulFlags}
+
+pub record Row : Type 0 where
+  pub flags : ℕ
+  pub name : List ℕ
+
+-- "A row is flags (2 bytes, high byte first), name length 1 to 200, name." The row whose first byte is h, with t behind it.
+unfoldable pub rowAt : ℕ → List ℕ → Row
+rowAt h t = record { flags = 256 * h + getD t 0 0; name = take (getD t 1 0) (drop 2 t) }
+
+-- the rows of the bytes, of which the first `skip` still belong to the row before
+unfoldable pub rowsAfter : ℕ → List ℕ → List Row
+rowsAfter skip [] = []
+rowsAfter zero (h ∷ t) = rowAt h t ∷ rowsAfter (suc (suc (getD t 1 0))) t
+rowsAfter (suc k) (h ∷ t) = rowsAfter k t
+
+unfoldable pub rows : List ℕ → List Row
+rows t = rowsAfter 0 t
+
+-- "rows fill it exactly": no row runs past the end
+unfoldable pub rowsFill : ℕ → List ℕ → Bool
+rowsFill zero [] = true
+rowsFill (suc k) [] = false
+rowsFill zero (h ∷ t) = rowsFill (suc (suc (getD t 1 0))) t
+rowsFill (suc k) (h ∷ t) = rowsFill k t
+
+unfoldable pub names : List Row → List (List ℕ)
+names rs = map (λ r. r .name) rs
+
+-- "no row lies below a row with no inferiors"
+unfoldable pub noneBelow : List Row → Row → Bool
+noneBelow rs r = not (noInferiors (r .flags)) || not (anyOf (λ q. below (r .name) (q .name)) rs)
+
+-- Check 1. "At most 512 rows and 32,768 bytes." "The table passes if rows fill it exactly and: .."
+unfoldable pub passes : List ℕ → Bool
+passes t =
+    leb (length t) 32768
+    && rowsFill 0 t
+    && leb (length (rows t)) 512
+    && every (λ r. lawfulName (r .name)) (rows t)
+    && every (λ r. lawfulFlags (r .flags)) (rows t)
+    && ascends (names (rows t))
+    && every (λ r. noneBelow (rows t) r) (rows t)
+
+-- the table has a row of this name
+unfoldable pub hasRow : List Row → List ℕ → Bool
+hasRow rs n = anyOf (λ r. same (r .name) n) rs
+
+-- The flags of a name: those of its row. An implied name has flags 0:
+-- "it does not exist, and is neither subscribed nor remote".
+unfoldable pub flagsOf : List Row → List ℕ → ℕ
+flagsOf [] n = 0
+flagsOf (r ∷ rs) n = let s = flagsOf rs n in cond (same (r .name) n) (r .flags) s
+
+-- opens every definition of this file, for a proof by computation
+unfoldable pub openTable : Unit {0}
+unfolding rowAt rowsAfter rows rowsFill names noneBelow passes hasRow flagsOf
+openTable = tt

@@ -1,0 +1,166 @@
+-- The collector's walk as it is done, command by command, with its three buffers.
+use mathlib.Core.List.{List, [], _∷_, _++_, map}
+use mathlib.Core.Bool.{Bool, true, false, cond, _&&_, _||_, not}
+use lib.Dec.{eqb, leb}
+use lib.ListN.{length, getD, drop, replicate}
+use Prim.Native.Nat.{ℕ, zero, suc, _-_}
+use Rattle.listing_rules.specs.Bytes.{text, crlf, bit, slash}
+use Rattle.listing_rules.specs.Lists.{joined, onFirst}
+use Rattle.listing_rules.specs.Table.{rows, passes}
+use Rattle.listing_rules.specs.Listing.{candidates}
+use Rattle.listing_rules.specs.Lines.{quoted}
+use Rattle.listing_rules.specs.Server.{Reply, refusal, answered, answer, limited}
+use Rattle.listing_rules.specs.Reader.{Read, line, root, bad, readLine}
+
+-- "an option byte (1 REMOTE, 2 SPECIAL-USE)"
+unfoldable pub wantsRemote : ℕ → Bool
+wantsRemote o = bit 0 o
+
+unfoldable pub wantsSpecial : ℕ → Bool
+wantsSpecial o = bit 1 o
+
+unfoldable pub when : Bool → List ℕ → List ℕ
+when true t = t
+when false t = []
+
+-- "It sends tag `w`, selection in the order SUBSCRIBED RECURSIVEMATCH SPECIAL-USE REMOTE, reference .., pattern "%"."
+unfoldable pub commandLine : ℕ → List ℕ → List ℕ
+commandLine o reference =
+    text "w LIST (SUBSCRIBED RECURSIVEMATCH" ++
+    (when (wantsSpecial o) (text " SPECIAL-USE") ++ (when (wantsRemote o) (text " REMOTE") ++ (text ") " ++ (quoted reference ++ (text " \"%\"" ++ crlf)))))
+
+-- the lines of an answer, each with its line feed
+unfoldable pub linesOf : List ℕ → List (List ℕ)
+linesOf [] = []
+linesOf (b ∷ t) = let r = linesOf t in cond (eqb b 10) ((b ∷ []) ∷ r) (onFirst b r)
+
+-- names as they lie in found and pending: "each as a length byte and the name"
+unfoldable pub packed : List (List ℕ) → List ℕ
+packed ns = joined (map (λ n. length n ∷ n) ns)
+
+-- what the walk has so far: the finds, and the names to ask below, those asked already included
+pub record Lists : Type 0 where
+  pub finds : List (List ℕ)
+  pub asks : List (List ℕ)
+
+-- a step that may be refused
+pub data Step (A : Type 0) : Type 0 where
+  stop : ℕ → Step A
+  go : A → Step A
+
+infixl 20 _>>=_
+unfoldable pub _>>=_ : {A B : Type 0} → Step A → (A → Step B) → Step B
+(stop k) >>= f = stop k
+(go x) >>= f = f x
+
+-- an attribute by its place in the sixteen: 4 is \Remote, 5 \Subscribed, 7 to 13 the uses
+unfoldable pub attr : ℕ → List Bool → Bool
+attr k bs = getD bs k false
+
+unfoldable pub useAttr : List Bool → Bool
+useAttr bs = attr 7 bs || attr 8 bs || attr 9 bs || attr 10 bs || attr 11 bs || attr 12 bs || attr 13 bs
+
+-- "A line is a find if it has \Subscribed, has no \Remote unless REMOTE was asked, and has a use if SPECIAL-USE was."
+unfoldable pub isFind : ℕ → List Bool → Bool
+isFind o bs = attr 5 bs && (not (attr 4 bs) || wantsRemote o) && (not (wantsSpecial o) || useAttr bs)
+
+unfoldable pub withName : Bool → List ℕ → List (List ℕ) → List (List ℕ)
+withName true n ns = ns ++ (n ∷ [])
+withName false n ns = ns
+
+-- "10, 11: find, or pending name, does not fit"
+unfoldable pub fits : ℕ → ℕ → List (List ℕ) → Step (List (List ℕ))
+fits number room ns = cond (leb (length (packed ns)) room) (go ns) (stop number)
+
+-- "Finds go to found, names with CHILDINFO to the end of pending"; "by line 10 before 11"
+unfoldable pub takenIn : ℕ → ℕ → ℕ → Lists → Read → Step Lists
+takenIn o room₁ room₂ s (line bs n c) =
+    fits 10 room₁ (withName (isFind o bs) n (s .finds)) >>= λ f.
+    fits 11 room₂ (withName c n (s .asks)) >>= λ a. go (record { finds = f; asks = a })
+takenIn o room₁ room₂ s root = go s
+takenIn o room₁ room₂ s bad = go s
+
+-- "Each answer line is read back."
+unfoldable pub takenAll : ℕ → ℕ → ℕ → Lists → List (List ℕ) → Step Lists
+takenAll o room₁ room₂ s [] = go s
+takenAll o room₁ room₂ s (l ∷ ls) = takenIn o room₁ room₂ s (readLine l) >>= λ u. takenAll o room₁ room₂ u ls
+
+-- "Refusals 3 to 8 out of one of its own commands are passed on."
+unfoldable pub replied : Reply → Step (List ℕ)
+replied (refusal k) = stop k
+replied (answered a) = go a
+
+pub record Walked : Type 0 where
+  pub count : ℕ
+  pub lists : Lists
+
+-- "Its namespace list is empty." "Scratch takes the server's answers": its room, and that of found and pending
+module _ (table : List ℕ) (o scratch room₁ room₂ : ℕ) where
+  -- one command and its lines: "after each command 9, then by line 10 before 11"
+  unfoldable pub asked : Lists → List ℕ → Step Lists
+  asked s reference = replied (limited scratch (answer table [] (commandLine o reference))) >>= λ a. takenAll o room₁ room₂ s (linesOf a)
+
+  -- "pending is never shortened, and is asked in order": the first `done` names of pending were asked, so one command more was sent.
+  -- The reference is "later each pending name and '/'". The number of steps left is a bound; enough are given (law `walk-fuel`).
+  unfoldable pub walkFrom : ℕ → ℕ → Lists → Step Walked
+  walkFrom zero done s = stop 0
+  walkFrom (suc k) done s =
+      elim (drop done (s .asks)) [ [] ↦ go (record { count = suc done; lists = s }) | n ∷ ns ↦ (asked s (n ++ (slash ∷ [])) >>= λ u. walkFrom k (suc done) u) ]
+
+  -- "reference "" first"
+  unfoldable pub walkAll : ℕ → Step Walked
+  walkAll fuel = asked (record { finds = []; asks = [] }) [] >>= λ u. walkFrom fuel 0 u
+
+-- a number of refusal; or the number of commands sent, and the names that lie in found and pending
+pub data WalkReply : Type 0 where
+  walkRefused : ℕ → WalkReply
+  walked : ℕ → List ℕ → List ℕ → WalkReply
+
+unfoldable pub ended : Step Walked → WalkReply
+ended (stop k) = walkRefused k
+ended (go w) = walked (w .count) (packed (w .lists .finds)) (packed (w .lists .asks))
+
+-- "Collector order: 1, 6, then the walk"; 6 is "an option byte above 3". No candidate is asked twice, so the candidates bound the steps.
+unfoldable pub walk : List ℕ → ℕ → ℕ → ℕ → ℕ → WalkReply
+walk table o scratch room₁ room₂ =
+    let w = ended (walkAll table o scratch room₁ room₂ (suc (suc (length (candidates (rows table)))))) in
+    cond (passes table) (cond (leb o 3) w (walkRefused 6)) (walkRefused 1)
+
+-- the number of a refusal, 0 for none
+unfoldable pub walkNumber : WalkReply → ℕ
+walkNumber (walkRefused k) = k
+walkNumber (walked c f p) = 0
+
+-- "The result has the number of commands sent and the length of found"; "Its refusals give count 0 and length 0"
+unfoldable pub walkCount : WalkReply → ℕ
+walkCount (walkRefused k) = 0
+walkCount (walked c f p) = c
+
+unfoldable pub foundLength : WalkReply → ℕ
+foundLength (walkRefused k) = 0
+foundLength (walked c f p) = length f
+
+-- bytes at the front of a buffer of this length, zero behind them
+unfoldable pub zeroBehind : ℕ → List ℕ → List ℕ
+zeroBehind room bs = bs ++ replicate (room - length bs) 0
+
+-- "On success pending holds its names; room behind the lengths, and all scratch, is zero." A refusal zeroes all three.
+unfoldable pub foundAfter : ℕ → WalkReply → List ℕ
+foundAfter room (walkRefused k) = replicate room 0
+foundAfter room (walked c f p) = zeroBehind room f
+
+unfoldable pub pendingAfter : ℕ → WalkReply → List ℕ
+pendingAfter room (walkRefused k) = replicate room 0
+pendingAfter room (walked c f p) = zeroBehind room p
+
+unfoldable pub scratchAfter : ℕ → WalkReply → List ℕ
+scratchAfter room r = replicate room 0
+
+-- one collection: the table, the option byte, and the three buffers as they were lent
+unfoldable pub collected : List ℕ → ℕ → List ℕ → List ℕ → List ℕ → WalkReply
+collected table o scratch found pending = walk table o (length scratch) (length found) (length pending)
+
+-- opens every definition of this file, for a proof by computation
+unfoldable pub openWalk : Unit {0}
+unfolding wantsRemote wantsSpecial when commandLine linesOf packed _>>=_ attr useAttr isFind withName fits takenIn takenAll replied asked walkFrom walkAll ended walk walkNumber walkCount foundLength zeroBehind foundAfter pendingAfter scratchAfter collected
+openWalk = tt

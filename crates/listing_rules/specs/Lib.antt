@@ -17,3 +17,6 @@ pub mod Reader
 pub mod Walk
 pub mod Demand3
 pub mod Frames
+pub mod Cases
+pub mod ExpertSheet
+pub mod Limits

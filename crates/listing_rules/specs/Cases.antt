@@ -1,0 +1,117 @@
+-- Cases that the definitions are computed on, for the expert's sheet and the table of limits: a case holds or it does not.
+use mathlib.Core.List.{List, [], _∷_, _++_}
+use mathlib.Core.Bool.{Bool, true, false, cond, _&&_, _||_, not}
+use lib.Dec.{eqb, leb}
+use lib.ListN.{length, replicate}
+use Prim.Native.Nat.{ℕ, suc, _+_, _/_, _%_}
+use Prim.Native.String.{String}
+use Rattle.listing_rules.specs.Bytes.{text, crlf, same, openBytes}
+use Rattle.listing_rules.specs.Lists.{every, anyOf, openLists}
+use Rattle.listing_rules.specs.Orders.{openOrders}
+use Rattle.listing_rules.specs.Names.{openNames}
+use Rattle.listing_rules.specs.Flags.{openFlags}
+use Rattle.listing_rules.specs.Table.{rows, passes, openTable}
+use Rattle.listing_rules.specs.Namespaces.{namespacesPass, openNamespaces}
+use Rattle.listing_rules.specs.Tokens.{openTokens}
+use Rattle.listing_rules.specs.Options.{openOptions}
+use Rattle.listing_rules.specs.Command.{openCommand}
+use Rattle.listing_rules.specs.Match.{openMatch}
+use Rattle.listing_rules.specs.Listing.{openListing}
+use Rattle.listing_rules.specs.Lines.{openLines}
+use Rattle.listing_rules.specs.Server.{Reply, refusal, answered, limited, answer, openServer}
+use Rattle.listing_rules.specs.Reader.{Read, line, root, bad, readLine, nameBytes, sameBools, lineFrom, openReader}
+use Rattle.listing_rules.specs.Walk.{WalkReply, walkRefused, walked, walk, openWalk}
+use Rattle.listing_rules.specs.Demand3.{declaredWalk, tooSmall, openDemand3}
+use Rattle.listing_rules.specs.Frames.{programOutput, openFrames}
+
+-- a row and an entry in bytes
+abbrev pub row : ℕ → List ℕ → List ℕ
+row f n = f / 256 ∷ f % 256 ∷ length n ∷ n
+
+abbrev pub mailbox : ℕ → String → List ℕ
+mailbox f n = row f (text n)
+
+abbrev pub entry : ℕ → List ℕ → ℕ → List ℕ
+entry c p d = c ∷ length p ∷ (p ++ (d ∷ []))
+
+-- n times the byte b
+abbrev pub times : ℕ → ℕ → List ℕ
+times n b = replicate n b
+
+-- a line of the sheet, and several, with their CR LF
+abbrev pub sends : String → List ℕ
+sends s = text s ++ crlf
+
+abbrev pub lines : List String → List ℕ
+lines [] = []
+lines (s ∷ ss) = sends s ++ lines ss
+
+pub data Case : Type 0 where
+  -- a table, a namespace list and a command line are answered so, in a buffer of this length
+  replies : ℕ → List ℕ → List ℕ → List ℕ → Reply → Case
+  -- each of these lines, over an empty table and an empty namespace list, is refused with this number
+  refuses : ℕ → List (List ℕ) → Case
+  -- a table and an option byte, with the rooms of scratch, found and pending, are walked so; where they are not too small that is
+  -- what demand 3 declares
+  walks : List ℕ → ℕ → ℕ → ℕ → ℕ → WalkReply → Case
+  -- all of these tables pass, and none of those
+  tables : List (List ℕ) → List (List ℕ) → Case
+  -- all of these namespace lists pass, and none of those
+  spaces : List (List ℕ) → List (List ℕ) → Case
+  -- the line writer gives this, in a buffer of this length
+  writes : ℕ → List Bool → List ℕ → Bool → Reply → Case
+  -- the reader reads the line so, and none of those
+  reads : List ℕ → Read → List (List ℕ) → Case
+  -- the program answers this input so
+  program : List ℕ → List ℕ → Case
+
+abbrev pub sameReply : Reply → Reply → Bool
+sameReply (refusal a) (refusal b) = eqb a b
+sameReply (refusal a) (answered s) = false
+sameReply (answered s) (refusal b) = false
+sameReply (answered s) (answered t) = same s t
+
+abbrev pub sameWalk : WalkReply → WalkReply → Bool
+sameWalk (walkRefused a) (walkRefused b) = eqb a b
+sameWalk (walkRefused a) (walked c f p) = false
+sameWalk (walked c f p) (walkRefused b) = false
+sameWalk (walked c f p) (walked c′ f′ p′) = eqb c c′ && same f f′ && same p p′
+
+abbrev pub sameFlag : Bool → Bool → Bool
+sameFlag a b = cond a b (not b)
+
+abbrev pub sameRead : Read → Read → Bool
+sameRead (line bs n c) (line bs′ n′ c′) = sameBools bs bs′ && same n n′ && sameFlag c c′
+sameRead (line bs n c) root = false
+sameRead (line bs n c) bad = false
+sameRead root (line bs n c) = false
+sameRead root root = true
+sameRead root bad = false
+sameRead bad (line bs n c) = false
+sameRead bad root = false
+sameRead bad bad = true
+
+-- what demand 3 says of a walk with this result
+abbrev pub asDeclared : List ℕ → ℕ → ℕ → ℕ → ℕ → WalkReply → Bool
+asDeclared t o s f p (walkRefused k) = not (passes t) || not (leb o 3) || tooSmall (rows t) o s f p
+asDeclared t o s f p (walked c fs ps) = not (tooSmall (rows t) o s f p) && sameWalk (declaredWalk t o) (walked c fs ps)
+
+abbrev pub holds : Case → Bool
+holds (replies room t ns l r) = sameReply (limited room (answer t ns l)) r
+holds (refuses k ls) = every (λ l. sameReply (answer [] [] l) (refusal k)) ls
+holds (walks t o s f p r) = sameWalk (walk t o s f p) r && asDeclared t o s f p r
+holds (tables good poor) = every passes good && not (anyOf passes poor)
+holds (spaces good poor) = every namespacesPass good && not (anyOf namespacesPass poor)
+holds (writes room bs n c r) = sameReply (limited room (lineFrom bs n c)) r
+holds (reads l r poor) = sameRead (readLine l) r && eqb (length (nameBytes r)) 200 && every (λ x. sameRead (readLine x) bad) poor
+holds (program i o) = same (programOutput i) o
+
+-- the places of the cases that fail, counted from k
+abbrev pub failures : ℕ → List Case → List ℕ
+failures k [] = []
+failures k (c ∷ cs) = let r = failures (suc k) cs in cond (holds c) r (k ∷ r)
+
+-- opens every definition that the cases compute
+unfoldable pub openAll : Unit {0}
+unfolding openBytes openLists openOrders openNames openFlags openTable openNamespaces openTokens openOptions openCommand openMatch openListing openLines openServer openReader openWalk openDemand3 openFrames
+openAll = tt

@@ -1,0 +1,66 @@
+-- The expert's sheet, E1 to E8, proved from the definitions as one table under one claim.
+use mathlib.Core.Path.{_≡_, refl}
+use mathlib.Core.List.{List, [], _∷_, _++_}
+use Prim.Native.Nat.{ℕ}
+use Prim.Native.String.{String}
+use Rattle.listing_rules.specs.Bytes.{text, crlf}
+use Rattle.listing_rules.specs.Server.{Reply, refusal, answered}
+use Rattle.listing_rules.specs.Walk.{WalkReply, walked, packed}
+use Rattle.listing_rules.specs.Cases.{row, mailbox, times, sends, lines, Case, replies, walks, failures, openAll}
+
+-- "Table E: Foo-x 0001, Foo/Bar 0001, Foo/Baz 0003, INBOX 0031, Moo 0001."
+abbrev pub tableE : List ℕ
+tableE =
+    mailbox 0x0001 "Foo-x" ++
+    (mailbox 0x0001 "Foo/Bar" ++ (mailbox 0x0003 "Foo/Baz" ++ (mailbox 0x0031 "INBOX" ++ mailbox 0x0001 "Moo")))
+
+-- a command over a table, with an empty namespace list and the program's buffer
+abbrev over : List ℕ → List ℕ → Reply → Case
+over t l r = replies 16384 t [] l r
+
+-- a command over table E that lists nothing
+abbrev nothing : Reply
+nothing = answered (sends "a OK done")
+
+abbrev pub sheet : List Case
+sheet =
+    -- E1
+    over tableE (sends "C04 LIST (SUBSCRIBED RECURSIVEMATCH) \"\" \"%\"")
+    (answered (lines ("* LIST (\\NonExistent) \"/\" \"Foo\" (\"CHILDINFO\" (\"SUBSCRIBED\"))" ∷ "C04 OK done" ∷ [])))
+    -- E2: the same with "*"
+    ∷ over tableE (sends "C04 LIST (SUBSCRIBED RECURSIVEMATCH) \"\" \"*\"")
+    (answered (lines ("* LIST (\\Subscribed) \"/\" \"Foo/Baz\"" ∷ "C04 OK done" ∷ [])))
+    -- E3
+    ∷ over tableE (sends "a LIST \"\" % RETURN (CHILDREN)")
+    (answered (lines ("* LIST (\\HasNoChildren) \"/\" \"Foo-x\"" ∷ "* LIST (\\Marked \\NoInferiors) \"/\" \"INBOX\"" ∷ "* LIST (\\HasNoChildren) \"/\" \"Moo\"" ∷ "a OK done" ∷ [])))
+    -- E4: "in%" lists INBOX; "moo" lists nothing
+    ∷ over tableE (sends "a LIST \"\" \"in%\"")
+    (answered (lines ("* LIST (\\Marked \\NoInferiors) \"/\" \"INBOX\"" ∷ "a OK done" ∷ [])))
+    ∷ over tableE (sends "a LIST \"\" \"moo\"") nothing
+    -- E5: walk, option byte 0: 2 commands, found Foo/Baz; empty table: 1, none. As it is done and as it is declared.
+    ∷ walks tableE 0 16384 8192 8192 (walked 2 (packed (text "Foo/Baz" ∷ [])) (packed (text "Foo" ∷ [])))
+    ∷ walks [] 0 16384 8192 8192 (walked 1 [] [])
+    -- E6: the root line; no line
+    ∷ over tableE (sends "a LIST \"\" \"\"") (answered (lines ("* LIST (\\Noselect) \"/\" \"\"" ∷ "a OK done" ∷ [])))
+    ∷ over tableE (sends "a LIST () \"\" \"\"") nothing
+    -- E7
+    ∷ over tableE (sends "a LIST (RECURSIVEMATCH REMOTE) \"\" \"*\"") (refusal 7)
+    ∷ over tableE (sends "a LIST (RECURSIVEMATCH FOO) \"\" \"*\"") (refusal 6)
+    -- E8: 8 patterns pass, 9 are 8
+    ∷ over tableE (sends "a LIST \"\" (a b c d e f \"\" h)") nothing
+    ∷ over tableE (sends "a LIST \"\" (a b c d e f \"\" h i)") (refusal 8)
+    -- canonical 255 passes, 256 is 8
+    ∷ over tableE (text "a LIST \"ab\" " ++ (times 253 120 ++ crlf)) nothing
+    ∷ over tableE (text "a LIST \"ab\" " ++ (times 254 120 ++ crlf)) (refusal 8)
+    -- name 200 passes, 201 is 1
+    ∷ over (row 0x0001 (times 200 97)) (sends "a LIST \"\" \"*\"")
+    (answered (text "* LIST () \"/\" \"" ++ (times 200 97 ++ (text "\"" ++ (crlf ++ sends "a OK done")))))
+    ∷ over (row 0x0001 (times 201 97)) (sends "a LIST \"\" \"*\"") (refusal 1)
+    -- line 2,048 passes, 2,049 is 3
+    ∷ over tableE (times 2034 97 ++ sends " LIST \"\" moo") (answered (times 2034 97 ++ sends " OK done"))
+    ∷ over tableE (times 2035 97 ++ sends " LIST \"\" moo") (refusal 3)
+    ∷ []
+
+pub claim : failures 1 sheet ≡ []
+unfolding openAll
+claim = refl

@@ -1,0 +1,140 @@
+-- Each limit, each flag, each attribute's spelling and each refusal of document 01 at both sides, as one table under one claim.
+use mathlib.Core.Path.{_≡_, refl}
+use mathlib.Core.List.{List, [], _∷_, _++_, map}
+use mathlib.Core.Bool.{Bool, true, false}
+use lib.ListN.{replicate}
+use Prim.Native.Nat.{ℕ, zero, suc, _+_, _/_, _%_}
+use Prim.Native.String.{String}
+use Rattle.listing_rules.specs.Bytes.{text, crlf}
+use Rattle.listing_rules.specs.Lists.{joined}
+use Rattle.listing_rules.specs.Server.{Reply, refusal, answered}
+use Rattle.listing_rules.specs.Reader.{Read, line, root, bad}
+use Rattle.listing_rules.specs.Walk.{WalkReply, walkRefused, walked, packed}
+use Rattle.listing_rules.specs.Cases.{row, mailbox, entry, times, sends, lines, Case, replies, refuses, walks, tables, spaces, writes, reads, program, failures, openAll}
+use Rattle.listing_rules.specs.ExpertSheet.{tableE}
+
+abbrev named : List ℕ → List ℕ
+named n = row 0x0001 n
+
+-- one existing row of each name
+abbrev all-named : List String → List ℕ
+all-named ns = joined (map (λ n. named (text n)) ns)
+
+-- a name of so many levels
+abbrev deep : ℕ → List ℕ
+deep zero = text "a"
+deep (suc k) = text "a/" ++ deep k
+
+-- ascending names of so many bytes, two and some a's behind them
+abbrev many : ℕ → ℕ → ℕ → List ℕ
+many zero k more = []
+many (suc n) k more = named ((65 + k / 32) ∷ (65 + k % 32) ∷ times more 97) ++ many n (k + 1) more
+
+-- no attribute, and the marked and unmarked one
+abbrev plain : List Bool
+plain = replicate 16 false
+
+abbrev both-marked : List Bool
+both-marked = true ∷ true ∷ replicate 14 false
+
+abbrev pub limits : List Case
+limits =
+    -- flags, row by row: bits 7 and 15, marked with unmarked, and what does not exist
+    tables (mailbox 0x0001 "a" ∷ mailbox 0x7F3F "a" ∷ mailbox 0x7F5F "a" ∷ mailbox 0x0002 "a" ∷ [] ∷ [])
+    (mailbox 0x0081 "a" ∷ mailbox 0x8001 "a" ∷ mailbox 0x0061 "a" ∷ mailbox 0x0000 "a" ∷ mailbox 0x0006 "a" ∷ mailbox 0x0100 "a" ∷ [])
+    -- name bytes; 1 to 16 non-empty levels; the INBOX rule looks at the first level alone
+    ∷ tables (named (32 ∷ 126 ∷ []) ∷ named (text "\"\\(){}]+&") ∷ named (deep 15) ∷ all-named ("INBOX/inbox" ∷ []) ∷ all-named ("x/inbox" ∷ []) ∷ all-named ("inboxx" ∷ []) ∷ [])
+    (named (31 ∷ []) ∷ named (127 ∷ []) ∷ named (37 ∷ []) ∷ named (42 ∷ []) ∷ named [] ∷ named (128 ∷ []) ∷ named (deep 16) ∷ all-named ("/a" ∷ []) ∷ all-named ("a/" ∷ []) ∷ all-named ("a//b" ∷ []) ∷ all-named ("inbox" ∷ []) ∷ all-named ("INBOx/a" ∷ []) ∷ [])
+    -- order by bytes, a prefix first; no row below a row with no inferiors; rows fill the table exactly
+    ∷ tables (all-named ("Foo" ∷ "Foo x" ∷ "Foo-x" ∷ "Foo.x" ∷ "Foo/Bar" ∷ []) ∷ (mailbox 0x0011 "a" ++ mailbox 0x0001 "a-b/c") ∷ [])
+    (all-named ("b" ∷ "a" ∷ []) ∷ all-named ("a" ∷ "a" ∷ []) ∷ all-named ("ab" ∷ "a" ∷ []) ∷ (mailbox 0x0011 "a" ++ mailbox 0x0001 "a/b") ∷ (mailbox 0x0011 "a" ++ (mailbox 0x0001 "a-b" ++ mailbox 0x0002 "a/b/c")) ∷ (0 ∷ 1 ∷ []) ∷ (0 ∷ 1 ∷ 2 ∷ 97 ∷ []) ∷ (mailbox 0x0001 "a" ++ (0 ∷ [])) ∷ [])
+    -- 512 rows and 32,768 bytes
+    ∷ tables (many 512 0 59 ∷ []) (many 513 0 0 ∷ (many 511 0 59 ++ named (80 ∷ 96 ∷ times 60 97)) ∷ [])
+    -- namespace entries: class, prefix length, prefix bytes, delimiter
+    ∷ spaces (entry 2 (times 64 32) 0 ∷ entry 1 (126 ∷ text "%*") 126 ∷ entry 0 [] 33 ∷ [] ∷ [])
+    (entry 3 [] 0 ∷ entry 0 (times 65 97) 0 ∷ entry 0 (31 ∷ []) 0 ∷ entry 0 (127 ∷ []) 0 ∷ entry 0 [] 32 ∷ entry 0 [] 127 ∷ entry 0 [] 1 ∷ [])
+    -- classes do not descend; at most 4 entries a class; entries fill the list
+    ∷ spaces (joined (map (λ c. entry c [] 47) (0 ∷ 0 ∷ 0 ∷ 0 ∷ 1 ∷ 1 ∷ 1 ∷ 1 ∷ 2 ∷ 2 ∷ 2 ∷ 2 ∷ [])) ∷ (entry 0 [] 47 ++ entry 2 [] 47) ∷ [])
+    ((entry 1 [] 47 ++ entry 0 [] 47) ∷ joined (replicate 5 (entry 0 [] 47)) ∷ joined (replicate 5 (entry 1 [] 47)) ∷ joined (replicate 5 (entry 2 [] 47)) ∷ (0 ∷ []) ∷ (0 ∷ 0 ∷ []) ∷ (0 ∷ 1 ∷ 47 ∷ []) ∷ [])
+    -- each use by its name
+    ∷ replies 16384
+    (joined (mailbox 0x0101 "a" ∷ mailbox 0x0201 "b" ∷ mailbox 0x0401 "c" ∷ mailbox 0x0801 "d" ∷ mailbox 0x1001 "e" ∷ mailbox 0x2001 "f" ∷ mailbox 0x4001 "g" ∷ []))
+    [] (sends "a LIST \"\" * RETURN (SPECIAL-USE)")
+    (answered (lines ("* LIST (\\All) \"/\" \"a\"" ∷ "* LIST (\\Archive) \"/\" \"b\"" ∷ "* LIST (\\Drafts) \"/\" \"c\"" ∷ "* LIST (\\Flagged) \"/\" \"d\"" ∷ "* LIST (\\Junk) \"/\" \"e\"" ∷ "* LIST (\\Sent) \"/\" \"f\"" ∷ "* LIST (\\Trash) \"/\" \"g\"" ∷ "a OK done" ∷ [])))
+    -- each other flag by its name
+    ∷ replies 16384
+    (joined (mailbox 0x0005 "a" ∷ mailbox 0x0009 "b" ∷ mailbox 0x0011 "c" ∷ mailbox 0x0021 "d" ∷ mailbox 0x0041 "e" ∷ mailbox 0x0003 "f" ∷ mailbox 0x0002 "g" ∷ []))
+    [] (sends "a LIST (REMOTE) \"\" *")
+    (answered (lines ("* LIST (\\Remote) \"/\" \"a\"" ∷ "* LIST (\\Noselect) \"/\" \"b\"" ∷ "* LIST (\\NoInferiors) \"/\" \"c\"" ∷ "* LIST (\\Marked) \"/\" \"d\"" ∷ "* LIST (\\Unmarked) \"/\" \"e\"" ∷ "* LIST () \"/\" \"f\"" ∷ "a OK done" ∷ [])))
+    -- all that can stand together, in their order; children that are remote or do not exist
+    ∷ replies 16384
+    (joined (mailbox 0x7F3F "a" ∷ mailbox 0x0001 "b" ∷ mailbox 0x0007 "b/r" ∷ mailbox 0x0002 "c/s" ∷ []))
+    [] (sends "a LIST (REMOTE) \"\" (% b/r c/s) RETURN (SUBSCRIBED CHILDREN SPECIAL-USE)")
+    (answered (lines ("* LIST (\\Marked \\Noselect \\NoInferiors \\Remote \\Subscribed \\All \\Archive \\Drafts \\Flagged \\Junk \\Sent \\Trash) \"/\" \"a\"" ∷ "* LIST (\\HasChildren) \"/\" \"b\"" ∷ "* LIST (\\Remote \\Subscribed \\HasNoChildren) \"/\" \"b/r\"" ∷ "a OK done" ∷ [])))
+    ∷ replies 16384 (joined (mailbox 0x0001 "b" ∷ mailbox 0x0007 "b/r" ∷ mailbox 0x0002 "c/s" ∷ [])) []
+    (sends "a LIST (SUBSCRIBED) \"\" (% c/s b/r) RETURN (CHILDREN)")
+    (answered (lines ("* LIST (\\Subscribed \\NonExistent \\HasNoChildren) \"/\" \"c/s\"" ∷ "a OK done" ∷ [])))
+    -- SPECIAL-USE is a criterion; options in any case; a repeat counts once
+    ∷ replies 16384 (mailbox 0x0101 "a" ++ mailbox 0x0001 "b") [] (sends "a list (special-use Special-Use) \"\" *")
+    (answered (lines ("* LIST (\\All) \"/\" \"a\"" ∷ "a OK done" ∷ [])))
+    -- quotes and backslashes; "%" stays in a level, "*" does not; the reference counts, wildcards and all
+    ∷ replies 16384 (all-named ("a\"\\" ∷ "b/c" ∷ [])) [] (sends "a LIST \"%\" (\"\\\"\\\\\" *c /c)")
+    (answered (lines ("* LIST () \"/\" \"a\\\"\\\\\"" ∷ "* LIST () \"/\" \"b/c\"" ∷ "a OK done" ∷ [])))
+    ∷ replies 16384 (all-named ("b/c" ∷ [])) [] (sends "a LIST \"\" (% b% %c)") (answered (sends "a OK done"))
+    -- the INBOX rule is for the name INBOX alone
+    ∷ replies 16384 (all-named ("INBOX" ∷ "INBOX/x" ∷ [])) [] (sends "a LIST inb (ox ox/% ox/x)")
+    (answered (lines ("* LIST () \"/\" \"INBOX\"" ∷ "a OK done" ∷ [])))
+    -- NAMESPACE
+    ∷ replies 16384 [] (entry 0 [] 47 ++ (entry 0 (text "#mh/") 47 ++ (entry 2 (34 ∷ []) 92 ++ entry 2 [] 0))) (sends "a namespace")
+    (answered (lines ("* NAMESPACE ((\"\" \"/\")(\"#mh/\" \"/\")) NIL ((\"\\\"\" \"\\\\\")(\"\" NIL))" ∷ "a OK done" ∷ [])))
+    -- 1 before 2 before 3
+    ∷ replies 16384 (0 ∷ []) (3 ∷ []) [] (refusal 1)
+    ∷ replies 16384 [] (3 ∷ []) [] (refusal 2)
+    -- 3: no CR LF at the end, and bytes 00 and 80; 01 and 7F are lawful
+    ∷ refuses 3 ([] ∷ (text "+ LIST" ++ (10 ∷ [])) ∷ (text "a LIST \"" ++ (0x80 ∷ text "\" *" ++ crlf)) ∷ (text "a LIST \"" ++ (0x00 ∷ text "\" *" ++ crlf)) ∷ (13 ∷ sends "a LIST \"\" *") ∷ [])
+    ∷ replies 16384 [] [] (text "a LIST \"" ++ (0x7F ∷ 1 ∷ text "\" *" ++ crlf)) (answered (sends "a OK done"))
+    -- tag 4, then 5, then the rest 4
+    ∷ refuses 4 (sends "" ∷ sends "+a FOO" ∷ sends "a]" ∷ sends "a NAMESPACE " ∷ sends "a LIST" ∷ sends "a LIST( ) \"\" *" ∷ sends "a LIST ( ) \"\" *" ∷ sends "a LIST \"\"  *" ∷ sends "a LIST % *" ∷ sends "a LIST \"\" ()" ∷ sends "a LIST \"\" * RETURN" ∷ sends "a LIST \"\" * RETURNS ()" ∷ sends "a LIST \"\\a\" *" ∷ [])
+    ∷ refuses 5 (sends "a]  " ∷ sends "a " ∷ sends "a LISTS \"" ∷ sends "a LIST+ \"\" *" ∷ sends "a FOO \"" ∷ [])
+    -- values nest; 4 before 6 before 7 before 8; RETURN is not beside RECURSIVEMATCH; an option is known in its own list only
+    ∷ refuses 4 (sends "a LIST (FOO (a (b  c) e)) \"\" *" ∷ sends "a LIST (FOO ()) \"\" *" ∷ sends "a LIST (FOO (a) (b)) \"\" *" ∷ sends "a LIST (RECURSIVEMATCH FOO) \"\" (a ) RETURN ()" ∷ [])
+    ∷ refuses 6 (sends "a LIST (FOO (a (b \"c \\\\\") ]e)) \"\" *" ∷ sends "a LIST (RECURSIVEMATCH) \"\" * RETURN (REMOTE)" ∷ sends "a LIST (SUBSCRIBED (x)) \"\" *" ∷ sends "a LIST (CHILDREN) \"\" *" ∷ [])
+    ∷ refuses 7 (sends "a LIST (RECURSIVEMATCH SPECIAL-USE) \"\" (a b c d e f g h i) RETURN (SUBSCRIBED)" ∷ [])
+    -- 9 counts the tagged line; an equal length fits
+    ∷ replies 32 (all-named ("Moo" ∷ [])) [] (sends "a LIST \"\" *") (answered (lines ("* LIST () \"/\" \"Moo\"" ∷ "a OK done" ∷ [])))
+    ∷ replies 31 (all-named ("Moo" ∷ [])) [] (sends "a LIST \"\" *") (refusal 9)
+    -- the walk: 1 before 6; each buffer exactly long enough, and one byte short
+    ∷ walks (0 ∷ []) 4 0 0 0 (walkRefused 1)
+    ∷ walks tableE 4 0 0 0 (walkRefused 6)
+    ∷ walks tableE 3 0 0 0 (walkRefused 9)
+    ∷ walks tableE 0 73 8 4 (walked 2 (packed (text "Foo/Baz" ∷ [])) (packed (text "Foo" ∷ [])))
+    ∷ walks tableE 0 72 8 4 (walkRefused 9)
+    ∷ walks tableE 0 73 7 4 (walkRefused 10)
+    ∷ walks tableE 0 73 8 3 (walkRefused 11)
+    -- finds and asks: a remote parent, special uses
+    ∷ walks (joined (mailbox 0x0007 "R" ∷ mailbox 0x0003 "R/a" ∷ mailbox 0x0107 "S" ∷ mailbox 0x0103 "T/u" ∷ [])) 0 16384 64 64
+    (walked 3 (packed (text "R/a" ∷ text "T/u" ∷ [])) (packed (text "R" ∷ text "T" ∷ [])))
+    ∷ walks (joined (mailbox 0x0007 "R" ∷ mailbox 0x0003 "R/a" ∷ mailbox 0x0107 "S" ∷ mailbox 0x0103 "T/u" ∷ [])) 1 16384 64 64
+    (walked 3 (packed (text "R" ∷ text "S" ∷ text "R/a" ∷ text "T/u" ∷ [])) (packed (text "R" ∷ text "T" ∷ [])))
+    ∷ walks (joined (mailbox 0x0007 "R" ∷ mailbox 0x0003 "R/a" ∷ mailbox 0x0107 "S" ∷ mailbox 0x0103 "T/u" ∷ [])) 3 16384 64 64
+    (walked 2 (packed (text "S" ∷ text "T/u" ∷ [])) (packed (text "T" ∷ [])))
+    -- the line writer: 12, then 9; the root line; marked with unmarked
+    ∷ writes 0 plain [] false (refusal 12)
+    ∷ writes 19 plain (text "a") false (answered (sends "* LIST () \"/\" \"a\""))
+    ∷ writes 18 plain (text "a") false (refusal 9)
+    ∷ writes 99 both-marked (text "a") true (answered (sends "* LIST (\\Marked \\Unmarked) \"/\" \"a\" (\"CHILDINFO\" (\"SUBSCRIBED\"))"))
+    ∷ writes 99 (false ∷ false ∷ true ∷ replicate 13 false) [] false (answered (sends "* LIST (\\Noselect) \"/\" \"\""))
+    -- the reader: exact bytes
+    ∷ reads (sends "* LIST (\\Noselect) \"/\" \"\"") root (sends "* LIST () \"/\" \"\"" ∷ sends "* LIST (\\Noselect) \"/\" \"\" (\"CHILDINFO\" (\"SUBSCRIBED\"))" ∷ text "* LIST (\\Noselect) \"/\" \"\"" ∷ [])
+    ∷ reads (sends "* LIST (\\Marked \\Unmarked) \"/\" \"a\\\\\" (\"CHILDINFO\" (\"SUBSCRIBED\"))") (line both-marked (text "a\\") true)
+    (sends "* LIST (\\Unmarked \\Marked) \"/\" \"a\"" ∷ sends "* LIST (\\marked) \"/\" \"a\"" ∷ sends "* LIST (\\Marked) \"/\" a" ∷ sends "* LIST () \"/\" \"\\a\"" ∷ sends "* LIST () \"/\" \"inbox\"" ∷ sends "* LIST () \"/\" \"a/\"" ∷ [])
+    ∷ reads (text "* LIST () \"/\" \"" ++ (times 200 97 ++ sends "\"")) (line plain (times 200 97) false) ((text "* LIST () \"/\" \"" ++ (times 201 97 ++ sends "\"")) ∷ [])
+    -- the program: document 01's whole session; then a table in two frames, each cause of 13, walks, and a last frame without LF
+    ∷ program (text "4361204E414D4553504143450D0A\n4D0003\n4d0161\n\n4D0\n43 61\n57\n570000\n58\n5700\n5704\n4D00\n5700\n5700")
+    (text "412A204E414D455350414345204E494C204E494C204E494C0D0A61204F4B20646F6E650D0A\n520D\n520D\n520D\n520D\n520D\n520D\n5700010161\n5206\n5201\n520D\n")
+    ∷ program (0x34 ∷ 0x44 ∷ times 4098 0x30 ++ (10 ∷ (0x34 ∷ 0x44 ∷ times 4100 0x30 ++ (10 ∷ [])))) (text "520D\n")
+    ∷ []
+
+pub claim : failures 1 limits ≡ []
+unfolding openAll
+claim = refl

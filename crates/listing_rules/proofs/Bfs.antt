@@ -1,21 +1,18 @@
--- A queue of names, each of which puts its children of some kind at the end, is served in walk order; and what is served is closed.
-use mathlib.Core.Path.{_≡_, refl, sym, ap, _∙_, subst}
-use mathlib.Core.Logic.{_⊎_, inl, inr, ⊎-elim}
-use mathlib.Core.Bool.{Bool, true, false}
-use mathlib.Core.List.{List, [], _∷_, _++_, List·Memᴰ, List·Memᴰ·head, List·Memᴰ·tail, List·Memᴰ·not-nil, List·Memᴰ·cases-cons, List·Memᴰ·append-cases, Memᴰ·append-left, Memᴰ·append-right}
-use Prim.Native.Nat.{ℕ, zero, suc, _+_, _≤_, _<_, compare, Ordering, Ordering·lt, Ordering·eq, Ordering·gt}
+-- A queue of names, each of which puts its children at the end, is served in walk order. Rests on WalkOrder and Sorted.
+use mathlib.Core.Path.{_≡_, refl, sym, ap, _∙_}
+use mathlib.Core.Logic.{_⊎_, inl, inr}
+use mathlib.Core.Bool.{true}
+use mathlib.Core.List.{List, [], _∷_, _++_, List·Memᴰ, List·Memᴰ·head, List·Memᴰ·tail, List·Memᴰ·append-cases}
+use Prim.Native.Nat.{ℕ, zero, suc, _<_, Ordering·lt, Ordering·gt}
 use native.Mathlib.Omega.{arith}
 use lib.ListN.{length, length-append}
-use Rattle.listing_rules.specs.Orders.{byteOrder, thenBy}
-use Rattle.listing_rules.specs.Names.{levels, levelOrder, walkOrder}
-use Rattle.listing_rules.proofs.Order.{Total, swap, lt-compare, gt-compare}
-use Rattle.listing_rules.proofs.WalkOrder.{walk-total}
-use Rattle.listing_rules.proofs.Sorted.{Above, Asc, above-mem}
-use Rattle.listing_rules.proofs.Levels.{child, levels-child, walk-children, walk-same-depth}
+use Rattle.listing_rules.specs.Orders.{thenBy}
+use Rattle.listing_rules.specs.Names.{levels, walkOrder}
+use Rattle.listing_rules.proofs.Order.{lt-compare, gt-compare}
+use Rattle.listing_rules.proofs.Sorted.{Above, Asc, above-mem, above-trans, above-append, above-all, asc-append}
 use Rattle.listing_rules.proofs.Percent.{oneLevel}
-
-abbrev pub Name : Type 0
-Name = List ℕ
+use Rattle.listing_rules.proofs.Levels.{child, levels-child, walk-children, walk-same-depth, Name, ChildOf}
+use Rattle.listing_rules.proofs.WalkOrder.{walk-total}
 
 abbrev pub depth : Name → ℕ
 depth a = length (levels a)
@@ -36,20 +33,6 @@ pub walk-cousins : (a b x y : Name) → depth a ≡ depth b → oneLevel x ≡ t
 unfolding thenBy
 walk-cousins a b x y e h k l = walk-children a b x y e h k ∙ rw (sym (walk-same-depth a b e) ∙ l)
 
--- ascending lists, one behind the other
-above-append : (w : Name) (xs ys : List Name) → Above walkOrder w xs → Above walkOrder w ys → Above walkOrder w (xs ++ ys)
-above-append w [] ys a b = b
-above-append w (x ∷ xs) ys a b = (a .0, above-append w xs ys (a .1) b)
-
-above-all : (w : Name) (ys : List Name) → ((y : Name) → List·Memᴰ y ys → walkOrder w y ≡ Ordering·lt) → Above walkOrder w ys
-above-all w [] h = tt
-above-all w (y ∷ ys) h = (h y (List·Memᴰ·head refl), above-all w ys (λ z m. h z (List·Memᴰ·tail m)))
-
-pub asc-append : (xs ys : List Name) → Asc walkOrder xs → Asc walkOrder ys → ((x y : Name) → List·Memᴰ x xs → List·Memᴰ y ys → walkOrder x y ≡ Ordering·lt) → Asc walkOrder (xs ++ ys)
-asc-append [] ys a b h = b
-asc-append (x ∷ xs) ys a b h =
-    (above-append x xs ys (a .0) (above-all x ys (λ y m. h x y (List·Memᴰ·head refl) m)), asc-append xs ys (a .1) b (λ z y m k. h z y (List·Memᴰ·tail m) k))
-
 -- e is a child of some b before a, of a's depth
 pub record Cousin (a e : Name) : Type 0 where
   pub parent : Name
@@ -59,14 +42,22 @@ pub record Cousin (a e : Name) : Type 0 where
   pub level : depth parent ≡ depth a
   pub earlier : walkOrder parent a ≡ Ordering·lt
 
+-- what may stand in the queue behind a
 abbrev pub Behind : Name → Name → Type 0
 Behind a e = (depth e ≡ depth a) ⊎ Cousin a e
 
+-- the queue ascends, and each in it has the depth of its first name or is a child of one served before
 abbrev pub Good : List Name → Type 0
 Good [] = Unit {0}
 Good (a ∷ q) = Asc walkOrder (a ∷ q) × ((e : Name) → List·Memᴰ e q → Behind a e)
 
-module _ (kids : Name → List Name) (kidsAsc : (a : Name) → Asc walkOrder (kids a)) (kidsShape : (a e : Name) → List·Memᴰ e (kids a) → (x : Name) × (e ≡ child a x) × (oneLevel x ≡ true)) where
+-- the order of service: each name of the queue puts its children at the end
+unfoldable pub served : (Name → List Name) → ℕ → List Name → List Name
+served kids zero q = []
+served kids (suc k) [] = []
+served kids (suc k) (a ∷ q) = a ∷ served kids k (q ++ kids a)
+
+module _ (kids : Name → List Name) (kidsAsc : (a : Name) → Asc walkOrder (kids a)) (kidsShape : (a e : Name) → List·Memᴰ e (kids a) → ChildOf a e) where
   kid-depth : (a e : Name) → List·Memᴰ e (kids a) → depth e ≡ suc (depth a)
   kid-depth a e m = let w = kidsShape a e m in ap depth (w .1) ∙ depth-child a (w .0) (w .2)
 
@@ -100,7 +91,7 @@ module _ (kids : Name → List Name) (kidsAsc : (a : Name) → Asc walkOrder (ki
       start [] s d = tt
       start (k ∷ ks) s d = (s, λ e m. inl (d e (List·Memᴰ·tail m) ∙ sym (d k (List·Memᴰ·head refl))))
   good-next a (b ∷ q) g =
-      (asc-append (b ∷ q) (kids a) (g .0 .1) (kidsAsc a) (λ e k m n. before-kid a e k (g .1 e m) n), λ e m. split e (List·Memᴰ·append-cases q m))
+      (asc-append walkOrder (b ∷ q) (kids a) (g .0 .1) (kidsAsc a) (λ e k m n. before-kid a e k (g .1 e m) n), λ e m. split e (List·Memᴰ·append-cases q m))
     where
       a<b : walkOrder a b ≡ Ordering·lt
       a<b = g .0 .0 .0
@@ -118,31 +109,17 @@ module _ (kids : Name → List Name) (kidsAsc : (a : Name) → Asc walkOrder (ki
       split e (inl m) = old e m (g .1 b (List·Memᴰ·head refl)) (g .1 e (List·Memᴰ·tail m))
       split e (inr m) = new e m (g .1 b (List·Memᴰ·head refl))
 
-  -- the order of service
-  unfoldable pub served : ℕ → List Name → List Name
-  served zero q = []
-  served (suc k) [] = []
-  served (suc k) (a ∷ q) = a ∷ served k (q ++ kids a)
-
-  good-asc : (q : List Name) → Good q → Asc walkOrder q
-  good-asc [] g = tt
-  good-asc (a ∷ q) g = g .0
-
-  above-trans : (w x : Name) (l : List Name) → walkOrder w x ≡ Ordering·lt → Above walkOrder x l → Above walkOrder w l
-  above-trans w x [] e a = tt
-  above-trans w x (y ∷ ys) e a = (walk-total .trans w x y e (a .0), above-trans w x ys e (a .1))
-
   -- before the queue, before all that is served
-  above-served : (k : ℕ) (w : Name) (q : List Name) → Above walkOrder w q → Asc walkOrder (served k q) → Above walkOrder w (served k q)
+  above-served : (k : ℕ) (w : Name) (q : List Name) → Above walkOrder w q → Asc walkOrder (served kids k q) → Above walkOrder w (served kids k q)
   unfolding served
   above-served zero w q a s = tt
   above-served (suc k) w [] a s = tt
-  above-served (suc k) w (x ∷ q) a s = (a .0, above-trans w x (served k (q ++ kids x)) (a .0) (s .0))
+  above-served (suc k) w (x ∷ q) a s = (a .0, above-trans walkOrder walk-total w x (served kids k (q ++ kids x)) (a .0) (s .0))
 
   above-next : (a : Name) (q : List Name) → Good (a ∷ q) → Above walkOrder a (q ++ kids a)
-  above-next a q g = above-append a q (kids a) (g .0 .0) (above-all a (kids a) (λ k m. walk-deeper a k (omega (arith, kid-depth a k m))))
+  above-next a q g = above-append walkOrder a q (kids a) (g .0 .0) (above-all walkOrder a (kids a) (λ k m. walk-deeper a k (omega (arith, kid-depth a k m))))
 
-  pub served-asc : (k : ℕ) (q : List Name) → Good q → Asc walkOrder (served k q)
+  pub served-asc : (k : ℕ) (q : List Name) → Good q → Asc walkOrder (served kids k q)
   unfolding served
   served-asc zero q g = tt
   served-asc (suc k) [] g = tt

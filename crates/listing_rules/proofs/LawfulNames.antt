@@ -1,17 +1,17 @@
--- A proper ancestor of a name of the table's shape has the table's shape.
-use mathlib.Core.Path.{_≡_, refl, sym, ap, _∙_, subst}
-use mathlib.Core.Bool.{Bool, true, false, cond, _&&_, _||_, not, false≢true}
+-- A proper ancestor of a lawful name is lawful. Rests on Levels.
+use mathlib.Core.Path.{_≡_, ap, subst}
+use mathlib.Core.Bool.{true, _&&_, not, false≢true}
 use mathlib.Core.List.{List, [], _∷_, _++_}
-use Prim.Native.Nat.{ℕ, zero, suc, _+_, _≤_, _<_}
+use Prim.Native.Nat.{ℕ, _≤_}
 use native.Mathlib.Omega.{arith}
 use lib.Dec.{eqb, leb}
 use lib.ListN.{length, length-append}
 use borrow.Author.Tests.{eqb-true, leb-true, le-leb}
-use Rattle.listing_rules.specs.Bytes.{slash, all, within, openBytes}
-use Rattle.listing_rules.specs.Lists.{every, openLists, onFirst}
-use Rattle.listing_rules.specs.Orders.{openOrders}
-use Rattle.listing_rules.specs.Names.{levels, below, lawfulName, nameByte, isFull, inboxSpelled, openNames}
-use Rattle.listing_rules.proofs.Ancestors.{and-l, and-r, and-i}
+use Rattle.listing_rules.specs.Bytes.{slash, all, within}
+use Rattle.listing_rules.specs.Lists.{every}
+use Rattle.listing_rules.specs.Names.{levels, below, lawfulName, nameByte, isFull, inboxSpelled}
+use Rattle.listing_rules.proofs.Bools.{and-l, and-r}
+use Rattle.listing_rules.proofs.ListLaws.{all-left, every-left}
 use Rattle.listing_rules.proofs.Levels.{levels-cons, levels-append}
 
 pub below-split : (a n : List ℕ) → below a n ≡ true → (m : List ℕ) × (n ≡ a ++ (slash ∷ m))
@@ -25,20 +25,12 @@ below-split (b ∷ a) (c ∷ n) e =
     let t : n ≡ a ++ (slash ∷ w .0) = w .1 in
     (w .0, cc)
 
-pub all-left : (p : ℕ → Bool) (a b : List ℕ) → all p (a ++ b) ≡ true → all p a ≡ true
-unfolding all
-all-left p [] b h = refl
-all-left p (x ∷ a) b h = and-i (p x) (all p a) (and-l (p x) (all p (a ++ b)) h) (all-left p a b (and-r (p x) (all p (a ++ b)) h))
-
-pub all-right : (p : ℕ → Bool) (a b : List ℕ) → all p (a ++ b) ≡ true → all p b ≡ true
-unfolding all
-all-right p [] b h = h
-all-right p (x ∷ a) b h = all-right p a b (and-r (p x) (all p (a ++ b)) h)
-
-pub every-left : {A : Type 0} (p : A → Bool) (a b : List A) → every p (a ++ b) ≡ true → every p a ≡ true
-unfolding every
-every-left p [] b h = refl
-every-left p (x ∷ a) b h = and-i (p x) (every p a) (and-l (p x) (every p (a ++ b)) h) (every-left p a b (and-r (p x) (every p (a ++ b)) h))
+-- the bytes of a name
+pub name-range : (b : ℕ) → nameByte b ≡ true → (32 ≤ b) × (b ≤ 126)
+unfolding nameByte within
+name-range b h =
+    let w = and-l (within 0x20 0x7E b) (not (eqb b 37)) (and-l (within 0x20 0x7E b && not (eqb b 37)) (not (eqb b 42)) h) in
+    (leb-true 32 b (and-l (leb 32 b) (leb b 126) w), leb-true b 126 (and-r (leb 32 b) (leb b 126) w))
 
 -- the parts of the test
 pub record GoodParts (n : List ℕ) : Type 0 where

@@ -1,19 +1,24 @@
--- Levels, and walk order between the children that two names of one depth have.
-use mathlib.Core.Path.{_≡_, refl, sym, ap, _∙_, subst}
-use mathlib.Core.Bool.{Bool, true, false, cond, _&&_, not, false≢true}
+-- The levels of a name and of its child; walk order between the children that two names of one depth have. Rests on Order and Percent.
+use mathlib.Core.Logic.{_⊎_, inl, inr}
+use mathlib.Core.Path.{_≡_, refl, sym, ap, _∙_}
+use mathlib.Core.Bool.{Bool, true, false, cond, not}
 use mathlib.Core.List.{List, [], _∷_, _++_}
-use Prim.Native.Nat.{ℕ, zero, suc, _+_, _≤_, _<_, compare, Ordering, Ordering·lt, Ordering·eq, Ordering·gt}
+use Prim.Native.Nat.{ℕ, _+_, compare, Ordering, Ordering·lt, Ordering·eq, Ordering·gt}
 use native.Mathlib.Omega.{arith}
 use lib.Dec.{eqb}
 use lib.ListN.{length, length-append}
-use borrow.Author.Tests.{eqb-true, eqb-false, eq-eqb, not-true}
-use Rattle.listing_rules.specs.Bytes.{slash, all, openBytes}
-use Rattle.listing_rules.specs.Lists.{openLists, onFirst}
-use Rattle.listing_rules.specs.Orders.{lexBy, byteOrder, thenBy, openOrders}
-use Rattle.listing_rules.specs.Names.{levels, levelOrder, walkOrder, openNames}
-use Rattle.listing_rules.proofs.Ancestors.{and-l, and-r, and-i}
-use Rattle.listing_rules.proofs.Order.{Total, swap, numbers-total, bytes-total, levels-total, eq-compare}
+use borrow.Author.Tests.{eqb-true, eq-eqb, not-true}
+use Rattle.listing_rules.specs.Bytes.{all, slash, openBytes}
+use Rattle.listing_rules.specs.Lists.{onFirst}
+use Rattle.listing_rules.specs.Orders.{lexBy, byteOrder, thenBy}
+use Rattle.listing_rules.specs.Names.{below, levels, levelOrder, walkOrder}
+use Rattle.listing_rules.proofs.Bools.{and-l, and-r, and-i}
+use Rattle.listing_rules.proofs.Order.{Total, numbers-total, levels-total, eq-compare, thenBy-eq}
 use Rattle.listing_rules.proofs.Percent.{oneLevel}
+
+-- a name, or any bytes in its place
+abbrev pub Name : Type 0
+Name = List ℕ
 
 pub levels-cons : (a : List ℕ) → (l : List ℕ) × (ls : List (List ℕ)) × (levels a ≡ l ∷ ls)
 unfolding levels onFirst
@@ -29,7 +34,7 @@ unfolding onFirst
 onFirst-append b ls ms w = rw (w .2)
 
 pub levels-append : (a m : List ℕ) → levels (a ++ (slash ∷ m)) ≡ levels a ++ levels m
-unfolding levels openBytes openLists
+unfolding levels slash
 levels-append [] m = refl
 levels-append (b ∷ a) m = go (eqb b slash) (levels-append a m)
   where
@@ -38,14 +43,37 @@ levels-append (b ∷ a) m = go (eqb b slash) (levels-append a m)
     go false ih = ap (onFirst b) ih ∙ onFirst-append b (levels a) (levels m) (levels-cons a)
 
 pub levels-one : (x : List ℕ) → oneLevel x ≡ true → levels x ≡ x ∷ []
-unfolding levels onFirst openBytes openLists
+unfolding levels onFirst openBytes
 levels-one [] h = refl
 levels-one (b ∷ x) h =
     rw (not-true (eqb b slash) (and-l (not (eqb b slash)) (oneLevel x) h), levels-one x (and-r (not (eqb b slash)) (oneLevel x) h))
 
--- a child of a
+-- the child of a with this last level
 abbrev pub child : List ℕ → List ℕ → List ℕ
 child a x = a ++ (slash ∷ x)
+
+-- e is a child of a
+abbrev pub ChildOf : Name → Name → Type 0
+ChildOf a e = (x : Name) × (e ≡ child a x) × (oneLevel x ≡ true)
+
+-- a name has one level, or is a child
+abbrev pub TopOrChild : Name → Type 0
+TopOrChild z = (oneLevel z ≡ true) ⊎ ((p : Name) × (x : Name) × (z ≡ child p x) × (oneLevel x ≡ true))
+
+pub parent : (z : Name) → TopOrChild z
+unfolding all
+parent [] = inl refl
+parent (b ∷ z) = pick (eqb b slash) refl (parent z)
+  where
+    pick : (c : Bool) → eqb b slash ≡ c → TopOrChild z → TopOrChild (b ∷ z)
+    pick true e (inl h) = inr ([], z, ap (λ (c : ℕ). c ∷ z) (eqb-true b slash e), h)
+    pick false e (inl h) = inl (rw e h)
+    pick c e (inr w) = inr (b ∷ w .0, w .1, ap (λ (y : Name). b ∷ y) (w .2), w .3)
+
+pub below-child : (p x : Name) → below p (child p x) ≡ true
+unfolding below openBytes
+below-child [] x = refl
+below-child (b ∷ p) x = and-i (eqb b b) (below p (child p x)) (eq-eqb b b refl) (below-child p x)
 
 pub levels-child : (a x : List ℕ) → oneLevel x ≡ true → levels (child a x) ≡ levels a ++ (x ∷ [])
 levels-child a x h = levels-append a x ∙ ap (λ (y : List (List ℕ)). levels a ++ y) (levels-one x h)
@@ -53,12 +81,7 @@ levels-child a x h = levels-append a x ∙ ap (λ (y : List (List ℕ)). levels 
 -- lists that differ first in their last element
 pub lex-snoc : {A : Type 0} (cmp : A → A → Ordering) (p q : List A) (x y : A) → length p ≡ length q → lexBy cmp (p ++ (x ∷ [])) (q ++ (y ∷ [])) ≡ thenBy (lexBy cmp p q) (cmp x y)
 unfolding lexBy thenBy
-lex-snoc cmp [] [] x y e = go (cmp x y)
-  where
-    go : (o : Ordering) → thenBy o Ordering·eq ≡ o
-    go Ordering·lt = refl
-    go Ordering·eq = refl
-    go Ordering·gt = refl
+lex-snoc cmp [] [] x y e = thenBy-eq (cmp x y)
 lex-snoc cmp [] (b ∷ q) x y e = absurd (omega arith)
 lex-snoc cmp (a ∷ p) [] x y e = absurd (omega arith)
 lex-snoc cmp (a ∷ p) (b ∷ q) x y e = go (cmp a b) (lex-snoc cmp p q x y (omega arith))
@@ -89,7 +112,7 @@ walk-children a b x y e h k =
 
 -- siblings: walk order is byte order
 pub walk-siblings : (a x y : List ℕ) → oneLevel x ≡ true → oneLevel y ≡ true → walkOrder (child a x) (child a y) ≡ byteOrder (child a x) (child a y)
-unfolding byteOrder thenBy slash
+unfolding byteOrder thenBy
 walk-siblings a x y h k =
     walk-children a a x y refl h k
     ∙ rw (levels-total .same (levels a)) (sym (lex-prefix compare numbers-total a (slash ∷ x) (slash ∷ y) ∙ lex-prefix compare numbers-total (slash ∷ []) x y))

@@ -1,10 +1,10 @@
--- Byte order on names, and walk order's level by level comparison, are total orders: one law over the order of the elements.
-use mathlib.Core.Path.{_≡_, refl, sym, ap, _∙_, subst}
+-- Byte order on names, and level order on their levels, are total orders: one law over the order of the elements. Rests on the library alone.
+use mathlib.Core.Path.{_≡_, refl, _∙_}
 use mathlib.Core.List.{List, [], _∷_}
 use Prim.Native.Nat.{ℕ, zero, suc, _<_, compare, Ordering, Ordering·lt, Ordering·eq, Ordering·gt, compare·zero-zero, compare·zero-suc, compare·suc-zero, compare·suc-suc}
 use native.Mathlib.Omega.{arith}
-use Rattle.listing_rules.specs.Orders.{lexBy, byteOrder, thenBy, openOrders}
-use Rattle.listing_rules.specs.Names.{levelOrder, openNames}
+use Rattle.listing_rules.specs.Orders.{lexBy, byteOrder, thenBy}
+use Rattle.listing_rules.specs.Names.{levelOrder}
 
 -- the other way round
 abbrev pub swap : Ordering → Ordering
@@ -78,6 +78,13 @@ numbers-total =
     turn a b (less f h) = rw (f, gt-compare b a h)
     turn a b (equal f h) = rw (f, h, eq-compare b)
     turn a b (more f h) = rw (f, lt-compare b a h)
+
+-- an order that decides nothing more
+pub thenBy-eq : (o : Ordering) → thenBy o Ordering·eq ≡ o
+unfolding thenBy
+thenBy-eq Ordering·lt = refl
+thenBy-eq Ordering·eq = refl
+thenBy-eq Ordering·gt = refl
 
 -- lists, by the order of their elements
 module _ {A : Type 0} (cmp : A → A → Ordering) (L : Total cmp) where

@@ -1,44 +1,42 @@
--- A name matches "P/%" exactly if it is P, a slash and one more level.
-use mathlib.Core.Path.{_≡_, refl, sym, ap, _∙_, subst}
+-- Which names the collector's patterns match: "%" those of one level, "P/%" those that are P, a slash and one level more. Rests on Bools.
+use mathlib.Core.Path.{_≡_, refl, sym, ap, _∙_}
 use mathlib.Core.Logic.{_↔_}
-use mathlib.Core.Bool.{Bool, true, false, cond, _&&_, _||_, not, false≢true}
+use mathlib.Core.Bool.{Bool, true, _&&_, not, false≢true}
 use mathlib.Core.List.{List, [], _∷_, _++_}
 use Prim.Native.Nat.{ℕ}
 use lib.Dec.{eqb}
-use borrow.Author.Tests.{eqb-true, eqb-false, eq-eqb, not-true}
+use borrow.Author.Tests.{eqb-true, eq-eqb, not-true}
 use Rattle.listing_rules.specs.Bytes.{openBytes, slash, all, within}
-use Rattle.listing_rules.specs.Lists.{openLists}
-use Rattle.listing_rules.specs.Orders.{openOrders}
-use Rattle.listing_rules.specs.Names.{openNames, nameByte}
-use Rattle.listing_rules.specs.Match.{openMatch, wildMatch, headThen, anyTailInLevel}
-use Rattle.listing_rules.proofs.Ancestors.{and-l, and-r, and-i}
+use Rattle.listing_rules.specs.Names.{nameByte}
+use Rattle.listing_rules.specs.Match.{openMatch, wildMatch, headThen}
+use Rattle.listing_rules.proofs.Bools.{and-l, and-r}
 
 -- no slash
 abbrev pub oneLevel : List ℕ → Bool
 oneLevel l = all (λ b. not (eqb b slash)) l
 
 pub takes-percent : (n : List ℕ) → wildMatch (37 ∷ []) n ≡ oneLevel n
-unfolding openBytes openLists openNames openOrders openMatch
+unfolding openBytes openMatch
 takes-percent [] = refl
 takes-percent (c ∷ n) = ap (λ (r : Bool). not (eqb c slash) && r) (takes-percent n)
 
 -- a byte of a name is no wildcard
 plain : (p : ℕ) (ps n : List ℕ) → nameByte p ≡ true → wildMatch (p ∷ ps) n ≡ headThen p (wildMatch ps) n
-unfolding openBytes openLists openNames openOrders openMatch
+unfolding nameByte wildMatch
 plain p ps n h =
     let not37 = not-true (eqb p 37) (and-r (within 0x20 0x7E p) (not (eqb p 37)) (and-l (within 0x20 0x7E p && not (eqb p 37)) (not (eqb p 42)) h)) in
     let not42 = not-true (eqb p 42) (and-r (within 0x20 0x7E p && not (eqb p 37)) (not (eqb p 42)) h) in
     rw (not42, not37)
 
 pub takes-prefix : (a q m : List ℕ) → all nameByte a ≡ true → wildMatch (a ++ q) (a ++ m) ≡ wildMatch q m
-unfolding openBytes openLists openNames openOrders openMatch
+unfolding openBytes openMatch
 takes-prefix [] q m h = refl
 takes-prefix (p ∷ a) q m h =
     plain p (a ++ q) (p ∷ (a ++ m)) (and-l (nameByte p) (all nameByte a) h)
     ∙ rw (eq-eqb p p refl) (takes-prefix a q m (and-r (nameByte p) (all nameByte a) h))
 
 pub takes-split : (a q n : List ℕ) → all nameByte a ≡ true → wildMatch (a ++ q) n ≡ true → (m : List ℕ) × (n ≡ a ++ m) × (wildMatch q m ≡ true)
-unfolding openBytes openLists openNames openOrders openMatch
+unfolding openBytes openMatch
 takes-split [] q n h t = (n, refl, t)
 takes-split (p ∷ a) q [] h t = absurd (false≢true (sym (plain p (a ++ q) [] (and-l (nameByte p) (all nameByte a) h)) ∙ t))
 takes-split (p ∷ a) q (c ∷ n) h t =
@@ -50,7 +48,7 @@ takes-split (p ∷ a) q (c ∷ n) h t =
 
 -- the pattern that the collector sends below P
 pub takes-below : (a n : List ℕ) → all nameByte a ≡ true → (wildMatch (a ++ (slash ∷ 37 ∷ [])) n ≡ true) ↔ ((l : List ℕ) × (n ≡ a ++ (slash ∷ l)) × (oneLevel l ≡ true))
-unfolding openBytes openLists openNames openOrders openMatch
+unfolding openBytes openMatch
 takes-below a n h = (to, from)
   where
     tail : (m : List ℕ) → n ≡ a ++ m → wildMatch (slash ∷ 37 ∷ []) m ≡ true → (l : List ℕ) × (n ≡ a ++ (slash ∷ l)) × (oneLevel l ≡ true)

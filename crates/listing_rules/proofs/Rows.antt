@@ -1,14 +1,12 @@
--- Rows of a packed table: the bytes that still belong to a row may be dropped at once.
-use mathlib.Core.Path.{_≡_, refl, sym, ap, _∙_}
-use mathlib.Core.Bool.{Bool, true, false, cond}
-use mathlib.Core.List.{List, [], _∷_, _++_}
+-- Places of a packed table: what stands from a place on, as a loop over the bytes meets it. Rests on the library alone.
+use mathlib.Core.Path.{_≡_, refl, ap, _∙_}
+use mathlib.Core.Bool.{true, false}
+use mathlib.Core.List.{List, [], _∷_}
 use Prim.Native.Nat.{ℕ, zero, suc, _+_, _-_, _≤_, _<_}
 use native.Mathlib.Omega.{arith}
-use lib.ListN.{length, drop, take, getD, length-drop, drop-of-length-le}
+use lib.ListN.{length, drop, getD, length-drop, drop-of-length-le}
 use lib.Seq.{getD-drop, drop-drop}
-use Rattle.listing_rules.specs.Flags.{openFlags}
-use Rattle.listing_rules.specs.Table.{Row, rowAt, rowsAfter, rows, rowsFill, openTable}
-use Rattle.listing_rules.specs.Namespaces.{openNamespaces}
+use Rattle.listing_rules.specs.Table.{rowsAfter, rowsFill}
 
 pub fills-drop : (k : ℕ) (t : List ℕ) → k ≤ length t → rowsFill k t ≡ rowsFill 0 (drop k t)
 unfolding rowsFill

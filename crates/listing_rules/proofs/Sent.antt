@@ -1,32 +1,30 @@
--- The collector's own commands are read as what they mean.
-use mathlib.Core.Path.{_≡_, refl, sym, ap, _∙_, subst}
-use mathlib.Core.Bool.{Bool, true, false, cond, _&&_, _||_, not, false≢true}
+-- The collector's commands are read as what they mean. Rests on TokenLaws.
+use mathlib.Core.Path.{_≡_, refl}
+use mathlib.Core.Bool.{Bool, true, false, cond, _&&_, not}
 use mathlib.Core.List.{List, [], _∷_, _++_, append-assoc}
-use mathlib.Core.Option.{Option, none, some}
-use Prim.Native.Nat.{ℕ, zero, suc, _+_, _*_, _≤_, _<_}
+use mathlib.Core.Option.{none, some}
+use Prim.Native.Nat.{ℕ, _≤_}
 use native.Mathlib.Omega.{arith}
 use lib.Dec.{eqb, leb}
 use lib.ListN.{length, length-append}
-use borrow.Author.Tests.{eqb-true, eq-eqb, ne-eqb, not-true, le-leb, leb-true}
-use Rattle.listing_rules.specs.Bytes.{text, quote, backslash, space, crlf, same, all, within, openBytes}
+use borrow.Author.Tests.{ne-eqb, not-true, le-leb}
+use Rattle.listing_rules.specs.Bytes.{text, crlf, same, all, within, openBytes}
 use Rattle.listing_rules.specs.Lists.{openLists}
-use Rattle.listing_rules.specs.Orders.{openOrders}
-use Rattle.listing_rules.specs.Names.{nameByte, openNames}
-use Rattle.listing_rules.specs.Tokens.{unquoted, got, _>>=_, openTokens}
+use Rattle.listing_rules.specs.Names.{nameByte}
+use Rattle.listing_rules.specs.Tokens.{_>>=_, openTokens}
 use Rattle.listing_rules.specs.Options.{Options, openOptions}
-use Rattle.listing_rules.specs.Command.{lineByte, shaped, Parsed, listing, parsed, lineText, orRefuse, tagged, openCommand}
-use Rattle.listing_rules.specs.Match.{openMatch}
-use Rattle.listing_rules.specs.Listing.{openListing}
+use Rattle.listing_rules.specs.Command.{lineByte, shaped, listing, parsed, lineText, orRefuse, tagged, openCommand}
 use Rattle.listing_rules.specs.Lines.{escaped, quoted, openLines}
-use Rattle.listing_rules.specs.Reader.{openReader}
 use Rattle.listing_rules.specs.Walk.{commandLine, wantsSpecial, wantsRemote, when, openWalk}
-use Rattle.listing_rules.specs.Demand3.{walkOptions, openDemand3}
-use Rattle.listing_rules.proofs.Ancestors.{and-l, and-r, and-i}
-use Rattle.listing_rules.proofs.ReaderWriter.{unquoted-escaped}
+use Rattle.listing_rules.specs.Demand3.{walkOptions}
+use Rattle.listing_rules.proofs.Bools.{and-l, and-r}
+use Rattle.listing_rules.proofs.ListLaws.{all-append}
+use Rattle.listing_rules.proofs.TokenLaws.{unquoted-escaped, length-escaped, all-escaped}
+use Rattle.listing_rules.proofs.LawfulNames.{name-range}
 
 -- the shape of a line
 pub shaped-append : (x : List ℕ) → all lineByte x ≡ true → shaped (x ++ crlf) ≡ some x
-unfolding openBytes openLists openCommand openTokens openOptions openLines openReader
+unfolding _>>=_ all crlf lineByte same shaped
 shaped-append [] h = refl
 shaped-append (b ∷ x) h =
     let this = and-l (lineByte b) (all lineByte x) h in
@@ -36,29 +34,12 @@ shaped-append (b ∷ x) h =
     step : (o : Bool) → o ≡ true → eqb b 13 ≡ false → shaped (x ++ crlf) ≡ some x → cond (same (b ∷ (x ++ crlf)) crlf) (some []) (cond o (shaped (x ++ crlf) >>= λ u. some (b ∷ u)) none) ≡ some (b ∷ x)
     step o e f ih = rw (f, e, ih)
 
--- the bytes of an escaped name
-pub length-escaped : (n : List ℕ) → length (escaped n) ≤ 2 * length n
-unfolding openLines openTokens openReader
-length-escaped [] = omega arith
-length-escaped (b ∷ n) = go (eqb b quote || eqb b backslash) (length-escaped n)
-  where
-    go : (o : Bool) → length (escaped n) ≤ 2 * length n → length (cond o (backslash ∷ b ∷ escaped n) (b ∷ escaped n)) ≤ 2 * suc (length n)
-    go true h = omega arith
-    go false h = omega arith
-
-pub all-append : (p : ℕ → Bool) (a b : List ℕ) → all p a ≡ true → all p b ≡ true → all p (a ++ b) ≡ true
-unfolding openBytes openLists
-all-append p [] b h g = g
-all-append p (x ∷ a) b h g = and-i (p x) (all p (a ++ b)) (and-l (p x) (all p a) h) (all-append p a b (and-r (p x) (all p a) h) g)
-
-pub all-escaped : (n : List ℕ) → all lineByte n ≡ true → all lineByte (escaped n) ≡ true
-unfolding openBytes openLists openLines openTokens openReader openCommand openOptions
-all-escaped [] h = refl
-all-escaped (b ∷ n) h = go (eqb b quote || eqb b backslash) (all-escaped n (and-r (lineByte b) (all lineByte n) h))
-  where
-    go : (o : Bool) → all lineByte (escaped n) ≡ true → all lineByte (cond o (backslash ∷ b ∷ escaped n) (b ∷ escaped n)) ≡ true
-    go true ih = and-i (lineByte b) (all lineByte (escaped n)) (and-l (lineByte b) (all lineByte n) h) ih
-    go false ih = and-i (lineByte b) (all lineByte (escaped n)) (and-l (lineByte b) (all lineByte n) h) ih
+-- a byte of a name may stand in a line
+pub name-line : (b : ℕ) → nameByte b ≡ true → lineByte b ≡ true
+unfolding lineByte within
+name-line b h =
+    let w = name-range b h in
+    simp (le-leb 1 b (omega (arith, w .0)), le-leb b 127 (omega (arith, w .1)), ne-eqb b 13 (λ e. omega (arith, w .0)), ne-eqb b 10 (λ e. omega (arith, w .0)))
 
 -- what stands before the reference and behind it
 abbrev before : Bool → Bool → List ℕ
@@ -83,17 +64,17 @@ optionsFor s r =
     }
 
 body-bytes : (s r : Bool) (n : List ℕ) → all lineByte n ≡ true → all lineByte (body s r n) ≡ true
-unfolding openBytes openLists openCommand openTokens openOptions
-body-bytes true true n h = all-append lineByte (escaped n) (text "\" \"%\"") (all-escaped n h) refl
-body-bytes true false n h = all-append lineByte (escaped n) (text "\" \"%\"") (all-escaped n h) refl
-body-bytes false true n h = all-append lineByte (escaped n) (text "\" \"%\"") (all-escaped n h) refl
-body-bytes false false n h = all-append lineByte (escaped n) (text "\" \"%\"") (all-escaped n h) refl
+unfolding openBytes openCommand
+body-bytes true true n h = all-append lineByte (escaped n) (text "\" \"%\"") (all-escaped lineByte refl n h) refl
+body-bytes true false n h = all-append lineByte (escaped n) (text "\" \"%\"") (all-escaped lineByte refl n h) refl
+body-bytes false true n h = all-append lineByte (escaped n) (text "\" \"%\"") (all-escaped lineByte refl n h) refl
+body-bytes false false n h = all-append lineByte (escaped n) (text "\" \"%\"") (all-escaped lineByte refl n h) refl
 
 fits : (n : List ℕ) → length n ≤ 254 → leb (length (n ++ (37 ∷ []))) 255 ≡ true
 fits n h = le-leb (length (n ++ (37 ∷ []))) 255 (omega (arith, length-append n (37 ∷ [])))
 
 body-read : (s r : Bool) (n : List ℕ) → length n ≤ 254 → tagged (body s r n) ≡ listing (text "w") (optionsFor s r) ((n ++ text "%") ∷ [])
-unfolding openBytes openLists openLines openTokens openReader openCommand openOptions openMatch
+unfolding openBytes openLists openTokens openCommand openOptions
 body-read true true n h = rw (unquoted-escaped n (text " \"%\""), fits n h)
 body-read true false n h = rw (unquoted-escaped n (text " \"%\""), fits n h)
 body-read false true n h = rw (unquoted-escaped n (text " \"%\""), fits n h)
@@ -101,7 +82,7 @@ body-read false false n h = rw (unquoted-escaped n (text " \"%\""), fits n h)
 
 -- a command of the collector, read
 line-is : (o : ℕ) (n : List ℕ) → commandLine o n ≡ body (wantsSpecial o) (wantsRemote o) n ++ crlf
-unfolding openBytes openLists openLines openTokens openReader openWalk openDemand3
+unfolding openBytes openLines openWalk
 line-is o n = go (wantsSpecial o) (wantsRemote o)
   where
     go : (s r : Bool) → (text "w LIST (SUBSCRIBED RECURSIVEMATCH" ++ (when s (text " SPECIAL-USE") ++ (when r (text " REMOTE") ++ (text ") " ++ (quoted n ++ (text " \"%\"" ++ crlf)))))) ≡ body s r n ++ crlf
@@ -111,7 +92,7 @@ line-is o n = go (wantsSpecial o) (wantsRemote o)
     go false false = simp append-assoc
 
 short : (s r : Bool) (n : List ℕ) → length n ≤ 254 → length (body s r n ++ crlf) ≤ 2048
-unfolding openBytes openLists
+unfolding openBytes
 short true true n h = simp length-append (omega (arith, length-escaped n))
 short true false n h = simp length-append (omega (arith, length-escaped n))
 short false true n h = simp length-append (omega (arith, length-escaped n))

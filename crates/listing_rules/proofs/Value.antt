@@ -1,67 +1,15 @@
--- Option values: the fuel does not matter where it is at least the bytes left; what is left is shorter.
-use mathlib.Core.Path.{_≡_, refl, sym, ap, _∙_, subst}
+-- Values of options: what is left is shorter, and the fuel does not matter where it is at least the bytes left. Rests on TokenLaws.
+use mathlib.Core.Path.{_≡_, refl, sym, ap, _∙_}
 use mathlib.Core.Bool.{Bool, true, false, cond}
-use mathlib.Core.List.{List, [], _∷_, _++_}
-use mathlib.Core.Option.{Option, none, some}
-use Prim.Native.Nat.{ℕ, zero, suc, _+_, _≤_, _<_}
+use mathlib.Core.List.{List, [], _∷_}
+use mathlib.Core.Option.{Option, some}
+use Prim.Native.Nat.{ℕ, zero, suc, _≤_, _<_}
 use native.Mathlib.Omega.{arith}
-use lib.Dec.{eqb}
-use lib.ListN.{length, length-append}
-use Rattle.listing_rules.specs.Bytes.{text, quote, openBytes, isEmpty}
-use Rattle.listing_rules.specs.Lists.{openLists}
-use Rattle.listing_rules.specs.Tokens.{Got, got, after, withFirst, unquoted, _>>=_, openTokens, run, run₁, unlessEmpty, stringOr, astring, astringByte, at}
-use Rattle.listing_rules.specs.Options.{openOptions}
+use lib.ListN.{length}
+use Rattle.listing_rules.specs.Bytes.{text}
+use Rattle.listing_rules.specs.Tokens.{after, _>>=_, openTokens, astring, at}
 use Rattle.listing_rules.specs.Command.{valueRest, openCommand}
-use Rattle.listing_rules.specs.Lines.{escaped, openLines}
-use Rattle.listing_rules.specs.Reader.{openReader}
-use Rattle.listing_rules.proofs.ReaderWriter.{bind-some, none≢some, after-some, unquoted-some}
-
-pub bind-cong : {A B : Type 0} (x : Option A) (f g : A → Option B) → ((a : A) → x ≡ some a → f a ≡ g a) → (x >>= f) ≡ (x >>= g)
-unfolding _>>=_
-bind-cong none f g h = refl
-bind-cong (some a) f g h = h a refl
-
--- what is left is shorter
-pub after-shorter : (c : ℕ) (t u : List ℕ) → after (c ∷ []) t ≡ some u → length t ≡ suc (length u)
-after-shorter c t u e = ap length (after-some (c ∷ []) t u e)
-
-pub unquoted-shorter : (t : List ℕ) (g : Got (List ℕ)) → unquoted false t ≡ some g → length (g .rest) < length t
-unquoted-shorter t g k = omega (arith, ap length (unquoted-some false t g k), length-append (escaped (g .val)) (quote ∷ g .rest))
-
-pub run-split : (p : ℕ → Bool) (t : List ℕ) → t ≡ (run p t) .val ++ (run p t) .rest
-unfolding run got withFirst
-run-split p [] = refl
-run-split p (b ∷ t) = go (p b) (run-split p t)
-  where
-    go : (o : Bool) → t ≡ (run p t) .val ++ (run p t) .rest → Path (List ℕ) (b ∷ t) ((cond o (withFirst b (run p t)) (got [] (b ∷ t))) .val ++ (cond o (withFirst b (run p t)) (got [] (b ∷ t))) .rest)
-    go true ih = ap (λ (x : List ℕ). b ∷ x) ih
-    go false ih = refl
-
-run₁-shorter : (p : ℕ → Bool) (t : List ℕ) (g : Got (List ℕ)) → run₁ p t ≡ some g → length (g .rest) < length t
-unfolding run₁ unlessEmpty isEmpty
-run₁-shorter p t g k = go (run p t) k (run-split p t)
-  where
-    nonempty : (v r : List ℕ) → cond (isEmpty v) none (some (record { val = v; rest = r })) ≡ some g → t ≡ v ++ r → length (g .rest) < length t
-    nonempty [] r k e = absurd (none≢some k)
-    nonempty (x ∷ v) r k e =
-        let same : r ≡ g .rest = ap (λ (o : Option (Got (List ℕ))). restOr r o) k in
-        omega (arith, ap length e, length-append (x ∷ v) r, ap length same)
-      where
-        restOr : List ℕ → Option (Got (List ℕ)) → List ℕ
-        restOr d none = d
-        restOr d (some h) = h .rest
-
-    go : (h : Got (List ℕ)) → cond (isEmpty (h .val)) none (some h) ≡ some g → t ≡ h .val ++ h .rest → length (g .rest) < length t
-    go h k e = nonempty (h .val) (h .rest) k e
-
-pub astring-shorter : (t : List ℕ) (g : Got (List ℕ)) → astring t ≡ some g → length (g .rest) < length t
-unfolding astring stringOr
-astring-shorter [] g k = absurd (none≢some k)
-astring-shorter (b ∷ t) g k = go (eqb b quote) k
-  where
-    go : (o : Bool) → cond o (unquoted false t) (run₁ astringByte (b ∷ t)) ≡ some g → length (g .rest) < suc (length t)
-    go true k = omega (arith, unquoted-shorter t g k)
-    go false k = run₁-shorter astringByte (b ∷ t) g k
+use Rattle.listing_rules.proofs.TokenLaws.{bind-some, none≢some, bind-cong, after-shorter, astring-shorter}
 
 -- the first item, as a function of what reads an inner value
 first : (List ℕ → Option (List ℕ)) → List ℕ → Option (List ℕ)
@@ -79,7 +27,7 @@ Shrinks : (List ℕ → Option (List ℕ)) → Type 0
 Shrinks f = (t u : List ℕ) → f t ≡ some u → length u < length t
 
 first-shorter : (f : List ℕ → Option (List ℕ)) → Shrinks f → Shrinks (first f)
-unfolding Shrinks first openBytes openLists
+unfolding Shrinks first text
 first-shorter f s t u k = go (at 40 t) k
   where
     go : (o : Bool) → cond o (after (text "(") t >>= f) (astring t >>= λ g. some (g .rest)) ≡ some u → length u < length t
@@ -90,7 +38,7 @@ first-shorter f s t u k = go (at 40 t) k
         omega (arith, astring-shorter t (w .0) (w .1), ap length e)
 
 rest-shorter : (f : List ℕ → Option (List ℕ)) → Shrinks f → Shrinks (rest-item f)
-unfolding Shrinks rest-item openBytes openLists
+unfolding Shrinks rest-item text
 rest-shorter f s t u k = go (at 32 t) k
   where
     go : (o : Bool) → cond o (after (text " ") t >>= f) (after (text ")") t) ≡ some u → length u < length t
@@ -107,20 +55,20 @@ value-shorter (suc k) t u e =
     omega (arith, p, q)
 
 first-cong : (f g : List ℕ → Option (List ℕ)) (t : List ℕ) → ((v : List ℕ) → length v < length t → f v ≡ g v) → first f t ≡ first g t
-unfolding first openBytes openLists
+unfolding first text
 first-cong f g t h =
     ap (λ (x : Option (List ℕ)). cond (at 40 t) x (astring t >>= λ g. some (g .rest)))
     (bind-cong (after (text "(") t) f g (λ v e. h v (omega (arith, after-shorter 40 t v e))))
 
 rest-cong : (f g : List ℕ → Option (List ℕ)) (t : List ℕ) → ((v : List ℕ) → length v < length t → f v ≡ g v) → rest-item f t ≡ rest-item g t
-unfolding rest-item openBytes openLists
+unfolding rest-item text
 rest-cong f g t h =
     ap (λ (x : Option (List ℕ)). cond (at 32 t) x (after (text ")") t))
     (bind-cong (after (text " ") t) f g (λ v e. h v (omega (arith, after-shorter 32 t v e))))
 
 -- the fuel does not matter where it is at least the bytes left
 pub value-fuel : (k j : ℕ) (t : List ℕ) → length t ≤ k → length t ≤ j → valueRest k t ≡ valueRest j t
-unfolding openCommand openTokens openOptions openLines openReader Shrinks
+unfolding openCommand openTokens Shrinks
 value-fuel zero zero t h g = refl
 value-fuel zero (suc j) [] h g = refl
 value-fuel zero (suc j) (b ∷ t) h g = absurd (omega arith)

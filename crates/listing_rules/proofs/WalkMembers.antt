@@ -1,72 +1,35 @@
--- Which names a command of the collector finds, and which it asks next; both ascend in walk order.
+-- Which names a command of the collector finds, and which it asks next; both lists ascend in walk order. Rests on WalkSets and Asked.
 use mathlib.Core.Path.{_≡_, refl, sym, ap, _∙_, subst}
-use mathlib.Core.Logic.{_⊎_, inl, inr, ⊎-elim}
-use mathlib.Core.Bool.{Bool, true, false, cond, _&&_, _||_, not, false≢true}
-use mathlib.Core.List.{List, [], _∷_, _++_, append-assoc, append-cancel-left, tail-eq-of-cons-eq, List·Memᴰ, List·Memᴰ·head, List·Memᴰ·tail, List·Memᴰ·not-nil, List·Memᴰ·cases-cons}
-use Prim.Native.Nat.{ℕ, zero, suc, _+_, _≤_, _<_, Ordering, Ordering·lt, Ordering·eq, Ordering·gt}
-use native.Mathlib.Omega.{arith}
+use mathlib.Core.Bool.{Bool, true, false, _&&_, not, false≢true}
+use mathlib.Core.List.{List, [], _∷_, _++_, append-assoc, append-cancel-left, tail-eq-of-cons-eq, List·Memᴰ}
+use Prim.Native.Nat.{ℕ, Ordering·lt}
 use lib.Dec.{eqb}
 use lib.ListN.{length}
-use Rattle.listing_rules.specs.Bytes.{text, slash, all, openBytes}
-use Rattle.listing_rules.specs.Lists.{keep, anyOf, openLists}
-use Rattle.listing_rules.specs.Orders.{lexBy, byteOrder, thenBy, sorted}
-use Rattle.listing_rules.specs.Names.{nameByte, below, levels, levelOrder, walkOrder}
-use Rattle.listing_rules.specs.Table.{Row, rows, flagsOf, passes}
-use Rattle.listing_rules.specs.Options.{Options}
+use Rattle.listing_rules.specs.Bytes.{slash, all, openBytes}
+use Rattle.listing_rules.specs.Lists.{anyOf}
+use Rattle.listing_rules.specs.Orders.{lexBy, byteOrder}
+use Rattle.listing_rules.specs.Names.{nameByte, below, levelOrder, walkOrder}
+use Rattle.listing_rules.specs.Table.{rows, flagsOf}
 use Rattle.listing_rules.specs.Match.{matchesAny}
 use Rattle.listing_rules.specs.Listing.{candidates, meetsCriteria, candidateMeets, meetsBelow, meetsUnmatchedBelow, childInfo, listed, listedNames}
 use Rattle.listing_rules.specs.Walk.{isFind}
 use Rattle.listing_rules.specs.Demand3.{walkOptions}
-use Rattle.listing_rules.proofs.Ancestors.{and-l, and-r, and-i}
-use Rattle.listing_rules.proofs.Order.{bytes-total}
-use Rattle.listing_rules.proofs.Sorted.{Above, Asc, above-mem, asc-sorted}
+use Rattle.listing_rules.proofs.Bools.{and-l, and-r, and-i, or-l, or-r}
+use Rattle.listing_rules.proofs.ListLaws.{all-right, keep-mem, mem-keep, some-mem, mem-some}
+use Rattle.listing_rules.proofs.Order.{bytes-total, thenBy-eq}
+use Rattle.listing_rules.proofs.Sorted.{Asc, asc-sorted, asc-keep, asc-other}
 use Rattle.listing_rules.proofs.Percent.{oneLevel}
-use Rattle.listing_rules.proofs.Levels.{child, levels-one, walk-siblings, walk-same-depth}
-use Rattle.listing_rules.proofs.LawfulNames.{all-right, below-split}
-use Rattle.listing_rules.proofs.Asked.{keep-mem, mem-keep, pats, attrsOf, childOf, names-listed}
-use Rattle.listing_rules.proofs.WalkSets.{or-l, or-r, find-met, some-mem, mem-some, matches-top, matches-below}
-use Rattle.listing_rules.proofs.Bfs.{Name}
-
--- ascending lists
-module _ {A : Type 0} (cmp : A → A → Ordering) where
-  above-keep : (p : A → Bool) (w : A) (l : List A) → Above cmp w l → Above cmp w (keep p l)
-  unfolding keep
-  above-keep p w [] a = tt
-  above-keep p w (x ∷ l) a = pick (p x) (above-keep p w l (a .1))
-    where
-      pick : (o : Bool) → Above cmp w (keep p l) → Above cmp w (cond o (x ∷ keep p l) (keep p l))
-      pick true ih = (a .0, ih)
-      pick false ih = ih
-
-  pub asc-keep : (p : A → Bool) (l : List A) → Asc cmp l → Asc cmp (keep p l)
-  unfolding keep
-  asc-keep p [] s = tt
-  asc-keep p (x ∷ l) s = pick (p x) (asc-keep p l (s .1))
-    where
-      pick : (o : Bool) → Asc cmp (keep p l) → Asc cmp (cond o (x ∷ keep p l) (keep p l))
-      pick true ih = (above-keep p x l (s .0), ih)
-      pick false ih = ih
-
-  pub asc-other : (d : A → A → Ordering) (l : List A) → ((x y : A) → List·Memᴰ x l → List·Memᴰ y l → cmp x y ≡ Ordering·lt → d x y ≡ Ordering·lt) → Asc cmp l → Asc d l
-  asc-other d [] f s = tt
-  asc-other d (x ∷ l) f s =
-      (above d x l (λ y m. f x y (List·Memᴰ·head refl) (List·Memᴰ·tail m)) (s .0), asc-other d l (λ y z m n. f y z (List·Memᴰ·tail m) (List·Memᴰ·tail n)) (s .1))
-    where
-      above : (d : A → A → Ordering) (x : A) (l : List A) → ((y : A) → List·Memᴰ y l → cmp x y ≡ Ordering·lt → d x y ≡ Ordering·lt) → Above cmp x l → Above d x l
-      above d x [] f a = tt
-      above d x (y ∷ l) f a = (f y (List·Memᴰ·head refl) (a .0), above d x l (λ z m. f z (List·Memᴰ·tail m)) (a .1))
+use Rattle.listing_rules.proofs.Levels.{child, levels-one, walk-siblings, walk-same-depth, Name, ChildOf}
+use Rattle.listing_rules.proofs.LawfulNames.{below-split}
+use Rattle.listing_rules.proofs.Asked.{pats, attrsOf, childOf, names-listed, finds, asks}
+use Rattle.listing_rules.proofs.WalkSets.{find-met, matches-top, matches-below}
 
 -- names of one level: walk order is byte order
 pub walk-tops : (x y : Name) → oneLevel x ≡ true → oneLevel y ≡ true → walkOrder x y ≡ byteOrder x y
 unfolding levelOrder lexBy
 walk-tops x y h k =
     walk-same-depth x y (ap length (levels-one x h) ∙ sym (ap length (levels-one y k)))
-    ∙ rw (levels-one x h, levels-one y k) (end (byteOrder x y))
-  where
-    end : (u : Ordering) → thenBy u Ordering·eq ≡ u
-    end Ordering·lt = unfold thenBy in refl
-    end Ordering·eq = unfold thenBy in refl
-    end Ordering·gt = unfold thenBy in refl
+    ∙ rw (levels-one x h, levels-one y k) (thenBy-eq (byteOrder x y))
 
 module _ (t : List ℕ) (o : ℕ) where
   abbrev pub cands : List Name
@@ -80,30 +43,24 @@ module _ (t : List ℕ) (o : ℕ) where
   abbrev pub Low : Name → Type 0
   Low z = (d : Name) × List·Memᴰ d cands × (below z d ≡ true) × (M d ≡ true)
 
-  abbrev pub finds : Name → List Name
-  finds ref = keep (λ n. isFind o (attrsOf t o ref n)) (names-listed t o ref)
-
-  abbrev pub asks : Name → List Name
-  asks ref = keep (childOf t o ref) (names-listed t o ref)
-
   abbrev pub Hit : Name → Name → Type 0
   Hit ref z = matchesAny (pats t o ref) z ≡ true
 
-  pub find-to : (ref z : Name) → List·Memᴰ z (finds ref) → List·Memᴰ z cands × Hit ref z × (M z ≡ true)
+  pub find-to : (ref z : Name) → List·Memᴰ z (finds t o ref) → List·Memᴰ z cands × Hit ref z × (M z ≡ true)
   unfolding listedNames listed candidateMeets
   find-to ref z m =
       let w = keep-mem (λ n. isFind o (attrsOf t o ref n)) (names-listed t o ref) z m in
       let v = keep-mem (listed (rows t) (walkOptions o) (pats t o ref)) cands z (w .0) in
       (v .0, and-l (matchesAny (pats t o ref) z) _ (v .1), sym (find-met (rows t) o z) ∙ w .1)
 
-  pub find-from : (ref z : Name) → List·Memᴰ z cands → Hit ref z → M z ≡ true → List·Memᴰ z (finds ref)
+  pub find-from : (ref z : Name) → List·Memᴰ z cands → Hit ref z → M z ≡ true → List·Memᴰ z (finds t o ref)
   unfolding listedNames listed candidateMeets
   find-from ref z c h m =
       mem-keep (λ n. isFind o (attrsOf t o ref n)) (names-listed t o ref) z
       (mem-keep (listed (rows t) (walkOptions o) (pats t o ref)) cands z c (and-i (matchesAny (pats t o ref) z) _ h (or-l (M z) _ m)))
       (find-met (rows t) o z ∙ m)
 
-  pub ask-to : (ref z : Name) → List·Memᴰ z (asks ref) → List·Memᴰ z cands × Hit ref z × Low z
+  pub ask-to : (ref z : Name) → List·Memᴰ z (asks t o ref) → List·Memᴰ z cands × Hit ref z × Low z
   unfolding listedNames listed candidateMeets childInfo meetsBelow walkOptions
   ask-to ref z m =
       let w = keep-mem (childOf t o ref) (names-listed t o ref) z m in
@@ -111,7 +68,7 @@ module _ (t : List ℕ) (o : ℕ) where
       let s = some-mem (λ d. below z d && M d) cands (w .1) in
       (v .0, and-l (matchesAny (pats t o ref) z) _ (v .1), (s .0, s .1, and-l (below z (s .0)) (M (s .0)) (s .2), and-r (below z (s .0)) (M (s .0)) (s .2)))
 
-  pub ask-from : (ref z : Name) → ((d : Name) → below z d ≡ true → Hit ref d → ⊥) → List·Memᴰ z cands → Hit ref z → Low z → List·Memᴰ z (asks ref)
+  pub ask-from : (ref z : Name) → ((d : Name) → below z d ≡ true → Hit ref d → ⊥) → List·Memᴰ z cands → Hit ref z → Low z → List·Memᴰ z (asks t o ref)
   unfolding listedNames listed candidateMeets childInfo meetsBelow meetsUnmatchedBelow walkOptions
   ask-from ref z deeper c h l =
       mem-keep (childOf t o ref) (names-listed t o ref) z
@@ -129,23 +86,23 @@ module _ (t : List ℕ) (o : ℕ) where
 
   -- the top, and below a name
   pub hit-top : (z : Name) → Hit [] z → oneLevel z ≡ true
-  unfolding openBytes openLists
+  unfolding openBytes
   hit-top z h = sym (matches-top z) ∙ h
 
   pub top-hit : (z : Name) → oneLevel z ≡ true → Hit [] z
-  unfolding openBytes openLists
+  unfolding openBytes
   top-hit z h = matches-top z ∙ h
 
-  pub hit-below : (a z : Name) → all nameByte a ≡ true → Hit (a ++ (slash ∷ [])) z → (x : Name) × (z ≡ child a x) × (oneLevel x ≡ true)
-  unfolding openBytes openLists
+  pub hit-below : (a z : Name) → all nameByte a ≡ true → Hit (a ++ (slash ∷ [])) z → ChildOf a z
+  unfolding openBytes
   hit-below a z g h = matches-below a z g .0 h
 
   pub below-hit : (a x : Name) → all nameByte a ≡ true → oneLevel x ≡ true → Hit (a ++ (slash ∷ [])) (child a x)
-  unfolding openBytes openLists
+  unfolding openBytes
   below-hit a x g h = matches-below a (child a x) g .1 (x, refl, h)
 
   no-slash : (x m : Name) → oneLevel (x ++ (slash ∷ m)) ≡ true → ⊥
-  unfolding openBytes openLists
+  unfolding openBytes
   no-slash x m h = false≢true (all-right (λ b. not (eqb b slash)) x (slash ∷ m) h)
 
   pub top-deeper : (z d : Name) → below z d ≡ true → Hit [] d → ⊥
@@ -169,18 +126,18 @@ module _ (t : List ℕ) (o : ℕ) where
   unfolding listedNames
   listed-asc ref = asc-keep byteOrder (listed (rows t) (walkOptions o) (pats t o ref)) cands cands-asc
 
-  pub finds-bytes : (ref : Name) → Asc byteOrder (finds ref)
+  pub finds-bytes : (ref : Name) → Asc byteOrder (finds t o ref)
   finds-bytes ref = asc-keep byteOrder (λ n. isFind o (attrsOf t o ref n)) (names-listed t o ref) (listed-asc ref)
 
-  pub asks-bytes : (ref : Name) → Asc byteOrder (asks ref)
+  pub asks-bytes : (ref : Name) → Asc byteOrder (asks t o ref)
   asks-bytes ref = asc-keep byteOrder (childOf t o ref) (names-listed t o ref) (listed-asc ref)
 
   pub tops-asc : (l : List Name) → ((z : Name) → List·Memᴰ z l → oneLevel z ≡ true) → Asc byteOrder l → Asc walkOrder l
   tops-asc l f s = asc-other byteOrder walkOrder l (λ x y m n e. walk-tops x y (f x m) (f y n) ∙ e) s
 
-  pub kids-asc : (a : Name) (l : List Name) → ((z : Name) → List·Memᴰ z l → (x : Name) × (z ≡ child a x) × (oneLevel x ≡ true)) → Asc byteOrder l → Asc walkOrder l
+  pub kids-asc : (a : Name) (l : List Name) → ((z : Name) → List·Memᴰ z l → ChildOf a z) → Asc byteOrder l → Asc walkOrder l
   kids-asc a l f s = asc-other byteOrder walkOrder l (λ x y m n e. pair x y (f x m) (f y n) e) s
     where
-      pair : (x y : Name) → (u : Name) × (x ≡ child a u) × (oneLevel u ≡ true) → (v : Name) × (y ≡ child a v) × (oneLevel v ≡ true) → byteOrder x y ≡ Ordering·lt → walkOrder x y ≡ Ordering·lt
+      pair : (x y : Name) → ChildOf a x → ChildOf a y → byteOrder x y ≡ Ordering·lt → walkOrder x y ≡ Ordering·lt
       pair x y w v e =
           rw (w .1, v .1) (walk-siblings a (w .0) (v .0) (w .2) (v .2) ∙ (rw (w .1, v .1) at e))

@@ -1,5 +1,5 @@
--- Walk order is a total order.
-use mathlib.Core.Path.{_≡_, refl, sym, ap, _∙_, subst}
+-- Walk order is a total order. Rests on Order and Levels.
+use mathlib.Core.Path.{_≡_, refl, sym, ap, _∙_}
 use mathlib.Core.Bool.{Bool, true, false, cond}
 use mathlib.Core.List.{List, [], _∷_, _++_}
 use Prim.Native.Nat.{ℕ, compare, Ordering, Ordering·lt, Ordering·eq, Ordering·gt}

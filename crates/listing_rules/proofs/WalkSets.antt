@@ -1,67 +1,25 @@
--- What one command of the collector finds, and what it asks next, as sets of candidates.
+-- What a command of the collector matches, and that a line is a find exactly if its name meets the criteria. Rests on Percent.
 use mathlib.Core.Path.{_≡_, refl, sym, ap, _∙_, subst}
-use mathlib.Core.Logic.{_⊎_, inl, inr, ⊎-elim, _↔_}
-use mathlib.Core.Bool.{Bool, true, false, cond, _&&_, _||_, not, false≢true}
-use mathlib.Core.List.{List, [], _∷_, _++_, map, append-assoc, List·Memᴰ, List·Memᴰ·head, List·Memᴰ·tail, List·Memᴰ·not-nil, List·Memᴰ·cases-cons}
-use Prim.Native.Nat.{ℕ, zero, suc, _+_, _-_, _≤_, _<_, Ordering, Ordering·lt}
+use mathlib.Core.Logic.{_↔_}
+use mathlib.Core.Bool.{and-true, or-true, or-false, or-assoc, and-comm, Bool, true, false, cond, _&&_, _||_, not, false≢true}
+use mathlib.Core.List.{List, [], _∷_, _++_, append-assoc}
+use Prim.Native.Nat.{ℕ, _-_, _≤_}
 use native.Mathlib.Omega.{arith}
 use lib.Dec.{eqb, leb}
-use lib.ListN.{length, length-append}
-use borrow.Author.Tests.{eqb-true, eq-eqb, ne-eqb, leb-true, le-leb, leb-false, lt-leb, not-true}
-use Rattle.listing_rules.specs.Bytes.{text, slash, all, same, raise, raised, within, bit, openBytes}
-use Rattle.listing_rules.specs.Lists.{anyOf, keep, openLists}
-use Rattle.listing_rules.specs.Orders.{byteOrder, openOrders}
-use Rattle.listing_rules.specs.Names.{lawfulName, nameByte, inbox, below, properAncestors, walkOrder, openNames}
-use Rattle.listing_rules.specs.Flags.{exists, subscribed, remote, uses, hasUse, openFlags}
-use Rattle.listing_rules.specs.Table.{Row, rows, flagsOf, openTable}
-use Rattle.listing_rules.specs.Namespaces.{openNamespaces}
-use Rattle.listing_rules.specs.Options.{Options}
+use borrow.Author.Tests.{ne-eqb, leb-true, le-leb}
+use Rattle.listing_rules.specs.Bytes.{slash, all, same, raise, raised, within, bit, openBytes}
+use Rattle.listing_rules.specs.Lists.{anyOf}
+use Rattle.listing_rules.specs.Names.{nameByte, inbox, openNames}
+use Rattle.listing_rules.specs.Flags.{exists, subscribed, remote, uses, hasUse}
+use Rattle.listing_rules.specs.Table.{Row, flagsOf}
 use Rattle.listing_rules.specs.Match.{wildMatch, matches, matchesAny}
-use Rattle.listing_rules.specs.Listing.{candidates, meetsCriteria, candidateMeets, meetsBelow, meetsUnmatchedBelow, attributes, childInfo, listed, listedNames}
+use Rattle.listing_rules.specs.Listing.{meetsCriteria, candidateMeets, attributes}
 use Rattle.listing_rules.specs.Walk.{wantsRemote, wantsSpecial, isFind, attr, useAttr}
 use Rattle.listing_rules.specs.Demand3.{walkOptions}
-use Rattle.listing_rules.proofs.Ancestors.{and-l, and-r, and-i}
-use Rattle.listing_rules.proofs.Order.{bytes-total}
-use Rattle.listing_rules.proofs.Sorted.{Above, Asc, above-mem, asc-sorted}
-use Rattle.listing_rules.proofs.ReaderWriter.{same-true, same-refl}
+use Rattle.listing_rules.proofs.Bools.{and-l, and-r, and-i}
+use Rattle.listing_rules.proofs.ListLaws.{same-true, all-right}
 use Rattle.listing_rules.proofs.Percent.{oneLevel, takes-percent, takes-below}
-use Rattle.listing_rules.proofs.Levels.{child, levels-one, walk-siblings, walk-same-depth}
-use Rattle.listing_rules.proofs.LawfulNames.{all-right, below-split}
-use Rattle.listing_rules.proofs.Asked.{keep-mem, mem-keep}
-
--- Bools
-pub or-cases : (a b : Bool) → (a || b) ≡ true → (a ≡ true) ⊎ (b ≡ true)
-or-cases true b e = inl refl
-or-cases false b e = inr e
-
-pub or-l : (a b : Bool) → a ≡ true → (a || b) ≡ true
-or-l a b e = rw e
-
-pub or-r : (a b : Bool) → b ≡ true → (a || b) ≡ true
-or-r true b e = refl
-or-r false b e = e
-
-and-true : (b : Bool) → (b && true) ≡ b
-and-true true = refl
-and-true false = refl
-
-or-true : (b : Bool) → (b || true) ≡ true
-or-true true = refl
-or-true false = refl
-
-or-false : (b : Bool) → (b || false) ≡ b
-or-false true = refl
-or-false false = refl
-
-or-assoc : (a b c : Bool) → ((a || b) || c) ≡ (a || (b || c))
-or-assoc true b c = refl
-or-assoc false b c = refl
-
-and-comm : (a b : Bool) → (a && b) ≡ (b && a)
-and-comm true true = refl
-and-comm true false = refl
-and-comm false true = refl
-and-comm false false = refl
+use Rattle.listing_rules.proofs.Levels.{child, ChildOf}
 
 -- "A line is a find if ..": exactly if the name meets the criteria
 find-bools : (S s x e b₈ b₉ b₁₀ b₁₁ b₁₂ b₁₃ b₁₄ : Bool) → (((s && true) && x) && (not S || ((((((b₈ && (S || false) || b₉ && (S || false)) || b₁₀ && (S || false)) || b₁₁ && (S || false)) || b₁₂ && (S || false)) || b₁₃ && (S || false)) || b₁₄ && (S || false)))) ≡ ((((e || true) && x) && s) && (not S || (b₈ || (b₉ || (b₁₀ || (b₁₁ || (b₁₂ || (b₁₃ || (b₁₄ || false)))))))))
@@ -74,33 +32,17 @@ find-met rs o n =
     let f = flagsOf rs n in
     find-bools (wantsSpecial o) (subscribed f) (not (remote f) || wantsRemote o) (exists f) (bit 8 f) (bit 9 f) (bit 10 f) (bit 11 f) (bit 12 f) (bit 13 f) (bit 14 f)
 
--- "some"
-module _ {A : Type 0} (p : A → Bool) where
-  pub some-mem : (l : List A) → anyOf p l ≡ true → (z : A) × List·Memᴰ z l × (p z ≡ true)
-  unfolding anyOf
-  some-mem [] h = absurd (false≢true h)
-  some-mem (x ∷ l) h = pick (or-cases (p x) (anyOf p l) h) (some-mem l)
-    where
-      pick : (p x ≡ true) ⊎ (anyOf p l ≡ true) → (anyOf p l ≡ true → (z : A) × List·Memᴰ z l × (p z ≡ true)) → (z : A) × List·Memᴰ z (x ∷ l) × (p z ≡ true)
-      pick (inl e) ih = (x, List·Memᴰ·head refl, e)
-      pick (inr e) ih = let w = ih e in (w .0, List·Memᴰ·tail (w .1), w .2)
-
-  pub mem-some : (l : List A) (z : A) → List·Memᴰ z l → p z ≡ true → anyOf p l ≡ true
-  unfolding anyOf
-  mem-some [] z m h = absurd (List·Memᴰ·not-nil m)
-  mem-some (x ∷ l) z m h = ⊎-elim (λ e. or-l (p x) (anyOf p l) (ap p (sym e) ∙ h)) (λ k. or-r (p x) (anyOf p l) (mem-some l z k h)) (List·Memᴰ·cases-cons m)
-
 -- the pattern % alone, and below a name
 oneLevel-inbox : oneLevel inbox ≡ true
-unfolding openNames openOrders openBytes openLists
+unfolding openNames openBytes
 oneLevel-inbox = refl
 
 not-child : (a x : List ℕ) → oneLevel (child a x) ≡ true → ⊥
-unfolding openBytes openLists
+unfolding openBytes
 not-child a x h = false≢true (all-right (λ b. not (eqb b slash)) a (slash ∷ x) h)
 
 pub matches-top : (n : List ℕ) → matchesAny ((37 ∷ []) ∷ []) n ≡ oneLevel n
-unfolding matchesAny matches anyOf openBytes openLists
+unfolding matchesAny matches anyOf openBytes
 matches-top n = or-false _ ∙ pick (same n inbox)
   where
     pick : (o : Bool) → wildMatch (cond o (37 ∷ []) (37 ∷ [])) n ≡ oneLevel n
@@ -138,7 +80,7 @@ unfolding raised all
 raised-name [] h = refl
 raised-name (b ∷ a) h = and-i (nameByte (raise b)) (all nameByte (raised a)) (raise-name b (and-l (nameByte b) (all nameByte a) h)) (raised-name a (and-r (nameByte b) (all nameByte a) h))
 
-pub matches-below : (a n : List ℕ) → all nameByte a ≡ true → (matchesAny (((a ++ (slash ∷ [])) ++ (37 ∷ [])) ∷ []) n ≡ true) ↔ ((l : List ℕ) × (n ≡ child a l) × (oneLevel l ≡ true))
+pub matches-below : (a n : List ℕ) → all nameByte a ≡ true → (matchesAny (((a ++ (slash ∷ [])) ++ (37 ∷ [])) ∷ []) n ≡ true) ↔ ChildOf a n
 unfolding matchesAny matches anyOf
 matches-below a n h = (to, from)
   where
@@ -151,16 +93,16 @@ matches-below a n h = (to, from)
     up : raised p ≡ raised a ++ (slash ∷ 37 ∷ [])
     up = ap raised is ∙ raised-append a (slash ∷ 37 ∷ []) ∙ (unfold openBytes in refl)
 
-    to : (wildMatch (cond (same n inbox) (raised p) p) n || false) ≡ true → (l : List ℕ) × (n ≡ child a l) × (oneLevel l ≡ true)
+    to : (wildMatch (cond (same n inbox) (raised p) p) n || false) ≡ true → ChildOf a n
     to e = pick (same n inbox) refl (sym (or-false _) ∙ e)
       where
-        pick : (o : Bool) → same n inbox ≡ o → wildMatch (cond o (raised p) p) n ≡ true → (l : List ℕ) × (n ≡ child a l) × (oneLevel l ≡ true)
+        pick : (o : Bool) → same n inbox ≡ o → wildMatch (cond o (raised p) p) n ≡ true → ChildOf a n
         pick true q t =
             let w = takes-below (raised a) n (raised-name a h) .0 (subst (λ (x : List ℕ). wildMatch x n ≡ true) up t) in
             absurd (not-child (raised a) (w .0) (ap oneLevel (sym (w .1) ∙ same-true n inbox q) ∙ oneLevel-inbox))
         pick false q t = takes-below a n h .0 (subst (λ (x : List ℕ). wildMatch x n ≡ true) is t)
 
-    from : (l : List ℕ) × (n ≡ child a l) × (oneLevel l ≡ true) → (wildMatch (cond (same n inbox) (raised p) p) n || false) ≡ true
+    from : ChildOf a n → (wildMatch (cond (same n inbox) (raised p) p) n || false) ≡ true
     from w = or-false _ ∙ pick (same n inbox) refl
       where
         pick : (o : Bool) → same n inbox ≡ o → wildMatch (cond o (raised p) p) n ≡ true

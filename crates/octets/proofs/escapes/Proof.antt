@@ -1,0 +1,68 @@
+use mathlib.Core.Path.{_≡_, refl, ap, _∙_}
+use mathlib.Core.Logic.{⊎-elim}
+use Prim.Native.Nat.{_≤_, _+_, _-_}
+use lib.ListN.{length, drop, getD, length-append}
+use Rattle.listing_rules.specs.Lines.{escaped}
+use Rattle.octets.specs.Escape.{escapeOf}
+use Rattle.octets.proofs.Escaping.{escaped-at, escaped-end, escape-one, escape-two}
+use borrow.Author.Needs.{needs}
+use native.Mathlib.Omega.{arith}
+use Rattle.octets.proofs.escapes.Statement.{statement}
+use Rattle.octets.proofs.escapes.Tie as tie
+use Rattle.octets.proofs.escapes.Reads as reads
+use Rattle.octets.proofs.escapes.Lts as lts
+
+abbrev Inv-loop : tie.InvT-loop
+Inv-loop s n₀ i₀ n i = (i ≤ length s) × (n ≤ i) × (i + n + length (escaped (drop i s)) ≡ length (escaped s))
+
+abbrev μ-loop : tie.MeasureT-loop
+μ-loop s n₀ i₀ n i = length s - i
+
+-- src/lib.rt:142:5
+loop-holds : tie.Need-loop-holds Inv-loop μ-loop
+loop-holds c = (omega arith, omega arith, omega arith)
+
+-- src/lib.rt:143:17
+shared-slice-read-b : tie.Need-shared-slice-read-b Inv-loop μ-loop
+shared-slice-read-b c = search needs
+
+-- src/lib.rt:145:13
+add-n : tie.Need-add-n Inv-loop μ-loop
+add-n c = search needs
+
+-- src/lib.rt:147:9
+add-i : tie.Need-add-i Inv-loop μ-loop
+add-i c = search needs
+
+-- src/lib.rt:142:5
+loop-less : tie.Need-loop-less Inv-loop μ-loop
+loop-less c = search needs
+
+-- src/lib.rt:142:5
+loop-again : tie.Need-loop-again Inv-loop μ-loop
+loop-again c =
+    let s = c .before .before .before .before .args .s .now in
+    let i = c .before .before .before .loop .i in
+    let g : length (escaped (drop i s)) ≡ length (escapeOf (getD s i 0)) + length (escaped (drop (i + 1) s)) = ap length (escaped-at s i (c .before .before .loop-test .taken)) ∙ length-append (escapeOf (getD s i 0)) (escaped (drop (i + 1) s)) in
+    ⊎-elim
+    (λ w. (omega arith, omega (arith, w .1), omega (arith, w .1, g, escape-two (getD s i 0) (w .0 .taken))))
+    (λ w. (omega arith, omega (arith, w .1), omega (arith, w .1, g, escape-one (getD s i 0) (w .0 .left))))
+    (c .if1 .came)
+
+-- src/lib.rt:137:1
+returns : tie.Need-returns Inv-loop μ-loop
+returns c = omega (arith, ap length (escaped-end (c .before .before .args .s .now) (c .before .loop .i) (c .loop-test .left)))
+
+pub escapes-spec : {M : Type 1} → statement M
+escapes-spec =
+    tie.close
+    (tie.spec
+    Inv-loop
+    μ-loop
+    loop-holds
+    shared-slice-read-b
+    add-n
+    add-i
+    loop-less
+    loop-again
+    returns)

@@ -1,0 +1,33 @@
+use mathlib.Core.Path.{_≡_, refl, sym, _∙_}
+use mathlib.Core.Logic.{⊎-elim}
+use lib.ListN.{set, length-set}
+use lib.Seq.{set-out}
+use native.Mathlib.Omega.{arith}
+use borrow.Author.Needs.{needs}
+use Rattle.octets.proofs.put.Statement.{statement}
+use Rattle.octets.proofs.put.Tie as tie
+use Rattle.octets.proofs.put.Reads as reads
+use Rattle.octets.proofs.put.Lts as lts
+use Rattle.octets.proofs.advance.Reads as advance-reads
+
+-- src/lib.rt:108:9
+slice-write-buf : tie.Need-slice-write-buf
+slice-write-buf c = search needs
+
+-- src/lib.rt:110:5
+advance-requires : tie.Need-advance-requires
+advance-requires c κs = search needs
+
+-- the buffer behind the test: the byte is stored, or lies behind the end
+stored : (c : tie.Joined1) → c .if1 .buf ≡ set (c .before .before .args .buf .now) (c .before .before .args .at) (c .before .before .args .b)
+stored c = ⊎-elim (λ w. w .1) (λ w. w .1 ∙ sym (set-out _ _ _ (w .0 .left))) (c .if1 .came)
+
+same-length : tie.Need-same-length
+same-length c = rw (stored (c .before)) (simp length-set)
+
+-- src/lib.rt:104:1
+returns : tie.Need-returns
+returns c = record { fits = search needs; place = c .advance .ensures; bytes = stored (c .before) }
+
+pub put-spec : {M : Type 1} → statement M
+put-spec = tie.close (tie.spec slice-write-buf advance-requires same-length returns)

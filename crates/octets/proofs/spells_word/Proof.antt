@@ -1,0 +1,75 @@
+use mathlib.Core.Path.{_≡_, refl, sym, _∙_}
+use Prim.Native.Nat.{_≤_, _-_}
+use lib.ListN.{length, drop}
+use Rattle.listing_rules.specs.Bytes.{spells}
+use Rattle.octets.proofs.Same.{spells-lengths, spells-step, spells-differ, spells-end}
+use borrow.Author.Needs.{needs}
+use native.Mathlib.Omega.{arith}
+use Rattle.octets.proofs.spells_word.Statement.{statement}
+use Rattle.octets.proofs.spells_word.Tie as tie
+use Rattle.octets.proofs.spells_word.Reads as reads
+use Rattle.octets.proofs.spells_word.Lts as lts
+use Rattle.octets.proofs.raised_byte.Reads as raised-byte-reads
+
+abbrev Inv-loop : tie.InvT-loop
+Inv-loop s word i₀ i = (length s ≡ length word) × (i ≤ length s) × (spells (drop i s) (drop i word) ≡ spells s word)
+
+abbrev μ-loop : tie.MeasureT-loop
+μ-loop s word i₀ i = length s - i
+
+-- src/lib.rt:70:9
+returns : tie.Need-returns Inv-loop μ-loop
+returns c = sym (spells-lengths (c .before .before .before .args .s .now) (c .before .before .before .args .word .now) (c .if1 .taken))
+
+-- src/lib.rt:73:5
+loop-holds : tie.Need-loop-holds Inv-loop μ-loop
+loop-holds c = (c .if1 .left, omega arith, refl)
+
+-- src/lib.rt:74:24
+shared-slice-read-raised-byte : tie.Need-shared-slice-read-raised-byte Inv-loop μ-loop
+shared-slice-read-raised-byte c = search needs
+
+-- src/lib.rt:74:12
+raised-byte-requires : tie.Need-raised-byte-requires Inv-loop μ-loop
+raised-byte-requires c κs = search needs
+
+-- src/lib.rt:74:33
+shared-slice-read-if2 : tie.Need-shared-slice-read-if2 Inv-loop μ-loop
+shared-slice-read-if2 c = search needs
+
+-- src/lib.rt:75:13
+returns-2 : tie.Need-returns-2 Inv-loop μ-loop
+returns-2 c = sym (spells-differ (c .before .before .before .before .before .before .before .before .before .args .s .now) (c .before .before .before .before .before .before .before .before .before .args .word .now) (c .before .before .before .before .before .loop .i) (omega arith) (omega arith) (λ e. c .if2 .taken (c .before .before .raised-byte .ensures ∙ e))) ∙ c .before .before .before .before .before .loop .inv .2
+
+-- src/lib.rt:77:9
+add-i : tie.Need-add-i Inv-loop μ-loop
+add-i c = search needs
+
+-- src/lib.rt:73:5
+loop-less : tie.Need-loop-less Inv-loop μ-loop
+loop-less c = search needs
+
+-- src/lib.rt:73:5
+loop-again : tie.Need-loop-again Inv-loop μ-loop
+loop-again c = (c .before .before .before .before .before .loop .inv .0, omega arith, sym (spells-step (c .before .before .before .before .before .before .before .before .before .args .s .now) (c .before .before .before .before .before .before .before .before .before .args .word .now) (c .before .before .before .before .before .loop .i) (omega arith) (omega arith) (sym (c .before .before .raised-byte .ensures) ∙ c .if2 .left)) ∙ c .before .before .before .before .before .loop .inv .2)
+
+-- src/lib.rt:66:1
+returns-3 : tie.Need-returns-3 Inv-loop μ-loop
+returns-3 c = sym (spells-end (c .before .before .before .before .before .args .s .now) (c .before .before .before .before .before .args .word .now) (c .before .loop .i) (omega arith) (omega arith)) ∙ c .before .loop .inv .2
+
+pub spells-word-spec : {M : Type 1} → statement M
+spells-word-spec =
+    tie.close
+    (tie.spec
+    Inv-loop
+    μ-loop
+    returns
+    loop-holds
+    shared-slice-read-raised-byte
+    raised-byte-requires
+    shared-slice-read-if2
+    returns-2
+    add-i
+    loop-less
+    loop-again
+    returns-3)

@@ -1,0 +1,69 @@
+-- `row_match` meets its contract: the row belongs to the part of the pattern that was passed, from its end on.
+use mathlib.Core.Path.{_≡_, refl}
+use Prim.Native.Nat.{_≤_, _-_, _+_}
+use lib.ListN.{length, drop}
+use Rattle.listing_rules.specs.Match.{wildMatch}
+use Rattle.pattern.specs.Folded.{folded}
+use Rattle.pattern.specs.Rows.{RowOf}
+use Rattle.pattern.proofs.Rows.{row-begin, row-step, row-whole}
+use borrow.Author.Needs.{needs}
+use native.Mathlib.Omega.{arith}
+use Rattle.pattern.proofs.row_match.Statement.{statement}
+use Rattle.pattern.proofs.row_match.Tie as tie
+
+abbrev Inv-loop : tie.InvT-loop
+Inv-loop pattern name fold row₀ i₀ row i = (i ≤ length pattern) × RowOf (wildMatch (folded fold (drop i pattern))) name row
+
+abbrev μ-loop : tie.MeasureT-loop
+μ-loop pattern name fold row₀ i₀ row i = i
+
+end-row-requires : tie.Need-end-row-requires Inv-loop μ-loop
+end-row-requires c κs = search needs
+
+loop-holds : tie.Need-loop-holds Inv-loop μ-loop
+loop-holds c = (omega arith, row-begin _ (c .before .before .before .args .pattern .now) (c .before .before .before .args .name .now) _ (c .end-row .ensures (c .before .before .before .args .name .now) refl))
+
+sub-i : tie.Need-sub-i Inv-loop μ-loop
+sub-i c = search needs
+
+shared-slice-read-letter : tie.Need-shared-slice-read-letter Inv-loop μ-loop
+shared-slice-read-letter c = search needs
+
+letter-requires : tie.Need-letter-requires Inv-loop μ-loop
+letter-requires c κs = search needs
+
+step-row-requires : tie.Need-step-row-requires Inv-loop μ-loop
+step-row-requires c κs = search needs
+
+loop-less : tie.Need-loop-less Inv-loop μ-loop
+loop-less c = search needs
+
+loop-again : tie.Need-loop-again Inv-loop μ-loop
+loop-again c = (
+  omega arith,
+  let w : c .before .before .before .before .before .loop .i ≡ c .before .before .before .before .before .loop .i - 1 + 1 = omega arith in
+      row-step (c .before .before .before .before .before .before .before .before .before .args .fold) (c .before .before .before .before .before .before .before .before .before .args .pattern .now) (c .before .before .before .before .before .before .before .before .before .args .name .now) (c .before .before .before .before .before .loop .i - 1) _ (omega arith) (rw (← c .before .letter .ensures) (c .step-row .ensures _ (rw w at (c .before .before .before .before .before .loop .inv .1)))),
+)
+
+array-read-result : tie.Need-array-read-result Inv-loop μ-loop
+array-read-result c = search needs
+
+returns : tie.Need-returns Inv-loop μ-loop
+returns c = let w : c .before .loop .i ≡ 0 = omega arith in row-whole _ _ _ _ (rw w at (c .before .loop .inv .1))
+
+pub row-match-spec : {M : Type 1} → statement M
+row-match-spec =
+    tie.close
+    (tie.spec
+    Inv-loop
+    μ-loop
+    end-row-requires
+    loop-holds
+    sub-i
+    shared-slice-read-letter
+    letter-requires
+    step-row-requires
+    loop-less
+    loop-again
+    array-read-result
+    returns)

@@ -1,0 +1,102 @@
+-- `wild_match` meets its contract: what is left of the pattern matches what is left of the name exactly if the whole does.
+use mathlib.Core.Path.{_≡_, refl, sym, _∙_}
+use Prim.Native.Nat.{_≤_, _-_}
+use lib.ListN.{length, drop, length-drop}
+use Rattle.listing_rules.specs.Match.{wildMatch}
+use Rattle.pattern.specs.Folded.{folded}
+use Rattle.pattern.proofs.Wild.{rest-is, rest-first, wildcard-is, wild-step, wild-differs, wild-short, wild-end}
+use borrow.Author.Needs.{needs}
+use native.Mathlib.Omega.{arith}
+use Rattle.pattern.proofs.wild_match.Statement.{statement}
+use Rattle.pattern.proofs.wild_match.Tie as tie
+
+abbrev Inv-loop : tie.InvT-loop
+Inv-loop pattern name fold i₀ i = (i ≤ length name) × (wildMatch (folded fold (drop i pattern)) (drop i name) ≡ wildMatch (folded fold pattern) name)
+
+abbrev μ-loop : tie.MeasureT-loop
+μ-loop pattern name fold i₀ i = length pattern - i
+
+loop-holds : tie.Need-loop-holds Inv-loop μ-loop
+loop-holds c = (omega arith, refl)
+
+shared-slice-read-letter : tie.Need-shared-slice-read-letter Inv-loop μ-loop
+shared-slice-read-letter c = search needs
+
+letter-requires : tie.Need-letter-requires Inv-loop μ-loop
+letter-requires c κs = search needs
+
+is-wildcard-requires : tie.Need-is-wildcard-requires Inv-loop μ-loop
+is-wildcard-requires c κs = search needs
+
+sub-wild-rest : tie.Need-sub-wild-rest Inv-loop μ-loop
+sub-wild-rest c = search needs
+
+part-wild-rest-start : tie.Need-part-wild-rest-start Inv-loop μ-loop
+part-wild-rest-start c = search needs
+
+part-wild-rest-end : tie.Need-part-wild-rest-end Inv-loop μ-loop
+part-wild-rest-end c = search needs
+
+sub-wild-rest-2 : tie.Need-sub-wild-rest-2 Inv-loop μ-loop
+sub-wild-rest-2 c = search needs
+
+part-wild-rest-start-2 : tie.Need-part-wild-rest-start-2 Inv-loop μ-loop
+part-wild-rest-start-2 c = search needs
+
+part-wild-rest-end-2 : tie.Need-part-wild-rest-end-2 Inv-loop μ-loop
+part-wild-rest-end-2 c = search needs
+
+wild-rest-requires : tie.Need-wild-rest-requires Inv-loop μ-loop
+wild-rest-requires c κs =
+    let w = wildcard-is (c .before .before .before .before .letter .ensures) (c .before .before .before .is-wildcard .ensures) (c .before .before .if1 .taken) in
+    (rw rest-is (simp length-drop (omega arith)), (rw rest-is (simp length-drop (omega arith)), rw (rest-first (c .before .before .before .before .before .before .before .before .before .before .args .pattern .now) (c .before .before .before .before .before .before .before .loop .i) (c .before .before .before .before .before .before .loop-test .taken)) w))
+
+returns : tie.Need-returns Inv-loop μ-loop
+returns c = c .wild-rest .ensures ∙ rw (rest-is (c .before .before .before .before .before .before .before .before .before .before .before .args .pattern .now), rest-is (c .before .before .before .before .before .before .before .before .before .before .before .args .name .now)) (c .before .before .before .before .before .before .before .before .loop .inv .1)
+
+returns-2 : tie.Need-returns-2 Inv-loop μ-loop
+returns-2 c = sym (wild-short _ _ _ _ (c .before .before .before .before .before .loop-test .taken) (c .if2 .taken) (wildcard-is (c .before .before .before .letter .ensures) (c .before .before .is-wildcard .ensures) (c .before .if1 .left))) ∙ c .before .before .before .before .before .before .loop .inv .1
+
+shared-slice-read-if3 : tie.Need-shared-slice-read-if3 Inv-loop μ-loop
+shared-slice-read-if3 c = search needs
+
+returns-3 : tie.Need-returns-3 Inv-loop μ-loop
+returns-3 c = sym (wild-differs _ _ _ _ (c .before .before .before .before .before .before .before .loop-test .taken) (c .before .before .if2 .left) (wildcard-is (c .before .before .before .before .before .letter .ensures) (c .before .before .before .before .is-wildcard .ensures) (c .before .before .before .if1 .left)) (λ e. c .if3 .taken (c .before .before .before .before .before .letter .ensures ∙ e))) ∙ c .before .before .before .before .before .before .before .before .loop .inv .1
+
+add-i : tie.Need-add-i Inv-loop μ-loop
+add-i c = search needs
+
+loop-less : tie.Need-loop-less Inv-loop μ-loop
+loop-less c = search needs
+
+loop-again : tie.Need-loop-again Inv-loop μ-loop
+loop-again c = (omega arith, sym (wild-step _ _ _ _ (c .before .before .before .before .before .before .before .loop-test .taken) (c .before .before .if2 .left) (wildcard-is (c .before .before .before .before .before .letter .ensures) (c .before .before .before .before .is-wildcard .ensures) (c .before .before .before .if1 .left)) (sym (c .before .before .before .before .before .letter .ensures) ∙ c .if3 .left)) ∙ c .before .before .before .before .before .before .before .before .loop .inv .1)
+
+returns-4 : tie.Need-returns-4 Inv-loop μ-loop
+returns-4 c = sym (wild-end _ _ _ _ (c .loop-test .left) (c .before .loop .inv .0)) ∙ c .before .loop .inv .1
+
+pub wild-match-spec : {M : Type 1} → statement M
+wild-match-spec =
+    tie.close
+    (tie.spec
+    Inv-loop
+    μ-loop
+    loop-holds
+    shared-slice-read-letter
+    letter-requires
+    is-wildcard-requires
+    sub-wild-rest
+    part-wild-rest-start
+    part-wild-rest-end
+    sub-wild-rest-2
+    part-wild-rest-start-2
+    part-wild-rest-end-2
+    wild-rest-requires
+    returns
+    returns-2
+    shared-slice-read-if3
+    returns-3
+    add-i
+    loop-less
+    loop-again
+    returns-4)

@@ -1,0 +1,94 @@
+-- `check` meets its contract, by the laws of Passing: the entries from `at` on decide, behind `count` entries of `class`.
+use mathlib.Core.Path.{_≡_, sym, _∙_}
+use mathlib.Core.Bool.{true}
+use Prim.Native.Nat.{_-_, _≤_}
+use lib.ListN.{length, drop}
+use borrow.Author.Tests.{not-true, not-false}
+use Rattle.listing_rules.specs.Namespaces.{lawfulEntry, namespacesPass}
+use Rattle.namespace_list.specs.Entries.{meaning}
+use Rattle.namespace_list.proofs.Passing.{restPasses, rest-whole, rest-end, rest-past, rest-unlawful, rest-fall, rest-full, rest-same, rest-rise}
+use borrow.Author.Needs.{needs}
+use native.Mathlib.Omega.{arith}
+use Rattle.namespace_list.proofs.check.Statement.{statement}
+use Rattle.namespace_list.proofs.check.Tie as tie
+
+abbrev Inv-loop : tie.InvT-loop
+Inv-loop list at₀ class₀ count₀ at class count = (count ≤ 4) × (restPasses class count (drop at list) ≡ namespacesPass list)
+
+abbrev μ-loop : tie.MeasureT-loop
+μ-loop list at₀ class₀ count₀ at class count = length list - at
+
+loop-holds : tie.Need-loop-holds Inv-loop μ-loop
+loop-holds c = (omega arith, rest-whole (c .before .args .list .now))
+
+entry-at-requires : tie.Need-entry-at-requires Inv-loop μ-loop
+entry-at-requires c κs = search needs
+
+returns : tie.Need-returns Inv-loop μ-loop
+returns c = sym (rest-past (c .before .before .before .before .loop .class) (c .before .before .before .before .loop .count) (c .before .before .before .loop-test .taken) (c .before .before .entry-at .ensures) (c .if1 .taken)) ∙ c .before .before .before .before .loop .inv .1
+
+sub-is-lawful : tie.Need-sub-is-lawful Inv-loop μ-loop
+sub-is-lawful c = search needs
+
+part-is-lawful-start : tie.Need-part-is-lawful-start Inv-loop μ-loop
+part-is-lawful-start c = search needs
+
+part-is-lawful-end : tie.Need-part-is-lawful-end Inv-loop μ-loop
+part-is-lawful-end c = search needs
+
+is-lawful-requires : tie.Need-is-lawful-requires Inv-loop μ-loop
+is-lawful-requires c κs = search needs
+
+returns-2 : tie.Need-returns-2 Inv-loop μ-loop
+returns-2 c = sym (rest-unlawful (c .before .before .before .before .before .before .before .loop .class) (c .before .before .before .before .before .before .before .loop .count) (c .before .before .before .before .before .before .loop-test .taken) (c .before .before .before .before .before .entry-at .ensures) (sym (c .before .is-lawful .ensures) ∙ not-true _ (c .if2 .taken))) ∙ c .before .before .before .before .before .before .before .loop .inv .1
+
+-- behind the test for a lawful entry
+lawful : (c : tie.Else2 Inv-loop μ-loop) → lawfulEntry (meaning (c .before .before .before .before .before .before .before .before .before .args .list .now) (c .before .before .before .before .before .entry-at .result)) ≡ true
+lawful c = sym (c .before .is-lawful .ensures) ∙ not-false _ (c .if2 .left)
+
+returns-3 : tie.Need-returns-3 Inv-loop μ-loop
+returns-3 c = sym (rest-fall (c .before .before .before .before .before .before .before .before .before .loop .class) (c .before .before .before .before .before .before .before .before .before .loop .count) (c .before .before .before .before .before .before .before .before .loop-test .taken) (c .before .before .before .before .before .before .before .entry-at .ensures) (c .before .before .before .before .before .if1 .left) (lawful (c .before .before)) (c .if3 .taken)) ∙ c .before .before .before .before .before .before .before .before .before .loop .inv .1
+
+returns-4 : tie.Need-returns-4 Inv-loop μ-loop
+returns-4 c = sym (rest-full (c .before .before .before .before .before .before .before .before .before .before .before .before .loop .class) (c .before .before .before .before .before .before .before .before .before .before .before .before .loop .count) (c .before .before .before .before .before .before .before .before .before .before .before .loop-test .taken) (c .before .before .before .before .before .before .before .before .before .before .entry-at .ensures) (c .before .before .before .before .before .before .before .before .if1 .left) (lawful (c .before .before .before .before .before)) (c .before .if4 .taken) (omega arith)) ∙ c .before .before .before .before .before .before .before .before .before .before .before .before .loop .inv .1
+
+add-count : tie.Need-add-count Inv-loop μ-loop
+add-count c = search needs
+
+loop-less : tie.Need-loop-less Inv-loop μ-loop
+loop-less c = search needs
+
+loop-again : tie.Need-loop-again Inv-loop μ-loop
+loop-again c = (omega arith, sym (rest-same (c .before .before .before .before .before .before .before .before .before .before .before .before .loop .class) (c .before .before .before .before .before .before .before .before .before .before .before .before .loop .count) (c .before .before .before .before .before .before .before .before .before .before .before .loop-test .taken) (c .before .before .before .before .before .before .before .before .before .before .entry-at .ensures) (c .before .before .before .before .before .before .before .before .if1 .left) (lawful (c .before .before .before .before .before)) (c .before .if4 .taken)) ∙ c .before .before .before .before .before .before .before .before .before .before .before .before .loop .inv .1)
+
+loop-less-2 : tie.Need-loop-less-2 Inv-loop μ-loop
+loop-less-2 c = search needs
+
+loop-again-2 : tie.Need-loop-again-2 Inv-loop μ-loop
+loop-again-2 c = (omega arith, sym (rest-rise (c .before .before .before .before .before .before .before .before .before .before .before .loop .class) (c .before .before .before .before .before .before .before .before .before .before .before .loop .count) (c .before .before .before .before .before .before .before .before .before .before .loop-test .taken) (c .before .before .before .before .before .before .before .before .before .entry-at .ensures) (c .before .before .before .before .before .before .before .if1 .left) (lawful (c .before .before .before .before)) (omega arith) (omega arith)) ∙ c .before .before .before .before .before .before .before .before .before .before .before .loop .inv .1)
+
+returns-5 : tie.Need-returns-5 Inv-loop μ-loop
+returns-5 c = sym (rest-end (c .before .loop .class) (c .before .loop .count) (c .before .before .before .args .list .now) (c .before .loop .at) (c .loop-test .left) (omega arith)) ∙ c .before .loop .inv .1
+
+pub check-spec : {M : Type 1} → statement M
+check-spec =
+    tie.close
+    (tie.spec
+    Inv-loop
+    μ-loop
+    loop-holds
+    entry-at-requires
+    returns
+    sub-is-lawful
+    part-is-lawful-start
+    part-is-lawful-end
+    is-lawful-requires
+    returns-2
+    returns-3
+    returns-4
+    add-count
+    loop-less
+    loop-again
+    loop-less-2
+    loop-again-2
+    returns-5)

@@ -1,0 +1,55 @@
+-- `count_of` meets its contract: those counted, and those of the class from `at` on, are all of the class.
+use mathlib.Core.Path.{_≡_, ap}
+use Prim.Native.Nat.{_+_, _-_, _≤_}
+use lib.ListN.{length, drop}
+use Rattle.listing_rules.specs.Namespaces.{entries, ofClass}
+use Rattle.namespace_list.proofs.Entries.{class-here, class-other, class-end}
+use borrow.Author.Needs.{needs}
+use native.Mathlib.Omega.{arith}
+use Rattle.namespace_list.proofs.count_of.Statement.{statement}
+use Rattle.namespace_list.proofs.count_of.Tie as tie
+
+abbrev Inv-loop : tie.InvT-loop
+Inv-loop list class count₀ at₀ count at = (count ≤ at) × (count + length (ofClass class (entries (drop at list))) ≡ length (ofClass class (entries list)))
+
+abbrev μ-loop : tie.MeasureT-loop
+μ-loop list class count₀ at₀ count at = length list - at
+
+loop-holds : tie.Need-loop-holds Inv-loop μ-loop
+loop-holds c = (omega arith, omega arith)
+
+entry-at-requires : tie.Need-entry-at-requires Inv-loop μ-loop
+entry-at-requires c κs = search needs
+
+add-count : tie.Need-add-count Inv-loop μ-loop
+add-count c = search needs
+
+loop-less : tie.Need-loop-less Inv-loop μ-loop
+loop-less c = search needs
+
+loop-again : tie.Need-loop-again Inv-loop μ-loop
+loop-again c = (omega arith, omega (arith, ap length (class-here (c .before .before .entry-at .ensures) (c .before .before .before .before .before .before .args .class) (c .if1 .taken))))
+
+loop-less-2 : tie.Need-loop-less-2 Inv-loop μ-loop
+loop-less-2 c = search needs
+
+loop-again-2 : tie.Need-loop-again-2 Inv-loop μ-loop
+loop-again-2 c = (omega arith, omega (arith, ap length (class-other (c .before .before .entry-at .ensures) (c .before .before .before .before .before .before .args .class) (c .if1 .left))))
+
+returns : tie.Need-returns Inv-loop μ-loop
+returns c = omega (arith, ap length (class-end (c .before .before .before .args .list .now) (c .before .loop .at) (c .before .before .before .args .class) (c .loop-test .left)))
+
+pub count-of-spec : {M : Type 1} → statement M
+count-of-spec =
+    tie.close
+    (tie.spec
+    Inv-loop
+    μ-loop
+    loop-holds
+    entry-at-requires
+    add-count
+    loop-less
+    loop-again
+    loop-less-2
+    loop-again-2
+    returns)

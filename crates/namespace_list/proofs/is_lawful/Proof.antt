@@ -1,0 +1,16 @@
+-- `is_lawful` meets its contract: its result is the definition, written out.
+use Rattle.listing_rules.specs.Bytes.{within}
+use Rattle.listing_rules.specs.Namespaces.{lawfulEntry}
+use borrow.Author.Needs.{needs}
+use Rattle.namespace_list.proofs.is_lawful.Statement.{statement}
+use Rattle.namespace_list.proofs.is_lawful.Tie as tie
+
+is-printable-requires : tie.Need-is-printable-requires
+is-printable-requires c κs = search needs
+
+returns : tie.Need-returns
+unfolding within lawfulEntry
+returns c = rw (c .is-printable .ensures)
+
+pub is-lawful-spec : {M : Type 1} → statement M
+is-lawful-spec = tie.close (tie.spec is-printable-requires returns)

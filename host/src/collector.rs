@@ -1,0 +1,158 @@
+//! The collector: walks a table by sending it commands and reading its lines.
+
+use crate::line::{read_line, Attributes, Line};
+use crate::name::descendant_prefix;
+use crate::quoted::push_quoted;
+use crate::refusal;
+use crate::server::answer;
+use crate::table::check_table;
+
+/// The option byte: 1 asks for REMOTE, 2 for SPECIAL-USE, and above 3 is refused.
+pub const OPTION_REMOTE: u8 = 1;
+pub const OPTION_SPECIAL_USE: u8 = 2;
+pub const MAX_OPTION: u8 = 3;
+
+/// "Its namespace list is empty."
+const NO_NAMESPACES: &[u8] = &[];
+
+/// What a walk asks for beside subscribed names.
+#[derive(Clone, Copy)]
+struct WalkOptions {
+    remote: bool,
+    special_use: bool,
+}
+
+/// Names in lent memory, "each as a length byte and the name", one behind the other.
+struct Names<'b> {
+    bytes: &'b mut [u8],
+    used: usize,
+}
+
+/// The walk of a table. The result is the number of commands sent and the length of found.
+///
+/// "On success pending holds its names; room behind the lengths, and all scratch, is zero."
+/// "Its refusals give count 0 and length 0 and zero all three buffers."
+pub fn collect(
+    table: &[u8],
+    option: u8,
+    scratch: &mut [u8],
+    found: &mut [u8],
+    pending: &mut [u8],
+) -> Result<(usize, usize), u8> {
+    let mut found = Names { bytes: found, used: 0 };
+    let mut pending = Names { bytes: pending, used: 0 };
+    let result = walk(table, option, scratch, &mut found, &mut pending);
+    scratch.fill(0);
+    if result.is_err() {
+        found.used = 0;
+        pending.used = 0;
+    }
+    found.clear_behind();
+    pending.clear_behind();
+    result.map(|count| (count, found.used))
+}
+
+/// "Collector order: 1, 6, then the walk". Gives the number of commands sent.
+fn walk(
+    table: &[u8],
+    option: u8,
+    scratch: &mut [u8],
+    found: &mut Names,
+    pending: &mut Names,
+) -> Result<usize, u8> {
+    if !check_table(table) {
+        return Err(refusal::TABLE);
+    }
+    let options = WalkOptions::from_byte(option).ok_or(refusal::OPTION)?;
+    let mut reference = Vec::new();
+    let mut asked = 0;
+    let mut count = 0;
+    loop {
+        let length = answer(table, NO_NAMESPACES, &options.command(&reference), scratch)?;
+        count += 1;
+        take_lines(&scratch[..length], options, found, pending)?;
+        let Some((name, behind)) = pending.name_at(asked) else {
+            return Ok(count);
+        };
+        reference = descendant_prefix(name);
+        asked = behind;
+    }
+}
+
+/// Each answer line is read back; the last one is the tagged OK line. "by line 10 before 11"
+fn take_lines(
+    answer: &[u8],
+    options: WalkOptions,
+    found: &mut Names,
+    pending: &mut Names,
+) -> Result<(), u8> {
+    let lines = answer.split_inclusive(|&byte| byte == b'\n');
+    for text in lines.take_while(|line| line.starts_with(b"* ")) {
+        let line = read_line(text)?;
+        if options.is_find(&line) && !found.push(&line.name) {
+            return Err(refusal::FOUND_ROOM);
+        }
+        if line.childinfo && !pending.push(&line.name) {
+            return Err(refusal::PENDING_ROOM);
+        }
+    }
+    Ok(())
+}
+
+impl WalkOptions {
+    fn from_byte(option: u8) -> Option<WalkOptions> {
+        (option <= MAX_OPTION).then_some(WalkOptions {
+            remote: option & OPTION_REMOTE != 0,
+            special_use: option & OPTION_SPECIAL_USE != 0,
+        })
+    }
+
+    /// "It sends tag `w`, selection in the order SUBSCRIBED RECURSIVEMATCH SPECIAL-USE REMOTE,
+    /// reference "" first and later each pending name and "/", pattern "%"."
+    fn command(self, reference: &[u8]) -> Vec<u8> {
+        let mut command = b"w LIST (SUBSCRIBED RECURSIVEMATCH".to_vec();
+        if self.special_use {
+            command.extend_from_slice(b" SPECIAL-USE");
+        }
+        if self.remote {
+            command.extend_from_slice(b" REMOTE");
+        }
+        command.extend_from_slice(b") ");
+        push_quoted(&mut command, reference);
+        command.extend_from_slice(b" \"%\"\r\n");
+        command
+    }
+
+    /// "A line is a find if it has `\Subscribed`, has no `\Remote` unless REMOTE was asked, and
+    /// has a use if SPECIAL-USE was."
+    fn is_find(self, line: &Line) -> bool {
+        let attributes = Attributes::from_bits(line.attrs);
+        attributes.has(Attributes::SUBSCRIBED)
+            && (!attributes.has(Attributes::REMOTE) || self.remote)
+            && (attributes.has(Attributes::USES) || !self.special_use)
+    }
+}
+
+impl Names<'_> {
+    /// Adds a name of at most 200 bytes at the end; false, and nothing added, if it does not fit.
+    fn push(&mut self, name: &[u8]) -> bool {
+        let Some(room) = self.bytes[self.used..].get_mut(..1 + name.len()) else {
+            return false;
+        };
+        room[0] = name.len() as u8;
+        room[1..].copy_from_slice(name);
+        self.used += room.len();
+        true
+    }
+
+    /// The name whose length byte is at a place, and the place behind it.
+    fn name_at(&self, at: usize) -> Option<(&[u8], usize)> {
+        let (&length, rest) = self.bytes[at..self.used].split_first()?;
+        let length = usize::from(length);
+        Some((&rest[..length], at + 1 + length))
+    }
+
+    fn clear_behind(&mut self) {
+        self.bytes[self.used..].fill(0);
+    }
+}

@@ -1,0 +1,187 @@
+//! The command line: its shape, tag, word, options and patterns, and refusals 3 to 8.
+
+use crate::cursor::{Cursor, WrittenOption};
+use crate::line::CRLF;
+use crate::refusal;
+
+/// Document 01: "At most 2,048 bytes", CR LF included.
+pub const MAX_LINE: usize = 2_048;
+/// Document 01: "At most 8 patterns, empty ones counted."
+pub const MAX_PATTERNS: usize = 8;
+/// Document 01: "at most 255 bytes after unquoting".
+pub const MAX_CANONICAL: usize = 255;
+
+/// A command that is not refused, with the tag it is answered under.
+pub struct Command<'l> {
+    pub tag: &'l [u8],
+    pub request: Request,
+}
+
+/// What a command asks for.
+pub enum Request {
+    Namespace,
+    /// The root line: an empty pattern in a command that is not extended.
+    Root,
+    List(ListRequest),
+}
+
+/// A LIST for names. An empty pattern has no canonical form and is not kept.
+pub struct ListRequest {
+    pub selection: Selection,
+    pub returned: Return,
+    pub canonical_patterns: Vec<Vec<u8>>,
+}
+
+/// The selection options given. "A repeat counts once."
+#[derive(Clone, Copy, Debug, Default)]
+pub struct Selection {
+    pub subscribed: bool,
+    pub remote: bool,
+    pub recursive_match: bool,
+    pub special_use: bool,
+}
+
+/// The return options given.
+#[derive(Clone, Copy, Debug, Default)]
+pub struct Return {
+    pub subscribed: bool,
+    pub children: bool,
+    pub special_use: bool,
+}
+
+/// A LIST as it is written, on the grammar and not judged any further.
+struct WrittenList<'l> {
+    selection: Vec<WrittenOption<'l>>,
+    reference: Vec<u8>,
+    patterns: Vec<Vec<u8>>,
+    returned: Vec<WrittenOption<'l>>,
+    /// "A command is extended if it has a selection list, parenthesised patterns or RETURN."
+    extended: bool,
+}
+
+/// Reads a command line. The order of its refusals is 3, tag 4, 5, rest 4, 6, 7, 8.
+pub fn read_command(line: &[u8]) -> Result<Command<'_>, u8> {
+    let mut cursor = Cursor::new(text_of(line)?);
+    let tag = cursor.tag()?;
+    cursor.space()?;
+    let word = cursor.word();
+    let request = if word.eq_ignore_ascii_case(b"LIST") {
+        judge(read_list(cursor)?)?
+    } else if word.eq_ignore_ascii_case(b"NAMESPACE") {
+        cursor.end()?;
+        Request::Namespace
+    } else {
+        return Err(refusal::WORD);
+    };
+    Ok(Command { tag, request })
+}
+
+/// "It ends with CR LF, and before that holds only bytes 01 to 7F other than CR and LF."
+fn text_of(line: &[u8]) -> Result<&[u8], u8> {
+    let text = line.strip_suffix(CRLF).ok_or(refusal::LINE_SHAPE)?;
+    let is_text_byte = |byte: &u8| (0x01..=0x7F).contains(byte) && !CRLF.contains(byte);
+    if line.len() <= MAX_LINE && text.iter().all(is_text_byte) {
+        Ok(text)
+    } else {
+        Err(refusal::LINE_SHAPE)
+    }
+}
+
+/// The rest of a LIST: [SP options] SP reference SP patterns [SP "RETURN" SP options]
+fn read_list(mut cursor: Cursor) -> Result<WrittenList, u8> {
+    let has_selection = cursor.sees_space_and_list();
+    let mut selection = Vec::new();
+    if has_selection {
+        cursor.space()?;
+        selection = cursor.options()?;
+    }
+    cursor.space()?;
+    let reference = cursor.reference()?;
+    cursor.space()?;
+    let has_pattern_list = cursor.sees(b'(');
+    let patterns = cursor.patterns()?;
+    let has_return = cursor.sees(b' ');
+    let mut returned = Vec::new();
+    if has_return {
+        returned = read_return(&mut cursor)?;
+    }
+    cursor.end()?;
+    let extended = has_selection || has_pattern_list || has_return;
+    Ok(WrittenList { selection, reference, patterns, returned, extended })
+}
+
+/// SP "RETURN" SP options, RETURN in any case of letters
+fn read_return<'l>(cursor: &mut Cursor<'l>) -> Result<Vec<WrittenOption<'l>>, u8> {
+    cursor.space()?;
+    if !cursor.word().eq_ignore_ascii_case(b"RETURN") {
+        return Err(refusal::GRAMMAR);
+    }
+    cursor.space()?;
+    cursor.options()
+}
+
+/// Refusals 6, 7 and 8, in this order, over the whole command.
+fn judge(list: WrittenList) -> Result<Request, u8> {
+    let selection = Selection::of(&list.selection)?;
+    let returned = Return::of(&list.returned)?;
+    if selection.recursive_match && !selection.subscribed {
+        return Err(refusal::RECURSIVEMATCH_ALONE);
+    }
+    let canonical_patterns = canonical_patterns(&list.reference, &list.patterns)?;
+    if !list.extended && canonical_patterns.is_empty() {
+        return Ok(Request::Root);
+    }
+    Ok(Request::List(ListRequest { selection, returned, canonical_patterns }))
+}
+
+impl Selection {
+    fn of(options: &[WrittenOption]) -> Result<Selection, u8> {
+        let mut selection = Selection::default();
+        for option in options {
+            match known_name(option)?.as_slice() {
+                b"SUBSCRIBED" => selection.subscribed = true,
+                b"REMOTE" => selection.remote = true,
+                b"RECURSIVEMATCH" => selection.recursive_match = true,
+                b"SPECIAL-USE" => selection.special_use = true,
+                _ => return Err(refusal::OPTION),
+            }
+        }
+        Ok(selection)
+    }
+}
+
+impl Return {
+    fn of(options: &[WrittenOption]) -> Result<Return, u8> {
+        let mut returned = Return::default();
+        for option in options {
+            match known_name(option)?.as_slice() {
+                b"SUBSCRIBED" => returned.subscribed = true,
+                b"CHILDREN" => returned.children = true,
+                b"SPECIAL-USE" => returned.special_use = true,
+                _ => return Err(refusal::OPTION),
+            }
+        }
+        Ok(returned)
+    }
+}
+
+/// "Known, in any case of letters and without a value": the name in upper case.
+fn known_name(option: &WrittenOption) -> Result<Vec<u8>, u8> {
+    if option.has_value {
+        Err(refusal::OPTION)
+    } else {
+        Ok(option.name.to_ascii_uppercase())
+    }
+}
+
+/// "The canonical pattern is the reference followed by the pattern". An empty pattern counts
+/// for the eight and has no canonical form, so its reference may be of any length.
+fn canonical_patterns(reference: &[u8], patterns: &[Vec<u8>]) -> Result<Vec<Vec<u8>>, u8> {
+    let written = patterns.iter().filter(|pattern| !pattern.is_empty());
+    let canonical: Vec<_> = written.map(|pattern| [reference, pattern].concat()).collect();
+    let too_long = canonical.iter().any(|pattern| pattern.len() > MAX_CANONICAL);
+    if patterns.len() > MAX_PATTERNS || too_long {
+        return Err(refusal::PATTERNS);
+    }
+    Ok(canonical)
+}

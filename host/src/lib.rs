@@ -1,0 +1,34 @@
+//! The second program of the listing rules: written from document 01 alone, to be compared
+//! with the proved program and to be the plain measure of its speed.
+//!
+//! The entries are those of document 01: the two checks, the command entry, the line writer,
+//! the line reader, the collector and the frames of the program. Left out, as there: login,
+//! SELECT, FETCH, modified UTF-7, literals, sockets.
+//!
+//! Beside the second program stand two users of it: `compare` sends generated sessions to another
+//! program of frames and compares the answers, `readable` shows sessions as text. Both run a
+//! program through `child`.
+
+pub mod child;
+mod collector;
+mod command;
+pub mod compare;
+mod cursor;
+pub mod frames;
+mod line;
+mod listing;
+mod name;
+pub mod namespaces;
+mod pattern;
+mod quoted;
+pub mod readable;
+pub mod refusal;
+mod server;
+pub mod table;
+
+pub use collector::collect;
+pub use line::{read_line, write_line, Line};
+pub use namespaces::check_namespaces;
+pub use pattern::matches;
+pub use server::answer;
+pub use table::check_table;

@@ -1,0 +1,52 @@
+//! Mailbox names: their bytes, levels, ancestors, and the spelling of INBOX.
+
+/// Document 01: "name length 1 to 200".
+pub const MAX_NAME: usize = 200;
+/// Document 01: "names have 1 to 16 non-empty levels".
+pub const MAX_LEVELS: usize = 16;
+/// What parts the levels of a name.
+pub const DELIMITER: u8 = b'/';
+/// The one name that is compared without regard to case.
+pub const INBOX: &[u8] = b"INBOX";
+
+/// Whether a name has the table's shape: length, bytes, levels and the INBOX rule.
+pub fn is_lawful(name: &[u8]) -> bool {
+    (1..=MAX_NAME).contains(&name.len())
+        && level_count(name) <= MAX_LEVELS
+        && levels(name).all(is_lawful_level)
+        && spells_inbox_lawfully(name)
+}
+
+/// "A name's proper ancestors are what stands before each of its "/"", shortest first.
+pub fn ancestors(name: &[u8]) -> impl Iterator<Item = &[u8]> {
+    (0..name.len()).filter(|&at| name[at] == DELIMITER).map(|at| &name[..at])
+}
+
+/// What every descendant of `name` starts with. Foo-x does not start with Foo's.
+pub fn descendant_prefix(name: &[u8]) -> Vec<u8> {
+    [name, &[DELIMITER]].concat()
+}
+
+/// Bytes 20 to 7E, the bytes of names and of namespace prefixes.
+pub fn is_printable(byte: u8) -> bool {
+    (0x20..=0x7E).contains(&byte)
+}
+
+fn levels(name: &[u8]) -> impl Iterator<Item = &[u8]> {
+    name.split(|&byte| byte == DELIMITER)
+}
+
+fn level_count(name: &[u8]) -> usize {
+    1 + name.iter().filter(|&&byte| byte == DELIMITER).count()
+}
+
+/// Not empty, and "name bytes are 20 to 7E (hex), without % and *".
+fn is_lawful_level(level: &[u8]) -> bool {
+    let is_name_byte = |&byte: &u8| is_printable(byte) && byte != b'%' && byte != b'*';
+    !level.is_empty() && level.iter().all(is_name_byte)
+}
+
+/// "a first level that equals INBOX without regard to case is spelled INBOX"
+fn spells_inbox_lawfully(name: &[u8]) -> bool {
+    levels(name).next().is_none_or(|first| first == INBOX || !first.eq_ignore_ascii_case(INBOX))
+}

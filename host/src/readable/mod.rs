@@ -1,0 +1,23 @@
+//! Sessions as text: reading a session file into frames, and showing frames and answers.
+//!
+//! A session file has one item a line; empty lines and lines that start with `#` are no items.
+//! Rows and entries are sent in the order in which they stand.
+//!
+//! | Item | Example |
+//! |---|---|
+//! | a row of the table | `mailbox Foo/Baz exists subscribed`, `mailbox "a b" 0003` |
+//! | a namespace entry | `namespace personal "" "/"`, `namespace shared "#mh/" NIL` |
+//! | a command; CR LF is added | `command a LIST "" "*"` |
+//! | a walk | `walk`, `walk remote special-use`, `walk 3` |
+//! | a frame as it is sent | `frame 57FF` |
+
+mod parse;
+mod run;
+mod show;
+mod text;
+mod words;
+
+pub use parse::{parse_session, Item, ParseError};
+pub use run::{run_session, Form, RunError};
+pub use show::{show_answer, show_frame, show_namespaces, show_table, Shown};
+pub use words::flags_of_words;

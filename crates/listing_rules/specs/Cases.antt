@@ -22,7 +22,7 @@ use Rattle.listing_rules.specs.Server.{Reply, refusal, answered, limited
 use Rattle.listing_rules.specs.Reader.{Read, line, root, bad, readLine, nameBytes, sameBools, lineFrom, openReader}
 use Rattle.listing_rules.specs.Walk.{WalkReply, walkRefused, walked, walk, openWalk}
 use Rattle.listing_rules.specs.Demand3.{declaredWalk, tooSmall, openDemand3}
-use Rattle.listing_rules.specs.Frames.{programOutput, openFrames}
+use Rattle.listing_rules.specs.Frames.{programOutput, step, walkLine, openFrames}
 
 -- a row and an entry in bytes
 abbrev pub row : ℕ → List ℕ → List ℕ
@@ -64,6 +64,10 @@ pub data Case : Type 0 where
   reads : List ℕ → Read → List (List ℕ) → Case
   -- the program answers this input so
   program : List ℕ → List ℕ → Case
+  -- with these bytes stored, the program takes the frame so: the lengths of what is stored then, and the answer
+  steps : ℕ → ℕ → List ℕ → ℕ → ℕ → List ℕ → Case
+  -- a walk of so many commands that found nothing is answered so
+  counts : ℕ → List ℕ → Case
 
 abbrev pub sameReply : Reply → Reply → Bool
 sameReply (refusal a) (refusal b) = eqb a b
@@ -105,6 +109,10 @@ holds (spaces good poor) = every namespacesPass good && not (anyOf namespacesPas
 holds (writes room bs n c r) = sameReply (limited room (lineFrom bs n c)) r
 holds (reads l r poor) = sameRead (readLine l) r && eqb (length (nameBytes r)) 200 && every (λ x. sameRead (readLine x) bad) poor
 holds (program i o) = same (programOutput i) o
+holds (steps t n l t′ n′ o) =
+    let r = step (record { table = times t 0; namespaces = times n 0 }) l in
+    eqb (length (r .stored .table)) t′ && eqb (length (r .stored .namespaces)) n′ && same (r .output) o
+holds (counts c o) = same (walkLine (walked c [] [])) o
 
 -- the places of the cases that fail, counted from k
 abbrev pub failures : ℕ → List Case → List ℕ

@@ -10,7 +10,7 @@ use Rattle.listing_rules.specs.Lists.{joined}
 use Rattle.listing_rules.specs.Server.{Reply, refusal, answered}
 use Rattle.listing_rules.specs.Reader.{Read, line, root, bad}
 use Rattle.listing_rules.specs.Walk.{WalkReply, walkRefused, walked, packed}
-use Rattle.listing_rules.specs.Cases.{row, mailbox, entry, times, sends, lines, Case, replies, refuses, walks, tables, spaces, writes, reads, program, failures, openAll}
+use Rattle.listing_rules.specs.Cases.{row, mailbox, entry, times, sends, lines, Case, replies, refuses, walks, tables, spaces, writes, reads, program, steps, counts, failures, openAll}
 use Rattle.listing_rules.specs.ExpertSheet.{tableE}
 
 abbrev named : List ℕ → List ℕ
@@ -74,6 +74,13 @@ limits =
     ∷ replies 16384 (joined (mailbox 0x0001 "b" ∷ mailbox 0x0007 "b/r" ∷ mailbox 0x0002 "c/s" ∷ [])) []
     (sends "a LIST (SUBSCRIBED) \"\" (% c/s b/r) RETURN (CHILDREN)")
     (answered (lines ("* LIST (\\Subscribed \\NonExistent \\HasNoChildren) \"/\" \"c/s\"" ∷ "a OK done" ∷ [])))
+    -- children that are local; CHILDINFO and listing by descendants with RECURSIVEMATCH alone; an empty pattern of an extended command
+    ∷ replies 16384 (joined (mailbox 0x0001 "b" ∷ mailbox 0x0001 "b/l" ∷ mailbox 0x0001 "c" ∷ mailbox 0x0005 "c/r" ∷ [])) [] (sends "a LIST \"\" % RETURN (CHILDREN)")
+    (answered (lines ("* LIST (\\HasChildren) \"/\" \"b\"" ∷ "* LIST (\\HasNoChildren) \"/\" \"c\"" ∷ "a OK done" ∷ [])))
+    ∷ replies 16384 (joined (mailbox 0x0003 "a" ∷ mailbox 0x0003 "a/b" ∷ mailbox 0x0003 "c/d" ∷ [])) [] (sends "a LIST (SUBSCRIBED) \"\" %")
+    (answered (lines ("* LIST (\\Subscribed) \"/\" \"a\"" ∷ "a OK done" ∷ [])))
+    ∷ replies 16384 [] [] (sends "a LIST \"\" (\"\")") (answered (sends "a OK done"))
+    ∷ replies 16384 [] [] (sends "a LIST \"\" \"\" RETURN ()") (answered (sends "a OK done"))
     -- SPECIAL-USE is a criterion; options in any case; a repeat counts once
     ∷ replies 16384 (mailbox 0x0101 "a" ++ mailbox 0x0001 "b") [] (sends "a list (special-use Special-Use) \"\" *")
     (answered (lines ("* LIST (\\All) \"/\" \"a\"" ∷ "a OK done" ∷ [])))
@@ -133,6 +140,14 @@ limits =
     ∷ program (text "4361204E414D4553504143450D0A\n4D0003\n4d0161\n\n4D0\n43 61\n57\n570000\n58\n5700\n5704\n4D00\n5700\n5700")
     (text "412A204E414D455350414345204E494C204E494C204E494C0D0A61204F4B20646F6E650D0A\n520D\n520D\n520D\n520D\n520D\n520D\n5700010161\n5206\n5201\n520D\n")
     ∷ program (0x34 ∷ 0x44 ∷ times 4098 0x30 ++ (10 ∷ (0x34 ∷ 0x44 ∷ times 4100 0x30 ++ (10 ∷ [])))) (text "520D\n")
+    -- digits of either case and their neighbours; stored bytes at both sides of their room; the count's two bytes
+    ∷ steps 0 0 (text "4D09AFaf") 3 0 []
+    ∷ program (text "4D0/\n4D0:\n4D0@\n4D0G\n4D0`\n4D0g\n") (text "520D\n520D\n520D\n520D\n520D\n520D\n")
+    ∷ steps 16383 0 (text "4D00") 16384 0 []
+    ∷ steps 16383 0 (text "4D0000") 16383 0 (text "5201\n")
+    ∷ steps 0 1023 (text "4E00") 0 1024 []
+    ∷ steps 0 1023 (text "4E0000") 0 1023 (text "5202\n")
+    ∷ counts 515 (text "570203\n")
     ∷ []
 
 pub claim : failures 1 limits ≡ []

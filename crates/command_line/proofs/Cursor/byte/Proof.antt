@@ -1,0 +1,36 @@
+use Rattle.command_line.specs.Tokens.{behindIs, BehindIn}
+use mathlib.Core.Path.{_≡_, refl, sym, ap, subst, _∙_}
+use Rattle.command_line.specs.Tokens.{behindIs}
+use Rattle.command_line.proofs.Bytes.{after-out, after-yes, after-no}
+use native.Mathlib.Omega.{arith}
+use borrow.Author.Needs.{needs}
+use Rattle.command_line.proofs.Cursor.byte.Statement.{statement}
+use Rattle.command_line.proofs.Cursor.byte.Tie as tie
+use Rattle.command_line.proofs.Cursor.byte.Reads as reads
+use Rattle.command_line.proofs.Cursor.byte.Lts as lts
+
+-- src/tokens.rt:178:13
+returns : tie.Need-returns
+unfolding behindIs BehindIn
+returns c = (sym (after-out _ _ _ (c .if1 .taken)), tt)
+
+-- src/tokens.rt:180:12
+shared-slice-read-if2 : tie.Need-shared-slice-read-if2
+shared-slice-read-if2 c = search needs
+
+-- src/tokens.rt:181:44
+add-t9 : tie.Need-add-t9
+add-t9 c = search needs
+
+-- src/tokens.rt:181:13
+returns-2 : tie.Need-returns-2
+unfolding behindIs BehindIn
+returns-2 c = (sym (after-yes _ _ _ (c .before .before .if1 .left) (c .if2 .taken)), (omega arith, omega arith))
+
+-- src/tokens.rt:172:5
+returns-3 : tie.Need-returns-3
+unfolding behindIs BehindIn
+returns-3 c = (sym (after-no _ _ _ (c .before .before .if1 .left) (c .if2 .left)), tt)
+
+pub byte-spec : {M : Type 1} → statement M
+byte-spec = tie.close (tie.spec returns shared-slice-read-if2 add-t9 returns-2 returns-3)

@@ -1,0 +1,79 @@
+use Rattle.command_line.specs.Tokens.{BareIn}
+use Rattle.command_line.specs.Tokens.{TokenIn}
+use mathlib.Core.Path.{_≡_, refl, sym, ap, subst, _∙_}
+use mathlib.Core.Logic.{⊎-elim}
+use mathlib.Core.Bool.{false}
+use Prim.Native.Nat.{_+_, _≤_, _-_}
+use lib.ListN.{length}
+use borrow.Author.Tests.{not-true, not-false}
+use Rattle.command_line.specs.Spans.{spanBytes}
+use Rattle.command_line.specs.Tokens.{classByte, tokenIs, runEnd}
+use Rattle.command_line.proofs.Runs.{run-step, run-stop, run-out, run-missing, run-found}
+use borrow.Author.Needs.{needs}
+use native.Mathlib.Omega.{arith}
+use Rattle.command_line.proofs.Cursor.run.Statement.{statement}
+use Rattle.command_line.proofs.Cursor.run.Tie as tie
+use Rattle.command_line.proofs.Cursor.run.Reads as reads
+use Rattle.command_line.proofs.Cursor.run.Lts as lts
+use Rattle.command_line.proofs.tokens.Class.holds.Reads as holds-reads
+
+abbrev Inv-loop : tie.InvT-loop
+Inv-loop text class at i₀ i = (at ≤ i) × (i ≤ at + (length text - at)) × (runEnd (classByte class) text i ≡ runEnd (classByte class) text at)
+
+abbrev μ-loop : tie.MeasureT-loop
+μ-loop text class at i₀ i = length text - i
+
+-- src/tokens.rt:82:9
+loop-holds : tie.Need-loop-holds Inv-loop μ-loop
+loop-holds c = (omega arith, omega arith, refl)
+
+-- src/tokens.rt:83:29
+shared-slice-read-holds : tie.Need-shared-slice-read-holds Inv-loop μ-loop
+shared-slice-read-holds c = search needs
+
+-- src/tokens.rt:83:17
+holds-requires : tie.Need-holds-requires Inv-loop μ-loop
+holds-requires c κs = search needs
+
+-- src/tokens.rt:86:13
+add-i : tie.Need-add-i Inv-loop μ-loop
+add-i c = search needs
+
+-- src/tokens.rt:82:9
+loop-less : tie.Need-loop-less Inv-loop μ-loop
+loop-less c = search needs
+
+-- src/tokens.rt:82:9
+loop-again : tie.Need-loop-again Inv-loop μ-loop
+loop-again c = (omega arith, omega arith, run-step _ _ _ (c .before .before .before .loop-test .taken) (sym (c .before .holds .ensures) ∙ not-false _ (c .if1 .left)) ∙ c .before .before .before .before .loop .inv .2)
+
+-- the two ways out of the loop: the run ends there
+ended : (c : tie.Left-loop Inv-loop μ-loop) → runEnd (classByte (c .before .before .before .args .class)) (c .before .before .before .args .text .now) (c .before .before .before .args .self .at) ≡ c .before .loop .i
+ended c =
+    sym (c .before .loop .inv .2)
+    ∙ ⊎-elim (λ w. run-out _ _ _ (w .left)) (λ w. run-stop _ _ _ (w .0 .taken) (sym (w .2 .ensures) ∙ not-true _ (w .3 .taken))) (c .loop-test .came)
+
+-- src/tokens.rt:89:13
+returns : tie.Need-returns Inv-loop μ-loop
+unfolding tokenIs BareIn
+returns c = (sym (run-missing _ _ _ (ended (c .before) ∙ c .if2 .taken)), tt)
+
+-- src/tokens.rt:76:5
+returns-2 : tie.Need-returns-2 Inv-loop μ-loop
+unfolding tokenIs spanBytes BareIn
+returns-2 c = (sym (run-found _ _ _ _ (ended (c .before)) (omega arith)), (refl, record { order = omega arith; within = omega arith; past = omega arith; inside = omega arith }))
+
+pub run-spec : {M : Type 1} → statement M
+run-spec =
+    tie.close
+    (tie.spec
+    Inv-loop
+    μ-loop
+    loop-holds
+    shared-slice-read-holds
+    holds-requires
+    add-i
+    loop-less
+    loop-again
+    returns
+    returns-2)

@@ -1,0 +1,100 @@
+-- Laws of the judgement: which refusal, or which command, what is kept gives; and that a command's parts lie inside the line.
+use mathlib.Core.Path.{_≡_, refl, sym, ap, subst, _∙_}
+use mathlib.Core.Bool.{Bool, true, false, cond, _&&_, not}
+use mathlib.Core.List.{List as Seq, [], _∷_, map}
+use mathlib.Core.Option.{Option, none, some}
+use Prim.Native.Nat.{ℕ, zero, suc, _≤_, _<_}
+use native.Mathlib.Omega.{arith}
+use lib.Dec.{eqb, leb}
+use lib.ListN.{length, take, getD, replicate}
+use borrow.Author.Tests.{le-leb, lt-leb}
+use Rattle.listing_rules.specs.Bytes.{isEmpty}
+use Rattle.listing_rules.specs.Lists.{every}
+use Rattle.listing_rules.specs.Options.{lawfulOptions}
+use Rattle.listing_rules.specs.Command.{Parsed, refused, namespace, listing, rootOf, canonical}
+use Rattle.command_line.specs.declared.Span.{Span}
+use Rattle.command_line.specs.declared.Kind.{Kind}
+use Rattle.command_line.specs.declared.Kind.the-variants.{List, Root, Namespace, Refused}
+use Rattle.command_line.specs.declared.Command.{Command}
+use Rattle.command_line.specs.declared.pattern_list.Patterns.{Patterns}
+use Rattle.command_line.specs.Spans.{spanBytes, Lies}
+use Rattle.command_line.specs.PatternLists.{nowhere, held, kept, Places}
+use Rattle.command_line.specs.Commands.{meaning, meaningAs, Inside, bareCommand, short, Kept, decided, decidedAs}
+use Rattle.command_line.proofs.Canonical.{none-written}
+use Rattle.command_line.proofs.Places.{lies-nowhere, filled-none}
+
+-- eight patterns or fewer are kept, more are not
+pub kept-few : (s : Seq ℕ) (p : Patterns) → p .count ≤ 8 → kept s p ≡ some (held s p)
+unfolding kept
+kept-few s p h = rw (le-leb (p .count) 8 h)
+
+pub kept-many : (s : Seq ℕ) (p : Patterns) → 8 < p .count → kept s p ≡ none
+unfolding kept
+kept-many s p h = rw (lt-leb (p .count) 8 h)
+
+module _ (tag : Seq ℕ) (k : Kept) where
+  pub decided-6 : k .known ≡ false → decided tag k ≡ refused 6
+  unfolding decided
+  decided-6 e = rw e
+
+  module _ (known : k .known ≡ true) where
+    pub decided-7 : lawfulOptions (k .set) ≡ false → decided tag k ≡ refused 7
+    unfolding decided
+    decided-7 e = rw (known, e)
+
+    module _ (lawful : lawfulOptions (k .set) ≡ true) where
+      lawfully : decided tag k ≡ decidedAs tag k (k .pats)
+      unfolding decided
+      lawfully = rw (known, lawful)
+
+      pub decided-many : k .pats ≡ none → decided tag k ≡ refused 8
+      unfolding decidedAs
+      decided-many e = lawfully ∙ ap (decidedAs tag k) e
+
+      module _ (ps : Seq (Seq ℕ)) (few : k .pats ≡ some ps) where
+        pub decided-long : every short (canonical (k .reference) ps) ≡ false → decided tag k ≡ refused 8
+        unfolding decidedAs
+        decided-long e = lawfully ∙ ap (decidedAs tag k) few ∙ rw e
+
+        module _ (fit : every short (canonical (k .reference) ps) ≡ true) where
+          asks : (o : Bool) → (not (k .extended) && eqb (length (canonical (k .reference) ps)) 0) ≡ o → decided tag k ≡ cond o (rootOf tag) (listing tag (k .set) (canonical (k .reference) ps))
+          unfolding decidedAs
+          asks o e = lawfully ∙ ap (decidedAs tag k) few ∙ rw (fit, none-written (k .reference) ps, e)
+
+          pub decided-root : (not (k .extended) && eqb (length (canonical (k .reference) ps)) 0) ≡ true → decided tag k ≡ rootOf tag
+          decided-root e = asks true e
+
+          pub decided-list : (not (k .extended) && eqb (length (canonical (k .reference) ps)) 0) ≡ false → decided tag k ≡ listing tag (k .set) (canonical (k .reference) ps)
+          decided-list e = asks false e
+
+-- a command of which nothing but its kind and its tag is kept
+pub meaning-refused : (s : Seq ℕ) (k : ℕ) → meaning s (bareCommand (Refused k) nowhere) ≡ refused k
+unfolding meaning meaningAs
+meaning-refused s k = refl
+
+pub meaning-root : (s : Seq ℕ) (t : Span) → meaning s (bareCommand Root t) ≡ rootOf (spanBytes s t)
+unfolding meaning meaningAs
+meaning-root s t = refl
+
+pub meaning-namespace : (s : Seq ℕ) (t : Span) → meaning s (bareCommand Namespace t) ≡ namespace (spanBytes s t)
+unfolding meaning meaningAs
+meaning-namespace s t = refl
+
+-- the places of a list of them lie inside the line
+pub places-at : (s : Seq ℕ) (ts : Seq Span) → Places s ts → (k : ℕ) → Lies s (getD ts k nowhere)
+places-at s [] h k = lies-nowhere s
+places-at s (t ∷ ts) h zero = h .0
+places-at s (t ∷ ts) h (suc k) = places-at s ts (h .1) k
+
+pub inside-bare : (s : Seq ℕ) (k : Kind) (t : Span) → Lies s t → t .quoted ≡ false → Inside s (bareCommand k t)
+inside-bare s k t l b =
+    record {
+      tag = l;
+      bare = b;
+      reference = lies-nowhere s;
+      patterns = places-at s (replicate 8 nowhere) (filled-none s .places);
+      few = omega arith;
+    }
+
+pub inside-refused : (s : Seq ℕ) (k : ℕ) → Inside s (bareCommand (Refused k) nowhere)
+inside-refused s k = inside-bare s (Refused k) nowhere (lies-nowhere s) refl

@@ -1,0 +1,20 @@
+-- Laws of the reader.
+pub mod Binds
+pub mod Runs
+pub mod Quoting
+pub mod Bytes
+pub mod Nesting
+pub mod Parted
+pub mod Members
+pub mod Listing
+pub mod Cuts
+pub mod Returning
+pub mod Places
+pub mod Plain
+pub mod Shapes
+pub mod Canonical
+pub mod Judging
+pub mod Grammar
+pub mod Words
+pub mod Lines
+pub mod Packed

@@ -1,0 +1,87 @@
+-- Laws of the line against its text: what stands before CR LF, and what a command of the text is in the line.
+use mathlib.Core.Path.{_≡_, refl, sym, ap, subst, _∙_}
+use mathlib.Core.Bool.{Bool, true, false, cond}
+use mathlib.Core.List.{List as Seq, [], _∷_, _++_, map}
+use mathlib.Core.Option.{Option, none, some}
+use Prim.Native.Nat.{ℕ, zero, suc, _-_, _≤_, _<_, min}
+use native.Mathlib.Omega.{arith}
+use lib.ListN.{length, take, drop, getD, length-take, length-drop, take-append-drop}
+use lib.Seq.{take-append-le, drop-append-le}
+use borrow.Author.Tests.{le-leb, lt-leb}
+use Rattle.listing_rules.specs.Command.{Parsed, refused, namespace, listing, rootOf, canonical, shaped, lineText, orRefuse, tagged, parsed}
+use Rattle.command_line.specs.declared.Span.{Span}
+use Rattle.command_line.specs.declared.Kind.{Kind}
+use Rattle.command_line.specs.declared.Kind.the-variants.{List, Root, Namespace, Refused}
+use Rattle.command_line.specs.declared.Command.{Command}
+use Rattle.command_line.specs.declared.reading.Shape.{Shape}
+use Rattle.command_line.specs.declared.reading.Shape.the-variants.{Text, Off}
+use Rattle.command_line.specs.Spans.{plain, rawBytes, spanBytes, Lies}
+use Rattle.command_line.specs.OptionSets.{optionsIs}
+use Rattle.command_line.specs.PatternLists.{nowhere}
+use Rattle.command_line.specs.Commands.{patternsOf, meaning, meaningAs, Inside, shapeIs, ShapeIn}
+
+-- the shape of the line is 3
+module _ (l : Seq ℕ) where
+  pub line-long : 2048 < length l → parsed l ≡ refused 3
+  unfolding parsed lineText orRefuse
+  line-long h = rw (lt-leb (length l) 2048 h)
+
+  module _ (h : length l ≤ 2048) {r : Shape} (e : shapeIs l r ≡ shaped l) where
+    pub line-off : r ≡ Off → parsed l ≡ refused 3
+    unfolding parsed lineText orRefuse shapeIs
+    line-off q = rw (le-leb (length l) 2048 h, ← e, q)
+
+    pub line-read : (n : ℕ) → r ≡ Text n → parsed l ≡ tagged (take n l)
+    unfolding parsed lineText orRefuse shapeIs
+    line-read n q = rw (le-leb (length l) 2048 h, ← e, q)
+
+pub shape-inside : (l : Seq ℕ) {r : Shape} (n : ℕ) → ShapeIn l r → r ≡ Text n → n ≤ length l
+unfolding ShapeIn
+shape-inside l n h q = subst (ShapeIn l) q h
+
+-- a part of the text is the same part of the line
+module _ (l : Seq ℕ) (n : ℕ) where
+  raw-line : (t : Span) → Lies (take n l) t → rawBytes (take n l) t ≡ rawBytes l t
+  unfolding rawBytes
+  raw-line t h =
+      sym (ap (λ (x : Seq ℕ). take (t .end - t .start) (drop (t .start) x)) (sym (take-append-drop n l))
+      ∙ ap (take (t .end - t .start)) (drop-append-le (t .start) (take n l) (drop n l) (omega (arith, h .order, h .inside)))
+      ∙ take-append-le (t .end - t .start) (drop (t .start) (take n l)) (drop n l) (omega (arith, h .order, h .inside, length-drop (t .start) (take n l))))
+
+  span-line : (t : Span) → Lies (take n l) t → spanBytes (take n l) t ≡ spanBytes l t
+  unfolding spanBytes
+  span-line t h = ap (λ (x : Seq ℕ). cond (t .quoted) (plain false x) x) (raw-line t h)
+
+  lies-line : (t : Span) → Lies (take n l) t → Lies l t
+  lies-line t h = record { order = h .order; inside = omega (arith, h .inside, length-take n l) }
+
+  spans-line : (k : ℕ) (ts : Seq Span) → ((i : ℕ) → Lies (take n l) (getD ts i nowhere)) → map (spanBytes (take n l)) (take k ts) ≡ map (spanBytes l) (take k ts)
+  spans-line zero ts h = refl
+  spans-line (suc k) [] h = refl
+  spans-line (suc k) (t ∷ ts) h =
+      let first : spanBytes (take n l) t ≡ spanBytes l t = span-line t (h 0) in
+      let rest : map (spanBytes (take n l)) (take k ts) ≡ map (spanBytes l) (take k ts) = spans-line k ts (λ i. h (suc i)) in
+      cc
+
+  pub meaning-line : (c : Command) → Inside (take n l) c → meaning (take n l) c ≡ meaning l c
+  unfolding meaning meaningAs patternsOf
+  meaning-line c h = go (c .kind)
+    where
+      tag : spanBytes (take n l) (c .tag) ≡ spanBytes l (c .tag)
+      tag = span-line (c .tag) (h .tag)
+
+      go : (k : Kind) → meaningAs k (take n l) c ≡ meaningAs k l c
+      go List = rw (tag, span-line (c .reference) (h .reference), spans-line (c .count) (c .patterns) (h .patterns))
+      go Root = rw tag
+      go Namespace = rw tag
+      go (Refused k) = refl
+
+  pub inside-line : (c : Command) → Inside (take n l) c → Inside l c
+  inside-line c h =
+      record {
+        tag = lies-line (c .tag) (h .tag);
+        bare = h .bare;
+        reference = lies-line (c .reference) (h .reference);
+        patterns = λ k. lies-line (getD (c .patterns) k nowhere) (h .patterns k);
+        few = h .few;
+      }

@@ -1,0 +1,135 @@
+-- Laws of the eight places: one pattern more.
+use mathlib.Core.Path.{_≡_, refl, sym, ap, subst, _∙_}
+use mathlib.Core.Bool.{Bool, true, false, cond}
+use mathlib.Core.List.{List, [], _∷_, _++_, map}
+use mathlib.Core.Option.{Option, none, some}
+use mathlib.Core.Logic.{_⊎_, inl, inr, ⊎-elim}
+use Prim.Native.Nat.{ℕ, zero, suc, _+_, _≤_, _<_, min}
+use native.Mathlib.Numerals.{add-one}
+use native.Mathlib.Decide.{decLe}
+use native.Mathlib.Omega.{arith}
+use lib.Dec.{leb}
+use lib.ListN.{length, take, drop, set, replicate, getD, length-append, length-set}
+use lib.Seq.{take-suc-set, append-snoc}
+use borrow.Author.Tests.{le-leb, lt-leb}
+use Rattle.listing_rules.specs.Bytes.{text}
+use Rattle.listing_rules.specs.Tokens.{Got, got, _>>=_, after, withFirst, pattern}
+use Rattle.listing_rules.specs.Command.{parted, patterns}
+use Rattle.command_line.specs.declared.Span.{Span}
+use Rattle.command_line.specs.declared.Behind.{Behind}
+use Rattle.command_line.specs.declared.Behind.the-variants.{At, Nothing}
+use Rattle.command_line.specs.declared.pattern_list.Patterns.{Patterns}
+use Rattle.command_line.specs.declared.pattern_list.PatternList.{PatternList}
+use Rattle.command_line.specs.declared.Cursor.{Cursor}
+use Rattle.command_line.specs.Tokens.{behindIs, Ahead}
+use Rattle.command_line.specs.Spans.{spanBytes, Lies}
+use Rattle.command_line.specs.PatternLists.{nowhere, noPatterns, withSpan, held, kept, eight, joinTo, upToEight, patternsIs, Places, Placed}
+use Rattle.command_line.proofs.Bytes.{after-here, after-other}
+
+-- the places hold what was read
+pub record Filled (s : List ℕ) (p : Patterns) (done : List (List ℕ)) : Type 0 where
+  pub count : p .count ≡ min (length done) 9
+  pub size : length (p .spans) ≡ 8
+  pub bytes : length done ≤ 8 → held s p ≡ done
+  pub places : Places s (p .spans)
+
+module _ (s : List ℕ) where
+  pub lies-nowhere : Lies s nowhere
+  lies-nowhere = record { order = omega arith; inside = omega arith }
+
+  pub filled-none : Filled s noPatterns []
+  unfolding held
+  filled-none =
+      record {
+        count = refl;
+        size = refl;
+        bytes = λ h. refl;
+        places = (lies-nowhere, (lies-nowhere, (lies-nowhere, (lies-nowhere, (lies-nowhere, (lies-nowhere, (lies-nowhere, (lies-nowhere, tt))))))));
+      }
+
+  places-set : (ts : List Span) (i : ℕ) (t : Span) → Places s ts → Lies s t → Places s (set ts i t)
+  places-set [] i t h l = tt
+  places-set (u ∷ ts) zero t h l = (l, h .1)
+  places-set (u ∷ ts) (suc i) t h l = (h .0, places-set ts i t (h .1) l)
+
+  map-snoc : (ts : List Span) (t : Span) → map (spanBytes s) (ts ++ (t ∷ [])) ≡ map (spanBytes s) ts ++ (spanBytes s t ∷ [])
+  map-snoc [] t = refl
+  map-snoc (u ∷ ts) t = ap (λ (x : List (List ℕ)). spanBytes s u ∷ x) (map-snoc ts t)
+
+  module _ (p : Patterns) (done : List (List ℕ)) (t : Span) (f : Filled s p done) (l : Lies s t) where
+    one-more : length (done ++ (spanBytes s t ∷ [])) ≡ length done + 1
+    one-more = length-append done (spanBytes s t ∷ [])
+
+    room : p .count < 8 → Filled s (record { spans = set (p .spans) (p .count) t; count = p .count + 1 }) (done ++ (spanBytes s t ∷ []))
+    unfolding held
+    room h =
+        record {
+          count = omega (arith, one-more, f .count);
+          size = length-set (p .spans) (p .count) t ∙ f .size;
+          bytes = λ k. rw (add-one, take-suc-set (p .spans) (p .count) t (omega (arith, f .size))) (map-snoc (take (p .count) (p .spans)) t ∙ ap (λ (x : List (List ℕ)). x ++ (spanBytes s t ∷ [])) (f .bytes (omega (arith, f .count))));
+          places = places-set (p .spans) (p .count) t (f .places) l;
+        }
+
+    full : 8 ≤ p .count → Filled s (record { spans = p .spans; count = 9 }) (done ++ (spanBytes s t ∷ []))
+    full h =
+        record {
+          count = omega (arith, one-more, f .count);
+          size = f .size;
+          bytes = λ k. absurd (omega (arith, one-more, f .count));
+          places = f .places;
+        }
+
+    pub filled-with : Filled s (withSpan p t) (done ++ (spanBytes s t ∷ []))
+    unfolding withSpan
+    filled-with = elim (decLe 8 (p .count)) [ yes h ↦ rw (le-leb 8 (p .count) h) (full h) | no h ↦ rw (lt-leb 8 (p .count) (omega arith)) (room (omega arith)) ]
+
+  -- what is kept is what the paper's list is, unless that is longer than eight
+  pub kept-filled : (p : Patterns) (done : List (List ℕ)) → Filled s p done → kept s p ≡ eight done
+  unfolding kept eight
+  kept-filled p done f = elim (decLe (length done) 8) [ yes h ↦ few h | no h ↦ many (omega arith) ]
+    where
+      few : length done ≤ 8 → cond (leb (p .count) 8) (some (held s p)) none ≡ cond (leb (length done) 8) (some done) none
+      few h = rw (le-leb (p .count) 8 (omega (arith, f .count)), le-leb (length done) 8 h, f .bytes h)
+
+      many : 8 < length done → cond (leb (p .count) 8) (some (held s p)) none ≡ cond (leb (length done) 8) (some done) none
+      many h = rw (lt-leb (p .count) 8 (omega (arith, f .count)), lt-leb (length done) 8 h)
+
+pub placed-filled : (s : List ℕ) (p : Patterns) (done : List (List ℕ)) → Filled s p done → Placed s p
+placed-filled s p done f = record { size = f .size; places = f .places }
+
+-- a token lies inside the line
+pub lies-ahead : (s : List ℕ) (i : ℕ) (t : Span) (c : Cursor) → Ahead s i t c → Lies s t
+lies-ahead s i t c a = record { order = a .order; inside = omega (arith, a .within, a .inside) }
+
+-- one pattern goes from the list to those that were read
+pub join-on : (done : List (List ℕ)) (a : List ℕ) (x : Option (Got (List (List ℕ)))) → (x >>= λ r. joinTo done (withFirst a r)) ≡ (x >>= joinTo (done ++ (a ∷ [])))
+unfolding joinTo withFirst got _>>=_
+join-on done a none = refl
+join-on done a (some g) = rw (append-snoc done a (g .val))
+
+module _ (s : List ℕ) (i : ℕ) where
+  pub patterns-list : getD s i 0 ≡ 40 → patterns (drop i s) ≡ parted pattern (length (drop (i + 1) s)) (drop (i + 1) s)
+  unfolding patterns text
+  patterns-list h = rw (after-here s i 40 (omega arith) h, patterns)
+
+  patterns-one : (getD s i 0 ≡ 40 → ⊥) → patterns (drop i s) ≡ (pattern (drop i s) >>= λ g. some (got (g .val ∷ []) (g .rest)))
+  unfolding patterns text
+  patterns-one h = rw (after-other s i 40 h, patterns)
+
+  pub patterns-off : (getD s i 0 ≡ 40 → ⊥) → pattern (drop i s) ≡ none → upToEight (patterns (drop i s)) ≡ none
+  unfolding upToEight _>>=_
+  patterns-off h e = rw (patterns-one h, e)
+
+  pub patterns-single : (a u : List ℕ) → (getD s i 0 ≡ 40 → ⊥) → pattern (drop i s) ≡ some (got a u) → upToEight (patterns (drop i s)) ≡ some (got (eight (a ∷ [])) u)
+  unfolding upToEight _>>=_ joinTo got
+  patterns-single a u h e = rw (patterns-one h, e)
+
+-- patterns that were read, or were not
+module _ (s : List ℕ) (r : PatternList) {x : Option (Got (Option (List (List ℕ))))} (e : patternsIs s r ≡ x) where
+  pub patterns-behind : {c : Cursor} → r .behind ≡ At c → x ≡ some (got (kept s (r .patterns)) (drop (c .at) s))
+  unfolding patternsIs behindIs _>>=_
+  patterns-behind q = sym e ∙ ap (λ (b : Behind). behindIs s b >>= λ u. some (got (kept s (r .patterns)) u)) q
+
+  pub patterns-nothing : r .behind ≡ Nothing → x ≡ none
+  unfolding patternsIs behindIs _>>=_
+  patterns-nothing q = sym e ∙ ap (λ (b : Behind). behindIs s b >>= λ u. some (got (kept s (r .patterns)) u)) q

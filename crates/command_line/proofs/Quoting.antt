@@ -1,0 +1,91 @@
+-- Laws of a quoted string: one byte at a time, and what the string is as a token.
+use mathlib.Core.Path.{_≡_, refl, sym, ap, _∙_}
+use mathlib.Core.Bool.{Bool, true, false, cond, _||_, _&&_, not}
+use mathlib.Core.List.{List, [], _∷_}
+use mathlib.Core.Option.{Option, none, some}
+use Prim.Native.Nat.{ℕ, zero, suc, _+_, _-_, _≤_, _<_}
+use native.Mathlib.Numerals.{add-one}
+use native.Mathlib.Nat.{add-zero}
+use native.Mathlib.Omega.{arith}
+use lib.ListN.{length, take, drop, getD, drop-of-length-le}
+use lib.Seq.{drop-cons, drop-drop}
+use lib.Dec.{eqb}
+use borrow.Author.Tests.{eqb-true}
+use Rattle.listing_rules.specs.Bytes.{quote, backslash}
+use Rattle.listing_rules.specs.Tokens.{Got, got, _>>=_, withFirst, unquoted}
+use Rattle.command_line.specs.declared.tokens.Quote.the-variants.{More, End, Bad}
+use Rattle.command_line.specs.declared.tokens.Quote.{Quote}
+use Rattle.command_line.specs.declared.Token.the-variants.{Found, Missing}
+use Rattle.command_line.specs.Spans.{plain, rawBytes, spanBytes}
+use Rattle.command_line.specs.Tokens.{tokenIs, quotedStep, closing, closedAt}
+use Rattle.command_line.proofs.Binds.{bind-none, bind-go}
+
+module _ (s : List ℕ) (b i : ℕ) (esc : Bool) where
+  -- the line ends before the string does
+  pub quoted-out : length s ≤ i → closedAt b i (closing esc (drop i s)) ≡ Missing
+  unfolding closing closedAt
+  quoted-out h = rw (drop-of-length-le s h)
+
+  module _ (h : i < length s) where
+    pub quoted-more : (e : Bool) → quotedStep esc (getD s i 0) ≡ More e → closedAt b i (closing esc (drop i s)) ≡ closedAt b (i + 1) (closing e (drop (i + 1) s))
+    unfolding closing closedAt _>>=_
+    quoted-more e q = rw (drop-cons s i 0 h, q, closing, add-one) (one-more (closing e (drop (suc i) s)))
+      where
+        one-more : (o : Option ℕ) → closedAt b i (o >>= λ k. some (suc k)) ≡ closedAt b (suc i) o
+        one-more none = refl
+        one-more (some k) = let w : i + suc k ≡ suc i + k = omega arith in rw w
+
+    pub quoted-end : quotedStep esc (getD s i 0) ≡ End → closedAt b i (closing esc (drop i s)) ≡ Found (record { start = b; end = i; quoted = true }) (record { at = i + 1 })
+    unfolding closing closedAt
+    quoted-end q = rw (drop-cons s i 0 h, q, closing, add-zero)
+
+    pub quoted-bad : quotedStep esc (getD s i 0) ≡ Bad → closedAt b i (closing esc (drop i s)) ≡ Missing
+    unfolding closing closedAt
+    quoted-bad q = rw (drop-cons s i 0 h, q, closing)
+
+-- the string, read by the quote that closes it
+behindQuote : Bool → List ℕ → ℕ → Option (Got (List ℕ))
+behindQuote esc l k = some (got (plain esc (take k l)) (drop (suc k) l))
+
+-- the first byte of the string, kept or skipped
+module _ (x : ℕ) (xs : List ℕ) where
+  first-kept : (esc : Bool) → not esc && eqb x 92 ≡ false → (o : Option ℕ) → (o >>= behindQuote false xs >>= λ g. some (withFirst x g)) ≡ (o >>= (λ k. some (suc k)) >>= behindQuote esc (x ∷ xs))
+  unfolding behindQuote plain got withFirst _>>=_
+  first-kept esc h none = refl
+  first-kept esc h (some k) = rw h
+
+  first-skipped : eqb x 92 ≡ true → (o : Option ℕ) → (o >>= behindQuote true xs) ≡ (o >>= (λ k. some (suc k)) >>= behindQuote false (x ∷ xs))
+  unfolding behindQuote plain got _>>=_
+  first-skipped h none = refl
+  first-skipped h (some k) = rw h
+
+-- the paper's reading of a quoted string is the reading up to the closing quote
+unquoted-closing : (esc : Bool) (l : List ℕ) → unquoted esc l ≡ (closing esc l >>= behindQuote esc l)
+unfolding unquoted closing _>>=_ quotedStep quote backslash behindQuote got plain
+unquoted-closing esc [] = refl
+unquoted-closing true (x ∷ xs) = go (eqb x 34 || eqb x 92) (unquoted-closing false xs)
+  where
+    go : (t : Bool) → unquoted false xs ≡ (closing false xs >>= behindQuote false xs)
+        → cond t (unquoted false xs >>= λ g. some (withFirst x g)) none ≡ ((elim (cond t (More false) Bad) [ More e ↦ (closing e xs >>= λ k. some (suc k)) | End ↦ some 0 | Bad ↦ none ]) >>= behindQuote true (x ∷ xs))
+    go false ih = refl
+    go true ih = ap (λ (o : Option (Got (List ℕ))). o >>= λ g. some (withFirst x g)) ih ∙ first-kept x xs true refl (closing false xs)
+unquoted-closing false (x ∷ xs) = go (eqb x 92) refl (eqb x 34) refl (λ e. unquoted-closing e xs)
+  where
+    go : (t : Bool) → eqb x 92 ≡ t → (u : Bool) → eqb x 34 ≡ u → ((e : Bool) → unquoted e xs ≡ (closing e xs >>= behindQuote e xs))
+        → cond t (unquoted true xs) (cond u (some (got [] xs)) (unquoted false xs >>= λ g. some (withFirst x g))) ≡ ((elim (cond u End (More t)) [ More e ↦ (closing e xs >>= λ k. some (suc k)) | End ↦ some 0 | Bad ↦ none ]) >>= behindQuote false (x ∷ xs))
+    go true e true f ih = absurd (omega (arith, eqb-true x 92 e, eqb-true x 34 f))
+    go true e false f ih = ih true ∙ first-skipped x xs e (closing true xs)
+    go false e true f ih = refl
+    go false e false f ih = ap (λ (o : Option (Got (List ℕ))). o >>= λ g. some (withFirst x g)) (ih false) ∙ first-kept x xs false e (closing false xs)
+
+-- a string whose first byte stands at a place, as a token
+pub closed-is : (s : List ℕ) (at : ℕ) → tokenIs s (closedAt at at (closing false (drop at s))) ≡ unquoted false (drop at s)
+unfolding _>>=_ tokenIs closedAt behindQuote spanBytes rawBytes got
+closed-is s at = go (closing false (drop at s)) ∙ sym (unquoted-closing false (drop at s))
+  where
+    go : (o : Option ℕ) → tokenIs s (closedAt at at o) ≡ (o >>= behindQuote false (drop at s))
+    go none = refl
+    go (some k) =
+        let here : at + k - at ≡ k = omega arith in
+        let behind : at + k + 1 ≡ at + suc k = omega arith in
+        rw (here, behind, drop-drop (suc k) at s)

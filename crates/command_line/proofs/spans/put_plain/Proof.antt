@@ -1,0 +1,89 @@
+use mathlib.Core.Path.{_≡_, refl, sym, ap, subst, _∙_}
+use mathlib.Core.Bool.{false}
+use mathlib.Core.List.{List, [], _∷_, _++_, append-assoc, append-nil}
+use Prim.Native.Nat.{ℕ, _-_}
+use lib.ListN.{length, drop}
+use Rattle.octets.specs.Put.{Put}
+use Rattle.octets.proofs.Puts.{put-then, put-length, put-none}
+use Rattle.command_line.specs.Spans.{plain}
+use Rattle.command_line.proofs.Plain.{plain-skip, plain-keep, plain-out}
+use borrow.Author.Needs.{needs}
+use native.Mathlib.Omega.{arith}
+use Rattle.command_line.proofs.spans.put_plain.Statement.{statement}
+use Rattle.command_line.proofs.spans.put_plain.Tie as tie
+use Rattle.command_line.proofs.spans.put_plain.Reads as reads
+use Rattle.command_line.proofs.spans.put_plain.Lts as lts
+use Rattle.octets.proofs.put.Reads as put-reads
+
+abbrev Inv-loop : tie.InvT-loop
+Inv-loop buf₀ at s to₀ i₀ escaped₀ buf to i escaped = (acc : List ℕ) × Put buf₀ buf at acc to × (acc ++ plain escaped (drop i s) ≡ plain false s)
+
+abbrev μ-loop : tie.MeasureT-loop
+μ-loop buf₀ at s to₀ i₀ escaped₀ buf to i escaped = length s - i
+
+-- src/spans.rt:71:5
+loop-holds : tie.Need-loop-holds Inv-loop μ-loop
+loop-holds c = ([], put-none _ _ (omega arith) (omega arith), refl)
+
+-- src/spans.rt:72:24
+shared-slice-read-if1 : tie.Need-shared-slice-read-if1 Inv-loop μ-loop
+shared-slice-read-if1 c = search needs
+
+-- src/spans.rt:74:13
+add-i : tie.Need-add-i Inv-loop μ-loop
+add-i c = search needs
+
+-- src/spans.rt:71:5
+loop-less : tie.Need-loop-less Inv-loop μ-loop
+loop-less c = search needs
+
+-- src/spans.rt:71:5
+loop-again : tie.Need-loop-again Inv-loop μ-loop
+loop-again c = (c .before .before .before .loop .inv .0, c .before .before .before .loop .inv .1, ap (_++_ (c .before .before .before .loop .inv .0)) (sym (plain-skip _ _ _ (c .before .before .loop-test .taken) (c .if1 .taken))) ∙ c .before .before .before .loop .inv .2)
+
+-- src/spans.rt:76:31
+shared-slice-read-put : tie.Need-shared-slice-read-put Inv-loop μ-loop
+shared-slice-read-put c = search needs
+
+-- src/spans.rt:76:13
+put-requires : tie.Need-put-requires Inv-loop μ-loop
+put-requires c κs = search needs
+
+-- src/spans.rt:78:13
+add-i-2 : tie.Need-add-i-2 Inv-loop μ-loop
+add-i-2 c = search needs
+
+-- src/spans.rt:71:5
+loop-less-2 : tie.Need-loop-less-2 Inv-loop μ-loop
+loop-less-2 c = search needs
+
+-- src/spans.rt:71:5
+loop-again-2 : tie.Need-loop-again-2 Inv-loop μ-loop
+loop-again-2 c = (_, put-then (c .before .before .before .before .before .before .before .before .loop .inv .1) (c .before .before .put .ensures), append-assoc (c .before .before .before .before .before .before .before .before .loop .inv .0) _ _ ∙ ap (_++_ (c .before .before .before .before .before .before .before .before .loop .inv .0)) (sym (plain-keep _ _ _ (c .before .before .before .before .before .before .before .loop-test .taken) (c .before .before .before .before .before .if1 .left))) ∙ c .before .before .before .before .before .before .before .before .loop .inv .2)
+
+-- src/spans.rt:65:1
+same-length : tie.Need-same-length Inv-loop μ-loop
+same-length c = put-length (c .before .loop .inv .1)
+
+-- src/spans.rt:65:1
+returns : tie.Need-returns Inv-loop μ-loop
+returns c = rw (← c .before .loop .inv .2, plain-out _ _ _ (c .loop-test .left), append-nil) (c .before .loop .inv .1)
+
+pub put-plain-spec : {M : Type 1} → statement M
+put-plain-spec =
+    tie.close
+    (tie.spec
+    Inv-loop
+    μ-loop
+    loop-holds
+    shared-slice-read-if1
+    add-i
+    loop-less
+    loop-again
+    shared-slice-read-put
+    put-requires
+    add-i-2
+    loop-less-2
+    loop-again-2
+    same-length
+    returns)

@@ -1,0 +1,120 @@
+-- What a command that was read means in document 01, and where its spans lie.
+use mathlib.Core.Path.{_≡_}
+use mathlib.Core.Bool.{Bool, true, false, cond, _&&_, not}
+use mathlib.Core.List.{List as Seq, [], _∷_, map}
+use mathlib.Core.Option.{Option, none, some}
+use Prim.Native.Nat.{ℕ, _≤_, _%_}
+use lib.Dec.{leb}
+use lib.ListN.{length, take, getD, replicate}
+use Rattle.listing_rules.specs.Bytes.{isEmpty}
+use Rattle.listing_rules.specs.Lists.{every, joined}
+use Rattle.listing_rules.specs.Options.{Options as Named, lawfulOptions}
+use Rattle.listing_rules.specs.Command.{Parsed, refused, namespace, listing, rootOf, canonical}
+use Rattle.command_line.specs.declared.Span.{Span}
+use Rattle.command_line.specs.declared.Kind.{Kind}
+use Rattle.command_line.specs.declared.Kind.the-variants.{List, Root, Namespace, Refused}
+use Rattle.command_line.specs.declared.Command.{Command}
+use Rattle.command_line.specs.declared.reading.Shape.{Shape}
+use Rattle.command_line.specs.declared.reading.Shape.the-variants.{Text, Off}
+use Rattle.command_line.specs.declared.reading.Arguments.{Arguments}
+use Rattle.command_line.specs.Spans.{spanBytes, Lies}
+use Rattle.command_line.specs.OptionSets.{optionsIs}
+use Rattle.command_line.specs.PatternLists.{nowhere, kept, Placed}
+
+-- the canonical patterns of a command: the reference and each pattern that is not empty
+unfoldable pub patternsOf : Seq ℕ → Command → Seq (Seq ℕ)
+patternsOf s c = canonical (spanBytes s (c .reference)) (map (spanBytes s) (take (c .count) (c .patterns)))
+
+-- the command by its kind
+unfoldable pub meaningAs : Kind → Seq ℕ → Command → Parsed
+meaningAs List s c = listing (spanBytes s (c .tag)) (optionsIs (c .options)) (patternsOf s c)
+meaningAs Root s c = rootOf (spanBytes s (c .tag))
+meaningAs Namespace s c = namespace (spanBytes s (c .tag))
+meaningAs (Refused k) s c = refused k
+
+-- the command, as document 01 has it: its number of refusal, or its values
+unfoldable pub meaning : Seq ℕ → Command → Parsed
+meaning s c = meaningAs (c .kind) s c
+
+-- every part of the command lies inside the line
+pub record Inside (s : Seq ℕ) (c : Command) : Type 0 where
+  pub tag : Lies s (c .tag)
+  -- the tag is never a quoted string
+  pub bare : c .tag .quoted ≡ false
+  pub reference : Lies s (c .reference)
+  pub patterns : (k : ℕ) → Lies s (getD (c .patterns) k nowhere)
+  pub few : c .count ≤ 8
+
+-- a command of which nothing but its kind and its tag is kept
+abbrev pub bareCommand : Kind → Span → Command
+bareCommand k t =
+    record {
+      kind = k;
+      tag = t;
+      options = record { bits = 0 };
+      reference = nowhere;
+      patterns = replicate 8 nowhere;
+      count = 0;
+    }
+
+-- a canonical pattern is at most 255 bytes long
+abbrev pub short : Seq ℕ → Bool
+short p = leb (length p) 255
+
+-- a length byte and the bytes; of a length above 255, what it is over whole 256s
+abbrev pub packedOne : Seq ℕ → Seq ℕ
+packedOne p = length p % 256 ∷ p
+
+-- each of the patterns so: what `packed` of document 01 is for patterns of at most 255 bytes (law `packed-short`)
+unfoldable pub packedBytes : Seq (Seq ℕ) → Seq ℕ
+packedBytes ps = joined (map packedOne ps)
+
+-- "It ends with CR LF": the text before it, by its length
+unfoldable pub shapeIs : Seq ℕ → Shape → Option (Seq ℕ)
+shapeIs l (Text n) = some (take n l)
+shapeIs l Off = none
+
+unfoldable pub ShapeIn : Seq ℕ → Shape → Type 0
+ShapeIn l (Text n) = n ≤ length l
+ShapeIn l Off = Unit {0}
+
+-- what is kept of the words behind LIST
+pub record Kept : Type 0 where
+  -- each option is known and has no value
+  pub known : Bool
+  pub set : Named
+  pub extended : Bool
+  pub reference : Seq ℕ
+  -- the patterns, unless they are more than eight
+  pub pats : Option (Seq (Seq ℕ))
+
+unfoldable pub argumentsIs : Seq ℕ → Arguments → Kept
+argumentsIs s a =
+    record {
+      known = a .known;
+      set = optionsIs (a .options);
+      extended = a .extended;
+      reference = spanBytes s (a .reference);
+      pats = kept s (a .patterns);
+    }
+
+-- 8, and what the command asks for
+unfoldable pub decidedAs : Seq ℕ → Kept → Option (Seq (Seq ℕ)) → Parsed
+decidedAs tag k none = refused 8
+decidedAs tag k (some ps) =
+    let root = rootOf tag in
+    let list = listing tag (k .set) (canonical (k .reference) ps) in
+    cond (every short (canonical (k .reference) ps)) (cond (not (k .extended) && every isEmpty ps) root list) (refused 8)
+
+-- 6, then 7, then 8, over what is kept
+unfoldable pub decided : Seq ℕ → Kept → Parsed
+decided tag k =
+    let e7 = cond (lawfulOptions (k .set)) (decidedAs tag k (k .pats)) (refused 7) in
+    cond (k .known) e7 (refused 6)
+
+-- the parts that a command is made of lie inside the line
+pub record Given (s : Seq ℕ) (tag : Span) (a : Arguments) : Type 0 where
+  pub tagged : Lies s tag
+  pub bare : tag .quoted ≡ false
+  pub reference : Lies s (a .reference)
+  pub patterns : Placed s (a .patterns)

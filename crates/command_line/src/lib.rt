@@ -1,0 +1,112 @@
+// The command line of document 01, read from left to right, one byte at a time: `read_command` gives the command or the number of its
+// refusal, 3 to 8, and `put_patterns` the canonical patterns of a command that was read.
+//
+// A command holds no bytes of its own: its tag, its reference and its patterns are spans of the line. `meaning` of specs/ says what a
+// command is in the terms of document 01. Absent: literals, and words other than LIST and NAMESPACE.
+
+ghost use mathlib.Core.Path.{_≡_};
+ghost use Rattle.listing_rules.specs.Command.{parsed};
+ghost use Rattle.octets.specs.Put.{Put};
+ghost use Rattle.command_line.specs.Commands.{meaning, Inside, patternsOf, packedBytes};
+
+mod option_list;
+mod packing;
+mod pattern_list;
+mod reading;
+mod spans;
+mod tokens;
+mod values;
+
+use packing::put_canonical;
+use reading::Shape;
+use reading::line_text;
+use reading::placed;
+use reading::read_text;
+use reading::refused;
+use spans::span_len;
+
+// How long a line may be, its CR LF included.
+pub const MAX_LINE: usize = 2048;
+
+// A part of the line, from start up to end. The span of a quoted string is what stands between its quotes, escapes and all.
+pub struct Span {
+    pub start: usize,
+    pub end: usize,
+    pub quoted: bool,
+}
+
+// A place in the line. Its methods give the token that stands there and the cursor behind it.
+pub struct Cursor {
+    pub at: usize,
+}
+
+// A token and the cursor behind it.
+pub enum Token {
+    Found(Span, Cursor),
+    Missing,
+}
+
+// The cursor behind something that is not kept: a space, a parenthesis, an option's value.
+pub enum Behind {
+    At(Cursor),
+    Nothing,
+}
+
+// The options of a command: a set of bits, one for each named member.
+pub struct Options {
+    pub bits: u8,
+}
+
+// What a command asks for, or the number of its refusal.
+pub enum Kind {
+    List,
+    Root,
+    Namespace,
+    Refused(u8),
+}
+
+// A command that was read: its options, its reference and up to eight pattern places, of which the first count hold a pattern.
+pub struct Command {
+    pub kind: Kind,
+    pub tag: Span,
+    pub options: Options,
+    pub reference: Span,
+    pub patterns: [Span; 8],
+    pub count: usize,
+}
+
+// The command, or its refusal: the line's shape 3, the tag 4, another word 5, the rest off the grammar 4, an option that is not known 6,
+// RECURSIVEMATCH without SUBSCRIBED 7, too many or too long patterns 8, in this order.
+pub fn read_command(line: &[u8]) -> Command
+    ensures { λ r. ⌜ meaning (now (line .entry)) r ≡ parsed (now (line .entry)) ⌝ }
+    ensures inside { λ r. ⌜ Inside (now (line .entry)) r ⌝ }
+{
+    if MAX_LINE < line.len() {
+        return refused(3);
+    }
+    let Shape::Text(n) = line_text(line) else {
+        return refused(3);
+    };
+    read_text(&line[..n])
+}
+
+// The canonical patterns of a command of this line, each as a length byte and its bytes, from the buffer's first place on; the answer
+// is the place behind them. An empty pattern has no canonical form.
+pub fn put_patterns(line: &[u8], command: Command, buf: &mut [u8]) -> usize
+    ensures { λ r. ⌜ Put (now (buf .entry)) (now (buf .exit)) 0 (packedBytes (patternsOf (now (line .entry)) command)) r ⌝ }
+{
+    let reference = command.reference;
+    let n = placed(command.count);
+    let mut to: usize = 0;
+    let mut i = 0;
+    while i < n {
+        let pattern = command.patterns[i];
+        if span_len(line, pattern) == 0 {
+            i += 1;
+        } else {
+            to = put_canonical(buf, to, line, reference, pattern);
+            i += 1;
+        }
+    }
+    to
+}

@@ -1,0 +1,7 @@
+pub mod Prefixes
+pub mod Listed
+pub mod AtRow
+pub mod Marking
+pub mod Deciding
+pub mod Showing
+pub mod RowTexts

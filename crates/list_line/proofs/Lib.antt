@@ -1,0 +1,8 @@
+-- Laws of the attribute set, of the names' places and of the reader's steps.
+pub mod Members
+pub mod Names
+pub mod Writing
+pub mod Skipping
+pub mod Choosing
+pub mod Naming
+pub mod Reading

@@ -1,0 +1,83 @@
+-- Where the names stand: one test of all sixteen places, which antt computes, gives what holds at each.
+use mathlib.Core.Path.{_≡_, refl, ap, _∙_}
+use mathlib.Core.Bool.{Bool, true, false, _&&_}
+use mathlib.Core.List.{List, [], _∷_}
+use Prim.Native.Nat.{ℕ, zero, suc, _+_, _-_, _≤_, _<_}
+use native.Mathlib.Decide.{decLt}
+use native.Mathlib.Omega.{arith}
+use lib.Dec.{eqb, leb}
+use lib.ListN.{length, getD, take, drop}
+use borrow.Author.Tests.{leb-true, eqb-true}
+use Rattle.listing_rules.specs.Bytes.{openBytes, same, space}
+use Rattle.listing_rules.specs.Lines.{openLines}
+use Rattle.listing_rules.specs.Reader.{separated}
+use Rattle.list_line.specs.declared.texts.Span.{Span}
+use Rattle.list_line.specs.Names.{allNames, namePlaces, nameOf, NameSpan}
+
+and-l : (a b : Bool) → (a && b) ≡ true → a ≡ true
+and-l true b e = refl
+and-l false b e = e
+
+and-r : (a b : Bool) → (a && b) ≡ true → b ≡ true
+and-r true b e = e
+and-r false b e = cc
+
+same-true : (a b : List ℕ) → same a b ≡ true → a ≡ b
+unfolding same
+same-true [] [] e = refl
+same-true [] (y ∷ ys) e = cc
+same-true (x ∷ xs) [] e = cc
+same-true (x ∷ xs) (y ∷ ys) e =
+    let h : x ≡ y = eqb-true x y (and-l (eqb x y) (same xs ys) e) in
+    let t : xs ≡ ys = same-true xs ys (and-r (eqb x y) (same xs ys) e) in
+    cc
+
+-- the test passes at each number below n
+abbrev eachBelow : ℕ → (ℕ → Bool) → Bool
+eachBelow zero p = true
+eachBelow (suc n) p = p n && eachBelow n p
+
+each-below : (n : ℕ) (p : ℕ → Bool) → eachBelow n p ≡ true → (k : ℕ) → k < n → p k ≡ true
+each-below zero p e k h = absurd (omega arith)
+each-below (suc n) p e k h =
+    elim (decLt k n) [ yes l ↦ each-below n p (and-r (p n) (eachBelow n p) e) k l | no l ↦ last (omega arith) ]
+  where
+    last : k ≡ n → p k ≡ true
+    last w = ap p w ∙ and-l (p n) (eachBelow n p) e
+
+abbrev part : ℕ → ℕ → List ℕ
+part a e = take (e - a) (drop a allNames)
+
+module _ (k : ℕ) (h : k < 16) where
+  order : getD namePlaces k 0 + 1 ≤ getD namePlaces (k + 1) 0
+  unfolding namePlaces
+  order = leb-true _ _ (each-below 16 (λ i. leb (getD namePlaces i 0 + 1) (getD namePlaces (i + 1) 0)) refl k h)
+
+  inside : getD namePlaces (k + 1) 0 ≤ length allNames
+  unfolding openBytes openLines allNames namePlaces
+  inside = leb-true _ _ (each-below 16 (λ i. leb (getD namePlaces (i + 1) 0) (length allNames)) refl k h)
+
+  behind-space : part (getD namePlaces k 0) (getD namePlaces (k + 1) 0) ≡ space ∷ nameOf k
+  unfolding openBytes openLines allNames namePlaces nameOf
+  behind-space = same-true _ _ (each-below 16 (λ i. same (part (getD namePlaces i 0) (getD namePlaces (i + 1) 0)) (space ∷ nameOf i)) refl k h)
+
+  alone : part (getD namePlaces k 0 + 1) (getD namePlaces (k + 1) 0) ≡ nameOf k
+  unfolding openBytes openLines allNames namePlaces nameOf
+  alone = same-true _ _ (each-below 16 (λ i. same (part (getD namePlaces i 0 + 1) (getD namePlaces (i + 1) 0)) (nameOf i)) refl k h)
+
+  -- the first name on a line, and a later one
+  pub span-first : NameSpan k true (record { start = getD namePlaces k 0 + 1; end = getD namePlaces (k + 1) 0 })
+  unfolding separated
+  span-first = record { order = order; inside = inside; name = alone }
+
+  pub span-later : NameSpan k false (record { start = getD namePlaces k 0; end = getD namePlaces (k + 1) 0 })
+  unfolding separated
+  span-later = record { order = omega (arith, order); inside = inside; name = behind-space }
+
+pub length-places : length namePlaces ≡ 17
+unfolding namePlaces
+length-places = refl
+
+-- name k in the text of them all, which the code has lent as `names`
+pub span-text : (names : List ℕ) {k : ℕ} {first : Bool} {s : Span} → names ≡ allNames → NameSpan k first s → take (s .end - s .start) (drop (s .start) names) ≡ separated first (nameOf k)
+span-text names {k} {first} {s} e n = ap (λ (x : List ℕ). take (s .end - s .start) (drop (s .start) x)) e ∙ n .name

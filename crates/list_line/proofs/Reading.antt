@@ -1,0 +1,169 @@
+-- The parts of a line in order: where one is missing the line is refused.
+use mathlib.Core.Path.{_≡_, refl, sym, ap, _∙_}
+use mathlib.Core.Bool.{Bool, true, false, cond, _&&_}
+use mathlib.Core.List.{List, [], _∷_, _++_}
+use mathlib.Core.Option.{Option, none, some}
+use Prim.Native.Nat.{ℕ, zero, suc, _+_, _-_, _≤_, _<_}
+use native.Mathlib.Nat.{sub-zero, zero-sub, suc-sub-suc}
+use native.Mathlib.Omega.{arith}
+use lib.Dec.{leb}
+use lib.ListN.{length, take, drop, replicate, length-replicate, length-drop}
+use lib.Seq.{sets, take-at, take-all}
+use borrow.Author.Tests.{lt-leb}
+use Rattle.listing_rules.specs.Bytes.{openBytes, text, crlf, same, within, all}
+use Rattle.listing_rules.specs.Names.{lawfulName, nameByte, levels, isFull, inboxSpelled}
+use Rattle.listing_rules.specs.Lists.{every}
+use Rattle.listing_rules.specs.Tokens.{Got, got, after, unquoted, _>>=_}
+use Rattle.listing_rules.specs.Lines.{attributeNames, childInfoText, rootLine}
+use Rattle.listing_rules.specs.Reader.{Read, line, bad, readChosen, childInfoRead, readParts, orBad, readLine, nameBytes, nameRead}
+use Rattle.octets.proofs.Puts.{front}
+use Rattle.list_line.specs.Members.{setOf}
+use Rattle.list_line.specs.Lines.{lineIs}
+use Rattle.list_line.specs.Parts.{Chooses, Names, tailIs}
+use Rattle.list_line.specs.declared.read.Chosen.{Chosen}
+use Rattle.list_line.specs.declared.read.Line.the-variants.{Parts}
+use Rattle.list_line.specs.declared.read.Name.the-variants.{Missing as NoName}
+use Rattle.list_line.specs.declared.read.Tail.the-variants.{ChildInfo, Missing as NoTail}
+
+-- what stands behind the name, as the code compares it
+module _ (t : List ℕ) where
+  pub tail-plain : same t (13 ∷ 10 ∷ []) ≡ true → ChildInfo false ≡ tailIs (childInfoRead t)
+  unfolding childInfoRead crlf tailIs
+  tail-plain e = rw e
+
+  module _ (e : same t (13 ∷ 10 ∷ []) ≡ false) where
+    pub tail-child : same t (text " (\"CHILDINFO\" (\"SUBSCRIBED\"))\r\n") ≡ true → ChildInfo true ≡ tailIs (childInfoRead t)
+    unfolding openBytes childInfoText childInfoRead tailIs
+    tail-child f = rw (e, f)
+
+    pub tail-other : same t (text " (\"CHILDINFO\" (\"SUBSCRIBED\"))\r\n") ≡ false → NoTail ≡ tailIs (childInfoRead t)
+    unfolding openBytes childInfoText childInfoRead tailIs
+    tail-other f = rw (e, f)
+
+tail-none : (o : Option Bool) → tailIs o ≡ NoTail → o ≡ none
+unfolding tailIs
+tail-none none e = refl
+tail-none (some c) e = cc
+
+tail-some : (o : Option Bool) (c : Bool) → tailIs o ≡ ChildInfo c → o ≡ some c
+unfolding tailIs
+tail-some none c e = cc
+tail-some (some d) c e = cc
+
+-- all that is left from a place on, as the code takes it
+rest-from : (l : List ℕ) (j : ℕ) → take (length l - j) (drop j l) ≡ drop j l
+rest-from l j = take-all (length l - j) (drop j l) (omega (arith, length-drop j l))
+
+-- a name over 200 bytes is not lawful
+long-unlawful : (n : List ℕ) → 200 < length n → lawfulName n ≡ false
+unfolding lawfulName within
+long-unlawful n h = rw (lt-leb (length n) 200 h) (all-false (leb 1 (length n)))
+  where
+    all-false : (o : Bool) → (o && false && all nameByte n && leb (length (levels n)) 16 && every isFull (levels n) && inboxSpelled (levels n)) ≡ false
+    all-false true = refl
+    all-false false = refl
+
+drop-zeros : (n k : ℕ) → drop {A = ℕ} k (replicate n 0) ≡ replicate (n - k) 0
+drop-zeros n zero = rw sub-zero
+drop-zeros zero (suc k) = rw zero-sub
+drop-zeros (suc n) (suc k) = drop-zeros n k ∙ rw suc-sub-suc
+
+-- a name at the front of 200 zeros, and its first bytes
+module _ (d s : List ℕ) (z : d ≡ replicate 200 0) (h : length s ≤ 200) where
+  named : sets d 0 s ≡ s ++ replicate (200 - length s) 0
+  named = rw z (front (replicate 200 0) s (simp length-replicate h) ∙ ap (_++_ s) (drop-zeros 200 (length s)))
+
+  pub name-front : (n : ℕ) (e : List ℕ) → n ≡ length s → e ≡ sets d 0 s → take n e ≡ s
+  name-front n e m w = ap (take n) (w ∙ named) ∙ take-at s (replicate (200 - length s) 0) n (sym m)
+
+-- what the reader makes of the rest of a line, from the attributes, the delimiter, the name and the end on
+unfoldable pub fromEnd : List Bool → List ℕ → List ℕ → Option Read
+fromEnd bs n t = childInfoRead t >>= λ c. cond (lawfulName n) (some (line bs n c)) none
+
+unfoldable pub fromName : List Bool → List ℕ → Option Read
+fromName bs t = unquoted false t >>= λ n. fromEnd bs (n .val) (n .rest)
+
+unfoldable pub fromDelimiter : List Bool → List ℕ → Option Read
+fromDelimiter bs t = after (text ") \"/\" \"") t >>= λ u. fromName bs u
+
+unfoldable pub fromAttributes : List ℕ → Option Read
+fromAttributes t = let a = readChosen true attributeNames t in fromDelimiter (a .val) (a .rest)
+
+parts-are : (l : List ℕ) → readParts l ≡ (after (text "* LIST (") l >>= λ t. fromAttributes t)
+unfolding readParts fromAttributes fromDelimiter fromName fromEnd
+parts-are l = refl
+
+pub start-read : (l t : List ℕ) → after (text "* LIST (") l ≡ some t → readParts l ≡ fromAttributes t
+unfolding _>>=_
+start-read l t e = parts-are l ∙ rw e
+
+pub start-missing : (l : List ℕ) → after (text "* LIST (") l ≡ none → readParts l ≡ none
+unfolding _>>=_
+start-missing l e = parts-are l ∙ rw e
+
+-- the attributes from a place on
+unfoldable pub chosenAt : List ℕ → ℕ → List Bool
+chosenAt l a = (readChosen true attributeNames (drop a l)) .val
+
+pub attributes-read : (l : List ℕ) (a : ℕ) (r : Chosen) → Chooses l a r → fromAttributes (drop a l) ≡ fromDelimiter (chosenAt l a) (drop (r .at) l)
+unfolding fromAttributes chosenAt
+attributes-read l a r e = rw (e .rest)
+
+module _ (bs : List Bool) where
+  pub delimiter-read : (t u : List ℕ) → after (text ") \"/\" \"") t ≡ some u → fromDelimiter bs t ≡ fromName bs u
+  unfolding fromDelimiter _>>=_
+  delimiter-read t u e = rw e
+
+  pub delimiter-missing : (t : List ℕ) → after (text ") \"/\" \"") t ≡ none → fromDelimiter bs t ≡ none
+  unfolding fromDelimiter _>>=_
+  delimiter-missing t e = rw e
+
+  pub name-read : (t n u : List ℕ) → unquoted false t ≡ some (got n u) → fromName bs t ≡ fromEnd bs n u
+  unfolding fromName _>>=_ got
+  name-read t n u e = rw e
+
+  end-unlawful : (n t : List ℕ) → lawfulName n ≡ false → fromEnd bs n t ≡ none
+  unfolding fromEnd _>>=_
+  end-unlawful n t e = go (childInfoRead t)
+    where
+      go : (o : Option Bool) → (o >>= λ c. cond (lawfulName n) (some (line bs n c)) none) ≡ none
+      go none = refl
+      go (some c) = rw e
+
+  -- no name, or one over 200 bytes
+  pub name-missing : (l : List ℕ) (b : ℕ) (d e : List ℕ) → d ≡ replicate 200 0 → Names l b d e NoName → fromName bs (drop b l) ≡ none
+  unfolding fromName _>>=_
+  name-missing l b d e z n = go (unquoted false (drop b l)) n
+    where
+      go : (o : Option (Got (List ℕ))) → ((g : Got (List ℕ)) → o ≡ some g → length d < length (g .val)) → (o >>= λ g. fromEnd bs (g .val) (g .rest)) ≡ none
+      go none m = refl
+      go (some g) m = end-unlawful (g .val) (g .rest) (long-unlawful (g .val) (omega (arith, m g refl, ap length z, length-replicate {A = ℕ} 200 0)))
+
+  module _ (n l : List ℕ) (j : ℕ) where
+    pub end-read : (c : Bool) → tailIs (childInfoRead (take (length l - j) (drop j l))) ≡ ChildInfo c → fromEnd bs n (drop j l) ≡ cond (lawfulName n) (some (line bs n c)) none
+    unfolding fromEnd _>>=_
+    end-read c e = rw (tail-some (childInfoRead (drop j l)) c (rw (rest-from l j) at e))
+
+    pub end-missing : tailIs (childInfoRead (take (length l - j) (drop j l))) ≡ NoTail → fromEnd bs n (drop j l) ≡ none
+    unfolding fromEnd _>>=_
+    end-missing e = rw (tail-none (childInfoRead (drop j l)) (rw (rest-from l j) at e))
+
+-- the answer to a line that is refused, and to one that is taken
+module _ (l : List ℕ) where
+  pub parts-refused : readParts l ≡ none → orBad (readParts l) ≡ bad
+  unfolding orBad
+  parts-refused e = rw e
+
+  pub parts-taken : (bs : List Bool) (s : List ℕ) (c : Bool) (bits n : ℕ) (d e : List ℕ) → readParts l ≡ some (line bs s c) → bits ≡ setOf bs → n ≡ length s → n ≤ 200 → d ≡ replicate 200 0 → e ≡ sets d 0 s → (Parts (record { bits = bits }) n c ≡ lineIs (orBad (readParts l))) × (e ≡ nameBytes (orBad (readParts l)))
+  unfolding orBad lineIs nameBytes nameRead
+  parts-taken bs s c bits n d e p b m h z w = rw p (rw (b, m), w ∙ named d s z (omega arith))
+
+-- the root line, and any other
+module _ (l : List ℕ) where
+  pub read-root : same l rootLine ≡ true → (Parts (record { bits = 4 }) 0 false ≡ lineIs (readLine l)) × (replicate 200 0 ≡ nameBytes (readLine l))
+  unfolding readLine lineIs nameBytes nameRead
+  read-root e = rw e (refl, refl)
+
+  pub read-other : same l rootLine ≡ false → readLine l ≡ orBad (readParts l)
+  unfolding readLine
+  read-other e = rw e

@@ -1,0 +1,80 @@
+use mathlib.Core.Path.{_≡_, refl, sym, ap, _∙_}
+use Prim.Native.Nat.{ℕ, _≤_, _+_, _-_}
+use lib.ListN.{length, drop}
+use Rattle.list_line.specs.Members.{setOf}
+use Rattle.list_line.proofs.Members.{setOf-here, setOf-not-here, setOf-none, setOf-room}
+use borrow.Author.Needs.{needs}
+use native.Mathlib.Omega.{arith}
+use Rattle.list_line.proofs.attributes.Attributes.of.Statement.{statement}
+use Rattle.list_line.proofs.attributes.Attributes.of.Tie as tie
+use Rattle.list_line.proofs.attributes.Attributes.of.Reads as reads
+use Rattle.list_line.proofs.attributes.Attributes.of.Lts as lts
+
+abbrev Inv-loop : tie.InvT-loop
+Inv-loop shown bits₀ k₀ bits k = (length shown ≡ 16) × (k ≤ 16) × (bits ≡ setOf (drop k shown))
+
+abbrev μ-loop : tie.MeasureT-loop
+μ-loop shown bits₀ k₀ bits k = k
+
+-- src/attributes.rt:36:9
+loop-holds : tie.Need-loop-holds Inv-loop μ-loop
+loop-holds c = (search needs, omega arith, sym (setOf-none (c .args .t1) 16 (search needs)))
+
+-- src/attributes.rt:37:13
+sub-k : tie.Need-sub-k Inv-loop μ-loop
+sub-k c = search needs
+
+-- src/attributes.rt:38:20
+mul-bits : tie.Need-mul-bits Inv-loop μ-loop
+mul-bits c = omega (arith, setOf-room (c .before .before .args .t1) (c .before .loop .k) (c .before .loop .inv .0) (c .loop-test .taken))
+
+-- src/attributes.rt:39:16
+array-read-if1 : tie.Need-array-read-if1 Inv-loop μ-loop
+array-read-if1 c = search needs
+
+-- src/attributes.rt:40:17
+add-bits : tie.Need-add-bits Inv-loop μ-loop
+add-bits c = omega (arith, setOf-room (c .before .before .before .args .t1) (c .before .before .loop .k) (c .before .before .loop .inv .0) (c .before .loop-test .taken))
+
+-- src/attributes.rt:36:9
+loop-less : tie.Need-loop-less Inv-loop μ-loop
+loop-less c = search needs
+
+-- src/attributes.rt:36:9
+loop-again : tie.Need-loop-again Inv-loop μ-loop
+loop-again c =
+    let k = c .before .before .loop .k in
+    let w : k - 1 + 1 ≡ k = omega arith in
+    (c .before .before .loop .inv .0, omega arith, omega (arith, setOf-here (c .before .before .before .args .t1) (k - 1) (omega arith) (c .if1 .taken), ap (λ (n : ℕ). setOf (drop n (c .before .before .before .args .t1))) w))
+
+-- src/attributes.rt:36:9
+loop-less-2 : tie.Need-loop-less-2 Inv-loop μ-loop
+loop-less-2 c = search needs
+
+-- src/attributes.rt:36:9
+loop-again-2 : tie.Need-loop-again-2 Inv-loop μ-loop
+loop-again-2 c =
+    let k = c .before .before .loop .k in
+    let w : k - 1 + 1 ≡ k = omega arith in
+    (c .before .before .loop .inv .0, omega arith, omega (arith, setOf-not-here (c .before .before .before .args .t1) (k - 1) (omega arith) (c .if1 .left), ap (λ (n : ℕ). setOf (drop n (c .before .before .before .args .t1))) w))
+
+-- src/attributes.rt:31:5
+returns : tie.Need-returns Inv-loop μ-loop
+returns c = let w : c .before .loop .k ≡ 0 = omega arith in c .before .loop .inv .2 ∙ ap (λ (n : ℕ). setOf (drop n (c .before .before .args .t1))) w
+
+pub of-spec : {M : Type 1} → statement M
+of-spec =
+    tie.close
+    (tie.spec
+    Inv-loop
+    μ-loop
+    loop-holds
+    sub-k
+    mul-bits
+    array-read-if1
+    add-bits
+    loop-less
+    loop-again
+    loop-less-2
+    loop-again-2
+    returns)

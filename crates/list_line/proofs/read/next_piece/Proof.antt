@@ -1,0 +1,54 @@
+-- `next_piece` meets its contract, by the bytes that stand at the place (`Naming`).
+use borrow.Author.Needs.{needs}
+use Rattle.list_line.proofs.Naming.{piece-out, piece-end, piece-byte, piece-escaped, piece-bad}
+use Rattle.list_line.proofs.read.next_piece.Statement.{statement}
+use Rattle.list_line.proofs.read.next_piece.Tie as tie
+
+returns : tie.Need-returns
+returns c = piece-out _ _ (c .if1 .taken)
+
+shared-slice-read-b : tie.Need-shared-slice-read-b
+shared-slice-read-b c = search needs
+
+add-t9 : tie.Need-add-t9
+add-t9 c = search needs
+
+returns-2 : tie.Need-returns-2
+returns-2 c = piece-end _ _ (c .before .before .if1 .left) (c .if2 .taken)
+
+add-t10 : tie.Need-add-t10
+add-t10 c = search needs
+
+returns-3 : tie.Need-returns-3
+returns-3 c = piece-byte _ _ (c .before .before .before .if1 .left) (c .before .if2 .left) (c .if3 .taken)
+
+add-byte-at : tie.Need-add-byte-at
+add-byte-at c = search needs
+
+byte-at-requires : tie.Need-byte-at-requires
+byte-at-requires c κs = search needs
+
+add-t13 : tie.Need-add-t13
+add-t13 c = search needs
+
+returns-4 : tie.Need-returns-4
+returns-4 c = rw (c .before .byte-at .ensures) (piece-escaped (c .before .before .before .before .before .before .before .args .line .now) (c .before .before .before .before .before .before .before .args .i) (c .before .before .before .before .before .if1 .left) (c .before .before .if3 .left) (rw (c .before .byte-at .ensures) at (c .if4 .taken)))
+
+returns-5 : tie.Need-returns-5
+returns-5 c = piece-bad (c .before .before .before .before .before .before .before .args .line .now) (c .before .before .before .before .before .before .before .args .i) (c .before .before .before .before .before .if1 .left) (c .before .before .if3 .left) (rw (c .before .byte-at .ensures) at (c .if4 .left))
+
+pub next-piece-spec : {M : Type 1} → statement M
+next-piece-spec =
+    tie.close
+    (tie.spec
+    returns
+    shared-slice-read-b
+    add-t9
+    returns-2
+    add-t10
+    returns-3
+    add-byte-at
+    byte-at-requires
+    add-t13
+    returns-4
+    returns-5)

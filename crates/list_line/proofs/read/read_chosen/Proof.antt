@@ -1,0 +1,99 @@
+-- `read_chosen` meets its contract. The loop's invariant is `Choosing`: what is read, and what is left of the names.
+use mathlib.Core.Path.{ap, subst}
+use mathlib.Core.List.{List}
+use mathlib.Core.Logic.{⊎-elim}
+use Prim.Native.Nat.{ℕ, _-_}
+use native.Mathlib.Omega.{arith}
+use lib.ListN.{length}
+use borrow.Author.Needs.{needs}
+use Rattle.listing_rules.specs.Reader.{separated}
+use Rattle.list_line.specs.Names.{nameOf}
+use Rattle.list_line.specs.Parts.{Skips}
+use Rattle.list_line.proofs.Names.{span-text}
+use Rattle.list_line.proofs.Choosing.{Choosing, choosing-none, choosing-bits, choosing-member, choosing-fits, choosing-in, choosing-out, choosing-all}
+use Rattle.list_line.proofs.read.read_chosen.Statement.{statement}
+use Rattle.list_line.proofs.read.read_chosen.Tie as tie
+
+abbrev Inv-loop : tie.InvT-loop
+Inv-loop line from names places at₀ bits₀ member₀ first₀ k₀ at bits member first k = Choosing line from at bits member first k
+
+abbrev μ-loop : tie.MeasureT-loop
+μ-loop line from names places at₀ bits₀ member₀ first₀ k₀ at bits member first k = 16 - k
+
+loop-holds : tie.Need-loop-holds Inv-loop μ-loop
+loop-holds c = choosing-none _ _ (c .before .before .before .pre .0)
+
+name-span-requires : tie.Need-name-span-requires Inv-loop μ-loop
+name-span-requires c κs = (c .before .before .before .before .before .pre .1 .1, c .loop-test .taken)
+
+sub-skip : tie.Need-sub-skip Inv-loop μ-loop
+sub-skip c = c .name-span .ensures .order
+
+part-skip-start : tie.Need-part-skip-start Inv-loop μ-loop
+part-skip-start c = c .name-span .ensures .order
+
+part-skip-end : tie.Need-part-skip-end Inv-loop μ-loop
+part-skip-end c = omega (arith, c .name-span .ensures .inside, ap length (c .before .before .before .before .before .before .pre .1 .0))
+
+skip-requires : tie.Need-skip-requires Inv-loop μ-loop
+skip-requires c κs = c .before .before .before .loop .inv .inside
+
+-- what was looked for is name k
+skipped : (c : tie.After-skip Inv-loop μ-loop) → Skips (c .before .before .before .before .before .before .before .before .args .line .now) (c .before .before .before .before .loop .at) (separated (c .before .before .before .before .loop .first) (nameOf (c .before .before .before .before .loop .k))) (c .skip .result)
+skipped c = subst (λ (x : List ℕ). Skips (c .before .before .before .before .before .before .before .before .args .line .now) (c .before .before .before .before .loop .at) x (c .skip .result)) (span-text (c .before .before .before .before .before .before .before .before .args .names .now) (c .before .before .before .before .before .before .before .before .pre .1 .0) (c .before .before .name-span .ensures)) (c .skip .ensures)
+
+enum-known-next : tie.Need-enum-known-next Inv-loop μ-loop
+enum-known-next c = search needs
+
+add-bits : tie.Need-add-bits Inv-loop μ-loop
+add-bits c = omega (arith, choosing-bits (c .before .before .before .before .before .before .before .loop .inv), choosing-member (c .before .before .before .before .before .before .before .loop .inv) (c .before .before .before .before .before .before .loop-test .taken))
+
+enum-told : tie.Need-enum-told Inv-loop μ-loop
+enum-told c = search needs
+
+mul-member : tie.Need-mul-member Inv-loop μ-loop
+mul-member c = omega (arith, choosing-member (c .before .before .before .before .before .loop .inv) (c .before .before .before .before .loop-test .taken))
+
+add-k : tie.Need-add-k Inv-loop μ-loop
+add-k c = search needs
+
+loop-less : tie.Need-loop-less Inv-loop μ-loop
+loop-less c = search needs
+
+loop-again : tie.Need-loop-again Inv-loop μ-loop
+loop-again c =
+    let inv = c .before .before .before .before .before .loop .inv in
+    let h = c .before .before .before .before .loop-test .taken in
+    let reading = Skips (c .before .before .before .before .before .before .before .before .before .args .line .now) (c .before .before .before .before .before .loop .at) (separated (c .before .before .before .before .before .loop .first) (nameOf (c .before .before .before .before .before .loop .k))) in
+    ⊎-elim
+    (λ w. let s = subst reading (w .1 .given .1) (skipped (c .before)) in rw (w .3, w .4, w .5) (choosing-in inv _ h (s .0) (s .1)))
+    (λ w. rw (w .2, w .3, w .4) (choosing-out inv h (subst reading (w .1 .given .1) (skipped (c .before)))))
+    (c .match .came)
+
+cast-t20 : tie.Need-cast-t20 Inv-loop μ-loop
+cast-t20 c = omega (arith, choosing-fits (c .before .loop .inv))
+
+returns : tie.Need-returns Inv-loop μ-loop
+returns c = choosing-all (c .before .loop .inv) (c .loop-test .left)
+
+pub read-chosen-spec : {M : Type 1} → statement M
+read-chosen-spec =
+    tie.close
+    (tie.spec
+    Inv-loop
+    μ-loop
+    loop-holds
+    name-span-requires
+    sub-skip
+    part-skip-start
+    part-skip-end
+    skip-requires
+    enum-known-next
+    add-bits
+    enum-told
+    mul-member
+    add-k
+    loop-less
+    loop-again
+    cast-t20
+    returns)

@@ -1,0 +1,87 @@
+-- `read_name` meets its contract. The loop's invariant is `Naming`: the bytes read so far, and what is left of the name.
+use mathlib.Core.Path.{subst}
+use Prim.Native.Nat.{_-_}
+use native.Mathlib.Omega.{arith}
+use lib.ListN.{length}
+use borrow.Author.Needs.{needs}
+use Rattle.list_line.specs.Parts.{Next}
+use Rattle.list_line.specs.declared.read.Piece.the-variants.{Byte}
+use Rattle.list_line.proofs.Naming.{Naming, naming-none, naming-byte, naming-full, naming-end, naming-torn}
+use Rattle.list_line.proofs.read.read_name.Statement.{statement}
+use Rattle.list_line.proofs.read.read_name.Tie as tie
+
+abbrev Inv-loop : tie.InvT-loop
+Inv-loop line from name₀ len₀ i₀ name len i = Naming line from name₀ name len i
+
+abbrev μ-loop : tie.MeasureT-loop
+μ-loop line from name₀ len₀ i₀ name len i = length line - i
+
+loop-holds : tie.Need-loop-holds Inv-loop μ-loop
+loop-holds c = naming-none _ _ _
+
+next-piece-requires : tie.Need-next-piece-requires Inv-loop μ-loop
+next-piece-requires c κs = search needs
+
+enum-known-b : tie.Need-enum-known-b Inv-loop μ-loop
+enum-known-b c = search needs
+
+told : (c : tie.After-known-told Inv-loop μ-loop) → Next (c .before .before .before .before .before .before .before .args .line .now) (c .before .before .before .before .loop .i) (Byte (c .before .b .given .0 .0) (c .before .b .given .0 .1 .0))
+told c = subst (Next (c .before .before .before .before .before .before .before .args .line .now) (c .before .before .before .before .loop .i)) (c .before .b .given .1) (c .before .before .before .next-piece .ensures)
+
+same-length : tie.Need-same-length Inv-loop μ-loop
+same-length c = c .before .before .before .before .before .loop .inv .long
+
+returns : tie.Need-returns Inv-loop μ-loop
+returns c = naming-full (c .before .before .before .before .before .loop .inv) _ _ (told (c .before)) (c .if1 .taken)
+
+slice-write-name : tie.Need-slice-write-name Inv-loop μ-loop
+slice-write-name c = search needs
+
+add-len : tie.Need-add-len Inv-loop μ-loop
+add-len c = search needs
+
+loop-less : tie.Need-loop-less Inv-loop μ-loop
+loop-less c = omega (arith, told (c .before))
+
+loop-again : tie.Need-loop-again Inv-loop μ-loop
+loop-again c = naming-byte (c .before .before .before .before .before .loop .inv) _ _ (told (c .before)) (c .if1 .left)
+
+enum-known-next : tie.Need-enum-known-next Inv-loop μ-loop
+enum-known-next c = search needs
+
+same-length-2 : tie.Need-same-length-2 Inv-loop μ-loop
+same-length-2 c = c .before .before .before .before .loop .inv .long
+
+returns-2 : tie.Need-returns-2 Inv-loop μ-loop
+returns-2 c = naming-end (c .before .before .before .before .loop .inv) _ (subst (Next (c .before .before .before .before .before .before .before .args .line .now) (c .before .before .before .before .loop .i)) (c .before .next .given .1) (c .before .before .before .next-piece .ensures))
+
+enum-told : tie.Need-enum-told Inv-loop μ-loop
+enum-told c = search needs
+
+same-length-3 : tie.Need-same-length-3 Inv-loop μ-loop
+same-length-3 c = c .before .before .before .loop .inv .long
+
+returns-3 : tie.Need-returns-3 Inv-loop μ-loop
+returns-3 c = naming-torn (c .before .before .before .loop .inv) (subst (Next (c .before .before .before .before .before .before .args .line .now) (c .before .before .before .loop .i)) (c .enum-told .given .1) (c .before .before .next-piece .ensures))
+
+pub read-name-spec : {M : Type 1} → statement M
+read-name-spec =
+    tie.close
+    (tie.spec
+    Inv-loop
+    μ-loop
+    loop-holds
+    next-piece-requires
+    enum-known-b
+    same-length
+    returns
+    slice-write-name
+    add-len
+    loop-less
+    loop-again
+    enum-known-next
+    same-length-2
+    returns-2
+    enum-told
+    same-length-3
+    returns-3)

@@ -1,0 +1,194 @@
+-- `read_parts` meets its contract. At each place one equation says what the reader makes of the rest of the line (`Reading`), and a
+-- missing part makes it nothing.
+use mathlib.Core.Path.{_≡_, sym, ap, subst, _∙_}
+use mathlib.Core.Bool.{cond}
+use mathlib.Core.Option.{none, some}
+use Prim.Native.Nat.{ℕ, _≤_}
+use native.Mathlib.Omega.{arith}
+use lib.ListN.{length, drop, length-replicate, length-take}
+use borrow.Author.Tests.{not-true, not-false}
+use borrow.Author.Needs.{needs}
+use Rattle.listing_rules.specs.Bytes.{text}
+use Rattle.listing_rules.specs.Names.{lawfulName}
+use Rattle.listing_rules.specs.Reader.{line, readParts}
+use Rattle.list_line.specs.Parts.{Skips, Names}
+use Rattle.list_line.specs.declared.read.Place.the-variants.{At}
+use Rattle.list_line.specs.declared.read.Name.the-variants.{Of}
+use Rattle.list_line.proofs.Reading.{fromEnd, fromName, fromDelimiter, chosenAt, start-read, start-missing, attributes-read, delimiter-read, delimiter-missing, name-read, name-missing, end-read, end-missing, name-front, parts-refused, parts-taken}
+use Rattle.list_line.proofs.read.read_parts.Statement.{statement}
+use Rattle.list_line.proofs.read.read_parts.Tie as tie
+
+slice-aggregate-skip : tie.Need-slice-aggregate-skip
+slice-aggregate-skip c = search needs
+
+skip-requires : tie.Need-skip-requires
+skip-requires c κs = search needs
+
+enum-known-a : tie.Need-enum-known-a
+enum-known-a c = search needs
+
+enum-told : tie.Need-enum-told
+enum-told c = search needs
+
+refused-requires : tie.Need-refused-requires
+refused-requires c κs = search needs
+
+returns : tie.Need-returns
+unfolding text
+returns c = rw (parts-refused (c .before .before .before .before .before .before .args .line .now) (start-missing (c .before .before .before .before .before .before .args .line .now) (subst (Skips (c .before .before .before .before .before .before .args .line .now) 0 (text "* LIST (")) (c .before .enum-told .given .1) (c .before .before .before .skip .ensures)))) (c .refused .ensures)
+
+-- the start stands there
+start : (c : tie.After-known-told) → Skips (c .before .before .before .before .before .before .args .line .now) 0 (text "* LIST (") (At (c .before .a .given .0 .0))
+unfolding text
+start c = subst (Skips (c .before .before .before .before .before .before .args .line .now) 0 (text "* LIST (")) (c .before .a .given .1) (c .before .before .before .skip .ensures)
+
+read-attributes-requires : tie.Need-read-attributes-requires
+read-attributes-requires c κs = start c .1
+
+-- what is left behind the attributes
+chosen : (c : tie.After-read-attributes) → readParts (c .before .before .before .before .before .before .before .args .line .now) ≡ fromDelimiter (chosenAt (c .before .before .before .before .before .before .before .args .line .now) (c .before .before .a .given .0 .0)) (drop (c .read-attributes .result .at) (c .before .before .before .before .before .before .before .args .line .now))
+chosen c = start-read _ _ (start (c .before) .0) ∙ attributes-read (c .before .before .before .before .before .before .before .args .line .now) (c .before .before .a .given .0 .0) (c .read-attributes .result) (c .read-attributes .ensures)
+
+slice-aggregate-skip-2 : tie.Need-slice-aggregate-skip-2
+slice-aggregate-skip-2 c = search needs
+
+skip-requires-2 : tie.Need-skip-requires-2
+skip-requires-2 c κs = search needs
+
+enum-known-b : tie.Need-enum-known-b
+enum-known-b c = search needs
+
+enum-told-2 : tie.Need-enum-told-2
+enum-told-2 c = search needs
+
+refused-requires-2 : tie.Need-refused-requires-2
+refused-requires-2 c κs = search needs
+
+returns-2 : tie.Need-returns-2
+unfolding text
+returns-2 c = rw (parts-refused (c .before .before .before .before .before .before .before .before .before .before .before .before .args .line .now) (chosen (c .before .before .before .before .before) ∙ delimiter-missing _ _ (subst (Skips (c .before .before .before .before .before .before .before .before .before .before .before .before .args .line .now) (c .before .before .before .before .before .read-attributes .result .at) (text ") \"/\" \"")) (c .before .enum-told2 .given .1) (c .before .before .before .skip2 .ensures)))) (c .refused2 .ensures)
+
+-- what is left behind the delimiter
+delimited : (c : tie.After-known-told2) → readParts (c .before .before .before .before .before .before .before .before .before .before .before .before .args .line .now) ≡ fromName (chosenAt (c .before .before .before .before .before .before .before .before .before .before .before .before .args .line .now) (c .before .before .before .before .before .before .before .a .given .0 .0)) (drop (c .before .b .given .0 .0) (c .before .before .before .before .before .before .before .before .before .before .before .before .args .line .now))
+unfolding text
+delimited c = chosen (c .before .before .before .before .before) ∙ delimiter-read _ _ _ (subst (Skips (c .before .before .before .before .before .before .before .before .before .before .before .before .args .line .now) (c .before .before .before .before .before .read-attributes .result .at) (text ") \"/\" \"")) (c .before .b .given .1) (c .before .before .before .skip2 .ensures) .0)
+
+no-name-requires : tie.Need-no-name-requires
+no-name-requires c κs = search needs
+
+slice-aggregate-read-name : tie.Need-slice-aggregate-read-name
+slice-aggregate-read-name c = search needs
+
+read-name-requires : tie.Need-read-name-requires
+read-name-requires c κs = search needs
+
+enum-known-len : tie.Need-enum-known-len
+enum-known-len c = search needs
+
+enum-told-3 : tie.Need-enum-told-3
+enum-told-3 c = search needs
+
+refused-requires-3 : tie.Need-refused-requires-3
+refused-requires-3 c κs = search needs
+
+returns-3 : tie.Need-returns-3
+returns-3 c = rw (parts-refused (c .before .before .before .before .before .before .before .before .before .before .before .before .before .before .before .before .before .before .before .args .line .now) (delimited (c .before .before .before .before .before .before .before) ∙ name-missing _ (c .before .before .before .before .before .before .before .before .before .before .before .before .before .before .before .before .before .before .before .args .line .now) (c .before .before .before .before .before .before .before .before .b .given .0 .0) (c .before .before .before .before .before .before .no-name .result) (c .before .before .before .before .read-name .last .1 .1 .0) (c .before .before .before .before .before .before .no-name .ensures) (subst (Names (c .before .before .before .before .before .before .before .before .before .before .before .before .before .before .before .before .before .before .before .args .line .now) (c .before .before .before .before .before .before .before .before .b .given .0 .0) (c .before .before .before .before .before .before .no-name .result) (c .before .before .before .before .read-name .last .1 .1 .0)) (c .before .enum-told3 .given .1) (c .before .before .before .before .read-name .ensures)))) (c .refused3 .ensures)
+
+-- the name, and what is left behind it
+name : (c : tie.After-known-told3) → Names (c .before .before .before .before .before .before .before .before .before .before .before .before .before .before .before .before .before .before .before .args .line .now) (c .before .before .before .before .before .before .before .before .b .given .0 .0) (c .before .before .before .before .before .before .no-name .result) (c .before .before .before .before .read-name .last .1 .1 .0) (Of (c .before .len .given .0 .0) (c .before .len .given .0 .1 .0))
+name c = subst (Names (c .before .before .before .before .before .before .before .before .before .before .before .before .before .before .before .before .before .before .before .args .line .now) (c .before .before .before .before .before .before .before .before .b .given .0 .0) (c .before .before .before .before .before .before .no-name .result) (c .before .before .before .before .read-name .last .1 .1 .0)) (c .before .len .given .1) (c .before .before .before .before .read-name .ensures)
+
+room : (c : tie.After-known-told3) → c .before .len .given .0 .0 ≤ 200
+room c = omega (arith, name c .4, ap length (c .before .before .before .before .before .before .no-name .ensures), length-replicate {A = ℕ} 200 0)
+
+named : (c : tie.After-known-told3) → readParts (c .before .before .before .before .before .before .before .before .before .before .before .before .before .before .before .before .before .before .before .args .line .now) ≡ fromEnd (chosenAt (c .before .before .before .before .before .before .before .before .before .before .before .before .before .before .before .before .before .before .before .args .line .now) (c .before .before .before .before .before .before .before .before .before .before .before .before .before .before .a .given .0 .0)) (name c .0) (drop (c .before .len .given .0 .1 .0) (c .before .before .before .before .before .before .before .before .before .before .before .before .before .before .before .before .before .before .before .args .line .now))
+named c = delimited (c .before .before .before .before .before .before .before) ∙ name-read _ _ _ _ (name c .1)
+
+sub-read-tail : tie.Need-sub-read-tail
+sub-read-tail c = name c .2
+
+part-read-tail-start : tie.Need-part-read-tail-start
+part-read-tail-start c = name c .2
+
+part-read-tail-end : tie.Need-part-read-tail-end
+part-read-tail-end c = search needs
+
+read-tail-requires : tie.Need-read-tail-requires
+read-tail-requires c κs = search needs
+
+enum-known-child-info : tie.Need-enum-known-child-info
+enum-known-child-info c = search needs
+
+enum-told-4 : tie.Need-enum-told-4
+enum-told-4 c = search needs
+
+refused-requires-4 : tie.Need-refused-requires-4
+refused-requires-4 c κs = search needs
+
+returns-4 : tie.Need-returns-4
+returns-4 c = rw (parts-refused (c .before .before .before .before .before .before .before .before .before .before .before .before .before .before .before .before .before .before .before .before .before .before .before .before .args .line .now) (named (c .before .before .before .before .before) ∙ end-missing _ _ (c .before .before .before .before .before .before .before .before .before .before .before .before .before .before .before .before .before .before .before .before .before .before .before .before .args .line .now) (c .before .before .before .before .before .before .len .given .0 .1 .0) (sym (c .before .before .before .read-tail .ensures) ∙ c .before .enum-told4 .given .1))) (c .refused4 .ensures)
+
+-- what is left behind the end: the name is lawful or not
+ended : (c : tie.After-known-told4) → readParts (c .before .before .before .before .before .before .before .before .before .before .before .before .before .before .before .before .before .before .before .before .before .before .before .before .args .line .now) ≡ cond (lawfulName (name (c .before .before .before .before .before) .0)) (some (line (chosenAt (c .before .before .before .before .before .before .before .before .before .before .before .before .before .before .before .before .before .before .before .before .before .before .before .before .args .line .now) (c .before .before .before .before .before .before .before .before .before .before .before .before .before .before .before .before .before .before .before .a .given .0 .0)) (name (c .before .before .before .before .before) .0) (c .before .child-info .given .0 .0))) none
+ended c = named (c .before .before .before .before .before) ∙ end-read _ _ (c .before .before .before .before .before .before .before .before .before .before .before .before .before .before .before .before .before .before .before .before .before .before .before .before .args .line .now) (c .before .before .before .before .before .before .len .given .0 .1 .0) _ (sym (c .before .before .before .read-tail .ensures) ∙ c .before .child-info .given .1)
+
+array-share-prefix-name : tie.Need-array-share-prefix-name
+array-share-prefix-name c = omega (arith, name (c .before .before .before .before .before) .4)
+
+slice-aggregate-lawful-name : tie.Need-slice-aggregate-lawful-name
+slice-aggregate-lawful-name c = simp length-take (omega (arith, name (c .before .before .before .before .before .before) .4))
+
+lawful-name-requires : tie.Need-lawful-name-requires
+lawful-name-requires c κs = search needs
+
+lawful : (c : tie.After-lawful-name) → c .lawful-name .result ≡ lawfulName (name (c .before .before .before .before .before .before .before) .0)
+lawful c = c .lawful-name .ensures ∙ ap lawfulName (name-front (c .before .before .before .before .before .before .before .before .before .before .before .before .before .no-name .result) (name (c .before .before .before .before .before .before .before) .0) (c .before .before .before .before .before .before .before .before .before .before .before .before .before .no-name .ensures) (omega (arith, room (c .before .before .before .before .before .before .before), name (c .before .before .before .before .before .before .before) .3)) (c .before .before .before .before .before .before .before .before .len .given .0 .0) (c .before .before .before .before .before .before .before .before .before .before .before .read-name .last .1 .1 .0) (name (c .before .before .before .before .before .before .before) .3) (name (c .before .before .before .before .before .before .before) .5))
+
+refused-requires-5 : tie.Need-refused-requires-5
+refused-requires-5 c κs = search needs
+
+returns-5 : tie.Need-returns-5
+returns-5 c = rw (parts-refused (c .before .before .before .before .before .before .before .before .before .before .before .before .before .before .before .before .before .before .before .before .before .before .before .before .before .before .before .before .args .line .now) (ended (c .before .before .before .before) ∙ rw (sym (lawful (c .before .before)) ∙ not-true _ (c .before .if1 .taken)))) (c .refused5 .ensures)
+
+returns-6 : tie.Need-returns-6
+unfolding chosenAt
+returns-6 c = parts-taken (c .before .before .before .before .before .before .before .before .before .before .before .before .before .before .before .before .before .before .before .before .before .before .before .before .before .before .before .args .line .now) (chosenAt (c .before .before .before .before .before .before .before .before .before .before .before .before .before .before .before .before .before .before .before .before .before .before .before .before .before .before .before .args .line .now) (c .before .before .before .before .before .before .before .before .before .before .before .before .before .before .before .before .before .before .before .before .before .before .a .given .0 .0)) (name (c .before .before .before .before .before .before .before .before) .0) (c .before .before .before .before .child-info .given .0 .0) (c .before .before .before .before .before .before .before .before .before .before .before .before .before .before .before .before .before .before .before .before .read-attributes .result .bits) (c .before .before .before .before .before .before .before .before .before .len .given .0 .0) (c .before .before .before .before .before .before .before .before .before .before .before .before .before .before .no-name .result) (c .before .before .before .before .before .before .before .before .before .before .before .before .read-name .last .1 .1 .0) (ended (c .before .before .before) ∙ rw (sym (lawful (c .before)) ∙ not-false _ (c .if1 .left))) (c .before .before .before .before .before .before .before .before .before .before .before .before .before .before .before .before .before .before .before .before .read-attributes .ensures .chosen) (name (c .before .before .before .before .before .before .before .before) .3) (room (c .before .before .before .before .before .before .before .before)) (c .before .before .before .before .before .before .before .before .before .before .before .before .before .before .no-name .ensures) (name (c .before .before .before .before .before .before .before .before) .5)
+
+pub read-parts-spec : {M : Type 1} → statement M
+read-parts-spec =
+    tie.close
+    (tie.spec
+    slice-aggregate-skip
+    skip-requires
+    enum-known-a
+    enum-told
+    refused-requires
+    returns
+    read-attributes-requires
+    slice-aggregate-skip-2
+    skip-requires-2
+    enum-known-b
+    enum-told-2
+    refused-requires-2
+    returns-2
+    no-name-requires
+    slice-aggregate-read-name
+    read-name-requires
+    enum-known-len
+    enum-told-3
+    refused-requires-3
+    returns-3
+    sub-read-tail
+    part-read-tail-start
+    part-read-tail-end
+    read-tail-requires
+    enum-known-child-info
+    enum-told-4
+    refused-requires-4
+    returns-4
+    array-share-prefix-name
+    slice-aggregate-lawful-name
+    lawful-name-requires
+    refused-requires-5
+    returns-5
+    returns-6)

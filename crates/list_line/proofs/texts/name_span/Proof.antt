@@ -1,0 +1,55 @@
+-- `name_span` meets its contract: the table's places are those that `Names` proves of the text of all names.
+use mathlib.Core.Path.{_≡_, ap, _∙_}
+use mathlib.Core.List.{List}
+use Prim.Native.Nat.{ℕ, _+_}
+use native.Mathlib.Omega.{arith}
+use lib.ListN.{length, getD}
+use borrow.Author.Needs.{needs}
+use Rattle.list_line.specs.Names.{namePlaces}
+use Rattle.list_line.proofs.Names.{span-first, span-later, length-places}
+use Rattle.list_line.proofs.texts.name_span.Statement.{statement}
+use Rattle.list_line.proofs.texts.name_span.Tie as tie
+
+shared-slice-read-wide : tie.Need-shared-slice-read-wide
+shared-slice-read-wide c = omega (arith, ap length (c .before .before .pre .0), length-places, c .before .before .pre .1)
+
+wide-requires : tie.Need-wide-requires
+wide-requires c κs = search needs
+
+add-wide : tie.Need-add-wide
+add-wide c = search needs
+
+shared-slice-read-wide-2 : tie.Need-shared-slice-read-wide-2
+shared-slice-read-wide-2 c = omega (arith, ap length (c .before .before .before .before .pre .0), length-places, c .before .before .before .before .pre .1)
+
+wide-requires-2 : tie.Need-wide-requires-2
+wide-requires-2 c κs = search needs
+
+-- the two places, from the table
+start : (c : tie.After-wide) → c .wide .result ≡ getD namePlaces (c .before .before .before .args .k) 0
+start c = c .wide .ensures ∙ ap (λ (x : List ℕ). getD x (c .before .before .before .args .k) 0) (c .before .before .before .pre .0)
+
+end : (c : tie.After-wide2) → c .wide2 .result ≡ getD namePlaces (c .before .before .before .before .before .args .k + 1) 0
+end c = c .wide2 .ensures ∙ ap (λ (x : List ℕ). getD x (c .before .before .before .before .before .args .k + 1) 0) (c .before .before .before .before .before .pre .0)
+
+add-t11 : tie.Need-add-t11
+add-t11 c = omega (arith, start (c .before .before .before), span-first (c .before .before .before .before .before .before .args .k) (c .before .before .before .before .before .before .pre .1) .order, end (c .before), c .before .wide2 .ok)
+
+returns : tie.Need-returns
+returns c = rw (c .if1 .taken, start (c .before .before .before), end (c .before)) (span-first (c .before .before .before .before .before .before .args .k) (c .before .before .before .before .before .before .pre .1))
+
+returns-2 : tie.Need-returns-2
+returns-2 c = rw (c .if1 .left, start (c .before .before .before), end (c .before)) (span-later (c .before .before .before .before .before .before .args .k) (c .before .before .before .before .before .before .pre .1))
+
+pub name-span-spec : {M : Type 1} → statement M
+name-span-spec =
+    tie.close
+    (tie.spec
+    shared-slice-read-wide
+    wide-requires
+    add-wide
+    shared-slice-read-wide-2
+    wide-requires-2
+    add-t11
+    returns
+    returns-2)

@@ -1,0 +1,78 @@
+-- `put_chosen` meets its contract. The loop's invariant is `Spelled` of `Writing`: what is written, and what is left of the names.
+use mathlib.Core.Path.{ap, subst}
+use mathlib.Core.List.{List}
+use mathlib.Core.Logic.{⊎-elim}
+use Prim.Native.Nat.{ℕ, _-_}
+use native.Mathlib.Omega.{arith}
+use lib.ListN.{length}
+use borrow.Author.Needs.{needs}
+use Rattle.octets.specs.Put.{Put}
+use Rattle.octets.proofs.Puts.{put-length}
+use Rattle.list_line.proofs.Names.{span-text}
+use Rattle.list_line.proofs.Writing.{Spelled, spelled-none, spelled-in, spelled-out, spelled-all}
+use Rattle.list_line.proofs.write.put_chosen.Statement.{statement}
+use Rattle.list_line.proofs.write.put_chosen.Tie as tie
+
+abbrev Inv-loop : tie.InvT-loop
+Inv-loop buf₀ at bits names places to₀ left₀ first₀ k₀ buf to left first k = Spelled buf₀ buf at to bits left first k
+
+abbrev μ-loop : tie.MeasureT-loop
+μ-loop buf₀ at bits names places to₀ left₀ first₀ k₀ buf to left first k = 16 - k
+
+loop-holds : tie.Need-loop-holds Inv-loop μ-loop
+loop-holds c = spelled-none _ _ _ (search needs) (search needs)
+
+name-span-requires : tie.Need-name-span-requires Inv-loop μ-loop
+name-span-requires c κs = (c .before .before .before .before .before .before .pre .1, c .before .loop-test .taken)
+
+sub-put-all : tie.Need-sub-put-all Inv-loop μ-loop
+sub-put-all c = c .before .name-span .ensures .order
+
+part-put-all-start : tie.Need-part-put-all-start Inv-loop μ-loop
+part-put-all-start c = c .before .name-span .ensures .order
+
+part-put-all-end : tie.Need-part-put-all-end Inv-loop μ-loop
+part-put-all-end c = omega (arith, c .before .name-span .ensures .inside, ap length (c .before .before .before .before .before .before .before .before .pre .0))
+
+put-all-requires : tie.Need-put-all-requires Inv-loop μ-loop
+put-all-requires c κs = search needs
+
+add-k : tie.Need-add-k Inv-loop μ-loop
+add-k c = search needs
+
+loop-less : tie.Need-loop-less Inv-loop μ-loop
+loop-less c = search needs
+
+loop-again : tie.Need-loop-again Inv-loop μ-loop
+loop-again c =
+    ⊎-elim
+    (λ w.
+    let name = span-text (c .before .before .before .before .before .before .args .names .now) (c .before .before .before .before .before .before .pre .0) (w .1 .ensures) in
+    let put = subst (λ (x : List ℕ). Put (c .before .before .loop .buf) (w .4 .last .0) (c .before .before .loop .to) x (w .4 .result)) name (w .4 .ensures) in
+    rw (w .7, w .8, w .9) (spelled-in (c .before .before .loop .inv) (c .before .loop-test .taken) (w .0 .taken) put))
+    (λ w. rw (w .1, w .2, w .3) (spelled-out (c .before .before .loop .inv) (c .before .loop-test .taken) (w .0 .left)))
+    (c .if1 .came)
+
+same-length : tie.Need-same-length Inv-loop μ-loop
+same-length c = put-length (c .before .loop .inv .put)
+
+returns : tie.Need-returns Inv-loop μ-loop
+returns c = spelled-all (c .before .loop .inv) (c .loop-test .left)
+
+pub put-chosen-spec : {M : Type 1} → statement M
+put-chosen-spec =
+    tie.close
+    (tie.spec
+    Inv-loop
+    μ-loop
+    loop-holds
+    name-span-requires
+    sub-put-all
+    part-put-all-start
+    part-put-all-end
+    put-all-requires
+    add-k
+    loop-less
+    loop-again
+    same-length
+    returns)

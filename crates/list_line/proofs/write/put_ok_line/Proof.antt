@@ -1,0 +1,28 @@
+-- `put_ok_line` meets its contract: two writes, one behind the other (`put-then`).
+use borrow.Author.Needs.{needs}
+use Rattle.listing_rules.specs.Bytes.{openBytes}
+use Rattle.listing_rules.specs.Lines.{openLines}
+use Rattle.octets.proofs.Puts.{put-then}
+use Rattle.list_line.proofs.write.put_ok_line.Statement.{statement}
+use Rattle.list_line.proofs.write.put_ok_line.Tie as tie
+
+put-all-requires : tie.Need-put-all-requires
+put-all-requires c κs = search needs
+
+slice-aggregate-put-all : tie.Need-slice-aggregate-put-all
+slice-aggregate-put-all c = search needs
+
+put-all-requires-2 : tie.Need-put-all-requires-2
+put-all-requires-2 c κs = search needs
+
+same-length : tie.Need-same-length
+same-length c = search needs
+
+returns : tie.Need-returns
+unfolding openBytes openLines
+returns c = put-then (c .before .before .before .before .before .before .before .put-all .ensures) (c .before .before .put-all2 .ensures)
+
+pub put-ok-line-spec : {M : Type 1} → statement M
+put-ok-line-spec =
+    tie.close
+    (tie.spec put-all-requires slice-aggregate-put-all put-all-requires-2 same-length returns)

@@ -1,0 +1,11 @@
+-- `root_parts` meets its contract: the set 4 has the root line's attributes (`root-parts` of `Members`).
+use borrow.Author.Needs.{needs}
+use Rattle.list_line.proofs.Members.{root-parts}
+use Rattle.list_line.proofs.write.root_parts.Statement.{statement}
+use Rattle.list_line.proofs.write.root_parts.Tie as tie
+
+returns : tie.Need-returns
+returns c = root-parts _ _ _ (search needs)
+
+pub root-parts-spec : {M : Type 1} → statement M
+root-parts-spec = tie.close (tie.spec returns)

@@ -1,0 +1,35 @@
+-- `write_named` meets its contract: the first pass measures the line, and the second writes it (`written-fits`, `written-short`).
+use native.Mathlib.Omega.{arith}
+use borrow.Author.Needs.{needs}
+use Rattle.list_line.proofs.Writing.{written-fits, written-short}
+use Rattle.list_line.proofs.write.write_named.Statement.{statement}
+use Rattle.list_line.proofs.write.write_named.Tie as tie
+
+slice-aggregate-put-line : tie.Need-slice-aggregate-put-line
+slice-aggregate-put-line c = search needs
+
+put-line-requires : tie.Need-put-line-requires
+put-line-requires c κs = search needs
+
+returns : tie.Need-returns
+returns c = let p = c .before .before .put-line .ensures in written-short (c .before .before .before .before .before .before .args .buf .now) _ (omega (arith, p .place))
+
+put-line-requires-2 : tie.Need-put-line-requires-2
+put-line-requires-2 c κs = search needs
+
+same-length : tie.Need-same-length
+same-length c = search needs
+
+returns-2 : tie.Need-returns-2
+returns-2 c = let p = c .before .before .before .before .before .before .put-line .ensures in written-fits _ _ (c .before .before .put-line2 .ensures) (omega (arith, p .place))
+
+pub write-named-spec : {M : Type 1} → statement M
+write-named-spec =
+    tie.close
+    (tie.spec
+    slice-aggregate-put-line
+    put-line-requires
+    returns
+    put-line-requires-2
+    same-length
+    returns-2)

@@ -1,0 +1,22 @@
+-- `write_root` meets its contract: the root line has 27 bytes (`written-fits`, `written-short`).
+use native.Mathlib.Omega.{arith}
+use borrow.Author.Needs.{needs}
+use Rattle.listing_rules.specs.Lines.{rootLine}
+use Rattle.list_line.proofs.Writing.{written-fits, written-short, root-length}
+use Rattle.list_line.proofs.write.write_root.Statement.{statement}
+use Rattle.list_line.proofs.write.write_root.Tie as tie
+
+returns : tie.Need-returns
+returns c = written-short (c .before .before .args .buf .now) rootLine (omega (arith, root-length))
+
+put-root-line-requires : tie.Need-put-root-line-requires
+put-root-line-requires c κs = search needs
+
+same-length : tie.Need-same-length
+same-length c = search needs
+
+returns-2 : tie.Need-returns-2
+returns-2 c = written-fits _ rootLine (c .before .before .put-root-line .ensures) (omega (arith, root-length))
+
+pub write-root-spec : {M : Type 1} → statement M
+write-root-spec = tie.close (tie.spec returns put-root-line-requires same-length returns-2)

@@ -1,0 +1,5 @@
+-- What the attribute set, the line writer and the line reader mean, in terms of document 01's definitions.
+pub mod Members
+pub mod Names
+pub mod Lines
+pub mod Parts

@@ -1,0 +1,26 @@
+-- The attributes' names in one text, and where each stands in it.
+use mathlib.Core.Path.{_≡_}
+use mathlib.Core.Bool.{Bool}
+use mathlib.Core.List.{List, [], _∷_}
+use Prim.Native.Nat.{ℕ, _-_, _≤_}
+use lib.ListN.{getD, take, drop, length}
+use Rattle.listing_rules.specs.Lines.{attributeNames, spacedTail}
+use Rattle.listing_rules.specs.Reader.{separated}
+use Rattle.list_line.specs.declared.texts.Span.{Span}
+
+-- every name behind a space
+unfoldable pub allNames : List ℕ
+allNames = spacedTail attributeNames
+
+-- where the space before each name stands in it, and the end of the last
+unfoldable pub namePlaces : List ℕ
+namePlaces = 0 ∷ 8 ∷ 18 ∷ 28 ∷ 41 ∷ 49 ∷ 61 ∷ 74 ∷ 79 ∷ 88 ∷ 96 ∷ 105 ∷ 111 ∷ 117 ∷ 124 ∷ 137 ∷ 152 ∷ []
+
+unfoldable pub nameOf : ℕ → List ℕ
+nameOf k = getD attributeNames k []
+
+-- s is the part of the text that is name k, with the space before it unless it is the first on its line
+pub record NameSpan (k : ℕ) (first : Bool) (s : Span) : Type 0 where
+  pub order : s .start ≤ s .end
+  pub inside : s .end ≤ length allNames
+  pub name : take (s .end - s .start) (drop (s .start) allNames) ≡ separated first (nameOf k)

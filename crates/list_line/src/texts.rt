@@ -1,0 +1,72 @@
+// The texts of LIST lines.
+use octets::wide;
+ghost use mathlib.Core.Path.{_≡_};
+ghost use Prim.Native.Nat.{_<_};
+ghost use Rattle.list_line.specs.Names.{namePlaces, NameSpan};
+
+pub(crate) const LINE_START: [u8; 8] = *b"* LIST (";
+
+// Between the attributes and the quoted name, and the same with its first quote.
+pub(crate) const DELIMITER: [u8; 6] = *b") \"/\" ";
+
+pub(crate) const NAME_START: [u8; 7] = *b") \"/\" \"";
+
+pub(crate) const LINE_END: [u8; 2] = *b"\r\n";
+
+pub(crate) const CHILD_INFO_END: [u8; 31] = *b" (\"CHILDINFO\" (\"SUBSCRIBED\"))\r\n";
+
+pub(crate) const ROOT_LINE: [u8; 27] = *b"* LIST (\\Noselect) \"/\" \"\"\r\n";
+
+pub(crate) const OK_END: [u8; 10] = *b" OK done\r\n";
+
+// How many attributes there are.
+pub(crate) const ATTRIBUTE_COUNT: usize = 16;
+
+// The attributes' names in document 01's order, each behind a space.
+pub(crate) const NAMES: [u8; 152] =
+    *b" \\Marked \\Unmarked \\Noselect \\NoInferiors \\Remote \\Subscribed \\NonExistent \\All \\Archive \\Drafts \\Flagged \\Junk \\Sent \\Trash \\HasChildren \\HasNoChildren";
+
+// Where the space before each name stands, and the end of the last.
+pub(crate) const PLACES: [u8; 17] = [
+    0,
+    8,
+    18,
+    28,
+    41,
+    49,
+    61,
+    74,
+    79,
+    88,
+    96,
+    105,
+    111,
+    117,
+    124,
+    137,
+    152,
+];
+
+// A part of NAMES.
+pub(crate) struct Span {
+    pub start: usize,
+    pub end: usize,
+}
+
+// Where attribute k stands in NAMES: with the space before it unless it is the first on its line. The table PLACES is lent, so
+// that a loop over the attributes makes it once.
+pub(crate) fn name_span(places: &[u8], k: usize, first: bool) -> Span
+    requires { ⌜ now places ≡ namePlaces ⌝ }
+    requires { ⌜ k < 16 ⌝ }
+    ensures { λ r. ⌜ NameSpan k first r ⌝ }
+{
+    let start = wide(places[k]);
+    let end = wide(places[k + 1]);
+    if first {
+        return Span {
+            start: start + 1,
+            end,
+        };
+    }
+    Span { start, end }
+}

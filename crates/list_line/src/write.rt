@@ -1,0 +1,142 @@
+// The lines of the server's answers, and the line writer.
+use super::attributes::Attributes;
+use super::texts;
+use mailbox_table::names::lawful_name;
+use octets::Written;
+use octets::put_all;
+use octets::put_quoted;
+ghost use mathlib.Core.Path.{_≡_};
+ghost use mathlib.Core.List.{_++_};
+ghost use lib.ListN.{length};
+ghost use Rattle.listing_rules.specs.Bytes.{crlf};
+ghost use Rattle.listing_rules.specs.Lines.{attributeNames, chosen, spaced, childInfoText, listLine, rootLine, okLine};
+ghost use Rattle.listing_rules.specs.Reader.{rootParts, written};
+ghost use Rattle.listing_rules.specs.Server.{answered, limited, bufferAfter};
+ghost use Rattle.octets.specs.Put.{Put};
+ghost use Rattle.octets.specs.Written.{writtenIs};
+ghost use Rattle.list_line.specs.Members.{members};
+ghost use Rattle.list_line.specs.Names.{allNames, namePlaces};
+
+// Refusals: the parts are those of no line; the buffer is short.
+const NOT_SUCH_PARTS: u8 = 12;
+
+const SHORT_BUFFER: u8 = 9;
+
+// A LIST line.
+pub fn put_line(
+    buf: &mut [u8],
+    at: usize,
+    attributes: Attributes,
+    name: &[u8],
+    child_info: bool,
+) -> usize
+    ensures { λ r. ⌜ Put (now (buf .entry)) (now (buf .exit)) at (listLine (members (attributes .bits)) (now (name .entry)) «child_info») r ⌝ }
+{
+    let a = put_all(buf, at, &texts::LINE_START);
+    let b = put_attributes(buf, a, attributes.bits);
+    let c = put_all(buf, b, &texts::DELIMITER);
+    let d = put_quoted(buf, c, name);
+    put_line_end(buf, d, child_info)
+}
+
+// The root line, which a command with an empty pattern asks for.
+pub fn put_root_line(buf: &mut [u8], at: usize) -> usize
+    ensures { λ r. ⌜ Put (now (buf .entry)) (now (buf .exit)) at rootLine r ⌝ }
+{
+    put_all(buf, at, &texts::ROOT_LINE)
+}
+
+// The tagged line that ends every answer.
+pub fn put_ok_line(buf: &mut [u8], at: usize, tag: &[u8]) -> usize
+    ensures { λ r. ⌜ Put (now (buf .entry)) (now (buf .exit)) at (okLine (now (tag .entry))) r ⌝ }
+{
+    let a = put_all(buf, at, tag);
+    put_all(buf, a, &texts::OK_END)
+}
+
+// The line writer: the line of these parts at the front of the buffer. Parts of no line are refused first, then a short buffer.
+// A refusal changes no byte, and the bytes behind the line stay.
+pub fn write_line(attributes: Attributes, name: &[u8], child_info: bool, buf: &mut [u8]) -> Written
+    ensures result { λ r. ⌜ r ≡ writtenIs (written (members (attributes .bits)) (now (name .entry)) «child_info» (now (buf .entry))) ⌝ }
+    ensures bytes { λ _. ⌜ now (buf .exit) ≡ bufferAfter (now (buf .entry)) (written (members (attributes .bits)) (now (name .entry)) «child_info» (now (buf .entry))) ⌝ }
+{
+    if lawful_name(name) {
+        return write_named(attributes, name, child_info, buf);
+    }
+    if !root_parts(attributes, name, child_info) {
+        return Written::Refused(NOT_SUCH_PARTS);
+    }
+    write_root(buf)
+}
+
+// The names of the attributes in the set, with one space between two.
+fn put_attributes(buf: &mut [u8], at: usize, bits: u16) -> usize
+    ensures { λ r. ⌜ Put (now (buf .entry)) (now (buf .exit)) at (spaced (chosen (members bits) attributeNames)) r ⌝ }
+{
+    put_chosen(buf, at, bits, &texts::NAMES, &texts::PLACES)
+}
+
+// The same. The tables are lent, so that they are made once and not at each turn.
+fn put_chosen(buf: &mut [u8], at: usize, bits: u16, names: &[u8], places: &[u8]) -> usize
+    requires { ⌜ now names ≡ allNames ⌝ }
+    requires { ⌜ now places ≡ namePlaces ⌝ }
+    ensures { λ r. ⌜ Put (now (buf .entry)) (now (buf .exit)) at (spaced (chosen (members bits) attributeNames)) r ⌝ }
+{
+    let mut to = at;
+    let mut left = bits;
+    let mut first = true;
+    let mut k = 0;
+    while k < texts::ATTRIBUTE_COUNT {
+        if left % 2 == 1 {
+            let span = texts::name_span(places, k, first);
+            let a = span.start;
+            let e = span.end;
+            to = put_all(buf, to, &names[a..e]);
+            first = false;
+        }
+        left = left / 2;
+        k += 1;
+    }
+    to
+}
+
+// What stands behind the name.
+fn put_line_end(buf: &mut [u8], at: usize, child_info: bool) -> usize
+    ensures { λ r. ⌜ Put (now (buf .entry)) (now (buf .exit)) at (childInfoText «child_info» ++ crlf) r ⌝ }
+{
+    if child_info {
+        return put_all(buf, at, &texts::CHILD_INFO_END);
+    }
+    put_all(buf, at, &texts::LINE_END)
+}
+
+// Whether the parts are those of the root line.
+fn root_parts(attributes: Attributes, name: &[u8], child_info: bool) -> bool
+    ensures { λ r. ⌜ r ≡ rootParts (members (attributes .bits)) (now (name .entry)) «child_info» ⌝ }
+{
+    (attributes.bits == Attributes::NOSELECT.bits) & (name.len() == 0) & !child_info
+}
+
+// A line of a lawful name at the front, if there is room.
+fn write_named(attributes: Attributes, name: &[u8], child_info: bool, buf: &mut [u8]) -> Written
+    ensures result { λ r. ⌜ r ≡ writtenIs (limited (length (now (buf .entry))) (answered (listLine (members (attributes .bits)) (now (name .entry)) «child_info»))) ⌝ }
+    ensures bytes { λ _. ⌜ now (buf .exit) ≡ bufferAfter (now (buf .entry)) (limited (length (now (buf .entry))) (answered (listLine (members (attributes .bits)) (now (name .entry)) «child_info»))) ⌝ }
+{
+    let mut none = [0u8; 0];
+    let need = put_line(&mut none, 0, attributes, name, child_info);
+    if buf.len() < need {
+        return Written::Refused(SHORT_BUFFER);
+    }
+    Written::Done(put_line(buf, 0, attributes, name, child_info))
+}
+
+// The root line at the front, if there is room.
+fn write_root(buf: &mut [u8]) -> Written
+    ensures result { λ r. ⌜ r ≡ writtenIs (limited (length (now (buf .entry))) (answered rootLine)) ⌝ }
+    ensures bytes { λ _. ⌜ now (buf .exit) ≡ bufferAfter (now (buf .entry)) (limited (length (now (buf .entry))) (answered rootLine)) ⌝ }
+{
+    if buf.len() < texts::ROOT_LINE.len() {
+        return Written::Refused(SHORT_BUFFER);
+    }
+    Written::Done(put_root_line(buf, 0))
+}

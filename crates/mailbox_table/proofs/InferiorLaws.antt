@@ -1,0 +1,57 @@
+-- The last condition of check 1, row by row.
+use mathlib.Core.Path.{_≡_, _∙_}
+use mathlib.Core.Bool.{Bool, true, false, not}
+use mathlib.Core.List.{List}
+use Prim.Native.Nat.{ℕ, _+_, _≤_, _<_}
+use native.Mathlib.Numerals.{add-one}
+use native.Mathlib.Nat.{le-refl}
+use native.Mathlib.Omega.{arith}
+use lib.ListN.{length, drop, getD, replicate, length-replicate, drop-of-length-le}
+use lib.Seq.{take-take}
+use Rattle.listing_rules.specs.Lists.{every, anyOf}
+use Rattle.listing_rules.specs.Names.{below}
+use Rattle.listing_rules.specs.Flags.{noInferiors}
+use Rattle.listing_rules.specs.Table.{Row, noneBelow}
+use Rattle.mailbox_table.specs.Index.{nameAt, nthRow, nthName, rowAtWord, rowsAt, Indexed}
+use Rattle.mailbox_table.specs.Below.{prefixOf, belowFrom, Begins}
+use Rattle.mailbox_table.proofs.BelowLaws.{marked-all}
+use Rattle.mailbox_table.proofs.IndexLaws.{rows-length, rows-cons, shares-less}
+use Rattle.mailbox_table.proofs.ScanLaws.{scan-whole}
+
+-- a row that may have inferiors, and one that may not
+module _ (rs : List Row) (r : Row) where
+  pub none-any : noInferiors (r .flags) ≡ false → noneBelow rs r ≡ true
+  unfolding noneBelow
+  none-any e = rw e
+
+  pub none-some : noInferiors (r .flags) ≡ true → noneBelow rs r ≡ not (anyOf (λ q. below (r .name) (q .name)) rs)
+  unfolding noneBelow
+  none-some e = rw e
+
+-- the whole name of a row
+prefix-whole : (area words : List ℕ) (i : ℕ) → prefixOf area words i (nthRow words i .len) ≡ nthName area words i
+unfolding nameAt
+prefix-whole area words i = take-take (nthRow words i .len) (nthRow words i .len) (drop (nthRow words i .start) area) (le-refl (nthRow words i .len))
+
+-- with every row marked, what is found from row i on below its name is all that lies below it
+pub below-anywhere : {area words : List ℕ} → Indexed area words → (n i : ℕ) → length words ≤ n → i < length words → belowFrom area words (replicate n true) (prefixOf area words i (nthRow words i .len)) i ≡ anyOf (λ q. below (nthName area words i) (q .name)) (rowsAt area words)
+below-anywhere {area} {words} x n i h g =
+    scan-whole begins (shares-less x i g)
+    ∙ rw (prefix-whole area words i) (marked-all (nthName area words i) (rowsAt area words) n (omega (arith, rows-length area words)))
+  where
+    begins : Begins area words (replicate n true) i (nthRow words i .len)
+    begins = record { indexed = x; row = g; within = le-refl _; marked = omega (arith, length-replicate n true) }
+
+-- a test of every row, from row i on
+module _ (f : Row → Bool) (area words : List ℕ) (i : ℕ) where
+  pub every-more : i < length words → f (rowAtWord area (getD words i 0)) ≡ true → every f (drop i (rowsAt area words)) ≡ every f (drop (i + 1) (rowsAt area words))
+  unfolding every
+  every-more h e = rw (add-one i, rows-cons area words i h, e)
+
+  pub every-stop : i < length words → f (rowAtWord area (getD words i 0)) ≡ false → every f (drop i (rowsAt area words)) ≡ false
+  unfolding every
+  every-stop h e = rw (rows-cons area words i h, e)
+
+  pub every-end : length words ≤ i → every f (drop i (rowsAt area words)) ≡ true
+  unfolding every
+  every-end h = rw (drop-of-length-le (rowsAt area words) {i = i} (omega (arith, rows-length area words)))

@@ -1,0 +1,15 @@
+-- Laws of the mailbox table. Those that crates above cite are public.
+pub mod WordLaws
+pub mod SharedLaws
+pub mod BelowLaws
+pub mod IndexLaws
+pub mod ScanLaws
+pub mod CheckLaws
+mod Bools
+mod FlagBits
+mod NameShape
+mod RightLaws
+mod StepLaws
+mod KeptLaws
+mod CollectLaws
+mod InferiorLaws

@@ -1,0 +1,341 @@
+-- The shape of a name, as the loops over its bytes see it.
+use mathlib.Core.Path.{_≡_, refl, sym, ap, _∙_}
+use mathlib.Core.Bool.{Bool, true, false, cond, not, _&&_, _||_, false≢true}
+use mathlib.Core.List.{List, [], _∷_, map}
+use Prim.Native.Nat.{ℕ, zero, suc, _+_, _-_, _≤_, _<_}
+use native.Mathlib.Numerals.{add-one}
+use native.Mathlib.Omega.{arith}
+use lib.Dec.{eqb, leb, lit≤}
+use lib.ListN.{length, take, drop, getD, drop-of-length-le, length-take, length-drop}
+use lib.Seq.{drop-cons}
+use mir.Val.{boolByte}
+use borrow.Author.Tests.{eq-eqb, ne-eqb, eqb-true, eqb-false, le-leb, lt-leb, leb-true}
+use Rattle.listing_rules.specs.Bytes.{slash, within, all, same, raise, raised, spells, openBytes}
+use Rattle.listing_rules.specs.Lists.{every, onFirst}
+use Rattle.listing_rules.specs.Names.{levels, isFull, inbox, inboxSpelled, lawfulName, nameByte}
+use Rattle.mailbox_table.specs.Slashes.{slashCount, noPair}
+use Rattle.mailbox_table.proofs.Bools.{and-assoc, and-false, and-true, and-l, and-r, or-false}
+
+-- one byte more passes the test
+pub all-more : (p : ℕ → Bool) (s : List ℕ) (ok : Bool) (i : ℕ) → i < length s → ((ok && p (getD s i 0)) && all p (drop (i + 1) s)) ≡ (ok && all p (drop i s))
+unfolding all
+all-more p s ok i h = rw (add-one, drop-cons s i 0 h) (and-assoc ok (p (getD s i 0)) (all p (drop (suc i) s)))
+
+pub all-end : (p : ℕ → Bool) (s : List ℕ) (ok : Bool) (i : ℕ) → length s ≤ i → (ok && all p (drop i s)) ≡ ok
+unfolding all
+all-end p s ok i h = rw (drop-of-length-le s h) (and-true ok)
+
+pub digit-small : (b : Bool) → boolByte b ≤ 1
+digit-small true = lit≤ tt
+digit-small false = lit≤ tt
+
+-- slashes: one byte more
+module _ (s : List ℕ) (i : ℕ) where
+  pub slash-more : i < length s → slashCount (drop i s) ≡ boolByte (eqb (getD s i 0) 47) + slashCount (drop (i + 1) s)
+  unfolding slashCount slash
+  slash-more h = rw (add-one, drop-cons s i 0 h) (go (eqb (getD s i 0) 47))
+    where
+      go : (o : Bool) → cond o (suc (slashCount (drop (suc i) s))) (slashCount (drop (suc i) s)) ≡ boolByte o + slashCount (drop (suc i) s)
+      go true = omega arith
+      go false = omega arith
+
+  pub slash-end : length s ≤ i → slashCount (drop i s) ≡ 0
+  unfolding slashCount
+  slash-end h = rw (drop-of-length-le s h)
+
+-- pairs of neighbours, up to the place i
+pair-step : (s : List ℕ) (j : ℕ) → suc j < length s → noPair (drop j s) ≡ (not (eqb (getD s j 0) 47 && eqb (getD s (suc j) 0) 47) && noPair (drop (suc j) s))
+unfolding noPair slash
+pair-step s j h = rw (drop-cons s j 0 (omega arith), drop-cons s (suc j) 0 h)
+
+short-pair : (s : List ℕ) → length s ≤ 1 → noPair s ≡ true
+unfolding noPair
+short-pair [] h = refl
+short-pair (b ∷ []) h = refl
+short-pair (b ∷ c ∷ s) h = absurd (omega arith)
+
+pub pair-more : (s : List ℕ) (ok : Bool) (i : ℕ) → 1 ≤ i → i < length s → ((ok && not (eqb (getD s (i - 1) 0) 47 && eqb (getD s i 0) 47)) && noPair (drop (i + 1 - 1) s)) ≡ (ok && noPair (drop (i - 1) s))
+pair-more s ok zero h g = absurd (omega arith)
+pair-more s ok (suc j) h g =
+    let e : suc j - 1 ≡ j = omega arith in
+    let d : suc j + 1 - 1 ≡ suc j = omega arith in
+    rw (e, d, pair-step s j g) (and-assoc ok (not (eqb (getD s j 0) 47 && eqb (getD s (suc j) 0) 47)) (noPair (drop (suc j) s)))
+
+pub pair-end : (s : List ℕ) (i : ℕ) → 1 ≤ i → length s ≤ i → noPair (drop (i - 1) s) ≡ true
+pair-end s i h g = short-pair (drop (i - 1) s) (omega (arith, length-drop (i - 1) s))
+
+-- there is one level more than there are slashes
+on-first-length : (b : ℕ) (ls : List (List ℕ)) (n : ℕ) → length ls ≡ suc n → length (onFirst b ls) ≡ suc n
+unfolding onFirst
+on-first-length b [] n e = absurd (omega arith)
+on-first-length b (l ∷ ls) n e = e
+
+pub levels-count : (s : List ℕ) → length (levels s) ≡ suc (slashCount s)
+unfolding levels slashCount slash
+levels-count [] = refl
+levels-count (b ∷ t) = go (eqb b 47) (levels-count t)
+  where
+    go : (o : Bool) → length (levels t) ≡ suc (slashCount t) → length (cond o ([] ∷ levels t) (onFirst b (levels t))) ≡ suc (cond o (suc (slashCount t)) (slashCount t))
+    go true ih = ap suc ih
+    go false ih = on-first-length b (levels t) (slashCount t) ih
+
+-- the levels behind the first
+abbrev behind : List (List ℕ) → List (List ℕ)
+behind [] = []
+behind (l ∷ ls) = ls
+
+full-first : (b : ℕ) (ls : List (List ℕ)) → every isFull (onFirst b ls) ≡ every isFull (behind ls)
+unfolding every isFull onFirst
+full-first b [] = refl
+full-first b (l ∷ ls) = refl
+
+behind-first : (b : ℕ) (ls : List (List ℕ)) → behind (onFirst b ls) ≡ behind ls
+unfolding onFirst
+behind-first b [] = refl
+behind-first b (l ∷ ls) = refl
+
+-- a slash makes an empty level, a byte goes to the first
+at-slash : (b : ℕ) (t : List ℕ) → eqb b 47 ≡ true → levels (b ∷ t) ≡ [] ∷ levels t
+unfolding levels slash
+at-slash b t e = rw e
+
+at-byte : (b : ℕ) (t : List ℕ) → eqb b 47 ≡ false → levels (b ∷ t) ≡ onFirst b (levels t)
+unfolding levels slash
+at-byte b t e = rw e
+
+pair-cons : (b c : ℕ) (t : List ℕ) → noPair (b ∷ c ∷ t) ≡ (not (eqb b 47 && eqb c 47) && noPair (c ∷ t))
+unfolding noPair slash
+pair-cons b c t = refl
+
+pair-one : (b : ℕ) → noPair (b ∷ []) ≡ true
+unfolding noPair
+pair-one b = refl
+
+full-none : (ls : List (List ℕ)) → every isFull ([] ∷ ls) ≡ false
+unfolding every isFull
+full-none ls = refl
+
+full-end : every isFull (behind (levels [])) ≡ true
+unfolding levels every
+full-end = refl
+
+full-last : (c : ℕ) → every isFull (behind (levels (c ∷ []))) ≡ not (eqb c 47)
+unfolding levels slash every isFull onFirst
+full-last c = go (eqb c 47)
+  where
+    go : (o : Bool) → every isFull (behind (cond o ([] ∷ [] ∷ []) ((c ∷ []) ∷ []))) ≡ not o
+    go true = refl
+    go false = refl
+
+-- behind a byte that is no slash: the levels that follow are full exactly if no slash stands behind another nor at the end
+full-behind : (b : ℕ) (t : List ℕ) → eqb b 47 ≡ false → every isFull (behind (levels t)) ≡ (noPair (b ∷ t) && not (eqb (getD (b ∷ t) (length t) 0) 47))
+full-behind b [] h = rw (pair-one b, h) full-end
+full-behind b (c ∷ []) h = rw (pair-cons b c [], pair-one c, h) (full-last c)
+full-behind b (c ∷ d ∷ t) h = go (eqb c 47) (eqb d 47) refl refl (full-behind c (d ∷ t)) (full-behind d t)
+  where
+    last : Bool
+    last = not (eqb (getD (d ∷ t) (length t) 0) 47)
+
+    go : (o u : Bool) → eqb c 47 ≡ o → eqb d 47 ≡ u
+        → (eqb c 47 ≡ false → every isFull (behind (levels (d ∷ t))) ≡ (noPair (c ∷ d ∷ t) && last))
+        → (eqb d 47 ≡ false → every isFull (behind (levels t)) ≡ (noPair (d ∷ t) && last))
+        → every isFull (behind (levels (c ∷ d ∷ t))) ≡ (noPair (b ∷ c ∷ d ∷ t) && last)
+    go false u e k ih jh = rw (pair-cons b c (d ∷ t), h, at-byte c (d ∷ t) e, behind-first c (levels (d ∷ t))) (ih e)
+    go true true e k ih jh = rw (pair-cons b c (d ∷ t), pair-cons c d t, h, at-slash c (d ∷ t) e, at-slash d t k, full-none (levels t), e, k)
+    go true false e k ih jh = rw (pair-cons b c (d ∷ t), pair-cons c d t, h, at-slash c (d ∷ t) e, at-byte d t k, full-first d (levels t), e, k) (jh k)
+
+-- no level is empty exactly if no slash stands first, last or behind another
+pub levels-full : (s : List ℕ) → 1 ≤ length s → every isFull (levels s) ≡ (not (eqb (getD s 0 0) 47) && (noPair s && not (eqb (getD s (length s - 1) 0) 47)))
+levels-full [] h = absurd (omega arith)
+levels-full (b ∷ t) h = rw place (go (eqb b 47) refl)
+  where
+    place : suc (length t) - 1 ≡ length t
+    place = omega arith
+
+    go : (o : Bool) → eqb b 47 ≡ o → every isFull (levels (b ∷ t)) ≡ (not o && (noPair (b ∷ t) && not (eqb (getD (b ∷ t) (length t) 0) 47)))
+    go true e = rw (at-slash b t e) (full-none (levels t))
+    go false e = rw (at-byte b t e, full-first b (levels t)) (full-behind b t e)
+
+-- the first level, and whether the name or its first level ends here
+unfoldable firstLevel : List ℕ → List ℕ
+firstLevel [] = []
+firstLevel (b ∷ t) = let r = firstLevel t in cond (eqb b 47) [] (b ∷ r)
+
+unfoldable pub endsHere : List ℕ → Bool
+endsHere [] = true
+endsHere (b ∷ t) = eqb b 47
+
+levels-first : (s : List ℕ) → (ls : List (List ℕ)) × (levels s ≡ firstLevel s ∷ ls)
+unfolding levels slash firstLevel onFirst
+levels-first [] = ([], refl)
+levels-first (b ∷ t) = go (eqb b 47) (levels-first t)
+  where
+    go : (o : Bool) → (ls : List (List ℕ)) × (levels t ≡ firstLevel t ∷ ls) → (ls : List (List ℕ)) × (cond o ([] ∷ levels t) (onFirst b (levels t)) ≡ cond o [] (b ∷ firstLevel t) ∷ ls)
+    go true w = (levels t, refl)
+    go false w = (w .0, rw (w .1))
+
+raised-map : (s : List ℕ) → raised s ≡ map raise s
+unfolding raised
+raised-map [] = refl
+raised-map (b ∷ t) = ap (λ (l : List ℕ). raise b ∷ l) (raised-map t)
+
+map-id : (s : List ℕ) → map (λ b. b) s ≡ s
+map-id [] = refl
+map-id (b ∷ t) = ap (λ (l : List ℕ). b ∷ l) (map-id t)
+
+-- a word without a slash is the first level exactly if the name begins with it and the level ends there
+first-is : (f : ℕ → ℕ) → f 47 ≡ 47 → (word s : List ℕ) → slashCount word ≡ 0 → same (map f (firstLevel s)) word ≡ (same (map f (take (length word) s)) word && endsHere (drop (length word) s))
+unfolding same firstLevel endsHere slashCount slash
+first-is f h [] [] g = refl
+first-is f h [] (b ∷ t) g = go (eqb b 47)
+  where
+    go : (o : Bool) → same (map f (cond o [] (b ∷ firstLevel t))) [] ≡ o
+    go true = refl
+    go false = refl
+first-is f h (w ∷ ws) [] g = refl
+first-is f h (w ∷ ws) (b ∷ t) g = go (eqb w 47) (eqb b 47) refl refl g (first-is f h ws t)
+  where
+    go : (u o : Bool) → eqb w 47 ≡ u → eqb b 47 ≡ o → cond u (suc (slashCount ws)) (slashCount ws) ≡ 0
+        → (slashCount ws ≡ 0 → same (map f (firstLevel t)) ws ≡ (same (map f (take (length ws) t)) ws && endsHere (drop (length ws) t)))
+        → same (map f (cond o [] (b ∷ firstLevel t))) (w ∷ ws) ≡ (same (map f (b ∷ take (length ws) t)) (w ∷ ws) && endsHere (drop (length ws) t))
+    go true o d e z ih = absurd (omega arith)
+    go false false d e z ih = rw (ih z) (sym (and-assoc (eqb (f b) w) (same (map f (take (length ws) t)) ws) (endsHere (drop (length ws) t))))
+    go false true d e z ih = rw (differ e d)
+      where
+        differ : eqb b 47 ≡ true → eqb w 47 ≡ false → eqb (f b) w ≡ false
+        differ p q = ne-eqb (f b) w (λ k. eqb-false w 47 q (sym k ∙ ap f (eqb-true b 47 p) ∙ h))
+
+slash-raised : raise 47 ≡ 47
+unfolding openBytes
+slash-raised = refl
+
+inbox-slashes : slashCount inbox ≡ 0
+unfolding openBytes slashCount inbox
+inbox-slashes = refl
+
+inbox-length : length inbox ≡ 5
+unfolding openBytes inbox
+inbox-length = refl
+
+first-spells : (s : List ℕ) → spells (firstLevel s) inbox ≡ (spells (take 5 s) inbox && endsHere (drop 5 s))
+unfolding spells
+first-spells s =
+    rw (raised-map (firstLevel s), raised-map (take 5 s), first-is raise slash-raised inbox s inbox-slashes, inbox-length)
+
+first-same : (s : List ℕ) → same (firstLevel s) inbox ≡ (same (take 5 s) inbox && endsHere (drop 5 s))
+first-same s =
+    ap (λ (l : List ℕ). same l inbox) (sym (map-id (firstLevel s))) ∙ first-is (λ b. b) refl inbox s inbox-slashes ∙ rw (inbox-length, map-id (take 5 s))
+
+inbox-first : (l : List ℕ) (ls : List (List ℕ)) → inboxSpelled (l ∷ ls) ≡ (not (spells l inbox) || same l inbox)
+unfolding inboxSpelled
+inbox-first l ls = refl
+
+-- The rule for INBOX, in terms of the first five bytes and of what stands behind them.
+inbox-five : (s : List ℕ) → inboxSpelled (levels s) ≡ (not (spells (take 5 s) inbox && endsHere (drop 5 s)) || (same (take 5 s) inbox && endsHere (drop 5 s)))
+inbox-five s =
+    let w = levels-first s in
+    rw (w .1, inbox-first (firstLevel s) (w .0), first-spells s, first-same s)
+
+module _ (s : List ℕ) where
+  -- another first level
+  pub inbox-other : spells (take 5 s) inbox ≡ false → inboxSpelled (levels s) ≡ true
+  inbox-other e = rw (inbox-five s, e)
+
+  pub inbox-same : same (take 5 s) inbox ≡ true → inboxSpelled (levels s) ≡ true
+  inbox-same e = rw (inbox-five s, e) (go (spells (take 5 s) inbox) (endsHere (drop 5 s)))
+    where
+      go : (a b : Bool) → (not (a && b) || b) ≡ true
+      go true true = refl
+      go true false = refl
+      go false b = refl
+
+  -- another spelling
+  pub inbox-misspelled : spells (take 5 s) inbox ≡ true → same (take 5 s) inbox ≡ false → inboxSpelled (levels s) ≡ not (endsHere (drop 5 s))
+  inbox-misspelled e d = rw (inbox-five s, e, d) (or-false (not (endsHere (drop 5 s))))
+
+pub ends-at : (s : List ℕ) (i : ℕ) → i < length s → endsHere (drop i s) ≡ eqb (getD s i 0) 47
+unfolding endsHere
+ends-at s i h = rw (drop-cons s i 0 h)
+
+pub ends-behind : (s : List ℕ) (i : ℕ) → length s ≤ i → endsHere (drop i s) ≡ true
+unfolding endsHere
+ends-behind s i h = rw (drop-of-length-le s h)
+
+same-length : (a b : List ℕ) → same a b ≡ true → length a ≡ length b
+unfolding same
+same-length [] [] e = refl
+same-length [] (y ∷ b) e = absurd (false≢true e)
+same-length (x ∷ a) [] e = absurd (false≢true e)
+same-length (x ∷ a) (y ∷ b) e = ap suc (same-length a b (and-r (eqb x y) (same a b) e))
+
+raised-length : (s : List ℕ) → length (raised s) ≡ length s
+unfolding raised
+raised-length [] = refl
+raised-length (b ∷ t) = ap suc (raised-length t)
+
+-- fewer bytes spell no INBOX
+pub inbox-short : (s : List ℕ) → length s < 5 → spells (take 5 s) inbox ≡ false
+unfolding spells
+inbox-short s h = go (same (raised (take 5 s)) inbox) refl
+  where
+    go : (o : Bool) → same (raised (take 5 s)) inbox ≡ o → o ≡ false
+    go false e = refl
+    go true e = absurd (omega (arith, same-length (raised (take 5 s)) inbox e, raised-length (take 5 s), inbox-length, length-take 5 s))
+
+-- the parts of a lawful name, one by one as they are tested
+module _ (s : List ℕ) where
+  pub not-none : length s ≡ 0 → lawfulName s ≡ false
+  unfolding lawfulName within
+  not-none e = rw (lt-leb 1 (length s) (omega arith))
+
+  pub not-long : 200 < length s → lawfulName s ≡ false
+  unfolding lawfulName within
+  not-long h = simp (lt-leb (length s) 200 h, and-false)
+
+  pub not-bytes : all nameByte s ≡ false → lawfulName s ≡ false
+  unfolding lawfulName
+  not-bytes e = simp (e, and-false)
+
+  pub not-few : 16 ≤ slashCount s → lawfulName s ≡ false
+  unfolding lawfulName
+  not-few h = simp (lt-leb (length (levels s)) 16 (omega (arith, levels-count s)), and-false)
+
+  not-full : every isFull (levels s) ≡ false → lawfulName s ≡ false
+  unfolding lawfulName
+  not-full e = simp (e, and-false)
+
+  module _ (h : 1 ≤ length s) where
+    pub not-first : getD s 0 0 ≡ 47 → lawfulName s ≡ false
+    not-first e = not-full (rw (levels-full s h, eq-eqb (getD s 0 0) 47 e))
+
+    pub not-last : getD s (length s - 1) 0 ≡ 47 → lawfulName s ≡ false
+    not-last e = not-full (simp (levels-full s h, eq-eqb (getD s (length s - 1) 0) 47 e, and-false))
+
+    pub not-pair : noPair s ≡ false → lawfulName s ≡ false
+    not-pair e = not-full (simp (levels-full s h, e, and-false))
+
+    -- all but the rule for INBOX hold
+    pub all-but-inbox : length s ≤ 200 → all nameByte s ≡ true → slashCount s < 16 → (getD s 0 0 ≡ 47 → ⊥) → (getD s (length s - 1) 0 ≡ 47 → ⊥) → noPair s ≡ true → lawfulName s ≡ inboxSpelled (levels s)
+    unfolding lawfulName within
+    all-but-inbox l b f p q e =
+        simp (
+          le-leb 1 (length s) h,
+          le-leb (length s) 200 l,
+          b,
+          le-leb (length (levels s)) 16 (omega (arith, levels-count s)),
+          levels-full s h,
+          ne-eqb (getD s 0 0) 47 p,
+          ne-eqb (getD s (length s - 1) 0) 47 q,
+          e,
+        )
+
+-- a lawful name has 1 to 200 bytes
+pub lawful-length : (s : List ℕ) → lawfulName s ≡ true → (1 ≤ length s) × (length s ≤ 200)
+unfolding lawfulName within
+lawful-length s e =
+    let w = leb 1 (length s) && leb (length s) 200 in
+    let a = all nameByte s in
+    let l = leb (length (levels s)) 16 in
+    let f = every isFull (levels s) in
+    let h = and-l w a (and-l (w && a) l (and-l (w && a && l) f (and-l (w && a && l && f) (inboxSpelled (levels s)) e))) in
+    (leb-true 1 (length s) (and-l (leb 1 (length s)) (leb (length s) 200) h), leb-true (length s) 200 (and-r (leb 1 (length s)) (leb (length s) 200) h))

@@ -1,0 +1,34 @@
+-- A row's number tells the row, and a name that is clamped to its area is the name.
+use mathlib.Core.Path.{_≡_, sym, _∙_}
+use mathlib.Core.List.{List}
+use Prim.Native.Nat.{ℕ, _-_, _/_, _%_, _≤_, _<_}
+use native.Mathlib.Nat.{le-refl}
+use native.Mathlib.Omega.{arith}
+use lib.ListN.{length, take, drop, drop-of-length-le, length-drop}
+use lib.Seq.{take-nil, take-all}
+use Rattle.mailbox_table.specs.declared.rows.Row.{Row}
+use Rattle.mailbox_table.specs.Words.{wordOf, rowOfWord, Packs}
+
+pub row-word : (r : Row) → r .flags .bits < 65536 → Packs r → rowOfWord (wordOf r) ≡ r
+unfolding wordOf rowOfWord
+row-word r h p = λ i. record { flags = record { bits = bits-are i }; start = start-is i; len = len-is i; shared = shared-is i }
+  where
+    bits-are : wordOf r % 65536 ≡ r .flags .bits
+    bits-are = omega arith
+
+    start-is : wordOf r / 65536 % 65536 ≡ r .start
+    start-is = omega arith
+
+    len-is : wordOf r / 4294967296 % 256 ≡ r .len
+    len-is = omega arith
+
+    shared-is : wordOf r / 1099511627776 % 256 ≡ r .shared
+    shared-is = omega arith
+
+module _ (area : List ℕ) (start len : ℕ) where
+  pub name-out : length area ≤ start → take (length area - length area) (drop (length area) area) ≡ take len (drop start area)
+  name-out h =
+      rw (drop-of-length-le area (le-refl (length area)), drop-of-length-le area h, take-nil {A = ℕ} len) (take-nil {A = ℕ} (length area - length area))
+
+  pub name-cut : length area - start < len → take (length area - start) (drop start area) ≡ take len (drop start area)
+  name-cut h = take-all (length area - start) (drop start area) (omega (arith, length-drop start area)) ∙ sym (take-all len (drop start area) (omega (arith, length-drop start area)))

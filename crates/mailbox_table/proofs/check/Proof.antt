@@ -1,0 +1,47 @@
+-- `mailbox_table::check` meets its contract: with room for 512 rows the index answers check 1. By CheckLaws.
+use mathlib.Core.Path.{sym, ap, subst}
+use Prim.Native.Nat.{ℕ}
+use lib.ListN.{length, length-replicate}
+use Rattle.mailbox_table.specs.declared.Indexing.{Indexing}
+use Rattle.mailbox_table.specs.Index.{Indexes}
+use Rattle.mailbox_table.proofs.CheckLaws.{index-held, index-refused}
+use native.Mathlib.Omega.{arith}
+use borrow.Author.Needs.{needs}
+use Rattle.mailbox_table.proofs.check.Statement.{statement}
+use Rattle.mailbox_table.proofs.check.Tie as tie
+
+no-words-requires : tie.Need-no-words-requires
+no-words-requires c κs = search needs
+
+slice-aggregate-index : tie.Need-slice-aggregate-index
+slice-aggregate-index c = search needs
+
+index-requires : tie.Need-index-requires
+index-requires c κs = search needs
+
+enum-told : tie.Need-enum-told
+enum-told c = search needs
+
+enum-told-2 : tie.Need-enum-told-2
+enum-told-2 c = search needs
+
+returns : tie.Need-returns
+returns c = sym (index-held (subst (λ (r : Indexing). Indexes (c .before .before .before .before .before .before .before .args .table .now) (c .before .before .before .before .before .no-words .result) (c .before .before .before .index .last .1 .0) r) (c .enum-told .given .1) (c .before .before .before .index .ensures)) .table-passes)
+
+returns-2 : tie.Need-returns-2
+returns-2 c =
+    sym
+    (index-refused (omega (arith, ap length (c .before .before .before .before .before .no-words .ensures), length-replicate {A = ℕ} 512 0))
+    (subst (λ (r : Indexing). Indexes (c .before .before .before .before .before .before .before .args .table .now) (c .before .before .before .before .before .no-words .result) (c .before .before .before .index .last .1 .0) r) (c .enum-told2 .given .1) (c .before .before .before .index .ensures)))
+
+pub check-spec : {M : Type 1} → statement M
+check-spec =
+    tie.close
+    (tie.spec
+    no-words-requires
+    slice-aggregate-index
+    index-requires
+    enum-told
+    enum-told-2
+    returns
+    returns-2)

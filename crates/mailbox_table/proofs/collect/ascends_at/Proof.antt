@@ -1,0 +1,33 @@
+-- `mailbox_table::collect::ascends_at` meets its contract: the place behind what is shared decides. By the laws of order in SharedLaws.
+use mathlib.Core.Path.{sym, ap, _∙_}
+use Prim.Native.Nat.{ℕ}
+use lib.Dec.{ltb}
+use lib.ListN.{getD}
+use Rattle.mailbox_table.proofs.SharedLaws.{order-ends, order-begins, order-differs}
+use native.Mathlib.Omega.{arith}
+use borrow.Author.Needs.{needs}
+use Rattle.mailbox_table.proofs.collect.ascends_at.Statement.{statement}
+use Rattle.mailbox_table.proofs.collect.ascends_at.Tie as tie
+
+returns : tie.Need-returns
+returns c = sym (order-ends (c .before .args .a .now) (c .before .args .b .now) (omega (arith, c .before .pre)))
+
+returns-2 : tie.Need-returns-2
+returns-2 c = sym (order-begins (c .before .before .args .a .now) (c .before .before .args .b .now) (omega (arith, c .before .before .pre)) (omega (arith, c .before .before .pre)))
+
+shared-slice-read-result : tie.Need-shared-slice-read-result
+shared-slice-read-result c = search needs
+
+shared-slice-read-result-2 : tie.Need-shared-slice-read-result-2
+shared-slice-read-result-2 c = search needs
+
+returns-3 : tie.Need-returns-3
+returns-3 c =
+    let a = c .before .before .before .before .args .a .now in
+    let b = c .before .before .before .before .args .b .now in
+    ap (λ (s : ℕ). ltb (getD a s 0) (getD b s 0)) (c .before .before .before .before .pre) ∙ sym (order-differs a b (omega (arith, c .before .before .before .before .pre)) (omega (arith, c .before .before .before .before .pre)))
+
+pub ascends-at-spec : {M : Type 1} → statement M
+ascends-at-spec =
+    tie.close
+    (tie.spec returns returns-2 shared-slice-read-result shared-slice-read-result-2 returns-3)

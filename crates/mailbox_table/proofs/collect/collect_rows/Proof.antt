@@ -1,0 +1,109 @@
+-- `mailbox_table::collect::collect_rows` meets its contract. The invariant is the record `Collecting`: rows passed are kept as words, and
+-- the rows that are left decide. By CollectLaws.
+use mathlib.Core.Path.{_≡_, sym, _∙_}
+use Prim.Native.Nat.{ℕ, _-_, _<_}
+use lib.ListN.{length, getD}
+use Rattle.mailbox_table.specs.declared.collect.Step.the-variants.{Next}
+use Rattle.mailbox_table.specs.Collect.{stepAt}
+use Rattle.mailbox_table.proofs.CollectLaws.{Collecting, collecting-none, collecting-full, collecting-bad, collecting-more, collects-fails, collects-rows, step-packs, step-inside, step-start}
+use borrow.Author.Needs.{needs}
+use native.Mathlib.Omega.{arith}
+use Rattle.mailbox_table.proofs.collect.collect_rows.Statement.{statement}
+use Rattle.mailbox_table.proofs.collect.collect_rows.Tie as tie
+
+abbrev Inv-loop : tie.InvT-loop
+Inv-loop table words₀ limit n₀ from₀ at₀ words n from at = Collecting table (length words₀) limit words n from at
+
+abbrev μ-loop : tie.MeasureT-loop
+μ-loop table words₀ limit n₀ from₀ at₀ words n from at = length table - at
+
+lesser-requires : tie.Need-lesser-requires Inv-loop μ-loop
+lesser-requires c κs = search needs
+
+loop-holds : tie.Need-loop-holds Inv-loop μ-loop
+loop-holds c = collecting-none (c .before .before .before .args .table .now) (c .before .before .before .args .words .now) (c .lesser .result)
+
+same-length : tie.Need-same-length Inv-loop μ-loop
+same-length c = c .before .before .loop .inv .size
+
+returns : tie.Need-returns Inv-loop μ-loop
+returns c = collects-fails (c .before .before .before .lesser .result) (c .before .before .before .lesser .ensures) (collecting-full (c .before .before .loop .inv) (c .before .loop-test .taken) (c .if1 .taken)) (c .before .before .loop .inv .size)
+
+next-row-requires : tie.Need-next-row-requires Inv-loop μ-loop
+next-row-requires c κs = record { order = c .before .before .loop .inv .order; inside = c .before .loop-test .taken; bound = c .before .before .before .before .before .before .pre }
+
+enum-known-row : tie.Need-enum-known-row Inv-loop μ-loop
+enum-known-row c = search needs
+
+enum-told : tie.Need-enum-told Inv-loop μ-loop
+enum-told c = search needs
+
+same-length-2 : tie.Need-same-length-2 Inv-loop μ-loop
+same-length-2 c = c .before .before .before .before .before .loop .inv .size
+
+returns-2 : tie.Need-returns-2 Inv-loop μ-loop
+returns-2 c =
+    collects-fails (c .before .before .before .before .before .before .lesser .result) (c .before .before .before .before .before .before .lesser .ensures)
+    (collecting-bad (c .before .before .before .before .before .loop .inv) (c .before .before .before .before .loop-test .taken) (sym (c .before .before .next-row .ensures) ∙ c .enum-told .given .1))
+    (c .before .before .before .before .before .loop .inv .size)
+
+-- where a row is read
+stepped : (c : tie.After-known-told Inv-loop μ-loop) → stepAt (c .before .before .before .before .before .before .before .before .before .before .args .table .now) (c .before .before .before .before .before .before .loop .from) (c .before .before .before .before .before .before .loop .at) ≡ Next (c .before .row .given .0 .0)
+stepped c = sym (c .before .before .before .next-row .ensures) ∙ c .before .row .given .1
+
+byte : (c : tie.After-struct-known Inv-loop μ-loop) (k : ℕ) → getD (c .before .before .before .before .before .before .before .before .before .before .before .before .args .table .now) k 0 < 256
+byte c k = c .before .before .before .before .before .before .before .before .before .before .before .shared-slice-known .given k .fits
+
+word-requires : tie.Need-word-requires Inv-loop μ-loop
+word-requires c κs = step-packs (c .before .before .before .before .before .before .before .before .before .before .args .table .now) (c .before .before .before .before .before .before .loop .from) (c .before .before .before .before .before .before .loop .at) (c .before .row .given .0 .0) (stepped c) (c .before .before .before .before .before .before .before .before .before .before .pre)
+
+mul-words : tie.Need-mul-words Inv-loop μ-loop
+mul-words c = omega (arith, c .before .before .before .before .before .before .before .before .lesser .ensures)
+
+slice-write-words : tie.Need-slice-write-words Inv-loop μ-loop
+slice-write-words c = omega (arith, c .before .before .before .before .before .before .before .loop .inv .size, c .before .before .before .before .before .before .before .before .lesser .ensures)
+
+add-n : tie.Need-add-n Inv-loop μ-loop
+add-n c = search needs
+
+add-at : tie.Need-add-at Inv-loop μ-loop
+add-at c = omega (arith, step-inside (c .before .before .before .before .before .before .before .before .before .before .before .before .args .table .now) (c .before .before .before .before .before .before .before .before .loop .from) (c .before .before .before .before .before .before .before .before .loop .at) (c .before .before .before .row .given .0 .0) (stepped (c .before .before)))
+
+loop-less : tie.Need-loop-less Inv-loop μ-loop
+loop-less c = omega (arith, step-start (c .before .before .before .before .before .before .before .before .before .before .before .before .args .table .now) (c .before .before .before .before .before .before .before .before .loop .from) (c .before .before .before .before .before .before .before .before .loop .at) (c .before .before .before .row .given .0 .0) (stepped (c .before .before)))
+
+loop-again : tie.Need-loop-again Inv-loop μ-loop
+loop-again c =
+    let next = collecting-more (c .before .before .before .before .before .before .before .before .loop .inv) (c .before .before .before .before .before .before .before .loop-test .taken) (c .before .before .before .before .before .before .before .before .before .before .before .before .pre) (λ k. byte c k) (c .before .before .before .before .before .before .if1 .left) (omega (arith, c .before .before .before .before .before .before .before .before .before .lesser .ensures)) (c .before .before .before .row .given .0 .0) (stepped (c .before .before)) in
+    rw (c .before .word .ensures) next
+
+same-length-3 : tie.Need-same-length-3 Inv-loop μ-loop
+same-length-3 c = c .before .loop .inv .size
+
+returns-3 : tie.Need-returns-3 Inv-loop μ-loop
+returns-3 c = collects-rows (c .before .before .lesser .result) (c .before .before .lesser .ensures) (c .before .loop .inv) (c .loop-test .left)
+
+pub collect-rows-spec : {M : Type 1} → statement M
+collect-rows-spec =
+    tie.close
+    (tie.spec
+    Inv-loop
+    μ-loop
+    lesser-requires
+    loop-holds
+    same-length
+    returns
+    next-row-requires
+    enum-known-row
+    enum-told
+    same-length-2
+    returns-2
+    word-requires
+    mul-words
+    slice-write-words
+    add-n
+    add-at
+    loop-less
+    loop-again
+    same-length-3
+    returns-3)

@@ -1,0 +1,69 @@
+-- `mailbox_table::collect::common` meets its contract: i bytes are alike, and what the rests share is added. By SharedLaws.
+use mathlib.Core.Path.{_≡_, sym, _∙_}
+use Prim.Native.Nat.{_+_, _-_, _≤_}
+use native.Mathlib.Nat.{zero-add}
+use lib.ListN.{drop}
+use Rattle.mailbox_table.specs.Shared.{sharedLen}
+use Rattle.mailbox_table.proofs.SharedLaws.{shared-more, shared-stop, shared-out, least}
+use borrow.Author.Needs.{needs}
+use native.Mathlib.Omega.{arith}
+use Rattle.mailbox_table.proofs.collect.common.Statement.{statement}
+use Rattle.mailbox_table.proofs.collect.common.Tie as tie
+
+abbrev Inv-loop : tie.InvT-loop
+Inv-loop a b n i₀ i = (i ≤ n) × (i + sharedLen (drop i a) (drop i b) ≡ sharedLen a b)
+
+abbrev μ-loop : tie.MeasureT-loop
+μ-loop a b n i₀ i = n - i
+
+lesser-requires : tie.Need-lesser-requires Inv-loop μ-loop
+lesser-requires c κs = search needs
+
+loop-holds : tie.Need-loop-holds Inv-loop μ-loop
+loop-holds c = (omega arith, zero-add _)
+
+shared-slice-read-if1 : tie.Need-shared-slice-read-if1 Inv-loop μ-loop
+shared-slice-read-if1 c = search needs
+
+shared-slice-read-if1-2 : tie.Need-shared-slice-read-if1-2 Inv-loop μ-loop
+shared-slice-read-if1-2 c = search needs
+
+returns : tie.Need-returns Inv-loop μ-loop
+returns c =
+    let a = c .before .before .before .before .before .before .before .before .args .a .now in
+    let b = c .before .before .before .before .before .before .before .before .args .b .now in
+    sym (shared-stop a b (c .before .before .before .before .loop .i) (omega (arith, c .before .before .before .before .before .lesser .ensures)) (omega (arith, c .before .before .before .before .before .lesser .ensures)) (c .if1 .taken)) ∙ c .before .before .before .before .loop .inv .1
+
+add-i : tie.Need-add-i Inv-loop μ-loop
+add-i c = search needs
+
+loop-less : tie.Need-loop-less Inv-loop μ-loop
+loop-less c = search needs
+
+loop-again : tie.Need-loop-again Inv-loop μ-loop
+loop-again c =
+    let a = c .before .before .before .before .before .before .before .before .args .a .now in
+    let b = c .before .before .before .before .before .before .before .before .args .b .now in
+    (omega arith, sym (shared-more a b (c .before .before .before .before .loop .i) (omega (arith, c .before .before .before .before .before .lesser .ensures)) (omega (arith, c .before .before .before .before .before .lesser .ensures)) (c .if1 .left)) ∙ c .before .before .before .before .loop .inv .1)
+
+returns-2 : tie.Need-returns-2 Inv-loop μ-loop
+returns-2 c =
+    let a = c .before .before .before .before .before .args .a .now in
+    let b = c .before .before .before .before .before .args .b .now in
+    sym (shared-out a b (c .before .loop .i) (least a b (c .before .loop .i) (omega (arith, c .before .before .lesser .ensures)))) ∙ c .before .loop .inv .1
+
+pub common-spec : {M : Type 1} → statement M
+common-spec =
+    tie.close
+    (tie.spec
+    Inv-loop
+    μ-loop
+    lesser-requires
+    loop-holds
+    shared-slice-read-if1
+    shared-slice-read-if1-2
+    returns
+    add-i
+    loop-less
+    loop-again
+    returns-2)

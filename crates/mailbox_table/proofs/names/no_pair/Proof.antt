@@ -1,0 +1,61 @@
+-- `mailbox_table::names::no_pair` meets its contract: what is kept and the pairs from i - 1 on decide. By the laws of pairs in NameShape.
+use mathlib.Core.Path.{_≡_, refl, sym, _∙_}
+use mathlib.Core.Bool.{_&&_}
+use Prim.Native.Nat.{_-_, _≤_}
+use lib.ListN.{length, drop}
+use Rattle.mailbox_table.specs.Slashes.{noPair}
+use Rattle.mailbox_table.proofs.Bools.{and-true}
+use Rattle.mailbox_table.proofs.NameShape.{pair-more, pair-end}
+use borrow.Author.Needs.{needs}
+use native.Mathlib.Omega.{arith}
+use Rattle.mailbox_table.proofs.names.no_pair.Statement.{statement}
+use Rattle.mailbox_table.proofs.names.no_pair.Tie as tie
+
+abbrev Inv-loop : tie.InvT-loop
+Inv-loop name ok₀ i₀ ok i = (1 ≤ i) × ((ok && noPair (drop (i - 1) name)) ≡ noPair name)
+
+abbrev μ-loop : tie.MeasureT-loop
+μ-loop name ok₀ i₀ ok i = length name - i
+
+loop-holds : tie.Need-loop-holds Inv-loop μ-loop
+loop-holds c = (omega arith, refl)
+
+sub-ok : tie.Need-sub-ok Inv-loop μ-loop
+sub-ok c = search needs
+
+shared-slice-read-ok : tie.Need-shared-slice-read-ok Inv-loop μ-loop
+shared-slice-read-ok c = search needs
+
+shared-slice-read-ok-2 : tie.Need-shared-slice-read-ok-2 Inv-loop μ-loop
+shared-slice-read-ok-2 c = search needs
+
+add-i : tie.Need-add-i Inv-loop μ-loop
+add-i c = search needs
+
+loop-less : tie.Need-loop-less Inv-loop μ-loop
+loop-less c = search needs
+
+loop-again : tie.Need-loop-again Inv-loop μ-loop
+loop-again c =
+    let s = c .before .before .before .before .args .name .now in
+    (omega arith, pair-more s (c .before .before .before .loop .ok) (c .before .before .before .loop .i) (c .before .before .before .loop .inv .0) (c .before .before .loop-test .taken) ∙ c .before .before .before .loop .inv .1)
+
+returns : tie.Need-returns Inv-loop μ-loop
+returns c =
+    let s = c .before .before .args .name .now in
+    sym (and-true (c .before .loop .ok)) ∙ rw (pair-end s (c .before .loop .i) (c .before .loop .inv .0) (c .loop-test .left)) at (c .before .loop .inv .1)
+
+pub no-pair-spec : {M : Type 1} → statement M
+no-pair-spec =
+    tie.close
+    (tie.spec
+    Inv-loop
+    μ-loop
+    loop-holds
+    sub-ok
+    shared-slice-read-ok
+    shared-slice-read-ok-2
+    add-i
+    loop-less
+    loop-again
+    returns)

@@ -1,0 +1,59 @@
+-- `mailbox_table::names::slashes` meets its contract: those counted and those from i on are all. By the laws of slashes in NameShape.
+use mathlib.Core.Path.{_≡_}
+use Prim.Native.Nat.{_+_, _-_, _≤_}
+use lib.Dec.{eqb}
+use lib.ListN.{length, drop, getD}
+use Rattle.mailbox_table.specs.Slashes.{slashCount}
+use Rattle.mailbox_table.proofs.NameShape.{digit-small, slash-more, slash-end}
+use borrow.Author.Needs.{needs}
+use native.Mathlib.Omega.{arith}
+use Rattle.mailbox_table.proofs.names.slashes.Statement.{statement}
+use Rattle.mailbox_table.proofs.names.slashes.Tie as tie
+
+abbrev Inv-loop : tie.InvT-loop
+Inv-loop name n₀ i₀ n i = (n ≤ i) × (n + slashCount (drop i name) ≡ slashCount name)
+
+abbrev μ-loop : tie.MeasureT-loop
+μ-loop name n₀ i₀ n i = length name - i
+
+loop-holds : tie.Need-loop-holds Inv-loop μ-loop
+loop-holds c = omega arith
+
+shared-slice-read-n : tie.Need-shared-slice-read-n Inv-loop μ-loop
+shared-slice-read-n c = search needs
+
+cast-n : tie.Need-cast-n Inv-loop μ-loop
+cast-n c = search needs
+
+add-n : tie.Need-add-n Inv-loop μ-loop
+add-n c = omega (arith, digit-small (eqb (getD (c .before .before .before .args .name .now) (c .before .before .loop .i) 0) 47))
+
+add-i : tie.Need-add-i Inv-loop μ-loop
+add-i c = search needs
+
+loop-less : tie.Need-loop-less Inv-loop μ-loop
+loop-less c = search needs
+
+loop-again : tie.Need-loop-again Inv-loop μ-loop
+loop-again c =
+    let s = c .before .before .before .args .name .now in
+    let i = c .before .before .loop .i in
+    omega (arith, digit-small (eqb (getD s i 0) 47), slash-more s i (c .before .loop-test .taken))
+
+returns : tie.Need-returns Inv-loop μ-loop
+returns c = omega (arith, slash-end (c .before .before .args .name .now) (c .before .loop .i) (c .loop-test .left))
+
+pub slashes-spec : {M : Type 1} → statement M
+slashes-spec =
+    tie.close
+    (tie.spec
+    Inv-loop
+    μ-loop
+    loop-holds
+    shared-slice-read-n
+    cast-n
+    add-n
+    add-i
+    loop-less
+    loop-again
+    returns)

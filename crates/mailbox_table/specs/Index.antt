@@ -1,0 +1,59 @@
+-- The index of a table's rows: a word for each, over the area where the names lie.
+use mathlib.Core.Path.{_≡_}
+use mathlib.Core.Bool.{true, cond, _&&_}
+use mathlib.Core.List.{List, map}
+use Prim.Native.Nat.{ℕ, _+_, _<_, _≤_}
+use lib.Dec.{leb}
+use lib.ListN.{length, take, drop, getD}
+use Rattle.listing_rules.specs.Orders.{ascends}
+use Rattle.listing_rules.specs.Table as Table
+use Rattle.listing_rules.specs.Table.{rows, names, passes}
+use Rattle.mailbox_table.specs.declared.Indexing.{Indexing}
+use Rattle.mailbox_table.specs.declared.Indexing.the-variants.{Rows, Fails}
+use Rattle.mailbox_table.specs.declared.rows.Row.{Row}
+use Rattle.mailbox_table.specs.Words.{rowOfWord}
+use Rattle.mailbox_table.specs.Shared.{sharedLen}
+
+-- the name of a word, in the area
+unfoldable pub nameAt : List ℕ → ℕ → List ℕ
+nameAt area w = take (rowOfWord w .len) (drop (rowOfWord w .start) area)
+
+-- row k of the words, and its name
+abbrev pub nthRow : List ℕ → ℕ → Row
+nthRow words k = rowOfWord (getD words k 0)
+
+abbrev pub nthName : List ℕ → List ℕ → ℕ → List ℕ
+nthName area words k = nameAt area (getD words k 0)
+
+-- the row of a word, and the rows of the words, as document 01 has them
+abbrev pub rowAtWord : List ℕ → ℕ → Table.Row
+rowAtWord area w = record { flags = rowOfWord w .flags .bits; name = nameAt area w }
+
+abbrev pub rowsAt : List ℕ → List ℕ → List Table.Row
+rowsAt area words = map (rowAtWord area) words
+
+-- The words are an index over the area.
+pub record Indexed (area words : List ℕ) : Type 0 where
+  -- names ascend by bytes
+  pub ascend : ascends (names (rowsAt area words)) ≡ true
+  -- the first shares nothing, and each other what it shares with the name before
+  pub first : nthRow words 0 .shared ≡ 0
+  pub shares : (k : ℕ) → k + 1 < length words → nthRow words (k + 1) .shared ≡ sharedLen (nthName area words k) (nthName area words (k + 1))
+  -- no name is empty, and each lies in the area
+  pub full : (k : ℕ) → k < length words → 0 < nthRow words k .len
+  pub inside : (k : ℕ) → k < length words → nthRow words k .start + nthRow words k .len ≤ length area
+
+-- The number of rows, exactly if the table passes and there is room for a word for each: with room for 512, if it passes.
+unfoldable pub indexingOf : List ℕ → ℕ → Indexing
+indexingOf t room = cond (passes t && leb (length (rows t)) room) (Rows (length (rows t))) Fails
+
+-- where rows are found, the words at the front are their index
+abbrev pub Found : List ℕ → List ℕ → Indexing → Type 0
+Found t words Fails = Unit {0}
+Found t words (Rows n) = (n ≡ length (rows t)) × (rowsAt t (take n words) ≡ rows t) × Indexed t (take n words)
+
+-- What `index` promises of a table, of the lent words before and behind it, and of its answer.
+pub record Indexes (t before behind : List ℕ) (r : Indexing) : Type 0 where
+  pub answer : r ≡ indexingOf t (length before)
+  pub room : length behind ≡ length before
+  pub found : Found t behind r

@@ -1,0 +1,7 @@
+-- What the code of the mailbox table means in terms of document 01's definitions. Slashes and Collect serve this crate alone.
+pub mod Words
+pub mod Shared
+pub mod Index
+pub mod Below
+pub mod Slashes
+pub mod Collect

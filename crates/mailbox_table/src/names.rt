@@ -1,0 +1,113 @@
+// The shape of a mailbox name.
+//
+// Each condition is a loop over the whole name that keeps a bool or a count and never leaves early, so that it runs on many
+// bytes at a time.
+use octets::SLASH;
+ghost use mathlib.Core.Path.{_≡_};
+ghost use Prim.Native.Nat.{_≤_};
+ghost use lib.ListN.{length};
+ghost use Rattle.listing_rules.specs.Bytes.{all};
+ghost use Rattle.listing_rules.specs.Names.{lawfulName, nameByte, levels, inboxSpelled};
+ghost use Rattle.mailbox_table.specs.Slashes.{slashCount, noPair};
+
+pub const MAX_NAME: usize = 200;
+
+pub const MAX_LEVELS: u8 = 16;
+
+// Whether the bytes are a lawful mailbox name: 1 to 200 of them, the right bytes, 1 to 16 levels, none empty, and a first level
+// INBOX in no other spelling.
+pub fn lawful_name(name: &[u8]) -> bool
+    ensures { λ r. ⌜ r ≡ lawfulName (now (name .entry)) ⌝ }
+{
+    let n = name.len();
+    if n == 0 {
+        return false;
+    }
+    if MAX_NAME < n {
+        return false;
+    }
+    if !name_bytes(name) {
+        return false;
+    }
+    if MAX_LEVELS <= slashes(name) {
+        return false;
+    }
+    if name[0] == SLASH {
+        return false;
+    }
+    if name[n - 1] == SLASH {
+        return false;
+    }
+    if !no_pair(name) {
+        return false;
+    }
+    inbox_spelled(name)
+}
+
+// Whether it is a byte of names.
+fn name_byte(b: u8) -> bool
+    ensures { λ r. ⌜ r ≡ nameByte b ⌝ }
+{
+    (b' ' <= b) & (b <= b'~') & (b != b'%') & (b != b'*')
+}
+
+// Whether all bytes are bytes of names.
+fn name_bytes(name: &[u8]) -> bool
+    ensures { λ r. ⌜ r ≡ all nameByte (now (name .entry)) ⌝ }
+{
+    let mut ok = true;
+    let mut i = 0;
+    while i < name.len() {
+        ok = ok & name_byte(name[i]);
+        i += 1;
+    }
+    ok
+}
+
+// How many slashes there are.
+fn slashes(name: &[u8]) -> u8
+    requires { ⌜ length (now name) ≤ 200 ⌝ }
+    ensures { λ r. ⌜ r ≡ slashCount (now (name .entry)) ⌝ }
+{
+    let mut n: u8 = 0;
+    let mut i = 0;
+    while i < name.len() {
+        n += (name[i] == SLASH) as u8;
+        i += 1;
+    }
+    n
+}
+
+// Whether no slash stands behind another.
+fn no_pair(name: &[u8]) -> bool
+    ensures { λ r. ⌜ r ≡ noPair (now (name .entry)) ⌝ }
+{
+    let mut ok = true;
+    let mut i = 1;
+    while i < name.len() {
+        ok = ok & !((name[i - 1] == SLASH) & (name[i] == SLASH));
+        i += 1;
+    }
+    ok
+}
+
+// Whether a first level INBOX, in any case of letters, is spelled INBOX. Another spelling is lawful only where the level goes
+// on behind it.
+fn inbox_spelled(name: &[u8]) -> bool
+    ensures { λ r. ⌜ r ≡ inboxSpelled (levels (now (name .entry))) ⌝ }
+{
+    if name.len() < 5 {
+        return true;
+    }
+    let first = &name[..5];
+    if !octets::spells_word(first, b"INBOX") {
+        return true;
+    }
+    if octets::same_bytes(first, b"INBOX") {
+        return true;
+    }
+    if name.len() == 5 {
+        return false;
+    }
+    name[5] != SLASH
+}

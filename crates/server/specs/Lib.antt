@@ -1,0 +1,2 @@
+-- What the code of the server means beside document 01's definitions.
+pub mod Spans

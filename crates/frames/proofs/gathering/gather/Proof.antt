@@ -1,0 +1,37 @@
+-- `frames::gathering::gather` meets its contract: there is room exactly if no test refused it. Rests on GatherLaws.
+use lib.ListN.{length}
+use borrow.Author.Tests.{lt-ltb, le-ltb}
+use Rattle.frames.specs.Gathering.{hasRoom, gatheredIs, gatheredLine}
+use Rattle.frames.proofs.GatherLaws.{gathers}
+use borrow.Author.Needs.{needs}
+use Rattle.frames.proofs.gathering.gather.Statement.{statement}
+use Rattle.frames.proofs.gathering.gather.Tie as tie
+
+returns : tie.Need-returns
+unfolding gatheredIs gatheredLine hasRoom
+returns c = gathers _ _ _ _ _ (rw (c .if1 .taken)) (rw (c .if1 .taken))
+
+slice-write-line : tie.Need-slice-write-line
+slice-write-line c = search needs
+
+add-t9 : tie.Need-add-t9
+add-t9 c = search needs
+
+same-length : tie.Need-same-length
+same-length c = search needs
+
+returns-2 : tie.Need-returns-2
+unfolding gatheredIs gatheredLine hasRoom
+returns-2 c = let n = c .before .before .before .args .g .len in let d = c .before .before .before .args .line .now in gathers _ _ _ _ _ (rw (c .before .before .if1 .left, lt-ltb n 4100 (c .before .if2 .taken), lt-ltb n (length d) (c .if3 .taken))) (rw (c .before .before .if1 .left, lt-ltb n 4100 (c .before .if2 .taken), lt-ltb n (length d) (c .if3 .taken)))
+
+returns-3 : tie.Need-returns-3
+unfolding gatheredIs gatheredLine hasRoom
+returns-3 c = let n = c .before .before .before .args .g .len in let d = c .before .before .before .args .line .now in gathers _ _ _ _ _ (rw (c .before .before .if1 .left, lt-ltb n 4100 (c .before .if2 .taken), le-ltb n (length d) (c .if3 .left))) (rw (c .before .before .if1 .left, lt-ltb n 4100 (c .before .if2 .taken), le-ltb n (length d) (c .if3 .left)))
+
+returns-4 : tie.Need-returns-4
+unfolding gatheredIs gatheredLine hasRoom
+returns-4 c = let n = c .before .before .args .g .len in gathers _ _ _ _ _ (rw (c .before .if1 .left, le-ltb n 4100 (c .if2 .left))) (rw (c .before .if1 .left, le-ltb n 4100 (c .if2 .left)))
+
+pub gather-spec : {M : Type 1} → statement M
+gather-spec =
+    tie.close (tie.spec returns slice-write-line add-t9 same-length returns-2 returns-3 returns-4)

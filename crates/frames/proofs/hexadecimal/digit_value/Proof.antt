@@ -1,0 +1,26 @@
+-- `frames::hexadecimal::digit_value` meets its contract. Rests on DigitLaws.
+use mathlib.Core.Path.{sym, _∙_}
+use Rattle.frames.proofs.DigitLaws.{value-small, value-known, value-none}
+use native.Mathlib.Omega.{arith}
+use borrow.Author.Needs.{needs}
+use Rattle.frames.proofs.hexadecimal.digit_value.Statement.{statement}
+use Rattle.frames.proofs.hexadecimal.digit_value.Tie as tie
+
+read-digit-requires : tie.Need-read-digit-requires
+read-digit-requires c κs = search needs
+
+enum-known-v : tie.Need-enum-known-v
+enum-known-v c = search needs
+
+enum-told : tie.Need-enum-told
+enum-told c = search needs
+
+returns : tie.Need-returns
+returns c = let e = value-known (c .before .before .before .before .args .c) (c .before .v .given .0 .0) (sym (c .before .before .before .read-digit .ensures) ∙ c .before .v .given .1) in (sym e, omega (arith, e, value-small (c .before .before .before .before .args .c)))
+
+returns-2 : tie.Need-returns-2
+returns-2 c = (sym (value-none (c .before .before .before .args .c) (sym (c .before .before .read-digit .ensures) ∙ c .enum-told .given .1)), omega arith)
+
+pub digit-value-spec : {M : Type 1} → statement M
+digit-value-spec =
+    tie.close (tie.spec read-digit-requires enum-known-v enum-told returns returns-2)

@@ -1,0 +1,69 @@
+-- `frames::hexadecimal::is_hex` meets its contract. The loop's invariant: the characters from i on are digits exactly if the
+-- characters have bytes. Rests on DigitLaws.
+use mathlib.Core.Path.{_≡_, sym, _∙_}
+use Prim.Native.Nat.{_-_}
+use lib.ListN.{length, drop}
+use Rattle.listing_rules.specs.Bytes.{all}
+use Rattle.listing_rules.specs.Frames.{bytesOf}
+use Rattle.frames.specs.Hexadecimal.{isSome}
+use Rattle.frames.proofs.DigitLaws.{isDigit, hex-odd, hex-even, digits-more, digits-stop, digits-end}
+use borrow.Author.Needs.{needs}
+use Rattle.frames.proofs.hexadecimal.is_hex.Statement.{statement}
+use Rattle.frames.proofs.hexadecimal.is_hex.Tie as tie
+
+abbrev Inv-loop : tie.InvT-loop
+Inv-loop line i₀ i = all isDigit (drop i line) ≡ isSome (bytesOf line)
+
+abbrev μ-loop : tie.MeasureT-loop
+μ-loop line i₀ i = length line - i
+
+returns : tie.Need-returns Inv-loop μ-loop
+returns c = sym (hex-odd _ (c .if1 .taken))
+
+loop-holds : tie.Need-loop-holds Inv-loop μ-loop
+loop-holds c = hex-even _ (c .if1 .left)
+
+shared-slice-read-read-digit : tie.Need-shared-slice-read-read-digit Inv-loop μ-loop
+shared-slice-read-read-digit c = search needs
+
+read-digit-requires : tie.Need-read-digit-requires Inv-loop μ-loop
+read-digit-requires c κs = search needs
+
+enum-told : tie.Need-enum-told Inv-loop μ-loop
+enum-told c = search needs
+
+enum-told-2 : tie.Need-enum-told-2 Inv-loop μ-loop
+enum-told-2 c = search needs
+
+returns-2 : tie.Need-returns-2 Inv-loop μ-loop
+returns-2 c = sym (digits-stop _ _ (c .before .before .before .before .loop-test .taken) (sym (c .before .before .read-digit .ensures) ∙ c .enum-told2 .given .1)) ∙ c .before .before .before .before .before .loop .inv
+
+add-i : tie.Need-add-i Inv-loop μ-loop
+add-i c = search needs
+
+loop-less : tie.Need-loop-less Inv-loop μ-loop
+loop-less c = search needs
+
+loop-again : tie.Need-loop-again Inv-loop μ-loop
+loop-again c = sym (digits-more _ _ _ (c .before .before .before .before .loop-test .taken) (sym (c .before .before .read-digit .ensures) ∙ c .enum-told .given .1)) ∙ c .before .before .before .before .before .loop .inv
+
+returns-3 : tie.Need-returns-3 Inv-loop μ-loop
+returns-3 c = sym (digits-end _ _ (c .loop-test .left)) ∙ c .before .loop .inv
+
+pub is-hex-spec : {M : Type 1} → statement M
+is-hex-spec =
+    tie.close
+    (tie.spec
+    Inv-loop
+    μ-loop
+    returns
+    loop-holds
+    shared-slice-read-read-digit
+    read-digit-requires
+    enum-told
+    enum-told-2
+    returns-2
+    add-i
+    loop-less
+    loop-again
+    returns-3)

@@ -1,0 +1,78 @@
+-- `frames::hexadecimal::put_decoded` meets its contract. The loop's invariant: all but the pairs from i on is written. Rests on
+-- DigitLaws and Pieces.
+use mathlib.Core.Path.{sym}
+use Prim.Native.Nat.{_≤_, _+_, _-_}
+use mathlib.Core.List.{[], _∷_}
+use lib.ListN.{length, drop, getD}
+use Rattle.octets.proofs.Puts.{put-length}
+use Rattle.frames.specs.Hexadecimal.{pairOf, decoded}
+use Rattle.frames.proofs.DigitLaws.{decoded-at, decoded-end}
+use Rattle.frames.proofs.Pieces.{Pieces, pieces-none, pieces-more, pieces-all}
+use borrow.Author.Needs.{needs}
+use native.Mathlib.Omega.{arith}
+use Rattle.frames.proofs.hexadecimal.put_decoded.Statement.{statement}
+use Rattle.frames.proofs.hexadecimal.put_decoded.Tie as tie
+
+abbrev Inv-loop : tie.InvT-loop
+Inv-loop buf₀ at line to₀ i₀ buf to i = (i ≤ length line) × Pieces buf₀ buf at to (decoded (drop i line)) (decoded line)
+
+abbrev μ-loop : tie.MeasureT-loop
+μ-loop buf₀ at line to₀ i₀ buf to i = length line - i
+
+loop-holds : tie.Need-loop-holds Inv-loop μ-loop
+loop-holds c = (omega arith, pieces-none _ _ _ (search needs) (search needs))
+
+add-loop : tie.Need-add-loop Inv-loop μ-loop
+add-loop c = search needs
+
+shared-slice-read-pair-value : tie.Need-shared-slice-read-pair-value Inv-loop μ-loop
+shared-slice-read-pair-value c = search needs
+
+add-pair-value : tie.Need-add-pair-value Inv-loop μ-loop
+add-pair-value c = search needs
+
+shared-slice-read-pair-value-2 : tie.Need-shared-slice-read-pair-value-2 Inv-loop μ-loop
+shared-slice-read-pair-value-2 c = search needs
+
+pair-value-requires : tie.Need-pair-value-requires Inv-loop μ-loop
+pair-value-requires c κs = search needs
+
+put-requires : tie.Need-put-requires Inv-loop μ-loop
+put-requires c κs = search needs
+
+add-i : tie.Need-add-i Inv-loop μ-loop
+add-i c = search needs
+
+loop-less : tie.Need-loop-less Inv-loop μ-loop
+loop-less c = search needs
+
+loop-again : tie.Need-loop-again Inv-loop μ-loop
+loop-again c =
+    let s = c .before .before .before .before .before .before .before .before .before .before .before .args .line .now in
+    let i = c .before .before .before .before .before .before .before .before .loop .i in
+    (omega arith, pieces-more (pairOf (getD s i 0) (getD s (i + 1) 0) ∷ []) (decoded (drop (i + 2) s)) (c .before .before .before .before .before .before .before .before .loop .inv .1) (decoded-at s i (c .before .before .before .before .before .before .before .loop-test .taken)) (rw (sym (c .before .before .before .pair-value .ensures)) (c .before .before .put .ensures)))
+
+same-length : tie.Need-same-length Inv-loop μ-loop
+same-length c = put-length (c .before .loop .inv .1 .put)
+
+returns : tie.Need-returns Inv-loop μ-loop
+returns c = pieces-all (c .before .loop .inv .1) (decoded-end (c .before .before .before .before .args .line .now) (c .before .loop .i) (c .loop-test .left))
+
+pub put-decoded-spec : {M : Type 1} → statement M
+put-decoded-spec =
+    tie.close
+    (tie.spec
+    Inv-loop
+    μ-loop
+    loop-holds
+    add-loop
+    shared-slice-read-pair-value
+    add-pair-value
+    shared-slice-read-pair-value-2
+    pair-value-requires
+    put-requires
+    add-i
+    loop-less
+    loop-again
+    same-length
+    returns)

@@ -1,0 +1,61 @@
+-- `frames::hexadecimal::put_hex` meets its contract. The loop's invariant: all but the digits of the bytes from i on is written.
+-- Rests on DigitLaws and Pieces.
+use Prim.Native.Nat.{_≤_, _+_, _-_}
+use mathlib.Core.List.{[], _∷_}
+use lib.ListN.{length, drop, getD}
+use Rattle.octets.proofs.Puts.{put-length}
+use Rattle.listing_rules.specs.Frames.{hex}
+use Rattle.frames.proofs.DigitLaws.{hex-at, hex-end}
+use Rattle.frames.proofs.Pieces.{Pieces, pieces-none, pieces-more, pieces-all}
+use borrow.Author.Needs.{needs}
+use native.Mathlib.Omega.{arith}
+use Rattle.frames.proofs.hexadecimal.put_hex.Statement.{statement}
+use Rattle.frames.proofs.hexadecimal.put_hex.Tie as tie
+
+abbrev Inv-loop : tie.InvT-loop
+Inv-loop buf₀ at bytes to₀ i₀ buf to i = (i ≤ length bytes) × Pieces buf₀ buf at to (hex (drop i bytes)) (hex bytes)
+
+abbrev μ-loop : tie.MeasureT-loop
+μ-loop buf₀ at bytes to₀ i₀ buf to i = length bytes - i
+
+loop-holds : tie.Need-loop-holds Inv-loop μ-loop
+loop-holds c = (omega arith, pieces-none _ _ _ (search needs) (search needs))
+
+shared-slice-read-put-pair : tie.Need-shared-slice-read-put-pair Inv-loop μ-loop
+shared-slice-read-put-pair c = search needs
+
+put-pair-requires : tie.Need-put-pair-requires Inv-loop μ-loop
+put-pair-requires c κs = search needs
+
+add-i : tie.Need-add-i Inv-loop μ-loop
+add-i c = search needs
+
+loop-less : tie.Need-loop-less Inv-loop μ-loop
+loop-less c = search needs
+
+loop-again : tie.Need-loop-again Inv-loop μ-loop
+loop-again c =
+    let s = c .before .before .before .before .before .before .before .before .before .args .bytes .now in
+    let i = c .before .before .before .before .before .before .loop .i in
+    (omega arith, pieces-more (hex (getD s i 0 ∷ [])) (hex (drop (i + 1) s)) (c .before .before .before .before .before .before .loop .inv .1) (hex-at s i (c .before .before .before .before .before .loop-test .taken)) (c .before .before .put-pair .ensures))
+
+same-length : tie.Need-same-length Inv-loop μ-loop
+same-length c = put-length (c .before .loop .inv .1 .put)
+
+returns : tie.Need-returns Inv-loop μ-loop
+returns c = pieces-all (c .before .loop .inv .1) (hex-end (c .before .before .before .before .args .bytes .now) (c .before .loop .i) (c .loop-test .left))
+
+pub put-hex-spec : {M : Type 1} → statement M
+put-hex-spec =
+    tie.close
+    (tie.spec
+    Inv-loop
+    μ-loop
+    loop-holds
+    shared-slice-read-put-pair
+    put-pair-requires
+    add-i
+    loop-less
+    loop-again
+    same-length
+    returns)

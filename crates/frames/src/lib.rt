@@ -1,0 +1,27 @@
+// The frames of the program as runs of hexadecimal digits, apart from what a frame means: the characters of a frame gathered
+// from the input, a frame read, the bytes of a frame stored, and the lines of answers written.
+//
+// No public function asks anything of its caller, and a refusal changes no byte of the lent memory.
+
+mod answers;
+mod gathering;
+mod hexadecimal;
+mod kinds;
+mod reading;
+mod storing;
+
+pub use answers::put_line;
+pub use answers::put_refusal;
+pub use answers::put_walk;
+pub use gathering::Gathered;
+pub use gathering::gather;
+pub use gathering::read_gathered;
+pub use hexadecimal::Digit;
+pub use hexadecimal::put_hex;
+pub use hexadecimal::read_digit;
+pub use kinds::ANSWER;
+pub use reading::Frame;
+pub use reading::MAX_DIGITS;
+pub use reading::read_frame;
+pub use storing::Stored;
+pub use storing::store;

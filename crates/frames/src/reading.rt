@@ -1,0 +1,70 @@
+// One frame read from its characters.
+
+ghost use mathlib.Core.Path.{_≡_};
+ghost use Rattle.frames.specs.Reading.{kindIs, FrameRead};
+use crate::hexadecimal::is_hex;
+use crate::hexadecimal::pair_value;
+use crate::hexadecimal::put_decoded;
+use crate::kinds::COMMAND;
+use crate::kinds::NAMESPACES;
+use crate::kinds::TABLE;
+use crate::kinds::WALK;
+
+// "at most 4,100 digits".
+pub const MAX_DIGITS: usize = 4100;
+
+// What a frame says. The bytes behind its first byte lie at the front of the lent bytes: here is how many, or the one option
+// byte of a walk.
+pub enum Frame {
+    Table(usize),
+    Namespaces(usize),
+    Command(usize),
+    Walk(u8),
+    Bad,
+}
+
+// The frame of a first byte with n bytes behind it, of which `option` is the first.
+fn kind_of(kind: u8, n: usize, option: u8) -> Frame
+    ensures { λ r. ⌜ r ≡ kindIs kind n option ⌝ }
+{
+    match kind {
+        TABLE => Frame::Table(n),
+        NAMESPACES => Frame::Namespaces(n),
+        COMMAND => Frame::Command(n),
+        WALK => {
+            if n == 1 {
+                Frame::Walk(option)
+            } else {
+                Frame::Bad
+            }
+        },
+        _ => Frame::Bad,
+    }
+}
+
+// The frame of the characters before a line feed. A frame whose bytes do not fit the lent bytes is bad as well; 2,050 are
+// enough for any frame. A bad frame changes no byte, any other only the bytes that it holds.
+pub fn read_frame(line: &[u8], bytes: &mut [u8]) -> Frame
+    ensures { λ r. ⌜ FrameRead (now (line .entry)) (now (bytes .entry)) (now (bytes .exit)) r ⌝ }
+{
+    if MAX_DIGITS < line.len() {
+        return Frame::Bad;
+    }
+    if line.len() < 2 {
+        return Frame::Bad;
+    }
+    if !is_hex(line) {
+        return Frame::Bad;
+    }
+    let n = line.len() / 2 - 1;
+    if bytes.len() < n {
+        return Frame::Bad;
+    }
+    let option = pair_value(octets::byte_at(line, 2), octets::byte_at(line, 3));
+    let frame = kind_of(pair_value(line[0], line[1]), n, option);
+    if let Frame::Bad = frame {
+        return Frame::Bad;
+    }
+    put_decoded(bytes, 0, &line[2..]);
+    frame
+}

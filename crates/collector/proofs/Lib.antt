@@ -1,0 +1,11 @@
+-- Laws of the collector, one file a topic; each file rests on files before it.
+mod FindLaws
+mod LineLaws
+mod PackLaws
+mod TakeLaws
+mod AnswerLaws
+mod AskLaws
+mod GrowLaws
+mod QueueLaws
+mod WalkLaws
+pub mod WholeLaws

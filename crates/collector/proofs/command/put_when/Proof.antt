@@ -1,0 +1,24 @@
+-- `put_when` meets its contract: the text or nothing.
+use native.Mathlib.Omega.{arith}
+use borrow.Author.Needs.{needs}
+use Rattle.listing_rules.specs.Walk.{when}
+use Rattle.octets.proofs.Puts.{put-none}
+use Rattle.collector.proofs.command.put_when.Statement.{statement}
+use Rattle.collector.proofs.command.put_when.Tie as tie
+
+put-all-requires : tie.Need-put-all-requires
+put-all-requires c κs = search needs
+
+same-length : tie.Need-same-length
+same-length c = search needs
+
+returns : tie.Need-returns
+unfolding when
+returns c = rw (c .before .before .before .before .if1 .taken) (c .before .before .put-all .ensures)
+
+returns-2 : tie.Need-returns-2
+unfolding when
+returns-2 c = rw (c .if1 .left) (put-none (c .before .before .before .args .buf .now) (c .before .before .before .args .at) (omega arith) (omega arith))
+
+pub put-when-spec : {M : Type 1} → statement M
+put-when-spec = tie.close (tie.spec put-all-requires same-length returns returns-2)

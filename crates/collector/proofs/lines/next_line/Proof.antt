@@ -1,0 +1,55 @@
+-- `next_line` meets its contract. The loop's invariant: from each place on the line ends at the same place (`LineLaws`).
+use mathlib.Core.Path.{_≡_, refl}
+use Prim.Native.Nat.{_+_, _-_}
+use native.Mathlib.Omega.{arith}
+use lib.ListN.{length, drop}
+use borrow.Author.Needs.{needs}
+use Rattle.collector.specs.Lines.{lineLength}
+use Rattle.collector.proofs.LineLaws.{line-out, line-end, line-more}
+use Rattle.collector.proofs.lines.next_line.Statement.{statement}
+use Rattle.collector.proofs.lines.next_line.Tie as tie
+
+abbrev Inv-loop : tie.InvT-loop
+Inv-loop answer at i₀ i = i + lineLength (drop i answer) ≡ at + lineLength (drop at answer)
+
+abbrev μ-loop : tie.MeasureT-loop
+μ-loop answer at i₀ i = length answer - i
+
+loop-holds : tie.Need-loop-holds Inv-loop μ-loop
+loop-holds c = refl
+
+shared-slice-read-if1 : tie.Need-shared-slice-read-if1 Inv-loop μ-loop
+shared-slice-read-if1 c = search needs
+
+add-result : tie.Need-add-result Inv-loop μ-loop
+add-result c = search needs
+
+returns : tie.Need-returns Inv-loop μ-loop
+returns c = omega (arith, line-end (c .before .before .before .before .args .answer .now) (c .before .before .before .loop .i) (c .before .before .loop-test .taken) (c .if1 .taken))
+
+add-i : tie.Need-add-i Inv-loop μ-loop
+add-i c = search needs
+
+loop-less : tie.Need-loop-less Inv-loop μ-loop
+loop-less c = search needs
+
+loop-again : tie.Need-loop-again Inv-loop μ-loop
+loop-again c = omega (arith, line-more (c .before .before .before .before .args .answer .now) (c .before .before .before .loop .i) (c .before .before .loop-test .taken) (c .if1 .left))
+
+returns-2 : tie.Need-returns-2 Inv-loop μ-loop
+returns-2 c = omega (arith, line-out (c .before .before .args .answer .now) (c .before .loop .i) (c .loop-test .left))
+
+pub next-line-spec : {M : Type 1} → statement M
+next-line-spec =
+    tie.close
+    (tie.spec
+    Inv-loop
+    μ-loop
+    loop-holds
+    shared-slice-read-if1
+    add-result
+    returns
+    add-i
+    loop-less
+    loop-again
+    returns-2)

@@ -1,0 +1,51 @@
+-- `keep` meets its contract: a name that is wanted is packed behind the others, or there is no room for it (`PackLaws`).
+use native.Mathlib.Omega.{arith}
+use borrow.Author.Tests.{not-true, not-false}
+use borrow.Author.Needs.{needs}
+use Rattle.listing_rules.specs.Walk.{withName}
+use Rattle.octets.proofs.Puts.{put-length, put-then}
+use Rattle.collector.proofs.PackLaws.{packs-more, packs-full}
+use Rattle.collector.proofs.names.keep.Statement.{statement}
+use Rattle.collector.proofs.names.keep.Tie as tie
+
+returns : tie.Need-returns
+unfolding withName
+returns c = rw (not-true (c .before .before .before .args .wanted) (c .if1 .taken)) (c .before .before .before .pre .0, λ ns p. p)
+
+sub-if2 : tie.Need-sub-if2
+sub-if2 c = search needs
+
+returns-2 : tie.Need-returns-2
+unfolding withName
+returns-2 c = rw (not-false (c .before .before .before .before .args .wanted) (c .before .if1 .left)) (λ ns p. packs-full (c .before .before .before .before .args .name .now) p (c .if2 .taken))
+
+cast-put : tie.Need-cast-put
+cast-put c = search needs
+
+put-requires : tie.Need-put-requires
+put-requires c κs = search needs
+
+put-all-requires : tie.Need-put-all-requires
+put-all-requires c κs = search needs
+
+same-length : tie.Need-same-length
+same-length c = search needs
+
+returns-3 : tie.Need-returns-3
+unfolding withName
+returns-3 c =
+    let w = put-then (c .before .before .before .before .before .before .put .ensures) (c .before .before .put-all .ensures) in
+    rw (not-false (c .before .before .before .before .before .before .before .before .before .before .before .before .args .wanted) (c .before .before .before .before .before .before .before .before .before .if1 .left)) (omega (arith, w .place, w .fits, put-length w), λ ns p. packs-more (c .before .before .before .before .before .before .before .before .before .before .before .before .args .name .now) p w (c .before .before .before .before .before .before .before .before .if2 .left))
+
+pub keep-spec : {M : Type 1} → statement M
+keep-spec =
+    tie.close
+    (tie.spec
+    returns
+    sub-if2
+    returns-2
+    cast-put
+    put-requires
+    put-all-requires
+    same-length
+    returns-3)

@@ -1,0 +1,20 @@
+-- Names in a lent buffer, as they lie in found and pending.
+use mathlib.Core.Path.{_≡_}
+use mathlib.Core.Bool.{Bool}
+use mathlib.Core.List.{List}
+use Prim.Native.Nat.{ℕ, _≤_, _<_}
+use lib.ListN.{length}
+use Rattle.listing_rules.specs.Walk.{packed, withName, zeroBehind}
+use Rattle.collector.specs.declared.names.Kept.{Kept}
+use Rattle.collector.specs.declared.names.Kept.the-variants.{To, Full}
+
+-- The names lie in the first `len` bytes, and behind them the buffer is zero.
+pub record Packs (buf : List ℕ) (len : ℕ) (ns : List (List ℕ)) : Type 0 where
+  pub counted : len ≡ length (packed ns)
+  pub room : len ≤ length buf
+  pub bytes : buf ≡ zeroBehind (length buf) (packed ns)
+
+-- whatever names lay in the buffer d, one more lies in e if it was wanted; or there is no room for it
+abbrev pub Keeps : Bool → List ℕ → List ℕ → ℕ → List ℕ → Kept → Type 0
+Keeps wanted n d at e (To r) = (r ≤ length e) × ((ns : List (List ℕ)) → Packs d at ns → Packs e r (withName wanted n ns))
+Keeps wanted n d at e Full = (ns : List (List ℕ)) → Packs d at ns → length d < length (packed (withName wanted n ns))

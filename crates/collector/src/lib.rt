@@ -1,0 +1,81 @@
+// The collector: walks a mailbox table as a client does, by sending commands to the server side and reading its lines back.
+//
+// The table serves check 1 and the calls of `server::answer`, and nothing else. A command is made from the option byte and a
+// pending name, finds and pending names come from the answer and the option byte.
+mod command;
+mod lines;
+mod names;
+mod options;
+mod walk;
+
+use octets::clear;
+use options::WalkOptions;
+use walk::walk_table;
+ghost use mathlib.Core.Path.{_≡_};
+ghost use mathlib.Core.Bool.{true};
+ghost use Prim.Native.Nat.{_≤_};
+ghost use lib.ListN.{length, replicate};
+ghost use Rattle.listing_rules.specs.Table.{passes};
+ghost use Rattle.listing_rules.specs.Walk.{collected, foundAfter, pendingAfter, scratchAfter, walk};
+ghost use Rattle.collector.specs.Result.{collectedIs, WholeWalk};
+ghost use Rattle.collector.specs.Ends.{Ends};
+
+// Refusals: the table does not pass; an option byte above 3.
+const BAD_TABLE: u8 = 1;
+
+const BAD_OPTION: u8 = 6;
+
+// What a walk answers: how many commands were sent, and the length of what lies in found; or the number of the refusal.
+pub enum Collected {
+    Done(usize, usize),
+    Refused(u8),
+}
+
+// The whole walk. Finds lie at the front of `found` and the names that were asked below at the front of `pending`, zero behind
+// them; `scratch` takes the answers, and is zero in the end. A refusal zeroes all three.
+pub fn collect(
+    table: &[u8],
+    option: u8,
+    scratch: &mut [u8],
+    found: &mut [u8],
+    pending: &mut [u8],
+) -> Collected
+    ensures result { λ r. ⌜ r ≡ collectedIs (collected (now (table .entry)) option (now (scratch .entry)) (now (found .entry)) (now (pending .entry))) ⌝ }
+    ensures scratch { λ _. ⌜ now (scratch .exit) ≡ scratchAfter (length (now (scratch .entry))) (collected (now (table .entry)) option (now (scratch .entry)) (now (found .entry)) (now (pending .entry))) ⌝ }
+    ensures found { λ _. ⌜ now (found .exit) ≡ foundAfter (length (now (found .entry))) (collected (now (table .entry)) option (now (scratch .entry)) (now (found .entry)) (now (pending .entry))) ⌝ }
+    ensures pending { λ _. ⌜ now (pending .exit) ≡ pendingAfter (length (now (pending .entry))) (collected (now (table .entry)) option (now (scratch .entry)) (now (found .entry)) (now (pending .entry))) ⌝ }
+    ensures demand3 { λ r. ⌜ (passes (now (table .entry)) ≡ true → option ≤ 3 → WholeWalk (now (table .entry)) option (length (now (scratch .entry))) (length (now (found .entry))) (length (now (pending .entry))) r (now (found .exit)) (now (pending .exit))) ⌝ }
+{
+    clear(found);
+    clear(pending);
+    let result = run(table, option, scratch, found, pending);
+    clear(scratch);
+    if let Collected::Refused(number) = result {
+        clear(found);
+        clear(pending);
+        return Collected::Refused(number);
+    }
+    result
+}
+
+// Refusals 1 and 6, then the walk. Found and pending are zero; a refusal leaves them anyhow.
+fn run(
+    table: &[u8],
+    option: u8,
+    scratch: &mut [u8],
+    found: &mut [u8],
+    pending: &mut [u8],
+) -> Collected
+    requires { ⌜ now found ≡ replicate (length (now found)) 0 ⌝ }
+    requires { ⌜ now pending ≡ replicate (length (now pending)) 0 ⌝ }
+    ensures { λ r. ⌜ Ends (walk (now (table .entry)) option (length (now (scratch .entry))) (length (now (found .entry))) (length (now (pending .entry)))) (now (found .exit)) (now (pending .exit)) r ⌝ }
+{
+    if !mailbox_table::check(table) {
+        return Collected::Refused(BAD_TABLE);
+    }
+    let options = WalkOptions { bits: option };
+    if !options.lawful() {
+        return Collected::Refused(BAD_OPTION);
+    }
+    walk_table(table, options, scratch, found, pending)
+}

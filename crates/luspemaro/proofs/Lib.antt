@@ -1,0 +1,2 @@
+-- What a call of `feed` takes of a piece.
+pub mod Steps

@@ -1,0 +1,191 @@
+// A frame carried out over the stored bytes: bytes added, or one line of output written.
+
+ghost use mathlib.Core.Path.{_≡_};
+ghost use Prim.Native.Nat.{_≤_};
+ghost use lib.ListN.{length, replicate};
+ghost use Rattle.listing_rules.specs.Server.{limited, answer};
+ghost use Rattle.listing_rules.specs.Walk.{walk};
+ghost use Rattle.listing_rules.specs.Frames.{replyLine, walkLine, framed};
+ghost use Rattle.frames.specs.Reading.{frameIs, sizeOf};
+ghost use Rattle.session.specs.Carrying.{lent, storedIn, outcomeIs, Says, Keeps, Carries, Ended};
+use collector::Collected;
+use collector::collect;
+use frames::ANSWER;
+use frames::Frame;
+use frames::Gathered;
+use frames::Stored;
+use frames::put_line;
+use frames::put_refusal;
+use frames::put_walk;
+use frames::read_gathered;
+use frames::store;
+use octets::Written;
+
+// "added behind the stored bytes (16,384 and 1,024; no room: 1 or 2, nothing added)".
+pub const MAX_TABLE: usize = 16384;
+
+pub const MAX_NAMESPACES: usize = 1024;
+
+const FULL_TABLE: u8 = 1;
+
+const FULL_LIST: u8 = 2;
+
+pub const BAD_FRAME: u8 = 13;
+
+// How many bytes are stored behind a frame, and how many bytes of output lie at the front of `out`.
+pub struct Outcome {
+    pub table: usize,
+    pub namespaces: usize,
+    pub written: usize,
+}
+
+// The same for one area of stored bytes.
+struct Kept {
+    len: usize,
+    written: usize,
+}
+
+// "Buffers: answer and scratch 16,384, found and pending 8,192 each".
+fn answer_buffer() -> [u8; 16384]
+    ensures { λ r. ⌜ r ≡ replicate 16384 0 ⌝ }
+{
+    [0; 16384]
+}
+
+fn names_buffer() -> [u8; 8192]
+    ensures { λ r. ⌜ r ≡ replicate 8192 0 ⌝ }
+{
+    [0; 8192]
+}
+
+// Room for the bytes of any frame.
+fn frame_buffer() -> [u8; 2050]
+    ensures { λ r. ⌜ r ≡ replicate 2050 0 ⌝ }
+{
+    [0; 2050]
+}
+
+// Bytes added behind the first `used` ones of an area; without room nothing is added, and the refusal is written.
+fn keep(
+    area: &mut [u8],
+    used: usize,
+    limit: usize,
+    number: u8,
+    bytes: &[u8],
+    out: &mut [u8],
+) -> Kept
+    requires { ⌜ used ≤ limit ⌝ }
+    requires { ⌜ limit ≤ length (now area) ⌝ }
+    ensures { λ r. ⌜ Keeps limit number used (now (bytes .entry)) (now (area .entry)) (now (area .exit)) (now (out .entry)) (now (out .exit)) r ⌝ }
+{
+    match store(area, used, limit, bytes) {
+        Stored::Now(len) => Kept { len, written: 0 },
+        Stored::NoRoom => {
+            let written = put_refusal(out, 0, number);
+            Kept { len: used, written }
+        },
+    }
+}
+
+// A command's line: the server's answer, or the number of its refusal.
+fn reply(table: &[u8], namespaces: &[u8], command: &[u8], out: &mut [u8]) -> usize
+    ensures { λ r. ⌜ Says (replyLine (limited 16384 (answer (now (table .entry)) (now (namespaces .entry)) (now (command .entry))))) (now (out .entry)) (now (out .exit)) r ⌝ }
+{
+    let mut answer = answer_buffer();
+    match server::answer(table, namespaces, command, &mut answer) {
+        Written::Done(n) => put_line(out, 0, ANSWER, &answer[..n]),
+        Written::Refused(number) => put_refusal(out, 0, number),
+    }
+}
+
+// A walk's line: the number of commands and what was found, or the number of its refusal.
+fn walk_line(table: &[u8], option: u8, out: &mut [u8]) -> usize
+    ensures { λ r. ⌜ Says (walkLine (walk (now (table .entry)) option 16384 8192 8192)) (now (out .entry)) (now (out .exit)) r ⌝ }
+{
+    let mut scratch = answer_buffer();
+    let mut found = names_buffer();
+    let mut pending = names_buffer();
+    match collect(table, option, &mut scratch, &mut found, &mut pending) {
+        Collected::Done(count, n) => put_walk(out, 0, count, &found[..n]),
+        Collected::Refused(number) => put_refusal(out, 0, number),
+    }
+}
+
+// A frame over the stored bytes, the first ones of the table's and of the namespace list's area.
+fn carry_out(
+    frame: Frame,
+    bytes: &[u8],
+    rows: usize,
+    entries: usize,
+    table: &mut [u8],
+    namespaces: &mut [u8],
+    out: &mut [u8],
+) -> Outcome
+    requires { ⌜ sizeOf frame ≤ length (now bytes) ⌝ }
+    requires { ⌜ rows ≤ 16384 ⌝ }
+    requires { ⌜ entries ≤ 1024 ⌝ }
+    requires { ⌜ 16384 ≤ length (now table) ⌝ }
+    requires { ⌜ 1024 ≤ length (now namespaces) ⌝ }
+    ensures { λ r. ⌜ Carries (framed (storedIn (lent (now (table .entry)) (now (namespaces .entry)) (now (out .entry))) rows entries) (frameIs (now (bytes .entry)) frame)) (lent (now (table .entry)) (now (namespaces .entry)) (now (out .entry))) (lent (now (table .exit)) (now (namespaces .exit)) (now (out .exit))) r ⌝ }
+{
+    match frame {
+        Frame::Table(n) => {
+            let kept = keep(table, rows, MAX_TABLE, FULL_TABLE, &bytes[..n], out);
+            outcome_of(kept.len, entries, kept.written)
+        },
+        Frame::Namespaces(n) => {
+            let kept = keep(
+                namespaces,
+                entries,
+                MAX_NAMESPACES,
+                FULL_LIST,
+                &bytes[..n],
+                out,
+            );
+            outcome_of(rows, kept.len, kept.written)
+        },
+        Frame::Command(n) => {
+            let written = reply(&table[..rows], &namespaces[..entries], &bytes[..n], out);
+            outcome_of(rows, entries, written)
+        },
+        Frame::Walk(option) => {
+            let written = walk_line(&table[..rows], option, out);
+            outcome_of(rows, entries, written)
+        },
+        Frame::Bad => {
+            let written = put_refusal(out, 0, BAD_FRAME);
+            outcome_of(rows, entries, written)
+        },
+    }
+}
+
+fn outcome_of(table: usize, namespaces: usize, written: usize) -> Outcome
+    ensures { λ r. ⌜ r ≡ outcomeIs table namespaces written ⌝ }
+{
+    Outcome {
+        table,
+        namespaces,
+        written,
+    }
+}
+
+// The frame of the characters gathered, when its line feed has come.
+pub fn end_frame(
+    rows: usize,
+    entries: usize,
+    gathered: Gathered,
+    line: &[u8],
+    table: &mut [u8],
+    namespaces: &mut [u8],
+    out: &mut [u8],
+) -> Outcome
+    requires { ⌜ rows ≤ 16384 ⌝ }
+    requires { ⌜ entries ≤ 1024 ⌝ }
+    requires { ⌜ 16384 ≤ length (now table) ⌝ }
+    requires { ⌜ 1024 ≤ length (now namespaces) ⌝ }
+    ensures { λ r. ⌜ Ended (now (line .entry)) gathered rows entries (lent (now (table .entry)) (now (namespaces .entry)) (now (out .entry))) (lent (now (table .exit)) (now (namespaces .exit)) (now (out .exit))) r ⌝ }
+{
+    let mut bytes = frame_buffer();
+    let frame = read_gathered(line, gathered, &mut bytes);
+    carry_out(frame, &bytes, rows, entries, table, namespaces, out)
+}

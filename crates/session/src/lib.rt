@@ -1,0 +1,140 @@
+// A session of the program: pieces of input fed as they come, cut anywhere, over lent memory that holds what is stored and the
+// frame so far; each frame is carried out at its line feed.
+//
+// A call of `feed` takes a piece through its first line feed and no further, so it has at most one line of output; the caller
+// goes on with the rest of the piece. Of a frame too long to be one nothing is kept but that it is.
+mod carrying;
+mod gathering;
+
+ghost use mathlib.Core.Path.{_≡_};
+ghost use lib.ListN.{length};
+ghost use Rattle.session.specs.Carrying.{lent};
+ghost use Rattle.session.specs.Feeding.{ready, takenIs, FeedIs, Finishes};
+use carrying::BAD_FRAME;
+use carrying::MAX_NAMESPACES;
+use carrying::MAX_TABLE;
+use carrying::end_frame;
+use frames::Gathered;
+use frames::MAX_DIGITS;
+use frames::put_refusal;
+use gathering::gather_line;
+
+// The longest line of output: two digits for each of 1 + 16,384 bytes, and a line feed.
+pub const MAX_LINE: usize = 32771;
+
+// How many bytes are stored of the table and of the namespace list, and what is gathered of the frame so far.
+pub struct State {
+    pub table: usize,
+    pub namespaces: usize,
+    pub gathered: Gathered,
+}
+
+impl State {
+    // Nothing stored and no frame begun: what any memory holds at first.
+    pub const START: State = State {
+        table: 0,
+        namespaces: 0,
+        gathered: Gathered::NONE,
+    };
+}
+
+// The state behind the bytes that were taken, how many they were, and how many bytes of output lie at the front of `out`.
+pub struct Taken {
+    pub state: State,
+    pub used: usize,
+    pub written: usize,
+}
+
+// What feeding answers. It is refused, and no byte changed, where the lent memory is too short or the state is none.
+pub enum Fed {
+    Taken(Taken),
+    Refused,
+}
+
+// Whether the memory has document 01's sizes and the state speaks of bytes within them.
+fn is_ready(state: State, table: usize, namespaces: usize, line: usize, out: usize) -> bool
+    ensures { λ r. ⌜ r ≡ ready table namespaces line out state ⌝ }
+{
+    let g = state.gathered;
+    (MAX_TABLE <= table)
+        & ((MAX_NAMESPACES <= namespaces)
+            & ((MAX_DIGITS <= line)
+                & ((MAX_LINE <= out)
+                    & ((state.table <= MAX_TABLE)
+                        & ((state.namespaces <= MAX_NAMESPACES)
+                            & (g.over | (g.len <= MAX_DIGITS)))))))
+}
+
+// The bytes of the piece through its first line feed, or all if there is none. `table` and `namespaces` hold the stored bytes at
+// their front, `line` the digits of the frame so far; `out` takes the line that the frame answers.
+pub fn feed(
+    state: State,
+    chunk: &[u8],
+    table: &mut [u8],
+    namespaces: &mut [u8],
+    line: &mut [u8],
+    out: &mut [u8],
+) -> Fed
+    ensures { λ r. ⌜ FeedIs (now (chunk .entry)) (lent (now (table .entry)) (now (namespaces .entry)) (now (out .entry))) (lent (now (table .exit)) (now (namespaces .exit)) (now (out .exit))) (now (line .entry)) (now (line .exit)) state r ⌝ }
+{
+    if !is_ready(state, table.len(), namespaces.len(), line.len(), out.len()) {
+        return Fed::Refused;
+    }
+    let so_far = state.gathered;
+    let run = gather_line(line, so_far, chunk);
+    let gathered = run.gathered;
+    let used = run.used;
+    if chunk.len() <= used {
+        return answer_taken(state.table, state.namespaces, gathered, used, 0);
+    }
+    let done = end_frame(
+        state.table,
+        state.namespaces,
+        gathered,
+        line,
+        table,
+        namespaces,
+        out,
+    );
+    answer_taken(
+        done.table,
+        done.namespaces,
+        Gathered::NONE,
+        used + 1,
+        done.written,
+    )
+}
+
+// The answer of a piece that was taken.
+fn answer_taken(
+    table: usize,
+    namespaces: usize,
+    gathered: Gathered,
+    used: usize,
+    written: usize,
+) -> Fed
+    ensures { λ r. ⌜ r ≡ takenIs table namespaces gathered used written ⌝ }
+{
+    let state = State {
+        table,
+        namespaces,
+        gathered,
+    };
+    let taken = Taken {
+        state,
+        used,
+        written,
+    };
+    Fed::Taken(taken)
+}
+
+// The end of the input: a frame without its line feed is 13.
+pub fn finish(state: State, out: &mut [u8]) -> usize
+    ensures { λ r. ⌜ Finishes (now (out .entry)) (now (out .exit)) state r ⌝ }
+{
+    let g = state.gathered;
+    if g.is_empty() {
+        return 0;
+    }
+    put_refusal(out, 0, BAD_FRAME)
+}

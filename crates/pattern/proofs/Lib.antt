@@ -3,3 +3,4 @@ pub mod Folded
 pub mod Wild
 pub mod Rows
 pub mod Packed
+pub mod Blank

@@ -13,6 +13,10 @@ pub record RowOf (f : List ℕ → Bool) (name : List ℕ) (row : List Bool) : T
   pub room : length name < length row
   pub says : (k : ℕ) → k ≤ length name → getD row k false ≡ f (drop k name)
 
+-- no place up to n is set
+abbrev pub Blank : ℕ → List Bool → Type 0
+Blank n row = (k : ℕ) → k ≤ n → getD row k false ≡ false
+
 -- one byte of a pattern before a rest that matches what `rest` passes: one step of `wildMatch`
 unfoldable pub oneByte : ℕ → (List ℕ → Bool) → List ℕ → Bool
 oneByte p rest n = cond (eqb p 42) (anyTail rest n) (cond (eqb p 37) (anyTailInLevel rest n) (headThen p rest n))

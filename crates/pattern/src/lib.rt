@@ -13,7 +13,7 @@ ghost use Rattle.listing_rules.specs.Bytes.{same};
 ghost use Rattle.listing_rules.specs.Names.{inbox};
 ghost use Rattle.listing_rules.specs.Match.{anyTail, anyTailInLevel, headThen, wildMatch, matches, matchesAny};
 ghost use Rattle.pattern.specs.Folded.{letterOf, folded, isWildcard};
-ghost use Rattle.pattern.specs.Rows.{RowOf, oneByte, noSlash};
+ghost use Rattle.pattern.specs.Rows.{RowOf, Blank, oneByte, noSlash};
 ghost use Rattle.pattern.specs.Runs.{RunEnd};
 ghost use Rattle.pattern.specs.Packed.{unpacked};
 
@@ -185,8 +185,25 @@ fn row_match(pattern: &[u8], name: &[u8], fold: bool) -> bool
     while 0 < i {
         i -= 1;
         step_row(&mut row, name, letter(pattern[i], fold));
+        if is_blank(&row, name.len()) {
+            return false;
+        }
     }
     row[0]
+}
+
+// Whether no place up to n is set. No byte before such a rest of the pattern can mend that.
+fn is_blank(row: &[bool; 256], n: usize) -> bool
+    requires { ⌜ n < 256 ⌝ }
+    ensures { λ r. ⌜ (r ≡ true → Blank n (now (row .entry))) ⌝ }
+{
+    let mut some = false;
+    let mut j = 0;
+    while j <= n {
+        some = some | row[j];
+        j += 1;
+    }
+    !some
 }
 
 // The row of the empty pattern: set at the end of the name alone.

@@ -6,6 +6,7 @@ use Rattle.listing_rules.specs.Match.{wildMatch}
 use Rattle.pattern.specs.Folded.{folded}
 use Rattle.pattern.specs.Rows.{RowOf}
 use Rattle.pattern.proofs.Rows.{row-begin, row-step, row-whole}
+use Rattle.pattern.proofs.Blank.{blank-whole}
 use borrow.Author.Needs.{needs}
 use native.Mathlib.Omega.{arith}
 use Rattle.pattern.proofs.row_match.Statement.{statement}
@@ -35,21 +36,29 @@ letter-requires c κs = search needs
 step-row-requires : tie.Need-step-row-requires Inv-loop μ-loop
 step-row-requires c κs = search needs
 
+is-blank-requires : tie.Need-is-blank-requires Inv-loop μ-loop
+is-blank-requires c κs = search needs
+
+returns : tie.Need-returns Inv-loop μ-loop
+returns c =
+    let w : c .before .before .before .before .before .before .before .before .loop .i ≡ c .before .before .before .before .before .before .before .before .loop .i - 1 + 1 = omega arith in
+    blank-whole (c .before .before .before .before .before .before .before .before .before .before .before .before .args .fold) (c .before .before .before .before .before .before .before .before .before .before .before .before .args .pattern .now) (c .before .before .before .before .before .before .before .before .before .before .before .before .args .name .now) (c .before .before .before .before .before .before .before .before .loop .i - 1) (c .before .before .before .step-row .last .0) (omega arith) (row-step (c .before .before .before .before .before .before .before .before .before .before .before .before .args .fold) (c .before .before .before .before .before .before .before .before .before .before .before .before .args .pattern .now) (c .before .before .before .before .before .before .before .before .before .before .before .before .args .name .now) (c .before .before .before .before .before .before .before .before .loop .i - 1) _ (omega arith) (rw (← c .before .before .before .before .letter .ensures) (c .before .before .before .step-row .ensures _ (rw w at (c .before .before .before .before .before .before .before .before .loop .inv .1))))) (c .before .is-blank .ensures (c .if1 .taken))
+
 loop-less : tie.Need-loop-less Inv-loop μ-loop
 loop-less c = search needs
 
 loop-again : tie.Need-loop-again Inv-loop μ-loop
 loop-again c = (
   omega arith,
-  let w : c .before .before .before .before .before .loop .i ≡ c .before .before .before .before .before .loop .i - 1 + 1 = omega arith in
-      row-step (c .before .before .before .before .before .before .before .before .before .args .fold) (c .before .before .before .before .before .before .before .before .before .args .pattern .now) (c .before .before .before .before .before .before .before .before .before .args .name .now) (c .before .before .before .before .before .loop .i - 1) _ (omega arith) (rw (← c .before .letter .ensures) (c .step-row .ensures _ (rw w at (c .before .before .before .before .before .loop .inv .1)))),
+  let w : c .before .before .before .before .before .before .before .before .loop .i ≡ c .before .before .before .before .before .before .before .before .loop .i - 1 + 1 = omega arith in
+      row-step (c .before .before .before .before .before .before .before .before .before .before .before .before .args .fold) (c .before .before .before .before .before .before .before .before .before .before .before .before .args .pattern .now) (c .before .before .before .before .before .before .before .before .before .before .before .before .args .name .now) (c .before .before .before .before .before .before .before .before .loop .i - 1) _ (omega arith) (rw (← c .before .before .before .before .letter .ensures) (c .before .before .before .step-row .ensures _ (rw w at (c .before .before .before .before .before .before .before .before .loop .inv .1)))),
 )
 
 array-read-result : tie.Need-array-read-result Inv-loop μ-loop
 array-read-result c = search needs
 
-returns : tie.Need-returns Inv-loop μ-loop
-returns c = let w : c .before .loop .i ≡ 0 = omega arith in row-whole _ _ _ _ (rw w at (c .before .loop .inv .1))
+returns-2 : tie.Need-returns-2 Inv-loop μ-loop
+returns-2 c = let w : c .before .loop .i ≡ 0 = omega arith in row-whole _ _ _ _ (rw w at (c .before .loop .inv .1))
 
 pub row-match-spec : {M : Type 1} → statement M
 row-match-spec =
@@ -63,7 +72,9 @@ row-match-spec =
     shared-slice-read-letter
     letter-requires
     step-row-requires
+    is-blank-requires
+    returns
     loop-less
     loop-again
     array-read-result
-    returns)
+    returns-2)

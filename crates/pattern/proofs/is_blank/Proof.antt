@@ -1,0 +1,39 @@
+-- `is_blank` meets its contract: while nothing was set, all places below j are blank.
+use mathlib.Core.Path.{_≡_}
+use mathlib.Core.Bool.{false}
+use Prim.Native.Nat.{_+_, _-_, _≤_}
+use borrow.Author.Needs.{needs}
+use borrow.Author.Tests.{not-true}
+use native.Mathlib.Omega.{arith}
+use Rattle.pattern.proofs.Blank.{BlankBelow, below-more}
+use Rattle.pattern.proofs.is_blank.Statement.{statement}
+use Rattle.pattern.proofs.is_blank.Tie as tie
+
+abbrev Inv-loop : tie.InvT-loop
+Inv-loop row n some₀ j₀ some j = (j ≤ n + 1) × (some ≡ false → BlankBelow j row)
+
+abbrev μ-loop : tie.MeasureT-loop
+μ-loop row n some₀ j₀ some j = n + 1 - j
+
+loop-holds : tie.Need-loop-holds Inv-loop μ-loop
+loop-holds c = (omega arith, λ e k g. absurd (omega arith))
+
+element-copy-out-some : tie.Need-element-copy-out-some Inv-loop μ-loop
+element-copy-out-some c = search needs
+
+add-j : tie.Need-add-j Inv-loop μ-loop
+add-j c = search needs
+
+loop-less : tie.Need-loop-less Inv-loop μ-loop
+loop-less c = search needs
+
+loop-again : tie.Need-loop-again Inv-loop μ-loop
+loop-again c = (omega arith, λ e. below-more (c .before .before .before .args .row .now) (c .before .before .loop .j) (c .before .before .loop .some) (c .before .before .loop .inv .1) e)
+
+returns : tie.Need-returns Inv-loop μ-loop
+returns c = λ e k g. c .before .loop .inv .1 (not-true _ e) k (omega arith)
+
+pub is-blank-spec : {M : Type 1} → statement M
+is-blank-spec =
+    tie.close
+    (tie.spec Inv-loop μ-loop loop-holds element-copy-out-some add-j loop-less loop-again returns)

@@ -3,14 +3,14 @@
 //!
 //! A session has a process of its own, since a program never forgets a stored row.
 
-mod commands;
-mod damage;
+pub mod commands;
+pub mod damage;
 mod kinds;
 mod limits;
-mod random;
+pub mod random;
 mod report;
 mod sending;
-mod tables;
+pub mod tables;
 
 use std::path::Path;
 

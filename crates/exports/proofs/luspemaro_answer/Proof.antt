@@ -1,0 +1,22 @@
+-- `luspemaro_answer` meets its contract: `server::answer`'s promise, in C's form.
+use mathlib.Core.Path.{ap, _∙_}
+use borrow.Author.Needs.{needs}
+use Rattle.exports.specs.Outcomes.{writtenOutcome}
+use Rattle.exports.proofs.luspemaro_answer.Statement.{statement}
+use Rattle.exports.proofs.luspemaro_answer.Tie as tie
+
+answer-requires : tie.Need-answer-requires
+answer-requires c κs = search needs
+
+written-outcome-requires : tie.Need-written-outcome-requires
+written-outcome-requires c κs = search needs
+
+same-length : tie.Need-same-length
+same-length c = search needs
+
+returns : tie.Need-returns
+returns c = (c .written-outcome .ensures ∙ ap writtenOutcome (c .before .before .before .answer .ensures .0), c .before .before .before .answer .ensures .1)
+
+pub luspemaro-answer-spec : {M : Type 1} → statement M
+luspemaro-answer-spec =
+    tie.close (tie.spec answer-requires written-outcome-requires same-length returns)

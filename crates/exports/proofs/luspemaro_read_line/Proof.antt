@@ -1,0 +1,18 @@
+-- `luspemaro_read_line` meets its contract: `list_line::read_line`'s promise, in C's form.
+use mathlib.Core.Path.{_∙_}
+use borrow.Author.Needs.{needs}
+use Rattle.exports.specs.Outcomes.{partsOf}
+use Rattle.exports.proofs.luspemaro_read_line.Statement.{statement}
+use Rattle.exports.proofs.luspemaro_read_line.Tie as tie
+
+read-line-requires : tie.Need-read-line-requires
+read-line-requires c κs = search needs
+
+line-parts-requires : tie.Need-line-parts-requires
+line-parts-requires c κs = search needs
+
+returns : tie.Need-returns
+returns c = let e = c .before .read-line .ensures in c .line-parts .ensures ∙ (λ i. partsOf (e .0 i) (e .1 i))
+
+pub luspemaro-read-line-spec : {M : Type 1} → statement M
+luspemaro-read-line-spec = tie.close (tie.spec read-line-requires line-parts-requires returns)

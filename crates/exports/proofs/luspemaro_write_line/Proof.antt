@@ -1,0 +1,22 @@
+-- `luspemaro_write_line` meets its contract: `list_line::write_line`'s promise, in C's form.
+use mathlib.Core.Path.{ap, _∙_}
+use borrow.Author.Needs.{needs}
+use Rattle.exports.specs.Outcomes.{writtenOutcome}
+use Rattle.exports.proofs.luspemaro_write_line.Statement.{statement}
+use Rattle.exports.proofs.luspemaro_write_line.Tie as tie
+
+write-line-requires : tie.Need-write-line-requires
+write-line-requires c κs = search needs
+
+written-outcome-requires : tie.Need-written-outcome-requires
+written-outcome-requires c κs = search needs
+
+same-length : tie.Need-same-length
+same-length c = search needs
+
+returns : tie.Need-returns
+returns c = (c .written-outcome .ensures ∙ ap writtenOutcome (c .before .before .before .write-line .ensures .0), c .before .before .before .write-line .ensures .1)
+
+pub luspemaro-write-line-spec : {M : Type 1} → statement M
+luspemaro-write-line-spec =
+    tie.close (tie.spec write-line-requires written-outcome-requires same-length returns)

@@ -1,0 +1,2 @@
+-- What the C forms of the answers mean.
+pub mod Outcomes

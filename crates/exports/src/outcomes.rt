@@ -1,0 +1,86 @@
+// Answers as C takes them: structs of numbers, where the crates below have an enum.
+//
+// Each struct has more than 16 bytes, so that it comes back in memory of the caller.
+use collector::Collected;
+use list_line::Line;
+use list_line::Read;
+use octets::Written;
+ghost use mathlib.Core.Path.{_≡_};
+ghost use Rattle.exports.specs.Outcomes.{writtenOutcome, collectedOutcome, partsOf};
+
+// What a call that writes into lent memory answers: 0 and the length of what it wrote, for a walk with the number of commands
+// sent; or the number of the refusal, length 0 and count 0.
+#[repr(C)]
+pub struct Outcome {
+    pub number: u8,
+    pub length: usize,
+    pub count: usize,
+}
+
+// What a line says: 0, its attributes (member k is 2 to the k), CHILDINFO, and its name, zero behind it; or the number of the
+// refusal, with no attributes and an empty name.
+#[repr(C)]
+pub struct LineParts {
+    pub number: u8,
+    pub child_info: bool,
+    pub attributes: u16,
+    pub length: usize,
+    pub name: [u8; 200],
+}
+
+pub(crate) fn written_outcome(written: Written) -> Outcome
+    ensures { λ r. ⌜ r ≡ writtenOutcome written ⌝ }
+{
+    match written {
+        Written::Done(length) => Outcome {
+            number: 0,
+            length,
+            count: 0,
+        },
+        Written::Refused(number) => Outcome {
+            number,
+            length: 0,
+            count: 0,
+        },
+    }
+}
+
+pub(crate) fn collected_outcome(collected: Collected) -> Outcome
+    ensures { λ r. ⌜ r ≡ collectedOutcome collected ⌝ }
+{
+    match collected {
+        Collected::Done(count, length) => Outcome {
+            number: 0,
+            length,
+            count,
+        },
+        Collected::Refused(number) => Outcome {
+            number,
+            length: 0,
+            count: 0,
+        },
+    }
+}
+
+pub(crate) fn line_parts(read: Read) -> LineParts
+    ensures { λ r. ⌜ r ≡ partsOf (read .line) (read .name) ⌝ }
+{
+    let line = read.line;
+    let name = read.name;
+    match line {
+        Line::Parts(attributes, length, child_info) => LineParts {
+            number: 0,
+            child_info,
+            attributes: attributes.bits,
+            length,
+            name,
+        },
+        Line::Refused(number) => LineParts {
+            number,
+            child_info: false,
+            attributes: 0,
+            length: 0,
+            name,
+        },
+    }
+}

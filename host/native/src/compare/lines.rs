@@ -1,0 +1,109 @@
+//! The line writer, and the reader on what it wrote.
+
+use luspemaro_host::Line;
+
+use super::reading::read_both;
+use super::tally::{shown, Tally, Text};
+use crate::both::{SECOND, WRITE_LINE};
+use crate::proved;
+
+/// More than the longest line: all attributes, a name of 200 escaped bytes, CHILDINFO.
+const ROOM: usize = 1_000;
+/// What the buffer holds before, to see which bytes stay.
+const FILL: u8 = b'.';
+/// `\Noselect`, the set of the root line.
+const NOSELECT: u16 = 4;
+
+/// All sets of the sixteen attributes, with and without CHILDINFO.
+pub fn every_set(tally: &mut Tally) {
+    for attributes in 0..=u16::MAX {
+        for child_info in [false, true] {
+            let name = b"Customers/\"A\\B\"";
+            let line = write_both(tally, attributes, name, child_info, ROOM);
+            round_trip(tally, &line, attributes, name, child_info);
+        }
+    }
+}
+
+/// Names that pass and do not, some sets of attributes, and buffers around the line's length.
+pub fn names_and_rooms(tally: &mut Tally) {
+    let sets = [0, 1, 3, NOSELECT, 0x0020, 0x4000, 0x8000, u16::MAX];
+    for name in names() {
+        for attributes in sets {
+            for child_info in [false, true] {
+                let line = write_both(tally, attributes, &name, child_info, ROOM);
+                if !line.is_empty() {
+                    round_trip(tally, &line, attributes, &name, child_info);
+                }
+                let need = line.len();
+                for room in [0, 1, need.saturating_sub(1), need, need + 1] {
+                    write_both(tally, attributes, &name, child_info, room);
+                }
+            }
+        }
+    }
+}
+
+/// Writes by both libraries and gives the line of the second, empty if it was refused.
+fn write_both(
+    tally: &mut Tally,
+    attributes: u16,
+    name: &[u8],
+    child_info: bool,
+    room: usize,
+) -> Vec<u8> {
+    let given = WRITE_LINE.map(|write| {
+        let mut out = vec![FILL; room];
+        let result = write(attributes, name, child_info, &mut out);
+        (result, Text(out))
+    });
+    let (result, out) = &given[SECOND];
+    let line = out.0[..result.unwrap_or(0)].to_vec();
+    let call = || {
+        let name = shown(name);
+        format!("write_line: attributes {attributes:#06x}, name {name}, CHILDINFO {child_info}, room {room}")
+    };
+    tally.same(call, given);
+    line
+}
+
+/// A line that was written is read back as its parts, by both.
+fn round_trip(tally: &mut Tally, line: &[u8], attributes: u16, name: &[u8], child_info: bool) {
+    read_both(tally, line);
+    let parts = Line { attrs: attributes, name: name.to_vec(), childinfo: child_info };
+    tally.same(|| format!("read back: {}", shown(line)), [proved::read_line(line).line, Ok(parts)]);
+}
+
+/// Names on both sides of every limit, with everything that is escaped.
+fn names() -> Vec<Vec<u8>> {
+    let texts: [&[u8]; 21] = [
+        b"",
+        b"a",
+        b"Foo",
+        b"Foo/Bar",
+        b"\"",
+        b"\\",
+        b"q\"q\\q",
+        b"\\\"\\\"",
+        b"a b",
+        b" ",
+        b"~",
+        b"INBOX",
+        b"inbox",
+        b"Inbox/x",
+        b"INBOX/x",
+        b"inboxx",
+        b"x/inbox",
+        b"/a",
+        b"a/",
+        b"a//b",
+        b"(x) {3}",
+    ];
+    let mut names: Vec<Vec<u8>> = texts.iter().map(|text| text.to_vec()).collect();
+    for length in [199, 200, 201, 255, 256, 300] {
+        names.extend([b'n', b'"', b'\\'].map(|byte| vec![byte; length]));
+    }
+    names.extend([15, 16, 17].map(|levels| vec!["l"; levels].join("/").into_bytes()));
+    names.extend((0..=u8::MAX).map(|byte| vec![b'a', byte, b'b']));
+    names
+}

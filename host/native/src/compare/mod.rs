@@ -1,0 +1,31 @@
+//! The comparison: the proved library and the second program's, call for call, in one process.
+//!
+//! Every result and every byte of lent memory is compared. The inputs come from fixed seeds.
+
+mod answers;
+mod lines;
+mod matching;
+mod reading;
+mod tables;
+mod tally;
+mod walks;
+
+pub use tally::Tally;
+
+/// A name, and what compares.
+pub type Group = (&'static str, fn(&mut Tally));
+
+pub const GROUPS: [Group; 12] = [
+    ("every set of attributes, written and read back", lines::every_set),
+    ("names at the limits, buffers on both sides of the line's length", lines::names_and_rooms),
+    ("lines with one byte changed, left out or added", reading::one_byte_damaged),
+    ("lines cut short, doubled and put together", reading::pieces),
+    ("random bytes as lines", reading::random_bytes),
+    ("patterns and names", matching::patterns),
+    ("hostile patterns and long names", matching::hostile),
+    ("tables, good and damaged", tables::tables),
+    ("tables at the limits", tables::limits),
+    ("namespace lists", tables::namespace_lists),
+    ("commands, buffers on both sides of the answer's length", answers::commands),
+    ("walks, buffers on both sides of what they need", walks::walks),
+];

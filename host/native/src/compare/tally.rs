@@ -1,0 +1,53 @@
+//! Counting what was compared, and showing what differed.
+
+use std::fmt::{self, Debug, Formatter};
+
+/// Differences of one group that are printed; the others are counted.
+const MOST_SHOWN: u64 = 3;
+/// Equal bytes at an end that are counted, not shown.
+const FEWEST_COUNTED: usize = 8;
+
+/// The comparisons of one group.
+#[derive(Default)]
+pub struct Tally {
+    pub compared: u64,
+    pub different: u64,
+}
+
+/// Bytes that are shown as text.
+#[derive(PartialEq)]
+pub struct Text(pub Vec<u8>);
+
+impl Tally {
+    /// Compares what the two libraries gave for a call, which is shown if they differ.
+    pub fn same<T: PartialEq + Debug>(&mut self, call: impl FnOnce() -> String, given: [T; 2]) {
+        self.compared += 1;
+        let [proved, second] = &given;
+        if proved == second {
+            return;
+        }
+        self.different += 1;
+        if self.different <= MOST_SHOWN {
+            println!("{}\nproved {proved:?}\nsecond {second:?}\n", call());
+        }
+    }
+}
+
+impl Debug for Text {
+    fn fmt(&self, formatter: &mut Formatter) -> fmt::Result {
+        write!(formatter, "{}", shown(&self.0))
+    }
+}
+
+/// Bytes as text in quotes; the equal bytes that a buffer ends with are counted instead.
+pub fn shown(bytes: &[u8]) -> String {
+    let Some(&last) = bytes.last() else {
+        return "\"\"".to_string();
+    };
+    let rest = bytes.iter().rposition(|&byte| byte != last).map_or(0, |at| at + 1);
+    let times = bytes.len() - rest;
+    if times < FEWEST_COUNTED {
+        return format!("\"{}\"", bytes.escape_ascii());
+    }
+    format!("\"{}\" and {times} times \"{}\"", bytes[..rest].escape_ascii(), last.escape_ascii())
+}

@@ -6,13 +6,13 @@
 //! that cannot be read, and then nothing is run; status 1 is a program that does not answer as a
 //! program of frames does.
 
-use std::io::{self, BufWriter, Read, Write};
+use std::env;
+use std::io::{self, BufWriter, Write};
 use std::path::PathBuf;
 use std::process::ExitCode;
-use std::{env, fs};
 
 use luspemaro_host::child::find_program;
-use luspemaro_host::readable::{parse_session, run_session, Form, Item, RunError};
+use luspemaro_host::readable::{run_session, Form, RunError, Session, SessionError, Source};
 
 const USAGE: &str = "usage: session --program PATH [FILE] [--frames]";
 /// Status for what is wrong with the call or the file.
@@ -25,7 +25,7 @@ struct Call {
 }
 
 fn main() -> ExitCode {
-    let ready = read_call().and_then(|call| Ok((read_session(&call)?, call)));
+    let ready = read_call().and_then(|call| Ok((check_session(&call)?, call)));
     let (session, call) = match ready {
         Ok(ready) => ready,
         Err(message) => {
@@ -37,13 +37,12 @@ fn main() -> ExitCode {
     let result = run_session(&call.program, &session, call.form, &mut output);
     let flushed = output.flush();
     match result {
-        Ok(()) if flushed.is_ok() => ExitCode::SUCCESS,
-        Ok(()) | Err(RunError::Output(_)) => ExitCode::FAILURE,
-        Err(RunError::Program(error)) => {
-            eprintln!("{}: {error}", call.program.display());
-            ExitCode::FAILURE
-        }
+        Ok(()) if flushed.is_ok() => return ExitCode::SUCCESS,
+        Ok(()) | Err(RunError::Output(_)) => {}
+        Err(RunError::Program(error)) => eprintln!("{}: {error}", call.program.display()),
+        Err(RunError::Session(error)) => eprintln!("{}", session_text(&call, &error)),
     }
+    ExitCode::FAILURE
 }
 
 fn read_call() -> Result<Call, String> {
@@ -63,15 +62,29 @@ fn read_call() -> Result<Call, String> {
     Ok(Call { program: find_program(&program.ok_or(USAGE)?)?, file, form })
 }
 
-fn read_session(call: &Call) -> Result<Vec<Item>, String> {
-    let (source, name) = match &call.file {
-        Some(file) => (fs::read(file), file.display().to_string()),
-        None => {
-            let mut source = Vec::new();
-            let read = io::stdin().lock().read_to_end(&mut source);
-            (read.map(|_| source), "standard input".to_string())
-        }
+/// The session, every line of it checked. A session without items is none to run, but no fault.
+fn check_session(call: &Call) -> Result<Session, String> {
+    let source = match &call.file {
+        Some(file) => Source::of_path(file),
+        None => Source::of_stream(io::stdin().lock()),
     };
-    let source = source.map_err(|error| format!("cannot read {name}: {error}"))?;
-    parse_session(&source).map_err(|error| format!("{name}:{error}"))
+    let session = source.map_err(SessionError::from).and_then(Session::check);
+    let session = session.map_err(|error| session_text(call, &error))?;
+    if session.length == 0 {
+        eprintln!("{}: no items, so there is nothing to run", source_name(call));
+    }
+    Ok(session)
+}
+
+fn session_text(call: &Call, error: &SessionError) -> String {
+    let name = source_name(call);
+    match error {
+        SessionError::Unreadable(_) => format!("cannot read {name}: {error}"),
+        SessionError::Line { .. } => format!("{name}: {error}"),
+    }
+}
+
+fn source_name(call: &Call) -> String {
+    let name = call.file.as_ref().map(|file| file.display().to_string());
+    name.unwrap_or_else(|| "standard input".to_string())
 }

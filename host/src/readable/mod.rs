@@ -10,14 +10,20 @@
 //! | a command; CR LF is added | `command a LIST "" "*"` |
 //! | a walk | `walk`, `walk remote special-use`, `walk 3` |
 //! | a frame as it is sent | `frame 57FF` |
+//!
+//! A file whose first line is a frame is a file of frames, and its lines are sent as they stand.
 
 mod parse;
 mod run;
+mod session;
 mod show;
+mod source;
 mod text;
 mod words;
 
-pub use parse::{parse_session, Item, ParseError};
+pub use parse::Item;
 pub use run::{run_session, Form, RunError};
+pub use session::{Session, SessionError};
 pub use show::{show_answer, show_frame, show_namespaces, show_table, Shown};
+pub use source::Source;
 pub use words::flags_of_words;

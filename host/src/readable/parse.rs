@@ -1,9 +1,9 @@
-//! Reading a session file, or a file of frames, into the frames to send.
+//! Reading one line of a session file.
 
-use std::fmt;
-
-use super::text::printable;
-use super::words::{class_of_word, flags_of_words, walk_option_of_words};
+use super::text::{printable, shortened};
+use super::words::{
+    class_of_word, class_words, flag_words, flags_of_words, walk_option_of_words, walk_words,
+};
 use crate::child::SentFrame;
 use crate::frames::Frame;
 use crate::line::CRLF;
@@ -17,48 +17,24 @@ pub enum Item {
     /// A line that starts with `#`, for whoever reads the session.
     Comment(String),
     Frame(SentFrame),
+    /// A frame of a file of frames with more digits than a frame may have: its start, and how
+    /// many characters it has.
+    Overlong {
+        start: Vec<u8>,
+        length: u64,
+        is_cut: bool,
+    },
 }
 
 /// The bytes of a string, and what stands behind it.
 type StringAndRest<'t> = (Vec<u8>, &'t [u8]);
 
-/// A line that is no item, counted from 1.
-#[derive(Debug)]
-pub struct ParseError {
-    pub line: usize,
-    pub message: String,
-}
+const ITEM_WORDS: &str = "mailbox, namespace, command, walk, frame, or # for a comment";
+/// Of a word that is not known no more than this is shown.
+const MOST_OF_WORD: usize = 40;
 
-impl fmt::Display for ParseError {
-    fn fmt(&self, formatter: &mut fmt::Formatter) -> fmt::Result {
-        write!(formatter, "{}: {}", self.line, self.message)
-    }
-}
-
-/// Reads a session. A file whose first line, empty ones not counted, is hexadecimal digits alone
-/// is a file of frames, and its lines are sent as they stand; another file is a session file.
-pub fn parse_session(source: &[u8]) -> Result<Vec<Item>, ParseError> {
-    let first_line = source.split(|&byte| byte == b'\n').find(|line| !line.is_empty());
-    if first_line.is_some_and(|line| line.iter().all(u8::is_ascii_hexdigit)) {
-        return Ok(source.split_inclusive(|&byte| byte == b'\n').map(frame_line).collect());
-    }
-    let mut items = Vec::new();
-    for (number, line) in (1..).zip(source.split(|&byte| byte == b'\n')) {
-        let line = line.strip_suffix(b"\r").unwrap_or(line).trim_ascii_start();
-        let item = parse_item(line).map_err(|message| ParseError { line: number, message })?;
-        items.extend(item);
-    }
-    Ok(items)
-}
-
-/// A line of a file of frames, with its LF or, at the end of the file, without one.
-fn frame_line(line: &[u8]) -> Item {
-    let text = line.strip_suffix(b"\n");
-    Item::Frame(SentFrame { text: text.unwrap_or(line).to_vec(), is_cut: text.is_none() })
-}
-
-/// One line of a session file: an item, nothing for an empty line, or what is wrong with it.
-fn parse_item(line: &[u8]) -> Result<Option<Item>, String> {
+/// One line without its line end: an item, nothing for an empty line, or what is wrong with it.
+pub fn parse_item(line: &[u8]) -> Result<Option<Item>, String> {
     if line.is_empty() {
         return Ok(None);
     }
@@ -74,7 +50,7 @@ fn parse_item(line: &[u8]) -> Result<Option<Item>, String> {
         b"command" => Frame::Command([rest, CRLF].concat()).encode(),
         b"walk" => parse_walk(rest)?.encode(),
         b"frame" => rest.to_vec(),
-        _ => return Err(unknown("item", &printable(keyword))),
+        _ => return Err(unknown("item", &printable(keyword), ITEM_WORDS)),
     };
     Ok(Some(Item::Frame(SentFrame { text, is_cut: false })))
 }
@@ -86,7 +62,7 @@ fn parse_mailbox(text: &[u8]) -> Result<Frame, String> {
     if words.is_empty() {
         return Err("the mailbox has no flags; 0000 stands for none".to_string());
     }
-    let flags = flags_of_words(words).map_err(|word| unknown("flag", word))?;
+    let flags = flags_of_words(words).map_err(|word| unknown("flag", word, &flag_words()))?;
     let row = Row { flags, name: &name }.to_bytes();
     Ok(Frame::Row(row.ok_or("a name has at most 255 bytes in a row")?))
 }
@@ -97,7 +73,8 @@ fn parse_namespace(text: &[u8]) -> Result<Frame, String> {
     let (class, rest) = parse_string(text)?.ok_or(SHAPE)?;
     let (prefix, rest) = parse_string(rest)?.ok_or(SHAPE)?;
     let class = words_of(&class)?;
-    let class = class_of_word(class).ok_or_else(|| unknown("class of namespaces", class))?;
+    let class = class_of_word(class)
+        .ok_or_else(|| unknown("class of namespaces", class, &class_words()))?;
     let delimiter = match rest.trim_ascii() {
         b"NIL" => None,
         quoted => match parse_string(quoted)?.ok_or(SHAPE)? {
@@ -112,7 +89,7 @@ fn parse_namespace(text: &[u8]) -> Result<Frame, String> {
 /// *(remote / special-use / NUMBER)
 fn parse_walk(text: &[u8]) -> Result<Frame, String> {
     let option = walk_option_of_words(words_of(text)?);
-    option.map(Frame::Walk).map_err(|word| unknown("option of a walk", word))
+    option.map(Frame::Walk).map_err(|word| unknown("option of a walk", word, &walk_words()))
 }
 
 const BAD_QUOTED: &str = "a quoted string ends with a quote, and a backslash in it stands \
@@ -133,10 +110,11 @@ fn parse_string(text: &[u8]) -> Result<Option<StringAndRest<'_>>, String> {
 }
 
 fn words_of(text: &[u8]) -> Result<&str, String> {
-    let words = str::from_utf8(text).map_err(|_| unknown("word", &printable(text)))?;
+    let words = str::from_utf8(text)
+        .map_err(|_| format!("\"{}\" is no text", shortened(&printable(text), MOST_OF_WORD)))?;
     Ok(words.trim())
 }
 
-fn unknown(kind: &str, word: &str) -> String {
-    format!("unknown {kind} \"{word}\"")
+fn unknown(kind: &str, word: &str, known: &str) -> String {
+    format!("unknown {kind} \"{}\"; known are {known}", shortened(word, MOST_OF_WORD))
 }

@@ -1,21 +1,26 @@
 //! Running a session and printing it.
 
-use std::io::{self, Write};
+use std::io::{self, BufRead, BufReader, BufWriter, Read, Write};
 use std::path::Path;
+use std::process::{Child, ChildStdout, Command, Stdio};
+use std::thread;
 
 use super::parse::Item;
-use super::show::{show_answer, show_frame};
+use super::session::{Session, SessionError};
+use super::show::{show_answer, show_frame, show_overlong, shown_start};
 use super::text::printable;
-use crate::child::{Running, SentFrame};
 use crate::frames::{Frame, Program};
 
 /// A session of more items shows its progress on standard error.
-const LONG_SESSION: usize = 2_000;
-/// Items between two lines of progress.
-const PROGRESS_STEP: usize = 1_000;
+const LONG_SESSION: u64 = 2_000;
+/// Items between two lines of progress, but no more lines than these.
+const PROGRESS_STEP: u64 = 1_000;
+const MOST_PROGRESS_LINES: u64 = 40;
+/// Longer than any answer line; what is longer is cut and reads as a wrong answer.
+const MAX_ANSWER_LINE: u64 = 65_536;
 
 /// How a session is printed.
-#[derive(Clone, Copy, PartialEq, Eq)]
+#[derive(Clone, Copy, Debug, PartialEq, Eq)]
 pub enum Form {
     Text,
     /// Frames behind `>` and answers behind `<`, as they were sent.
@@ -25,6 +30,8 @@ pub enum Form {
 /// Why a session was not printed to its end.
 #[derive(Debug)]
 pub enum RunError {
+    /// The session's lines could be read at first and cannot be any more.
+    Session(SessionError),
     /// The program cannot be run, or does not answer as a program of frames does.
     Program(io::Error),
     /// What is printed cannot be written.
@@ -34,25 +41,99 @@ pub enum RunError {
 /// Sends a session to a program and prints each item, with its answer if it has one.
 pub fn run_session(
     program: &Path,
-    session: &[Item],
+    session: &Session,
     form: Form,
     output: &mut impl Write,
 ) -> Result<(), RunError> {
-    let mut running = Running::start(program, frames_of(session)).map_err(RunError::Program)?;
+    let mut answering = Answering::start(program, session)?;
     let mut printer = Printer { output, form, previous: None };
     let mut stored = Program::default();
-    for (number, item) in (1..).zip(session) {
-        let part = part_of(item, &mut stored);
-        printer.print_item(item, part).map_err(RunError::Output)?;
+    let mut progress = Progress { done: 0, length: session.length };
+    for item in session.items().map_err(RunError::Session)? {
+        let item = item.map_err(RunError::Session)?;
+        let part = part_of(&item, &mut stored);
+        printer.print_item(&item, part).map_err(RunError::Output)?;
         if part == Part::Exchange {
-            let answer = next_answer(&mut running).map_err(RunError::Program)?;
+            let answer = answering.next_answer().map_err(RunError::Program)?;
             printer.print_answer(&answer).map_err(RunError::Output)?;
         }
-        if session.len() > LONG_SESSION && number % PROGRESS_STEP == 0 {
-            eprintln!("{number} of {} items", session.len());
+        progress.count(part);
+    }
+    answering.finish().map_err(RunError::Program)
+}
+
+/// A program that is running and is sent a session meanwhile. It is ended when this is dropped.
+struct Answering {
+    child: Child,
+    answers: BufReader<ChildStdout>,
+}
+
+impl Answering {
+    fn start(program: &Path, session: &Session) -> Result<Answering, RunError> {
+        let send = session.sender().map_err(RunError::Session)?;
+        let mut command = Command::new(program);
+        command.stdin(Stdio::piped()).stdout(Stdio::piped());
+        let mut child = command.spawn().map_err(RunError::Program)?;
+        let no_pipe = || RunError::Program(io::Error::other("no pipe"));
+        let stdin = child.stdin.take().ok_or_else(no_pipe)?;
+        let answers = BufReader::new(child.stdout.take().ok_or_else(no_pipe)?);
+        // A program that ends early closes its input; its answers tell.
+        thread::spawn(move || send(&mut BufWriter::new(stdin)));
+        Ok(Answering { child, answers })
+    }
+
+    /// The next line of its output, without its LF.
+    fn next_answer(&mut self) -> io::Result<Vec<u8>> {
+        let mut line = Vec::new();
+        self.answers.by_ref().take(MAX_ANSWER_LINE).read_until(b'\n', &mut line)?;
+        if line.is_empty() {
+            return self.ended().and_then(|()| Err(io::Error::other("no more answers")));
+        }
+        line.pop_if(|byte| *byte == b'\n');
+        Ok(line)
+    }
+
+    /// Checks that no line is left and that the program ends well.
+    fn finish(mut self) -> io::Result<()> {
+        if self.answers.fill_buf()?.is_empty() {
+            self.ended()
+        } else {
+            Err(io::Error::other("an answer too many"))
         }
     }
-    running.finish().map_err(RunError::Program)
+
+    fn ended(&mut self) -> io::Result<()> {
+        let status = self.child.wait()?;
+        if status.success() {
+            Ok(())
+        } else {
+            Err(io::Error::other(status.to_string()))
+        }
+    }
+}
+
+impl Drop for Answering {
+    /// A program that has ended already is past killing; there is nothing to report then.
+    fn drop(&mut self) {
+        let _ = self.child.kill();
+        let _ = self.child.wait();
+    }
+}
+
+/// How far a long session is.
+struct Progress {
+    done: u64,
+    length: u64,
+}
+
+impl Progress {
+    fn count(&mut self, part: Part) {
+        self.done += u64::from(part != Part::Comment);
+        let step = PROGRESS_STEP.max(self.length / MOST_PROGRESS_LINES);
+        if self.length > LONG_SESSION && part != Part::Comment && self.done.is_multiple_of(step) {
+            eprintln!("{} of {} items", self.done, self.length);
+        }
+    }
 }
 
 /// What an item is to whoever reads the session.
@@ -68,6 +149,7 @@ enum Part {
 fn part_of(item: &Item, stored: &mut Program) -> Part {
     let frame = match item {
         Item::Comment(_) => return Part::Comment,
+        Item::Overlong { .. } => return Part::Exchange,
         Item::Frame(frame) => frame,
     };
     let added = match Frame::decode(&frame.text) {
@@ -80,20 +162,6 @@ fn part_of(item: &Item, stored: &mut Program) -> Part {
     } else {
         Part::Exchange
     }
-}
-
-fn frames_of(session: &[Item]) -> impl Iterator<Item = &SentFrame> {
-    session.iter().filter_map(|item| match item {
-        Item::Comment(_) => None,
-        Item::Frame(frame) => Some(frame),
-    })
-}
-
-/// The next answer without its LF.
-fn next_answer(running: &mut Running) -> io::Result<Vec<u8>> {
-    let mut line = running.next_line()?.ok_or_else(|| io::Error::other("no more answers"))?;
-    line.pop_if(|byte| *byte == b'\n');
-    Ok(line)
 }
 
 struct Printer<'o, W> {
@@ -112,12 +180,28 @@ impl<W: Write> Printer<'_, W> {
         if self.form == Form::Text && starts_part && !follows_comment {
             writeln!(self.output)?;
         }
-        match (item, self.form) {
-            (Item::Comment(comment), Form::Text) => writeln!(self.output, "{comment}"),
-            (Item::Comment(_), Form::Frames) => Ok(()),
-            (Item::Frame(frame), Form::Text) => write!(self.output, "{}", show_frame(frame)),
-            (Item::Frame(frame), Form::Frames) => {
-                writeln!(self.output, "> {}", printable(&frame.text))
+        match self.form {
+            Form::Text => self.print_text(item),
+            Form::Frames => self.print_frame(item),
+        }
+    }
+
+    fn print_text(&mut self, item: &Item) -> io::Result<()> {
+        match item {
+            Item::Comment(comment) => writeln!(self.output, "{comment}"),
+            Item::Frame(frame) => write!(self.output, "{}", show_frame(frame)),
+            Item::Overlong { start, length, is_cut } => {
+                write!(self.output, "{}", show_overlong(start, *length, *is_cut))
+            }
+        }
+    }
+
+    fn print_frame(&mut self, item: &Item) -> io::Result<()> {
+        match item {
+            Item::Comment(_) => Ok(()),
+            Item::Frame(frame) => writeln!(self.output, "> {}", printable(&frame.text)),
+            Item::Overlong { start, length, .. } => {
+                writeln!(self.output, "> {}", shown_start(start, *length))
             }
         }
     }

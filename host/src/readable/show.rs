@@ -39,7 +39,7 @@ impl fmt::Display for Shown {
 /// A frame as it is sent.
 pub fn show_frame(frame: &SentFrame) -> Shown {
     if frame.is_cut {
-        return one_line("Frame", bad_frame_text(&frame.text) + " (without LF)");
+        return one_line("Frame", bad_frame_text(&frame.text) + cut_text(frame.is_cut));
     }
     match Frame::decode(&frame.text) {
         Ok(Frame::Row(table)) => show_table(&table),
@@ -48,6 +48,17 @@ pub fn show_frame(frame: &SentFrame) -> Shown {
         Ok(Frame::Walk(option)) => one_line("Walk", walk_text(option)),
         Err(_) => one_line("Frame", bad_frame_text(&frame.text)),
     }
+}
+
+/// A frame with more digits than a frame may have.
+pub fn show_overlong(start: &[u8], length: u64, is_cut: bool) -> Shown {
+    one_line("Frame", shown_start(start, length) + cut_text(is_cut))
+}
+
+/// The start of a frame that is too long to be shown, and its length.
+pub fn shown_start(start: &[u8], length: u64) -> String {
+    let start = &start[..start.len().min(MOST_OF_BAD_FRAME)];
+    format!("{}… ({length} characters)", printable(start))
 }
 
 /// A run of rows, a line for each, and bytes behind them that are no row.
@@ -78,6 +89,14 @@ pub fn show_answer(line: &[u8]) -> Shown {
 
 fn one_line(label: &'static str, line: String) -> Shown {
     Shown { label, lines: vec![line] }
+}
+
+fn cut_text(is_cut: bool) -> &'static str {
+    if is_cut {
+        " (without LF)"
+    } else {
+        ""
+    }
 }
 
 fn bad_frame_text(text: &[u8]) -> String {

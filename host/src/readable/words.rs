@@ -71,6 +71,25 @@ pub fn word_of_class(class: u8) -> Option<&'static str> {
     CLASS_WORDS.get(usize::from(class)).copied()
 }
 
+/// The words for flags, for a message.
+pub fn flag_words() -> String {
+    format!("{} and four hexadecimal digits", listed(FLAG_WORDS))
+}
+
+/// The words for options of a walk, for a message.
+pub fn walk_words() -> String {
+    format!("{} and 0 to 255", listed(WALK_WORDS))
+}
+
+/// The words for classes of namespaces, for a message.
+pub fn class_words() -> String {
+    CLASS_WORDS.join(", ")
+}
+
+fn listed(words: &Words) -> String {
+    words.iter().map(|(word, _)| *word).collect::<Vec<_>>().join(", ")
+}
+
 fn bits_of_word(words: &Words, word: &str) -> Option<u16> {
     words.iter().find(|(name, _)| *name == word).map(|(_, bits)| *bits)
 }

@@ -5,16 +5,23 @@ use std::io::Write;
 use std::path::Path;
 use std::process::{Command, Output, Stdio};
 
-use luspemaro_host::readable::{parse_session, run_session, Form, Item};
+use luspemaro_host::readable::{run_session, Form, Item, Session, SessionError, Source};
 
 const SECOND: &str = env!("CARGO_BIN_EXE_second");
 const SESSION: &str = env!("CARGO_BIN_EXE_session");
+const RUN: &str = concat!(env!("CARGO_MANIFEST_DIR"), "/../run");
+const FOLDER: &str = concat!(env!("CARGO_MANIFEST_DIR"), "/sessions");
 const FILE: &str = concat!(env!("CARGO_MANIFEST_DIR"), "/sessions/customers.session");
 const CUSTOMERS: &str = include_str!("../../sessions/customers.session");
 const REFUSALS: &str = include_str!("../../sessions/refusals.session");
+const README: &str = include_str!("../../../README.md");
+
+fn check(source: &str) -> Result<Session, SessionError> {
+    Session::check(Source::of_bytes(source.as_bytes()))
+}
 
 fn printed(source: &str, form: Form) -> String {
-    let session = parse_session(source.as_bytes()).expect("a session");
+    let session = check(source).expect("a session");
     let mut output = Vec::new();
     run_session(Path::new(SECOND), &session, form, &mut output).expect("a run");
     String::from_utf8(output).expect("text")
@@ -54,8 +61,9 @@ fn items_and_their_frames() {
         ("frame 4G 0", "4G 0"),
     ];
     for (line, frame) in items {
-        let session = parse_session(format!("# a comment\n\n  {line}\r\n").as_bytes());
-        let [Item::Comment(comment), Item::Frame(sent)] = &session.expect("a session")[..] else {
+        let session = check(&format!("# a comment\n\n  {line}\r\n")).expect("a session");
+        let items: Result<Vec<Item>, _> = session.items().expect("items").collect();
+        let [Item::Comment(comment), Item::Frame(sent)] = &items.expect("items")[..] else {
             panic!("{line}: not one comment and one frame");
         };
         assert_eq!((comment.as_str(), sent.is_cut), ("# a comment", false), "{line}");
@@ -65,30 +73,62 @@ fn items_and_their_frames() {
 
 #[test]
 fn lines_that_are_no_items() {
+    let long_name = format!("mailbox {} exists", "n".repeat(256));
+    let long_line = format!("command {}", "c".repeat(16_384));
     let lines = [
-        ("mailbix Foo exists", "unknown item \"mailbix\""),
+        ("mailbix Foo exists", "unknown item \"mailbix\"; known are mailbox, namespace, "),
         ("Mailbox Foo exists", "unknown item \"Mailbox\""),
+        ("mailbox\tFoo exists", "unknown item \"mailbox\\x09Foo\""),
+        ("57FF", "unknown item \"57FF\""),
+        ("\0\x01\x7F", "unknown item \"\\x00\\x01\\x7F\""),
         ("mailbox", "a mailbox has a name and flags"),
         ("mailbox Foo", "the mailbox has no flags"),
-        ("mailbox Foo exist", "unknown flag \"exist\""),
+        ("mailbox Foo exist", "unknown flag \"exist\"; known are exists, subscribed, remote, "),
+        ("mailbox Foo Bar exists", "unknown flag \"Bar\""),
         ("mailbox Foo 001", "unknown flag \"001\""),
         ("mailbox \"Foo exists", "a quoted string"),
         ("mailbox \"F\\oo\" exists", "a quoted string"),
+        (&long_name, "a name has at most 255 bytes"),
         ("namespace", "a namespace has"),
-        ("namespace public \"\" \"/\"", "unknown class of namespaces \"public\""),
+        ("namespace public \"\" \"/\"", "unknown class of namespaces \"public\"; known are pers"),
         ("namespace shared \"\"", "a namespace has"),
         ("namespace shared \"\" \"//\"", "a delimiter is one byte"),
         ("namespace shared \"\" \"/\" x", "a delimiter is one byte"),
-        ("walk local", "unknown option of a walk \"local\""),
+        ("walk local", "unknown option of a walk \"local\"; known are remote, special-use"),
         ("walk 256", "unknown option of a walk \"256\""),
+        (&long_line, "over 16384 bytes"),
     ];
-    for (line, message) in lines {
-        let error = parse_session(format!("walk\n{line}\nwalk\n").as_bytes()).expect_err(line);
-        assert_eq!(error.line, 2, "{line}");
-        assert!(error.message.starts_with(message), "{line}: {}", error.message);
+    for (line, expected) in lines {
+        for line_end in ["\n", "\r\n"] {
+            let source = ["walk", line, "walk home", ""].join(line_end);
+            let Err(SessionError::Line { number, message }) = check(&source) else {
+                panic!("{line}: no bad line");
+            };
+            assert_eq!(number, 2, "{line}");
+            assert!(message.starts_with(expected), "{line}: {message}");
+        }
     }
-    let long = format!("mailbox {} exists", "n".repeat(256));
-    assert!(parse_session(long.as_bytes()).is_err());
+}
+
+/// Of a line that is no text at all the message shows a start.
+#[test]
+fn messages_are_short() {
+    let Err(error) = check(&format!("\0{}", "x".repeat(100_000))) else {
+        panic!("no bad line");
+    };
+    assert!(error.to_string().starts_with("line 1: unknown item \"\\x00xxx"), "{error}");
+    assert!(error.to_string().len() < 200, "{error}");
+}
+
+/// What an editor leaves in a session file: CR LF, a byte order mark, no last line end.
+#[test]
+fn files_from_other_editors() {
+    let plain = printed("walk\n# a\nwalk 1\n", Form::Text);
+    for source in
+        ["walk\r\n# a\r\nwalk 1\r\n", "\u{FEFF}walk\n# a\nwalk 1", "\r\nwalk\n# a\nwalk 1"]
+    {
+        assert_eq!(printed(source, Form::Text), plain, "{source:?}");
+    }
 }
 
 #[test]
@@ -102,6 +142,52 @@ fn files_of_frames() {
         printed("5700\n", Form::Text),
         concat!("Walk       option byte 0\n", "Answer     1 command sent, 0 mailboxes found\n")
     );
+}
+
+/// The first line tells a file of frames, damaged or not; such lines are sent as they stand.
+#[test]
+fn damaged_files_of_frames() {
+    let files = [
+        ("5700\r\n5700\n", "> 5700\\x0D\n< 520D\n> 5700\n< 570001\n"),
+        ("57 00\nwalk\n", "> 57 00\n< 520D\n> walk\n< 520D\n"),
+        ("4G\n\0\n", "> 4G\n< 520D\n> \\x00\n< 520D\n"),
+        ("ab\n", "> ab\n< 520D\n"),
+        ("4", "> 4\n< 520D\n"),
+        ("\n\n5700", "> \n< 520D\n> \n< 520D\n> 5700\n< 520D\n"),
+    ];
+    for (source, expected) in files {
+        assert_eq!(printed(source, Form::Frames), expected, "{source:?}");
+    }
+    for (digits, start) in [(4_100, "Command"), (4_101, "Frame  "), (4_102, "Frame  ")] {
+        let text = printed(&format!("43{}\n", "6".repeat(digits - 2)), Form::Text);
+        assert!(text.starts_with(start), "{digits}: {text}");
+    }
+}
+
+/// Of a frame that is too long its start is shown; it is sent whole, and what follows is answered.
+#[test]
+fn overlong_frames() {
+    let digits = "0".repeat(1_000_000);
+    let shown = format!("{}… (1000000 characters)", "0".repeat(60));
+    let refused = "Refused    13: bad frame\n";
+    let walk = "Walk       option byte 0\nAnswer     1 command sent, 0 mailboxes found\n";
+    assert_eq!(
+        printed(&format!("{digits}\n5700\n"), Form::Text),
+        format!("Frame      {shown}\n{refused}\n{walk}")
+    );
+    assert_eq!(printed(&digits, Form::Text), format!("Frame      {shown} (without LF)\n{refused}"));
+    assert_eq!(printed(&digits, Form::Frames), format!("> {shown}\n< 520D\n"));
+}
+
+#[test]
+fn nothing_to_run() {
+    for source in ["", "\r\n", "# a comment\n"] {
+        let output = run_on(source);
+        assert!(output.status.success(), "{source:?}");
+        let message = String::from_utf8(output.stderr).expect("text");
+        assert_eq!(message, "standard input: no items, so there is nothing to run\n", "{source:?}");
+        assert_eq!(output.stdout, source.trim_start().as_bytes(), "{source:?}");
+    }
 }
 
 #[test]
@@ -140,14 +226,40 @@ fn both_forms() {
 fn the_night_of_customers_abc() {
     let text = printed(CUSTOMERS, Form::Text);
     let parts = [
-        "Command    a2 LIST (SUBSCRIBED) \"\" \"%\"\nAnswer     a2 OK done\n",
-        "Answer     * LIST (\\NonExistent) \"/\" \"Customers\" (\"CHILDINFO\" (\"SUBSCRIBED\"))\n",
-        "Answer     * LIST (\\Subscribed) \"/\" \"Customers/ABC\"\n           a4 OK done\n",
-        "Answer     2 commands sent, 1 mailbox found\n           Customers/ABC\n",
+        concat!("Command    a2 LIST (SUBSCRIBED) \"\" \"%\"\n", "Answer     a2 OK done\n"),
+        concat!(
+            "Command    w LIST (SUBSCRIBED RECURSIVEMATCH) \"\" \"%\"\n",
+            "Answer     * LIST (\\NonExistent) \"/\" \"Customers\" (\"CHILDINFO\" (\"SUBSCRIBED\"))\n",
+            "           w OK done\n",
+        ),
+        concat!(
+            "Command    w LIST (SUBSCRIBED RECURSIVEMATCH) \"Customers/\" \"%\"\n",
+            "Answer     * LIST (\\Subscribed) \"/\" \"Customers/ABC\"\n",
+            "           w OK done\n",
+        ),
+        concat!(
+            "Walk       option byte 0\n",
+            "Answer     2 commands sent, 1 mailbox found\n",
+            "           Customers/ABC\n",
+        ),
     ];
+    let mut rest = text.as_str();
     for part in parts {
-        assert!(text.contains(part), "{part} is not in\n{text}");
+        let at = rest.find(part).unwrap_or_else(|| panic!("{part} is not next in\n{text}"));
+        rest = &rest[at + part.len()..];
     }
+    assert_eq!(rest, "");
+}
+
+/// The session that the README shows gives the output that it shows.
+#[test]
+fn the_session_of_the_readme() {
+    let (_, from_session) = README.split_once("one item a line:\n").expect("the session");
+    let (session, from_output) = from_session.split_once("\nand prints ").expect("the output");
+    let (_, from_output) = from_output.split_once(":\n").expect("the output");
+    let (output, _) = from_output.split_once("\nEach line that is no item").expect("an end");
+    let unindented = |text: &str| text.replace("\n    ", "\n").trim_start().to_string();
+    assert_eq!(printed(&unindented(session), Form::Text), unindented(output));
 }
 
 /// The program gives every number but 12, and each stands under the comment that names it.
@@ -175,7 +287,7 @@ fn wrong_calls() {
     assert_eq!(bad_line.status.code(), Some(2));
     assert!(bad_line.stdout.is_empty());
     let message = String::from_utf8(bad_line.stderr).expect("text");
-    assert_eq!(message, "standard input:2: unknown option of a walk \"home\"\n");
+    assert_eq!(message, "standard input: line 2: unknown option of a walk \"home\"; known are remote, special-use and 0 to 255\n");
 
     let calls: [(&[&str], i32, &str); 6] = [
         (&[], 2, "usage: session"),
@@ -191,6 +303,32 @@ fn wrong_calls() {
         let text = String::from_utf8(output.stderr).expect("text");
         assert!(text.starts_with(message), "{arguments:?}: {text}");
     }
+}
+
+/// `./run` tells a wrong call before it proves or builds anything.
+#[test]
+fn wrong_calls_of_run() {
+    let calls: [(&[&str], &str); 9] = [
+        (&["--frame"], "run: unknown option --frame\n"),
+        (&["-x", FILE], "run: unknown option -x\n"),
+        (&["no such.session"], "run: there is no file 'no such.session'\n"),
+        (&[""], "run: the name of the file is empty\n"),
+        (&[FOLDER], "run: '"),
+        (&[FILE, "other"], "run: one file at a time, and 'other' is another one\n"),
+        (&["--", FILE, "other"], "run: one file at a time\n"),
+        (&["--program"], "run: --program takes the path of a program\n"),
+        (&["--program", "no-such-program"], "run: there is no program 'no-such-program'\n"),
+    ];
+    for (arguments, message) in calls {
+        let output = Command::new(RUN).args(arguments).output().expect("a run");
+        assert_eq!(output.status.code(), Some(2), "{arguments:?}");
+        assert!(output.stdout.is_empty(), "{arguments:?}");
+        let text = String::from_utf8(output.stderr).expect("text");
+        assert!(text.starts_with(message), "{arguments:?}: {text}");
+    }
+    let help = Command::new(RUN).arg("--help").output().expect("a run");
+    assert!(help.status.success() && help.stderr.is_empty());
+    assert!(help.stdout.starts_with(b"usage: ./run "));
 }
 
 /// Progress goes to standard error and not into the session.

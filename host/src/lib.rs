@@ -1,5 +1,6 @@
-//! The second program of the listing rules: written from document 01 alone, to be compared
-//! with the proved program and to be the plain measure of its speed.
+//! The second program of the listing rules: written from the papers alone, document 01 and of
+//! document 02 request W1, to be compared with the proved program and to be the plain measure of
+//! its speed.
 //!
 //! The entries are those of document 01: the two checks, the command entry, the line writer,
 //! the line reader, the collector and the frames of the program. Left out, as there: login,

@@ -5,7 +5,7 @@ use std::collections::BTreeMap;
 use crate::command::{ListRequest, Return, Selection};
 use crate::line::{push_line, Attributes};
 use crate::name;
-use crate::pattern::matches;
+use crate::pattern::{matches, ANY_IN_LEVEL};
 use crate::table::{rows_below, Flags, Row};
 
 /// The candidates that match some pattern, with their flags. "lines ascend by name".
@@ -13,6 +13,7 @@ type Matching<'t> = BTreeMap<&'t [u8], Flags>;
 
 /// A candidate that matches some pattern.
 struct Candidate<'r, 't> {
+    name: &'t [u8],
     flags: Flags,
     /// The rows of its descendants. An implied name exists in no table and is not subscribed,
     /// so it never meets the criteria and never counts as a child: rows are enough.
@@ -25,9 +26,13 @@ pub fn list_lines(rows: &[Row], request: &ListRequest) -> Vec<u8> {
     let matching = matching_candidates(rows, &request.canonical_patterns);
     let mut lines = Vec::new();
     for (&name, &flags) in &matching {
-        let candidate = Candidate { flags, below: rows_below(rows, name) };
-        if is_listed(&candidate, selection, &matching) {
-            let attributes = attributes_of(&candidate, selection, request.returned);
+        let candidate = Candidate { name, flags, below: rows_below(rows, name) };
+        let is_level = is_level_above(&candidate, request);
+        if is_level || is_listed(&candidate, selection, &matching) {
+            let mut attributes = attributes_of(&candidate, selection, request.returned);
+            if is_level {
+                attributes.add(Attributes::HAS_CHILDREN);
+            }
             push_line(&mut lines, attributes, name, has_childinfo(&candidate, selection));
         }
     }
@@ -73,11 +78,30 @@ fn is_listed(candidate: &Candidate, selection: Selection, matching: &Matching) -
         || selection.recursive_match && candidate.below.iter().any(meets_unmatched)
 }
 
+/// Document 02, W1: "Where neither RECURSIVEMATCH, SUBSCRIBED nor SPECIAL-USE is selected, a
+/// candidate that does not exist, matches a canonical pattern ending in "%", and has a descendant
+/// that meets the criteria is listed with `\NonExistent` and `\HasChildren`, whether CHILDREN was
+/// asked or not".
+fn is_level_above(candidate: &Candidate, request: &ListRequest) -> bool {
+    let selection = request.selection;
+    let mut percent_patterns =
+        request.canonical_patterns.iter().filter(|pattern| pattern.ends_with(&[ANY_IN_LEVEL]));
+    let narrows = selection.recursive_match || selection.subscribed || selection.special_use;
+    !narrows
+        && !candidate.flags.has(Flags::EXISTS)
+        && percent_patterns.any(|pattern| matches(pattern, candidate.name))
+        && meets_below(candidate, selection)
+}
+
 /// "CHILDINFO is on a listed line exactly if RECURSIVEMATCH was given and some proper
 /// descendant meets the criteria, whether that one matches or not."
 fn has_childinfo(candidate: &Candidate, selection: Selection) -> bool {
-    let mut below = candidate.below.iter();
-    selection.recursive_match && below.any(|row| meets_criteria(row.flags, selection))
+    selection.recursive_match && meets_below(candidate, selection)
+}
+
+/// Whether some descendant meets the criteria, be it matched or not.
+fn meets_below(candidate: &Candidate, selection: Selection) -> bool {
+    candidate.below.iter().any(|row| meets_criteria(row.flags, selection))
 }
 
 /// "Bits 2 to 6 always show".

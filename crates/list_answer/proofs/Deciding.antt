@@ -19,7 +19,9 @@ use Rattle.listing_rules.specs.Flags.{exists, subscribed, remote, noSelect, noI
 use Rattle.listing_rules.specs.Table.{Row, names, flagsOf}
 use Rattle.listing_rules.specs.Options.{Options}
 use Rattle.listing_rules.specs.Match.{matchesAny}
-use Rattle.listing_rules.specs.Listing.{meetsCriteria, candidateMeets, meetsBelow, meetsUnmatchedBelow, listed, childInfo, hasChildren, attributes}
+use Rattle.listing_rules.specs.Listing.{meetsCriteria, candidateMeets, meetsBelow, meetsUnmatchedBelow, unselective, endsInPercent, levelAbove, listed, childInfo, hasChildren, attributes}
+use Rattle.listing_rules.proofs.Bools.{and-assoc}
+use Rattle.listing_rules.proofs.ListLaws.{any-cong}
 use Rattle.listing_rules.proofs.Order.{bytes-total}
 use Rattle.listing_rules.proofs.Sorted.{Asc, ascends-asc, lt-true}
 use Rattle.listing_rules.proofs.NameFlags.{row-flags, meets-zero, meetsBelow-rows, meetsUnmatchedBelow-rows}
@@ -28,12 +30,14 @@ use Rattle.mailbox_table.specs.Words.{rowOfWord}
 use Rattle.mailbox_table.specs.Index.{nameAt, rowAtWord, rowsAt, Indexed}
 use Rattle.mailbox_table.specs.Below.{markedBelow}
 use Rattle.mailbox_table.proofs.IndexLaws.{name-length, names-ascend, shared-at}
+use Rattle.pattern.specs.Chosen.{chosen}
 use Rattle.list_answer.specs.Prefixes.{longer}
 use Rattle.list_answer.specs.Marks.{meetsMark, unmatchedMark, childMark}
 use Rattle.list_answer.specs.Shown.{At, attributesOf}
 use Rattle.list_answer.proofs.Prefixes.{Less, prefix-less, longer-between, longer-has}
 use Rattle.list_answer.proofs.AtRow.{noRow, before-less, later-less, below-later, implied-at, drop-mem}
 use Rattle.list_answer.proofs.Marking.{scan-from}
+use Rattle.list_answer.proofs.Levels.{level, listed-chosen, level-listed}
 
 -- the mark of the row at a place
 pub mark-at : (f : ℕ → Bool) (ws : List ℕ) (ms : List Bool) (i : ℕ) → i < length ws → take (length ws) ms ≡ map f ws → getD ms i false ≡ f (getD ws i 0)
@@ -41,15 +45,6 @@ mark-at f [] ms i h e = absurd (omega arith)
 mark-at f (w ∷ ws) [] i h e = absurd (nil≢cons e)
 mark-at f (w ∷ ws) (m ∷ ms) zero h e = cc
 mark-at f (w ∷ ws) (m ∷ ms) (suc i) h e = let b : take (length ws) ms ≡ map f ws = cc in mark-at f ws ms i (omega arith) b
-
-pub any-cong : {A : Type 0} (f g : A → Bool) → ((x : A) → f x ≡ g x) → (l : List A) → anyOf f l ≡ anyOf g l
-unfolding anyOf
-any-cong f g e [] = refl
-any-cong f g e (x ∷ l) = rw (e x, any-cong f g e l)
-
-and-assoc : (a b c : Bool) → ((a && b) && c) ≡ (a && (b && c))
-and-assoc true b c = refl
-and-assoc false b c = refl
 
 pub map-at : {B : Type 0} (f : ℕ → B) (l : List ℕ) (k : ℕ) (d : B) → k < length l → getD (map f l) k d ≡ f (getD l k 0)
 map-at f [] k d h = absurd (omega arith)
@@ -61,14 +56,15 @@ pub meets-whole : (o : Options) (w : Bool) (f : ℕ) → meetsCriteria o (cond w
 meets-whole o true f = refl
 meets-whole o false f = meets-zero o
 
--- the last two of the sixteen are shown with CHILDREN alone, so children need not be looked for without it
-attributes-of : (rs : List Row) (o : Options) (n : List ℕ) (f : ℕ) (h : Bool) → flagsOf rs n ≡ f → hasChildren rs o n ≡ h → attributes rs o n ≡ attributesOf f o (o .retChildren && h)
+-- but for a level above, the last two of the sixteen are shown with CHILDREN alone, so children need not be looked for without it
+attributes-of : (rs : List Row) (o : Options) (ps : List (List ℕ)) (n : List ℕ) (f : ℕ) (h v : Bool) → flagsOf rs n ≡ f → hasChildren rs o n ≡ h → levelAbove rs o ps n ≡ v → attributes rs o ps n ≡ attributesOf f o (o .retChildren && h) v
 unfolding attributes attributesOf
-attributes-of rs o n f h e g =
-    ap (λ (x : ℕ). first x ++ last (o .retChildren && hasChildren rs o n) (o .retChildren && not (hasChildren rs o n) && not (noInferiors x))) e
-    ∙ ap (λ (k : Bool). first f ++ last (o .retChildren && k) (o .retChildren && not k && not (noInferiors f))) g
-    ∙ ap (λ (k : Bool). first f ++ last k (o .retChildren && not h && not (noInferiors f))) (twice (o .retChildren) h)
-    ∙ ap (λ (k : Bool). first f ++ last (o .retChildren && (o .retChildren && h)) k) (without (o .retChildren) h (noInferiors f))
+attributes-of rs o ps n f h v e g l =
+    ap (λ (x : ℕ). first x ++ last ((o .retChildren && hasChildren rs o n) || levelAbove rs o ps n) (o .retChildren && not (hasChildren rs o n) && not (noInferiors x))) e
+    ∙ ap (λ (k : Bool). first f ++ last ((o .retChildren && k) || levelAbove rs o ps n) (o .retChildren && not k && not (noInferiors f))) g
+    ∙ ap (λ (k : Bool). first f ++ last (k || levelAbove rs o ps n) (o .retChildren && not h && not (noInferiors f))) (twice (o .retChildren) h)
+    ∙ ap (λ (k : Bool). first f ++ last ((o .retChildren && (o .retChildren && h)) || k) (o .retChildren && not h && not (noInferiors f))) l
+    ∙ ap (λ (k : Bool). first f ++ last ((o .retChildren && (o .retChildren && h)) || v) k) (without (o .retChildren) h (noInferiors f))
   where
     usesShow : Bool
     usesShow = o .selSpecial || o .retSpecial
@@ -168,7 +164,7 @@ module _ (area words : List ℕ) (x : Indexed area words) (i len : ℕ) (a : At 
               ⊎-elim (λ f. rw f own) (λ k. bytes-total .trans begun rowName (r .name) own (later-less table asc i (rowAtWord area (getD words i 0)) (drop (suc i) table) behind r k))
               (List·Memᴰ·cases-cons (subst (λ (l : List Row). List·Memᴰ r l) behind m))
 
-  module _ (o : Options) (ps : List (List ℕ)) (meeting unmatched children : List Bool) (em : take (length words) meeting ≡ map (meetsMark o) table) (eu : take (length words) unmatched ≡ map (unmatchedMark o ps) table) (ek : take (length words) children ≡ map (childMark o) table) where
+  module _ (o : Options) (ps : List (List ℕ)) (meeting unmatched children : List Bool) (em : take (length words) meeting ≡ map (meetsMark o) table) (eu : take (length words) unmatched ≡ map (unmatchedMark o ps) table) (ek : take (length words) children ≡ map (childMark o) table) (levels : Bool) (el : levels ≡ (unselective o && anyOf endsInPercent ps)) where
     abbrev pub scanned : List Bool → Bool
     scanned ms = markedBelow begun (drop i (names table)) (drop i ms)
 
@@ -208,11 +204,26 @@ module _ (area words : List ℕ) (x : Indexed area words) (i len : ℕ) (a : At 
         (λ r. and-assoc (below begun (r .name)) (exists (r .flags)) (not (remote (r .flags)) || o .selRemote)) table
         ∙ scan-here (childMark o) children ek
 
-    -- whether it is listed
-    pub listed-here : listed table o ps begun ≡ (matchesAny ps begun && ((eqb (rowOfWord (getD words i 0) .len) len && getD meeting i false) || (o .selRecursive && scanned unmatched)))
-    unfolding listed
-    listed-here = ap (λ (b : Bool). matchesAny ps begun && (b || (o .selRecursive && meetsUnmatchedBelow table o ps begun))) meets-here ∙ ap (λ (b : Bool). matchesAny ps begun && ((eqb (rowOfWord (getD words i 0) .len) len && getD meeting i false) || b)) unmatched-here
+    -- whether it may be listed as a level: it does not exist, and something below it meets the criteria
+    abbrev pub stands : Bool
+    stands = (levels && not (exists (cond (eqb (rowOfWord (getD words i 0) .len) len) rowFlags 0))) && scanned meeting
 
-    -- its attributes
-    pub attributes-here : attributes table o begun ≡ attributesOf (cond (eqb (rowOfWord (getD words i 0) .len) len) rowFlags 0) o (o .retChildren && scanned children)
-    attributes-here = attributes-of table o begun (cond (eqb (rowOfWord (getD words i 0) .len) len) rowFlags 0) (scanned children) flags-here children-here
+    stands-here : level table o ps begun levels el ≡ stands
+    stands-here =
+        ap (λ (f : ℕ). (levels && not (exists f)) && meetsBelow table o begun) flags-here
+        ∙ ap (λ (b : Bool). (levels && not (exists (cond (eqb (rowOfWord (getD words i 0) .len) len) rowFlags 0))) && b) (meetsBelow-rows table (x .ascend) o begun ∙ scan-here (meetsMark o) meeting em)
+
+    -- whether it is listed
+    pub listed-here : listed table o ps begun ≡ (matchesAny (chosen stands ps) begun && (((eqb (rowOfWord (getD words i 0) .len) len && getD meeting i false) || (o .selRecursive && scanned unmatched)) || stands))
+    listed-here =
+        listed-chosen table o ps begun levels el
+        ∙ ap (λ (b : Bool). matchesAny (chosen b ps) begun && ((candidateMeets table o begun || (o .selRecursive && meetsUnmatchedBelow table o ps begun)) || b)) stands-here
+        ∙ ap (λ (b : Bool). matchesAny (chosen stands ps) begun && ((b || (o .selRecursive && meetsUnmatchedBelow table o ps begun)) || stands)) meets-here
+        ∙ ap (λ (b : Bool). matchesAny (chosen stands ps) begun && (((eqb (rowOfWord (getD words i 0) .len) len && getD meeting i false) || b) || stands)) unmatched-here
+
+    -- its attributes, where it matches
+    pub attributes-here : matchesAny (chosen stands ps) begun ≡ true → attributes table o ps begun ≡ attributesOf (cond (eqb (rowOfWord (getD words i 0) .len) len) rowFlags 0) o (o .retChildren && scanned children) stands
+    attributes-here m = attributes-of table o ps begun (cond (eqb (rowOfWord (getD words i 0) .len) len) rowFlags 0) (scanned children) stands flags-here children-here above
+      where
+        above : levelAbove table o ps begun ≡ stands
+        above = level-listed table o ps begun levels el (ap (λ (b : Bool). matchesAny (chosen b ps) begun) stands-here ∙ m) ∙ stands-here

@@ -10,10 +10,11 @@ use Rattle.listing_rules.specs.Bytes.{slash}
 use Rattle.listing_rules.specs.Lists.{every, anyOf, keep, joined}
 use Rattle.listing_rules.specs.Orders.{byteOrder, ascends, sorted}
 use Rattle.listing_rules.specs.Names.{lawfulName, below, properAncestors}
-use Rattle.listing_rules.specs.Table.{Row, names, hasRow}
+use Rattle.listing_rules.specs.Flags.{exists}
+use Rattle.listing_rules.specs.Table.{Row, names, hasRow, flagsOf}
 use Rattle.listing_rules.specs.Options.{Options}
 use Rattle.listing_rules.specs.Match.{matchesAny}
-use Rattle.listing_rules.specs.Listing.{candidates, implied, candidateMeets, meetsUnmatchedBelow, listed, listedNames}
+use Rattle.listing_rules.specs.Listing.{candidates, implied, candidateMeets, meetsBelow, meetsUnmatchedBelow, unselective, endsInPercent, levelAbove, listed, listedNames}
 use Rattle.listing_rules.specs.Server.{lineOf}
 use Rattle.listing_rules.proofs.Bools.{and-l, and-r, or-cases}
 use Rattle.listing_rules.proofs.ListLaws.{every-mem, some-mem, keep-mem, mem-keep}
@@ -36,7 +37,7 @@ module _ (rs : List Row) (o : Options) (ps : List (List ℕ)) where
       go true h = let w = candidate-row rs z h in candidate rs z (w .0) (w .1) (List·Memᴰ·head (sym (w .2)))
       go false h = absurd (false≢true (sym (implied-meets-not rs o z (unfold implied in rw h)) ∙ e))
 
-  -- a name with a descendant that meets them is an ancestor
+  -- a name with a descendant that meets them is an ancestor, be the descendant unmatched or the name a level above
   below-candidate : (z : List ℕ) → meetsUnmatchedBelow rs o ps z ≡ true → List·Memᴰ z (candidates rs)
   unfolding meetsUnmatchedBelow
   below-candidate z e =
@@ -44,11 +45,20 @@ module _ (rs : List Row) (o : Options) (ps : List (List ℕ)) where
       let b : below z (w .0) ≡ true = and-l (below z (w .0)) (candidateMeets rs o (w .0)) (and-l (below z (w .0) && candidateMeets rs o (w .0)) (not (matchesAny ps (w .0))) (w .2)) in
       candidates-closed rs z (w .0) (w .1) (below-anc z (w .0) b)
 
+  level-candidate : (z : List ℕ) → levelAbove rs o ps z ≡ true → List·Memᴰ z (candidates rs)
+  unfolding levelAbove meetsBelow
+  level-candidate z e =
+      let w = some-mem (λ d. below z d && candidateMeets rs o d) (candidates rs) (and-r (unselective o && not (exists (flagsOf rs z)) && matchesAny (keep endsInPercent ps) z) (anyOf (λ d. below z d && candidateMeets rs o d) (candidates rs)) e) in
+      candidates-closed rs z (w .0) (w .1) (below-anc z (w .0) (and-l (below z (w .0)) (candidateMeets rs o (w .0)) (w .2)))
+
   listed-candidate : (z : List ℕ) → listed rs o ps z ≡ true → List·Memᴰ z (candidates rs)
   unfolding listed
-  listed-candidate z e =
-      ⊎-elim (meets-candidate z) (λ k. below-candidate z (and-r (o .selRecursive) (meetsUnmatchedBelow rs o ps z) k))
-      (or-cases (candidateMeets rs o z) (o .selRecursive && meetsUnmatchedBelow rs o ps z) (and-r (matchesAny ps z) (candidateMeets rs o z || (o .selRecursive && meetsUnmatchedBelow rs o ps z)) e))
+  listed-candidate z e = ⊎-elim matched (level-candidate z) (or-cases (matchesAny ps z && (candidateMeets rs o z || (o .selRecursive && meetsUnmatchedBelow rs o ps z))) (levelAbove rs o ps z) e)
+    where
+      matched : (matchesAny ps z && (candidateMeets rs o z || (o .selRecursive && meetsUnmatchedBelow rs o ps z))) ≡ true → List·Memᴰ z (candidates rs)
+      matched f =
+          ⊎-elim (meets-candidate z) (λ k. below-candidate z (and-r (o .selRecursive) (meetsUnmatchedBelow rs o ps z) k))
+          (or-cases (candidateMeets rs o z) (o .selRecursive && meetsUnmatchedBelow rs o ps z) (and-r (matchesAny ps z) (candidateMeets rs o z || (o .selRecursive && meetsUnmatchedBelow rs o ps z)) f))
 
   module _ (law : Lawful rs) where
     full : AllFull rs
@@ -91,6 +101,6 @@ module _ (rs : List Row) (o : Options) (ps : List (List ℕ)) where
         cand-asc = unfold candidates in asc-sorted byteOrder bytes-total (joined (map (λ r. r .name ∷ properAncestors (r .name)) rs))
 
 -- The text of the beginnings that are looked at is that of the listed names.
-pub answer-text : (rs : List Row) (o : Options) (ps : List (List ℕ)) → Lawful rs → ascends (names rs) ≡ true → joined (map (shownText rs o ps) (prefixes rs)) ≡ joined (map (lineOf rs o) (listedNames rs o ps))
+pub answer-text : (rs : List Row) (o : Options) (ps : List (List ℕ)) → Lawful rs → ascends (names rs) ≡ true → joined (map (shownText rs o ps) (prefixes rs)) ≡ joined (map (lineOf rs o ps) (listedNames rs o ps))
 unfolding shownText
-answer-text rs o ps law a = sym (joined-shown (listed rs o ps) (lineOf rs o) (prefixes rs)) ∙ ap (λ (l : List (List ℕ)). joined (map (lineOf rs o) l)) (listed-prefixes rs o ps law a)
+answer-text rs o ps law a = sym (joined-shown (listed rs o ps) (lineOf rs o ps) (prefixes rs)) ∙ ap (λ (l : List (List ℕ)). joined (map (lineOf rs o ps) l)) (listed-prefixes rs o ps law a)

@@ -19,6 +19,8 @@ use Rattle.listing_rules.specs.Listing.{meetsCriteria}
 use Rattle.mailbox_table.specs.Below.{markedBelow}
 use Rattle.mailbox_table.specs.Index.{nameAt, rowAtWord, rowsAt}
 use Rattle.mailbox_table.specs.Words.{rowOfWord}
+use Rattle.pattern.specs.Chosen.{chosen}
+use Rattle.pattern.proofs.Chosen.{chosen-all}
 use Rattle.list_answer.specs.Marks.{unmatchedMark}
 use Rattle.list_answer.proofs.AtRow.{map-append}
 
@@ -71,7 +73,7 @@ module _ (o : Options) (ps : List (List ℕ)) (r : Row) where
       ap (λ (b : Bool). b && (meetsCriteria o (r .flags) && not (matchesAny ps (r .name)))) e
       ∙ ap (λ (b : Bool). b && not (matchesAny ps (r .name))) f
 
-  pub unmatched-met : o .selRecursive ≡ true → meetsCriteria o (r .flags) ≡ true → (m : Bool) → m ≡ (leb (length (r .name)) 255 && matchesAny ps (r .name)) → leb (length (r .name)) 255 ≡ true → not m ≡ unmatchedMark o ps r
+  pub unmatched-met : o .selRecursive ≡ true → meetsCriteria o (r .flags) ≡ true → (m : Bool) → m ≡ (leb (length (r .name)) 255 && matchesAny (chosen false ps) (r .name)) → leb (length (r .name)) 255 ≡ true → not m ≡ unmatchedMark o ps r
   unmatched-met e f m g h =
-      ap not (g ∙ ap (λ (b : Bool). b && matchesAny ps (r .name)) h)
+      ap not (g ∙ ap (λ (b : Bool). b && matchesAny (chosen false ps) (r .name)) h ∙ ap (λ (l : List (List ℕ)). matchesAny l (r .name)) (chosen-all ps))
       ∙ sym (ap (λ (b : Bool). b && (meetsCriteria o (r .flags) && not (matchesAny ps (r .name)))) e ∙ ap (λ (b : Bool). b && not (matchesAny ps (r .name))) f)

@@ -1,6 +1,6 @@
 -- The text of the names that a row begins, and of all rows, step by step.
 use mathlib.Core.Path.{_≡_, refl, sym, ap, _∙_, subst}
-use mathlib.Core.Bool.{Bool, true, false, cond, _&&_, _||_}
+use mathlib.Core.Bool.{Bool, true, false, cond, _&&_, _||_, not, false≢true}
 use mathlib.Core.List.{List, [], _∷_, _++_, map, append-assoc}
 use Prim.Native.Nat.{ℕ, zero, suc, _+_, _-_, _≤_, _<_}
 use native.Mathlib.Numerals.{add-one}
@@ -9,21 +9,24 @@ use lib.Dec.{eqb}
 use lib.ListN.{length, take, drop, getD, drop-of-length-le, length-map}
 use lib.Seq.{drop-cons, take-suc}
 use borrow.Author.Tests.{ne-eqb}
-use Rattle.listing_rules.specs.Lists.{joined}
+use Rattle.listing_rules.specs.Lists.{anyOf, joined}
+use Rattle.listing_rules.specs.Flags.{exists}
 use Rattle.listing_rules.specs.Table.{Row, names}
 use Rattle.listing_rules.specs.Options.{Options}
 use Rattle.listing_rules.specs.Match.{matchesAny}
-use Rattle.listing_rules.specs.Listing.{listed}
+use Rattle.listing_rules.specs.Listing.{unselective, endsInPercent, listed}
+use Rattle.listing_rules.proofs.Bools.{and-assoc}
 use Rattle.mailbox_table.specs.Shared.{sharedLen}
 use Rattle.mailbox_table.specs.Words.{rowOfWord}
 use Rattle.mailbox_table.specs.Index.{nameAt, rowAtWord, rowsAt, Indexed}
 use Rattle.mailbox_table.specs.Below.{markedBelow}
 use Rattle.mailbox_table.proofs.IndexLaws.{name-length, shares-less, shared-at}
+use Rattle.pattern.specs.Chosen.{chosen}
 use Rattle.list_answer.specs.Prefixes.{growing, longer, prefixesAfter, prefixes}
 use Rattle.list_answer.specs.Marks.{meetsMark, unmatchedMark, childMark}
 use Rattle.list_answer.specs.Shown.{At, shownText}
 use Rattle.list_answer.proofs.AtRow.{noRow, joined-append, map-append}
-use Rattle.list_answer.proofs.Deciding.{map-at, listed-here}
+use Rattle.list_answer.proofs.Deciding.{map-at, stands, listed-here}
 
 module _ (T : List ℕ → List ℕ) (n : List ℕ) where
   abbrev pub beyond : ℕ → List ℕ
@@ -55,26 +58,38 @@ nameBefore area words (suc j) = nameAt area (getD words j 0)
 abbrev pub textFrom : (List ℕ → List ℕ) → List ℕ → List ℕ → ℕ → List ℕ
 textFrom T area words i = joined (map T (prefixesAfter (nameBefore area words i) (drop i (rowsAt area words))))
 
-module _ (area words : List ℕ) (x : Indexed area words) (o : Options) (ps : List (List ℕ)) (meeting unmatched children : List Bool) (em : take (length words) meeting ≡ map (meetsMark o) (rowsAt area words)) (eu : take (length words) unmatched ≡ map (unmatchedMark o ps) (rowsAt area words)) (ek : take (length words) children ≡ map (childMark o) (rowsAt area words)) where
+module _ (area words : List ℕ) (x : Indexed area words) (o : Options) (ps : List (List ℕ)) (meeting unmatched children : List Bool) (em : take (length words) meeting ≡ map (meetsMark o) (rowsAt area words)) (eu : take (length words) unmatched ≡ map (unmatchedMark o ps) (rowsAt area words)) (ek : take (length words) children ≡ map (childMark o) (rowsAt area words)) (levels : Bool) (el : levels ≡ (unselective o && anyOf endsInPercent ps)) where
   abbrev texts : List ℕ → List ℕ
   texts = shownText (rowsAt area words) o ps
 
-  -- without RECURSIVEMATCH nothing is shown of a beginning that is not the whole name
-  pub shown-proper : (i len : ℕ) → At words i len → len < rowOfWord (getD words i 0) .len → o .selRecursive ≡ false → texts (take len (nameAt area (getD words i 0))) ≡ []
+  -- without RECURSIVEMATCH and without levels nothing is shown of a beginning that is not the whole name
+  pub shown-proper : (i len : ℕ) → At words i len → len < rowOfWord (getD words i 0) .len → (o .selRecursive || levels) ≡ false → texts (take len (nameAt area (getD words i 0))) ≡ []
   unfolding shownText
   shown-proper i len a h e = rw not-listed
     where
-      none : (m w g r s : Bool) → w ≡ false → r ≡ false → (m && ((w && g) || (r && s))) ≡ false
-      none true w g r s p q = rw (p, q)
-      none false w g r s p q = refl
+      none : (m w g r s v t : Bool) → w ≡ false → (r || v) ≡ false → (m && (((w && g) || (r && s)) || (v && t))) ≡ false
+      none m w g true s v t p q = absurd (false≢true (sym q))
+      none m w g false s true t p q = absurd (false≢true (sym q))
+      none true w g false s false t p q = rw p
+      none false w g false s false t p q = refl
+
+      f : ℕ
+      f = cond (eqb (rowOfWord (getD words i 0) .len) len) (rowOfWord (getD words i 0) .flags .bits) 0
+
+      found : List Bool → Bool
+      found ms = markedBelow (take len (nameAt area (getD words i 0))) (drop i (names (rowsAt area words))) (drop i ms)
 
       not-listed : listed (rowsAt area words) o ps (take len (nameAt area (getD words i 0))) ≡ false
       not-listed =
-          listed-here area words x i len a o ps meeting unmatched children em eu ek
-          ∙ none (matchesAny ps (take len (nameAt area (getD words i 0)))) (eqb (rowOfWord (getD words i 0) .len) len) (getD meeting i false) (o .selRecursive) (markedBelow (take len (nameAt area (getD words i 0))) (drop i (names (rowsAt area words))) (drop i unmatched)) (ne-eqb (rowOfWord (getD words i 0) .len) len (λ f. omega arith)) e
+          listed-here area words x i len a o ps meeting unmatched children em eu ek levels el
+          ∙ ap (λ (b : Bool). M && (((eqb (rowOfWord (getD words i 0) .len) len && getD meeting i false) || (o .selRecursive && found unmatched)) || b)) (and-assoc levels (not (exists f)) (found meeting))
+          ∙ none M (eqb (rowOfWord (getD words i 0) .len) len) (getD meeting i false) (o .selRecursive) (found unmatched) levels (not (exists f) && found meeting) (ne-eqb (rowOfWord (getD words i 0) .len) len (λ k. omega arith)) e
+        where
+          M : Bool
+          M = matchesAny (chosen (stands area words x i len a o ps meeting unmatched children em eu ek levels el) ps) (take len (nameAt area (getD words i 0)))
 
   -- so the whole name is the first to look at
-  pub first-shown : (i : ℕ) → i < length words → (deep : Bool) → deep ≡ o .selRecursive → beyond texts (nameAt area (getD words i 0)) (cond deep (rowOfWord (getD words i 0) .shared) (rowOfWord (getD words i 0) .len - 1)) ≡ beyond texts (nameAt area (getD words i 0)) (rowOfWord (getD words i 0) .shared)
+  pub first-shown : (i : ℕ) → i < length words → (deep : Bool) → deep ≡ (o .selRecursive || levels) → beyond texts (nameAt area (getD words i 0)) (cond deep (rowOfWord (getD words i 0) .shared) (rowOfWord (getD words i 0) .len - 1)) ≡ beyond texts (nameAt area (getD words i 0)) (rowOfWord (getD words i 0) .shared)
   first-shown i h true e = refl
   first-shown i h false e =
       sym

@@ -1,6 +1,7 @@
 // The whole LIST answer: the lines of the names that are listed, in ascending order, and the tagged line.
 use super::decide::Shown;
 use super::decide::decide;
+use super::marks::lists_levels;
 use super::marks::mark_children;
 use super::marks::mark_meeting;
 use super::marks::mark_unmatched;
@@ -41,10 +42,11 @@ fn put_name(
     children: &[bool],
     patterns: &[u8],
     options: Options,
+    levels: bool,
     i: usize,
     len: usize,
 ) -> usize
-    requires { ⌜ Ready (now area) (now words) (now meeting) (now unmatched) (now children) (now patterns) options ⌝ }
+    requires { ⌜ Ready (now area) (now words) (now meeting) (now unmatched) (now children) (now patterns) options levels ⌝ }
     requires { ⌜ At (now words) i len ⌝ }
     ensures { λ r. ⌜ Put (now (buf .entry)) (now (buf .exit)) at (shownText (rowsAt (now (area .entry)) (now (words .entry))) (optionsIs options) (unpacked (now (patterns .entry))) (take len (nameAt (now (area .entry)) (getD (now (words .entry)) i 0)))) r ⌝ }
 {
@@ -56,6 +58,7 @@ fn put_name(
         children,
         patterns,
         options,
+        levels,
         i,
         len,
     ) else {
@@ -65,8 +68,8 @@ fn put_name(
     put_line(buf, at, attributes, &name[..len], child_info)
 }
 
-// How many bytes the beginning has behind which the first name of a row is looked for. Only RECURSIVEMATCH lists a name that is no
-// row's, so without it a row's whole name is its first.
+// How many bytes the beginning has behind which the first name of a row is looked for. A name that is no row's is listed under
+// RECURSIVEMATCH or as a level alone, so without both a row's whole name is its first.
 fn first_length(deep: bool, row: Row) -> usize
     ensures { λ r. ⌜ r ≡ cond deep (row .shared) (row .len - 1) ⌝ }
 {
@@ -90,15 +93,16 @@ fn put_row(
     children: &[bool],
     patterns: &[u8],
     options: Options,
+    levels: bool,
     i: usize,
 ) -> usize
-    requires { ⌜ Ready (now area) (now words) (now meeting) (now unmatched) (now children) (now patterns) options ⌝ }
+    requires { ⌜ Ready (now area) (now words) (now meeting) (now unmatched) (now children) (now patterns) options levels ⌝ }
     requires { ⌜ i < length (now words) ⌝ }
     ensures { λ r. ⌜ Put (now (buf .entry)) (now (buf .exit)) at (joined (map (shownText (rowsAt (now (area .entry)) (now (words .entry))) (optionsIs options) (unpacked (now (patterns .entry)))) (longer (rowOfWord (getD (now (words .entry)) i 0) .shared) (nameAt (now (area .entry)) (getD (now (words .entry)) i 0))))) r ⌝ }
 {
     let row = Row::of_word(words[i]);
     let n = row.len;
-    let mut len = first_length(options.has(Options::RECURSIVEMATCH), row);
+    let mut len = first_length(options.has(Options::RECURSIVEMATCH) | levels, row);
     let mut to = at;
     while len < n {
         len += 1;
@@ -112,6 +116,7 @@ fn put_row(
             children,
             patterns,
             options,
+            levels,
             i,
             len,
         );
@@ -130,8 +135,9 @@ fn put_rows(
     children: &[bool],
     patterns: &[u8],
     options: Options,
+    levels: bool,
 ) -> usize
-    requires { ⌜ Ready (now area) (now words) (now meeting) (now unmatched) (now children) (now patterns) options ⌝ }
+    requires { ⌜ Ready (now area) (now words) (now meeting) (now unmatched) (now children) (now patterns) options levels ⌝ }
     ensures { λ r. ⌜ Put (now (buf .entry)) (now (buf .exit)) at (joined (map (shownText (rowsAt (now (area .entry)) (now (words .entry))) (optionsIs options) (unpacked (now (patterns .entry)))) (prefixes (rowsAt (now (area .entry)) (now (words .entry)))))) r ⌝ }
 {
     let mut to = at;
@@ -147,6 +153,7 @@ fn put_rows(
             children,
             patterns,
             options,
+            levels,
             i,
         );
         i += 1;
@@ -164,9 +171,10 @@ fn put_answer(
     children: &[bool],
     patterns: &[u8],
     options: Options,
+    levels: bool,
     tag: &[u8],
 ) -> usize
-    requires { ⌜ Ready (now area) (now words) (now meeting) (now unmatched) (now children) (now patterns) options ⌝ }
+    requires { ⌜ Ready (now area) (now words) (now meeting) (now unmatched) (now children) (now patterns) options levels ⌝ }
     requires { ⌜ Lawful (rowsAt (now area) (now words)) ⌝ }
     ensures { λ r. ⌜ Put (now (buf .entry)) (now (buf .exit)) 0 (listAnswer (rowsAt (now (area .entry)) (now (words .entry))) (now (tag .entry)) (optionsIs options) (unpacked (now (patterns .entry)))) r ⌝ }
 {
@@ -180,6 +188,7 @@ fn put_answer(
         children,
         patterns,
         options,
+        levels,
     );
     put_ok_line(buf, to, tag)
 }
@@ -193,10 +202,11 @@ fn write_marked(
     children: &[bool],
     patterns: &[u8],
     options: Options,
+    levels: bool,
     tag: &[u8],
     out: &mut [u8],
 ) -> Written
-    requires { ⌜ Ready (now area) (now words) (now meeting) (now unmatched) (now children) (now patterns) options ⌝ }
+    requires { ⌜ Ready (now area) (now words) (now meeting) (now unmatched) (now children) (now patterns) options levels ⌝ }
     requires { ⌜ Lawful (rowsAt (now area) (now words)) ⌝ }
     ensures result { λ r. ⌜ r ≡ writtenIs (limited (length (now (out .entry))) (answered (listAnswer (rowsAt (now (area .entry)) (now (words .entry))) (now (tag .entry)) (optionsIs options) (unpacked (now (patterns .entry)))))) ⌝ }
     ensures bytes { λ _. ⌜ now (out .exit) ≡ bufferAfter (now (out .entry)) (limited (length (now (out .entry))) (answered (listAnswer (rowsAt (now (area .entry)) (now (words .entry))) (now (tag .entry)) (optionsIs options) (unpacked (now (patterns .entry)))))) ⌝ }
@@ -211,6 +221,7 @@ fn write_marked(
         children,
         patterns,
         options,
+        levels,
         tag,
     );
     if out.len() < need {
@@ -225,6 +236,7 @@ fn write_marked(
         children,
         patterns,
         options,
+        levels,
         tag,
     );
     Written::Done(end)
@@ -252,6 +264,7 @@ pub fn write_list(
     mark_meeting(area, words, options, &mut meeting);
     mark_unmatched(area, words, patterns, options, &mut unmatched);
     mark_children(area, words, options, &mut children);
+    let levels = lists_levels(patterns, options);
     write_marked(
         area,
         words,
@@ -260,6 +273,7 @@ pub fn write_list(
         &children,
         patterns,
         options,
+        levels,
         tag,
         out,
     )

@@ -24,9 +24,9 @@ pub(crate) enum Shown {
     Nothing,
 }
 
-// The sixteen, in document 01's order, for a name with these flags.
-fn attributes(flags: Flags, options: Options, children: bool) -> Attributes
-    ensures { λ r. ⌜ r .bits ≡ setOf (attributesOf (flags .bits) (optionsIs options) children) ⌝ }
+// The sixteen, in document 01's order, for a name with these flags. A level shows \HasChildren, asked or not.
+fn attributes(flags: Flags, options: Options, children: bool, level: bool) -> Attributes
+    ensures { λ r. ⌜ r .bits ≡ setOf (attributesOf (flags .bits) (optionsIs options) children level) ⌝ }
 {
     let uses = options.has(Options::SPECIAL_USE) | options.has(Options::RETURN_SPECIAL_USE);
     let subscribed = options.has(Options::SUBSCRIBED) | options.has(Options::RETURN_SUBSCRIBED);
@@ -46,7 +46,7 @@ fn attributes(flags: Flags, options: Options, children: bool) -> Attributes
         flags.has(Flags::JUNK) & uses,
         flags.has(Flags::SENT) & uses,
         flags.has(Flags::TRASH) & uses,
-        asked & children,
+        (asked & children) | level,
         asked & !children & !flags.has(Flags::NO_INFERIORS),
     ])
 }
@@ -88,33 +88,30 @@ pub(crate) fn decide(
     children: &[bool],
     patterns: &[u8],
     options: Options,
+    levels: bool,
     i: usize,
     len: usize,
 ) -> Shown
-    requires { ⌜ Ready (now area) (now words) (now meeting) (now unmatched) (now children) (now patterns) options ⌝ }
+    requires { ⌜ Ready (now area) (now words) (now meeting) (now unmatched) (now children) (now patterns) options levels ⌝ }
     requires { ⌜ At (now words) i len ⌝ }
     ensures { λ r. ⌜ r ≡ shownIs (rowsAt (now (area .entry)) (now (words .entry))) (optionsIs options) (unpacked (now (patterns .entry))) (take len (nameAt (now (area .entry)) (getD (now (words .entry)) i 0))) ⌝ }
 {
     let row = Row::of_word(words[i]);
     let whole = row.len == len;
+    let flags = flags_of(whole, row.flags);
     let own = whole & meeting[i];
     let recursive = options.has(Options::RECURSIVEMATCH);
     let deep = asked_below(recursive & !own, area, words, unmatched, i, len);
-    if !(own | deep) {
+    let absent = levels & !flags.has(Flags::EXISTS);
+    let level = asked_below(absent, area, words, meeting, i, len);
+    if !(own | deep | level) {
         return Shown::Nothing;
     }
-    if !matches_any(patterns, &name_of(area, row)[..len]) {
+    if !matches_any(patterns, level, &name_of(area, row)[..len]) {
         return Shown::Nothing;
     }
     let info = asked_below(recursive, area, words, meeting, i, len);
-    let parent = asked_below(
-        options.has(Options::RETURN_CHILDREN),
-        area,
-        words,
-        children,
-        i,
-        len,
-    );
-    let flags = flags_of(whole, row.flags);
-    Shown::Line(attributes(flags, options, parent), info)
+    let asked = options.has(Options::RETURN_CHILDREN);
+    let parent = asked_below(asked, area, words, children, i, len);
+    Shown::Line(attributes(flags, options, parent, level), info)
 }

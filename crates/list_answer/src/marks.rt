@@ -4,13 +4,15 @@ use mailbox_table::flags::Flags;
 use mailbox_table::rows::Row;
 use mailbox_table::rows::name_of;
 use pattern::matches_any;
+use pattern::some_level;
 ghost use mathlib.Core.Path.{_≡_};
 ghost use mathlib.Core.List.{map};
 ghost use Prim.Native.Nat.{_≤_};
 ghost use lib.ListN.{length, take, replicate};
 ghost use mathlib.Core.Bool.{false, _&&_, _||_, not};
 ghost use Rattle.listing_rules.specs.Flags.{exists, remote};
-ghost use Rattle.listing_rules.specs.Listing.{meetsCriteria};
+ghost use Rattle.listing_rules.specs.Lists.{anyOf};
+ghost use Rattle.listing_rules.specs.Listing.{meetsCriteria, unselective, endsInPercent};
 ghost use Rattle.command_line.specs.OptionSets.{optionsIs};
 ghost use Rattle.mailbox_table.specs.Index.{rowAtWord, rowsAt};
 ghost use Rattle.pattern.specs.Packed.{unpacked};
@@ -40,6 +42,22 @@ fn counts_as_child(options: Options, flags: Flags) -> bool
     ensures { λ r. ⌜ r ≡ (exists (flags .bits) && (not (remote (flags .bits)) || optionsIs options .selRemote)) ⌝ }
 {
     flags.has(Flags::EXISTS) & (!flags.has(Flags::REMOTE) | options.has(Options::REMOTE))
+}
+
+// Whether neither RECURSIVEMATCH, SUBSCRIBED nor SPECIAL-USE is selected.
+fn is_unselective(options: Options) -> bool
+    ensures { λ r. ⌜ r ≡ unselective (optionsIs options) ⌝ }
+{
+    !options.has(Options::RECURSIVEMATCH)
+        & !options.has(Options::SUBSCRIBED)
+        & !options.has(Options::SPECIAL_USE)
+}
+
+// Whether the command lists levels: names that do not exist, above those that meet the criteria.
+pub(crate) fn lists_levels(patterns: &[u8], options: Options) -> bool
+    ensures { λ r. ⌜ r ≡ (unselective (optionsIs options) && anyOf endsInPercent (unpacked (now (patterns .entry)))) ⌝ }
+{
+    is_unselective(options) & some_level(patterns)
 }
 
 // The rows that meet the criteria.
@@ -79,7 +97,7 @@ fn is_unmatched(area: &[u8], word: u64, patterns: &[u8], options: Options) -> bo
     if !meets(options, row.flags) {
         return false;
     }
-    !matches_any(patterns, name_of(area, row))
+    !matches_any(patterns, false, name_of(area, row))
 }
 
 // The rows that meet the criteria and match no pattern, under RECURSIVEMATCH.

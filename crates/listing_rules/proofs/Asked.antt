@@ -100,7 +100,7 @@ module _ (t : List ℕ) (o : ℕ) (ref : List ℕ) where
   pats = (ref ++ text "%") ∷ []
 
   abbrev pub attrsOf : List ℕ → List Bool
-  attrsOf n = attributes (rows t) (walkOptions o) n
+  attrsOf n = attributes (rows t) (walkOptions o) pats n
 
   abbrev pub childOf : List ℕ → Bool
   childOf n = childInfo (rows t) (walkOptions o) n

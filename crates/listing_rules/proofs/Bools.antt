@@ -14,6 +14,10 @@ and-r false b e = cc
 pub and-i : (a b : Bool) → a ≡ true → b ≡ true → (a && b) ≡ true
 and-i a b p q = rw p q
 
+pub and-assoc : (a b c : Bool) → ((a && b) && c) ≡ (a && (b && c))
+and-assoc true b c = refl
+and-assoc false b c = refl
+
 pub or-cases : (a b : Bool) → (a || b) ≡ true → (a ≡ true) ⊎ (b ≡ true)
 or-cases true b e = inl refl
 or-cases false b e = inr e

@@ -10,6 +10,12 @@ use Rattle.listing_rules.specs.Bytes.{all, same}
 use Rattle.listing_rules.specs.Lists.{every, anyOf, keep, joined}
 use Rattle.listing_rules.proofs.Bools.{and-l, and-r, and-i, or-cases, or-l, or-r}
 
+-- equal tests
+pub any-cong : {A : Type 0} (f g : A → Bool) → ((x : A) → f x ≡ g x) → (l : List A) → anyOf f l ≡ anyOf g l
+unfolding anyOf
+any-cong f g e [] = refl
+any-cong f g e (x ∷ l) = rw (e x, any-cong f g e l)
+
 -- tests over lists, and membership
 module _ {A : Type 0} (p : A → Bool) where
   pub every-mem : (l : List A) → every p l ≡ true → (z : A) → List·Memᴰ z l → p z ≡ true

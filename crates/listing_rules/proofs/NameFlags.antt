@@ -6,16 +6,16 @@ use mathlib.Core.List.{List, [], _∷_, List·Memᴰ, List·Memᴰ·head, List·
 use Prim.Native.Nat.{ℕ, Ordering·lt}
 use borrow.Author.Tests.{not-true}
 use Rattle.listing_rules.specs.Bytes.{same, bit}
-use Rattle.listing_rules.specs.Lists.{anyOf}
+use Rattle.listing_rules.specs.Lists.{anyOf, keep}
 use Rattle.listing_rules.specs.Orders.{byteOrder, ascends}
 use Rattle.listing_rules.specs.Names.{below}
 use Rattle.listing_rules.specs.Flags.{exists, subscribed, remote, hasUse}
 use Rattle.listing_rules.specs.Table.{Row, names, hasRow, flagsOf}
 use Rattle.listing_rules.specs.Options.{Options}
 use Rattle.listing_rules.specs.Match.{matchesAny}
-use Rattle.listing_rules.specs.Listing.{candidates, implied, meetsCriteria, candidateMeets, meetsBelow, meetsUnmatchedBelow}
-use Rattle.listing_rules.proofs.Bools.{or-none-l, or-none-r, bools-equal}
-use Rattle.listing_rules.proofs.ListLaws.{some-mem, mem-some, mem-map, same-refl, same-true}
+use Rattle.listing_rules.specs.Listing.{candidates, implied, meetsCriteria, candidateMeets, meetsBelow, meetsUnmatchedBelow, unselective, endsInPercent, levelAbove, hasChildren}
+use Rattle.listing_rules.proofs.Bools.{and-l, and-r, and-assoc, or-none-l, or-none-r, bools-equal}
+use Rattle.listing_rules.proofs.ListLaws.{some-mem, mem-some, mem-map, any-cong, same-refl, same-true}
 use Rattle.listing_rules.proofs.Order.{bytes-total}
 use Rattle.listing_rules.proofs.Sorted.{Asc, above-mem, irrefl, ascends-asc}
 use Rattle.listing_rules.proofs.Ancestors.{candidate}
@@ -38,6 +38,19 @@ meets-zero o = go (o .selSubscribed) (not (o .selSpecial) || hasUse 0)
     go : (s u : Bool) → ((s && true) && (not s || false) && u) ≡ false
     go true u = refl
     go false u = refl
+
+-- where no criterion is selected, what exists meets them, be it local or REMOTE selected
+pub plain-criteria : (o : Options) (f : ℕ) → unselective o ≡ true → meetsCriteria o f ≡ (exists f && (not (remote f) || o .selRemote))
+unfolding unselective meetsCriteria
+plain-criteria o f h = go (o .selRecursive) (o .selSubscribed) (o .selSpecial) (exists f) (not (remote f) || o .selRemote) h
+  where
+    go : (r s u e n : Bool) → (not r && not s && not u) ≡ true → ((e || s) && n && (not s || subscribed f) && (not u || hasUse f)) ≡ (e && n)
+    go true s u e n h = absurd (false≢true h)
+    go false true u e n h = absurd (false≢true h)
+    go false false true e n h = absurd (false≢true h)
+    go false false false true true h = refl
+    go false false false true false h = refl
+    go false false false false n h = refl
 
 pub implied-meets-not : (rs : List Row) (o : Options) (n : List ℕ) → implied rs n ≡ true → candidateMeets rs o n ≡ false
 unfolding candidateMeets
@@ -97,3 +110,17 @@ module _ (rs : List Row) (h : ascends (names rs) ≡ true) where
   pub meetsUnmatchedBelow-rows : (o : Options) (ps : List (List ℕ)) (n : List ℕ) → meetsUnmatchedBelow rs o ps n ≡ anyOf (λ r. below n (r .name) && meetsCriteria o (r .flags) && not (matchesAny ps (r .name))) rs
   unfolding meetsUnmatchedBelow candidateMeets
   meetsUnmatchedBelow-rows o ps n = tested-rows (λ d f. below n d && meetsCriteria o f && not (matchesAny ps d)) (λ d. rw (meets-zero o, and-false (below n d)))
+
+  -- W1: a level above what meets the criteria has children, so it never shows \HasNoChildren
+  pub level-has-children : (o : Options) (ps : List (List ℕ)) (n : List ℕ) → levelAbove rs o ps n ≡ true → hasChildren rs o n ≡ true
+  unfolding levelAbove hasChildren
+  level-has-children o ps n e =
+      sym (any-cong (λ r. below n (r .name) && meetsCriteria o (r .flags)) (λ r. below n (r .name) && exists (r .flags) && (not (remote (r .flags)) || o .selRemote)) (λ r. same-child (below n (r .name)) (r .flags)) rs)
+      ∙ sym (meetsBelow-rows o n)
+      ∙ and-r (unselective o && not (exists (flagsOf rs n)) && matchesAny (keep endsInPercent ps) n) (meetsBelow rs o n) e
+    where
+      free : unselective o ≡ true
+      free = and-l (unselective o) (not (exists (flagsOf rs n))) (and-l (unselective o && not (exists (flagsOf rs n))) (matchesAny (keep endsInPercent ps) n) (and-l (unselective o && not (exists (flagsOf rs n)) && matchesAny (keep endsInPercent ps) n) (meetsBelow rs o n) e))
+
+      same-child : (b : Bool) (f : ℕ) → (b && meetsCriteria o f) ≡ (b && exists f && (not (remote f) || o .selRemote))
+      same-child b f = ap (λ (m : Bool). b && m) (plain-criteria o f free) ∙ sym (and-assoc b (exists f) (not (remote f) || o .selRemote))

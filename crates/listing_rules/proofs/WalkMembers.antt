@@ -22,7 +22,7 @@ use Rattle.listing_rules.proofs.Percent.{oneLevel}
 use Rattle.listing_rules.proofs.Levels.{child, levels-one, walk-siblings, walk-same-depth, Name, ChildOf}
 use Rattle.listing_rules.proofs.LawfulNames.{below-split}
 use Rattle.listing_rules.proofs.Asked.{pats, attrsOf, childOf, names-listed, finds, asks}
-use Rattle.listing_rules.proofs.WalkSets.{find-met, matches-top, matches-below}
+use Rattle.listing_rules.proofs.WalkSets.{find-met, walk-listed, matches-top, matches-below}
 
 -- names of one level: walk order is byte order
 pub walk-tops : (x y : Name) → oneLevel x ≡ true → oneLevel y ≡ true → walkOrder x y ≡ byteOrder x y
@@ -47,32 +47,32 @@ module _ (t : List ℕ) (o : ℕ) where
   Hit ref z = matchesAny (pats t o ref) z ≡ true
 
   pub find-to : (ref z : Name) → List·Memᴰ z (finds t o ref) → List·Memᴰ z cands × Hit ref z × (M z ≡ true)
-  unfolding listedNames listed candidateMeets
+  unfolding listedNames candidateMeets
   find-to ref z m =
       let w = keep-mem (λ n. isFind o (attrsOf t o ref n)) (names-listed t o ref) z m in
       let v = keep-mem (listed (rows t) (walkOptions o) (pats t o ref)) cands z (w .0) in
-      (v .0, and-l (matchesAny (pats t o ref) z) _ (v .1), sym (find-met (rows t) o z) ∙ w .1)
+      (v .0, and-l (matchesAny (pats t o ref) z) _ (sym (walk-listed (rows t) o (pats t o ref) z) ∙ v .1), sym (find-met (rows t) o (pats t o ref) z) ∙ w .1)
 
   pub find-from : (ref z : Name) → List·Memᴰ z cands → Hit ref z → M z ≡ true → List·Memᴰ z (finds t o ref)
-  unfolding listedNames listed candidateMeets
+  unfolding listedNames candidateMeets
   find-from ref z c h m =
       mem-keep (λ n. isFind o (attrsOf t o ref n)) (names-listed t o ref) z
-      (mem-keep (listed (rows t) (walkOptions o) (pats t o ref)) cands z c (and-i (matchesAny (pats t o ref) z) _ h (or-l (M z) _ m)))
-      (find-met (rows t) o z ∙ m)
+      (mem-keep (listed (rows t) (walkOptions o) (pats t o ref)) cands z c (walk-listed (rows t) o (pats t o ref) z ∙ and-i (matchesAny (pats t o ref) z) _ h (or-l (M z) _ m)))
+      (find-met (rows t) o (pats t o ref) z ∙ m)
 
   pub ask-to : (ref z : Name) → List·Memᴰ z (asks t o ref) → List·Memᴰ z cands × Hit ref z × Low z
-  unfolding listedNames listed candidateMeets childInfo meetsBelow walkOptions
+  unfolding listedNames candidateMeets childInfo meetsBelow walkOptions
   ask-to ref z m =
       let w = keep-mem (childOf t o ref) (names-listed t o ref) z m in
       let v = keep-mem (listed (rows t) (walkOptions o) (pats t o ref)) cands z (w .0) in
       let s = some-mem (λ d. below z d && M d) cands (w .1) in
-      (v .0, and-l (matchesAny (pats t o ref) z) _ (v .1), (s .0, s .1, and-l (below z (s .0)) (M (s .0)) (s .2), and-r (below z (s .0)) (M (s .0)) (s .2)))
+      (v .0, and-l (matchesAny (pats t o ref) z) _ (sym (walk-listed (rows t) o (pats t o ref) z) ∙ v .1), (s .0, s .1, and-l (below z (s .0)) (M (s .0)) (s .2), and-r (below z (s .0)) (M (s .0)) (s .2)))
 
   pub ask-from : (ref z : Name) → ((d : Name) → below z d ≡ true → Hit ref d → ⊥) → List·Memᴰ z cands → Hit ref z → Low z → List·Memᴰ z (asks t o ref)
-  unfolding listedNames listed candidateMeets childInfo meetsBelow meetsUnmatchedBelow walkOptions
+  unfolding listedNames candidateMeets childInfo meetsBelow meetsUnmatchedBelow walkOptions
   ask-from ref z deeper c h l =
       mem-keep (childOf t o ref) (names-listed t o ref) z
-      (mem-keep (listed (rows t) (walkOptions o) (pats t o ref)) cands z c (and-i (matchesAny (pats t o ref) z) _ h (or-r (M z) _ unmatched)))
+      (mem-keep (listed (rows t) (walkOptions o) (pats t o ref)) cands z c (walk-listed (rows t) o (pats t o ref) z ∙ and-i (matchesAny (pats t o ref) z) _ h (or-r (M z) _ unmatched)))
       (mem-some (λ d. below z d && M d) cands (l .0) (l .1) (and-i (below z (l .0)) (M (l .0)) (l .2) (l .3)))
     where
       no-hit : (d : Name) → below z d ≡ true → (b : Bool) → matchesAny (pats t o ref) d ≡ b → not b ≡ true

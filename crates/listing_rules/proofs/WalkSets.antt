@@ -13,7 +13,7 @@ use Rattle.listing_rules.specs.Names.{nameByte, inbox, openNames}
 use Rattle.listing_rules.specs.Flags.{exists, subscribed, remote, uses, hasUse}
 use Rattle.listing_rules.specs.Table.{Row, flagsOf}
 use Rattle.listing_rules.specs.Match.{wildMatch, matches, matchesAny}
-use Rattle.listing_rules.specs.Listing.{meetsCriteria, candidateMeets, attributes}
+use Rattle.listing_rules.specs.Listing.{meetsCriteria, candidateMeets, meetsUnmatchedBelow, unselective, levelAbove, listed, attributes}
 use Rattle.listing_rules.specs.Walk.{wantsRemote, wantsSpecial, isFind, attr, useAttr}
 use Rattle.listing_rules.specs.Demand3.{walkOptions}
 use Rattle.listing_rules.proofs.Bools.{and-l, and-r, and-i}
@@ -26,11 +26,16 @@ find-bools : (S s x e b₈ b₉ b₁₀ b₁₁ b₁₂ b₁₃ b₁₄ : Bool) 
 find-bools true s x e b₈ b₉ b₁₀ b₁₁ b₁₂ b₁₃ b₁₄ = simp (and-true, or-true, or-false, or-assoc) (ap (λ (y : Bool). y && (b₈ || (b₉ || (b₁₀ || (b₁₁ || (b₁₂ || (b₁₃ || b₁₄))))))) (and-comm s x))
 find-bools false s x e b₈ b₉ b₁₀ b₁₁ b₁₂ b₁₃ b₁₄ = simp (and-true, or-true) (and-comm s x)
 
-pub find-met : (rs : List Row) (o : ℕ) (n : List ℕ) → isFind o (attributes rs (walkOptions o) n) ≡ candidateMeets rs (walkOptions o) n
+pub find-met : (rs : List Row) (o : ℕ) (ps : List (List ℕ)) (n : List ℕ) → isFind o (attributes rs (walkOptions o) ps n) ≡ candidateMeets rs (walkOptions o) n
 unfolding isFind attr useAttr attributes walkOptions candidateMeets meetsCriteria hasUse uses anyOf
-find-met rs o n =
+find-met rs o ps n =
     let f = flagsOf rs n in
     find-bools (wantsSpecial o) (subscribed f) (not (remote f) || wantsRemote o) (exists f) (bit 8 f) (bit 9 f) (bit 10 f) (bit 11 f) (bit 12 f) (bit 13 f) (bit 14 f)
+
+-- a walk selects RECURSIVEMATCH, so no level is listed for a final "%" alone
+pub walk-listed : (rs : List Row) (o : ℕ) (ps : List (List ℕ)) (n : List ℕ) → listed rs (walkOptions o) ps n ≡ (matchesAny ps n && (candidateMeets rs (walkOptions o) n || meetsUnmatchedBelow rs (walkOptions o) ps n))
+unfolding listed levelAbove unselective walkOptions
+walk-listed rs o ps n = or-false _
 
 -- the pattern % alone, and below a name
 oneLevel-inbox : oneLevel inbox ≡ true

@@ -30,9 +30,9 @@ sheet =
     -- E2: the same with "*"
     ∷ over tableE (sends "C04 LIST (SUBSCRIBED RECURSIVEMATCH) \"\" \"*\"")
     (answered (lines ("* LIST (\\Subscribed) \"/\" \"Foo/Baz\"" ∷ "C04 OK done" ∷ [])))
-    -- E3
+    -- E3, with W1's Foo as its first line
     ∷ over tableE (sends "a LIST \"\" % RETURN (CHILDREN)")
-    (answered (lines ("* LIST (\\HasNoChildren) \"/\" \"Foo-x\"" ∷ "* LIST (\\Marked \\NoInferiors) \"/\" \"INBOX\"" ∷ "* LIST (\\HasNoChildren) \"/\" \"Moo\"" ∷ "a OK done" ∷ [])))
+    (answered (lines ("* LIST (\\NonExistent \\HasChildren) \"/\" \"Foo\"" ∷ "* LIST (\\HasNoChildren) \"/\" \"Foo-x\"" ∷ "* LIST (\\Marked \\NoInferiors) \"/\" \"INBOX\"" ∷ "* LIST (\\HasNoChildren) \"/\" \"Moo\"" ∷ "a OK done" ∷ [])))
     -- E4: "in%" lists INBOX; "moo" lists nothing
     ∷ over tableE (sends "a LIST \"\" \"in%\"")
     (answered (lines ("* LIST (\\Marked \\NoInferiors) \"/\" \"INBOX\"" ∷ "a OK done" ∷ [])))

@@ -37,6 +37,10 @@ plain = replicate 16 false
 abbrev both-marked : List Bool
 both-marked = true ∷ true ∷ replicate 14 false
 
+-- levels without a mailbox: a row 0002, a parent of a remote row, and two of a local one
+abbrev levels-table : List ℕ
+levels-table = joined (mailbox 0x0002 "P" ∷ mailbox 0x0001 "P/q" ∷ mailbox 0x0001 "Q" ∷ mailbox 0x0002 "Q/n" ∷ mailbox 0x0005 "R/r" ∷ mailbox 0x0001 "T/u/v" ∷ [])
+
 abbrev pub limits : List Case
 limits =
     -- flags, row by row: bits 7 and 15, marked with unmarked, and what does not exist
@@ -87,7 +91,21 @@ limits =
     -- quotes and backslashes; "%" stays in a level, "*" does not; the reference counts, wildcards and all
     ∷ replies 16384 (all-named ("a\"\\" ∷ "b/c" ∷ [])) [] (sends "a LIST \"%\" (\"\\\"\\\\\" *c /c)")
     (answered (lines ("* LIST () \"/\" \"a\\\"\\\\\"" ∷ "* LIST () \"/\" \"b/c\"" ∷ "a OK done" ∷ [])))
-    ∷ replies 16384 (all-named ("b/c" ∷ [])) [] (sends "a LIST \"\" (% b% %c)") (answered (sends "a OK done"))
+    ∷ replies 16384 (all-named ("b/c" ∷ [])) [] (sends "a LIST \"\" (* %c)") (answered (lines ("* LIST () \"/\" \"b/c\"" ∷ "a OK done" ∷ [])))
+    ∷ replies 16384 (all-named ("b/c" ∷ [])) [] (sends "a LIST \"\" %c") (answered (sends "a OK done"))
+    -- W1: levels above what meets the criteria, under a pattern that ends in "%" and matches them; a remote row does not lift its
+    -- parent unless REMOTE is selected
+    ∷ replies 16384 levels-table [] (sends "a LIST \"\" %")
+    (answered (lines ("* LIST (\\NonExistent \\HasChildren) \"/\" \"P\"" ∷ "* LIST () \"/\" \"Q\"" ∷ "* LIST (\\NonExistent \\HasChildren) \"/\" \"T\"" ∷ "a OK done" ∷ [])))
+    ∷ replies 16384 levels-table [] (sends "a LIST (REMOTE) \"\" (*% Q) RETURN (SUBSCRIBED CHILDREN)")
+    (answered (lines ("* LIST (\\Subscribed \\NonExistent \\HasChildren) \"/\" \"P\"" ∷ "* LIST (\\HasNoChildren) \"/\" \"P/q\"" ∷ "* LIST (\\HasNoChildren) \"/\" \"Q\"" ∷ "* LIST (\\NonExistent \\HasChildren) \"/\" \"R\"" ∷ "* LIST (\\Remote \\HasNoChildren) \"/\" \"R/r\"" ∷ "* LIST (\\NonExistent \\HasChildren) \"/\" \"T\"" ∷ "* LIST (\\NonExistent \\HasChildren) \"/\" \"T/u\"" ∷ "* LIST (\\HasNoChildren) \"/\" \"T/u/v\"" ∷ "a OK done" ∷ [])))
+    -- not under another pattern that matches, nor under SUBSCRIBED or SPECIAL-USE
+    ∷ replies 16384 levels-table [] (sends "a LIST \"\" (T* P x%)") (answered (lines ("* LIST () \"/\" \"T/u/v\"" ∷ "a OK done" ∷ [])))
+    ∷ replies 16384 levels-table [] (sends "a LIST (SUBSCRIBED) \"\" %") (answered (lines ("* LIST (\\Subscribed \\NonExistent) \"/\" \"P\"" ∷ "a OK done" ∷ [])))
+    ∷ replies 16384 (mailbox 0x0101 "a/b") [] (sends "a LIST (SPECIAL-USE) \"\" %") (answered (sends "a OK done"))
+    -- 9 counts these lines
+    ∷ replies 55 (all-named ("b/c" ∷ [])) [] (sends "a LIST \"\" %") (answered (lines ("* LIST (\\NonExistent \\HasChildren) \"/\" \"b\"" ∷ "a OK done" ∷ [])))
+    ∷ replies 54 (all-named ("b/c" ∷ [])) [] (sends "a LIST \"\" %") (refusal 9)
     -- the INBOX rule is for the name INBOX alone
     ∷ replies 16384 (all-named ("INBOX" ∷ "INBOX/x" ∷ [])) [] (sends "a LIST inb (ox ox/% ox/x)")
     (answered (lines ("* LIST () \"/\" \"INBOX\"" ∷ "a OK done" ∷ [])))

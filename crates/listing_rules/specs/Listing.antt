@@ -1,6 +1,7 @@
 -- What is listed, and with which attributes.
 use mathlib.Core.List.{List, [], _∷_, map}
-use mathlib.Core.Bool.{Bool, _&&_, _||_, not}
+use mathlib.Core.Bool.{Bool, false, _&&_, _||_, not}
+use lib.Dec.{eqb}
 use Prim.Native.Nat.{ℕ}
 use Rattle.listing_rules.specs.Bytes.{bit}
 use Rattle.listing_rules.specs.Lists.{anyOf, keep, joined}
@@ -39,10 +40,26 @@ meetsBelow rs o n = anyOf (λ d. below n d && candidateMeets rs o d) (candidates
 unfoldable pub meetsUnmatchedBelow : List Row → Options → List (List ℕ) → List ℕ → Bool
 meetsUnmatchedBelow rs o ps n = anyOf (λ d. below n d && candidateMeets rs o d && not (matchesAny ps d)) (candidates rs)
 
+-- Document 02, W1: "Where neither RECURSIVEMATCH, SUBSCRIBED nor SPECIAL-USE is selected"
+unfoldable pub unselective : Options → Bool
+unselective o = not (o .selRecursive) && not (o .selSubscribed) && not (o .selSpecial)
+
+-- "a canonical pattern ending in "%"": its last byte, after unquoting
+unfoldable pub endsInPercent : List ℕ → Bool
+endsInPercent [] = false
+endsInPercent (c ∷ []) = eqb c 0x25
+endsInPercent (c ∷ d ∷ t) = endsInPercent (d ∷ t)
+
+-- "a candidate that does not exist, matches a canonical pattern ending in "%", and has a descendant that meets the criteria"
+unfoldable pub levelAbove : List Row → Options → List (List ℕ) → List ℕ → Bool
+levelAbove rs o ps n =
+    unselective o && not (exists (flagsOf rs n)) && matchesAny (keep endsInPercent ps) n && meetsBelow rs o n
+
 -- "A candidate that matches some pattern is listed if it meets the criteria, or, under RECURSIVEMATCH, if some descendant meets them
---  and matches no pattern (RFC 5258, 3.3)."
+--  and matches no pattern (RFC 5258, 3.3)." With W1, a level above what meets the criteria "is listed" too.
 unfoldable pub listed : List Row → Options → List (List ℕ) → List ℕ → Bool
-listed rs o ps n = matchesAny ps n && (candidateMeets rs o n || (o .selRecursive && meetsUnmatchedBelow rs o ps n))
+listed rs o ps n =
+    (matchesAny ps n && (candidateMeets rs o n || (o .selRecursive && meetsUnmatchedBelow rs o ps n))) || levelAbove rs o ps n
 
 -- "CHILDINFO is on a listed line exactly if RECURSIVEMATCH was given and some proper descendant meets the criteria"
 unfoldable pub childInfo : List Row → Options → List ℕ → Bool
@@ -54,9 +71,10 @@ hasChildren rs o n = anyOf (λ r. below n (r .name) && exists (r .flags) && (not
 
 -- Which of the sixteen are shown, in their order. "\Subscribed is shown only if SUBSCRIBED is selected or returned, uses only if
 -- SPECIAL-USE is, the last two only with CHILDREN. Bits 2 to 6 always show, \NonExistent on all that do not exist."
--- "Else \HasNoChildren, except beside \NoInferiors."
-unfoldable pub attributes : List Row → Options → List ℕ → List Bool
-attributes rs o n =
+-- "Else \HasNoChildren, except beside \NoInferiors." W1: a level above "is listed with \NonExistent and \HasChildren, whether CHILDREN
+-- was asked or not, and \Subscribed as document 01 says" (it has children, law `level-has-children`).
+unfoldable pub attributes : List Row → Options → List (List ℕ) → List ℕ → List Bool
+attributes rs o ps n =
     let f = flagsOf rs n in
     let usesShow = o .selSpecial || o .retSpecial in
     marked f
@@ -73,7 +91,7 @@ attributes rs o n =
     ∷ (bit 12 f && usesShow)
     ∷ (bit 13 f && usesShow)
     ∷ (bit 14 f && usesShow)
-    ∷ (o .retChildren && hasChildren rs o n)
+    ∷ ((o .retChildren && hasChildren rs o n) || levelAbove rs o ps n)
     ∷ (o .retChildren && not (hasChildren rs o n) && not (noInferiors f))
     ∷ []
 
@@ -83,5 +101,5 @@ listedNames rs o ps = keep (listed rs o ps) (candidates rs)
 
 -- opens every definition of this file, for a proof by computation
 unfoldable pub openListing : Unit {0}
-unfolding candidates implied meetsCriteria candidateMeets meetsBelow meetsUnmatchedBelow listed childInfo hasChildren attributes listedNames
+unfolding candidates implied meetsCriteria candidateMeets meetsBelow meetsUnmatchedBelow unselective endsInPercent levelAbove listed childInfo hasChildren attributes listedNames
 openListing = tt

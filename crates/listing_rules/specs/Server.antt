@@ -19,12 +19,12 @@ pub data Reply : Type 0 where
   answered : List ℕ → Reply
 
 -- the line of a listed name
-unfoldable pub lineOf : List Row → Options → List ℕ → List ℕ
-lineOf rs o n = listLine (attributes rs o n) n (childInfo rs o n)
+unfoldable pub lineOf : List Row → Options → List (List ℕ) → List ℕ → List ℕ
+lineOf rs o ps n = listLine (attributes rs o ps n) n (childInfo rs o n)
 
 -- the LIST lines, then the tagged line
 unfoldable pub listAnswer : List Row → List ℕ → Options → List (List ℕ) → List ℕ
-listAnswer rs tag o ps = joined (map (lineOf rs o) (listedNames rs o ps)) ++ okLine tag
+listAnswer rs tag o ps = joined (map (lineOf rs o ps) (listedNames rs o ps)) ++ okLine tag
 
 -- "a delimiter is quoted or NIL"
 unfoldable pub delimiterText : ℕ → List ℕ

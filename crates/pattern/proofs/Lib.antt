@@ -4,3 +4,4 @@ pub mod Wild
 pub mod Rows
 pub mod Packed
 pub mod Blank
+pub mod Chosen

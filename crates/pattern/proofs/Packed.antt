@@ -8,8 +8,7 @@ use native.Mathlib.Numerals.{add-one}
 use native.Mathlib.Omega.{arith}
 use lib.ListN.{length, drop, take, getD, length-drop, drop-of-length-le}
 use lib.Seq.{drop-drop, drop-cons, take-all, take-append-seam, drop-append-seam}
-use Rattle.listing_rules.specs.Lists.{joined, anyOf}
-use Rattle.listing_rules.specs.Match.{matches, matchesAny}
+use Rattle.listing_rules.specs.Lists.{joined}
 use Rattle.listing_rules.specs.Walk.{packed}
 use Rattle.pattern.specs.Packed.{unpackedAfter, unpacked, openPacked}
 
@@ -62,17 +61,3 @@ pub unpacked-packed : (ps : List (List ℕ)) → unpacked (packed ps) ≡ ps
 unfolding packed joined
 unpacked-packed [] = unpacked-none
 unpacked-packed (p ∷ ps) = unpacked-first (length p) (p ++ packed ps) ∙ rw (take-append-seam p (packed ps), drop-append-seam p (packed ps), unpacked-packed ps)
-
--- some pattern matches: the one at a place, or one behind it
-module _ (l name : List ℕ) (at e : ℕ) (h : at < length l) (q : e ≡ min (at + 1 + getD l at 0) (length l)) where
-  pub any-yes : matches (take (e - (at + 1)) (drop (at + 1) l)) name ≡ true → matchesAny (unpacked (drop at l)) name ≡ true
-  unfolding matchesAny anyOf
-  any-yes m = rw (unpacked-next l at e h q, m)
-
-  pub any-no : matches (take (e - (at + 1)) (drop (at + 1) l)) name ≡ false → matchesAny (unpacked (drop at l)) name ≡ matchesAny (unpacked (drop e l)) name
-  unfolding matchesAny anyOf
-  any-no m = rw (unpacked-next l at e h q, m)
-
-pub any-none : (l name : List ℕ) (at : ℕ) → length l ≤ at → matchesAny (unpacked (drop at l)) name ≡ false
-unfolding matchesAny anyOf
-any-none l name at h = rw (drop-of-length-le l h, unpacked-none)

@@ -3,3 +3,4 @@ pub mod Folded
 pub mod Runs
 pub mod Rows
 pub mod Packed
+pub mod Chosen

@@ -4,18 +4,21 @@
 // row of flags, one for each place of the name, computed from the last byte of the pattern to the first.
 
 ghost use mathlib.Core.Path.{_≡_};
-ghost use mathlib.Core.Bool.{Bool, true, false, _&&_};
+ghost use mathlib.Core.Bool.{Bool, true, false, _&&_, _||_, not};
 ghost use mathlib.Core.List.{List, []};
 ghost use Prim.Native.Nat.{ℕ, _+_, _<_, min};
 ghost use lib.Dec.{leb};
 ghost use lib.ListN.{length, getD, replicate};
 ghost use Rattle.listing_rules.specs.Bytes.{same};
+ghost use Rattle.listing_rules.specs.Lists.{anyOf};
 ghost use Rattle.listing_rules.specs.Names.{inbox};
 ghost use Rattle.listing_rules.specs.Match.{anyTail, anyTailInLevel, headThen, wildMatch, matches, matchesAny};
+ghost use Rattle.listing_rules.specs.Listing.{endsInPercent};
 ghost use Rattle.pattern.specs.Folded.{letterOf, folded, isWildcard};
 ghost use Rattle.pattern.specs.Rows.{RowOf, Blank, oneByte, noSlash};
 ghost use Rattle.pattern.specs.Runs.{RunEnd};
 ghost use Rattle.pattern.specs.Packed.{unpacked};
+ghost use Rattle.pattern.specs.Chosen.{chosen};
 
 // The longest name that is looked at; a longer one matches nothing. (A mailbox name has at most 200 bytes.)
 pub const MAX_NAME: usize = 255;
@@ -31,9 +34,9 @@ pub fn matches(pattern: &[u8], name: &[u8]) -> bool
 }
 
 // Whether the name matches one of the patterns, which lie one behind the other, each as a length byte and its bytes. A last
-// pattern that runs past the end is cut short there.
-pub fn matches_any(patterns: &[u8], name: &[u8]) -> bool
-    ensures { λ r. ⌜ r ≡ (leb (length (now (name .entry))) 255 && matchesAny (unpacked (now (patterns .entry))) (now (name .entry))) ⌝ }
+// pattern that runs past the end is cut short there. With `levels`, the patterns that end in "%" are the only ones.
+pub fn matches_any(patterns: &[u8], levels: bool, name: &[u8]) -> bool
+    ensures { λ r. ⌜ r ≡ (leb (length (now (name .entry))) 255 && matchesAny (chosen levels (unpacked (now (patterns .entry)))) (now (name .entry))) ⌝ }
 {
     if MAX_NAME < name.len() {
         return false;
@@ -43,12 +46,50 @@ pub fn matches_any(patterns: &[u8], name: &[u8]) -> bool
     while at < patterns.len() {
         let start = at + 1;
         let end = item_end(patterns, at);
-        if wild_match(&patterns[start..end], name, fold) {
+        if chosen_match(&patterns[start..end], levels, name, fold) {
             return true;
         }
         at = end;
     }
     false
+}
+
+// Whether one of the patterns, packed as for `matches_any`, ends in "%".
+pub fn some_level(patterns: &[u8]) -> bool
+    ensures { λ r. ⌜ r ≡ anyOf endsInPercent (unpacked (now (patterns .entry))) ⌝ }
+{
+    let mut at = 0;
+    while at < patterns.len() {
+        let start = at + 1;
+        let next = item_end(patterns, at);
+        if ends_in_percent(&patterns[start..next]) {
+            return true;
+        }
+        at = next;
+    }
+    false
+}
+
+// Whether the last byte of the pattern is "%".
+fn ends_in_percent(pattern: &[u8]) -> bool
+    ensures { λ r. ⌜ r ≡ endsInPercent (now (pattern .entry)) ⌝ }
+{
+    let n = pattern.len();
+    if n == 0 {
+        return false;
+    }
+    pattern[n - 1] == b'%'
+}
+
+// Whether the name matches the pattern, and the pattern counts: with `levels`, only if it ends in "%".
+fn chosen_match(pattern: &[u8], levels: bool, name: &[u8], fold: bool) -> bool
+    requires { ⌜ length (now name) < 256 ⌝ }
+    ensures { λ r. ⌜ r ≡ ((not levels || endsInPercent (now (pattern .entry))) && wildMatch (folded fold (now (pattern .entry))) (now (name .entry))) ⌝ }
+{
+    if levels & !ends_in_percent(pattern) {
+        return false;
+    }
+    wild_match(pattern, name, fold)
 }
 
 // Where the item at this place of a packed run ends: behind its bytes, or where the run ends.

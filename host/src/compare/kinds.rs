@@ -2,6 +2,7 @@
 
 use super::commands::{command, damaged, hostile_pattern, push_value};
 use super::damage::{damaged_table, namespace_list};
+use super::levels::levels_above;
 use super::limits;
 use super::random::Random;
 use super::sending::Sending;
@@ -17,7 +18,7 @@ use crate::table::Flags;
 type Kind = (&'static str, fn(&mut Random) -> Vec<SentFrame>);
 
 /// A seed's kind is the seed modulo their number.
-pub const KINDS: [Kind; 17] = [
+pub const KINDS: [Kind; 19] = [
     ("a table and commands", commands_over_a_table),
     ("a growing table", growing_table),
     ("a damaged table", damaged_tables),
@@ -35,6 +36,8 @@ pub const KINDS: [Kind; 17] = [
     ("limits of pending", limits::walks_for_pending),
     ("limits of found and pending", limits::walks_for_both),
     ("limits of scratch", limits::walks_for_scratch),
+    ("levels above mailboxes", levels_above),
+    ("limits of answers with levels", limits::answers_with_levels),
 ];
 
 fn commands_over_a_table(random: &mut Random) -> Vec<SentFrame> {

@@ -16,6 +16,8 @@ use crate::table::{Flags, MAX_ROWS, ROW_HEAD};
 
 /// Existing and subscribed.
 const SUBSCRIBED: Flags = Flags::from_bits(Flags::EXISTS.bits() | Flags::SUBSCRIBED.bits());
+/// Existing and remote.
+const REMOTE: Flags = Flags::from_bits(Flags::EXISTS.bits() | Flags::REMOTE.bits());
 /// Longer than the answers whose length is measured.
 const AMPLE_ROOM: usize = 65_536;
 
@@ -99,12 +101,35 @@ pub fn commands(random: &mut Random) -> Vec<SentFrame> {
     sending.frames
 }
 
-/// Answers that fill their buffer, or are a byte longer or shorter; the tag makes the length.
+/// Answers that fill their buffer, or are a byte longer or shorter.
 pub fn answers(random: &mut Random) -> Vec<SentFrame> {
     let flags = if random.percent(50) { Flags::EXISTS } else { SUBSCRIBED };
     let rest = random.pick(&[" LIST \"\" *", " LIST \"\" % RETURN (SUBSCRIBED CHILDREN)"]);
+    let rows = numbered_rows(random.within(200..=270), 10, flags);
+    answers_of(random, rows, rest, &[])
+}
+
+/// The same for the lines of levels: each row lies below a level of its own that has no row, and
+/// the pattern lists these levels alone. Without REMOTE the levels of remote rows have no line.
+pub fn answers_with_levels(random: &mut Random) -> Vec<SentFrame> {
+    let flags = random.pick(&[&Flags::EXISTS, &REMOTE]);
+    let rest = random.pick(&[" LIST (REMOTE) \"\" %", " LIST (REMOTE) \"\" (x* %%) RETURN ()"]);
+    let mut rows = numbered_rows(random.within(200..=270), 10, *flags);
+    for row in &mut rows {
+        row.name.extend_from_slice(b"/c");
+    }
+    answers_of(random, rows, rest, &[" LIST \"\" %", " LIST \"\" % RETURN (CHILDREN)"])
+}
+
+/// Commands whose answers fill the buffer, or are a byte longer or shorter; the tag makes the
+/// length. Under the same tags then others.
+fn answers_of(
+    random: &mut Random,
+    mut rows: Vec<NewRow>,
+    rest: &str,
+    others: &[&str],
+) -> Vec<SentFrame> {
     let shortest = format!("t{rest}\r\n");
-    let mut rows = numbered_rows(random.within(200..=270), 10, flags);
     let start = random.within(ANSWER_ROOM - 1_900..=ANSWER_ROOM - 100);
     stretch(&mut rows, start, |rows| answer_length(&table_bytes(rows), &shortest));
     let table = table_bytes(&rows);
@@ -113,7 +138,9 @@ pub fn answers(random: &mut Random) -> Vec<SentFrame> {
     sending.table(&table);
     for target in [ANSWER_ROOM - 1, ANSWER_ROOM, ANSWER_ROOM + 1] {
         let tag = "t".repeat(1 + target - length);
-        sending.command_text(&format!("{tag}{rest}"));
+        for rest in [&[rest], others].concat() {
+            sending.command_text(&format!("{tag}{rest}"));
+        }
     }
     sending.frames
 }

@@ -6,6 +6,7 @@
 pub mod commands;
 pub mod damage;
 mod kinds;
+mod levels;
 mod limits;
 pub mod random;
 mod report;

@@ -1,4 +1,4 @@
-//! E1 to E8 of the expert's sheet (document 01).
+//! E1 to E8 of the expert's sheet (document 01), E3 with the line that W1 (document 02) adds.
 
 use crate::common::{check, check_dialogue, check_walk, table_of, Rows};
 use luspemaro_host::{answer, check_table};
@@ -47,6 +47,7 @@ fn e3_children() {
         &[],
         r#"
         C: a LIST "" % RETURN (CHILDREN)
+        S: * LIST (\NonExistent \HasChildren) "/" "Foo"
         S: * LIST (\HasNoChildren) "/" "Foo-x"
         S: * LIST (\Marked \NoInferiors) "/" "INBOX"
         S: * LIST (\HasNoChildren) "/" "Moo"

@@ -1,6 +1,8 @@
-//! What is listed, beside the RFCs' examples: implied names, remote names, order, attributes.
+//! What is listed, beside the RFCs' examples: implied names, remote names, order, attributes, and
+//! the levels of W1 (document 02).
 
-use crate::common::check_dialogue;
+use crate::common::{check_dialogue, table_of, Rows};
+use luspemaro_host::answer;
 
 /// The implied Foo stands before Foo-x, and Foo-x is no descendant of Foo.
 #[test]
@@ -143,4 +145,152 @@ fn quotes_and_backslashes() {
         S: a OK done
         "#,
     );
+}
+
+/// Levels without a mailbox: a row 0002, a parent of a remote row, and two of a local one. Q
+/// exists, and below it is nothing that does.
+const LEVELS: &Rows = &[
+    ("P", "subscribed"),
+    ("P/q", "exists"),
+    ("Q", "exists"),
+    ("Q/n", "subscribed"),
+    ("R/r", "exists remote"),
+    ("S/t", "subscribed"),
+    ("T/u/v", "exists trash"),
+];
+
+/// W1: a level above what meets the criteria is listed under a pattern that ends in "%" and
+/// matches it, whatever comes before that "%", and whether the descendant matches or not.
+#[test]
+fn levels_under_a_final_percent() {
+    check_dialogue(
+        LEVELS,
+        &[],
+        r#"
+        C: a LIST "" %
+        S: * LIST (\NonExistent \HasChildren) "/" "P"
+        S: * LIST () "/" "Q"
+        S: * LIST (\NonExistent \HasChildren) "/" "T"
+        S: a OK done
+        C: b LIST "" "%%"
+        S: * LIST (\NonExistent \HasChildren) "/" "P"
+        S: * LIST () "/" "Q"
+        S: * LIST (\NonExistent \HasChildren) "/" "T"
+        S: b OK done
+        C: c LIST "" *%
+        S: * LIST (\NonExistent \HasChildren) "/" "P"
+        S: * LIST () "/" "P/q"
+        S: * LIST () "/" "Q"
+        S: * LIST (\NonExistent \HasChildren) "/" "T"
+        S: * LIST (\NonExistent \HasChildren) "/" "T/u"
+        S: * LIST () "/" "T/u/v"
+        S: c OK done
+        C: d LIST T /%
+        S: * LIST (\NonExistent \HasChildren) "/" "T/u"
+        S: d OK done
+        C: e LIST "" T%
+        S: * LIST (\NonExistent \HasChildren) "/" "T"
+        S: e OK done
+        C: f LIST "" %/u%
+        S: * LIST (\NonExistent \HasChildren) "/" "T/u"
+        S: f OK done
+        "#,
+    );
+}
+
+/// W1 asks for that very pattern: one of another ending that matches the level does not list it,
+/// nor does a reference that ends in "%" before an empty pattern.
+#[test]
+fn levels_under_other_patterns() {
+    check_dialogue(
+        LEVELS,
+        &[],
+        r#"
+        C: a LIST "" (T* P x%)
+        S: * LIST () "/" "T/u/v"
+        S: a OK done
+        C: b LIST "" (%* %/u x%)
+        S: * LIST () "/" "P/q"
+        S: * LIST () "/" "Q"
+        S: * LIST () "/" "T/u/v"
+        S: b OK done
+        C: c LIST "" (P T%)
+        S: * LIST (\NonExistent \HasChildren) "/" "T"
+        S: c OK done
+        C: d LIST () "%" ""
+        S: d OK done
+        C: e LIST "%" ("" u)
+        S: e OK done
+        "#,
+    );
+}
+
+/// W1 is for commands that select none of SUBSCRIBED, RECURSIVEMATCH and SPECIAL-USE. REMOTE
+/// lets remote descendants count; what is returned does not matter.
+#[test]
+fn levels_and_options() {
+    check_dialogue(
+        LEVELS,
+        &[],
+        r#"
+        C: a LIST (REMOTE) "" %
+        S: * LIST (\NonExistent \HasChildren) "/" "P"
+        S: * LIST () "/" "Q"
+        S: * LIST (\NonExistent \HasChildren) "/" "R"
+        S: * LIST (\NonExistent \HasChildren) "/" "T"
+        S: a OK done
+        C: b LIST "" % RETURN (SUBSCRIBED CHILDREN SPECIAL-USE)
+        S: * LIST (\Subscribed \NonExistent \HasChildren) "/" "P"
+        S: * LIST (\HasNoChildren) "/" "Q"
+        S: * LIST (\NonExistent \HasChildren) "/" "T"
+        S: b OK done
+        C: c LIST (SUBSCRIBED) "" %
+        S: * LIST (\Subscribed \NonExistent) "/" "P"
+        S: c OK done
+        C: d LIST (SUBSCRIBED RECURSIVEMATCH) "" %
+        S: * LIST (\Subscribed \NonExistent) "/" "P"
+        S: * LIST () "/" "Q" ("CHILDINFO" ("SUBSCRIBED"))
+        S: * LIST (\NonExistent) "/" "S" ("CHILDINFO" ("SUBSCRIBED"))
+        S: d OK done
+        C: e LIST (SPECIAL-USE) "" %
+        S: e OK done
+        C: f LIST (SPECIAL-USE REMOTE) "" *%
+        S: * LIST (\Trash) "/" "T/u/v"
+        S: f OK done
+        "#,
+    );
+}
+
+/// W1 and the rule for INBOX: an implied one is listed for `in%`; inbox below it is no INBOX.
+#[test]
+fn an_implied_inbox() {
+    check_dialogue(
+        &[("INBOX/inbox/x", "exists"), ("inboxx/y", "exists")],
+        &[],
+        r#"
+        C: a LIST "" in%
+        S: * LIST (\NonExistent \HasChildren) "/" "INBOX"
+        S: * LIST (\NonExistent \HasChildren) "/" "inboxx"
+        S: a OK done
+        C: b LIST "" inbox/%
+        S: b OK done
+        C: c LIST INBOX /%
+        S: * LIST (\NonExistent \HasChildren) "/" "INBOX/inbox"
+        S: c OK done
+        C: d LIST "" inbox
+        S: d OK done
+        "#,
+    );
+}
+
+/// 9 counts the lines of W1 too.
+#[test]
+fn levels_count_for_the_buffer() {
+    let table = table_of(&[("b/c", "exists")]);
+    let expected = b"* LIST (\\NonExistent \\HasChildren) \"/\" \"b\"\r\na OK done\r\n";
+    for (room, result) in [(expected.len(), Ok(expected.len())), (expected.len() - 1, Err(9))] {
+        let mut out = vec![0; room];
+        assert_eq!(answer(&table, &[], b"a LIST \"\" %\r\n", &mut out), result);
+        assert_eq!(out == expected, result.is_ok());
+    }
 }

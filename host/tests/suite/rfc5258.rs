@@ -1,4 +1,4 @@
-//! The examples of RFC 5258, section 5, as far as they fit document 01.
+//! The examples of RFC 5258, section 5, as far as they fit documents 01 and 02.
 //!
 //! Document 01's own choices stand in all of them: lines ascend by name, every name is quoted,
 //! INBOX is spelled so, attributes have one order, and each answer ends with `OK done`.
@@ -348,7 +348,9 @@ fn rfc5258_ex10() {
     );
 }
 
-/// a2 and a3 do not fit: document 01 lists a parent without a row only under RECURSIVEMATCH.
+/// a2 and a3 fit since W1 (document 02). a3.1 differs: the RFC prints music/rock alone, as
+/// "there's no need for the server to also return "music"", and goes on "However clients must
+/// handle both cases"; W1 leaves no choice, so both lines are given.
 #[test]
 fn rfc5258_ex11() {
     check_dialogue(
@@ -359,7 +361,15 @@ fn rfc5258_ex11() {
         S: * LIST (\Remote) "/" "also/jazz"
         S: * LIST () "/" "music/rock"
         S: a1 OK done
+        C: a2 LIST () "" %
+        S: * LIST (\NonExistent \HasChildren) "/" "music"
+        S: a2 OK done
+        C: a3 LIST (REMOTE) "" %
+        S: * LIST (\NonExistent \HasChildren) "/" "also"
+        S: * LIST (\NonExistent \HasChildren) "/" "music"
+        S: a3 OK done
         C: a3.1 LIST "" (% music/rock)
+        S: * LIST (\NonExistent \HasChildren) "/" "music"
         S: * LIST () "/" "music/rock"
         S: a3.1 OK done
         "#,

@@ -1,21 +1,23 @@
 -- `matches_any` meets its contract: some pattern from here on matches exactly if some of the whole does.
-use mathlib.Core.Path.{_≡_, refl, sym, _∙_}
+use mathlib.Core.Path.{_≡_, refl, sym, ap, _∙_}
+use mathlib.Core.Bool.{Bool, _||_}
 use Prim.Native.Nat.{_≤_, _-_}
 use lib.ListN.{length, drop}
 use Rattle.listing_rules.specs.Match.{matchesAny}
 use Rattle.pattern.specs.Packed.{unpacked}
-use Rattle.pattern.proofs.Folded.{long-name, short-name, matches-folded}
-use Rattle.pattern.proofs.Packed.{any-none, any-yes, any-no}
+use Rattle.pattern.specs.Chosen.{chosen}
+use Rattle.pattern.proofs.Folded.{long-name, short-name}
+use Rattle.pattern.proofs.Chosen.{match-next, match-end}
 use borrow.Author.Needs.{needs}
 use native.Mathlib.Omega.{arith}
 use Rattle.pattern.proofs.matches_any.Statement.{statement}
 use Rattle.pattern.proofs.matches_any.Tie as tie
 
 abbrev Inv-loop : tie.InvT-loop
-Inv-loop patterns name fold at₀ at = (at ≤ length patterns) × (matchesAny (unpacked (drop at patterns)) name ≡ matchesAny (unpacked patterns) name)
+Inv-loop patterns levels name fold at₀ at = (at ≤ length patterns) × (matchesAny (chosen levels (unpacked (drop at patterns))) name ≡ matchesAny (chosen levels (unpacked patterns)) name)
 
 abbrev μ-loop : tie.MeasureT-loop
-μ-loop patterns name fold at₀ at = length patterns - at
+μ-loop patterns levels name fold at₀ at = length patterns - at
 
 returns : tie.Need-returns Inv-loop μ-loop
 returns c = long-name (c .before .before .before .args .name .now) _ (c .if1 .taken)
@@ -32,33 +34,29 @@ add-start c = search needs
 item-end-requires : tie.Need-item-end-requires Inv-loop μ-loop
 item-end-requires c κs = search needs
 
-sub-wild-match : tie.Need-sub-wild-match Inv-loop μ-loop
-sub-wild-match c = search needs
+sub-chosen-match : tie.Need-sub-chosen-match Inv-loop μ-loop
+sub-chosen-match c = search needs
 
-part-wild-match-start : tie.Need-part-wild-match-start Inv-loop μ-loop
-part-wild-match-start c = search needs
+part-chosen-match-start : tie.Need-part-chosen-match-start Inv-loop μ-loop
+part-chosen-match-start c = search needs
 
-part-wild-match-end : tie.Need-part-wild-match-end Inv-loop μ-loop
-part-wild-match-end c = search needs
+part-chosen-match-end : tie.Need-part-chosen-match-end Inv-loop μ-loop
+part-chosen-match-end c = search needs
 
-wild-match-requires : tie.Need-wild-match-requires Inv-loop μ-loop
-wild-match-requires c κs = search needs
+chosen-match-requires : tie.Need-chosen-match-requires Inv-loop μ-loop
+chosen-match-requires c κs = search needs
 
 returns-2 : tie.Need-returns-2 Inv-loop μ-loop
-returns-2 c =
-    let m = sym (matches-folded _ _ _ (c .before .before .before .before .before .before .is-inbox .ensures)) ∙ sym (c .before .wild-match .ensures) ∙ c .if2 .taken in
-    short-name (c .before .before .before .before .before .before .before .before .before .before .args .name .now) _ _ (c .before .before .before .before .before .before .before .if1 .left) (sym (any-yes _ _ _ _ (c .before .before .before .before .loop-test .taken) (c .before .before .before .item-end .ensures) m) ∙ c .before .before .before .before .before .loop .inv .1)
+returns-2 c = short-name (c .before .before .before .before .before .before .before .before .before .before .args .name .now) _ _ (c .before .before .before .before .before .before .before .if1 .left) (sym (ap (λ (b : Bool). b || matchesAny (chosen (c .before .before .before .before .before .before .before .before .before .before .args .levels) (unpacked (drop (c .before .before .before .item-end .result) (c .before .before .before .before .before .before .before .before .before .before .args .patterns .now)))) (c .before .before .before .before .before .before .before .before .before .before .args .name .now)) (c .if2 .taken)) ∙ sym (match-next (c .before .before .before .before .before .before .before .before .before .before .args .patterns .now) _ _ (c .before .before .before .before .loop-test .taken) (c .before .before .before .item-end .ensures) (c .before .before .before .before .before .before .before .before .before .before .args .levels) (c .before .before .before .before .before .before .before .before .before .before .args .name .now) _ (c .before .before .before .before .before .before .is-inbox .ensures) _ (c .before .chosen-match .ensures)) ∙ c .before .before .before .before .before .loop .inv .1)
 
 loop-less : tie.Need-loop-less Inv-loop μ-loop
 loop-less c = search needs
 
 loop-again : tie.Need-loop-again Inv-loop μ-loop
-loop-again c =
-    let m = sym (matches-folded _ _ _ (c .before .before .before .before .before .before .is-inbox .ensures)) ∙ sym (c .before .wild-match .ensures) ∙ c .if2 .left in
-    (omega arith, sym (any-no _ _ _ _ (c .before .before .before .before .loop-test .taken) (c .before .before .before .item-end .ensures) m) ∙ c .before .before .before .before .before .loop .inv .1)
+loop-again c = (omega arith, sym (ap (λ (b : Bool). b || matchesAny (chosen (c .before .before .before .before .before .before .before .before .before .before .args .levels) (unpacked (drop (c .before .before .before .item-end .result) (c .before .before .before .before .before .before .before .before .before .before .args .patterns .now)))) (c .before .before .before .before .before .before .before .before .before .before .args .name .now)) (c .if2 .left)) ∙ sym (match-next (c .before .before .before .before .before .before .before .before .before .before .args .patterns .now) _ _ (c .before .before .before .before .loop-test .taken) (c .before .before .before .item-end .ensures) (c .before .before .before .before .before .before .before .before .before .before .args .levels) (c .before .before .before .before .before .before .before .before .before .before .args .name .now) _ (c .before .before .before .before .before .before .is-inbox .ensures) _ (c .before .chosen-match .ensures)) ∙ c .before .before .before .before .before .loop .inv .1)
 
 returns-3 : tie.Need-returns-3 Inv-loop μ-loop
-returns-3 c = short-name (c .before .before .before .before .before .before .args .name .now) _ _ (c .before .before .before .if1 .left) (sym (any-none _ _ _ (c .loop-test .left)) ∙ c .before .loop .inv .1)
+returns-3 c = short-name (c .before .before .before .before .before .before .args .name .now) _ _ (c .before .before .before .if1 .left) (sym (match-end _ _ (c .loop-test .left) (c .before .before .before .before .before .before .args .levels) _) ∙ c .before .loop .inv .1)
 
 pub matches-any-spec : {M : Type 1} → statement M
 matches-any-spec =
@@ -71,10 +69,10 @@ matches-any-spec =
     loop-holds
     add-start
     item-end-requires
-    sub-wild-match
-    part-wild-match-start
-    part-wild-match-end
-    wild-match-requires
+    sub-chosen-match
+    part-chosen-match-start
+    part-chosen-match-end
+    chosen-match-requires
     returns-2
     loop-less
     loop-again

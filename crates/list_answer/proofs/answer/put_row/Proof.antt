@@ -1,5 +1,5 @@
 use mathlib.Core.Path.{_≡_, refl, sym, ap, _∙_, subst}
-use mathlib.Core.Bool.{Bool, cond}
+use mathlib.Core.Bool.{Bool, cond, _||_}
 use mathlib.Core.List.{List, [], _++_, append-assoc, append-nil}
 use Prim.Native.Nat.{ℕ, _+_, _-_, _≤_}
 use lib.ListN.{take, getD}
@@ -28,12 +28,12 @@ use Rattle.list_answer.proofs.answer.put_name.Reads as put-name-reads
 use Rattle.mailbox_table.proofs.rows.Row.of_word.Reads as of-word-reads
 
 abbrev Inv-loop : tie.InvT-loop
-Inv-loop buf₀ at area words meeting unmatched children patterns options i n len₀ to₀ buf len to =
+Inv-loop buf₀ at area words meeting unmatched children patterns options levels i n len₀ to₀ buf len to =
     (n ≡ rowOfWord (getD words i 0) .len) × (rowOfWord (getD words i 0) .shared ≤ len) × (len ≤ n)
     × ((acc : List ℕ) × Put buf₀ buf at acc to × (acc ++ beyond (shownText (rowsAt area words) (optionsIs options) (unpacked patterns)) (nameAt area (getD words i 0)) len ≡ beyond (shownText (rowsAt area words) (optionsIs options) (unpacked patterns)) (nameAt area (getD words i 0)) (rowOfWord (getD words i 0) .shared)))
 
 abbrev μ-loop : tie.MeasureT-loop
-μ-loop buf₀ at area words meeting unmatched children patterns options i n len₀ to₀ buf len to = n - len
+μ-loop buf₀ at area words meeting unmatched children patterns options levels i n len₀ to₀ buf len to = n - len
 
 -- src/answer.rt:90:28
 recursive : (o : OptionSet) (b : Bool) → b ≡ contains (o .bits) 4 → b ≡ optionsIs o .selRecursive
@@ -69,17 +69,18 @@ loop-holds c =
     let children = c .before .before .before .before .before .before .before .before .before .before .before .args .children .now in
     let patterns = c .before .before .before .before .before .before .before .before .before .before .before .args .patterns .now in
     let options = c .before .before .before .before .before .before .before .before .before .before .before .args .options in
+    let levels = c .before .before .before .before .before .before .before .before .before .before .before .args .levels in
     let i = c .before .before .before .before .before .before .before .before .before .before .before .args .i in
     let R = c .before .before .before .before .before .before .before .before .before .before .before .pre .0 in
     let h = c .before .before .before .before .before .before .before .before .before .before .before .pre .1 in
-    let deep = c .before .has .result in
+    let deep = c .before .has .result || levels in
     let e = c .before .before .of-word .ensures in
     let f : c .first-length .result ≡ cond deep (rowOfWord (getD words i 0) .shared) (rowOfWord (getD words i 0) .len - 1) = c .first-length .ensures ∙ ap (λ (q : Row). cond deep (q .shared) (q .len - 1)) e in
-    let g = first-range area words (R .indexed) (optionsIs options) (unpacked patterns) meeting unmatched children (R .meeting) (R .lacking) (R .childish) i h deep in (
+    let g = first-range area words (R .indexed) (optionsIs options) (unpacked patterns) meeting unmatched children (R .meeting) (R .lacking) (R .childish) levels (R .levelled) i h deep in (
       ap (λ (q : Row). q .len) e,
       omega (arith, f, g .0),
       omega (arith, f, g .1, ap (λ (q : Row). q .len) e),
-      ([], put-none _ _ (search needs) (search needs), ap (beyond (shownText (rowsAt area words) (optionsIs options) (unpacked patterns)) (nameAt area (getD words i 0))) f ∙ first-shown area words (R .indexed) (optionsIs options) (unpacked patterns) meeting unmatched children (R .meeting) (R .lacking) (R .childish) i h deep (recursive options deep (c .before .has .ensures))),
+      ([], put-none _ _ (search needs) (search needs), ap (beyond (shownText (rowsAt area words) (optionsIs options) (unpacked patterns)) (nameAt area (getD words i 0))) f ∙ first-shown area words (R .indexed) (optionsIs options) (unpacked patterns) meeting unmatched children (R .meeting) (R .lacking) (R .childish) levels (R .levelled) i h deep (ap (λ (b : Bool). b || levels) (recursive options (c .before .has .result) (c .before .has .ensures)))),
     )
 
 -- src/answer.rt:95:9
@@ -96,6 +97,7 @@ put-name-requires c κs =
     let children = c .before .before .before .before .before .before .before .before .before .before .before .before .before .before .args .children .now in
     let patterns = c .before .before .before .before .before .before .before .before .before .before .before .before .before .before .args .patterns .now in
     let options = c .before .before .before .before .before .before .before .before .before .before .before .before .before .before .args .options in
+    let levels = c .before .before .before .before .before .before .before .before .before .before .before .before .before .before .args .levels in
     let i = c .before .before .before .before .before .before .before .before .before .before .before .before .before .before .args .i in
     let R = c .before .before .before .before .before .before .before .before .before .before .before .before .before .before .pre .0 in
     let h = c .before .before .before .before .before .before .before .before .before .before .before .before .before .before .pre .1 in
@@ -116,6 +118,7 @@ loop-again c =
     let children = c .before .before .before .before .before .before .before .before .before .before .before .before .before .before .before .before .before .args .children .now in
     let patterns = c .before .before .before .before .before .before .before .before .before .before .before .before .before .before .before .before .before .args .patterns .now in
     let options = c .before .before .before .before .before .before .before .before .before .before .before .before .before .before .before .before .before .args .options in
+    let levels = c .before .before .before .before .before .before .before .before .before .before .before .before .before .before .before .before .before .args .levels in
     let i = c .before .before .before .before .before .before .before .before .before .before .before .before .before .before .before .before .before .args .i in
     let R = c .before .before .before .before .before .before .before .before .before .before .before .before .before .before .before .before .before .pre .0 in
     let h = c .before .before .before .before .before .before .before .before .before .before .before .before .before .before .before .before .before .pre .1 in
@@ -144,6 +147,7 @@ returns c =
     let children = c .before .before .before .before .before .before .before .before .before .before .before .before .before .args .children .now in
     let patterns = c .before .before .before .before .before .before .before .before .before .before .before .before .before .args .patterns .now in
     let options = c .before .before .before .before .before .before .before .before .before .before .before .before .before .args .options in
+    let levels = c .before .before .before .before .before .before .before .before .before .before .before .before .before .args .levels in
     let i = c .before .before .before .before .before .before .before .before .before .before .before .before .before .args .i in
     let R = c .before .before .before .before .before .before .before .before .before .before .before .before .before .pre .0 in
     let h = c .before .before .before .before .before .before .before .before .before .before .before .before .before .pre .1 in

@@ -21,11 +21,11 @@ use Rattle.list_answer.proofs.answer.put_rows.Lts as lts
 use Rattle.list_answer.proofs.answer.put_row.Reads as put-row-reads
 
 abbrev Inv-loop : tie.InvT-loop
-Inv-loop buf₀ at area words meeting unmatched children patterns options to₀ i₀ buf to i =
+Inv-loop buf₀ at area words meeting unmatched children patterns options levels to₀ i₀ buf to i =
     (i ≤ length words) × ((acc : List ℕ) × Put buf₀ buf at acc to × (acc ++ textFrom (shownText (rowsAt area words) (optionsIs options) (unpacked patterns)) area words i ≡ joined (map (shownText (rowsAt area words) (optionsIs options) (unpacked patterns)) (prefixes (rowsAt area words)))))
 
 abbrev μ-loop : tie.MeasureT-loop
-μ-loop buf₀ at area words meeting unmatched children patterns options to₀ i₀ buf to i = length words - i
+μ-loop buf₀ at area words meeting unmatched children patterns options levels to₀ i₀ buf to i = length words - i
 
 -- src/answer.rt:118:5
 loop-holds : tie.Need-loop-holds Inv-loop μ-loop
@@ -54,13 +54,14 @@ loop-again c =
     let children = c .before .before .before .before .before .before .before .before .before .before .before .before .before .args .children .now in
     let patterns = c .before .before .before .before .before .before .before .before .before .before .before .before .before .args .patterns .now in
     let options = c .before .before .before .before .before .before .before .before .before .before .before .before .before .args .options in
+    let levels = c .before .before .before .before .before .before .before .before .before .before .before .before .before .args .levels in
     let R = c .before .before .before .before .before .before .before .before .before .before .before .before .before .pre in
     let T = shownText (rowsAt area words) (optionsIs options) (unpacked patterns) in
     let v = c .before .before .before .before .before .loop .inv .1 in
     let i = c .before .before .before .before .before .loop .i in
     let X = beyond T (nameAt area (getD words i 0)) (rowOfWord (getD words i 0) .shared) in (
       omega arith,
-      (v .0 ++ X, put-then (v .1) (c .before .before .put-row .ensures), append-assoc (v .0) X (textFrom T area words (i + 1)) ∙ ap (λ (l : List ℕ). v .0 ++ l) (sym (rows-step area words (R .indexed) (optionsIs options) (unpacked patterns) meeting unmatched children (R .meeting) (R .lacking) (R .childish) i (c .before .before .before .before .loop-test .taken))) ∙ v .2),
+      (v .0 ++ X, put-then (v .1) (c .before .before .put-row .ensures), append-assoc (v .0) X (textFrom T area words (i + 1)) ∙ ap (λ (l : List ℕ). v .0 ++ l) (sym (rows-step area words (R .indexed) (optionsIs options) (unpacked patterns) meeting unmatched children (R .meeting) (R .lacking) (R .childish) levels (R .levelled) i (c .before .before .before .before .loop-test .taken))) ∙ v .2),
     )
 
 -- src/answer.rt:102:1
@@ -77,10 +78,11 @@ returns c =
     let children = c .before .before .before .before .before .before .before .before .before .args .children .now in
     let patterns = c .before .before .before .before .before .before .before .before .before .args .patterns .now in
     let options = c .before .before .before .before .before .before .before .before .before .args .options in
+    let levels = c .before .before .before .before .before .before .before .before .before .args .levels in
     let R = c .before .before .before .before .before .before .before .before .before .pre in
     let T = shownText (rowsAt area words) (optionsIs options) (unpacked patterns) in
     let v = c .before .loop .inv .1 in
-    subst (λ (l : List ℕ). Put (c .before .before .before .before .before .before .before .before .before .args .buf .now) (c .before .loop .buf) (c .before .before .before .before .before .before .before .before .before .args .at) l (c .before .loop .to)) (sym (append-nil (v .0)) ∙ ap (λ (l : List ℕ). v .0 ++ l) (sym (rows-end area words (R .indexed) (optionsIs options) (unpacked patterns) meeting unmatched children (R .meeting) (R .lacking) (R .childish) (c .before .loop .i) (c .loop-test .left))) ∙ v .2) (v .1)
+    subst (λ (l : List ℕ). Put (c .before .before .before .before .before .before .before .before .before .args .buf .now) (c .before .loop .buf) (c .before .before .before .before .before .before .before .before .before .args .at) l (c .before .loop .to)) (sym (append-nil (v .0)) ∙ ap (λ (l : List ℕ). v .0 ++ l) (sym (rows-end area words (R .indexed) (optionsIs options) (unpacked patterns) meeting unmatched children (R .meeting) (R .lacking) (R .childish) levels (R .levelled) (c .before .loop .i) (c .loop-test .left))) ∙ v .2) (v .1)
 
 pub put-rows-spec : {M : Type 1} → statement M
 put-rows-spec =

@@ -144,7 +144,7 @@ returns c =
     ∷ (h17 i && (h1 i || h2 i))
     ∷ (h18 i && (h1 i || h2 i))
     ∷ (h19 i && (h1 i || h2 i))
-    ∷ (h5 i && c .before .before .before .before .before .before .before .before .before .before .before .before .before .before .before .before .before .before .before .before .before .args .children)
+    ∷ ((h5 i && c .before .before .before .before .before .before .before .before .before .before .before .before .before .before .before .before .before .before .before .before .before .args .children) || c .before .before .before .before .before .before .before .before .before .before .before .before .before .before .before .before .before .before .before .before .before .args .level)
     ∷ (h5 i && not (c .before .before .before .before .before .before .before .before .before .before .before .before .before .before .before .before .before .before .before .before .before .args .children) && not (h20 i))
     ∷ [])
 

@@ -1,5 +1,5 @@
 use mathlib.Core.Path.{_≡_, refl, sym, ap, _∙_, subst}
-use mathlib.Core.Bool.{Bool, true, false, _&&_}
+use mathlib.Core.Bool.{Bool, true, false, _&&_, not}
 use mathlib.Core.List.{List}
 use Prim.Native.Nat.{ℕ}
 use lib.Dec.{leb}
@@ -8,6 +8,7 @@ use lib.Seq.{length-take-le}
 use borrow.Author.Tests.{not-true, not-false}
 use Rattle.mailbox_table.proofs.IndexLaws.{name-length}
 use Rattle.listing_rules.specs.Match.{matchesAny}
+use Rattle.listing_rules.specs.Flags.{exists}
 use Rattle.octets.specs.Sets.{contains}
 use Rattle.octets.proofs.Sets.{contains-bit}
 use Rattle.command_line.specs.declared.Options.{Options as OptionSet}
@@ -18,16 +19,17 @@ use Rattle.listing_rules.specs.Table.{names}
 use Rattle.mailbox_table.specs.Index.{nameAt, rowsAt}
 use Rattle.mailbox_table.specs.Below.{markedBelow}
 use Rattle.pattern.specs.Packed.{unpacked}
+use Rattle.pattern.specs.Chosen.{chosen}
 use Rattle.list_answer.specs.Marks.{meetsMark, unmatchedMark, childMark}
 use Rattle.list_answer.proofs.Marking.{marks-reach}
-use Rattle.list_answer.proofs.Showing.{named, begins-here, shown-out, shown-unmatched, shown-line, short}
+use Rattle.list_answer.proofs.Showing.{named, begins-here, shown-out, shown-unmatched, shown-line}
 use native.Mathlib.Omega.{arith}
 use borrow.Author.Needs.{needs}
 use Rattle.list_answer.proofs.decide.decide.Statement.{statement}
 use Rattle.list_answer.proofs.decide.decide.Tie as tie
 use Rattle.list_answer.proofs.decide.decide.Reads as reads
 use Rattle.list_answer.proofs.decide.decide.Lts as lts
-use Rattle.command_line.proofs.Options.has.Reads as has-reads
+use Rattle.command_line.proofs.Options.has.Reads as Options-has-reads
 use Rattle.list_answer.proofs.decide.asked_below.Reads as asked-below-reads
 use Rattle.list_answer.proofs.decide.attributes.Reads as attributes-reads
 use Rattle.list_answer.proofs.decide.flags_of.Reads as flags-of-reads
@@ -35,7 +37,6 @@ use Rattle.mailbox_table.proofs.rows.Row.of_word.Reads as of-word-reads
 use Rattle.mailbox_table.proofs.rows.name_of.Reads as name-of-reads
 use Rattle.pattern.proofs.matches_any.Reads as matches-any-reads
 
--- src/decide.rt:92:28
 recursive : (o : OptionSet) (b : Bool) → b ≡ contains (o .bits) 4 → b ≡ optionsIs o .selRecursive
 unfolding optionsIs
 recursive o b e = e ∙ contains-bit 2 (o .bits)
@@ -44,40 +45,24 @@ returned : (o : OptionSet) (b : Bool) → b ≡ contains (o .bits) 32 → b ≡ 
 unfolding optionsIs
 returned o b e = e ∙ contains-bit 5 (o .bits)
 
+there : (f : ℕ) (b : Bool) → b ≡ contains f 1 → b ≡ exists f
+unfolding exists
+there f b e = e ∙ contains-bit 0 f
+
 mul-of-word : tie.Need-mul-of-word
 mul-of-word c = search needs
 
--- src/decide.rt:92:28
 shared-slice-read-of-word : tie.Need-shared-slice-read-of-word
 shared-slice-read-of-word c = search needs
 
--- src/decide.rt:92:9
 of-word-requires : tie.Need-of-word-requires
 of-word-requires c κs = search needs
 
--- src/decide.rt:94:23
+flags-of-requires : tie.Need-flags-of-requires
+flags-of-requires c κs = search needs
+
 shared-slice-read-own : tie.Need-shared-slice-read-own
 shared-slice-read-own c =
-    let area = c .before .before .before .before .before .before .before .before .before .before .args .area .now in
-    let words = c .before .before .before .before .before .before .before .before .before .before .args .words .now in
-    let meeting = c .before .before .before .before .before .before .before .before .before .before .args .meeting .now in
-    let unmatched = c .before .before .before .before .before .before .before .before .before .before .args .unmatched .now in
-    let children = c .before .before .before .before .before .before .before .before .before .before .args .children .now in
-    let patterns = c .before .before .before .before .before .before .before .before .before .before .args .patterns .now in
-    let options = c .before .before .before .before .before .before .before .before .before .before .args .options in
-    let i = c .before .before .before .before .before .before .before .before .before .before .args .i in
-    let len = c .before .before .before .before .before .before .before .before .before .before .args .len in
-    let R = c .before .before .before .before .before .before .before .before .before .before .pre .0 in
-    let a = c .before .before .before .before .before .before .before .before .before .before .pre .1 in
-    omega (arith, marks-reach (meetsMark (optionsIs options)) area words meeting (R .meeting), a .row)
-
--- src/decide.rt:95:9
-has-requires : tie.Need-has-requires
-has-requires c κs = search needs
-
--- src/decide.rt:96:9
-asked-below-requires : tie.Need-asked-below-requires
-asked-below-requires c κs =
     let area = c .before .before .before .before .before .before .before .before .before .before .before .args .area .now in
     let words = c .before .before .before .before .before .before .before .before .before .before .before .args .words .now in
     let meeting = c .before .before .before .before .before .before .before .before .before .before .before .args .meeting .now in
@@ -85,117 +70,132 @@ asked-below-requires c κs =
     let children = c .before .before .before .before .before .before .before .before .before .before .before .args .children .now in
     let patterns = c .before .before .before .before .before .before .before .before .before .before .before .args .patterns .now in
     let options = c .before .before .before .before .before .before .before .before .before .before .before .args .options in
+    let levels = c .before .before .before .before .before .before .before .before .before .before .before .args .levels in
     let i = c .before .before .before .before .before .before .before .before .before .before .before .args .i in
     let len = c .before .before .before .before .before .before .before .before .before .before .before .args .len in
     let R = c .before .before .before .before .before .before .before .before .before .before .before .pre .0 in
     let a = c .before .before .before .before .before .before .before .before .before .before .before .pre .1 in
-    begins-here area words (R .indexed) i len a (optionsIs options) (unpacked patterns) meeting unmatched children (R .meeting) (R .lacking) (R .childish) (unmatchedMark (optionsIs options) (unpacked patterns)) unmatched (R .lacking)
+    omega (arith, marks-reach (meetsMark (optionsIs options)) area words meeting (R .meeting), a .row)
 
--- src/decide.rt:98:9
-returns : tie.Need-returns
-returns c =
-    let area = c .before .before .before .before .before .before .before .before .before .before .before .before .before .args .area .now in
-    let words = c .before .before .before .before .before .before .before .before .before .before .before .before .before .args .words .now in
-    let meeting = c .before .before .before .before .before .before .before .before .before .before .before .before .before .args .meeting .now in
-    let unmatched = c .before .before .before .before .before .before .before .before .before .before .before .before .before .args .unmatched .now in
-    let children = c .before .before .before .before .before .before .before .before .before .before .before .before .before .args .children .now in
-    let patterns = c .before .before .before .before .before .before .before .before .before .before .before .before .before .args .patterns .now in
-    let options = c .before .before .before .before .before .before .before .before .before .before .before .before .before .args .options in
-    let i = c .before .before .before .before .before .before .before .before .before .before .before .before .before .args .i in
-    let len = c .before .before .before .before .before .before .before .before .before .before .before .before .before .args .len in
-    let R = c .before .before .before .before .before .before .before .before .before .before .before .before .before .pre .0 in
-    let a = c .before .before .before .before .before .before .before .before .before .before .before .before .before .pre .1 in
-    shown-out area words (R .indexed) i len a (optionsIs options) (unpacked patterns) meeting unmatched children (R .meeting) (R .lacking) (R .childish) (c .before .before .before .before .before .of-word .result) (c .before .before .before .before .before .of-word .ensures) (c .before .before .has .result) (recursive options (c .before .before .has .result) (c .before .before .has .ensures)) (c .before .asked-below .result) (c .before .asked-below .ensures) (not-true _ (c .if1 .taken))
+has-requires : tie.Need-has-requires
+has-requires c κs = search needs
 
--- src/decide.rt:100:32
-name-of-requires : tie.Need-name-of-requires
-name-of-requires c κs = search needs
+asked-below-requires : tie.Need-asked-below-requires
+asked-below-requires c κs =
+    let area = c .before .before .before .before .before .before .before .before .before .before .before .before .args .area .now in
+    let words = c .before .before .before .before .before .before .before .before .before .before .before .before .args .words .now in
+    let meeting = c .before .before .before .before .before .before .before .before .before .before .before .before .args .meeting .now in
+    let unmatched = c .before .before .before .before .before .before .before .before .before .before .before .before .args .unmatched .now in
+    let children = c .before .before .before .before .before .before .before .before .before .before .before .before .args .children .now in
+    let patterns = c .before .before .before .before .before .before .before .before .before .before .before .before .args .patterns .now in
+    let options = c .before .before .before .before .before .before .before .before .before .before .before .before .args .options in
+    let levels = c .before .before .before .before .before .before .before .before .before .before .before .before .args .levels in
+    let i = c .before .before .before .before .before .before .before .before .before .before .before .before .args .i in
+    let len = c .before .before .before .before .before .before .before .before .before .before .before .before .args .len in
+    let R = c .before .before .before .before .before .before .before .before .before .before .before .before .pre .0 in
+    let a = c .before .before .before .before .before .before .before .before .before .before .before .before .pre .1 in
+    begins-here area words (R .indexed) i len a (optionsIs options) (unpacked patterns) meeting unmatched children (R .meeting) (R .lacking) (R .childish) levels (R .levelled) (unmatchedMark (optionsIs options) (unpacked patterns)) unmatched (R .lacking)
 
--- src/decide.rt:100:31
-slice-aggregate-matches-any : tie.Need-slice-aggregate-matches-any
-slice-aggregate-matches-any c =
-    let area = c .before .before .before .before .before .before .before .before .before .before .before .before .before .before .before .args .area .now in
-    let words = c .before .before .before .before .before .before .before .before .before .before .before .before .before .before .before .args .words .now in
-    let meeting = c .before .before .before .before .before .before .before .before .before .before .before .before .before .before .before .args .meeting .now in
-    let unmatched = c .before .before .before .before .before .before .before .before .before .before .before .before .before .before .before .args .unmatched .now in
-    let children = c .before .before .before .before .before .before .before .before .before .before .before .before .before .before .before .args .children .now in
-    let patterns = c .before .before .before .before .before .before .before .before .before .before .before .before .before .before .before .args .patterns .now in
-    let options = c .before .before .before .before .before .before .before .before .before .before .before .before .before .before .before .args .options in
-    let i = c .before .before .before .before .before .before .before .before .before .before .before .before .before .before .before .args .i in
-    let len = c .before .before .before .before .before .before .before .before .before .before .before .before .before .before .before .args .len in
-    let R = c .before .before .before .before .before .before .before .before .before .before .before .before .before .before .before .pre .0 in
-    let a = c .before .before .before .before .before .before .before .before .before .before .before .before .before .before .before .pre .1 in
-    let name : c .before .name-of .result .now ≡ nameAt area (getD words i 0) = named area (getD words i 0) (c .before .before .before .before .before .before .before .of-word .result) (c .before .before .before .before .before .before .before .of-word .ensures) (c .before .name-of .result .now) (c .before .name-of .ensures) in
-    sym (ap (λ (n : List ℕ). length (take len n)) name ∙ length-take-le len (nameAt area (getD words i 0)) (omega (arith, name-length (R .indexed) i (a .row), a .within)))
-
--- src/decide.rt:100:9
-matches-any-requires : tie.Need-matches-any-requires
-matches-any-requires c κs = search needs
-
--- src/decide.rt:101:9
-returns-2 : tie.Need-returns-2
-returns-2 c =
-    let area = c .before .before .before .before .before .before .before .before .before .before .before .before .before .before .before .before .before .args .area .now in
-    let words = c .before .before .before .before .before .before .before .before .before .before .before .before .before .before .before .before .before .args .words .now in
-    let meeting = c .before .before .before .before .before .before .before .before .before .before .before .before .before .before .before .before .before .args .meeting .now in
-    let unmatched = c .before .before .before .before .before .before .before .before .before .before .before .before .before .before .before .before .before .args .unmatched .now in
-    let children = c .before .before .before .before .before .before .before .before .before .before .before .before .before .before .before .before .before .args .children .now in
-    let patterns = c .before .before .before .before .before .before .before .before .before .before .before .before .before .before .before .before .before .args .patterns .now in
-    let options = c .before .before .before .before .before .before .before .before .before .before .before .before .before .before .before .before .before .args .options in
-    let i = c .before .before .before .before .before .before .before .before .before .before .before .before .before .before .before .before .before .args .i in
-    let len = c .before .before .before .before .before .before .before .before .before .before .before .before .before .before .before .before .before .args .len in
-    let R = c .before .before .before .before .before .before .before .before .before .before .before .before .before .before .before .before .before .pre .0 in
-    let a = c .before .before .before .before .before .before .before .before .before .before .before .before .before .before .before .before .before .pre .1 in
-    let name : c .before .before .before .name-of .result .now ≡ nameAt area (getD words i 0) = named area (getD words i 0) (c .before .before .before .before .before .before .before .before .before .of-word .result) (c .before .before .before .before .before .before .before .before .before .of-word .ensures) (c .before .before .before .name-of .result .now) (c .before .before .before .name-of .ensures) in
-    shown-unmatched area words (R .indexed) i len a (optionsIs options) (unpacked patterns) meeting unmatched children (R .meeting) (R .lacking) (R .childish) (c .before .matches-any .result) (c .before .matches-any .ensures ∙ ap (λ (n : List ℕ). leb (length (take len n)) 255 && matchesAny (unpacked patterns) (take len n)) name) (short area words i len) (not-true _ (c .if2 .taken))
-
--- src/decide.rt:103:9
-asked-below-requires-2 : tie.Need-asked-below-requires-2
-asked-below-requires-2 c κs =
-    let area = c .before .before .before .before .before .before .before .before .before .before .before .before .before .before .before .before .before .args .area .now in
-    let words = c .before .before .before .before .before .before .before .before .before .before .before .before .before .before .before .before .before .args .words .now in
-    let meeting = c .before .before .before .before .before .before .before .before .before .before .before .before .before .before .before .before .before .args .meeting .now in
-    let unmatched = c .before .before .before .before .before .before .before .before .before .before .before .before .before .before .before .before .before .args .unmatched .now in
-    let children = c .before .before .before .before .before .before .before .before .before .before .before .before .before .before .before .before .before .args .children .now in
-    let patterns = c .before .before .before .before .before .before .before .before .before .before .before .before .before .before .before .before .before .args .patterns .now in
-    let options = c .before .before .before .before .before .before .before .before .before .before .before .before .before .before .before .before .before .args .options in
-    let i = c .before .before .before .before .before .before .before .before .before .before .before .before .before .before .before .before .before .args .i in
-    let len = c .before .before .before .before .before .before .before .before .before .before .before .before .before .before .before .before .before .args .len in
-    let R = c .before .before .before .before .before .before .before .before .before .before .before .before .before .before .before .before .before .pre .0 in
-    let a = c .before .before .before .before .before .before .before .before .before .before .before .before .before .before .before .before .before .pre .1 in
-    begins-here area words (R .indexed) i len a (optionsIs options) (unpacked patterns) meeting unmatched children (R .meeting) (R .lacking) (R .childish) (meetsMark (optionsIs options)) meeting (R .meeting)
-
--- src/decide.rt:104:30
 has-requires-2 : tie.Need-has-requires-2
 has-requires-2 c κs = search needs
 
--- src/decide.rt:104:9
+asked-below-requires-2 : tie.Need-asked-below-requires-2
+asked-below-requires-2 c κs =
+    let area = c .before .before .before .before .before .before .before .before .before .before .before .before .before .before .args .area .now in
+    let words = c .before .before .before .before .before .before .before .before .before .before .before .before .before .before .args .words .now in
+    let meeting = c .before .before .before .before .before .before .before .before .before .before .before .before .before .before .args .meeting .now in
+    let unmatched = c .before .before .before .before .before .before .before .before .before .before .before .before .before .before .args .unmatched .now in
+    let children = c .before .before .before .before .before .before .before .before .before .before .before .before .before .before .args .children .now in
+    let patterns = c .before .before .before .before .before .before .before .before .before .before .before .before .before .before .args .patterns .now in
+    let options = c .before .before .before .before .before .before .before .before .before .before .before .before .before .before .args .options in
+    let levels = c .before .before .before .before .before .before .before .before .before .before .before .before .before .before .args .levels in
+    let i = c .before .before .before .before .before .before .before .before .before .before .before .before .before .before .args .i in
+    let len = c .before .before .before .before .before .before .before .before .before .before .before .before .before .before .args .len in
+    let R = c .before .before .before .before .before .before .before .before .before .before .before .before .before .before .pre .0 in
+    let a = c .before .before .before .before .before .before .before .before .before .before .before .before .before .before .pre .1 in
+    begins-here area words (R .indexed) i len a (optionsIs options) (unpacked patterns) meeting unmatched children (R .meeting) (R .lacking) (R .childish) levels (R .levelled) (meetsMark (optionsIs options)) meeting (R .meeting)
+
+returns : tie.Need-returns
+returns c =
+    let area = c .before .before .before .before .before .before .before .before .before .before .before .before .before .before .before .before .args .area .now in
+    let words = c .before .before .before .before .before .before .before .before .before .before .before .before .before .before .before .before .args .words .now in
+    let meeting = c .before .before .before .before .before .before .before .before .before .before .before .before .before .before .before .before .args .meeting .now in
+    let unmatched = c .before .before .before .before .before .before .before .before .before .before .before .before .before .before .before .before .args .unmatched .now in
+    let children = c .before .before .before .before .before .before .before .before .before .before .before .before .before .before .before .before .args .children .now in
+    let patterns = c .before .before .before .before .before .before .before .before .before .before .before .before .before .before .before .before .args .patterns .now in
+    let options = c .before .before .before .before .before .before .before .before .before .before .before .before .before .before .before .before .args .options in
+    let levels = c .before .before .before .before .before .before .before .before .before .before .before .before .before .before .before .before .args .levels in
+    let i = c .before .before .before .before .before .before .before .before .before .before .before .before .before .before .before .before .args .i in
+    let len = c .before .before .before .before .before .before .before .before .before .before .before .before .before .before .before .before .args .len in
+    let R = c .before .before .before .before .before .before .before .before .before .before .before .before .before .before .before .before .pre .0 in
+    let a = c .before .before .before .before .before .before .before .before .before .before .before .before .before .before .before .before .pre .1 in
+    let found : List Bool → Bool = λ ms. markedBelow (take len (nameAt area (getD words i 0))) (drop i (names (rowsAt area words))) (drop i ms) in
+    shown-out area words (R .indexed) i len a (optionsIs options) (unpacked patterns) meeting unmatched children (R .meeting) (R .lacking) (R .childish) levels (R .levelled) (c .before .before .before .before .before .before .before .before .of-word .result) (c .before .before .before .before .before .before .before .before .of-word .ensures) (c .before .before .before .before .has .result) (recursive options (c .before .before .before .before .has .result) (c .before .before .before .before .has .ensures)) (c .before .before .before .asked-below .result) (c .before .before .before .asked-below .ensures) (c .before .before .before .before .before .before .flags-of .result .bits) (c .before .before .before .before .before .before .flags-of .ensures) (c .before .asked-below2 .result) (c .before .asked-below2 .ensures ∙ ap (λ (b : Bool). (levels && not b) && found meeting) (there _ (c .before .before .has2 .result) (c .before .before .has2 .ensures))) (not-true _ (c .if1 .taken))
+
+name-of-requires : tie.Need-name-of-requires
+name-of-requires c κs = search needs
+
+slice-aggregate-matches-any : tie.Need-slice-aggregate-matches-any
+slice-aggregate-matches-any c =
+    let area = c .before .before .before .before .before .before .before .before .before .before .before .before .before .before .before .before .before .before .args .area .now in
+    let words = c .before .before .before .before .before .before .before .before .before .before .before .before .before .before .before .before .before .before .args .words .now in
+    let meeting = c .before .before .before .before .before .before .before .before .before .before .before .before .before .before .before .before .before .before .args .meeting .now in
+    let unmatched = c .before .before .before .before .before .before .before .before .before .before .before .before .before .before .before .before .before .before .args .unmatched .now in
+    let children = c .before .before .before .before .before .before .before .before .before .before .before .before .before .before .before .before .before .before .args .children .now in
+    let patterns = c .before .before .before .before .before .before .before .before .before .before .before .before .before .before .before .before .before .before .args .patterns .now in
+    let options = c .before .before .before .before .before .before .before .before .before .before .before .before .before .before .before .before .before .before .args .options in
+    let levels = c .before .before .before .before .before .before .before .before .before .before .before .before .before .before .before .before .before .before .args .levels in
+    let i = c .before .before .before .before .before .before .before .before .before .before .before .before .before .before .before .before .before .before .args .i in
+    let len = c .before .before .before .before .before .before .before .before .before .before .before .before .before .before .before .before .before .before .args .len in
+    let R = c .before .before .before .before .before .before .before .before .before .before .before .before .before .before .before .before .before .before .pre .0 in
+    let a = c .before .before .before .before .before .before .before .before .before .before .before .before .before .before .before .before .before .before .pre .1 in
+    let name : c .before .name-of .result .now ≡ nameAt area (getD words i 0) = named area (getD words i 0) (c .before .before .before .before .before .before .before .before .before .before .of-word .result) (c .before .before .before .before .before .before .before .before .before .before .of-word .ensures) (c .before .name-of .result .now) (c .before .name-of .ensures) in
+    sym (ap (λ (n : List ℕ). length (take len n)) name ∙ length-take-le len (nameAt area (getD words i 0)) (omega (arith, name-length (R .indexed) i (a .row), a .within)))
+
+matches-any-requires : tie.Need-matches-any-requires
+matches-any-requires c κs = search needs
+
+returns-2 : tie.Need-returns-2
+returns-2 c =
+    let area = c .before .before .before .before .before .before .before .before .before .before .before .before .before .before .before .before .before .before .before .before .args .area .now in
+    let words = c .before .before .before .before .before .before .before .before .before .before .before .before .before .before .before .before .before .before .before .before .args .words .now in
+    let meeting = c .before .before .before .before .before .before .before .before .before .before .before .before .before .before .before .before .before .before .before .before .args .meeting .now in
+    let unmatched = c .before .before .before .before .before .before .before .before .before .before .before .before .before .before .before .before .before .before .before .before .args .unmatched .now in
+    let children = c .before .before .before .before .before .before .before .before .before .before .before .before .before .before .before .before .before .before .before .before .args .children .now in
+    let patterns = c .before .before .before .before .before .before .before .before .before .before .before .before .before .before .before .before .before .before .before .before .args .patterns .now in
+    let options = c .before .before .before .before .before .before .before .before .before .before .before .before .before .before .before .before .before .before .before .before .args .options in
+    let levels = c .before .before .before .before .before .before .before .before .before .before .before .before .before .before .before .before .before .before .before .before .args .levels in
+    let i = c .before .before .before .before .before .before .before .before .before .before .before .before .before .before .before .before .before .before .before .before .args .i in
+    let len = c .before .before .before .before .before .before .before .before .before .before .before .before .before .before .before .before .before .before .before .before .args .len in
+    let R = c .before .before .before .before .before .before .before .before .before .before .before .before .before .before .before .before .before .before .before .before .pre .0 in
+    let a = c .before .before .before .before .before .before .before .before .before .before .before .before .before .before .before .before .before .before .before .before .pre .1 in
+    let name : c .before .before .before .name-of .result .now ≡ nameAt area (getD words i 0) = named area (getD words i 0) (c .before .before .before .before .before .before .before .before .before .before .before .before .of-word .result) (c .before .before .before .before .before .before .before .before .before .before .before .before .of-word .ensures) (c .before .before .before .name-of .result .now) (c .before .before .before .name-of .ensures) in
+    let found : List Bool → Bool = λ ms. markedBelow (take len (nameAt area (getD words i 0))) (drop i (names (rowsAt area words))) (drop i ms) in
+    shown-unmatched area words (R .indexed) i len a (optionsIs options) (unpacked patterns) meeting unmatched children (R .meeting) (R .lacking) (R .childish) levels (R .levelled)
+    (c .before .before .before .before .before .before .before .before .before .before .before .before .of-word .result) (c .before .before .before .before .before .before .before .before .before .before .before .before .of-word .ensures) (c .before .before .before .before .before .before .before .before .has .result) (recursive options (c .before .before .before .before .before .before .before .before .has .result) (c .before .before .before .before .before .before .before .before .has .ensures)) (c .before .before .before .before .before .before .before .asked-below .result) (c .before .before .before .before .before .before .before .asked-below .ensures) (c .before .before .before .before .before .before .before .before .before .before .flags-of .result .bits) (c .before .before .before .before .before .before .before .before .before .before .flags-of .ensures) (c .before .before .before .before .before .asked-below2 .result) (c .before .before .before .before .before .asked-below2 .ensures ∙ ap (λ (b : Bool). (levels && not b) && found meeting) (there _ (c .before .before .before .before .before .before .has2 .result) (c .before .before .before .before .before .before .has2 .ensures)))
+    (c .before .matches-any .result) (c .before .matches-any .ensures ∙ ap (λ (n : List ℕ). leb (length (take len n)) 255 && matchesAny (chosen (c .before .before .before .before .before .asked-below2 .result) (unpacked patterns)) (take len n)) name) (not-true _ (c .if2 .taken))
+
 asked-below-requires-3 : tie.Need-asked-below-requires-3
 asked-below-requires-3 c κs =
-    let area = c .before .before .before .before .before .before .before .before .before .before .before .before .before .before .before .before .before .before .before .args .area .now in
-    let words = c .before .before .before .before .before .before .before .before .before .before .before .before .before .before .before .before .before .before .before .args .words .now in
-    let meeting = c .before .before .before .before .before .before .before .before .before .before .before .before .before .before .before .before .before .before .before .args .meeting .now in
-    let unmatched = c .before .before .before .before .before .before .before .before .before .before .before .before .before .before .before .before .before .before .before .args .unmatched .now in
-    let children = c .before .before .before .before .before .before .before .before .before .before .before .before .before .before .before .before .before .before .before .args .children .now in
-    let patterns = c .before .before .before .before .before .before .before .before .before .before .before .before .before .before .before .before .before .before .before .args .patterns .now in
-    let options = c .before .before .before .before .before .before .before .before .before .before .before .before .before .before .before .before .before .before .before .args .options in
-    let i = c .before .before .before .before .before .before .before .before .before .before .before .before .before .before .before .before .before .before .before .args .i in
-    let len = c .before .before .before .before .before .before .before .before .before .before .before .before .before .before .before .before .before .before .before .args .len in
-    let R = c .before .before .before .before .before .before .before .before .before .before .before .before .before .before .before .before .before .before .before .pre .0 in
-    let a = c .before .before .before .before .before .before .before .before .before .before .before .before .before .before .before .before .before .before .before .pre .1 in
-    begins-here area words (R .indexed) i len a (optionsIs options) (unpacked patterns) meeting unmatched children (R .meeting) (R .lacking) (R .childish) (childMark (optionsIs options)) children (R .childish)
+    let area = c .before .before .before .before .before .before .before .before .before .before .before .before .before .before .before .before .before .before .before .before .args .area .now in
+    let words = c .before .before .before .before .before .before .before .before .before .before .before .before .before .before .before .before .before .before .before .before .args .words .now in
+    let meeting = c .before .before .before .before .before .before .before .before .before .before .before .before .before .before .before .before .before .before .before .before .args .meeting .now in
+    let unmatched = c .before .before .before .before .before .before .before .before .before .before .before .before .before .before .before .before .before .before .before .before .args .unmatched .now in
+    let children = c .before .before .before .before .before .before .before .before .before .before .before .before .before .before .before .before .before .before .before .before .args .children .now in
+    let patterns = c .before .before .before .before .before .before .before .before .before .before .before .before .before .before .before .before .before .before .before .before .args .patterns .now in
+    let options = c .before .before .before .before .before .before .before .before .before .before .before .before .before .before .before .before .before .before .before .before .args .options in
+    let levels = c .before .before .before .before .before .before .before .before .before .before .before .before .before .before .before .before .before .before .before .before .args .levels in
+    let i = c .before .before .before .before .before .before .before .before .before .before .before .before .before .before .before .before .before .before .before .before .args .i in
+    let len = c .before .before .before .before .before .before .before .before .before .before .before .before .before .before .before .before .before .before .before .before .args .len in
+    let R = c .before .before .before .before .before .before .before .before .before .before .before .before .before .before .before .before .before .before .before .before .pre .0 in
+    let a = c .before .before .before .before .before .before .before .before .before .before .before .before .before .before .before .before .before .before .before .before .pre .1 in
+    begins-here area words (R .indexed) i len a (optionsIs options) (unpacked patterns) meeting unmatched children (R .meeting) (R .lacking) (R .childish) levels (R .levelled) (meetsMark (optionsIs options)) meeting (R .meeting)
 
--- src/decide.rt:105:9
-flags-of-requires : tie.Need-flags-of-requires
-flags-of-requires c κs = search needs
+has-requires-3 : tie.Need-has-requires-3
+has-requires-3 c κs = search needs
 
--- src/decide.rt:106:17
-attributes-requires : tie.Need-attributes-requires
-attributes-requires c κs = search needs
-
--- src/decide.rt:77:1
-returns-3 : tie.Need-returns-3
-returns-3 c =
+asked-below-requires-4 : tie.Need-asked-below-requires-4
+asked-below-requires-4 c κs =
     let area = c .before .before .before .before .before .before .before .before .before .before .before .before .before .before .before .before .before .before .before .before .before .before .args .area .now in
     let words = c .before .before .before .before .before .before .before .before .before .before .before .before .before .before .before .before .before .before .before .before .before .before .args .words .now in
     let meeting = c .before .before .before .before .before .before .before .before .before .before .before .before .before .before .before .before .before .before .before .before .before .before .args .meeting .now in
@@ -203,17 +203,39 @@ returns-3 c =
     let children = c .before .before .before .before .before .before .before .before .before .before .before .before .before .before .before .before .before .before .before .before .before .before .args .children .now in
     let patterns = c .before .before .before .before .before .before .before .before .before .before .before .before .before .before .before .before .before .before .before .before .before .before .args .patterns .now in
     let options = c .before .before .before .before .before .before .before .before .before .before .before .before .before .before .before .before .before .before .before .before .before .before .args .options in
+    let levels = c .before .before .before .before .before .before .before .before .before .before .before .before .before .before .before .before .before .before .before .before .before .before .args .levels in
     let i = c .before .before .before .before .before .before .before .before .before .before .before .before .before .before .before .before .before .before .before .before .before .before .args .i in
     let len = c .before .before .before .before .before .before .before .before .before .before .before .before .before .before .before .before .before .before .before .before .before .before .args .len in
     let R = c .before .before .before .before .before .before .before .before .before .before .before .before .before .before .before .before .before .before .before .before .before .before .pre .0 in
     let a = c .before .before .before .before .before .before .before .before .before .before .before .before .before .before .before .before .before .before .before .before .before .before .pre .1 in
-    let name : c .before .before .before .before .before .before .before .before .name-of .result .now ≡ nameAt area (getD words i 0) = named area (getD words i 0) (c .before .before .before .before .before .before .before .before .before .before .before .before .before .before .of-word .result) (c .before .before .before .before .before .before .before .before .before .before .before .before .before .before .of-word .ensures) (c .before .before .before .before .before .before .before .before .name-of .result .now) (c .before .before .before .before .before .before .before .before .name-of .ensures) in
-    shown-line area words (R .indexed) i len a (optionsIs options) (unpacked patterns) meeting unmatched children (R .meeting) (R .lacking) (R .childish) (c .before .before .before .before .before .before .before .before .before .before .before .before .before .before .of-word .result) (c .before .before .before .before .before .before .before .before .before .before .before .before .before .before .of-word .ensures) (c .before .before .before .before .before .before .before .before .before .before .before .has .result) (recursive options (c .before .before .before .before .before .before .before .before .before .before .before .has .result) (c .before .before .before .before .before .before .before .before .before .before .before .has .ensures)) (c .before .before .before .before .before .before .before .before .before .before .asked-below .result) (c .before .before .before .before .before .before .before .before .before .before .asked-below .ensures) (not-false _ (c .before .before .before .before .before .before .before .before .before .if1 .left))
-    (c .before .before .before .before .before .before .matches-any .result) (c .before .before .before .before .before .before .matches-any .ensures ∙ ap (λ (n : List ℕ). leb (length (take len n)) 255 && matchesAny (unpacked patterns) (take len n)) name) (short area words i len) (not-false _ (c .before .before .before .before .before .if2 .left))
-    (c .before .before .asked-below3 .result) (c .before .before .asked-below3 .ensures ∙ ap (λ (x : Bool). x && markedBelow (take len (nameAt area (getD words i 0))) (drop i (names (rowsAt area words))) (drop i children)) (returned options (c .before .before .before .has2 .result) (c .before .before .before .has2 .ensures)))
-    (c .before .flags-of .result .bits) (c .before .flags-of .ensures)
+    begins-here area words (R .indexed) i len a (optionsIs options) (unpacked patterns) meeting unmatched children (R .meeting) (R .lacking) (R .childish) levels (R .levelled) (childMark (optionsIs options)) children (R .childish)
+
+attributes-requires : tie.Need-attributes-requires
+attributes-requires c κs = search needs
+
+returns-3 : tie.Need-returns-3
+returns-3 c =
+    let area = c .before .before .before .before .before .before .before .before .before .before .before .before .before .before .before .before .before .before .before .before .before .before .before .before .args .area .now in
+    let words = c .before .before .before .before .before .before .before .before .before .before .before .before .before .before .before .before .before .before .before .before .before .before .before .before .args .words .now in
+    let meeting = c .before .before .before .before .before .before .before .before .before .before .before .before .before .before .before .before .before .before .before .before .before .before .before .before .args .meeting .now in
+    let unmatched = c .before .before .before .before .before .before .before .before .before .before .before .before .before .before .before .before .before .before .before .before .before .before .before .before .args .unmatched .now in
+    let children = c .before .before .before .before .before .before .before .before .before .before .before .before .before .before .before .before .before .before .before .before .before .before .before .before .args .children .now in
+    let patterns = c .before .before .before .before .before .before .before .before .before .before .before .before .before .before .before .before .before .before .before .before .before .before .before .before .args .patterns .now in
+    let options = c .before .before .before .before .before .before .before .before .before .before .before .before .before .before .before .before .before .before .before .before .before .before .before .before .args .options in
+    let levels = c .before .before .before .before .before .before .before .before .before .before .before .before .before .before .before .before .before .before .before .before .before .before .before .before .args .levels in
+    let i = c .before .before .before .before .before .before .before .before .before .before .before .before .before .before .before .before .before .before .before .before .before .before .before .before .args .i in
+    let len = c .before .before .before .before .before .before .before .before .before .before .before .before .before .before .before .before .before .before .before .before .before .before .before .before .args .len in
+    let R = c .before .before .before .before .before .before .before .before .before .before .before .before .before .before .before .before .before .before .before .before .before .before .before .before .pre .0 in
+    let a = c .before .before .before .before .before .before .before .before .before .before .before .before .before .before .before .before .before .before .before .before .before .before .before .before .pre .1 in
+    let name : c .before .before .before .before .before .before .before .name-of .result .now ≡ nameAt area (getD words i 0) = named area (getD words i 0) (c .before .before .before .before .before .before .before .before .before .before .before .before .before .before .before .before .of-word .result) (c .before .before .before .before .before .before .before .before .before .before .before .before .before .before .before .before .of-word .ensures) (c .before .before .before .before .before .before .before .name-of .result .now) (c .before .before .before .before .before .before .before .name-of .ensures) in
+    let found : List Bool → Bool = λ ms. markedBelow (take len (nameAt area (getD words i 0))) (drop i (names (rowsAt area words))) (drop i ms) in
+    shown-line area words (R .indexed) i len a (optionsIs options) (unpacked patterns) meeting unmatched children (R .meeting) (R .lacking) (R .childish) levels (R .levelled)
+    (c .before .before .before .before .before .before .before .before .before .before .before .before .before .before .before .before .of-word .result) (c .before .before .before .before .before .before .before .before .before .before .before .before .before .before .before .before .of-word .ensures) (c .before .before .before .before .before .before .before .before .before .before .before .before .has .result) (recursive options (c .before .before .before .before .before .before .before .before .before .before .before .before .has .result) (c .before .before .before .before .before .before .before .before .before .before .before .before .has .ensures)) (c .before .before .before .before .before .before .before .before .before .before .before .asked-below .result) (c .before .before .before .before .before .before .before .before .before .before .before .asked-below .ensures) (c .before .before .before .before .before .before .before .before .before .before .before .before .before .before .flags-of .result .bits) (c .before .before .before .before .before .before .before .before .before .before .before .before .before .before .flags-of .ensures) (c .before .before .before .before .before .before .before .before .before .asked-below2 .result) (c .before .before .before .before .before .before .before .before .before .asked-below2 .ensures ∙ ap (λ (b : Bool). (levels && not b) && found meeting) (there _ (c .before .before .before .before .before .before .before .before .before .before .has2 .result) (c .before .before .before .before .before .before .before .before .before .before .has2 .ensures)))
+    (c .before .before .before .before .before .matches-any .result) (c .before .before .before .before .before .matches-any .ensures ∙ ap (λ (n : List ℕ). leb (length (take len n)) 255 && matchesAny (chosen (c .before .before .before .before .before .before .before .before .before .asked-below2 .result) (unpacked patterns)) (take len n)) name)
+    (not-false _ (c .before .before .before .before .before .before .before .before .if1 .left)) (not-false _ (c .before .before .before .before .if2 .left))
+    (c .before .asked-below4 .result) (c .before .asked-below4 .ensures ∙ ap (λ (x : Bool). x && found children) (returned options (c .before .before .has3 .result) (c .before .before .has3 .ensures)))
     (c .attributes .result) (c .attributes .ensures)
-    (c .before .before .before .before .asked-below2 .result) (c .before .before .before .before .asked-below2 .ensures)
+    (c .before .before .before .asked-below3 .result) (c .before .before .before .asked-below3 .ensures)
 
 pub decide-spec : {M : Type 1} → statement M
 decide-spec =
@@ -222,17 +244,19 @@ decide-spec =
     mul-of-word
     shared-slice-read-of-word
     of-word-requires
+    flags-of-requires
     shared-slice-read-own
     has-requires
     asked-below-requires
+    has-requires-2
+    asked-below-requires-2
     returns
     name-of-requires
     slice-aggregate-matches-any
     matches-any-requires
     returns-2
-    asked-below-requires-2
-    has-requires-2
     asked-below-requires-3
-    flags-of-requires
+    has-requires-3
+    asked-below-requires-4
     attributes-requires
     returns-3)

@@ -6,6 +6,7 @@ use lib.ListN.{length, take, drop}
 use Rattle.listing_rules.specs.Match.{matchesAny}
 use Rattle.mailbox_table.specs.Index.{nameAt, rowAtWord}
 use Rattle.pattern.specs.Packed.{unpacked}
+use Rattle.pattern.specs.Chosen.{chosen}
 use Rattle.list_answer.proofs.Marking.{name-short, unmatched-alone, unmatched-other, unmatched-met}
 use mathlib.Core.Path.{_≡_, sym, ap, _∙_}
 use mathlib.Core.Bool.{Bool, true, false}
@@ -78,7 +79,7 @@ returns-3 c =
     unmatched-met (optionsIs o) (unpacked (c .before .before .before .before .before .before .before .before .before .args .patterns .now)) (rowAtWord area w) (selected o (c .before .before .before .before .before .has .result) (c .before .before .before .before .before .has .ensures) (not-false _ (c .before .before .before .before .if1 .left)))
     (sym (c .before .before .before .meets .ensures ∙ ap (λ (r : Row). meetsCriteria (optionsIs o) (r .flags .bits)) (c .before .before .before .before .before .before .of-word .ensures)) ∙ not-false _ (c .before .before .if2 .left))
     (c .matches-any .result)
-    (c .matches-any .ensures ∙ ap (λ (x : List ℕ). leb (length x) 255 && matchesAny (unpacked (c .before .before .before .before .before .before .before .before .before .args .patterns .now)) x) n)
+    (c .matches-any .ensures ∙ ap (λ (x : List ℕ). leb (length x) 255 && matchesAny (chosen false (unpacked (c .before .before .before .before .before .before .before .before .before .args .patterns .now))) x) n)
     (name-short area w)
 
 pub is-unmatched-spec : {M : Type 1} → statement M

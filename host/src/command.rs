@@ -1,10 +1,13 @@
 //! The command line: its shape, tag, word, options and patterns, and refusals 3 to 8.
+//!
+//! With its literals (document 02, W2) a command is one line or more, and is still called its line.
 
 use crate::cursor::{Cursor, WrittenOption};
 use crate::line::CRLF;
+use crate::literal::{first_line, Literal, MAX_LITERAL};
 use crate::refusal;
 
-/// Document 01: "At most 2,048 bytes", CR LF included.
+/// Document 01: "At most 2,048 bytes"; W2: "in all", with headers, literals and every CR LF.
 pub const MAX_LINE: usize = 2_048;
 /// Document 01: "At most 8 patterns, empty ones counted."
 pub const MAX_PATTERNS: usize = 8;
@@ -15,6 +18,13 @@ pub const MAX_CANONICAL: usize = 255;
 pub struct Command<'l> {
     pub tag: &'l [u8],
     pub request: Request,
+}
+
+/// A command whose shape is right: the text outside of its literals, without headers and CR LF.
+struct Shape<'l> {
+    /// The text up to the first literal, or all of it.
+    start: &'l [u8],
+    literals: Vec<Literal<'l>>,
 }
 
 /// What a command asks for.
@@ -61,7 +71,8 @@ struct WrittenList<'l> {
 
 /// Reads a command line. The order of its refusals is 3, tag 4, 5, rest 4, 6, 7, 8.
 pub fn read_command(line: &[u8]) -> Result<Command<'_>, u8> {
-    let mut cursor = Cursor::new(text_of(line)?);
+    let shape = shape_of(line).ok_or(refusal::LINE_SHAPE)?;
+    let mut cursor = Cursor::new(shape.start, &shape.literals);
     let tag = cursor.tag()?;
     cursor.space()?;
     let word = cursor.word();
@@ -76,19 +87,33 @@ pub fn read_command(line: &[u8]) -> Result<Command<'_>, u8> {
     Ok(Command { tag, request })
 }
 
-/// "It ends with CR LF, and before that holds only bytes 01 to 7F other than CR and LF."
-fn text_of(line: &[u8]) -> Result<&[u8], u8> {
-    let text = line.strip_suffix(CRLF).ok_or(refusal::LINE_SHAPE)?;
-    let is_text_byte = |byte: &u8| (0x01..=0x7F).contains(byte) && !CRLF.contains(byte);
-    if line.len() <= MAX_LINE && text.iter().all(is_text_byte) {
-        Ok(text)
-    } else {
-        Err(refusal::LINE_SHAPE)
+/// Check 3: the literals of a command, none of them cut short, and the text outside of them,
+/// behind whose CR LF nothing is left.
+fn shape_of(line: &[u8]) -> Option<Shape<'_>> {
+    if line.len() > MAX_LINE || line.contains(&0) {
+        return None;
     }
+    let mut line = first_line(line)?;
+    let start = line.text;
+    let mut literals = Vec::new();
+    while let Some(length) = line.announced.filter(|&length| length <= MAX_LITERAL) {
+        let (bytes, behind) = line.behind.split_at_checked(length)?;
+        line = first_line(behind)?;
+        literals.push(Literal { bytes, text_behind: line.text });
+    }
+    let is_whole = line.announced.is_none() && line.behind.is_empty();
+    let mut texts = literals.iter().map(|literal| literal.text_behind);
+    (is_whole && is_text(start) && texts.all(is_text)).then_some(Shape { start, literals })
+}
+
+/// "It ends with CR LF, and before that holds only bytes 01 to 7F other than CR and LF", which
+/// since W2 "reads over the text outside literals".
+fn is_text(text: &[u8]) -> bool {
+    text.iter().all(|byte| (0x01..=0x7F).contains(byte) && !CRLF.contains(byte))
 }
 
 /// The rest of a LIST: [SP options] SP reference SP patterns [SP "RETURN" SP options]
-fn read_list(mut cursor: Cursor) -> Result<WrittenList, u8> {
+fn read_list<'l>(mut cursor: Cursor<'l, '_>) -> Result<WrittenList<'l>, u8> {
     let has_selection = cursor.sees_space_and_list();
     let mut selection = Vec::new();
     if has_selection {
@@ -111,7 +136,7 @@ fn read_list(mut cursor: Cursor) -> Result<WrittenList, u8> {
 }
 
 /// SP "RETURN" SP options, RETURN in any case of letters
-fn read_return<'l>(cursor: &mut Cursor<'l>) -> Result<Vec<WrittenOption<'l>>, u8> {
+fn read_return<'l>(cursor: &mut Cursor<'l, '_>) -> Result<Vec<WrittenOption<'l>>, u8> {
     cursor.space()?;
     if !cursor.word().eq_ignore_ascii_case(b"RETURN") {
         return Err(refusal::GRAMMAR);

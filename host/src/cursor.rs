@@ -1,8 +1,9 @@
 //! The tokens of a command line, read from left to right. What is off the grammar is 4.
 //!
-//! Atoms and quoted strings are RFC 3501's. Each method has its grammar above it; SP is one
-//! space.
+//! Atoms, quoted strings and literals are RFC 3501's. Each method has its grammar above it; SP is
+//! one space. A literal is one symbol: no other token reaches over it.
 
+use crate::literal::Literal;
 use crate::pattern::is_wildcard;
 use crate::quoted::read_quoted;
 use crate::refusal;
@@ -13,8 +14,10 @@ const SPACE: u8 = b' ';
 pub type Token<T> = Result<T, u8>;
 
 /// What is left of the line.
-pub struct Cursor<'l> {
+pub struct Cursor<'l, 's> {
+    /// The text up to the next literal.
     rest: &'l [u8],
+    literals: &'s [Literal<'l>],
 }
 
 /// An option as it is written. A value is read and not kept: no known option has one.
@@ -23,9 +26,10 @@ pub struct WrittenOption<'l> {
     pub has_value: bool,
 }
 
-impl<'l> Cursor<'l> {
-    pub fn new(text: &'l [u8]) -> Cursor<'l> {
-        Cursor { rest: text }
+impl<'l, 's> Cursor<'l, 's> {
+    /// A text, and behind it the literals with the text behind each.
+    pub fn new(text: &'l [u8], literals: &'s [Literal<'l>]) -> Cursor<'l, 's> {
+        Cursor { rest: text, literals }
     }
 
     /// Whether `byte` is next.
@@ -40,7 +44,7 @@ impl<'l> Cursor<'l> {
 
     /// The end of the line.
     pub fn end(&self) -> Token<()> {
-        if self.rest.is_empty() {
+        if self.rest.is_empty() && self.literals.is_empty() {
             Ok(())
         } else {
             Err(refusal::GRAMMAR)
@@ -112,14 +116,14 @@ impl<'l> Cursor<'l> {
         }
     }
 
-    /// astring = quoted / 1*(atom byte / "]")
+    /// astring = quoted / literal / 1*(atom byte / "]")
     fn astring(&mut self) -> Token<Vec<u8>> {
-        self.quoted_or_run(is_astring_byte)
+        self.string_or_run(is_astring_byte)
     }
 
-    /// pattern = quoted / 1*(atom byte / "]" / "%" / "*")
+    /// pattern = quoted / literal / 1*(atom byte / "]" / "%" / "*")
     fn pattern(&mut self) -> Token<Vec<u8>> {
-        self.quoted_or_run(|byte| is_astring_byte(byte) || is_wildcard(byte))
+        self.string_or_run(|byte| is_astring_byte(byte) || is_wildcard(byte))
     }
 
     /// "(" item *(SP item) ")"
@@ -134,12 +138,22 @@ impl<'l> Cursor<'l> {
         Ok(items)
     }
 
-    fn quoted_or_run(&mut self, belongs: fn(u8) -> bool) -> Token<Vec<u8>> {
+    fn string_or_run(&mut self, belongs: fn(u8) -> bool) -> Token<Vec<u8>> {
         if self.sees(b'"') {
-            self.quoted()
-        } else {
-            self.non_empty_run(belongs).map(<[u8]>::to_vec)
+            return self.quoted();
         }
+        match self.literal() {
+            Some(bytes) => Ok(bytes.to_vec()),
+            None => self.non_empty_run(belongs).map(<[u8]>::to_vec),
+        }
+    }
+
+    /// literal = "{" 1*DIGIT "}" CR LF and so many bytes, if it is next
+    fn literal(&mut self) -> Option<&'l [u8]> {
+        let (literal, behind) = self.literals.split_first().filter(|_| self.rest.is_empty())?;
+        self.rest = literal.text_behind;
+        self.literals = behind;
+        Some(literal.bytes)
     }
 
     /// quoted = DQUOTE *(any byte of a line but DQUOTE and "\" / "\" (DQUOTE / "\")) DQUOTE

@@ -1,10 +1,10 @@
 //! The second program of the listing rules: written from the papers alone, document 01 and of
-//! document 02 request W1, to be compared with the proved program and to be the plain measure of
-//! its speed.
+//! document 02 requests W1 and W2, to be compared with the proved program and to be the plain
+//! measure of its speed.
 //!
 //! The entries are those of document 01: the two checks, the command entry, the line writer,
-//! the line reader, the collector and the frames of the program. Left out, as there: login,
-//! SELECT, FETCH, modified UTF-7, literals, sockets.
+//! the line reader, the collector and the frames of the program; and W2's feeder. Left out, as
+//! there: login, SELECT, FETCH, modified UTF-7, sockets.
 //!
 //! Beside the second program stand two users of it: `compare` sends generated sessions to another
 //! program of frames and compares the answers, `readable` shows sessions as text. Both run a
@@ -15,9 +15,11 @@ mod collector;
 mod command;
 pub mod compare;
 mod cursor;
+pub mod feeder;
 pub mod frames;
 mod line;
 mod listing;
+mod literal;
 mod name;
 pub mod namespaces;
 mod pattern;
@@ -28,6 +30,7 @@ mod server;
 pub mod table;
 
 pub use collector::collect;
+pub use feeder::{Event, Feeder};
 pub use line::{read_line, write_line, Line};
 pub use namespaces::check_namespaces;
 pub use pattern::matches;

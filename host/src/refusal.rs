@@ -4,7 +4,8 @@
 pub const TABLE: u8 = 1;
 /// Check 2: the namespace list does not pass, or the program has no room for an entry.
 pub const NAMESPACES: u8 = 2;
-/// The line is too long, does not end with CR LF or holds a byte that no line holds.
+/// The command is too long, does not end with CR LF, holds a byte that no line holds outside
+/// literals, or a literal that is too long, cut short or holds 00.
 pub const LINE_SHAPE: u8 = 3;
 /// The tag, or the rest after a known word, is off the grammar.
 pub const GRAMMAR: u8 = 4;

@@ -17,7 +17,7 @@ use Rattle.command_line.specs.declared.Behind.{Behind}
 use Rattle.command_line.specs.declared.Behind.the-variants.{At, Nothing}
 use Rattle.command_line.specs.Tokens.{TokenIn, BehindIn}
 use Rattle.listing_rules.specs.Bytes.{text, oneOf, quote, isEmpty}
-use Rattle.listing_rules.specs.Tokens.{Got, got, _>>=_, at, after, run, run₁, unlessEmpty, unquoted, stringOr, atomByte, tagByte, astringByte, patternByte}
+use Rattle.listing_rules.specs.Tokens.{Got, got, _>>=_, at, after, run, run₁, unlessEmpty, quotedText, literal, stringOr, atomByte, tagByte, astringByte, patternByte}
 
 -- a byte that is not 0 lies inside
 pub inside : (s : List ℕ) (i : ℕ) → 0 < getD s i 0 → i < length s
@@ -75,32 +75,37 @@ module _ (s : List ℕ) (i b : ℕ) where
   pub after-other : (getD s i 0 ≡ b → ⊥) → after (b ∷ []) (drop i s) ≡ none
   after-other e = elim (decLe (length s) i) [ yes l ↦ after-out s i b l | no l ↦ after-no s i b (omega arith) e ]
 
--- two bytes, one behind the other
-pub after-two : (x y : ℕ) (t : List ℕ) → after (x ∷ y ∷ []) t ≡ (after (x ∷ []) t >>= λ u. after (y ∷ []) u)
+-- a byte, and a text behind it
+pub after-then : (x : ℕ) (ys t : List ℕ) → after (x ∷ ys) t ≡ (after (x ∷ []) t >>= λ u. after ys u)
 unfolding after _>>=_
-after-two x y [] = refl
-after-two x y (z ∷ t) = go (eqb x z)
+after-then x ys [] = refl
+after-then x ys (z ∷ t) = go (eqb x z)
   where
-    go : (o : Bool) → cond o (after (y ∷ []) t) none ≡ (cond o (some t) none >>= λ u. after (y ∷ []) u)
+    go : (o : Bool) → cond o (after ys t) none ≡ (cond o (some t) none >>= λ u. after ys u)
     go true = refl
     go false = refl
 
 module _ (p : ℕ → Bool) (s : List ℕ) (i : ℕ) where
   -- a quote begins a quoted string
-  pub string-quoted : getD s i 0 ≡ 34 → stringOr p (drop i s) ≡ unquoted false (drop (i + 1) s)
+  pub string-quoted : getD s i 0 ≡ 34 → stringOr p (drop i s) ≡ quotedText (drop (i + 1) s)
   unfolding stringOr quote
   string-quoted e = rw (drop-cons s i 0 (inside s i (omega arith)), eq-eqb (getD s i 0) 34 e, add-one)
 
+  -- an opening brace begins a literal
+  pub string-literal : getD s i 0 ≡ 123 → stringOr p (drop i s) ≡ literal (drop (i + 1) s)
+  unfolding stringOr quote
+  string-literal e = rw (drop-cons s i 0 (inside s i (omega arith)), ne-eqb (getD s i 0) 34 (λ q. omega arith), eq-eqb (getD s i 0) 123 e, add-one)
+
   -- any other byte begins a run
-  pub string-bare : (getD s i 0 ≡ 34 → ⊥) → stringOr p (drop i s) ≡ run₁ p (drop i s)
+  pub string-bare : (getD s i 0 ≡ 34 → ⊥) → (getD s i 0 ≡ 123 → ⊥) → stringOr p (drop i s) ≡ run₁ p (drop i s)
   unfolding stringOr quote run₁ run unlessEmpty isEmpty got
-  string-bare e = elim (decLe (length s) i) [ yes l ↦ out l | no l ↦ here (omega arith) ]
+  string-bare e f = elim (decLe (length s) i) [ yes l ↦ out l | no l ↦ here (omega arith) ]
     where
       out : length s ≤ i → stringOr p (drop i s) ≡ run₁ p (drop i s)
       out l = rw (drop-of-length-le s l)
 
       here : i < length s → stringOr p (drop i s) ≡ run₁ p (drop i s)
-      here l = rw (drop-cons s i 0 l, ne-eqb (getD s i 0) 34 e)
+      here l = rw (drop-cons s i 0 l, ne-eqb (getD s i 0) 34 e, ne-eqb (getD s i 0) 123 f)
 
 -- a place behind one that is further on
 pub behind-later : (s : List ℕ) (i to : ℕ) (r : Behind) → i < to → BehindIn s to r → BehindIn s i r

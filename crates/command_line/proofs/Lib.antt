@@ -3,6 +3,7 @@ pub mod Binds
 pub mod Runs
 pub mod Quoting
 pub mod Bytes
+pub mod Numbers
 pub mod Nesting
 pub mod Parted
 pub mod Members

@@ -7,8 +7,7 @@ use Prim.Native.Nat.{ℕ, zero, suc, _-_, _≤_, _<_, min}
 use native.Mathlib.Omega.{arith}
 use lib.ListN.{length, take, drop, getD, length-take, length-drop, take-append-drop}
 use lib.Seq.{take-append-le, drop-append-le}
-use borrow.Author.Tests.{le-leb, lt-leb}
-use Rattle.listing_rules.specs.Command.{Parsed, refused, namespace, listing, rootOf, canonical, shaped, lineText, orRefuse, tagged, parsed}
+use Rattle.listing_rules.specs.Command.{Parsed, refused, namespace, listing, rootOf, canonical, lineText, orRefuse, tagged, parsed}
 use Rattle.command_line.specs.declared.Span.{Span}
 use Rattle.command_line.specs.declared.Kind.{Kind}
 use Rattle.command_line.specs.declared.Kind.the-variants.{List, Root, Namespace, Refused}
@@ -20,20 +19,15 @@ use Rattle.command_line.specs.OptionSets.{optionsIs}
 use Rattle.command_line.specs.PatternLists.{nowhere}
 use Rattle.command_line.specs.Commands.{patternsOf, meaning, meaningAs, Inside, shapeIs, ShapeIn}
 
--- the shape of the line is 3
-module _ (l : Seq ℕ) where
-  pub line-long : 2048 < length l → parsed l ≡ refused 3
-  unfolding parsed lineText orRefuse
-  line-long h = rw (lt-leb (length l) 2048 h)
+-- the line has not the shape, or has it
+module _ (l : Seq ℕ) {r : Shape} (e : shapeIs l r ≡ lineText l) where
+  pub line-off : r ≡ Off → parsed l ≡ refused 3
+  unfolding parsed orRefuse shapeIs
+  line-off q = rw (← e, q)
 
-  module _ (h : length l ≤ 2048) {r : Shape} (e : shapeIs l r ≡ shaped l) where
-    pub line-off : r ≡ Off → parsed l ≡ refused 3
-    unfolding parsed lineText orRefuse shapeIs
-    line-off q = rw (le-leb (length l) 2048 h, ← e, q)
-
-    pub line-read : (n : ℕ) → r ≡ Text n → parsed l ≡ tagged (take n l)
-    unfolding parsed lineText orRefuse shapeIs
-    line-read n q = rw (le-leb (length l) 2048 h, ← e, q)
+  pub line-read : (n : ℕ) → r ≡ Text n → parsed l ≡ tagged (take n l)
+  unfolding parsed orRefuse shapeIs
+  line-read n q = rw (← e, q)
 
 pub shape-inside : (l : Seq ℕ) {r : Shape} (n : ℕ) → ShapeIn l r → r ≡ Text n → n ≤ length l
 unfolding ShapeIn

@@ -6,7 +6,7 @@ use mathlib.Core.Option.{Option, none, some}
 use Prim.Native.Nat.{ℕ, suc, _+_, _≤_, _<_}
 use lib.Dec.{eqb}
 use lib.ListN.{length, drop}
-use Rattle.listing_rules.specs.Tokens.{Got, got, _>>=_, run, tagByte, atomByte, astringByte, patternByte}
+use Rattle.listing_rules.specs.Tokens.{Got, got, _>>=_, run, tagByte, atomByte, astringByte, patternByte, digitByte, lineByte}
 use Rattle.command_line.specs.declared.Span.{Span}
 use Rattle.command_line.specs.declared.Cursor.{Cursor}
 use Rattle.command_line.specs.declared.Token.{Token}
@@ -14,7 +14,7 @@ use Rattle.command_line.specs.declared.Token.the-variants.{Found, Missin
 use Rattle.command_line.specs.declared.Behind.{Behind}
 use Rattle.command_line.specs.declared.Behind.the-variants.{At, Nothing}
 use Rattle.command_line.specs.declared.tokens.Class.{Class}
-use Rattle.command_line.specs.declared.tokens.Class.the-variants.{Tag, Atom, Astring, Pattern}
+use Rattle.command_line.specs.declared.tokens.Class.the-variants.{Tag, Atom, Astring, Pattern, Digit}
 use Rattle.command_line.specs.declared.tokens.Quote.{Quote}
 use Rattle.command_line.specs.declared.tokens.Quote.the-variants.{More, End, Bad}
 use Rattle.command_line.specs.Spans.{spanBytes}
@@ -25,6 +25,7 @@ classByte Tag = tagByte
 classByte Atom = atomByte
 classByte Astring = astringByte
 classByte Pattern = patternByte
+classByte Digit = digitByte
 
 -- a token as the paper reads it
 unfoldable pub tokenIs : List ℕ → Token → Option (Got (List ℕ))
@@ -36,7 +37,7 @@ unfoldable pub behindIs : List ℕ → Behind → Option (List ℕ)
 behindIs s (At c) = some (drop (c .at) s)
 behindIs s Nothing = none
 
--- a token read at `at`: it is not empty, and lies inside the line
+-- a token read at `at`: it ends further on, inside the line
 pub record Ahead (s : List ℕ) (at : ℕ) (t : Span) (c : Cursor) : Type 0 where
   pub order : t .start ≤ t .end
   pub within : t .end ≤ c .at
@@ -60,10 +61,11 @@ BehindIn s at Nothing = Unit {0}
 unfoldable pub runEnd : (ℕ → Bool) → List ℕ → ℕ → ℕ
 runEnd p s at = at + length (run p (drop at s) .val)
 
--- what a byte of a quoted string does: an escaped one is a quote or a backslash; else a quote ends the string
+-- what a byte of a quoted string does: an escaped one is a quote or a backslash; else a quote ends the string, and other bytes are
+-- those of a line
 unfoldable pub quotedStep : Bool → ℕ → Quote
 quotedStep true b = cond (eqb b 34 || eqb b 92) (More false) Bad
-quotedStep false b = cond (eqb b 34) End (More (eqb b 92))
+quotedStep false b = cond (eqb b 34) End (cond (lineByte b) (More (eqb b 92)) Bad)
 
 -- how many bytes stand before the quote that closes the string
 unfoldable pub closing : Bool → List ℕ → Option ℕ

@@ -2,13 +2,14 @@
 // refusal, 3 to 8, and `put_patterns` the canonical patterns of a command that was read.
 //
 // A command holds no bytes of its own: its tag, its reference and its patterns are spans of the line. `meaning` of specs/ says what a
-// command is in the terms of document 01. Absent: literals, and words other than LIST and NAMESPACE.
+// command is in the terms of document 01. Absent: words other than LIST and NAMESPACE.
 
 ghost use mathlib.Core.Path.{_≡_};
 ghost use Rattle.listing_rules.specs.Command.{parsed};
 ghost use Rattle.octets.specs.Put.{Put};
 ghost use Rattle.command_line.specs.Commands.{meaning, Inside, patternsOf, packedBytes};
 
+mod literals;
 mod option_list;
 mod packing;
 mod pattern_list;
@@ -25,10 +26,8 @@ use reading::read_text;
 use reading::refused;
 use spans::span_len;
 
-// How long a line may be, its CR LF included.
-pub const MAX_LINE: usize = 2048;
-
-// A part of the line, from start up to end. The span of a quoted string is what stands between its quotes, escapes and all.
+// A part of the line, from start up to end. The span of a quoted string is what stands between its quotes, escapes and all; that of a
+// literal is its bytes behind the header.
 pub struct Span {
     pub start: usize,
     pub end: usize,
@@ -81,9 +80,6 @@ pub fn read_command(line: &[u8]) -> Command
     ensures { λ r. ⌜ meaning (now (line .entry)) r ≡ parsed (now (line .entry)) ⌝ }
     ensures inside { λ r. ⌜ Inside (now (line .entry)) r ⌝ }
 {
-    if MAX_LINE < line.len() {
-        return refused(3);
-    }
     let Shape::Text(n) = line_text(line) else {
         return refused(3);
     };

@@ -1,5 +1,5 @@
 // The tokens of a line: methods of the cursor, each of which gives the token that stands at its place and the cursor behind it, or
-// nothing. The text is the line without its CR LF.
+// nothing. The text is the line without its last CR LF.
 //
 // Each promise is an equation with the definition of document 01 of the same name, and says besides that the token lies inside.
 
@@ -8,7 +8,7 @@ ghost use mathlib.Core.Bool.{false};
 ghost use mathlib.Core.List.{[], _∷_};
 ghost use lib.ListN.{drop};
 ghost use Rattle.listing_rules.specs.Bytes.{text as spelled};
-ghost use Rattle.listing_rules.specs.Tokens.{after, run₁, atom, unquoted, stringOr, astring, pattern, atomByte, tagByte};
+ghost use Rattle.listing_rules.specs.Tokens.{after, run₁, atom, lineByte, quotedText, stringOr, astring, pattern, atomByte, tagByte};
 ghost use Rattle.command_line.specs.Tokens.{classByte, tokenIs, behindIs, TokenIn, BareIn, BehindIn, quotedStep};
 use crate::Behind;
 use crate::Cursor;
@@ -18,12 +18,24 @@ use octets::BACKSLASH;
 use octets::QUOTE;
 use octets::byte_at;
 
+pub(crate) const CR: u8 = 13;
+
+pub(crate) const LF: u8 = 10;
+
 // The classes of bytes of which a bare token is a run.
 pub(crate) enum Class {
     Tag,
     Atom,
     Astring,
     Pattern,
+    Digit,
+}
+
+// A byte that may stand before CR LF, and in quotes.
+pub(crate) fn is_line_byte(b: u8) -> bool
+    ensures { λ r. ⌜ r ≡ lineByte b ⌝ }
+{
+    (0x01 <= b) & (b <= 0x7F) & !(b == CR) & !(b == LF)
 }
 
 // An atom byte: printable, and none of ( ) { % * " \ ]
@@ -42,7 +54,8 @@ fn is_atom(b: u8) -> bool
 }
 
 impl Class {
-    // Whether a byte is of the class: a tag has "]" besides atom bytes and no "+", an astring "]", a pattern "]", "%" and "*".
+    // Whether a byte is of the class: a tag has "]" besides atom bytes and no "+", an astring "]", a pattern "]", "%" and "*";
+    // a number has digits.
     fn holds(self, b: u8) -> bool
         ensures { λ r. ⌜ r ≡ classByte self b ⌝ }
     {
@@ -51,6 +64,7 @@ impl Class {
             Class::Atom => is_atom(b),
             Class::Astring => is_atom(b) | (b == b']'),
             Class::Pattern => is_atom(b) | (b == b']') | (b == b'%') | (b == b'*'),
+            Class::Digit => (b'0' <= b) & (b <= b'9'),
         }
     }
 }
@@ -62,7 +76,7 @@ pub(crate) enum Quote {
     Bad,
 }
 
-// An escaped byte is a quote or a backslash; else a quote ends the string.
+// An escaped byte is a quote or a backslash; else a quote ends the string, and other bytes are those of a line.
 fn quoted_step(escaped: bool, b: u8) -> Quote
     ensures { λ r. ⌜ r ≡ quotedStep escaped b ⌝ }
 {
@@ -76,14 +90,18 @@ fn quoted_step(escaped: bool, b: u8) -> Quote
         if b == QUOTE {
             Quote::End
         } else {
-            Quote::More(b == BACKSLASH)
+            if is_line_byte(b) {
+                Quote::More(b == BACKSLASH)
+            } else {
+                Quote::Bad
+            }
         }
     }
 }
 
 impl Cursor {
     // 1*byte: the longest run of bytes of the class
-    fn run(self, text: &[u8], class: Class) -> Token
+    pub(crate) fn run(self, text: &[u8], class: Class) -> Token
         ensures { λ r. ⌜ tokenIs (now (text .entry)) r ≡ run₁ (classByte class) (drop (self .at) (now (text .entry))) ⌝ }
         ensures { λ r. ⌜ BareIn (now (text .entry)) (self .at) r ⌝ }
     {
@@ -108,9 +126,9 @@ impl Cursor {
         )
     }
 
-    // *(byte / "\" (QUOTE / "\")) QUOTE, behind the first quote
+    // *(line-byte / "\" (QUOTE / "\")) QUOTE, behind the first quote
     fn quoted(self, text: &[u8]) -> Token
-        ensures { λ r. ⌜ tokenIs (now (text .entry)) r ≡ unquoted false (drop (self .at) (now (text .entry))) ⌝ }
+        ensures { λ r. ⌜ tokenIs (now (text .entry)) r ≡ quotedText (drop (self .at) (now (text .entry))) ⌝ }
         ensures { λ r. ⌜ TokenIn (now (text .entry)) (self .at) r ⌝ }
     {
         let at = self.at;
@@ -140,15 +158,20 @@ impl Cursor {
         Token::Missing
     }
 
-    // quoted / 1*byte
+    // quoted / literal / 1*byte
     fn string_or(self, text: &[u8], class: Class) -> Token
         ensures { λ r. ⌜ tokenIs (now (text .entry)) r ≡ stringOr (classByte class) (drop (self .at) (now (text .entry))) ⌝ }
         ensures { λ r. ⌜ TokenIn (now (text .entry)) (self .at) r ⌝ }
     {
         let at = self.at;
-        if byte_at(text, at) == QUOTE {
+        let b = byte_at(text, at);
+        if b == QUOTE {
             let inside = Cursor { at: at + 1 };
             return inside.quoted(text);
+        }
+        if b == b'{' {
+            let header = Cursor { at: at + 1 };
+            return header.literal(text);
         }
         self.run(text, class)
     }
@@ -169,7 +192,7 @@ impl Cursor {
         self.run(text, Class::Atom)
     }
 
-    // astring = quoted / 1*(atom-byte / "]")
+    // astring = quoted / literal / 1*(atom-byte / "]")
     pub(crate) fn astring(self, text: &[u8]) -> Token
         ensures { λ r. ⌜ tokenIs (now (text .entry)) r ≡ astring (drop (self .at) (now (text .entry))) ⌝ }
         ensures { λ r. ⌜ TokenIn (now (text .entry)) (self .at) r ⌝ }
@@ -177,7 +200,7 @@ impl Cursor {
         self.string_or(text, Class::Astring)
     }
 
-    // pattern = quoted / 1*(atom-byte / "]" / "%" / "*")
+    // pattern = quoted / literal / 1*(atom-byte / "]" / "%" / "*")
     pub(crate) fn pattern(self, text: &[u8]) -> Token
         ensures { λ r. ⌜ tokenIs (now (text .entry)) r ≡ pattern (drop (self .at) (now (text .entry))) ⌝ }
         ensures { λ r. ⌜ TokenIn (now (text .entry)) (self .at) r ⌝ }
@@ -186,7 +209,7 @@ impl Cursor {
     }
 
     // one given byte
-    fn byte(self, text: &[u8], b: u8) -> Behind
+    pub(crate) fn byte(self, text: &[u8], b: u8) -> Behind
         ensures { λ r. ⌜ behindIs (now (text .entry)) r ≡ after (b ∷ []) (drop (self .at) (now (text .entry))) ⌝ }
         ensures { λ r. ⌜ BehindIn (now (text .entry)) (self .at) r ⌝ }
     {

@@ -1,2 +1,3 @@
 -- Laws of the C forms.
 mod OutcomeLaws
+mod FeedingLaws

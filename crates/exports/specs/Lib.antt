@@ -1,2 +1,3 @@
 -- What the C forms of the answers mean.
 pub mod Outcomes
+pub mod Feeding

@@ -1,7 +1,8 @@
-// The library for programs in C and Rust: the entries of document 01 under plain names.
+// The library for programs in C and Rust: the entries of document 01 under plain names; and document 02's feeder (`feeding`).
 //
 // Each function calls the entry that it is named after and repeats its promise. A slice passes as a pointer and a length, an
 // answer as a struct of numbers (`outcomes`).
+pub mod feeding;
 pub mod outcomes;
 
 use list_line::Attributes;

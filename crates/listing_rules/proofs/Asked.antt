@@ -13,7 +13,7 @@ use Rattle.listing_rules.specs.Names.{lawfulName, nameByte}
 use Rattle.listing_rules.specs.Table.{rows, passes}
 use Rattle.listing_rules.specs.Namespaces.{openNamespaces}
 use Rattle.listing_rules.specs.Tokens.{openTokens}
-use Rattle.listing_rules.specs.Command.{lineByte}
+use Rattle.listing_rules.specs.Tokens.{lineByte}
 use Rattle.listing_rules.specs.Listing.{candidates, attributes, childInfo, listed, listedNames}
 use Rattle.listing_rules.specs.Lines.{listLine, okLine, openLines}
 use Rattle.listing_rules.specs.Server.{answered, refusal, answer, answerTo, limited, lineOf, listAnswer}

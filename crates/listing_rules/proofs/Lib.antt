@@ -2,6 +2,7 @@
 pub mod Bools
 pub mod ListLaws
 pub mod TokenLaws
+pub mod FeederLaws
 pub mod Order
 pub mod Sorted
 pub mod Ancestors

@@ -1,5 +1,5 @@
 -- The collector's commands are read as what they mean. Rests on TokenLaws.
-use mathlib.Core.Path.{_≡_, refl}
+use mathlib.Core.Path.{_≡_, refl, sym, ap, _∙_}
 use mathlib.Core.Bool.{Bool, true, false, cond, _&&_, not}
 use mathlib.Core.List.{List, [], _∷_, _++_, append-assoc}
 use mathlib.Core.Option.{none, some}
@@ -11,28 +11,18 @@ use borrow.Author.Tests.{ne-eqb, not-true, le-leb}
 use Rattle.listing_rules.specs.Bytes.{text, crlf, same, all, within, openBytes}
 use Rattle.listing_rules.specs.Lists.{openLists}
 use Rattle.listing_rules.specs.Names.{nameByte}
-use Rattle.listing_rules.specs.Tokens.{_>>=_, openTokens}
+use Rattle.listing_rules.specs.Tokens.{lineByte, openTokens}
+use Rattle.listing_rules.specs.Feeder.{announced}
 use Rattle.listing_rules.specs.Options.{Options, openOptions}
-use Rattle.listing_rules.specs.Command.{lineByte, shaped, listing, parsed, lineText, orRefuse, tagged, openCommand}
+use Rattle.listing_rules.specs.Command.{listing, parsed, orRefuse, tagged, openCommand}
 use Rattle.listing_rules.specs.Lines.{escaped, quoted, openLines}
 use Rattle.listing_rules.specs.Walk.{commandLine, wantsSpecial, wantsRemote, when, openWalk}
 use Rattle.listing_rules.specs.Demand3.{walkOptions}
 use Rattle.listing_rules.proofs.Bools.{and-l, and-r}
 use Rattle.listing_rules.proofs.ListLaws.{all-append}
-use Rattle.listing_rules.proofs.TokenLaws.{unquoted-escaped, length-escaped, all-escaped}
+use Rattle.listing_rules.proofs.TokenLaws.{quotedText-escaped, length-escaped, all-escaped}
+use Rattle.listing_rules.proofs.FeederLaws.{plain-line, quote-announces-none}
 use Rattle.listing_rules.proofs.LawfulNames.{name-range}
-
--- the shape of a line
-pub shaped-append : (x : List ℕ) → all lineByte x ≡ true → shaped (x ++ crlf) ≡ some x
-unfolding _>>=_ all crlf lineByte same shaped
-shaped-append [] h = refl
-shaped-append (b ∷ x) h =
-    let this = and-l (lineByte b) (all lineByte x) h in
-    let not13 = not-true (eqb b 13) (and-r (within 0x01 0x7F b) (not (eqb b 13)) (and-l (within 0x01 0x7F b && not (eqb b 13)) (not (eqb b 10)) this)) in
-    step (lineByte b) this not13 (shaped-append x (and-r (lineByte b) (all lineByte x) h))
-  where
-    step : (o : Bool) → o ≡ true → eqb b 13 ≡ false → shaped (x ++ crlf) ≡ some x → cond (same (b ∷ (x ++ crlf)) crlf) (some []) (cond o (shaped (x ++ crlf) >>= λ u. some (b ∷ u)) none) ≡ some (b ∷ x)
-    step o e f ih = rw (f, e, ih)
 
 -- a byte of a name may stand in a line
 pub name-line : (b : ℕ) → nameByte b ≡ true → lineByte b ≡ true
@@ -64,7 +54,7 @@ optionsFor s r =
     }
 
 body-bytes : (s r : Bool) (n : List ℕ) → all lineByte n ≡ true → all lineByte (body s r n) ≡ true
-unfolding openBytes openCommand
+unfolding openBytes lineByte
 body-bytes true true n h = all-append lineByte (escaped n) (text "\" \"%\"") (all-escaped lineByte refl n h) refl
 body-bytes true false n h = all-append lineByte (escaped n) (text "\" \"%\"") (all-escaped lineByte refl n h) refl
 body-bytes false true n h = all-append lineByte (escaped n) (text "\" \"%\"") (all-escaped lineByte refl n h) refl
@@ -73,12 +63,12 @@ body-bytes false false n h = all-append lineByte (escaped n) (text "\" \"%\"") (
 fits : (n : List ℕ) → length n ≤ 254 → leb (length (n ++ (37 ∷ []))) 255 ≡ true
 fits n h = le-leb (length (n ++ (37 ∷ []))) 255 (omega (arith, length-append n (37 ∷ [])))
 
-body-read : (s r : Bool) (n : List ℕ) → length n ≤ 254 → tagged (body s r n) ≡ listing (text "w") (optionsFor s r) ((n ++ text "%") ∷ [])
+body-read : (s r : Bool) (n : List ℕ) → all lineByte n ≡ true → length n ≤ 254 → tagged (body s r n) ≡ listing (text "w") (optionsFor s r) ((n ++ text "%") ∷ [])
 unfolding openBytes openLists openTokens openCommand openOptions
-body-read true true n h = rw (unquoted-escaped n (text " \"%\""), fits n h)
-body-read true false n h = rw (unquoted-escaped n (text " \"%\""), fits n h)
-body-read false true n h = rw (unquoted-escaped n (text " \"%\""), fits n h)
-body-read false false n h = rw (unquoted-escaped n (text " \"%\""), fits n h)
+body-read true true n b h = rw (quotedText-escaped n (text " \"%\"") b, fits n h)
+body-read true false n b h = rw (quotedText-escaped n (text " \"%\"") b, fits n h)
+body-read false true n b h = rw (quotedText-escaped n (text " \"%\"") b, fits n h)
+body-read false false n b h = rw (quotedText-escaped n (text " \"%\"") b, fits n h)
 
 -- a command of the collector, read
 line-is : (o : ℕ) (n : List ℕ) → commandLine o n ≡ body (wantsSpecial o) (wantsRemote o) n ++ crlf
@@ -98,8 +88,13 @@ short true false n h = simp length-append (omega (arith, length-escaped n))
 short false true n h = simp length-append (omega (arith, length-escaped n))
 short false false n h = simp length-append (omega (arith, length-escaped n))
 
+-- its last byte is a quote, so it announces no literal
+announces-none : (s r : Bool) (n : List ℕ) → announced (body s r n ++ crlf) ≡ none
+unfolding openBytes
+announces-none s r n = ap announced (append-assoc (before s r) (escaped n ++ text "\" \"%\"") crlf ∙ ap (λ (l : List ℕ). before s r ++ l) (append-assoc (escaped n) (text "\" \"%\"") crlf) ∙ sym (append-assoc (before s r) (escaped n) _) ∙ sym (append-assoc (before s r ++ escaped n) (text "\" \"%") (34 ∷ crlf))) ∙ quote-announces-none ((before s r ++ escaped n) ++ text "\" \"%")
+
 pub sent : (o : ℕ) (n : List ℕ) → all lineByte n ≡ true → length n ≤ 254 → parsed (commandLine o n) ≡ listing (text "w") (walkOptions o) ((n ++ text "%") ∷ [])
-unfolding parsed lineText orRefuse walkOptions
+unfolding parsed orRefuse walkOptions
 sent o n h k =
-    rw (line-is o n, le-leb (length (body (wantsSpecial o) (wantsRemote o) n ++ crlf)) 2048 (short (wantsSpecial o) (wantsRemote o) n k), shaped-append (body (wantsSpecial o) (wantsRemote o) n) (body-bytes (wantsSpecial o) (wantsRemote o) n h))
-    (body-read (wantsSpecial o) (wantsRemote o) n k)
+    rw (line-is o n, plain-line (body (wantsSpecial o) (wantsRemote o) n) (body-bytes (wantsSpecial o) (wantsRemote o) n h) (short (wantsSpecial o) (wantsRemote o) n k) (announces-none (wantsSpecial o) (wantsRemote o) n))
+    (body-read (wantsSpecial o) (wantsRemote o) n h k)

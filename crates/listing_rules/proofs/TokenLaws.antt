@@ -1,15 +1,15 @@
 -- The tokens of a line: what each reader takes and leaves, and that a quoted name is read back as it was. Rests on Bools.
-use mathlib.Core.Path.{_≡_, refl, sym, ap, subst}
+use mathlib.Core.Path.{_≡_, refl, sym, ap, _∙_, subst}
 use mathlib.Core.Bool.{Bool, true, false, cond, _&&_, _||_, not, false≢true}
 use mathlib.Core.List.{List, [], _∷_, _++_}
 use mathlib.Core.Option.{Option, none, some, IsSome}
 use Prim.Native.Nat.{ℕ, suc, _*_, _≤_, _<_}
 use native.Mathlib.Omega.{arith}
-use lib.Dec.{eqb}
-use lib.ListN.{length, length-append}
+use lib.Dec.{eqb, leb}
+use lib.ListN.{length, take, drop, length-append, length-drop}
 use borrow.Author.Tests.{eqb-true, eq-eqb}
-use Rattle.listing_rules.specs.Bytes.{openBytes, quote, backslash, all, isEmpty}
-use Rattle.listing_rules.specs.Tokens.{openTokens, Got, got, _>>=_, after, withFirst, run, unlessEmpty, run₁, atomByte, astringByte, patternByte, atom, unquoted, stringOr, astring, pattern}
+use Rattle.listing_rules.specs.Bytes.{openBytes, text, crlf, quote, backslash, all, isEmpty}
+use Rattle.listing_rules.specs.Tokens.{openTokens, Got, got, _>>=_, after, withFirst, run, unlessEmpty, run₁, atomByte, astringByte, patternByte, atom, unquoted, lineByte, quotedText, digitByte, decimal, number, literal, stringOr, astring, pattern}
 use Rattle.listing_rules.specs.Lines.{openLines, escaped}
 use Rattle.listing_rules.proofs.Bools.{and-l, and-r, and-i}
 
@@ -71,6 +71,14 @@ run-split p (b ∷ t) = go (p b) (run-split p t)
     go : (o : Bool) → t ≡ (run p t) .val ++ (run p t) .rest → Path (List ℕ) (b ∷ t) ((cond o (withFirst b (run p t)) (got [] (b ∷ t))) .val ++ (cond o (withFirst b (run p t)) (got [] (b ∷ t))) .rest)
     go true ih = ap (λ (x : List ℕ). b ∷ x) ih
     go false ih = refl
+
+pub run₁-split : (p : ℕ → Bool) (t : List ℕ) (g : Got (List ℕ)) → run₁ p t ≡ some g → t ≡ g .val ++ g .rest
+unfolding run₁ unlessEmpty
+run₁-split p t g k = go (isEmpty (run p t .val)) k
+  where
+    go : (o : Bool) → cond o none (some (run p t)) ≡ some g → t ≡ g .val ++ g .rest
+    go true f = absurd (none≢some f)
+    go false f = let e : run p t ≡ g = cc in subst (λ (h : Got (List ℕ)). t ≡ h .val ++ h .rest) e (run-split p t)
 
 pub run₁-shorter : (p : ℕ → Bool) (t : List ℕ) (g : Got (List ℕ)) → run₁ p t ≡ some g → length (g .rest) < length t
 unfolding run₁ unlessEmpty isEmpty
@@ -155,15 +163,57 @@ unquoted-some false (b ∷ t) g k = go (eqb b backslash) (eqb b quote) refl refl
 pub unquoted-shorter : (t : List ℕ) (g : Got (List ℕ)) → unquoted false t ≡ some g → length (g .rest) < length t
 unquoted-shorter t g k = omega (arith, ap length (unquoted-some false t g k), length-append (escaped (g .val)) (quote ∷ g .rest))
 
--- a quoted string, or a run
+-- a quoted string of a line
+pub quotedText-some : (t : List ℕ) (g : Got (List ℕ)) → quotedText t ≡ some g → unquoted false t ≡ some g
+unfolding quotedText
+quotedText-some t g k =
+    let w = bind-some (unquoted false t) (λ h. cond (all lineByte (h .val)) (some h) none) g k in
+    w .1 ∙ go (all lineByte (w .0 .val)) (w .2)
+  where
+    go : {h : Got (List ℕ)} (o : Bool) → cond o (some h) none ≡ some g → some h ≡ some g
+    go true e = e
+    go false e = absurd (none≢some e)
+
+pub quotedText-escaped : (n t : List ℕ) → all lineByte n ≡ true → quotedText (escaped n ++ (quote ∷ t)) ≡ some (got n t)
+unfolding quotedText got _>>=_
+quotedText-escaped n t h = rw (unquoted-escaped n t, h)
+
+-- a number
+pub number-shorter : (t : List ℕ) (g : Got ℕ) → number t ≡ some g → length (g .rest) < length t
+unfolding number got
+number-shorter t g k =
+    let w = bind-some (run₁ digitByte t) (λ h. some (got (decimal 0 (h .val)) (h .rest))) g k in
+    let e : got (decimal 0 (w .0 .val)) (w .0 .rest) ≡ g = cc in
+    omega (arith, run₁-shorter digitByte t (w .0) (w .1), ap (λ (x : Got ℕ). length (x .rest)) e)
+
+-- a literal
+pub literal-shorter : (t : List ℕ) (g : Got (List ℕ)) → literal t ≡ some g → length (g .rest) < length t
+unfolding literal got
+literal-shorter t g k =
+    let w = bind-some (number t) (λ n. after (text "}" ++ crlf) (n .rest) >>= behindHeader (n .val)) g k in
+    let v = bind-some (after (text "}" ++ crlf) (w .0 .rest)) (behindHeader (w .0 .val)) g (w .2) in
+    omega (arith, number-shorter t (w .0) (w .1), ap length (after-some (text "}" ++ crlf) (w .0 .rest) (v .0) (v .1)), length-append (text "}" ++ crlf) (v .0), left (w .0 .val) (v .0) (v .2))
+  where
+    behindHeader : ℕ → List ℕ → Option (Got (List ℕ))
+    behindHeader n u = cond (leb n 1024 && leb n (length u)) (some (got (take n u) (drop n u))) none
+
+    left : (n : ℕ) (u : List ℕ) → behindHeader n u ≡ some g → length (g .rest) ≤ length u
+    left n u e = go (leb n 1024 && leb n (length u)) e
+      where
+        go : (o : Bool) → cond o (some (got (take n u) (drop n u))) none ≡ some g → length (g .rest) ≤ length u
+        go true f = let h : got (take n u) (drop n u) ≡ g = cc in omega (arith, length-drop n u, ap (λ (x : Got (List ℕ)). length (x .rest)) h)
+        go false f = absurd (none≢some f)
+
+-- a quoted string, a literal, or a run
 pub stringOr-shorter : (p : ℕ → Bool) (t : List ℕ) (g : Got (List ℕ)) → stringOr p t ≡ some g → length (g .rest) < length t
 unfolding stringOr
 stringOr-shorter p [] g k = absurd (none≢some k)
-stringOr-shorter p (b ∷ t) g k = go (eqb b quote) k
+stringOr-shorter p (b ∷ t) g k = go (eqb b quote) (eqb b 123) k
   where
-    go : (o : Bool) → cond o (unquoted false t) (run₁ p (b ∷ t)) ≡ some g → length (g .rest) < suc (length t)
-    go true k = omega (arith, unquoted-shorter t g k)
-    go false k = run₁-shorter p (b ∷ t) g k
+    go : (o q : Bool) → cond o (quotedText t) (cond q (literal t) (run₁ p (b ∷ t))) ≡ some g → length (g .rest) < suc (length t)
+    go true q k = omega (arith, unquoted-shorter t g (quotedText-some t g k))
+    go false true k = omega (arith, literal-shorter t g k)
+    go false false k = run₁-shorter p (b ∷ t) g k
 
 pub astring-shorter : (t : List ℕ) (g : Got (List ℕ)) → astring t ≡ some g → length (g .rest) < length t
 unfolding astring

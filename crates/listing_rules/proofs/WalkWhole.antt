@@ -12,7 +12,7 @@ use Rattle.listing_rules.specs.Bytes.{slash, all, within, openBytes}
 use Rattle.listing_rules.specs.Lists.{joined}
 use Rattle.listing_rules.specs.Names.{nameByte, lawfulName}
 use Rattle.listing_rules.specs.Table.{rows, passes}
-use Rattle.listing_rules.specs.Command.{lineByte}
+use Rattle.listing_rules.specs.Tokens.{lineByte}
 use Rattle.listing_rules.specs.Walk.{walked, packed, stop, go, Walked, asked, walkFrom, walkAll, walkRefused, ended, walk}
 use Rattle.listing_rules.specs.Demand3.{declaredWalk, meetingNames, meetingAncestors, walkAnswer}
 use Rattle.listing_rules.proofs.ListLaws.{all-imp, all-append}

@@ -5,7 +5,7 @@ use lib.Dec.{eqb, leb}
 use lib.ListN.{length, replicate}
 use Prim.Native.Nat.{ℕ, suc, _+_, _/_, _%_}
 use Prim.Native.String.{String}
-use Rattle.listing_rules.specs.Bytes.{text, crlf, same, openBytes}
+use Rattle.listing_rules.specs.Bytes.{text, crlf, same, isEmpty, openBytes}
 use Rattle.listing_rules.specs.Lists.{every, anyOf, openLists}
 use Rattle.listing_rules.specs.Orders.{openOrders}
 use Rattle.listing_rules.specs.Names.{openNames}
@@ -13,6 +13,7 @@ use Rattle.listing_rules.specs.Flags.{openFlags}
 use Rattle.listing_rules.specs.Table.{rows, passes, openTable}
 use Rattle.listing_rules.specs.Namespaces.{namespacesPass, openNamespaces}
 use Rattle.listing_rules.specs.Tokens.{openTokens}
+use Rattle.listing_rules.specs.Feeder.{Event, handed, goOn, denied, quiet, Feeder, reading, inLiteral, dropping, first, feedChunks, openFeeder}
 use Rattle.listing_rules.specs.Options.{openOptions}
 use Rattle.listing_rules.specs.Command.{openCommand}
 use Rattle.listing_rules.specs.Match.{openMatch}
@@ -68,6 +69,8 @@ pub data Case : Type 0 where
   steps : ℕ → ℕ → List ℕ → ℕ → ℕ → List ℕ → Case
   -- a walk of so many commands that found nothing is answered so
   counts : ℕ → List ℕ → Case
+  -- the feeder, fed these chunks from the first state, says this, and is in the first state again or is not
+  feeds : List (List ℕ) → List Event → Bool → Case
 
 abbrev pub sameReply : Reply → Reply → Bool
 sameReply (refusal a) (refusal b) = eqb a b
@@ -95,6 +98,19 @@ sameRead bad (line bs n c) = false
 sameRead bad root = false
 sameRead bad bad = true
 
+-- events as bytes, to compare them: each begins with its kind, and a command with its length
+abbrev pub eventBytes : List Event → List ℕ
+eventBytes [] = []
+eventBytes (quiet ∷ es) = 0 ∷ eventBytes es
+eventBytes (handed l ∷ es) = 1 ∷ length l ∷ (l ++ eventBytes es)
+eventBytes (goOn ∷ es) = 2 ∷ eventBytes es
+eventBytes (denied k ∷ es) = 3 ∷ k ∷ eventBytes es
+
+abbrev pub isFirst : Feeder → Bool
+isFirst (reading kept l) = isEmpty kept
+isFirst (inLiteral kept n) = false
+isFirst (dropping cr) = false
+
 -- what demand 3 says of a walk with this result
 abbrev pub asDeclared : List ℕ → ℕ → ℕ → ℕ → ℕ → WalkReply → Bool
 asDeclared t o s f p (walkRefused k) = not (passes t) || not (leb o 3) || tooSmall (rows t) o s f p
@@ -113,6 +129,7 @@ holds (steps t n l t′ n′ o) =
     let r = step (record { table = times t 0; namespaces = times n 0 }) l in
     eqb (length (r .stored .table)) t′ && eqb (length (r .stored .namespaces)) n′ && same (r .output) o
 holds (counts c o) = same (walkLine (walked c [] [])) o
+holds (feeds cs es b) = let f = feedChunks first cs in same (eventBytes (f .events)) (eventBytes es) && sameFlag (isFirst (f .state)) b
 
 -- the places of the cases that fail, counted from k
 abbrev pub failures : ℕ → List Case → List ℕ
@@ -121,5 +138,5 @@ failures k (c ∷ cs) = let r = failures (suc k) cs in cond (holds c) r (k ∷ r
 
 -- opens every definition that the cases compute
 unfoldable pub openAll : Unit {0}
-unfolding openBytes openLists openOrders openNames openFlags openTable openNamespaces openTokens openOptions openCommand openMatch openListing openLines openServer openReader openWalk openDemand3 openFrames
+unfolding openBytes openLists openOrders openNames openFlags openTable openNamespaces openTokens openFeeder openOptions openCommand openMatch openListing openLines openServer openReader openWalk openDemand3 openFrames
 openAll = tt

@@ -2,29 +2,19 @@
 use mathlib.Core.List.{List, [], _∷_, _++_}
 use mathlib.Core.Bool.{Bool, true, false, cond, _&&_, _||_, not}
 use mathlib.Core.Option.{Option, none, some}
-use lib.Dec.{eqb, leb}
-use lib.ListN.{length}
-use Prim.Native.Nat.{ℕ, zero, suc}
-use Rattle.listing_rules.specs.Bytes.{text, crlf, within, same, spells, isEmpty}
+use lib.Dec.{leb}
+use lib.ListN.{length, take}
+use Prim.Native.Nat.{ℕ, zero, suc, _-_}
+use Rattle.listing_rules.specs.Bytes.{text, spells, isEmpty}
 use Rattle.listing_rules.specs.Lists.{every, anyOf}
 use Rattle.listing_rules.specs.Tokens.{Got, got, at, after, withFirst, _>>=_, tagByte, atomByte, run, run₁, atom, astring, pattern}
+use Rattle.listing_rules.specs.Feeder.{first, oneCommand}
 use Rattle.listing_rules.specs.Options.{Options, lawfulOptions}
 
--- "before that holds only bytes 01 to 7F other than CR and LF"
-unfoldable pub lineByte : ℕ → Bool
-lineByte b = within 0x01 0x7F b && not (eqb b 13) && not (eqb b 10)
-
--- "It ends with CR LF": what stands before it, if the line has this shape
-unfoldable pub shaped : List ℕ → Option (List ℕ)
-shaped [] = none
-shaped (b ∷ t) =
-    let r = shaped t >>= λ u. some (b ∷ u) in
-    let other = cond (lineByte b) r none in
-    cond (same (b ∷ t) crlf) (some []) other
-
--- "At most 2,048 bytes."
+-- The shape of the line: "At most 2,048 bytes. It ends with CR LF, and before that holds only bytes 01 to 7F other than CR and LF",
+-- with W2 over the text outside literals; what stands before the last CR LF.
 unfoldable pub lineText : List ℕ → Option (List ℕ)
-lineText l = cond (leb (length l) 2048) (shaped l) none
+lineText l = cond (oneCommand first l) (some (take (length l - 2) l)) none
 
 -- "A value is one or more items parted by single spaces, each an astring or a value in parentheses; values nest as deep as the
 -- line allows." t stands behind the opening parenthesis; the result is what is left behind the closing one. Each step takes a
@@ -197,5 +187,5 @@ parsed l = orRefuse 3 (lineText l) tagged
 
 -- opens every definition of this file, for a proof by computation
 unfoldable pub openCommand : Unit {0}
-unfolding lineByte shaped lineText valueRest option parted options patterns selectionPart returnPart isSome listArgs extended selectionWords returnWords knownIn named optionsOf canonical fewPatterns asksRoot judged orRefuse worded tagged parsed
+unfolding lineText valueRest option parted options patterns selectionPart returnPart isSome listArgs extended selectionWords returnWords knownIn named optionsOf canonical fewPatterns asksRoot judged orRefuse worded tagged parsed
 openCommand = tt

@@ -1,4 +1,4 @@
--- Document 01 as definitions, one file a topic, in the paper's order.
+-- Documents 01 and 02 as definitions, one file a topic, in the paper's order.
 pub mod Bytes
 pub mod Lists
 pub mod Orders
@@ -7,6 +7,7 @@ pub mod Flags
 pub mod Table
 pub mod Namespaces
 pub mod Tokens
+pub mod Feeder
 pub mod Options
 pub mod Command
 pub mod Match

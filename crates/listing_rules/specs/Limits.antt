@@ -7,10 +7,11 @@ use Prim.Native.Nat.{ℕ, zero, suc, _+_, _/_, _%_}
 use Prim.Native.String.{String}
 use Rattle.listing_rules.specs.Bytes.{text, crlf}
 use Rattle.listing_rules.specs.Lists.{joined}
+use Rattle.listing_rules.specs.Feeder.{Event, handed, goOn, denied}
 use Rattle.listing_rules.specs.Server.{Reply, refusal, answered}
 use Rattle.listing_rules.specs.Reader.{Read, line, root, bad}
 use Rattle.listing_rules.specs.Walk.{WalkReply, walkRefused, walked, packed}
-use Rattle.listing_rules.specs.Cases.{row, mailbox, entry, times, sends, lines, Case, replies, refuses, walks, tables, spaces, writes, reads, program, steps, counts, failures, openAll}
+use Rattle.listing_rules.specs.Cases.{row, mailbox, entry, times, sends, lines, Case, replies, refuses, walks, tables, spaces, writes, reads, program, steps, counts, feeds, failures, openAll}
 use Rattle.listing_rules.specs.ExpertSheet.{tableE}
 
 abbrev named : List ℕ → List ℕ
@@ -166,6 +167,35 @@ limits =
     ∷ steps 0 1023 (text "4E00") 0 1024 []
     ∷ steps 0 1023 (text "4E0000") 0 1023 (text "5202\n")
     ∷ counts 515 (text "570203\n")
+    -- W2: a literal as reference, as pattern, among patterns and as an item of a value; its wildcards count; 80 to FF match no name
+    ∷ replies 16384 tableE [] (lines ("a LIST {0}" ∷ " {3}" ∷ "Moo" ∷ [])) (answered (lines ("* LIST () \"/\" \"Moo\"" ∷ "a OK done" ∷ [])))
+    ∷ replies 16384 tableE [] (lines ("a LIST {2}" ∷ "M% (\"x\" {0002}" ∷ "o* {1}" ∷ []) ++ (0xFF ∷ sends ")")) (answered (lines ("* LIST () \"/\" \"Moo\"" ∷ "a OK done" ∷ [])))
+    ∷ refuses 6 (lines ("a LIST (FOO (a {3}" ∷ "( \\ (b))) \"\" *" ∷ []) ∷ [])
+    ∷ replies 16384 [] [] (text "a LIST \"\" {5}" ++ (crlf ++ (13 ∷ 10 ∷ 1 ∷ 128 ∷ 255 ∷ crlf))) (answered (sends "a OK done"))
+    -- a literal stands alone, and nowhere else; 5 before what stands behind the word
+    ∷ refuses 4 (lines ("a LIST \"\" x{1}" ∷ "a" ∷ []) ∷ lines ("a LIST \"\" {1}" ∷ "ax" ∷ []) ∷ lines ("a LIST{0}" ∷ " \"\" *" ∷ []) ∷ lines ("{1}" ∷ "a LIST \"\" *" ∷ []) ∷ lines ("a LIST ({10}" ∷ "SUBSCRIBED) \"\" *" ∷ []) ∷ lines ("a LIST \"\" \"{1}" ∷ "a\"" ∷ []) ∷ sends "a LIST \"\" {}" ∷ sends "a LIST \"\" {1+}" ∷ sends "a LIST \"\" {1}a" ∷ lines ("a LIST \"\" * RETURN {2}" ∷ "()" ∷ []) ∷ [])
+    ∷ refuses 5 (lines ("a {4}" ∷ "LIST" ∷ []) ∷ [])
+    -- a literal cut short, bytes behind the command, a larger n, 00 in a literal, and what check 3 says of the text around it
+    ∷ refuses 3 (sends "a LIST \"\" {3}" ∷ sends "a LIST \"\" {0}" ∷ lines ("a LIST \"\" {3}" ∷ "a" ∷ []) ∷ lines ("a LIST \"\" *" ∷ "" ∷ []) ∷ (sends "a LIST \"\" {1025}" ++ (times 1025 97 ++ crlf)) ∷ (sends "a LIST \"\" {1}" ++ (0 ∷ crlf)) ∷ (sends "a LIST \"\" {1}" ++ (97 ∷ 128 ∷ crlf)) ∷ (sends "a LIST \"\" {1}" ++ (97 ∷ 13 ∷ crlf)) ∷ [])
+    -- the limits: n of 1,024 and a canonical pattern of 255 bytes, 2,048 bytes in all
+    ∷ refuses 8 ((sends "a LIST \"\" {1024}" ++ (times 1024 97 ++ crlf)) ∷ (sends "a LIST \"b\" {255}" ++ (times 255 97 ++ crlf)) ∷ [])
+    ∷ replies 16384 [] [] (sends "a LIST \"\" {255}" ++ (times 255 97 ++ crlf)) (answered (sends "a OK done"))
+    ∷ replies 16384 [] [] (sends "a LIST (A {1024}" ++ (times 1024 41 ++ (text "(" ++ (times 988 97 ++ sends ")) \"\" *")))) (refusal 4)
+    ∷ replies 16384 [] [] (sends "a LIST (A {1024}" ++ (times 1024 41 ++ (text "(" ++ (times 998 97 ++ sends ")) \"\" *")))) (refusal 3)
+    -- the feeder: chunks cut anywhere, zero length too; a header in a literal is none
+    ∷ feeds (text "a LIST \"\" {3}\r" ∷ [] ∷ text "\n" ∷ text "Mo" ∷ text "o\r\n\r" ∷ text "\n" ∷ text "b" ∷ []) (goOn ∷ handed (lines ("a LIST \"\" {3}" ∷ "Moo" ∷ [])) ∷ handed crlf ∷ []) false
+    ∷ feeds (lines ("a {7}" ∷ "x{1}" ∷ "y" ∷ []) ∷ []) (goOn ∷ handed (lines ("a {7}" ∷ "x{1}" ∷ "y" ∷ [])) ∷ []) true
+    ∷ feeds (lines ("{1}" ∷ "}" ∷ "{ 1}" ∷ "{1+}" ∷ "{}" ∷ []) ∷ []) (goOn ∷ handed (lines ("{1}" ∷ "}" ∷ [])) ∷ handed (sends "{ 1}") ∷ handed (sends "{1+}") ∷ handed (sends "{}") ∷ []) true
+    ∷ feeds ((sends "{1}" ++ (13 ∷ 10 ∷ sends "")) ∷ []) (goOn ∷ handed (sends "{1}" ++ (13 ∷ 10 ∷ sends "")) ∷ []) true
+    -- a larger n ends the command at its line; leading zeros and many digits
+    ∷ feeds (lines ("{1025}" ∷ "a" ∷ []) ∷ []) (denied 3 ∷ handed (sends "a") ∷ []) true
+    ∷ feeds ((text "{" ++ (times 1500 48 ++ sends "1}")) ∷ sends "a" ∷ []) (goOn ∷ handed ((text "{" ++ (times 1500 48 ++ sends "1}")) ++ sends "a") ∷ []) true
+    ∷ feeds ((text "{" ++ (times 1500 57 ++ sends "}")) ∷ []) (denied 3 ∷ []) true
+    -- 00 drops through the next CR LF, in a literal too, of which a CR just before counts
+    ∷ feeds ((sends "{9}" ++ (97 ∷ 0 ∷ sends "b")) ∷ sends "c" ∷ (0 ∷ []) ∷ text "{1}\r" ∷ text "\r\n" ∷ []) (goOn ∷ denied 3 ∷ handed (sends "c") ∷ denied 3 ∷ []) true
+    -- 2,048 bytes; the LF of a line, or of a header, as byte 2,049, and the byte behind a header that ends as byte 2,048
+    ∷ feeds ((times 2046 97 ++ crlf) ∷ (times 2047 97 ++ crlf) ∷ (times 2048 97 ++ crlf) ∷ []) (handed (times 2046 97 ++ crlf) ∷ denied 3 ∷ denied 3 ∷ []) true
+    ∷ feeds ((times 2043 97 ++ sends "{1}") ∷ (13 ∷ []) ∷ sends "" ∷ (times 2044 97 ++ sends "{1}") ∷ []) (goOn ∷ denied 3 ∷ denied 3 ∷ []) true
     ∷ []
 
 pub claim : failures 1 limits ≡ []

@@ -1,10 +1,11 @@
 -- The tokens of a line, read from left to right: each reader takes what is left of the line and gives what it read and what is left then.
-use mathlib.Core.List.{List, [], _∷_}
+use mathlib.Core.List.{List, [], _∷_, _++_}
 use mathlib.Core.Bool.{Bool, true, false, cond, _&&_, _||_, not}
 use mathlib.Core.Option.{Option, none, some}
-use lib.Dec.{eqb}
-use Prim.Native.Nat.{ℕ}
-use Rattle.listing_rules.specs.Bytes.{text, quote, backslash, within, oneOf, isEmpty}
+use lib.Dec.{eqb, leb}
+use lib.ListN.{length, take, drop}
+use Prim.Native.Nat.{ℕ, _+_, _-_, _*_}
+use Rattle.listing_rules.specs.Bytes.{text, crlf, quote, backslash, within, oneOf, all, isEmpty}
 
 -- something read, and what is left of the line behind it
 pub record Got (A : Type 0) : Type 0 where
@@ -77,19 +78,45 @@ unquoted false (b ∷ t) =
     let r = unquoted false t >>= λ g. some (withFirst b g) in
     cond (eqb b backslash) esc (cond (eqb b quote) (some (got [] t)) r)
 
--- a quoted string, or a run
+-- "bytes 01 to 7F other than CR and LF"
+unfoldable pub lineByte : ℕ → Bool
+lineByte b = within 0x01 0x7F b && not (eqb b 13) && not (eqb b 10)
+
+-- RFC 3501: a quoted string holds such bytes alone, so no literal stands in it
+unfoldable pub quotedText : List ℕ → Option (Got (List ℕ))
+quotedText t = unquoted false t >>= λ g. cond (all lineByte (g .val)) (some g) none
+
+-- a number: one or more digits, leading zeros too
+unfoldable pub digitByte : ℕ → Bool
+digitByte b = within 48 57 b
+
+unfoldable pub decimal : ℕ → List ℕ → ℕ
+decimal v [] = v
+decimal v (d ∷ t) = decimal (10 * v + (d - 48)) t
+
+unfoldable pub number : List ℕ → Option (Got ℕ)
+number t = run₁ digitByte t >>= λ g. some (got (decimal 0 (g .val)) (g .rest))
+
+-- Document 02, W2: "`{n}` CR LF with n up to 1,024 .., then n bytes .. count as a string". t stands behind the "{".
+unfoldable pub literal : List ℕ → Option (Got (List ℕ))
+literal t = do
+  n ← number t
+  u ← after (text "}" ++ crlf) (n .rest)
+  cond (leb (n .val) 1024 && leb (n .val) (length u)) (some (got (take (n .val) u) (drop (n .val) u))) none
+
+-- a quoted string, a literal "wherever an astring or pattern may stand", or a run
 unfoldable pub stringOr : (ℕ → Bool) → List ℕ → Option (Got (List ℕ))
 stringOr p [] = none
-stringOr p (b ∷ t) = cond (eqb b quote) (unquoted false t) (run₁ p (b ∷ t))
+stringOr p (b ∷ t) = cond (eqb b quote) (quotedText t) (cond (eqb b 123) (literal t) (run₁ p (b ∷ t)))
 
 unfoldable pub astring : List ℕ → Option (Got (List ℕ))
 astring t = stringOr astringByte t
 
--- "A pattern is a quoted string or a run of atom bytes, ']', '%' and '*'."
+-- "A pattern is a quoted string or a run of atom bytes, ']', '%' and '*'." With W2, or a literal.
 unfoldable pub pattern : List ℕ → Option (Got (List ℕ))
 pattern t = stringOr patternByte t
 
 -- opens every definition of this file, for a proof by computation
 unfoldable pub openTokens : Unit {0}
-unfolding got _>>=_ at after withFirst atomByte tagByte astringByte patternByte run unlessEmpty run₁ atom unquoted stringOr astring pattern
+unfolding got _>>=_ at after withFirst atomByte tagByte astringByte patternByte run unlessEmpty run₁ atom unquoted lineByte quotedText digitByte decimal number literal stringOr astring pattern
 openTokens = tt

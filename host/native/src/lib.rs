@@ -6,4 +6,5 @@
 pub mod bench;
 pub mod both;
 pub mod compare;
+pub mod feeding;
 pub mod proved;

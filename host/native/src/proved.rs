@@ -2,6 +2,8 @@
 
 use luspemaro_host::Line;
 
+use crate::feeding::{FedChunk, FeederState};
+
 const NAME_ROOM: usize = 200;
 
 /// `Outcome` of the crate `exports`.
@@ -68,6 +70,14 @@ extern "C" {
         out_len: usize,
     ) -> Outcome;
     fn luspemaro_read_line(line: *const u8, line_len: usize) -> LineParts;
+    fn luspemaro_feed(
+        state: FeederState,
+        command: *mut u8,
+        command_len: usize,
+        chunk: *const u8,
+        chunk_len: usize,
+    ) -> FedChunk;
+    fn luspemaro_put_go_on(out: *mut u8, out_len: usize, at: usize) -> usize;
 }
 
 // Every call below is sound for any slices: the archive's functions are proved to stay inside of
@@ -158,6 +168,18 @@ pub fn read_line(line: &[u8]) -> LineRead {
         }
     };
     LineRead { line, name_area: parts.name }
+}
+
+/// Feeds a chunk, through the first byte that something comes of.
+pub fn feed(state: FeederState, command: &mut [u8], chunk: &[u8]) -> FedChunk {
+    unsafe {
+        luspemaro_feed(state, command.as_mut_ptr(), command.len(), chunk.as_ptr(), chunk.len())
+    }
+}
+
+/// Writes the continuation line at a place, and gives the place behind it.
+pub fn put_go_on(out: &mut [u8], at: usize) -> usize {
+    unsafe { luspemaro_put_go_on(out.as_mut_ptr(), out.len(), at) }
 }
 
 impl Outcome {

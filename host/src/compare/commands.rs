@@ -1,5 +1,6 @@
 //! Commands: lawful ones with every option, nested values, hostile patterns, and damaged ones.
 
+use super::literals::push_literal;
 use super::random::Random;
 use crate::command::{MAX_CANONICAL, MAX_PATTERNS};
 use crate::quoted::push_quoted;
@@ -165,13 +166,16 @@ fn push_patterns(
     line.push(b')');
 }
 
-/// A string, bare where it may stand so and chance wants it; `also_bare` may stand bare too.
+/// A string, bare where it may stand so and chance wants it, or a literal, or in quotes;
+/// `also_bare` may stand bare too.
 fn push_string(line: &mut Vec<u8>, random: &mut Random, text: &[u8], also_bare: &[u8]) {
     let may_be_bare = |byte: &u8| {
         also_bare.contains(byte) || byte.is_ascii_graphic() && !b"(){%*\"\\".contains(byte)
     };
     if !text.is_empty() && text.iter().all(may_be_bare) && random.percent(60) {
         line.extend_from_slice(text);
+    } else if random.percent(20) {
+        push_literal(line, random, text);
     } else {
         push_quoted(line, text);
     }

@@ -4,6 +4,7 @@ use super::commands::{command, damaged, hostile_pattern, push_value};
 use super::damage::{damaged_table, namespace_list};
 use super::levels::levels_above;
 use super::limits;
+use super::literals;
 use super::random::Random;
 use super::sending::Sending;
 use super::tables::{good_table, rows_named, table_bytes, NewRow};
@@ -18,7 +19,7 @@ use crate::table::Flags;
 type Kind = (&'static str, fn(&mut Random) -> Vec<SentFrame>);
 
 /// A seed's kind is the seed modulo their number.
-pub const KINDS: [Kind; 19] = [
+pub const KINDS: [Kind; 22] = [
     ("a table and commands", commands_over_a_table),
     ("a growing table", growing_table),
     ("a damaged table", damaged_tables),
@@ -38,6 +39,9 @@ pub const KINDS: [Kind; 19] = [
     ("limits of scratch", limits::walks_for_scratch),
     ("levels above mailboxes", levels_above),
     ("limits of answers with levels", limits::answers_with_levels),
+    ("literals", literals::commands_with_literals),
+    ("odd literals", literals::odd_commands),
+    ("limits of literals", literals::limits),
 ];
 
 fn commands_over_a_table(random: &mut Random) -> Vec<SentFrame> {
@@ -226,7 +230,7 @@ const BAD_FRAMES: [&str; 20] = [
 ];
 
 /// The names of the rows and of the levels above them.
-fn names_of(rows: &[NewRow]) -> Vec<Vec<u8>> {
+pub fn names_of(rows: &[NewRow]) -> Vec<Vec<u8>> {
     let mut names: Vec<Vec<u8>> = Vec::new();
     for row in rows {
         names.extend(name::ancestors(&row.name).map(<[u8]>::to_vec));

@@ -8,9 +8,11 @@ pub mod damage;
 mod kinds;
 mod levels;
 mod limits;
+mod literals;
 pub mod random;
 mod report;
 mod sending;
+pub mod streams;
 pub mod tables;
 
 use std::path::Path;

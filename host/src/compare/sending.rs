@@ -6,7 +6,7 @@ use crate::frames::{hex_of, COMMAND, ENTRY, MAX_DIGITS, ROW, WALK};
 use crate::table::{split_rows, Row};
 
 /// The most bytes behind the first one of a frame.
-const MAX_PIECE: usize = MAX_DIGITS / 2 - 1;
+pub const MAX_PIECE: usize = MAX_DIGITS / 2 - 1;
 
 /// A session under way.
 pub struct Sending<'r> {

@@ -8,8 +8,14 @@
 //! | a row of the table | `mailbox Foo/Baz exists subscribed`, `mailbox "a b" 0003` |
 //! | a namespace entry | `namespace personal "" "/"`, `namespace shared "#mh/" NIL` |
 //! | a command; CR LF is added | `command a LIST "" "*"` |
+//! | a command with literals | `command a LIST "" {3}`, and in the next line `+ Foo RETURN ()` |
 //! | a walk | `walk`, `walk remote special-use`, `walk 3` |
 //! | a frame as it is sent | `frame 57FF` |
+//!
+//! A command goes on in each line that starts with `+` and follows it at once: CR LF and what
+//! stands behind `+` and one space are added, whatever that is. So `{3}` at the end of a line makes
+//! a literal of the first three bytes behind the next `+`, and without such a line the literal is
+//! cut short. A literal that has CR LF in it has several such lines.
 //!
 //! A file whose first line is a frame is a file of frames, and its lines are sent as they stand.
 

@@ -30,10 +30,12 @@ pub enum Item {
 type StringAndRest<'t> = (Vec<u8>, &'t [u8]);
 
 const ITEM_WORDS: &str = "mailbox, namespace, command, walk, frame, or # for a comment";
+const LONE_CONTINUATION: &str = "+ goes on with a command, which stands in the line before";
 /// Of a word that is not known no more than this is shown.
 const MOST_OF_WORD: usize = 40;
 
-/// One line without its line end: an item, nothing for an empty line, or what is wrong with it.
+/// One line without its line end, or a command with the lines that go on with it, CR LF between
+/// them: an item, nothing for an empty line, or what is wrong with it.
 pub fn parse_item(line: &[u8]) -> Result<Option<Item>, String> {
     if line.is_empty() {
         return Ok(None);
@@ -41,18 +43,35 @@ pub fn parse_item(line: &[u8]) -> Result<Option<Item>, String> {
     if line.starts_with(b"#") {
         return Ok(Some(Item::Comment(String::from_utf8_lossy(line).into_owned())));
     }
-    let keyword_length = line.iter().take_while(|&&byte| byte != b' ').count();
-    let (keyword, rest) = line.split_at(keyword_length);
-    let rest = rest.strip_prefix(b" ").unwrap_or(rest);
+    let (keyword, rest) = split_keyword(line);
     let text = match keyword {
         b"mailbox" => parse_mailbox(rest)?.encode(),
         b"namespace" => parse_namespace(rest)?.encode(),
         b"command" => Frame::Command([rest, CRLF].concat()).encode(),
         b"walk" => parse_walk(rest)?.encode(),
         b"frame" => rest.to_vec(),
+        b"+" => return Err(LONE_CONTINUATION.to_string()),
         _ => return Err(unknown("item", &printable(keyword), ITEM_WORDS)),
     };
     Ok(Some(Item::Frame(SentFrame { text, is_cut: false })))
+}
+
+/// Whether lines behind this one may go on with it.
+pub fn is_command(line: &[u8]) -> bool {
+    split_keyword(line).0 == b"command"
+}
+
+/// What a line goes on with, if it goes on with the command in the line before.
+pub fn continuation_of(line: &[u8]) -> Option<&[u8]> {
+    let (keyword, rest) = split_keyword(line);
+    (keyword == b"+").then_some(rest)
+}
+
+/// The word that a line starts with, and what stands behind it and one space.
+fn split_keyword(line: &[u8]) -> (&[u8], &[u8]) {
+    let length = line.iter().take_while(|&&byte| byte != b' ').count();
+    let (keyword, rest) = line.split_at(length);
+    (keyword, rest.strip_prefix(b" ").unwrap_or(rest))
 }
 
 /// NAME FLAG...

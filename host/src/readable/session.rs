@@ -4,12 +4,13 @@ use std::error::Error;
 use std::fmt;
 use std::io::{self, BufRead, Write};
 
-use super::parse::{parse_item, Item};
+use super::parse::{continuation_of, is_command, parse_item, Item};
 use super::source::{next_line, Line, Source};
 use crate::child::SentFrame;
 use crate::frames::MAX_DIGITS;
+use crate::line::CRLF;
 
-/// The most bytes of a line of a session file; no item needs as many.
+/// The most bytes of an item of a session file; none needs as many.
 const MAX_ITEM_LINE: usize = 16_384;
 /// Some editors write these bytes before the first line.
 const BYTE_ORDER_MARK: &[u8] = b"\xEF\xBB\xBF";
@@ -73,7 +74,7 @@ impl Session {
 
     /// The items from the first on.
     pub fn items(&self) -> Result<Items, SessionError> {
-        Ok(Items { input: self.source.open()?, lines: self.lines, number: 0 })
+        Ok(Items { input: self.source.open()?, lines: self.lines, number: 0, ahead: None })
     }
 
     /// What sends the session: the bytes of a file of frames as they stand, or the frames of the
@@ -101,7 +102,10 @@ fn send_items(items: Items, output: &mut dyn Write) -> io::Result<()> {
 pub struct Items {
     input: Box<dyn BufRead + Send>,
     lines: Lines,
+    /// How many lines were taken.
     number: u64,
+    /// The next line, if it was looked at already.
+    ahead: Option<Line>,
 }
 
 impl Iterator for Items {
@@ -109,22 +113,70 @@ impl Iterator for Items {
 
     fn next(&mut self) -> Option<Result<Item, SessionError>> {
         loop {
-            let most = if self.lines == Lines::Frames { MAX_DIGITS + 1 } else { MAX_ITEM_LINE };
-            let line = match next_line(&mut self.input, most) {
+            let line = match self.take_line() {
                 Ok(line) => line?,
                 Err(error) => return Some(Err(error.into())),
             };
-            self.number += 1;
             let item = match self.lines {
                 Lines::Frames => Ok(Some(frame_of(line))),
-                Lines::Items => item_of(self.number, &line),
+                Lines::Items => self.item_of(&line),
             };
-            let number = self.number;
-            let item = item.map_err(|message| SessionError::Line { number, message });
             if let Some(item) = item.transpose() {
                 return Some(item);
             }
         }
+    }
+}
+
+impl Items {
+    fn take_line(&mut self) -> io::Result<Option<Line>> {
+        self.look_ahead()?;
+        self.number += 1;
+        Ok(self.ahead.take())
+    }
+
+    fn look_ahead(&mut self) -> io::Result<()> {
+        if self.ahead.is_none() {
+            let most = if self.lines == Lines::Frames { MAX_DIGITS + 1 } else { MAX_ITEM_LINE };
+            self.ahead = next_line(&mut self.input, most)?;
+        }
+        Ok(())
+    }
+
+    /// An item from its first line on, nothing for an empty line, or what is wrong with it.
+    fn item_of(&mut self, line: &Line) -> Result<Option<Item>, SessionError> {
+        let number = self.number;
+        let mut text = item_text(line, number == 1).to_vec();
+        let mut length = line.length;
+        if is_command(&text) {
+            length += self.take_continuations(&mut text)?;
+        }
+        match parse_item(&text) {
+            Ok(_) if length > MAX_ITEM_LINE as u64 => Err(format!("over {MAX_ITEM_LINE} bytes")),
+            item => item,
+        }
+        .map_err(|message| SessionError::Line { number, message })
+    }
+
+    /// Adds the lines that go on with a command, CR LF before each, and gives their length. No more
+    /// are taken than show that there are too many.
+    fn take_continuations(&mut self, command: &mut Vec<u8>) -> io::Result<u64> {
+        let mut length = 0;
+        while length <= MAX_ITEM_LINE as u64 {
+            self.look_ahead()?;
+            let line = self.ahead.as_ref();
+            let Some(added) = line.and_then(|line| continuation_of(item_text(line, false))) else {
+                break;
+            };
+            if !command.contains(&b' ') {
+                // The word alone is a command without text, and what goes on is not its end.
+                command.push(b' ');
+            }
+            command.extend_from_slice(CRLF);
+            command.extend_from_slice(added);
+            length += self.take_line()?.map_or(0, |line| line.length);
+        }
+        Ok(length)
     }
 }
 
@@ -154,14 +206,10 @@ fn frame_of(line: Line) -> Item {
     Item::Frame(SentFrame { text: line.text, is_cut: line.is_cut })
 }
 
-/// One line of a session file: an item, nothing for an empty line, or what is wrong with it.
-fn item_of(number: u64, line: &Line) -> Result<Option<Item>, String> {
-    let text = without_mark(&line.text, number == 1);
-    let text = text.strip_suffix(b"\r").unwrap_or(text).trim_ascii_start();
-    match parse_item(text) {
-        Ok(_) if line.is_overlong() => Err(format!("over {MAX_ITEM_LINE} bytes")),
-        item => item,
-    }
+/// A line of a session file without what an editor may have left before and behind it.
+fn item_text(line: &Line, is_first: bool) -> &[u8] {
+    let text = without_mark(&line.text, is_first);
+    text.strip_suffix(b"\r").unwrap_or(text).trim_ascii_start()
 }
 
 fn without_mark(text: &[u8], is_first: bool) -> &[u8] {

@@ -44,7 +44,7 @@ pub fn show_frame(frame: &SentFrame) -> Shown {
     match Frame::decode(&frame.text) {
         Ok(Frame::Row(table)) => show_table(&table),
         Ok(Frame::Entry(list)) => show_namespaces(&list),
-        Ok(Frame::Command(line)) => one_line("Command", command_text(&line)),
+        Ok(Frame::Command(line)) => Shown { label: "Command", lines: command_lines(&line) },
         Ok(Frame::Walk(option)) => one_line("Walk", walk_text(option)),
         Err(_) => one_line("Frame", bad_frame_text(&frame.text)),
     }
@@ -126,11 +126,21 @@ fn rest_text(bytes: &[u8], rest: &[u8]) -> Option<String> {
     (!rest.is_empty()).then(|| format!("bytes {}", shortened(&digits, MOST_OF_BYTES)))
 }
 
-fn command_text(line: &[u8]) -> String {
-    match line.strip_suffix(CRLF) {
-        Some(text) => printable(text),
-        None => format!("{} (without CR LF)", printable(line)),
+/// Lines as a session file has them: those behind the first CR LF stand behind `+`.
+fn command_lines(command: &[u8]) -> Vec<String> {
+    let (mut rest, end) = match command.strip_suffix(CRLF) {
+        Some(text) => (text, ""),
+        None => (command, " (without CR LF)"),
+    };
+    let mut lines = Vec::new();
+    let mut before = "";
+    while let Some(at) = rest.windows(CRLF.len()).position(|pair| pair == CRLF) {
+        lines.push(format!("{before}{}", printable(&rest[..at])));
+        rest = &rest[at + CRLF.len()..];
+        before = "+ ";
     }
+    lines.push(format!("{before}{}{end}", printable(rest)));
+    lines
 }
 
 fn walk_text(option: u8) -> String {

@@ -14,6 +14,7 @@ const FOLDER: &str = concat!(env!("CARGO_MANIFEST_DIR"), "/sessions");
 const FILE: &str = concat!(env!("CARGO_MANIFEST_DIR"), "/sessions/customers.session");
 const CUSTOMERS: &str = include_str!("../../sessions/customers.session");
 const REFUSALS: &str = include_str!("../../sessions/refusals.session");
+const LITERALS: &str = include_str!("../../sessions/literals.session");
 const README: &str = include_str!("../../../README.md");
 
 fn check(source: &str) -> Result<Session, SessionError> {
@@ -52,6 +53,10 @@ fn items_and_their_frames() {
         ("command a NAMESPACE", "4361204E414D4553504143450D0A"),
         ("command", "430D0A"),
         ("command  x ", "432078200D0A"),
+        ("command {2}\n+ ab c", "437B327D0D0A616220630D0A"),
+        ("command x\r\n  +  y \r\n+\r\n+ z", "43780D0A2079200D0A0D0A7A0D0A"),
+        ("command {1}\n+ +", "437B317D0D0A2B0D0A"),
+        ("command\n+ x\n+", "430D0A780D0A0D0A"),
         ("walk", "5700"),
         ("walk remote", "5701"),
         ("walk special-use remote", "5703"),
@@ -75,6 +80,7 @@ fn items_and_their_frames() {
 fn lines_that_are_no_items() {
     let long_name = format!("mailbox {} exists", "n".repeat(256));
     let long_line = format!("command {}", "c".repeat(16_384));
+    let long_command = format!("command a{}", "\n+ ccccccc".repeat(2_000));
     let lines = [
         ("mailbix Foo exists", "unknown item \"mailbix\"; known are mailbox, namespace, "),
         ("Mailbox Foo exists", "unknown item \"Mailbox\""),
@@ -97,6 +103,9 @@ fn lines_that_are_no_items() {
         ("walk local", "unknown option of a walk \"local\"; known are remote, special-use"),
         ("walk 256", "unknown option of a walk \"256\""),
         (&long_line, "over 16384 bytes"),
+        (&long_command, "over 16384 bytes"),
+        ("+ x", "+ goes on with a command, which stands in the line before"),
+        ("+x", "unknown item \"+x\""),
     ];
     for (line, expected) in lines {
         for line_end in ["\n", "\r\n"] {
@@ -249,6 +258,71 @@ fn the_night_of_customers_abc() {
         rest = &rest[at + part.len()..];
     }
     assert_eq!(rest, "");
+}
+
+/// Only the line before may be gone on with: no comment, no empty line, no other item.
+#[test]
+fn lines_that_go_on_with_nothing() {
+    for (source, number) in [
+        ("+ x\n", 1),
+        ("command a\n\n+ x\n", 3),
+        ("command a\n# b\n+ x\n", 3),
+        ("command a\n+ b\nwalk\n+ x\n", 4),
+        ("frame 43\n+ x\n", 2),
+    ] {
+        let Err(SessionError::Line { number: bad, .. }) = check(source) else {
+            panic!("{source}: no bad line");
+        };
+        assert_eq!(bad, number, "{source}");
+    }
+    let Err(SessionError::Line { number, .. }) = check("command a {1}\n+ b\n\nwalk home\n") else {
+        panic!("no bad line");
+    };
+    assert_eq!(number, 4);
+}
+
+/// Literals are shown as they are written, and every byte of them is seen.
+#[test]
+fn commands_with_literals() {
+    let text = printed(LITERALS, Form::Text);
+    for part in [
+        concat!(
+            "Command    a LIST \"\" {8}\n",
+            "           + Meeting*\n",
+            "Answer     * LIST () \"/\" \"Meeting (old) {3}\"\n",
+            "           * LIST () \"/\" \"Meeting/\\\"Minutes\\\"\"\n",
+            "           a OK done\n",
+        ),
+        concat!(
+            "Command    b LIST \"\" {17}\n",
+            "           + Meeting (old) {3}\n",
+            "Answer     * LIST () \"/\" \"Meeting (old) {3}\"\n",
+        ),
+        concat!(
+            "           + M ({3}\n",
+            "           + oo% \"eeting/*\") RETURN (CHILDREN)\n",
+            "Answer     * LIST (\\HasNoChildren) \"/\" \"Meeting/\\\"Minutes\\\"\"\n",
+            "           * LIST (\\HasNoChildren) \"/\" \"Moo\"\n",
+        ),
+        "           + \nAnswer     * LIST (\\Noselect) \"/\" \"\"\n",
+    ] {
+        assert!(text.contains(part), "{part} is not in\n{text}");
+    }
+    let refused = |line: &&str| line.starts_with("Refused");
+    let refused: Vec<&str> = text.lines().filter(refused).map(|line| &line[11..12]).collect();
+    assert_eq!(refused, ["6", "4", "5", "4", "3", "3"]);
+    assert_eq!(
+        printed("command \"\" {4}\n+ \u{e9}\n+  x\nframe 437B317D0D0A\n", Form::Text),
+        concat!(
+            "Command    \"\" {4}\n",
+            "           + \\xC3\\xA9\n",
+            "           +  x\n",
+            "Refused    4: tag, or the rest after a known word, off the grammar\n",
+            "\n",
+            "Command    {1}\n",
+            "Refused    3: line shape\n",
+        )
+    );
 }
 
 /// The session that the README shows gives the output that it shows.

@@ -1,8 +1,8 @@
 //! `compare-lines`
 //!
 //! Compares the proved library with the second program's: lines written and read, patterns, the two
-//! checks, commands and walks. Each difference is printed; the last line is `N passed, M failed`, by
-//! groups of comparisons. Status 1 is a difference.
+//! checks, commands, walks and the feeder. Each difference is printed; the last line is `N passed,
+//! M failed`, by groups of comparisons. Status 1 is a difference.
 
 use std::process::ExitCode;
 

@@ -1,8 +1,10 @@
 //! The comparison: the proved library and the second program's, call for call, in one process.
 //!
-//! Every result and every byte of lent memory is compared. The inputs come from fixed seeds.
+//! Every result and every byte of lent memory is compared; of the feeder's memory, the bytes of the
+//! command. The inputs come from fixed seeds.
 
 mod answers;
+mod feeding;
 mod lines;
 mod matching;
 mod reading;
@@ -15,7 +17,7 @@ pub use tally::Tally;
 /// A name, and what compares.
 pub type Group = (&'static str, fn(&mut Tally));
 
-pub const GROUPS: [Group; 12] = [
+pub const GROUPS: [Group; 15] = [
     ("every set of attributes, written and read back", lines::every_set),
     ("names at the limits, buffers on both sides of the line's length", lines::names_and_rooms),
     ("lines with one byte changed, left out or added", reading::one_byte_damaged),
@@ -28,4 +30,7 @@ pub const GROUPS: [Group; 12] = [
     ("namespace lists", tables::namespace_lists),
     ("commands, buffers on both sides of the answer's length", answers::commands),
     ("walks, buffers on both sides of what they need", walks::walks),
+    ("streams for the feeder, chunk by chunk", feeding::streams),
+    ("memory and states that the feeder does not take", feeding::not_taken),
+    ("the continuation line at any place of a buffer", feeding::continuation),
 ];

@@ -1,3 +1,5 @@
+use mathlib.Core.Bool.{Bool, _&&_, not}
+use lib.Dec.{leb}
 use mathlib.Core.Path.{_≡_, refl, sym, ap, subst, _∙_}
 use Rattle.listing_rules.specs.Tokens.{atomByte}
 use Rattle.listing_rules.specs.Bytes.{within}
@@ -12,7 +14,7 @@ use Rattle.command_line.proofs.tokens.is_atom.Lts as lts
 -- src/tokens.rt:24:1
 returns : tie.Need-returns
 unfolding atomByte within
-returns c = rw (special-is (c .args .b))
+returns c = ap (λ (o : Bool). (leb 0x21 (c .args .b) && leb (c .args .b) 0x7E) && not o) (special-is (c .args .b))
 
 pub is-atom-spec : {M : Type 1} → statement M
 is-atom-spec = tie.close (tie.spec returns)

@@ -1,31 +1,43 @@
+use mathlib.Core.Path.{_≡_, sym, _∙_}
 use borrow.Author.Tests.{eq-eqb, ne-eqb}
 use Rattle.command_line.specs.Tokens.{quotedStep}
-use borrow.Author.Needs.{needs}
 use native.Mathlib.Omega.{arith}
+use borrow.Author.Needs.{needs}
 use Rattle.command_line.proofs.tokens.quoted_step.Statement.{statement}
 use Rattle.command_line.proofs.tokens.quoted_step.Tie as tie
 use Rattle.command_line.proofs.tokens.quoted_step.Reads as reads
 use Rattle.command_line.proofs.tokens.quoted_step.Lts as lts
+use Rattle.command_line.proofs.tokens.is_line_byte.Reads as is-line-byte-reads
 
--- src/tokens.rt:57:1
+-- src/tokens.rt:93:16
+is-line-byte-requires : tie.Need-is-line-byte-requires
+is-line-byte-requires c κs = search needs
+
+-- src/tokens.rt:80:1
 returns : tie.Need-returns
 unfolding quotedStep
 returns c = rw (c .before .if1 .taken, c .if2 .taken)
 
--- src/tokens.rt:57:1
+-- src/tokens.rt:80:1
 returns-2 : tie.Need-returns-2
 unfolding quotedStep
 returns-2 c = rw (c .before .if1 .taken, c .if2 .left)
 
--- src/tokens.rt:57:1
+-- src/tokens.rt:80:1
 returns-3 : tie.Need-returns-3
 unfolding quotedStep
 returns-3 c = rw (c .before .if1 .left, eq-eqb _ _ (c .if3 .taken))
 
--- src/tokens.rt:57:1
+-- src/tokens.rt:80:1
 returns-4 : tie.Need-returns-4
 unfolding quotedStep
-returns-4 c = rw (c .before .if1 .left, ne-eqb _ _ (c .if3 .left))
+returns-4 c = rw (c .before .before .before .if1 .left, ne-eqb _ _ (c .before .before .if3 .left), sym (c .before .is-line-byte .ensures) ∙ c .if4 .taken)
+
+-- src/tokens.rt:80:1
+returns-5 : tie.Need-returns-5
+unfolding quotedStep
+returns-5 c = rw (c .before .before .before .if1 .left, ne-eqb _ _ (c .before .before .if3 .left), sym (c .before .is-line-byte .ensures) ∙ c .if4 .left)
 
 pub quoted-step-spec : {M : Type 1} → statement M
-quoted-step-spec = tie.close (tie.spec returns returns-2 returns-3 returns-4)
+quoted-step-spec =
+    tie.close (tie.spec is-line-byte-requires returns returns-2 returns-3 returns-4 returns-5)

@@ -2,7 +2,8 @@ use Rattle.listing_rules.specs.Tokens.{atomByte}
 use Rattle.command_line.proofs.Bytes.{pattern-is}
 use mathlib.Core.Path.{_≡_, refl, sym, ap, subst, _∙_}
 use Rattle.command_line.specs.Tokens.{classByte}
-use Rattle.listing_rules.specs.Tokens.{tagByte, astringByte, patternByte}
+use Rattle.listing_rules.specs.Tokens.{tagByte, astringByte, patternByte, digitByte}
+use Rattle.listing_rules.specs.Bytes.{within}
 use native.Mathlib.Omega.{arith}
 use borrow.Author.Needs.{needs}
 use Rattle.command_line.proofs.tokens.Class.holds.Statement.{statement}
@@ -43,6 +44,10 @@ enum-told-4 c = search needs
 is-atom-requires-4 : tie.Need-is-atom-requires-4
 is-atom-requires-4 c κs = search needs
 
+-- src/tokens.rt:46:31
+enum-told-5 : tie.Need-enum-told-5
+enum-told-5 c = search needs
+
 -- src/tokens.rt:39:5
 returns : tie.Need-returns
 unfolding tagByte
@@ -62,6 +67,11 @@ returns-4 : tie.Need-returns-4
 unfolding patternByte
 returns-4 c = rw (c .before .enum-told4 .given .1, c .is-atom4 .ensures) (pattern-is (atomByte (c .before .before .before .args .b)) (c .before .before .before .args .b))
 
+-- src/tokens.rt:39:5
+returns-5 : tie.Need-returns-5
+unfolding digitByte within
+returns-5 c = rw (c .enum-told5 .given .1)
+
 pub holds-spec : {M : Type 1} → statement M
 holds-spec =
     tie.close
@@ -74,7 +84,9 @@ holds-spec =
     is-atom-requires-3
     enum-told-4
     is-atom-requires-4
+    enum-told-5
     returns
     returns-2
     returns-3
-    returns-4)
+    returns-4
+    returns-5)

@@ -1,0 +1,187 @@
+-- The feeder: how its bytes are cut into chunks does not matter; and a line that announces no literal has document 01's shape. Rests on
+-- TokenLaws.
+use mathlib.Core.Path.{_≡_, refl, sym, ap, _∙_, subst}
+use mathlib.Core.Bool.{Bool, true, false, cond, _&&_, _||_, not, or-false}
+use mathlib.Core.List.{List, [], _∷_, _++_, append-assoc, append-nil}
+use mathlib.Core.Option.{Option, none, some}
+use Prim.Native.Nat.{ℕ, suc, _+_, _-_, _≤_}
+use native.Mathlib.Omega.{arith}
+use lib.Dec.{eqb, leb}
+use lib.ListN.{length, take, length-append}
+use lib.Seq.{take-append-seam}
+use borrow.Author.Tests.{not-true, le-leb, leb-true, ne-eqb, eqb-true}
+use Rattle.listing_rules.specs.Bytes.{openBytes, text, crlf, same, all, within, isEmpty}
+use Rattle.listing_rules.specs.Lists.{joined}
+use Rattle.listing_rules.specs.Tokens.{Got, got, _>>=_, run₁, digitByte, decimal, number, lineByte}
+use Rattle.listing_rules.specs.Feeder.{Step, stillOne, gives, offends, lineEnded, textByte, endsLine, lastIs, announcedAt, orElse, announced, Event, quiet, handed, goOn, denied, Feeder, reading, inLiteral, dropping, first, fedByte, Feeding, saying, feedAll, feedChunks, allowed, oneCommand}
+use Rattle.listing_rules.specs.Command.{lineText}
+use Rattle.listing_rules.proofs.Bools.{and-l, and-r}
+use Rattle.listing_rules.proofs.ListLaws.{same-true}
+use Rattle.listing_rules.proofs.TokenLaws.{none≢some, bind-some, run₁-split}
+
+-- what is said in two chunks, one after the other
+abbrev pub then-fed : List Event → Feeding → Feeding
+then-fed es f = record { state = f .state; events = es ++ f .events }
+
+said : (e : Event) (f : Feeding) (es : List Event) (s : Feeder) → saying e (then-fed es f) ≡ then-fed (saying e (record { state = s; events = es }) .events) f
+unfolding saying
+said quiet f es s = refl
+said (handed l) f es s = refl
+said goOn f es s = refl
+said (denied k) f es s = refl
+
+said-state : (e : Event) (f : Feeding) → saying e f .state ≡ f .state
+unfolding saying
+said-state quiet f = refl
+said-state (handed l) f = refl
+said-state goOn f = refl
+said-state (denied k) f = refl
+
+-- the chunks a and b, one after the other
+pub feed-append : (s : Feeder) (a b : List ℕ) → feedAll s (a ++ b) ≡ then-fed (feedAll s a .events) (feedAll (feedAll s a .state) b)
+unfolding feedAll
+feed-append s [] b = refl
+feed-append s (c ∷ a) b =
+    let r = fedByte s c in
+    let g = feedAll (r .state) a in
+    ap (saying (r .event)) (feed-append (r .state) a b)
+    ∙ said (r .event) (feedAll (g .state) b) (g .events) (g .state)
+    ∙ ap (λ (x : Feeder). then-fed (saying (r .event) g .events) (feedAll x b)) (sym (said-state (r .event) g))
+
+-- "From the first state, however the bytes are cut, commands, refusals, continuations and the state at the end are the same": and from
+-- any other state.
+pub cut-anywhere : (s : Feeder) (chunks : List (List ℕ)) → feedChunks s chunks ≡ feedAll s (joined chunks)
+unfolding feedChunks feedAll joined
+cut-anywhere s [] = refl
+cut-anywhere s (x ∷ xs) =
+    ap (then-fed (feedAll s x .events)) (cut-anywhere (feedAll s x .state) xs)
+    ∙ sym (feed-append s x (joined xs))
+
+-- the last byte, and the last two
+pub last-snoc : (b : ℕ) (l : List ℕ) (c : ℕ) → lastIs b (l ++ (c ∷ [])) ≡ eqb c b
+unfolding lastIs isEmpty
+last-snoc b [] c = refl
+last-snoc b (x ∷ []) c = refl
+last-snoc b (x ∷ y ∷ l) c = last-snoc b (y ∷ l) c
+
+pub ends-snoc : (l : List ℕ) (c : ℕ) → endsLine (l ++ (c ∷ [])) ≡ (lastIs 13 l && eqb c 10)
+unfolding endsLine lastIs isEmpty same crlf
+ends-snoc [] c = or-false _ ∙ no-pair (eqb c 13)
+  where
+    no-pair : (b : Bool) → (b && false) ≡ false
+    no-pair true = refl
+    no-pair false = refl
+ends-snoc (x ∷ []) c = pair (eqb x 13) (eqb c 10) (eqb c 13)
+  where
+    pair : (a b d : Bool) → ((a && (b && true)) || ((d && false) || false)) ≡ (a && b)
+    pair true true d = refl
+    pair true false true = refl
+    pair true false false = refl
+    pair false b true = refl
+    pair false b false = refl
+ends-snoc (x ∷ y ∷ l) c = ap (λ (o : Bool). (eqb x 13 && (eqb y 10 && same (l ++ (c ∷ [])) [])) || o) (ends-snoc (y ∷ l) c) ∙ ap (λ (o : Bool). (eqb x 13 && (eqb y 10 && o)) || (lastIs 13 (y ∷ l) && eqb c 10)) (more l) ∙ none-here (eqb x 13) (eqb y 10) (lastIs 13 (y ∷ l) && eqb c 10)
+  where
+    more : (m : List ℕ) → same (m ++ (c ∷ [])) [] ≡ false
+    more [] = refl
+    more (z ∷ m) = refl
+
+    none-here : (a b d : Bool) → ((a && (b && false)) || d) ≡ d
+    none-here true true d = refl
+    none-here true false d = refl
+    none-here false b d = refl
+
+-- bytes of a line of text are no CR, LF or 00
+pub line-byte-parts : (b : ℕ) → lineByte b ≡ true → (eqb b 13 ≡ false) × (eqb b 10 ≡ false) × (eqb b 0 ≡ false)
+unfolding lineByte within
+line-byte-parts b h =
+    let no13 = not-true (eqb b 13) (and-r (leb 1 b && leb b 0x7F) (not (eqb b 13)) (and-l ((leb 1 b && leb b 0x7F) && not (eqb b 13)) (not (eqb b 10)) h)) in
+    let no10 = not-true (eqb b 10) (and-r ((leb 1 b && leb b 0x7F) && not (eqb b 13)) (not (eqb b 10)) h) in
+    let low = leb-true 1 b (and-l (leb 1 b) (leb b 0x7F) (and-l (leb 1 b && leb b 0x7F) (not (eqb b 13)) (and-l ((leb 1 b && leb b 0x7F) && not (eqb b 13)) (not (eqb b 10)) h))) in
+    (no13, no10, ne-eqb b 0 (λ e. omega (arith, low)))
+
+-- a byte of text that ends no line, and one that ends the last
+text-goes-on : (kept line : List ℕ) (c : ℕ) (t : List ℕ) → allowed (reading kept line) c ≡ true → offends kept c ≡ false → endsLine (line ++ (c ∷ [])) ≡ false → oneCommand (reading kept line) (c ∷ t) ≡ oneCommand (reading (kept ++ (c ∷ [])) (line ++ (c ∷ []))) t
+unfolding oneCommand stillOne gives
+text-goes-on kept line c t a o e =
+    ap (λ (r : Step). allowed (reading kept line) c && stillOne (r .event) (isEmpty t) (oneCommand (r .state) t)) quiet-step ∙ rw a
+  where
+    quiet-step : fedByte (reading kept line) c ≡ gives (reading (kept ++ (c ∷ [])) (line ++ (c ∷ []))) quiet
+    quiet-step = unfold fedByte textByte in rw (o, e)
+
+text-ends : (kept line : List ℕ) (c : ℕ) → allowed (reading kept line) c ≡ true → offends kept c ≡ false → endsLine (line ++ (c ∷ [])) ≡ true → announced (line ++ (c ∷ [])) ≡ none → oneCommand (reading kept line) (c ∷ []) ≡ true
+unfolding oneCommand stillOne gives isEmpty
+text-ends kept line c a o e n =
+    ap (λ (r : Step). allowed (reading kept line) c && stillOne (r .event) true (oneCommand (r .state) [])) last-step ∙ rw a
+  where
+    last-step : fedByte (reading kept line) c ≡ gives first (handed (kept ++ (c ∷ [])))
+    last-step = unfold fedByte textByte lineEnded in rw (o, e, n)
+
+within-room : (kept : List ℕ) (c : ℕ) → suc (length kept) ≤ 2048 → eqb c 0 ≡ false → offends kept c ≡ false
+unfolding offends
+within-room kept c h e = rw (le-leb (suc (length kept)) 2048 h, e)
+
+-- text, then CR LF, where nothing is announced
+run-out : (kept line x : List ℕ) → all lineByte x ≡ true → lastIs 13 line ≡ false → length kept + length x + 2 ≤ 2048 → announced ((line ++ x) ++ crlf) ≡ none → oneCommand (reading kept line) (x ++ crlf) ≡ true
+unfolding crlf all allowed lineByte within
+run-out kept line [] h n s a =
+    text-goes-on kept line 13 (10 ∷ []) (rw n) (within-room kept 13 (omega arith) refl) (ends-snoc line 13 ∙ ap (λ (o : Bool). o && false) n)
+    ∙ text-ends (kept ++ (13 ∷ [])) (line ++ (13 ∷ [])) 10 (rw (last-snoc 13 line 13)) (within-room (kept ++ (13 ∷ [])) 10 (omega (arith, length-append kept (13 ∷ []))) refl)
+    (ends-snoc (line ++ (13 ∷ [])) 10 ∙ ap (λ (o : Bool). o && true) (last-snoc 13 line 13))
+    (ap announced (append-assoc line (13 ∷ []) (10 ∷ []) ∙ ap (λ (l : List ℕ). l ++ crlf) (sym (append-nil line))) ∙ a)
+run-out kept line (c ∷ x) h n s a =
+    text-goes-on kept line c (x ++ crlf) (rw (n, this)) (within-room kept c (omega arith) (p .2)) (ends-snoc line c ∙ ap (λ (o : Bool). o && eqb c 10) n)
+    ∙ run-out (kept ++ (c ∷ [])) (line ++ (c ∷ [])) x (and-r (lineByte c) (all lineByte x) h) (last-snoc 13 line c ∙ p .0) (omega (arith, length-append kept (c ∷ []))) (ap (λ (l : List ℕ). announced (l ++ crlf)) (append-assoc line (c ∷ []) x) ∙ a)
+  where
+    this : lineByte c ≡ true
+    this = and-l (lineByte c) (all lineByte x) h
+
+    p : (eqb c 13 ≡ false) × (eqb c 10 ≡ false) × (eqb c 0 ≡ false)
+    p = line-byte-parts c this
+
+-- A line that announces no literal has document 01's shape: at most 2,048 bytes, CR LF at its end, and before that only such bytes.
+pub plain-line : (x : List ℕ) → all lineByte x ≡ true → length (x ++ crlf) ≤ 2048 → announced (x ++ crlf) ≡ none → lineText (x ++ crlf) ≡ some x
+unfolding lineText first lastIs crlf
+plain-line x h s a =
+    let n : length (x ++ crlf) - 2 ≡ length x = omega (arith, length-append x crlf) in
+    rw (run-out [] [] x h refl (omega (arith, length-append x crlf)) a, n) (ap some (take-append-seam x crlf))
+
+-- a line that ends in another byte than "}" announces none
+clash : (v w : List ℕ) → v ++ (125 ∷ 13 ∷ 10 ∷ []) ≡ w ++ (34 ∷ 13 ∷ 10 ∷ []) → ⊥
+clash [] [] e = absurd (omega (arith, ap first-of e))
+  where
+    first-of : List ℕ → ℕ
+    first-of [] = 0
+    first-of (z ∷ l) = z
+clash [] (y ∷ w) e = absurd (omega (arith, ap length e, length-append w (34 ∷ 13 ∷ 10 ∷ [])))
+clash (x ∷ v) [] e = absurd (omega (arith, ap length e, length-append v (125 ∷ 13 ∷ 10 ∷ [])))
+clash (x ∷ v) (y ∷ w) e = clash v w (ap tail e)
+  where
+    tail : List ℕ → List ℕ
+    tail [] = []
+    tail (z ∷ l) = l
+
+not-at : (x : List ℕ) → announcedAt (x ++ (34 ∷ 13 ∷ 10 ∷ [])) ≡ none
+unfolding announcedAt number got openBytes
+not-at x = go (announcedAt (x ++ (34 ∷ 13 ∷ 10 ∷ []))) refl
+  where
+    go : (o : Option ℕ) → announcedAt (x ++ (34 ∷ 13 ∷ 10 ∷ [])) ≡ o → o ≡ none
+    go none e = refl
+    go (some k) e =
+        let w = bind-some (number (x ++ (34 ∷ 13 ∷ 10 ∷ []))) (λ n. cond (same (n .rest) (125 ∷ 13 ∷ 10 ∷ [])) (some (n .val)) none) k e in
+        let v = bind-some (run₁ digitByte (x ++ (34 ∷ 13 ∷ 10 ∷ []))) (λ g. some (got (decimal 0 (g .val)) (g .rest))) (w .0) (w .1) in
+        let r : v .0 .rest ≡ w .0 .rest = cc in
+        let s : w .0 .rest ≡ 125 ∷ 13 ∷ 10 ∷ [] = same-true (w .0 .rest) (125 ∷ 13 ∷ 10 ∷ []) (yes (w .0 .val) (same (w .0 .rest) (125 ∷ 13 ∷ 10 ∷ [])) (w .2)) in
+        absurd (clash (v .0 .val) x (sym (run₁-split digitByte (x ++ (34 ∷ 13 ∷ 10 ∷ [])) (v .0) (v .1) ∙ ap (λ (l : List ℕ). v .0 .val ++ l) (r ∙ s))))
+      where
+        yes : (m : ℕ) (b : Bool) → cond b (some m) none ≡ some k → b ≡ true
+        yes m true f = refl
+        yes m false f = absurd (none≢some f)
+
+pub quote-announces-none : (x : List ℕ) → announced (x ++ (34 ∷ crlf)) ≡ none
+unfolding announced orElse openBytes
+quote-announces-none [] = refl
+quote-announces-none (b ∷ x) = go (eqb b 123) (quote-announces-none x)
+  where
+    go : (o : Bool) → announced (x ++ (34 ∷ crlf)) ≡ none → cond o (orElse (announcedAt (x ++ (34 ∷ crlf))) (announced (x ++ (34 ∷ crlf)))) (announced (x ++ (34 ∷ crlf))) ≡ none
+    go false e = e
+    go true e = rw (not-at x, e)

@@ -1,25 +1,26 @@
 //! The collector: walks a table by sending it commands and reading its lines.
 
-use crate::line::{read_line, Attributes, Line};
+use crate::line::{read_line, Attributes, Criteria, Line};
 use crate::name::descendant_prefix;
 use crate::quoted::push_quoted;
 use crate::refusal;
 use crate::server::answer;
 use crate::table::check_table;
 
-/// The option byte: 1 asks for REMOTE, 2 for SPECIAL-USE, and above 3 is refused.
+/// The option byte: 1 asks for REMOTE, 2 for SPECIAL-USE, 4 drops SUBSCRIBED.
 pub const OPTION_REMOTE: u8 = 1;
 pub const OPTION_SPECIAL_USE: u8 = 2;
-pub const MAX_OPTION: u8 = 3;
+pub const OPTION_WITHOUT_SUBSCRIBED: u8 = 4;
+pub const MAX_OPTION: u8 = 7;
 
 /// "Its namespace list is empty."
 const NO_NAMESPACES: &[u8] = &[];
 
-/// What a walk asks for beside subscribed names.
+/// What a walk asks for.
 #[derive(Clone, Copy)]
 struct WalkOptions {
+    criteria: Criteria,
     remote: bool,
-    special_use: bool,
 }
 
 /// Names in lent memory, "each as a length byte and the name", one behind the other.
@@ -92,7 +93,7 @@ fn take_lines(
         if options.is_find(&line) && !found.push(&line.name) {
             return Err(refusal::FOUND_ROOM);
         }
-        if line.childinfo && !pending.push(&line.name) {
+        if !line.childinfo.is_empty() && !pending.push(&line.name) {
             return Err(refusal::PENDING_ROOM);
         }
     }
@@ -100,36 +101,48 @@ fn take_lines(
 }
 
 impl WalkOptions {
+    /// "Option byte 4 lets the collector drop SUBSCRIBED, legal only with 2 (else 6; a byte above
+    /// 7 is 6)." (W3)
     fn from_byte(option: u8) -> Option<WalkOptions> {
-        (option <= MAX_OPTION).then_some(WalkOptions {
-            remote: option & OPTION_REMOTE != 0,
-            special_use: option & OPTION_SPECIAL_USE != 0,
-        })
+        let mut criteria = Criteria::NONE;
+        if option & OPTION_WITHOUT_SUBSCRIBED == 0 {
+            criteria.add(Criteria::SUBSCRIBED);
+        }
+        if option & OPTION_SPECIAL_USE != 0 {
+            criteria.add(Criteria::SPECIAL_USE);
+        }
+        let is_lawful = option <= MAX_OPTION && !criteria.is_empty();
+        is_lawful.then_some(WalkOptions { criteria, remote: option & OPTION_REMOTE != 0 })
     }
 
     /// "It sends tag `w`, selection in the order SUBSCRIBED RECURSIVEMATCH SPECIAL-USE REMOTE,
     /// reference "" first and later each pending name and "/", pattern "%"."
     fn command(self, reference: &[u8]) -> Vec<u8> {
-        let mut command = b"w LIST (SUBSCRIBED RECURSIVEMATCH".to_vec();
-        if self.special_use {
-            command.extend_from_slice(b" SPECIAL-USE");
+        let mut selection = Vec::new();
+        if self.criteria.has(Criteria::SUBSCRIBED) {
+            selection.push("SUBSCRIBED");
+        }
+        selection.push("RECURSIVEMATCH");
+        if self.criteria.has(Criteria::SPECIAL_USE) {
+            selection.push("SPECIAL-USE");
         }
         if self.remote {
-            command.extend_from_slice(b" REMOTE");
+            selection.push("REMOTE");
         }
-        command.extend_from_slice(b") ");
+        let mut command = format!("w LIST ({}) ", selection.join(" ")).into_bytes();
         push_quoted(&mut command, reference);
         command.extend_from_slice(b" \"%\"\r\n");
         command
     }
 
     /// "A line is a find if it has `\Subscribed`, has no `\Remote` unless REMOTE was asked, and
-    /// has a use if SPECIAL-USE was."
+    /// has a use if SPECIAL-USE was." Where SUBSCRIBED is dropped, "A find then is a line with a
+    /// use, under the same rule for remote." (W3)
     fn is_find(self, line: &Line) -> bool {
         let attributes = Attributes::from_bits(line.attrs);
-        attributes.has(Attributes::SUBSCRIBED)
+        (attributes.has(Attributes::SUBSCRIBED) || !self.criteria.has(Criteria::SUBSCRIBED))
             && (!attributes.has(Attributes::REMOTE) || self.remote)
-            && (attributes.has(Attributes::USES) || !self.special_use)
+            && (attributes.has(Attributes::USES) || !self.criteria.has(Criteria::SPECIAL_USE))
     }
 }
 

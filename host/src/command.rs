@@ -3,7 +3,7 @@
 //! With its literals (document 02, W2) a command is one line or more, and is still called its line.
 
 use crate::cursor::{Cursor, WrittenOption};
-use crate::line::CRLF;
+use crate::line::{Criteria, CRLF};
 use crate::literal::{first_line, Literal, MAX_LITERAL};
 use crate::refusal;
 
@@ -149,7 +149,7 @@ fn read_return<'l>(cursor: &mut Cursor<'l, '_>) -> Result<Vec<WrittenOption<'l>>
 fn judge(list: WrittenList) -> Result<Request, u8> {
     let selection = Selection::of(&list.selection)?;
     let returned = Return::of(&list.returned)?;
-    if selection.recursive_match && !selection.subscribed {
+    if selection.recursive_match && selection.criteria().is_empty() {
         return Err(refusal::RECURSIVEMATCH_ALONE);
     }
     let canonical_patterns = canonical_patterns(&list.reference, &list.patterns)?;
@@ -160,6 +160,19 @@ fn judge(list: WrittenList) -> Result<Request, u8> {
 }
 
 impl Selection {
+    /// The criteria that CHILDINFO names. RECURSIVEMATCH asks for one of them beside it: "7 is
+    /// given exactly if neither SUBSCRIBED nor SPECIAL-USE stands beside it" (W3).
+    pub fn criteria(self) -> Criteria {
+        let mut criteria = Criteria::NONE;
+        if self.subscribed {
+            criteria.add(Criteria::SUBSCRIBED);
+        }
+        if self.special_use {
+            criteria.add(Criteria::SPECIAL_USE);
+        }
+        criteria
+    }
+
     fn of(options: &[WrittenOption]) -> Result<Selection, u8> {
         let mut selection = Selection::default();
         for option in options {

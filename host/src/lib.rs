@@ -1,5 +1,5 @@
 //! The second program of the listing rules: written from the papers alone, document 01 and of
-//! document 02 requests W1 and W2, to be compared with the proved program and to be the plain
+//! document 02 requests W1 to W3, to be compared with the proved program and to be the plain
 //! measure of its speed.
 //!
 //! The entries are those of document 01: the two checks, the command entry, the line writer,
@@ -31,7 +31,7 @@ pub mod table;
 
 pub use collector::collect;
 pub use feeder::{Event, Feeder};
-pub use line::{read_line, write_line, Line};
+pub use line::{read_line, write_line, Criteria, Line};
 pub use namespaces::check_namespaces;
 pub use pattern::matches;
 pub use server::answer;

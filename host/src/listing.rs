@@ -3,7 +3,7 @@
 use std::collections::BTreeMap;
 
 use crate::command::{ListRequest, Return, Selection};
-use crate::line::{push_line, Attributes};
+use crate::line::{push_line, Attributes, Criteria};
 use crate::name;
 use crate::pattern::{matches, ANY_IN_LEVEL};
 use crate::table::{rows_below, Flags, Row};
@@ -33,7 +33,7 @@ pub fn list_lines(rows: &[Row], request: &ListRequest) -> Vec<u8> {
             if is_level {
                 attributes.add(Attributes::HAS_CHILDREN);
             }
-            push_line(&mut lines, attributes, name, has_childinfo(&candidate, selection));
+            push_line(&mut lines, attributes, name, childinfo_of(&candidate, selection));
         }
     }
     lines
@@ -94,9 +94,14 @@ fn is_level_above(candidate: &Candidate, request: &ListRequest) -> bool {
 }
 
 /// "CHILDINFO is on a listed line exactly if RECURSIVEMATCH was given and some proper
-/// descendant meets the criteria, whether that one matches or not."
-fn has_childinfo(candidate: &Candidate, selection: Selection) -> bool {
-    selection.recursive_match && meets_below(candidate, selection)
+/// descendant meets the criteria, whether that one matches or not." It names the criteria
+/// selected (W3).
+fn childinfo_of(candidate: &Candidate, selection: Selection) -> Criteria {
+    if selection.recursive_match && meets_below(candidate, selection) {
+        selection.criteria()
+    } else {
+        Criteria::NONE
+    }
 }
 
 /// Whether some descendant meets the criteria, be it matched or not.

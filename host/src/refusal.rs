@@ -11,9 +11,9 @@ pub const LINE_SHAPE: u8 = 3;
 pub const GRAMMAR: u8 = 4;
 /// The word is neither LIST nor NAMESPACE.
 pub const WORD: u8 = 5;
-/// An unknown option, an option with a value, or an option byte above 3.
+/// An unknown option, an option with a value, or an unlawful option byte.
 pub const OPTION: u8 = 6;
-/// RECURSIVEMATCH without SUBSCRIBED.
+/// RECURSIVEMATCH with neither SUBSCRIBED nor SPECIAL-USE beside it.
 pub const RECURSIVEMATCH_ALONE: u8 = 7;
 /// Over 8 patterns, or a canonical pattern over 255 bytes.
 pub const PATTERNS: u8 = 8;
@@ -36,8 +36,8 @@ pub fn meaning(number: u8) -> &'static str {
         LINE_SHAPE => "line shape",
         GRAMMAR => "tag, or the rest after a known word, off the grammar",
         WORD => "other word",
-        OPTION => "unknown option, one with a value, or an option byte above 3",
-        RECURSIVEMATCH_ALONE => "RECURSIVEMATCH without SUBSCRIBED",
+        OPTION => "unknown option, one with a value, or an unlawful option byte",
+        RECURSIVEMATCH_ALONE => "RECURSIVEMATCH without SUBSCRIBED or SPECIAL-USE",
         PATTERNS => "over 8 patterns or 255 bytes",
         ANSWER_ROOM => "answer longer than its buffer",
         FOUND_ROOM => "find does not fit",

@@ -48,6 +48,11 @@ impl Flags {
         self.0 & wanted.0 != 0
     }
 
+    /// The members of both sets.
+    pub const fn with(self, added: Flags) -> Flags {
+        Flags(self.0 | added.0)
+    }
+
     pub fn add(&mut self, added: Flags) {
         self.0 |= added.0;
     }

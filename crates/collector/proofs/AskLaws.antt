@@ -1,6 +1,6 @@
 -- One command: its line in a local buffer, the server's reply, and what the lines of the answer give. Rests on the laws of writes.
 use mathlib.Core.Path.{_≡_, refl, sym, ap, _∙_}
-use mathlib.Core.Bool.{Bool, true, false, cond, _||_}
+use mathlib.Core.Bool.{Bool, true, false, cond, _||_, not}
 use mathlib.Core.List.{List, [], _∷_, _++_}
 use Prim.Native.Nat.{ℕ, _+_, _*_, _≤_}
 use native.Mathlib.Omega.{arith}
@@ -10,7 +10,7 @@ use lib.Seq.{take-at}
 use Rattle.listing_rules.specs.Bytes.{openBytes}
 use Rattle.listing_rules.specs.Lines.{escaped, quoted}
 use Rattle.listing_rules.specs.Server.{Reply, refusal, answered, answer, limited, bufferAfter, served}
-use Rattle.listing_rules.specs.Walk.{Lists, Step, stop, go, _>>=_, when, wantsRemote, wantsSpecial, commandLine, linesOf, takenAll, replied, asked}
+use Rattle.listing_rules.specs.Walk.{Lists, Step, stop, go, _>>=_, when, wantsRemote, wantsSpecial, dropsSubscribed, commandLine, linesOf, takenAll, replied, asked}
 use Rattle.octets.specs.Put.{Put}
 use Rattle.octets.specs.Written.{writtenIs}
 use Rattle.octets.specs.declared.Written.the-variants.{Done, Refused}
@@ -62,15 +62,23 @@ unfolding commandLine quoted openBytes
 command-length o reference =
     omega (
       arith,
+      length-append (when (not (dropsSubscribed o)) subscribed) (recursive ++ (when (wantsSpecial o) special ++ (when (wantsRemote o) remote ++ (41 ∷ 32 ∷ (34 ∷ (escaped reference ++ (34 ∷ [])) ++ end))))),
       length-append (when (wantsSpecial o) special) (when (wantsRemote o) remote ++ (41 ∷ 32 ∷ (34 ∷ (escaped reference ++ (34 ∷ [])) ++ end))),
       length-append (when (wantsRemote o) remote) (41 ∷ 32 ∷ (34 ∷ (escaped reference ++ (34 ∷ [])) ++ end)),
       length-append (34 ∷ (escaped reference ++ (34 ∷ []))) end,
       length-append (escaped reference) (34 ∷ []),
+      when-length (not (dropsSubscribed o)) subscribed,
       when-length (wantsSpecial o) special,
       when-length (wantsRemote o) remote,
       escaped-twice reference,
     )
   where
+    subscribed : List ℕ
+    subscribed = 83 ∷ 85 ∷ 66 ∷ 83 ∷ 67 ∷ 82 ∷ 73 ∷ 66 ∷ 69 ∷ 68 ∷ 32 ∷ []
+
+    recursive : List ℕ
+    recursive = 82 ∷ 69 ∷ 67 ∷ 85 ∷ 82 ∷ 83 ∷ 73 ∷ 86 ∷ 69 ∷ 77 ∷ 65 ∷ 84 ∷ 67 ∷ 72 ∷ []
+
     special : List ℕ
     special = 32 ∷ 83 ∷ 80 ∷ 69 ∷ 67 ∷ 73 ∷ 65 ∷ 76 ∷ 45 ∷ 85 ∷ 83 ∷ 69 ∷ []
 

@@ -1,11 +1,12 @@
 -- "pending is never shortened": a step only puts names behind those that are to be asked. Rests on the library alone.
 use mathlib.Core.Path.{_≡_, refl, sym, ap, _∙_}
-use mathlib.Core.Bool.{Bool, true, false, cond}
+use mathlib.Core.Bool.{Bool, true, false, cond, not}
 use mathlib.Core.List.{List, [], _∷_, _++_, append-assoc, append-nil}
 use Prim.Native.Nat.{ℕ}
 use native.Mathlib.Omega.{arith}
 use lib.Dec.{leb}
 use lib.ListN.{length}
+use Rattle.listing_rules.specs.Options.{isNone}
 use Rattle.listing_rules.specs.Reader.{Read, line, root, bad, readLine}
 use Rattle.listing_rules.specs.Walk.{Lists, Step, stop, go, _>>=_, linesOf, packed, withName, fits, takenIn, takenAll, asked}
 
@@ -44,9 +45,9 @@ module _ (o room₁ room₂ : ℕ) where
   line-grows s u (line bs n c) e =
       let w = bind-went _ _ u e in
       let v = bind-went _ _ u (w .2) in
-      let m = with-more c n (s .asks) in
+      let m = with-more (not (isNone c)) n (s .asks) in
       let y : record { finds = w .0; asks = v .0 } ≡ u = cc in
-      (m .0, ap (λ (x : Lists). x .asks) (sym y) ∙ fits-same 11 room₂ (withName c n (s .asks)) (v .0) (v .1) ∙ m .1)
+      (m .0, ap (λ (x : Lists). x .asks) (sym y) ∙ fits-same 11 room₂ (withName (not (isNone c)) n (s .asks)) (v .0) (v .1) ∙ m .1)
   line-grows s u root e = let y : s ≡ u = cc in grows-as s u y
   line-grows s u bad e = grows-as s u (cc)
 

@@ -1,8 +1,8 @@
--- One line of an answer taken in: what the reader's answer tells of the line, and what is kept of it. Rests on PackLaws and on the
--- laws of the reader.
+-- One line of an answer taken in: what the reader's answer tells of the line, and what is kept of it. Rests on PackLaws and
+-- FindLaws and on the laws of the reader.
 use mathlib.Core.Path.{_≡_, refl, sym, ap, _∙_}
 use mathlib.Core.Logic.{_⊎_, inl, inr}
-use mathlib.Core.Bool.{Bool, true, false}
+use mathlib.Core.Bool.{Bool, true, false, not}
 use mathlib.Core.List.{List}
 use Prim.Native.Nat.{ℕ, _-_, _≤_}
 use native.Mathlib.Omega.{arith}
@@ -10,48 +10,57 @@ use lib.ListN.{length, take, replicate, length-append}
 use lib.Seq.{take-at}
 use Rattle.listing_rules.specs.Bytes.{openBytes}
 use Rattle.listing_rules.specs.Names.{lawfulName}
+use Rattle.listing_rules.specs.Options.{Criteria, isNone}
 use Rattle.listing_rules.specs.Lines.{rootLine}
 use Rattle.listing_rules.specs.Reader.{Read, line, root, bad, readLine, nameRead, nameBytes}
-use Rattle.listing_rules.specs.Walk.{Lists, Step, stop, go, _>>=_, packed, attr, isFind, withName, fits, takenIn}
+use Rattle.listing_rules.specs.Walk.{lawfulByte, Lists, Step, stop, go, _>>=_, packed, isFind, withName, fits, takenIn}
 use Rattle.listing_rules.proofs.LawfulNames.{good-parts}
 use Rattle.listing_rules.proofs.ReaderWriter.{Taken, readLine-only}
 use Rattle.list_line.specs.Members.{members, setOf}
+use Rattle.list_line.specs.CriteriaSets.{criteriaIs, criteriaSet}
 use Rattle.list_line.specs.Lines.{lineIs}
 use Rattle.list_line.specs.declared.attributes.Attributes.{Attributes}
+use Rattle.list_line.specs.declared.criteria.Criteria.{Criteria as Set}
 use Rattle.list_line.specs.declared.read.Line.the-variants.{Parts, Refused}
 use Rattle.list_line.proofs.Members.{members-setOf}
+use Rattle.list_line.proofs.CriteriaSets.{criteria-set}
 use Rattle.collector.specs.Names.{Keeps}
 use Rattle.collector.specs.Taking.{Inside, Holds, Goes}
 use Rattle.collector.specs.declared.names.Kept.the-variants.{To, Full}
 use Rattle.collector.specs.declared.lines.Progress.{Progress}
+use Rattle.collector.proofs.FindLaws.{root-finds-none}
 use Rattle.collector.proofs.PackLaws.{fits-go, fits-stop}
 
 -- the two lists, with a name put into each or not, if they fit
 abbrev pub bothFit : ℕ → ℕ → List (List ℕ) → List (List ℕ) → Step Lists
 bothFit room₁ room₂ f a = fits 10 room₁ f >>= λ x. fits 11 room₂ a >>= λ y. go (record { finds = x; asks = y })
 
+-- whether CHILDINFO names a criterion
+abbrev pub parentOf : Set → Bool
+parentOf k = not (isNone (criteriaIs (k .bits)))
+
 -- What is read is a line with these attributes, this length of the name and CHILDINFO or not; the name stands at the front of the
 -- bytes.
 pub record ReadAs (r : Read) (t : Attributes) (n : ℕ) (c : Bool) (name : List ℕ) : Type 0 where
   pub short : n ≤ 200
   pub inside : n ≤ length name
-  pub taken : (o room₁ room₂ : ℕ) (s : Lists) → length (packed (s .finds)) ≤ room₁ → length (packed (s .asks)) ≤ room₂ → takenIn o room₁ room₂ s r ≡ bothFit room₁ room₂ (withName (isFind o (members (t .bits))) (take n name) (s .finds)) (withName c (take n name) (s .asks))
+  pub taken : (o room₁ room₂ : ℕ) → lawfulByte o ≡ true → (s : Lists) → length (packed (s .finds)) ≤ room₁ → length (packed (s .asks)) ≤ room₂ → takenIn o room₁ room₂ s r ≡ bothFit room₁ room₂ (withName (isFind o (members (t .bits))) (take n name) (s .finds)) (withName c (take n name) (s .asks))
 
-module _ (t : Attributes) (n : ℕ) (c : Bool) (name : List ℕ) where
-  as-line : (bs : List Bool) (m : List ℕ) (d : Bool) → length bs ≡ 16 → length m ≤ 200 → Parts (record { bits = setOf bs }) (length m) d ≡ Parts t n c → name ≡ nameBytes (line bs m d) → ReadAs (line bs m d) t n c name
+module _ (t : Attributes) (n : ℕ) (k : Set) (name : List ℕ) where
+  as-line : (bs : List Bool) (m : List ℕ) (d : Criteria) → length bs ≡ 16 → length m ≤ 200 → Parts (record { bits = setOf bs }) (length m) (record { bits = criteriaSet d }) ≡ Parts t n k → name ≡ nameBytes (line bs m d) → ReadAs (line bs m d) t n (parentOf k) name
   unfolding nameBytes nameRead takenIn
-  as-line bs m d h k e g =
+  as-line bs m d h f e g =
       record {
         short = omega (arith, size);
         inside = omega (arith, size, ap length g, length-append m (replicate (200 - length m) 0));
-        taken = λ o room₁ room₂ s p q. λ i. bothFit room₁ room₂ (withName (isFind o (attributes i)) (bytes i) (s .finds)) (withName (child i) (bytes i) (s .asks));
+        taken = λ o room₁ room₂ ok s p q. λ i. bothFit room₁ room₂ (withName (isFind o (attributes i)) (bytes i) (s .finds)) (withName (child i) (bytes i) (s .asks));
       }
     where
       size : length m ≡ n
       size = cc
 
-      child : d ≡ c
-      child = cc
+      child : not (isNone d) ≡ parentOf k
+      child = let w : record { bits = criteriaSet d } ≡ k = cc in ap (λ (x : Criteria). not (isNone x)) (sym (criteria-set d)) ∙ ap parentOf w
 
       attributes : bs ≡ members (t .bits)
       attributes = let w : record { bits = setOf bs } ≡ t = cc in sym (members-setOf bs h) ∙ ap (λ (x : Attributes). members (x .bits)) w
@@ -60,33 +69,33 @@ module _ (t : Attributes) (n : ℕ) (c : Bool) (name : List ℕ) where
       bytes = sym (ap (take n) g ∙ take-at m (replicate (200 - length m) 0) n size)
 
   -- the root line is no find and has no CHILDINFO
-  as-root : Parts (record { bits = 4 }) 0 false ≡ Parts t n c → ReadAs root t n c name
-  unfolding takenIn withName isFind attr members openBytes _>>=_
+  as-root : Parts (record { bits = 4 }) 0 (record { bits = 0 }) ≡ Parts t n k → ReadAs root t n (parentOf k) name
+  unfolding takenIn withName isNone criteriaIs openBytes _>>=_
   as-root e =
       record {
         short = let w : 0 ≡ n = cc in omega arith;
         inside = let w : 0 ≡ n = cc in omega arith;
-        taken = λ o room₁ room₂ s p q.
-            sym (rw (fits-go 10 room₁ (s .finds) p, fits-go 11 room₂ (s .asks) q))
+        taken = λ o room₁ room₂ ok s p q.
+            sym (rw (root-finds-none o ok, fits-go 10 room₁ (s .finds) p, fits-go 11 room₂ (s .asks) q))
             ∙ λ i. bothFit room₁ room₂ (withName (isFind o (members (attributes i .bits))) (take n name) (s .finds)) (withName (child i) (take n name) (s .asks));
       }
     where
-      child : false ≡ c
-      child = cc
+      child : false ≡ parentOf k
+      child = let w : record { bits = 0 } ≡ k = cc in ap parentOf w
 
       attributes : record { bits = 4 } ≡ t
       attributes = cc
 
   -- what the code learns of the reader's answer
-  pub read-as : (l : List ℕ) → lineIs (readLine l) ≡ Parts t n c → name ≡ nameBytes (readLine l) → ReadAs (readLine l) t n c name
+  pub read-as : (l : List ℕ) → lineIs (readLine l) ≡ Parts t n k → name ≡ nameBytes (readLine l) → ReadAs (readLine l) t n (parentOf k) name
   unfolding lineIs
   read-as l e g = pick (readLine-only l)
     where
-      from-line : (bs : List Bool) (m : List ℕ) (d : Bool) → readLine l ≡ line bs m d → length bs ≡ 16 → lawfulName m ≡ true → ReadAs (readLine l) t n c name
-      from-line bs m d w h k = rw w (as-line bs m d h (good-parts m k .most) (ap lineIs (sym w) ∙ e) (g ∙ ap nameBytes w))
+      from-line : (bs : List Bool) (m : List ℕ) (d : Criteria) → readLine l ≡ line bs m d → length bs ≡ 16 → lawfulName m ≡ true → ReadAs (readLine l) t n (parentOf k) name
+      from-line bs m d w h f = rw w (as-line bs m d h (good-parts m f .most) (ap lineIs (sym w) ∙ e) (g ∙ ap nameBytes w))
 
-      pick : (readLine l ≡ bad) ⊎ ((l ≡ rootLine) × (readLine l ≡ root)) ⊎ Taken l (readLine l) → ReadAs (readLine l) t n c name
-      pick (inl w) = let z : Refused 12 ≡ Parts t n c = ap lineIs (sym w) ∙ e in let y : _≡_ {A = ℕ} 0 1 = cc in absurd (omega arith)
+      pick : (readLine l ≡ bad) ⊎ ((l ≡ rootLine) × (readLine l ≡ root)) ⊎ Taken l (readLine l) → ReadAs (readLine l) t n (parentOf k) name
+      pick (inl w) = let z : Refused 12 ≡ Parts t n k = ap lineIs (sym w) ∙ e in let y : _≡_ {A = ℕ} 0 1 = cc in absurd (omega arith)
       pick (inr (inl w)) = rw (w .1) (as-root (ap lineIs (sym (w .1)) ∙ e))
       pick (inr (inr w)) = from-line (w .attrs) (w .name) (w .child) (w .is) (w .sixteen) (w .good)
 
@@ -109,7 +118,7 @@ module _ (l : List ℕ) (o : ℕ) (d b : List ℕ) (p : Progress) where
   unfolding takenIn
   line-skipped k e h = record { inside = h; counted = refl; lists = λ s g. (s, rw (read-bad l k e), g) }
 
-  module _ (t : Attributes) (n : ℕ) (c : Bool) (name : List ℕ) (R : ReadAs (readLine l) t n c name) where
+  module _ (t : Attributes) (n : ℕ) (c : Bool) (name : List ℕ) (R : ReadAs (readLine l) t n c name) (ok : lawfulByte o ≡ true) where
     abbrev finds′ : Lists → List (List ℕ)
     finds′ s = withName (isFind o (members (t .bits))) (take n name) (s .finds)
 
@@ -117,7 +126,7 @@ module _ (l : List ℕ) (o : ℕ) (d b : List ℕ) (p : Progress) where
     asks′ s = withName c (take n name) (s .asks)
 
     parts-step : (s : Lists) → Holds s d b p → lineStep s ≡ bothFit (length d) (length b) (finds′ s) (asks′ s)
-    parts-step s h = R .taken o (length d) (length b) s (omega (arith, h .finds .counted, h .finds .room)) (omega (arith, h .asks .counted, h .asks .room))
+    parts-step s h = R .taken o (length d) (length b) ok s (omega (arith, h .finds .counted, h .finds .room)) (omega (arith, h .asks .counted, h .asks .room))
 
     pub find-full : (d′ : List ℕ) → Keeps (isFind o (members (t .bits))) (take n name) d (p .found) d′ Full → (s : Lists) → Holds s d b p → lineStep s ≡ stop 10
     unfolding _>>=_

@@ -1,16 +1,16 @@
 -- The walk command by command: what is left of it gives what the whole gives. Rests on QueueLaws and GrowLaws, and on the law that
 -- the bound on the steps does not matter (`walk-fuel`).
 use mathlib.Core.Path.{_≡_, sym, ap, _∙_}
-use mathlib.Core.Bool.{true}
 use mathlib.Core.List.{List, [], _∷_, _++_}
 use Prim.Native.Nat.{ℕ, suc, _+_, _-_, _≤_, _<_}
 use native.Mathlib.Omega.{arith}
 use lib.ListN.{length, take, drop, getD, replicate, length-append}
 use lib.Seq.{take-append-le}
 use Rattle.listing_rules.specs.Bytes.{slash}
-use Rattle.listing_rules.specs.Table.{rows, passes}
+use Rattle.listing_rules.specs.Table.{rows}
 use Rattle.listing_rules.specs.Listing.{candidates}
 use Rattle.listing_rules.specs.Walk.{Lists, Step, stop, go, _>>=_, Walked, packed, asked, walkFrom, walkAll, walkRefused, walked, ended}
+use Rattle.listing_rules.proofs.WalkSets.{Walks}
 use Rattle.listing_rules.proofs.WalkFuel.{walk-fuel}
 use Rattle.collector.specs.Taking.{Holds, Goes}
 use Rattle.collector.specs.Ends.{Comes}
@@ -70,7 +70,7 @@ module _ (table : List ℕ) (o scratch room₁ room₂ : ℕ) where
     unfolding _>>=_ ended
     walk-refused k f = ap ended (first-step (stepsOf table) (stop k) (f noLists holds-none))
 
-    pub walking-begins : passes table ≡ true → (s d′ b′ : List ℕ) (q : Progress) → Goes (commandStep []) 1 d b noProgress d′ b′ q → length s ≡ scratch → length d′ ≡ room₁ → length b′ ≡ room₂ → Walking s d′ b′ q 0
+    pub walking-begins : Walks table o → (s d′ b′ : List ℕ) (q : Progress) → Goes (commandStep []) 1 d b noProgress d′ b′ q → length s ≡ scratch → length d′ ≡ room₁ → length b′ ≡ room₂ → Walking s d′ b′ q 0
     unfolding _>>=_
     walking-begins ok s d′ b′ q g l₀ l₁ l₂ =
         let w = g .lists noLists holds-none in

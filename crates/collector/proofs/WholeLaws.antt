@@ -3,11 +3,10 @@
 use mathlib.Core.Path.{_≡_, sym, ap, subst, _∙_}
 use mathlib.Core.Bool.{true, false}
 use mathlib.Core.List.{List}
-use Prim.Native.Nat.{ℕ, _≤_}
-use lib.Dec.{leb}
+use Prim.Native.Nat.{ℕ}
 use lib.ListN.{length, replicate}
 use Rattle.listing_rules.specs.Table.{passes}
-use Rattle.listing_rules.specs.Walk.{WalkReply, walkRefused, walked, walkAll, ended, walk, zeroBehind, foundAfter, pendingAfter, scratchAfter, collected}
+use Rattle.listing_rules.specs.Walk.{lawfulByte, WalkReply, walkRefused, walked, walkAll, ended, walk, zeroBehind, foundAfter, pendingAfter, scratchAfter, collected}
 use Rattle.listing_rules.specs.Demand3.{Demand3}
 use Rattle.listing_rules.proofs.Demand3.{demand-3-holds}
 use Rattle.collector.specs.Result.{collectedIs, WholeWalk}
@@ -22,11 +21,11 @@ module _ (table : List ℕ) (o scratch found pending : ℕ) where
   unfolding walk
   refuses-table e = rw e
 
-  pub refuses-option : passes table ≡ true → leb o 3 ≡ false → walk table o scratch found pending ≡ walkRefused 6
+  pub refuses-option : passes table ≡ true → lawfulByte o ≡ false → walk table o scratch found pending ≡ walkRefused 6
   unfolding walk
   refuses-option e g = rw (e, g)
 
-  pub walks : passes table ≡ true → leb o 3 ≡ true → walk table o scratch found pending ≡ ended (walkAll table o scratch found pending (stepsOf table))
+  pub walks : passes table ≡ true → lawfulByte o ≡ true → walk table o scratch found pending ≡ ended (walkAll table o scratch found pending (stepsOf table))
   unfolding walk
   walks e g = rw (e, g)
 
@@ -37,7 +36,7 @@ module _ (table : List ℕ) (o scratch found pending : ℕ) where
   whole-of (walked count f p) d = (d .0, d .1, ap length (d .2), ap (zeroBehind found) (d .2), ap (zeroBehind pending) (d .3))
 
   -- Demand 3 follows from what the answer, found and pending are.
-  pub whole-walk : (r : Collected) (f p : List ℕ) → r ≡ collectedIs (walk table o scratch found pending) → f ≡ foundAfter found (walk table o scratch found pending) → p ≡ pendingAfter pending (walk table o scratch found pending) → passes table ≡ true → o ≤ 3 → WholeWalk table o scratch found pending r f p
+  pub whole-walk : (r : Collected) (f p : List ℕ) → r ≡ collectedIs (walk table o scratch found pending) → f ≡ foundAfter found (walk table o scratch found pending) → p ≡ pendingAfter pending (walk table o scratch found pending) → passes table ≡ true → lawfulByte o ≡ true → WholeWalk table o scratch found pending r f p
   whole-walk r f p er ef ep ok h =
       subst (λ (x : Collected). WholeWalk table o scratch found pending x f p) (sym er)
       (subst (λ (x : List ℕ). WholeWalk table o scratch found pending (collectedIs w) x p) (sym ef)
@@ -57,7 +56,7 @@ module _ (table : List ℕ) (o : ℕ) (scratch found pending : List ℕ) where
       × ((s ≡ scratchAfter (length scratch) reply)
       × ((f ≡ foundAfter (length found) reply)
       × ((p ≡ pendingAfter (length pending) reply)
-      × (passes table ≡ true → o ≤ 3 → WholeWalk table o (length scratch) (length found) (length pending) r f p))))
+      × (passes table ≡ true → lawfulByte o ≡ true → WholeWalk table o (length scratch) (length found) (length pending) r f p))))
 
   promised : (r : Collected) (s f p : List ℕ) → r ≡ collectedIs reply → s ≡ scratchAfter (length scratch) reply → f ≡ foundAfter (length found) reply → p ≡ pendingAfter (length pending) reply → Promise r s f p
   unfolding collected

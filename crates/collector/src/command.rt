@@ -16,7 +16,11 @@ pub(crate) const REFERENCE_ROOM: usize = 256;
 
 pub(crate) const COMMAND_ROOM: usize = 640;
 
-const START: [u8; 33] = *b"w LIST (SUBSCRIBED RECURSIVEMATCH";
+const START: [u8; 8] = *b"w LIST (";
+
+const SUBSCRIBED: [u8; 11] = *b"SUBSCRIBED ";
+
+const RECURSIVEMATCH: [u8; 14] = *b"RECURSIVEMATCH";
 
 const SPECIAL_USE: [u8; 12] = *b" SPECIAL-USE";
 
@@ -31,11 +35,18 @@ pub(crate) fn put_command(buf: &mut [u8], options: WalkOptions, reference: &[u8]
     ensures { λ r. ⌜ Put (now (buf .entry)) (now (buf .exit)) 0 (commandLine (options .bits) (now (reference .entry))) r ⌝ }
 {
     let a = put_all(buf, 0, &START);
-    let b = put_when(buf, a, options.has(WalkOptions::SPECIAL_USE), &SPECIAL_USE);
-    let c = put_when(buf, b, options.has(WalkOptions::REMOTE), &REMOTE);
-    let d = put_all(buf, c, &SELECTION_END);
-    let e = put_quoted(buf, d, reference);
-    put_all(buf, e, &PATTERN)
+    let b = put_when(
+        buf,
+        a,
+        !options.has(WalkOptions::WITHOUT_SUBSCRIBED),
+        &SUBSCRIBED,
+    );
+    let c = put_all(buf, b, &RECURSIVEMATCH);
+    let d = put_when(buf, c, options.has(WalkOptions::SPECIAL_USE), &SPECIAL_USE);
+    let e = put_when(buf, d, options.has(WalkOptions::REMOTE), &REMOTE);
+    let f = put_all(buf, e, &SELECTION_END);
+    let g = put_quoted(buf, f, reference);
+    put_all(buf, g, &PATTERN)
 }
 
 // The reference below a name.

@@ -13,14 +13,13 @@ use options::WalkOptions;
 use walk::walk_table;
 ghost use mathlib.Core.Path.{_≡_};
 ghost use mathlib.Core.Bool.{true};
-ghost use Prim.Native.Nat.{_≤_};
 ghost use lib.ListN.{length, replicate};
 ghost use Rattle.listing_rules.specs.Table.{passes};
-ghost use Rattle.listing_rules.specs.Walk.{collected, foundAfter, pendingAfter, scratchAfter, walk};
+ghost use Rattle.listing_rules.specs.Walk.{lawfulByte, collected, foundAfter, pendingAfter, scratchAfter, walk};
 ghost use Rattle.collector.specs.Result.{collectedIs, WholeWalk};
 ghost use Rattle.collector.specs.Ends.{Ends};
 
-// Refusals: the table does not pass; an option byte above 3.
+// Refusals: the table does not pass; an option byte that is not lawful, so above 7, or 4 without 2.
 const BAD_TABLE: u8 = 1;
 
 const BAD_OPTION: u8 = 6;
@@ -44,7 +43,7 @@ pub fn collect(
     ensures scratch { λ _. ⌜ now (scratch .exit) ≡ scratchAfter (length (now (scratch .entry))) (collected (now (table .entry)) option (now (scratch .entry)) (now (found .entry)) (now (pending .entry))) ⌝ }
     ensures found { λ _. ⌜ now (found .exit) ≡ foundAfter (length (now (found .entry))) (collected (now (table .entry)) option (now (scratch .entry)) (now (found .entry)) (now (pending .entry))) ⌝ }
     ensures pending { λ _. ⌜ now (pending .exit) ≡ pendingAfter (length (now (pending .entry))) (collected (now (table .entry)) option (now (scratch .entry)) (now (found .entry)) (now (pending .entry))) ⌝ }
-    ensures demand3 { λ r. ⌜ (passes (now (table .entry)) ≡ true → option ≤ 3 → WholeWalk (now (table .entry)) option (length (now (scratch .entry))) (length (now (found .entry))) (length (now (pending .entry))) r (now (found .exit)) (now (pending .exit))) ⌝ }
+    ensures demand3 { λ r. ⌜ (passes (now (table .entry)) ≡ true → lawfulByte option ≡ true → WholeWalk (now (table .entry)) option (length (now (scratch .entry))) (length (now (found .entry))) (length (now (pending .entry))) r (now (found .exit)) (now (pending .exit))) ⌝ }
 {
     clear(found);
     clear(pending);

@@ -1,6 +1,6 @@
 // The options of a walk: a set with named members.
 ghost use mathlib.Core.Path.{_≡_};
-ghost use lib.Dec.{leb};
+ghost use Rattle.listing_rules.specs.Walk.{lawfulByte};
 ghost use Rattle.octets.specs.Sets.{contains};
 
 pub(crate) struct WalkOptions {
@@ -12,7 +12,9 @@ impl WalkOptions {
 
     pub const SPECIAL_USE: WalkOptions = WalkOptions { bits: 2 };
 
-    pub const ALL: WalkOptions = WalkOptions { bits: 3 };
+    pub const WITHOUT_SUBSCRIBED: WalkOptions = WalkOptions { bits: 4 };
+
+    pub const ALL: WalkOptions = WalkOptions { bits: 7 };
 
     // Whether every one of `member` is in.
     pub fn has(self, member: WalkOptions) -> bool
@@ -21,10 +23,13 @@ impl WalkOptions {
         self.bits & member.bits == member.bits
     }
 
-    // Whether it has no members but these.
+    // Whether it has no members but these, and drops SUBSCRIBED only where SPECIAL-USE is selected: RECURSIVEMATCH is never alone.
     pub fn lawful(self) -> bool
-        ensures { λ r. ⌜ r ≡ leb (self .bits) 3 ⌝ }
+        ensures { λ r. ⌜ r ≡ lawfulByte (self .bits) ⌝ }
     {
-        self.bits <= WalkOptions::ALL.bits
+        let known = self.bits <= WalkOptions::ALL.bits;
+        let beside = !self.has(WalkOptions::WITHOUT_SUBSCRIBED)
+            | self.has(WalkOptions::SPECIAL_USE);
+        known & beside
     }
 }

@@ -75,7 +75,7 @@ pub struct Command {
 }
 
 // The command, or its refusal: the line's shape 3, the tag 4, another word 5, the rest off the grammar 4, an option that is not known 6,
-// RECURSIVEMATCH without SUBSCRIBED 7, too many or too long patterns 8, in this order.
+// RECURSIVEMATCH with neither SUBSCRIBED nor SPECIAL-USE 7, too many or too long patterns 8, in this order.
 pub fn read_command(line: &[u8]) -> Command
     ensures { λ r. ⌜ meaning (now (line .entry)) r ≡ parsed (now (line .entry)) ⌝ }
     ensures inside { λ r. ⌜ Inside (now (line .entry)) r ⌝ }

@@ -48,11 +48,12 @@ impl Options {
         self.bits & member.bits == member.bits
     }
 
-    // RECURSIVEMATCH stands only beside SUBSCRIBED.
+    // RECURSIVEMATCH stands only beside SUBSCRIBED or SPECIAL-USE.
     pub fn lawful(self) -> bool
         ensures { λ r. ⌜ r ≡ lawfulOptions (optionsIs self) ⌝ }
     {
-        !(self.has(Options::RECURSIVEMATCH) & !self.has(Options::SUBSCRIBED))
+        let criteria = self.has(Options::SUBSCRIBED) | self.has(Options::SPECIAL_USE);
+        !(self.has(Options::RECURSIVEMATCH) & !criteria)
     }
 }
 

@@ -1,6 +1,5 @@
 -- The C forms of the answers, case by case.
 use mathlib.Core.Path.{_≡_, sym, ap}
-use mathlib.Core.Bool.{Bool, false}
 use mathlib.Core.List.{List}
 use Prim.Native.Nat.{ℕ}
 use Rattle.octets.specs.declared.Written.{Written}
@@ -8,6 +7,7 @@ use Rattle.octets.specs.declared.Written.the-variants.{Done, Refused}
 use Rattle.collector.specs.declared.Collected.{Collected}
 use Rattle.collector.specs.declared.Collected.the-variants.{Done as Walked, Refused as Stopped}
 use Rattle.list_line.specs.declared.attributes.Attributes.{Attributes}
+use Rattle.list_line.specs.declared.criteria.Criteria.{Criteria}
 use Rattle.list_line.specs.declared.read.Line.{Line}
 use Rattle.list_line.specs.declared.read.Line.the-variants.{Parts, Refused as NoLine}
 use Rattle.exports.specs.Outcomes.{writtenOutcome, collectedOutcome, partsOf}
@@ -30,10 +30,10 @@ pub collected-refused : (w : Collected) (k : ℕ) → w ≡ Stopped k → record
 unfolding collectedOutcome
 collected-refused w k e = sym (ap collectedOutcome e)
 
-pub parts-read : (l : Line) (bytes : List ℕ) (a : Attributes) (n : ℕ) (c : Bool) → l ≡ Parts a n c → record { number = 0; «child_info» = c; attributes = a .bits; length = n; name = bytes } ≡ partsOf l bytes
+pub parts-read : (l : Line) (bytes : List ℕ) (a : Attributes) (n : ℕ) (c : Criteria) → l ≡ Parts a n c → record { number = 0; criteria = c .bits; attributes = a .bits; length = n; name = bytes } ≡ partsOf l bytes
 unfolding partsOf
 parts-read l bytes a n c e = λ i. partsOf (sym e i) bytes
 
-pub parts-refused : (l : Line) (bytes : List ℕ) (k : ℕ) → l ≡ NoLine k → record { number = k; «child_info» = false; attributes = 0; length = 0; name = bytes } ≡ partsOf l bytes
+pub parts-refused : (l : Line) (bytes : List ℕ) (k : ℕ) → l ≡ NoLine k → record { number = k; criteria = 0; attributes = 0; length = 0; name = bytes } ≡ partsOf l bytes
 unfolding partsOf
 parts-refused l bytes k e = λ i. partsOf (sym e i) bytes

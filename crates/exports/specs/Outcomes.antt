@@ -1,5 +1,4 @@
 -- The answers of the entries, in the forms that C takes.
-use mathlib.Core.Bool.{false}
 use mathlib.Core.List.{List}
 use Prim.Native.Nat.{ℕ}
 use Rattle.octets.specs.declared.Written.{Written}
@@ -23,5 +22,5 @@ collectedOutcome (Stopped k) = record { number = k; length = 0; count = 0 }
 
 -- what was read, with the bytes of its name beside it; "The reader's refusal gives no attributes and an empty name."
 unfoldable pub partsOf : Line → List ℕ → LineParts
-partsOf (Parts a n c) bytes = record { number = 0; «child_info» = c; attributes = a .bits; length = n; name = bytes }
-partsOf (NoLine k) bytes = record { number = k; «child_info» = false; attributes = 0; length = 0; name = bytes }
+partsOf (Parts a n c) bytes = record { number = 0; criteria = c .bits; attributes = a .bits; length = n; name = bytes }
+partsOf (NoLine k) bytes = record { number = k; criteria = 0; attributes = 0; length = 0; name = bytes }

@@ -6,6 +6,7 @@ pub mod feeding;
 pub mod outcomes;
 
 use list_line::Attributes;
+use list_line::Criteria;
 use outcomes::LineParts;
 use outcomes::Outcome;
 use outcomes::collected_outcome;
@@ -13,7 +14,6 @@ use outcomes::line_parts;
 use outcomes::written_outcome;
 ghost use mathlib.Core.Path.{_≡_};
 ghost use mathlib.Core.Bool.{true, _&&_};
-ghost use Prim.Native.Nat.{_≤_};
 ghost use lib.Dec.{leb};
 ghost use lib.ListN.{length};
 ghost use Rattle.listing_rules.specs.Table.{passes};
@@ -21,9 +21,10 @@ ghost use Rattle.listing_rules.specs.Namespaces.{namespacesPass};
 ghost use Rattle.listing_rules.specs.Match.{matches};
 ghost use Rattle.listing_rules.specs.Reader.{written, readLine, nameBytes};
 ghost use Rattle.listing_rules.specs.Server.{bufferAfter, served};
-ghost use Rattle.listing_rules.specs.Walk.{collected, foundAfter, pendingAfter, scratchAfter};
+ghost use Rattle.listing_rules.specs.Walk.{lawfulByte, collected, foundAfter, pendingAfter, scratchAfter};
 ghost use Rattle.octets.specs.Written.{writtenIs};
 ghost use Rattle.list_line.specs.Members.{members};
+ghost use Rattle.list_line.specs.CriteriaSets.{criteriaIs};
 ghost use Rattle.list_line.specs.Lines.{lineIs};
 ghost use Rattle.collector.specs.Result.{collectedIs, WholeWalk};
 ghost use Rattle.exports.specs.Outcomes.{writtenOutcome, collectedOutcome, partsOf};
@@ -79,24 +80,26 @@ pub extern "C" fn luspemaro_collect(
     ensures scratch { λ _. ⌜ now (scratch .exit) ≡ scratchAfter (length (now (scratch .entry))) (collected (now (table .entry)) option (now (scratch .entry)) (now (found .entry)) (now (pending .entry))) ⌝ }
     ensures found { λ _. ⌜ now (found .exit) ≡ foundAfter (length (now (found .entry))) (collected (now (table .entry)) option (now (scratch .entry)) (now (found .entry)) (now (pending .entry))) ⌝ }
     ensures pending { λ _. ⌜ now (pending .exit) ≡ pendingAfter (length (now (pending .entry))) (collected (now (table .entry)) option (now (scratch .entry)) (now (found .entry)) (now (pending .entry))) ⌝ }
-    ensures demand3 { λ _. ⌜ (passes (now (table .entry)) ≡ true → option ≤ 3 → WholeWalk (now (table .entry)) option (length (now (scratch .entry))) (length (now (found .entry))) (length (now (pending .entry))) (collectedIs (collected (now (table .entry)) option (now (scratch .entry)) (now (found .entry)) (now (pending .entry)))) (now (found .exit)) (now (pending .exit))) ⌝ }
+    ensures demand3 { λ _. ⌜ (passes (now (table .entry)) ≡ true → lawfulByte option ≡ true → WholeWalk (now (table .entry)) option (length (now (scratch .entry))) (length (now (found .entry))) (length (now (pending .entry))) (collectedIs (collected (now (table .entry)) option (now (scratch .entry)) (now (found .entry)) (now (pending .entry)))) (now (found .exit)) (now (pending .exit))) ⌝ }
 {
     collected_outcome(collector::collect(table, option, scratch, found, pending))
 }
 
-// The line writer: the line of these parts at the front of `out`.
+// The line writer: the line of these parts at the front of `out`. The criteria are those that CHILDINFO names: 1 SUBSCRIBED, 2
+// SPECIAL-USE; other bits do not count.
 #[no_mangle]
 pub extern "C" fn luspemaro_write_line(
     attributes: u16,
     name: &[u8],
-    child_info: bool,
+    criteria: u8,
     out: &mut [u8],
 ) -> Outcome
-    ensures result { λ r. ⌜ r ≡ writtenOutcome (writtenIs (written (members attributes) (now (name .entry)) «child_info» (now (out .entry)))) ⌝ }
-    ensures bytes { λ _. ⌜ now (out .exit) ≡ bufferAfter (now (out .entry)) (written (members attributes) (now (name .entry)) «child_info» (now (out .entry))) ⌝ }
+    ensures result { λ r. ⌜ r ≡ writtenOutcome (writtenIs (written (members attributes) (now (name .entry)) (criteriaIs criteria) (now (out .entry)))) ⌝ }
+    ensures bytes { λ _. ⌜ now (out .exit) ≡ bufferAfter (now (out .entry)) (written (members attributes) (now (name .entry)) (criteriaIs criteria) (now (out .entry))) ⌝ }
 {
     let set = Attributes { bits: attributes };
-    written_outcome(list_line::write_line(set, name, child_info, out))
+    let named = Criteria { bits: criteria };
+    written_outcome(list_line::write_line(set, name, named, out))
 }
 
 // The line reader.

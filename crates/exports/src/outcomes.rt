@@ -17,12 +17,12 @@ pub struct Outcome {
     pub count: usize,
 }
 
-// What a line says: 0, its attributes (member k is 2 to the k), CHILDINFO, and its name, zero behind it; or the number of the
-// refusal, with no attributes and an empty name.
+// What a line says: 0, its attributes (member k is 2 to the k), the criteria that CHILDINFO names (1 SUBSCRIBED, 2 SPECIAL-USE; 0
+// without CHILDINFO), and its name, zero behind it; or the number of the refusal, with no attributes and an empty name.
 #[repr(C)]
 pub struct LineParts {
     pub number: u8,
-    pub child_info: bool,
+    pub criteria: u8,
     pub attributes: u16,
     pub length: usize,
     pub name: [u8; 200],
@@ -68,16 +68,16 @@ pub(crate) fn line_parts(read: Read) -> LineParts
     let line = read.line;
     let name = read.name;
     match line {
-        Line::Parts(attributes, length, child_info) => LineParts {
+        Line::Parts(attributes, length, criteria) => LineParts {
             number: 0,
-            child_info,
+            criteria: criteria.bits,
             attributes: attributes.bits,
             length,
             name,
         },
         Line::Refused(number) => LineParts {
             number,
-            child_info: false,
+            criteria: 0,
             attributes: 0,
             length: 0,
             name,

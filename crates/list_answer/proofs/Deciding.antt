@@ -17,7 +17,7 @@ use Rattle.listing_rules.specs.Orders.{byteOrder, ascends}
 use Rattle.listing_rules.specs.Names.{below}
 use Rattle.listing_rules.specs.Flags.{exists, subscribed, remote, noSelect, noInferiors, marked, unmarked}
 use Rattle.listing_rules.specs.Table.{Row, names, flagsOf}
-use Rattle.listing_rules.specs.Options.{Options}
+use Rattle.listing_rules.specs.Options.{Options, noCriteria, criteria}
 use Rattle.listing_rules.specs.Match.{matchesAny}
 use Rattle.listing_rules.specs.Listing.{meetsCriteria, candidateMeets, meetsBelow, meetsUnmatchedBelow, unselective, endsInPercent, levelAbove, listed, childInfo, hasChildren, attributes}
 use Rattle.listing_rules.proofs.Bools.{and-assoc}
@@ -192,9 +192,9 @@ module _ (area words : List ℕ) (x : Indexed area words) (i len : ℕ) (a : At 
         go false e = refl
 
     -- CHILDINFO
-    pub child-info-here : childInfo table o begun ≡ (o .selRecursive && scanned meeting)
+    pub child-info-here : childInfo table o begun ≡ cond (o .selRecursive && scanned meeting) (criteria o) noCriteria
     unfolding childInfo
-    child-info-here = ap (λ (b : Bool). o .selRecursive && b) (meetsBelow-rows table (x .ascend) o begun ∙ scan-here (meetsMark o) meeting em)
+    child-info-here = ap (λ (b : Bool). cond (o .selRecursive && b) (criteria o) noCriteria) (meetsBelow-rows table (x .ascend) o begun ∙ scan-here (meetsMark o) meeting em)
 
     -- children
     pub children-here : hasChildren table o begun ≡ scanned children

@@ -50,7 +50,7 @@ fn put_name(
     requires { ⌜ At (now words) i len ⌝ }
     ensures { λ r. ⌜ Put (now (buf .entry)) (now (buf .exit)) at (shownText (rowsAt (now (area .entry)) (now (words .entry))) (optionsIs options) (unpacked (now (patterns .entry))) (take len (nameAt (now (area .entry)) (getD (now (words .entry)) i 0)))) r ⌝ }
 {
-    let Shown::Line(attributes, child_info) = decide(
+    let Shown::Line(attributes, criteria) = decide(
         area,
         words,
         meeting,
@@ -65,7 +65,7 @@ fn put_name(
         return at;
     };
     let name = name_of(area, Row::of_word(words[i]));
-    put_line(buf, at, attributes, &name[..len], child_info)
+    put_line(buf, at, attributes, &name[..len], criteria)
 }
 
 // How many bytes the beginning has behind which the first name of a row is looked for. A name that is no row's is listed under

@@ -1,6 +1,7 @@
 // What the answer shows of one name: the beginning, `len` bytes long, of the name of row i.
 use command_line::Options;
 use list_line::Attributes;
+use list_line::Criteria;
 use mailbox_table::flags::Flags;
 use mailbox_table::rows::Row;
 use mailbox_table::rows::name_of;
@@ -11,6 +12,8 @@ ghost use mathlib.Core.Bool.{cond, _&&_};
 ghost use Prim.Native.Nat.{_≤_, _<_};
 ghost use lib.ListN.{length, take, drop, getD};
 ghost use Rattle.listing_rules.specs.Table.{names};
+ghost use Rattle.listing_rules.specs.Options.{criteria, noCriteria};
+ghost use Rattle.list_line.specs.CriteriaSets.{criteriaSet};
 ghost use Rattle.list_line.specs.Members.{setOf};
 ghost use Rattle.command_line.specs.OptionSets.{optionsIs};
 ghost use Rattle.mailbox_table.specs.Index.{nameAt, rowsAt};
@@ -18,9 +21,9 @@ ghost use Rattle.mailbox_table.specs.Below.{markedBelow, Begins};
 ghost use Rattle.pattern.specs.Packed.{unpacked};
 ghost use Rattle.list_answer.specs.Shown.{attributesOf, shownIs, Ready, At};
 
-// A line with these attributes, with CHILDINFO or without; or nothing.
+// A line with these attributes and the criteria that its CHILDINFO names; or nothing.
 pub(crate) enum Shown {
-    Line(Attributes, bool),
+    Line(Attributes, Criteria),
     Nothing,
 }
 
@@ -59,6 +62,19 @@ fn flags_of(whole: bool, flags: Flags) -> Flags
         return flags;
     }
     Flags { bits: 0 }
+}
+
+// The criteria that CHILDINFO names: those selected, where it stands on the line, else none.
+fn child_info(info: bool, options: Options) -> Criteria
+    ensures { λ r. ⌜ r .bits ≡ criteriaSet (cond info (criteria (optionsIs options)) noCriteria) ⌝ }
+{
+    if info {
+        return Criteria::of(
+            options.has(Options::SUBSCRIBED),
+            options.has(Options::SPECIAL_USE),
+        );
+    }
+    Criteria::NONE
 }
 
 // Whether it is asked, and some marked row lies below the name.
@@ -113,5 +129,8 @@ pub(crate) fn decide(
     let info = asked_below(recursive, area, words, meeting, i, len);
     let asked = options.has(Options::RETURN_CHILDREN);
     let parent = asked_below(asked, area, words, children, i, len);
-    Shown::Line(attributes(flags, options, parent, level), info)
+    Shown::Line(
+        attributes(flags, options, parent, level),
+        child_info(info, options),
+    )
 }

@@ -1,5 +1,6 @@
--- Laws of the attribute set, of the names' places and of the reader's steps.
+-- Laws of the attribute set, of the set of criteria, of the names' places and of the reader's steps.
 pub mod Members
+pub mod CriteriaSets
 pub mod Names
 pub mod Writing
 pub mod Skipping

@@ -1,6 +1,6 @@
 -- The number of a set and its sixteen members decide each other.
 use mathlib.Core.Path.{_≡_, refl, sym, ap, _∙_}
-use mathlib.Core.Bool.{Bool, true, false, cond, _&&_, not}
+use mathlib.Core.Bool.{Bool, true, false, cond, _&&_}
 use mathlib.Core.List.{List, [], _∷_, _++_}
 use Prim.Native.Nat.{ℕ, zero, suc, _+_, _*_, _/_, _%_, _^_, _≤_, _<_}
 use native.Mathlib.Nat.{add-zero, zero-add, add-suc, suc-add, pow-suc, pow-succ', div-one, zero-div, div-div-eq-div-mul}
@@ -12,6 +12,7 @@ use lib.Seq.{ext-getD, drop-cons}
 use lib.Pow.{pow-mono}
 use borrow.Author.Tests.{eq-eqb, ne-eqb, eqb-true}
 use Rattle.listing_rules.specs.Bytes.{bit, isEmpty}
+use Rattle.listing_rules.specs.Options.{Criteria, isNone}
 use Rattle.listing_rules.specs.Reader.{sameBools, rootAttributes, rootParts}
 use Rattle.octets.specs.Sets.{contains}
 use Rattle.octets.proofs.Sets.{contains-bit}
@@ -173,10 +174,6 @@ is-empty [] = refl
 is-empty (x ∷ xs) = sym (ne-eqb (suc (length xs)) 0 (λ e. omega arith))
 
 -- the parts of the root line, as the code tests them
-pub root-parts : (a : ℕ) (n : List ℕ) (c : Bool) → a < 65536 → (eqb a 4 && eqb (length n) 0 && not c) ≡ rootParts (members a) n c
+pub root-parts : (a : ℕ) (n : List ℕ) (c : Criteria) → a < 65536 → (eqb a 4 && eqb (length n) 0 && isNone c) ≡ rootParts (members a) n c
 unfolding rootParts
-root-parts a n c h = rw (root-members a h, is-empty n) (go c)
-  where
-    go : (d : Bool) → (eqb a 4 && eqb (length n) 0 && not d) ≡ (eqb a 4 && eqb (length n) 0 && cond d false true)
-    go true = refl
-    go false = refl
+root-parts a n c h = rw (root-members a h, is-empty n)

@@ -9,6 +9,7 @@ use lib.ListN.{length, drop}
 use lib.Seq.{drop-cons}
 use borrow.Author.Tests.{eq-eqb, ne-eqb, le-leb, lt-leb}
 use Rattle.listing_rules.specs.Bytes.{openBytes}
+use Rattle.listing_rules.specs.Options.{Criteria}
 use Rattle.listing_rules.specs.Lines.{attributeNames, chosen, spaced, spacedTail, listLine, rootLine}
 use Rattle.listing_rules.specs.Names.{lawfulName}
 use Rattle.listing_rules.specs.Reader.{separated, rootParts, lineFrom, written}
@@ -112,7 +113,7 @@ unfolding openBytes rootLine
 root-length = refl
 
 -- what the line writer does with its parts
-module _ (bs : List Bool) (n : List ℕ) (c : Bool) (d : List ℕ) where
+module _ (bs : List Bool) (n : List ℕ) (c : Criteria) (d : List ℕ) where
   pub written-named : lawfulName n ≡ true → written bs n c d ≡ limited (length d) (answered (listLine bs n c))
   unfolding written lineFrom
   written-named h = rw h

@@ -1,5 +1,6 @@
--- What the attribute set, the line writer and the line reader mean, in terms of document 01's definitions.
+-- What the attribute set, the set of criteria, the line writer and the line reader mean, in terms of document 01's definitions.
 pub mod Members
+pub mod CriteriaSets
 pub mod Names
 pub mod Lines
 pub mod Parts

@@ -1,16 +1,18 @@
 -- What the reader's steps find at a place of the line: the definitions' readers, which take what is left of the line, in terms of
 -- the place that it begins at.
 use mathlib.Core.Path.{_≡_}
-use mathlib.Core.Bool.{Bool, true, false}
+use mathlib.Core.Bool.{true, false}
 use mathlib.Core.List.{List, []}
 use mathlib.Core.Option.{Option, none, some}
 use Prim.Native.Nat.{ℕ, _≤_, _<_}
 use lib.ListN.{length, drop}
 use lib.Seq.{sets}
 use Rattle.listing_rules.specs.Tokens.{Got, got, after, withFirst, unquoted, _>>=_}
+use Rattle.listing_rules.specs.Options.{Criteria}
 use Rattle.listing_rules.specs.Lines.{attributeNames}
 use Rattle.listing_rules.specs.Reader.{readChosen}
 use Rattle.list_line.specs.Members.{setOf}
+use Rattle.list_line.specs.CriteriaSets.{criteriaSet}
 use Rattle.list_line.specs.declared.read.Place.{Place}
 use Rattle.list_line.specs.declared.read.Place.the-variants.{At, Missing}
 use Rattle.list_line.specs.declared.read.Chosen.{Chosen}
@@ -45,6 +47,6 @@ Names l from d e (Of n j) = (s : List ℕ) × (unquoted false (drop from l) ≡ 
 Names l from d e NoName = (g : Got (List ℕ)) → unquoted false (drop from l) ≡ some g → length d < length (g .val)
 
 -- what stands behind the name
-unfoldable pub tailIs : Option Bool → Tail
+unfoldable pub tailIs : Option Criteria → Tail
 tailIs none = NoTail
-tailIs (some c) = ChildInfo c
+tailIs (some c) = ChildInfo (record { bits = criteriaSet c })

@@ -1,13 +1,15 @@
-// LIST lines: the set of the sixteen attributes, the text of a line, the line writer and the line reader.
+// LIST lines: the set of the sixteen attributes, the set of criteria that CHILDINFO names, the text of a line, the line writer and the line reader.
 //
 // The texts of a line stand once, in `texts`, for the reader and the writers. The server's answers and the line writer write a
 // line by the same function.
 pub mod attributes;
+pub mod criteria;
 pub mod read;
 mod texts;
 pub mod write;
 
 pub use attributes::Attributes;
+pub use criteria::Criteria;
 pub use read::Line;
 pub use read::Read;
 pub use read::read_line;

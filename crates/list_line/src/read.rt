@@ -3,6 +3,7 @@
 // Each part has a function of its own, which answers the place behind what it read; where a part is missing, the line is
 // refused at once.
 use super::attributes::Attributes;
+use super::criteria::Criteria;
 use super::texts;
 use mailbox_table::names::lawful_name;
 use octets::BACKSLASH;
@@ -20,9 +21,9 @@ ghost use Rattle.list_line.specs.Parts.{Skips, Chooses, Next, Names, tai
 // The refusal: not such a line.
 const NOT_A_LINE: u8 = 12;
 
-// What a line says: its attributes, the length of its name and whether it has CHILDINFO; or the number of the refusal.
+// What a line says: its attributes, the length of its name and the criteria that its CHILDINFO names; or the number of the refusal.
 pub enum Line {
-    Parts(Attributes, usize, bool),
+    Parts(Attributes, usize, Criteria),
     Refused(u8),
 }
 
@@ -57,9 +58,9 @@ enum Name {
     Missing,
 }
 
-// What stands behind the name: whether it is CHILDINFO.
+// What stands behind the name: the criteria that CHILDINFO names, none where it is not there.
 enum Tail {
-    ChildInfo(bool),
+    ChildInfo(Criteria),
     Missing,
 }
 
@@ -70,7 +71,7 @@ pub fn read_line(line: &[u8]) -> Read
 {
     if same_bytes(line, &texts::ROOT_LINE) {
         return Read {
-            line: Line::Parts(Attributes::NOSELECT, 0, false),
+            line: Line::Parts(Attributes::NOSELECT, 0, Criteria::NONE),
             name: no_name(),
         };
     }
@@ -93,7 +94,7 @@ fn read_parts(line: &[u8]) -> Read
     let Name::Of(len, end) = read_name(line, b, &mut name) else {
         return refused();
     };
-    let Tail::ChildInfo(child_info) = read_tail(&line[end..]) else {
+    let Tail::ChildInfo(criteria) = read_tail(&line[end..]) else {
         return refused();
     };
     if !lawful_name(&name[..len]) {
@@ -101,7 +102,7 @@ fn read_parts(line: &[u8]) -> Read
     }
     let attributes = Attributes { bits: chosen.bits };
     Read {
-        line: Line::Parts(attributes, len, child_info),
+        line: Line::Parts(attributes, len, criteria),
         name,
     }
 }
@@ -225,15 +226,21 @@ fn read_name(line: &[u8], from: usize, name: &mut [u8]) -> Name
     }
 }
 
-// CR LF, with or without CHILDINFO before it.
+// CR LF, with or without CHILDINFO before it, which names one criterion, the other, or both in that order.
 fn read_tail(rest: &[u8]) -> Tail
     ensures { λ r. ⌜ r ≡ tailIs (childInfoRead (now (rest .entry))) ⌝ }
 {
-    if same_bytes(rest, &texts::LINE_END) {
-        return Tail::ChildInfo(false);
+    if same_bytes(rest, &texts::PLAIN_END) {
+        return Tail::ChildInfo(Criteria::NONE);
     }
-    if same_bytes(rest, &texts::CHILD_INFO_END) {
-        return Tail::ChildInfo(true);
+    if same_bytes(rest, &texts::SUBSCRIBED_END) {
+        return Tail::ChildInfo(Criteria::SUBSCRIBED);
+    }
+    if same_bytes(rest, &texts::SPECIAL_USE_END) {
+        return Tail::ChildInfo(Criteria::SPECIAL_USE);
+    }
+    if same_bytes(rest, &texts::BOTH_END) {
+        return Tail::ChildInfo(Criteria::SUBSCRIBED.union(Criteria::SPECIAL_USE));
     }
     Tail::Missing
 }

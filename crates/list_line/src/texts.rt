@@ -11,9 +11,14 @@ pub(crate) const DELIMITER: [u8; 6] = *b") \"/\" ";
 
 pub(crate) const NAME_START: [u8; 7] = *b") \"/\" \"";
 
-pub(crate) const LINE_END: [u8; 2] = *b"\r\n";
+// What stands behind the name, for each set of criteria.
+pub(crate) const PLAIN_END: [u8; 2] = *b"\r\n";
 
-pub(crate) const CHILD_INFO_END: [u8; 31] = *b" (\"CHILDINFO\" (\"SUBSCRIBED\"))\r\n";
+pub(crate) const SUBSCRIBED_END: [u8; 31] = *b" (\"CHILDINFO\" (\"SUBSCRIBED\"))\r\n";
+
+pub(crate) const SPECIAL_USE_END: [u8; 32] = *b" (\"CHILDINFO\" (\"SPECIAL-USE\"))\r\n";
+
+pub(crate) const BOTH_END: [u8; 45] = *b" (\"CHILDINFO\" (\"SUBSCRIBED\" \"SPECIAL-USE\"))\r\n";
 
 pub(crate) const ROOT_LINE: [u8; 27] = *b"* LIST (\\Noselect) \"/\" \"\"\r\n";
 

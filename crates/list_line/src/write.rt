@@ -1,5 +1,6 @@
 // The lines of the server's answers, and the line writer.
 use super::attributes::Attributes;
+use super::criteria::Criteria;
 use super::texts;
 use mailbox_table::names::lawful_name;
 use octets::Written;
@@ -14,6 +15,7 @@ ghost use Rattle.listing_rules.specs.Reader.{rootParts, written};
 ghost use Rattle.listing_rules.specs.Server.{answered, limited, bufferAfter};
 ghost use Rattle.octets.specs.Put.{Put};
 ghost use Rattle.octets.specs.Written.{writtenIs};
+ghost use Rattle.list_line.specs.CriteriaSets.{criteriaIs};
 ghost use Rattle.list_line.specs.Members.{members};
 ghost use Rattle.list_line.specs.Names.{allNames, namePlaces};
 
@@ -28,15 +30,15 @@ pub fn put_line(
     at: usize,
     attributes: Attributes,
     name: &[u8],
-    child_info: bool,
+    criteria: Criteria,
 ) -> usize
-    ensures { λ r. ⌜ Put (now (buf .entry)) (now (buf .exit)) at (listLine (members (attributes .bits)) (now (name .entry)) «child_info») r ⌝ }
+    ensures { λ r. ⌜ Put (now (buf .entry)) (now (buf .exit)) at (listLine (members (attributes .bits)) (now (name .entry)) (criteriaIs (criteria .bits))) r ⌝ }
 {
     let a = put_all(buf, at, &texts::LINE_START);
     let b = put_attributes(buf, a, attributes.bits);
     let c = put_all(buf, b, &texts::DELIMITER);
     let d = put_quoted(buf, c, name);
-    put_line_end(buf, d, child_info)
+    put_line_end(buf, d, criteria)
 }
 
 // The root line, which a command with an empty pattern asks for.
@@ -56,14 +58,19 @@ pub fn put_ok_line(buf: &mut [u8], at: usize, tag: &[u8]) -> usize
 
 // The line writer: the line of these parts at the front of the buffer. Parts of no line are refused first, then a short buffer.
 // A refusal changes no byte, and the bytes behind the line stay.
-pub fn write_line(attributes: Attributes, name: &[u8], child_info: bool, buf: &mut [u8]) -> Written
-    ensures result { λ r. ⌜ r ≡ writtenIs (written (members (attributes .bits)) (now (name .entry)) «child_info» (now (buf .entry))) ⌝ }
-    ensures bytes { λ _. ⌜ now (buf .exit) ≡ bufferAfter (now (buf .entry)) (written (members (attributes .bits)) (now (name .entry)) «child_info» (now (buf .entry))) ⌝ }
+pub fn write_line(
+    attributes: Attributes,
+    name: &[u8],
+    criteria: Criteria,
+    buf: &mut [u8],
+) -> Written
+    ensures result { λ r. ⌜ r ≡ writtenIs (written (members (attributes .bits)) (now (name .entry)) (criteriaIs (criteria .bits)) (now (buf .entry))) ⌝ }
+    ensures bytes { λ _. ⌜ now (buf .exit) ≡ bufferAfter (now (buf .entry)) (written (members (attributes .bits)) (now (name .entry)) (criteriaIs (criteria .bits)) (now (buf .entry))) ⌝ }
 {
     if lawful_name(name) {
-        return write_named(attributes, name, child_info, buf);
+        return write_named(attributes, name, criteria, buf);
     }
-    if !root_parts(attributes, name, child_info) {
+    if !root_parts(attributes, name, criteria) {
         return Written::Refused(NOT_SUCH_PARTS);
     }
     write_root(buf)
@@ -101,33 +108,41 @@ fn put_chosen(buf: &mut [u8], at: usize, bits: u16, names: &[u8], places: &[u8])
 }
 
 // What stands behind the name.
-fn put_line_end(buf: &mut [u8], at: usize, child_info: bool) -> usize
-    ensures { λ r. ⌜ Put (now (buf .entry)) (now (buf .exit)) at (childInfoText «child_info» ++ crlf) r ⌝ }
+fn put_line_end(buf: &mut [u8], at: usize, criteria: Criteria) -> usize
+    ensures { λ r. ⌜ Put (now (buf .entry)) (now (buf .exit)) at (childInfoText (criteriaIs (criteria .bits)) ++ crlf) r ⌝ }
 {
-    if child_info {
-        return put_all(buf, at, &texts::CHILD_INFO_END);
+    let subscribed = criteria.has(Criteria::SUBSCRIBED);
+    let special = criteria.has(Criteria::SPECIAL_USE);
+    if subscribed {
+        if special {
+            return put_all(buf, at, &texts::BOTH_END);
+        }
+        return put_all(buf, at, &texts::SUBSCRIBED_END);
     }
-    put_all(buf, at, &texts::LINE_END)
+    if special {
+        return put_all(buf, at, &texts::SPECIAL_USE_END);
+    }
+    put_all(buf, at, &texts::PLAIN_END)
 }
 
 // Whether the parts are those of the root line.
-fn root_parts(attributes: Attributes, name: &[u8], child_info: bool) -> bool
-    ensures { λ r. ⌜ r ≡ rootParts (members (attributes .bits)) (now (name .entry)) «child_info» ⌝ }
+fn root_parts(attributes: Attributes, name: &[u8], criteria: Criteria) -> bool
+    ensures { λ r. ⌜ r ≡ rootParts (members (attributes .bits)) (now (name .entry)) (criteriaIs (criteria .bits)) ⌝ }
 {
-    (attributes.bits == Attributes::NOSELECT.bits) & (name.len() == 0) & !child_info
+    (attributes.bits == Attributes::NOSELECT.bits) & (name.len() == 0) & criteria.is_none()
 }
 
 // A line of a lawful name at the front, if there is room.
-fn write_named(attributes: Attributes, name: &[u8], child_info: bool, buf: &mut [u8]) -> Written
-    ensures result { λ r. ⌜ r ≡ writtenIs (limited (length (now (buf .entry))) (answered (listLine (members (attributes .bits)) (now (name .entry)) «child_info»))) ⌝ }
-    ensures bytes { λ _. ⌜ now (buf .exit) ≡ bufferAfter (now (buf .entry)) (limited (length (now (buf .entry))) (answered (listLine (members (attributes .bits)) (now (name .entry)) «child_info»))) ⌝ }
+fn write_named(attributes: Attributes, name: &[u8], criteria: Criteria, buf: &mut [u8]) -> Written
+    ensures result { λ r. ⌜ r ≡ writtenIs (limited (length (now (buf .entry))) (answered (listLine (members (attributes .bits)) (now (name .entry)) (criteriaIs (criteria .bits))))) ⌝ }
+    ensures bytes { λ _. ⌜ now (buf .exit) ≡ bufferAfter (now (buf .entry)) (limited (length (now (buf .entry))) (answered (listLine (members (attributes .bits)) (now (name .entry)) (criteriaIs (criteria .bits))))) ⌝ }
 {
     let mut none = [0u8; 0];
-    let need = put_line(&mut none, 0, attributes, name, child_info);
+    let need = put_line(&mut none, 0, attributes, name, criteria);
     if buf.len() < need {
         return Written::Refused(SHORT_BUFFER);
     }
-    Written::Done(put_line(buf, 0, attributes, name, child_info))
+    Written::Done(put_line(buf, 0, attributes, name, criteria))
 }
 
 // The root line at the front, if there is room.

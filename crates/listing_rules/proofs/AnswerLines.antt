@@ -9,6 +9,7 @@ use borrow.Author.Tests.{ne-eqb, not-true}
 use Rattle.listing_rules.specs.Bytes.{text, quote, all, openBytes}
 use Rattle.listing_rules.specs.Lists.{every, joined, openLists, onFirst}
 use Rattle.listing_rules.specs.Names.{nameByte}
+use Rattle.listing_rules.specs.Options.{Criteria, openOptions}
 use Rattle.listing_rules.specs.Lines.{attributeNames, chosen, spaced, spacedTail, escaped, quoted, childInfoText, listLine, okLine, openLines}
 use Rattle.listing_rules.specs.Walk.{linesOf}
 use Rattle.listing_rules.proofs.Bools.{and-l, and-r, and-i}
@@ -45,22 +46,24 @@ all-spaced [] h = refl
 all-spaced (n ∷ ns) h = all-append notLF n (spacedTail ns) (and-l (all notLF n) (every (all notLF) ns) h) (all-spacedTail ns (and-r (all notLF n) (every (all notLF) ns) h))
 
 -- a line before its LF
-pub lineBody : List Bool → List ℕ → Bool → List ℕ
+pub lineBody : List Bool → List ℕ → Criteria → List ℕ
 lineBody bs n c = text "* LIST (" ++ (spaced (chosen bs attributeNames) ++ (text ") \"/\" " ++ (quoted n ++ (childInfoText c ++ (13 ∷ [])))))
 
-pub line-body : (bs : List Bool) (n : List ℕ) (c : Bool) → listLine bs n c ≡ lineBody bs n c ++ (10 ∷ [])
+pub line-body : (bs : List Bool) (n : List ℕ) (c : Criteria) → listLine bs n c ≡ lineBody bs n c ++ (10 ∷ [])
 unfolding lineBody openLines openBytes
 line-body bs n c = simp append-assoc
 
-pub body-notLF : (bs : List Bool) (n : List ℕ) (c : Bool) → all notLF n ≡ true → all notLF (lineBody bs n c) ≡ true
-unfolding lineBody openLines openBytes openLists
+pub body-notLF : (bs : List Bool) (n : List ℕ) (c : Criteria) → all notLF n ≡ true → all notLF (lineBody bs n c) ≡ true
+unfolding lineBody openLines openBytes openLists openOptions
 body-notLF bs n c h =
     all-append notLF (spaced (chosen bs attributeNames)) _ (all-spaced (chosen bs attributeNames) (every-chosen (all notLF) bs attributeNames refl))
-    (all-append notLF (escaped n ++ (quote ∷ [])) (childInfoText c ++ (13 ∷ [])) (all-append notLF (escaped n) (quote ∷ []) (all-escaped notLF refl n h) refl) (child c))
+    (all-append notLF (escaped n ++ (quote ∷ [])) (childInfoText c ++ (13 ∷ [])) (all-append notLF (escaped n) (quote ∷ []) (all-escaped notLF refl n h) refl) (child (c .subscribed) (c .special)))
   where
-    child : (c : Bool) → all notLF (childInfoText c ++ (13 ∷ [])) ≡ true
-    child true = refl
-    child false = refl
+    child : (a b : Bool) → all notLF (childInfoText (record { subscribed = a; special = b }) ++ (13 ∷ [])) ≡ true
+    child true true = refl
+    child true false = refl
+    child false true = refl
+    child false false = refl
 
 -- any lines, each with one LF at its end
 pub lines-joined : {A : Type 0} (f g : A → List ℕ) → ((a : A) → f a ≡ g a ++ (10 ∷ [])) → (l : List A) (t : List ℕ) → every (λ a. all notLF (g a)) l ≡ true → linesOf (joined (map f l) ++ t) ≡ map f l ++ linesOf t

@@ -1,6 +1,6 @@
 -- One command of the collector: what its answer adds to found and pending, if there is room for it. Rests on Sent, AnswerLines, ReaderWriter and Outcome.
 use mathlib.Core.Path.{_≡_, refl, sym, ap, _∙_}
-use mathlib.Core.Bool.{Bool, true, false, cond}
+use mathlib.Core.Bool.{Bool, true, false, cond, not}
 use mathlib.Core.List.{List, [], _∷_, _++_, map, append-assoc, append-nil}
 use Prim.Native.Nat.{ℕ, _≤_}
 use native.Mathlib.Omega.{arith}
@@ -12,13 +12,13 @@ use Rattle.listing_rules.specs.Lists.{every, keep, joined, openLists}
 use Rattle.listing_rules.specs.Names.{lawfulName, nameByte}
 use Rattle.listing_rules.specs.Table.{rows, passes}
 use Rattle.listing_rules.specs.Namespaces.{openNamespaces}
-use Rattle.listing_rules.specs.Tokens.{openTokens}
-use Rattle.listing_rules.specs.Tokens.{lineByte}
+use Rattle.listing_rules.specs.Tokens.{lineByte, openTokens}
+use Rattle.listing_rules.specs.Options.{Criteria, isNone}
 use Rattle.listing_rules.specs.Listing.{candidates, attributes, childInfo, listed, listedNames}
 use Rattle.listing_rules.specs.Lines.{listLine, okLine, openLines}
 use Rattle.listing_rules.specs.Server.{answered, refusal, answer, answerTo, limited, lineOf, listAnswer}
 use Rattle.listing_rules.specs.Reader.{line, readLine, openReader}
-use Rattle.listing_rules.specs.Walk.{Lists, stop, _>>=_, commandLine, linesOf, packed, go, isFind, withName, fits, takenIn, takenAll, replied, asked}
+use Rattle.listing_rules.specs.Walk.{lawfulByte, Lists, stop, _>>=_, commandLine, linesOf, packed, go, isFind, withName, fits, takenIn, takenAll, replied, asked}
 use Rattle.listing_rules.specs.Demand3.{walkOptions}
 use Rattle.listing_rules.proofs.Bools.{and-l, and-r}
 use Rattle.listing_rules.proofs.ListLaws.{all-imp, every-mem, mem-every, keep-mem}
@@ -71,28 +71,31 @@ answer-cases scratch a = pick (leb (length a) scratch) refl
     pick false e = stopped 9 scratch-short refl (λ h. omega (arith, leb-false (length a) scratch e))
 
 -- the lines of an answer, taken in one after the other
-module _ (o room₁ room₂ : ℕ) (L : Name → List ℕ) (B : Name → List Bool) (C : Name → Bool) (reads : (n : Name) → lawfulName n ≡ true → readLine (L n) ≡ line (B n) n (C n)) where
+module _ (o room₁ room₂ : ℕ) (L : Name → List ℕ) (B : Name → List Bool) (C : Name → Criteria) (reads : (n : Name) → lawfulName n ≡ true → readLine (L n) ≡ line (B n) n (C n)) where
   abbrev found : List Name → List Name
   found ns = keep (λ n. isFind o (B n)) ns
 
-  pub taken-cases : (ns f a : List Name) → every lawfulName ns ≡ true → Sizes room₁ room₂ f a → Outcome (takenAll o room₁ room₂ (listsOf f a) (map L ns ++ (okLine (text "w") ∷ []))) (listsOf (f ++ found ns) (a ++ keep C ns)) (Sizes room₁ room₂ (f ++ found ns) (a ++ keep C ns))
+  abbrev named : Name → Bool
+  named n = not (isNone (C n))
+
+  pub taken-cases : (ns f a : List Name) → every lawfulName ns ≡ true → Sizes room₁ room₂ f a → Outcome (takenAll o room₁ room₂ (listsOf f a) (map L ns ++ (okLine (text "w") ∷ []))) (listsOf (f ++ found ns) (a ++ keep named ns)) (Sizes room₁ room₂ (f ++ found ns) (a ++ keep named ns))
   unfolding takenAll takenIn openBytes openLists openLines openTokens openReader
   taken-cases [] f a g h = rw (append-nil f, append-nil a) (went (unfold _>>=_ in refl) h)
   taken-cases (n ∷ ns) f a g h =
-      rw (reads n (and-l (lawfulName n) (every lawfulName ns) g), ← with-keep (λ n. isFind o (B n)) n f ns, ← with-keep C n a ns)
+      rw (reads n (and-l (lawfulName n) (every lawfulName ns) g), ← with-keep (λ n. isFind o (B n)) n f ns, ← with-keep named n a ns)
       (then-step _
       (then-step _ (fits-cases 10 room₁ f′ found-short) (λ h₁. then-step _ (fits-cases 11 room₂ a′ pending-short) (λ h₂. went refl (h₁, h₂)) (λ s. s .1)) (λ s. s .0))
       (λ s. taken-cases ns f′ a′ (and-r (lawfulName n) (every lawfulName ns) g) s)
-      (λ s. (packed-le f′ (found ns) room₁ (s .0), packed-le a′ (keep C ns) room₂ (s .1))))
+      (λ s. (packed-le f′ (found ns) room₁ (s .0), packed-le a′ (keep named ns) room₂ (s .1))))
     where
       f′ : List Name
       f′ = withName (isFind o (B n)) n f
 
       a′ : List Name
-      a′ = withName (C n) n a
+      a′ = withName (named n) n a
 
-  pub taken-all : (ns f a : List Name) → every lawfulName ns ≡ true → Sizes room₁ room₂ (f ++ found ns) (a ++ keep C ns) → takenAll o room₁ room₂ (listsOf f a) (map L ns ++ (okLine (text "w") ∷ [])) ≡ go (listsOf (f ++ found ns) (a ++ keep C ns))
-  taken-all ns f a g h = went-to (taken-cases ns f a g (packed-le f (found ns) room₁ (h .0), packed-le a (keep C ns) room₂ (h .1))) h
+  pub taken-all : (ns f a : List Name) → every lawfulName ns ≡ true → Sizes room₁ room₂ (f ++ found ns) (a ++ keep named ns) → takenAll o room₁ room₂ (listsOf f a) (map L ns ++ (okLine (text "w") ∷ [])) ≡ go (listsOf (f ++ found ns) (a ++ keep named ns))
+  taken-all ns f a g h = went-to (taken-cases ns f a g (packed-le f (found ns) room₁ (h .0), packed-le a (keep named ns) room₂ (h .1))) h
 
 -- the collector's line of a name
 module _ (t : List ℕ) (o : ℕ) (ref : List ℕ) where
@@ -102,7 +105,7 @@ module _ (t : List ℕ) (o : ℕ) (ref : List ℕ) where
   abbrev pub attrsOf : List ℕ → List Bool
   attrsOf n = attributes (rows t) (walkOptions o) pats n
 
-  abbrev pub childOf : List ℕ → Bool
+  abbrev pub childOf : List ℕ → Criteria
   childOf n = childInfo (rows t) (walkOptions o) n
 
   abbrev pub names-listed : List (List ℕ)
@@ -112,9 +115,9 @@ module _ (t : List ℕ) (o : ℕ) (ref : List ℕ) where
   unfolding attributes
   sixteen n = refl
 
-  pub answer-is : passes t ≡ true → all lineByte ref ≡ true → length ref ≤ 254 → answer t [] (commandLine o ref) ≡ answered (listAnswer (rows t) (text "w") (walkOptions o) pats)
+  pub answer-is : lawfulByte o ≡ true → passes t ≡ true → all lineByte ref ≡ true → length ref ≤ 254 → answer t [] (commandLine o ref) ≡ answered (listAnswer (rows t) (text "w") (walkOptions o) pats)
   unfolding answer answerTo openNamespaces openLists
-  answer-is h b l = rw (h, sent o ref b l)
+  answer-is y h b l = rw (h, sent o ref y b l)
 
   pub good-listed : passes t ≡ true → every lawfulName names-listed ≡ true
   unfolding listedNames
@@ -137,15 +140,15 @@ module _ (t : List ℕ) (o : ℕ) (ref : List ℕ) where
   finds = keep (λ n. isFind o (attrsOf n)) names-listed
 
   abbrev pub asks : List Name
-  asks = keep childOf names-listed
+  asks = keep (λ n. not (isNone (childOf n))) names-listed
 
-  pub asked-cases : (scratch room₁ room₂ : ℕ) → passes t ≡ true → all lineByte ref ≡ true → length ref ≤ 254 → (f a : List Name) → Sizes room₁ room₂ f a → Outcome (asked t o scratch room₁ room₂ (listsOf f a) ref) (listsOf (f ++ finds) (a ++ asks)) (Answer-fits scratch × Sizes room₁ room₂ (f ++ finds) (a ++ asks))
+  pub asked-cases : (scratch room₁ room₂ : ℕ) → lawfulByte o ≡ true → passes t ≡ true → all lineByte ref ≡ true → length ref ≤ 254 → (f a : List Name) → Sizes room₁ room₂ f a → Outcome (asked t o scratch room₁ room₂ (listsOf f a) ref) (listsOf (f ++ finds) (a ++ asks)) (Answer-fits scratch × Sizes room₁ room₂ (f ++ finds) (a ++ asks))
   unfolding asked
-  asked-cases scratch room₁ room₂ ok b l f a h = rw (answer-is ok b l) (then-step _ (answer-cases scratch (listAnswer (rows t) (text "w") (walkOptions o) pats)) (λ k. with-fact (λ s. (k, s)) (λ w. w .1) (rw (lines-are ok) taken)) (λ w. w .0))
+  asked-cases scratch room₁ room₂ y ok b l f a h = rw (answer-is y ok b l) (then-step _ (answer-cases scratch (listAnswer (rows t) (text "w") (walkOptions o) pats)) (λ k. with-fact (λ s. (k, s)) (λ w. w .1) (rw (lines-are ok) taken)) (λ w. w .0))
     where
       taken : Outcome (takenAll o room₁ room₂ (listsOf f a) (map (λ n. listLine (attrsOf n) n (childOf n)) names-listed ++ (okLine (text "w") ∷ []))) (listsOf (f ++ finds) (a ++ asks)) (Sizes room₁ room₂ (f ++ finds) (a ++ asks))
       taken = taken-cases o room₁ room₂ (λ n. listLine (attrsOf n) n (childOf n)) attrsOf childOf (λ n g. readLine-written (attrsOf n) n (childOf n) (sixteen n) g) names-listed f a (good-listed ok) h
 
-  pub asked-is : (scratch room₁ room₂ : ℕ) → passes t ≡ true → all lineByte ref ≡ true → length ref ≤ 254 → (f a : List Name) → Answer-fits scratch → Sizes room₁ room₂ (f ++ finds) (a ++ asks) → asked t o scratch room₁ room₂ (listsOf f a) ref ≡ go (listsOf (f ++ finds) (a ++ asks))
-  asked-is scratch room₁ room₂ ok b l f a k h =
-      went-to (asked-cases scratch room₁ room₂ ok b l f a (packed-le f finds room₁ (h .0), packed-le a asks room₂ (h .1))) (k, h)
+  pub asked-is : (scratch room₁ room₂ : ℕ) → lawfulByte o ≡ true → passes t ≡ true → all lineByte ref ≡ true → length ref ≤ 254 → (f a : List Name) → Answer-fits scratch → Sizes room₁ room₂ (f ++ finds) (a ++ asks) → asked t o scratch room₁ room₂ (listsOf f a) ref ≡ go (listsOf (f ++ finds) (a ++ asks))
+  asked-is scratch room₁ room₂ y ok b l f a k h =
+      went-to (asked-cases scratch room₁ room₂ y ok b l f a (packed-le f finds room₁ (h .0), packed-le a asks room₂ (h .1))) (k, h)

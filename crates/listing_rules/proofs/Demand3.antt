@@ -3,7 +3,7 @@ use mathlib.Core.Path.{_≡_, refl}
 use mathlib.Core.Logic.{_⊎_, inl, inr, ⊎-elim}
 use mathlib.Core.Bool.{Bool, true, false, _||_}
 use mathlib.Core.List.{List, [], _∷_, _++_}
-use Prim.Native.Nat.{ℕ, _≤_}
+use Prim.Native.Nat.{ℕ}
 use native.Mathlib.Omega.{arith}
 use lib.Dec.{ltb}
 use lib.ListN.{length}
@@ -11,12 +11,13 @@ use borrow.Author.Tests.{ltb-true, ltb-false}
 use Rattle.listing_rules.specs.Bytes.{slash, oneOf}
 use Rattle.listing_rules.specs.Lists.{anyOf}
 use Rattle.listing_rules.specs.Table.{rows, passes}
-use Rattle.listing_rules.specs.Walk.{walk, walkRefused, packed}
+use Rattle.listing_rules.specs.Walk.{lawfulByte, walk, walkRefused, packed}
 use Rattle.listing_rules.specs.Demand3.{Demand3, declaredWalk, meetingNames, meetingAncestors, walkAnswer, scratchTooSmall, foundTooSmall, pendingTooSmall, tooSmall}
 use Rattle.listing_rules.proofs.Bools.{or-cases, or-none-l, or-none-r}
 use Rattle.listing_rules.proofs.ListLaws.{some-mem, none-mem}
 use Rattle.listing_rules.proofs.Levels.{Name}
 use Rattle.listing_rules.proofs.Outcome.{Short, scratch-short, found-short, pending-short}
+use Rattle.listing_rules.proofs.WalkSets.{Walks}
 use Rattle.listing_rules.proofs.WalkWhole.{Room, demand-3-whole}
 
 short-number : (k : ℕ) → Short k → oneOf (9 ∷ 10 ∷ 11 ∷ []) k ≡ true
@@ -26,7 +27,7 @@ short-number k found-short = refl
 short-number k pending-short = refl
 
 -- `Room` says that no buffer is too small
-module _ (t : List ℕ) (o scratch found pending : ℕ) (ok : passes t ≡ true) where
+module _ (t : List ℕ) (o scratch found pending : ℕ) (wk : Walks t o) where
   abbrev answerSize : Name → ℕ
   answerSize reference = length (walkAnswer (rows t) o reference)
 
@@ -45,7 +46,7 @@ module _ (t : List ℕ) (o scratch found pending : ℕ) (ok : passes t ≡ true)
   abbrev foundShort : Bool
   foundShort = ltb found foundSize
 
-  room-fits : Room t o ok scratch found pending → tooSmall (rows t) o scratch found pending ≡ true → ⊥
+  room-fits : Room t o wk scratch found pending → tooSmall (rows t) o scratch found pending ≡ true → ⊥
   unfolding tooSmall scratchTooSmall foundTooSmall pendingTooSmall
   room-fits R e = ⊎-elim buffers (λ g. omega (arith, ltb-true pending pendingSize g, R .pending)) (or-cases ((firstShort || nextShort) || foundShort) (ltb pending pendingSize) e)
     where
@@ -60,7 +61,7 @@ module _ (t : List ℕ) (o scratch found pending : ℕ) (ok : passes t ≡ true)
       buffers : ((firstShort || nextShort) || foundShort) ≡ true → ⊥
       buffers f = ⊎-elim answers (λ g. omega (arith, ltb-true found foundSize g, R .found)) (or-cases (firstShort || nextShort) foundShort f)
 
-  fits-room : tooSmall (rows t) o scratch found pending ≡ false → Room t o ok scratch found pending
+  fits-room : tooSmall (rows t) o scratch found pending ≡ false → Room t o wk scratch found pending
   unfolding tooSmall scratchTooSmall foundTooSmall pendingTooSmall
   fits-room e =
       let e₁ = or-none-l ((firstShort || nextShort) || foundShort) (ltb pending pendingSize) e in
@@ -72,15 +73,15 @@ module _ (t : List ℕ) (o scratch found pending : ℕ) (ok : passes t ≡ true)
         pending = ltb-false pending pendingSize (or-none-r ((firstShort || nextShort) || foundShort) (ltb pending pendingSize) e);
       }
 
-pub demand-3-holds : (t : List ℕ) (o scratch found pending : ℕ) → passes t ≡ true → o ≤ 3 → Demand3 t o scratch found pending (walk t o scratch found pending)
+pub demand-3-holds : (t : List ℕ) (o scratch found pending : ℕ) → passes t ≡ true → lawfulByte o ≡ true → Demand3 t o scratch found pending (walk t o scratch found pending)
 unfolding Demand3 declaredWalk
-demand-3-holds t o scratch found pending ok h = pick (tooSmall (rows t) o scratch found pending) refl (demand-3-whole t o ok scratch found pending h)
+demand-3-holds t o scratch found pending ok lw = pick (tooSmall (rows t) o scratch found pending) refl (demand-3-whole t o (ok, lw) scratch found pending)
   where
     R : Type 0
-    R = Room t o ok scratch found pending
+    R = Room t o (ok, lw) scratch found pending
 
     pick : (b : Bool) → tooSmall (rows t) o scratch found pending ≡ b → (R × (walk t o scratch found pending ≡ declaredWalk t o)) ⊎ ((R → ⊥) × ((k : ℕ) × Short k × (walk t o scratch found pending ≡ walkRefused k))) → Demand3 t o scratch found pending (walk t o scratch found pending)
-    pick true e (inl w) = absurd (room-fits t o scratch found pending ok (w .0) e)
+    pick true e (inl w) = absurd (room-fits t o scratch found pending (ok, lw) (w .0) e)
     pick false e (inl w) = rw (w .1) (e, refl, refl, refl)
     pick true e (inr w) = rw (w .1 .2) (e, short-number (w .1 .0) (w .1 .1))
-    pick false e (inr w) = absurd (w .0 (fits-room t o scratch found pending ok e))
+    pick false e (inr w) = absurd (w .0 (fits-room t o scratch found pending (ok, lw) e))

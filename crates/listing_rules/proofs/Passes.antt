@@ -1,21 +1,23 @@
--- A table that passes check 1: its parts, one by one; its names and so its candidates are lawful. Rests on Ancestors and LawfulNames.
-use mathlib.Core.Path.{_≡_, ap, _∙_}
+-- A table that passes check 1: its parts, one by one; its names and so its candidates are lawful; what has a use exists. Rests on NameFlags and LawfulNames.
+use mathlib.Core.Path.{_≡_, refl, sym, ap, _∙_, subst}
 use mathlib.Core.Logic.{⊎-elim}
-use mathlib.Core.Bool.{true, _&&_}
+use mathlib.Core.Bool.{Bool, true, false, _&&_, _||_, not, false≢true}
 use mathlib.Core.List.{List, List·Memᴰ, List·Memᴰ·cases-cons}
 use Prim.Native.Nat.{ℕ, _≤_}
-use lib.Dec.{leb}
+use lib.Dec.{eqb, leb}
 use lib.ListN.{length}
-use borrow.Author.Tests.{le-leb, leb-true}
-use Rattle.listing_rules.specs.Lists.{every}
+use borrow.Author.Tests.{le-leb, leb-true, eqb-true}
+use Rattle.listing_rules.specs.Bytes.{bit, openBytes}
+use Rattle.listing_rules.specs.Lists.{every, openLists}
 use Rattle.listing_rules.specs.Orders.{ascends}
 use Rattle.listing_rules.specs.Names.{lawfulName}
-use Rattle.listing_rules.specs.Flags.{lawfulFlags}
-use Rattle.listing_rules.specs.Table.{Row, rows, passes, rowsFill, names, noneBelow}
-use Rattle.listing_rules.specs.Listing.{candidates}
-use Rattle.listing_rules.proofs.Bools.{and-l, and-r}
+use Rattle.listing_rules.specs.Flags.{exists, marked, unmarked, hasUse, lawfulFlags, openFlags}
+use Rattle.listing_rules.specs.Table.{Row, rows, passes, rowsFill, names, noneBelow, hasRow, flagsOf}
+use Rattle.listing_rules.specs.Listing.{candidates, implied}
+use Rattle.listing_rules.proofs.Bools.{and-l, and-r, or-cases}
 use Rattle.listing_rules.proofs.ListLaws.{every-mem}
 use Rattle.listing_rules.proofs.Ancestors.{candidate-cases, anc-below}
+use Rattle.listing_rules.proofs.NameFlags.{candidate-row, row-flags, implied-flags}
 use Rattle.listing_rules.proofs.LawfulNames.{good-below}
 
 -- the parts of check 1
@@ -64,3 +66,24 @@ candidate-good t h n m =
     let w = candidate-cases (rows t) n m in
     let g = every-mem (λ (r : Row). lawfulName (r .name)) (rows t) (passes-names t h) (w .0) (w .1) in
     ⊎-elim (λ e. ap lawfulName e ∙ g) (λ k. good-below n (w .0 .name) g (anc-below n (w .0 .name) k)) (List·Memᴰ·cases-cons (w .2))
+
+-- a name with a use exists: a row that does not exist has flags 0002, and an implied name none
+pub use-exists : (t : List ℕ) → passes t ≡ true → (n : List ℕ) → hasUse (flagsOf (rows t) n) ≡ true → exists (flagsOf (rows t) n) ≡ true
+use-exists t h n u = go (hasRow (rows t) n) refl
+  where
+    no-use : (f : ℕ) → f ≡ 2 → hasUse f ≡ true → exists f ≡ true
+    no-use f e u = absurd (false≢true (unfold openFlags openBytes openLists in subst (λ (x : ℕ). hasUse x ≡ true) e u))
+
+    lawful : (f : ℕ) → lawfulFlags f ≡ true → hasUse f ≡ true → exists f ≡ true
+    lawful f l u = ⊎-elim (λ e. e) (λ e. no-use f (eqb-true f 2 e) u) (or-cases (exists f) (eqb f 2) (there l))
+      where
+        there : lawfulFlags f ≡ true → (exists f || eqb f 2) ≡ true
+        there k = unfold lawfulFlags in and-r (not (bit 7 f) && not (bit 15 f)) (exists f || eqb f 2) (and-l ((not (bit 7 f) && not (bit 15 f)) && (exists f || eqb f 2)) (not (marked f && unmarked f)) k)
+
+    go : (b : Bool) → hasRow (rows t) n ≡ b → exists (flagsOf (rows t) n) ≡ true
+    go true e =
+        let w = candidate-row (rows t) n e in
+        let p = passes-parts t h in
+        let f : flagsOf (rows t) n ≡ w .0 .flags = ap (flagsOf (rows t)) (sym (w .2)) ∙ row-flags (rows t) (p .ascend) (w .0) (w .1) in
+        ap exists f ∙ lawful (w .0 .flags) (every-mem (λ (r : Row). lawfulFlags (r .flags)) (rows t) (p .lawful-flags) (w .0) (w .1)) (ap hasUse (sym f) ∙ u)
+    go false e = absurd (false≢true (unfold openFlags openBytes openLists in sym (ap hasUse (implied-flags (rows t) n (unfold implied in rw e))) ∙ u))

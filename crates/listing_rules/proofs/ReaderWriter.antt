@@ -11,8 +11,9 @@ use Rattle.listing_rules.specs.Bytes.{openBytes, text, quote, space, crl
 use Rattle.listing_rules.specs.Lists.{openLists, every}
 use Rattle.listing_rules.specs.Names.{openNames, lawfulName}
 use Rattle.listing_rules.specs.Tokens.{openTokens, Got, got, _>>=_, after, withFirst}
+use Rattle.listing_rules.specs.Options.{Criteria, openOptions}
 use Rattle.listing_rules.specs.Lines.{openLines, attributeNames, chosen, spacedTail, spaced, escaped, quoted, childInfoText, listLine, rootLine}
-use Rattle.listing_rules.specs.Reader.{openReader, Read, line, root, bad, separated, readChosen, childInfoRead, readParts, orBad, readLine}
+use Rattle.listing_rules.specs.Reader.{openReader, Read, line, root, bad, separated, readChosen, criteriaSets, readAmong, childInfoRead, readParts, orBad, readLine}
 use Rattle.listing_rules.proofs.Bools.{and-l, and-r}
 use Rattle.listing_rules.proofs.ListLaws.{same-true}
 use Rattle.listing_rules.proofs.TokenLaws.{none≢some, bind-some, after-append, after-some, clash, after-clash, unquoted-escaped, unquoted-some}
@@ -57,20 +58,22 @@ readChosen-written false (n ∷ ns) (true ∷ bs) t a e =
     rw (append-assoc n (spacedTail (chosen bs ns)) (41 ∷ t), after-append n (spacedTail (chosen bs ns) ++ (41 ∷ t)), readChosen)
     (ap (withFirst true) (readChosen-written false ns bs t (and-r (clash n (41 ∷ []) && clashes n ns) (apart ns) a) (omega arith)))
 
-pub readParts-written : (bs : List Bool) (n : List ℕ) (c : Bool) → length bs ≡ 16 → lawfulName n ≡ true → readParts (listLine bs n c) ≡ some (line bs n c)
-unfolding openBytes openLists openLines openTokens openReader
+pub readParts-written : (bs : List Bool) (n : List ℕ) (c : Criteria) → length bs ≡ 16 → lawfulName n ≡ true → readParts (listLine bs n c) ≡ some (line bs n c)
+unfolding openBytes openLists openLines openTokens openOptions openReader
 readParts-written bs n c h g =
     rw
     (readChosen-written true attributeNames bs (text " \"/\" " ++ (quoted n ++ (childInfoText c ++ crlf))) refl h, append-assoc (escaped n) (quote ∷ []) (childInfoText c ++ crlf), unquoted-escaped n (childInfoText c ++ crlf))
-    (tail c)
+    (tail (c .subscribed) (c .special))
   where
-    tail : (d : Bool) → (childInfoRead (childInfoText d ++ crlf) >>= λ e. cond (lawfulName n) (some (line bs n e)) none) ≡ some (line bs n d)
-    tail true = rw g
-    tail false = rw g
+    tail : (a b : Bool) → (childInfoRead (childInfoText (record { subscribed = a; special = b }) ++ crlf) >>= λ e. cond (lawfulName n) (some (line bs n e)) none) ≡ some (line bs n (record { subscribed = a; special = b }))
+    tail true true = rw g
+    tail true false = rw g
+    tail false true = rw g
+    tail false false = rw g
 
 -- the reader takes every line of the writer
-pub readLine-written : (bs : List Bool) (n : List ℕ) (c : Bool) → length bs ≡ 16 → lawfulName n ≡ true → readLine (listLine bs n c) ≡ line bs n c
-unfolding openBytes openNames openLines openTokens openReader
+pub readLine-written : (bs : List Bool) (n : List ℕ) (c : Criteria) → length bs ≡ 16 → lawfulName n ≡ true → readLine (listLine bs n c) ≡ line bs n c
+unfolding openBytes openNames openLines openTokens openOptions openReader
 readLine-written bs n c h g = go (same (listLine bs n c) rootLine) refl
   where
     go : (o : Bool) → same (listLine bs n c) rootLine ≡ o → cond o root (orBad (readParts (listLine bs n c))) ≡ line bs n c
@@ -101,26 +104,30 @@ readChosen-off first (n ∷ ns) t = go first (after (separated first n) t) refl 
     go false (some u) e ih jh =
         rw (e, readChosen) (after-some (space ∷ n) t u e ∙ ap (λ (x : List ℕ). space ∷ (n ++ x)) (jh u .0) ∙ ap (λ (x : List ℕ). space ∷ x) (sym (append-assoc n _ _)), ap suc (jh u .1))
 
-pub childInfoRead-some : (t : List ℕ) (c : Bool) → childInfoRead t ≡ some c → t ≡ childInfoText c ++ crlf
-unfolding childInfoRead childInfoText
-childInfoRead-some t c k = go (same t crlf) (same t (childInfoText true ++ crlf)) refl refl k
+readAmong-some : (cs : List Criteria) (t : List ℕ) (c : Criteria) → readAmong cs t ≡ some c → t ≡ childInfoText c ++ crlf
+unfolding readAmong
+readAmong-some [] t c k = absurd (none≢some k)
+readAmong-some (d ∷ cs) t c k = go (same t (childInfoText d ++ crlf)) refl k (readAmong-some cs t c)
   where
-    go : (o p : Bool) → same t crlf ≡ o → same t (childInfoText true ++ crlf) ≡ p → cond o (some false) (cond p (some true) none) ≡ some c → t ≡ childInfoText c ++ crlf
-    go true p e f k = let v : false ≡ c = cc in rw (← v) (same-true t crlf e)
-    go false true e f k = let v : true ≡ c = cc in rw (← v) (same-true t (childInfoText true ++ crlf) f)
-    go false false e f k = absurd (none≢some k)
+    go : (o : Bool) → same t (childInfoText d ++ crlf) ≡ o → cond o (some d) (readAmong cs t) ≡ some c → (readAmong cs t ≡ some c → t ≡ childInfoText c ++ crlf) → t ≡ childInfoText c ++ crlf
+    go true e k ih = let v : d ≡ c = cc in subst (λ (x : Criteria). t ≡ childInfoText x ++ crlf) v (same-true t (childInfoText d ++ crlf) e)
+    go false e k ih = ih k
+
+pub childInfoRead-some : (t : List ℕ) (c : Criteria) → childInfoRead t ≡ some c → t ≡ childInfoText c ++ crlf
+unfolding childInfoRead
+childInfoRead-some t c k = readAmong-some criteriaSets t c k
 
 -- the parts of a line that the reader takes
 pub record Taken (l : List ℕ) (r : Read) : Type 0 where
   pub attrs : List Bool
   pub name : List ℕ
-  pub child : Bool
+  pub child : Criteria
   pub is : r ≡ line attrs name child
   pub sixteen : length attrs ≡ 16
   pub good : lawfulName name ≡ true
   pub text-is : l ≡ listLine attrs name child
 
-finish : (l t u : List ℕ) (g : Got (List ℕ)) (c : Bool) (r : Read) → l ≡ text "* LIST (" ++ t → (readChosen true attributeNames t) .rest ≡ text ") \"/\" \"" ++ u → u ≡ escaped (g .val) ++ (quote ∷ g .rest) → g .rest ≡ childInfoText c ++ crlf → cond (lawfulName (g .val)) (some (line ((readChosen true attributeNames t) .val) (g .val) c)) none ≡ some r → Taken l r
+finish : (l t u : List ℕ) (g : Got (List ℕ)) (c : Criteria) (r : Read) → l ≡ text "* LIST (" ++ t → (readChosen true attributeNames t) .rest ≡ text ") \"/\" \"" ++ u → u ≡ escaped (g .val) ++ (quote ∷ g .rest) → g .rest ≡ childInfoText c ++ crlf → cond (lawfulName (g .val)) (some (line ((readChosen true attributeNames t) .val) (g .val) c)) none ≡ some r → Taken l r
 unfolding openBytes openLines
 finish l t u g c r p₁ p₂ p₃ p₄ k = go (lawfulName (g .val)) refl k
   where

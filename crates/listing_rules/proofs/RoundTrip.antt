@@ -1,13 +1,14 @@
 -- The line writer and the reader undo each other: what is written is read as its parts, and what is read is written again. Rests on ReaderWriter.
 use mathlib.Core.Path.{_≡_, refl, sym, ap, _∙_}
 use mathlib.Core.Logic.{_⊎_, inl, inr}
-use mathlib.Core.Bool.{Bool, true, false, cond, _&&_}
+use mathlib.Core.Bool.{Bool, true, false, cond, _&&_, _||_, not, false≢true}
 use mathlib.Core.List.{List, [], _∷_}
 use Prim.Native.Nat.{ℕ}
 use native.Mathlib.Omega.{arith}
 use lib.ListN.{length}
 use Rattle.listing_rules.specs.Bytes.{isEmpty, openBytes}
 use Rattle.listing_rules.specs.Names.{lawfulName, openNames}
+use Rattle.listing_rules.specs.Options.{Criteria, noCriteria, isNone, openOptions}
 use Rattle.listing_rules.specs.Lines.{listLine, rootLine}
 use Rattle.listing_rules.specs.Server.{answered, refusal}
 use Rattle.listing_rules.specs.Reader.{openReader, root, bad, readLine, rootAttributes, attributesRead, nameRead, childInfoOf, readNumber, sameBools, rootParts, lineFrom}
@@ -36,22 +37,27 @@ unfolding isEmpty
 empty-true [] e = refl
 empty-true (b ∷ n) e = cc
 
-unset-true : (c : Bool) → cond c false true ≡ true → c ≡ false
-unset-true true e = sym e
-unset-true false e = refl
+none-true : (c : Criteria) → isNone c ≡ true → c ≡ noCriteria
+unfolding isNone noCriteria
+none-true c e = go (c .subscribed) (c .special) e
+  where
+    go : (a b : Bool) → not (a || b) ≡ true → record { subscribed = a; special = b } ≡ noCriteria
+    go true b e = absurd (false≢true e)
+    go false true e = absurd (false≢true e)
+    go false false e = refl
 
 -- the parts of the root line
-root-parts : (bs : List Bool) (n : List ℕ) (c : Bool) → rootParts bs n c ≡ true → (bs ≡ rootAttributes) × (n ≡ []) × (c ≡ false)
+root-parts : (bs : List Bool) (n : List ℕ) (c : Criteria) → rootParts bs n c ≡ true → (bs ≡ rootAttributes) × (n ≡ []) × (c ≡ noCriteria)
 unfolding rootParts
 root-parts bs n c e =
-    let f = and-l (sameBools bs rootAttributes && isEmpty n) (cond c false true) e in (
+    let f = and-l (sameBools bs rootAttributes && isEmpty n) (isNone c) e in (
       sameBools-true bs rootAttributes (and-l (sameBools bs rootAttributes) (isEmpty n) f),
       empty-true n (and-r (sameBools bs rootAttributes) (isEmpty n) f),
-      unset-true c (and-r (sameBools bs rootAttributes && isEmpty n) (cond c false true) e),
+      none-true c (and-r (sameBools bs rootAttributes && isEmpty n) (isNone c) e),
     )
 
 -- what the writer writes is read as the parts that it was written from
-pub written-is-read : (bs : List Bool) (n : List ℕ) (c : Bool) (l : List ℕ) → length bs ≡ 16 → lineFrom bs n c ≡ answered l → (readNumber (readLine l) ≡ 0) × (attributesRead (readLine l) ≡ bs) × (nameRead (readLine l) ≡ n) × (childInfoOf (readLine l) ≡ c)
+pub written-is-read : (bs : List Bool) (n : List ℕ) (c : Criteria) (l : List ℕ) → length bs ≡ 16 → lineFrom bs n c ≡ answered l → (readNumber (readLine l) ≡ 0) × (attributesRead (readLine l) ≡ bs) × (nameRead (readLine l) ≡ n) × (childInfoOf (readLine l) ≡ c)
 unfolding lineFrom readNumber attributesRead nameRead childInfoOf
 written-is-read bs n c l h e = go (lawfulName n) refl (rootParts bs n c) refl e
   where
@@ -64,8 +70,8 @@ written-is-read bs n c l h e = go (lawfulName n) refl (rootParts bs n c) refl e
     go false g false f k = absurd (let z : _≡_ {A = ℕ} 0 1 = cc in omega arith)
 
 -- what the reader takes is written again from the parts that it was read as
-root-written : lineFrom rootAttributes [] false ≡ answered rootLine
-unfolding openBytes openNames openReader
+root-written : lineFrom rootAttributes [] noCriteria ≡ answered rootLine
+unfolding openBytes openNames openOptions openReader
 root-written = refl
 
 pub read-is-written : (l : List ℕ) → readNumber (readLine l) ≡ 0 → lineFrom (attributesRead (readLine l)) (nameRead (readLine l)) (childInfoOf (readLine l)) ≡ answered l

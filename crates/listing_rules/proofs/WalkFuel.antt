@@ -10,6 +10,7 @@ use Rattle.listing_rules.specs.Table.{rows, passes}
 use Rattle.listing_rules.specs.Listing.{candidates}
 use Rattle.listing_rules.specs.Walk.{Lists, Step, stop, go, _>>=_, Walked, asked, walkFrom, walkAll}
 use Rattle.listing_rules.proofs.Order.{View, view, less, equal, more}
+use Rattle.listing_rules.proofs.WalkSets.{Walks}
 use Rattle.listing_rules.proofs.WalkWhole.{walk-ends}
 
 -- a sequence of steps that changes only while it is out of steps
@@ -47,6 +48,6 @@ module _ (t : List ℕ) (o scratch found pending : ℕ) where
   unfolding walkAll
   all-more k n = bind-more (asked t o scratch found pending (record { finds = []; asks = [] }) []) _ _ (from-more k 0) n
 
-pub walk-fuel : (t : List ℕ) (o scratch found pending k : ℕ) → passes t ≡ true → suc (suc (length (candidates (rows t)))) ≤ k → walkAll t o scratch found pending k ≡ walkAll t o scratch found pending (suc (suc (length (candidates (rows t)))))
-walk-fuel t o scratch found pending k ok h =
-    steady (walkAll t o scratch found pending) (suc (suc (length (candidates (rows t))))) (all-more t o scratch found pending) (walk-ends t o ok scratch found pending) k h
+pub walk-fuel : (t : List ℕ) (o scratch found pending k : ℕ) → Walks t o → suc (suc (length (candidates (rows t)))) ≤ k → walkAll t o scratch found pending k ≡ walkAll t o scratch found pending (suc (suc (length (candidates (rows t)))))
+walk-fuel t o scratch found pending k wk h =
+    steady (walkAll t o scratch found pending) (suc (suc (length (candidates (rows t))))) (all-more t o scratch found pending) (walk-ends t o wk scratch found pending) k h

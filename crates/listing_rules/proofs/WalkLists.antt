@@ -24,6 +24,7 @@ use Rattle.listing_rules.proofs.Passes.{candidate-good}
 use Rattle.listing_rules.proofs.Bfs.{depth, depth-child, walk-deeper, Good, served, served-asc}
 use Rattle.listing_rules.proofs.Served.{left, queue-served, kids-served, served-only, runs-empty, finds-asc}
 use Rattle.listing_rules.proofs.Asked.{finds, asks}
+use Rattle.listing_rules.proofs.WalkSets.{Walks}
 use Rattle.listing_rules.proofs.WalkMembers.{M, Low, cands, find-to, find-from, ask-to, ask-from, hit-top, top-hit, hit-below, below-hit, top-deeper, below-deeper, finds-bytes, asks-bytes, tops-asc, kids-asc, Hit}
 
 -- what a command gives below a name; nothing below what is no name
@@ -40,7 +41,7 @@ under-mem g a z m = pick (all nameByte a) refl m
 mem-under : (g : Name → List Name) (a z : Name) → all nameByte a ≡ true → List·Memᴰ z (g (a ++ (slash ∷ []))) → List·Memᴰ z (under g a)
 mem-under g a z e k = rw e k
 
-module _ (t : List ℕ) (o : ℕ) where
+module _ (t : List ℕ) (o : ℕ) (wk : Walks t o) where
   -- it gives children, in walk order
   module _ (g : Name → List Name) (hits : (ref z : Name) → List·Memᴰ z (g ref) → Hit t o ref z) (bytes : (ref : Name) → Asc byteOrder (g ref)) where
     under-shape : (a e : Name) → List·Memᴰ e (under g a) → ChildOf a e
@@ -61,20 +62,20 @@ module _ (t : List ℕ) (o : ℕ) where
   finds′ a = under (finds t o) a
 
   pub kidsShape : (a e : Name) → List·Memᴰ e (kids a) → ChildOf a e
-  kidsShape = under-shape (asks t o) (λ ref z m. ask-to t o ref z m .1) (asks-bytes t o)
+  kidsShape = under-shape (asks t o) (λ ref z m. ask-to t o wk ref z m .1) (asks-bytes t o)
 
   findsShape : (a e : Name) → List·Memᴰ e (finds′ a) → ChildOf a e
-  findsShape = under-shape (finds t o) (λ ref z m. find-to t o ref z m .1) (finds-bytes t o)
+  findsShape = under-shape (finds t o) (λ ref z m. find-to t o wk ref z m .1) (finds-bytes t o)
 
   pub kidsAsc : (a : Name) → Asc walkOrder (kids a)
-  kidsAsc = under-asc (asks t o) (λ ref z m. ask-to t o ref z m .1) (asks-bytes t o)
+  kidsAsc = under-asc (asks t o) (λ ref z m. ask-to t o wk ref z m .1) (asks-bytes t o)
 
   findsAsc : (a : Name) → Asc walkOrder (finds′ a)
-  findsAsc = under-asc (finds t o) (λ ref z m. find-to t o ref z m .1) (finds-bytes t o)
+  findsAsc = under-asc (finds t o) (λ ref z m. find-to t o wk ref z m .1) (finds-bytes t o)
 
   -- the first command
   top-one : (z : Name) → List·Memᴰ z (asks t o []) → oneLevel z ≡ true
-  top-one z m = hit-top t o z (ask-to t o [] z m .1)
+  top-one z m = hit-top t o z (ask-to t o wk [] z m .1)
 
   depth-one : (z : Name) → oneLevel z ≡ true → depth z ≡ 1
   depth-one z h = ap length (levels-one z h)
@@ -97,17 +98,17 @@ module _ (t : List ℕ) (o : ℕ) where
   low-cand z l = candidates-closed (rows t) z (l .0) (l .1) (below-anc z (l .0) (l .2))
 
   kid-low : (a z : Name) → List·Memᴰ z (kids a) → Low t o z
-  kid-low a z m = ask-to t o (a ++ (slash ∷ [])) z (under-mem (asks t o) a z m .1) .2
+  kid-low a z m = ask-to t o wk (a ++ (slash ∷ [])) z (under-mem (asks t o) a z m .1) .2
 
   -- what is served has a name below it that meets the criteria
   pub P-low : (z : Name) → List·Memᴰ z P → Low t o z
-  P-low z m = served-only kids (λ z. Low t o z) (λ a z l k. kid-low a z k) fuel (asks t o []) (λ z k. ask-to t o [] z k .2) z m
+  P-low z m = served-only kids (λ z. Low t o z) (λ a z l k. kid-low a z k) fuel (asks t o []) (λ z k. ask-to t o wk [] z k .2) z m
 
   pub P-ends : left kids fuel (asks t o []) ≡ []
   P-ends =
       runs-empty kids kidsAsc kidsShape fuel (asks t o []) (sorted walkOrder (cands t o)) top-good (asc-sorted walkOrder walk-total (cands t o))
       (λ a z m k. sorted-mem walkOrder walk-total z (cands t o) (low-cand z (kid-low a z k)))
-      (λ z k. sorted-mem walkOrder walk-total z (cands t o) (low-cand z (ask-to t o [] z k .2)))
+      (λ z k. sorted-mem walkOrder walk-total z (cands t o) (low-cand z (ask-to t o wk [] z k .2)))
       (omega (arith, sorted-length walkOrder (cands t o)))
 
   pub P-asc : Asc walkOrder P
@@ -122,11 +123,11 @@ module _ (t : List ℕ) (o : ℕ) where
   F-only z m = pick (List·Memᴰ·append-cases (finds t o []) m)
     where
       pick : List·Memᴰ z (finds t o []) ⊎ List·Memᴰ z (joined (map finds′ P)) → List·Memᴰ z (cands t o) × (M t o z ≡ true)
-      pick (inl k) = let w = find-to t o [] z k in (w .0, w .2)
+      pick (inl k) = let w = find-to t o wk [] z k in (w .0, w .2)
       pick (inr k) =
           let j = joined-mem z (map finds′ P) k in
           let v = map-mem finds′ (j .0) P (j .1) in
-          let w = find-to t o (v .0 ++ (slash ∷ [])) z (under-mem (finds t o) (v .0) z (subst (λ (l : List Name). List·Memᴰ z l) (v .2) (j .2)) .1) in
+          let w = find-to t o wk (v .0 ++ (slash ∷ [])) z (under-mem (finds t o) (v .0) z (subst (λ (l : List Name). List·Memᴰ z l) (v .2) (j .2)) .1) in
           (w .0, w .2)
 
   depth-pos : (a : Name) → 1 ≤ depth a
@@ -136,7 +137,7 @@ module _ (t : List ℕ) (o : ℕ) where
   F-asc = asc-append walkOrder (finds t o []) (joined (map finds′ P)) tops (finds-asc finds′ findsAsc findsShape P P-asc) cross
     where
       one : (z : Name) → List·Memᴰ z (finds t o []) → oneLevel z ≡ true
-      one z m = hit-top t o z (find-to t o [] z m .1)
+      one z m = hit-top t o z (find-to t o wk [] z m .1)
 
       tops : Asc walkOrder (finds t o [])
       tops = tops-asc t o (finds t o []) one (finds-bytes t o [])
@@ -155,14 +156,14 @@ module _ (t : List ℕ) (o : ℕ) where
     kid-of : (p x : Name) → Low t o p → oneLevel x ≡ true → Low t o (child p x) → List·Memᴰ (child p x) (kids p)
     kid-of p x l h k =
         let g = cand-bytes p (low-cand p l) in
-        mem-under (asks t o) p (child p x) g (ask-from t o (p ++ (slash ∷ [])) (child p x) (λ d b i. below-deeper t o p x d g b i) (low-cand (child p x) k) (below-hit t o p x g h) k)
+        mem-under (asks t o) p (child p x) g (ask-from t o wk (p ++ (slash ∷ [])) (child p x) (λ d b i. below-deeper t o p x d g b i) (low-cand (child p x) k) (below-hit t o p x g h) k)
 
     low-parent : (p x : Name) → Low t o (child p x) → Low t o p
     low-parent p x l = (l .0, l .1, below-trans p (child p x) (l .0) (below-child p x) (l .2), l .3)
 
     P-top : (z : Name) → oneLevel z ≡ true → Low t o z → List·Memᴰ z P
     P-top z e l =
-        queue-served kids fuel (asks t o []) P-ends z (ask-from t o [] z (λ d b i. top-deeper t o z d b i) (low-cand z l) (top-hit t o z e) l)
+        queue-served kids fuel (asks t o []) P-ends z (ask-from t o wk [] z (λ d b i. top-deeper t o z d b i) (low-cand z l) (top-hit t o z e) l)
 
     -- and every such name is served
     P-all : (n : ℕ) (z : Name) → length z ≤ n → Low t o z → List·Memᴰ z P
@@ -189,12 +190,12 @@ module _ (t : List ℕ) (o : ℕ) where
     F-has z c m = pick (parent z)
       where
         pick : TopOrChild z → List·Memᴰ z F
-        pick (inl e) = Memᴰ·append-left (joined (map finds′ P)) (find-from t o [] z c (top-hit t o z e) m)
+        pick (inl e) = Memᴰ·append-left (joined (map finds′ P)) (find-from t o wk [] z c (top-hit t o z e) m)
         pick (inr w) =
             let b : below (w .0) z ≡ true = subst (λ (y : Name). below (w .0) y ≡ true) (sym (w .2)) (below-child (w .0) (w .1)) in
             let l : Low t o (w .0) = (z, c, b, m) in
             let g = cand-bytes (w .0) (low-cand (w .0) l) in
-            let hit = subst (λ (y : Name). List·Memᴰ y (finds t o (w .0 ++ (slash ∷ [])))) (sym (w .2)) (find-from t o (w .0 ++ (slash ∷ [])) (child (w .0) (w .1)) (subst (λ (y : Name). List·Memᴰ y (cands t o)) (w .2) c) (below-hit t o (w .0) (w .1) g (w .3)) (subst (λ (y : Name). M t o y ≡ true) (w .2) m)) in
+            let hit = subst (λ (y : Name). List·Memᴰ y (finds t o (w .0 ++ (slash ∷ [])))) (sym (w .2)) (find-from t o wk (w .0 ++ (slash ∷ [])) (child (w .0) (w .1)) (subst (λ (y : Name). List·Memᴰ y (cands t o)) (w .2) c) (below-hit t o (w .0) (w .1) g (w .3)) (subst (λ (y : Name). M t o y ≡ true) (w .2) m)) in
             Memᴰ·append-right (finds t o []) (mem-joined z (mem-under (finds t o) (w .0) z g hit) (mem-map finds′ (P-has (w .0) l)))
 
     -- so both are what the paper says

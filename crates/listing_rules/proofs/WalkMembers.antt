@@ -11,6 +11,7 @@ use Rattle.listing_rules.specs.Orders.{lexBy, byteOrder}
 use Rattle.listing_rules.specs.Names.{nameByte, below, levelOrder, walkOrder}
 use Rattle.listing_rules.specs.Table.{rows, flagsOf}
 use Rattle.listing_rules.specs.Match.{matchesAny}
+use Rattle.listing_rules.specs.Options.{isNone}
 use Rattle.listing_rules.specs.Listing.{candidates, meetsCriteria, candidateMeets, meetsBelow, meetsUnmatchedBelow, childInfo, listed, listedNames}
 use Rattle.listing_rules.specs.Walk.{isFind}
 use Rattle.listing_rules.specs.Demand3.{walkOptions}
@@ -22,7 +23,7 @@ use Rattle.listing_rules.proofs.Percent.{oneLevel}
 use Rattle.listing_rules.proofs.Levels.{child, levels-one, walk-siblings, walk-same-depth, Name, ChildOf}
 use Rattle.listing_rules.proofs.LawfulNames.{below-split}
 use Rattle.listing_rules.proofs.Asked.{pats, attrsOf, childOf, names-listed, finds, asks}
-use Rattle.listing_rules.proofs.WalkSets.{find-met, walk-listed, matches-top, matches-below}
+use Rattle.listing_rules.proofs.WalkSets.{Walks, find-met, walk-asks, walk-listed, matches-top, matches-below}
 
 -- names of one level: walk order is byte order
 pub walk-tops : (x y : Name) → oneLevel x ≡ true → oneLevel y ≡ true → walkOrder x y ≡ byteOrder x y
@@ -43,37 +44,41 @@ module _ (t : List ℕ) (o : ℕ) where
   abbrev pub Low : Name → Type 0
   Low z = (d : Name) × List·Memᴰ d cands × (below z d ≡ true) × (M d ≡ true)
 
+  -- its line has CHILDINFO
+  abbrev asksBelow : Name → Name → Bool
+  asksBelow ref n = not (isNone (childOf t o ref n))
+
   abbrev pub Hit : Name → Name → Type 0
   Hit ref z = matchesAny (pats t o ref) z ≡ true
 
-  pub find-to : (ref z : Name) → List·Memᴰ z (finds t o ref) → List·Memᴰ z cands × Hit ref z × (M z ≡ true)
+  pub find-to : Walks t o → (ref z : Name) → List·Memᴰ z (finds t o ref) → List·Memᴰ z cands × Hit ref z × (M z ≡ true)
   unfolding listedNames candidateMeets
-  find-to ref z m =
+  find-to wk ref z m =
       let w = keep-mem (λ n. isFind o (attrsOf t o ref n)) (names-listed t o ref) z m in
       let v = keep-mem (listed (rows t) (walkOptions o) (pats t o ref)) cands z (w .0) in
-      (v .0, and-l (matchesAny (pats t o ref) z) _ (sym (walk-listed (rows t) o (pats t o ref) z) ∙ v .1), sym (find-met (rows t) o (pats t o ref) z) ∙ w .1)
+      (v .0, and-l (matchesAny (pats t o ref) z) _ (sym (walk-listed (rows t) o (pats t o ref) z) ∙ v .1), sym (find-met t o wk (pats t o ref) z) ∙ w .1)
 
-  pub find-from : (ref z : Name) → List·Memᴰ z cands → Hit ref z → M z ≡ true → List·Memᴰ z (finds t o ref)
+  pub find-from : Walks t o → (ref z : Name) → List·Memᴰ z cands → Hit ref z → M z ≡ true → List·Memᴰ z (finds t o ref)
   unfolding listedNames candidateMeets
-  find-from ref z c h m =
+  find-from wk ref z c h m =
       mem-keep (λ n. isFind o (attrsOf t o ref n)) (names-listed t o ref) z
       (mem-keep (listed (rows t) (walkOptions o) (pats t o ref)) cands z c (walk-listed (rows t) o (pats t o ref) z ∙ and-i (matchesAny (pats t o ref) z) _ h (or-l (M z) _ m)))
-      (find-met (rows t) o (pats t o ref) z ∙ m)
+      (find-met t o wk (pats t o ref) z ∙ m)
 
-  pub ask-to : (ref z : Name) → List·Memᴰ z (asks t o ref) → List·Memᴰ z cands × Hit ref z × Low z
-  unfolding listedNames candidateMeets childInfo meetsBelow walkOptions
-  ask-to ref z m =
-      let w = keep-mem (childOf t o ref) (names-listed t o ref) z m in
+  pub ask-to : Walks t o → (ref z : Name) → List·Memᴰ z (asks t o ref) → List·Memᴰ z cands × Hit ref z × Low z
+  unfolding listedNames candidateMeets meetsBelow walkOptions
+  ask-to wk ref z m =
+      let w = keep-mem (asksBelow ref) (names-listed t o ref) z m in
       let v = keep-mem (listed (rows t) (walkOptions o) (pats t o ref)) cands z (w .0) in
-      let s = some-mem (λ d. below z d && M d) cands (w .1) in
+      let s = some-mem (λ d. below z d && M d) cands (sym (walk-asks (rows t) o (wk .1) z) ∙ w .1) in
       (v .0, and-l (matchesAny (pats t o ref) z) _ (sym (walk-listed (rows t) o (pats t o ref) z) ∙ v .1), (s .0, s .1, and-l (below z (s .0)) (M (s .0)) (s .2), and-r (below z (s .0)) (M (s .0)) (s .2)))
 
-  pub ask-from : (ref z : Name) → ((d : Name) → below z d ≡ true → Hit ref d → ⊥) → List·Memᴰ z cands → Hit ref z → Low z → List·Memᴰ z (asks t o ref)
-  unfolding listedNames candidateMeets childInfo meetsBelow meetsUnmatchedBelow walkOptions
-  ask-from ref z deeper c h l =
-      mem-keep (childOf t o ref) (names-listed t o ref) z
+  pub ask-from : Walks t o → (ref z : Name) → ((d : Name) → below z d ≡ true → Hit ref d → ⊥) → List·Memᴰ z cands → Hit ref z → Low z → List·Memᴰ z (asks t o ref)
+  unfolding listedNames candidateMeets meetsBelow meetsUnmatchedBelow walkOptions
+  ask-from wk ref z deeper c h l =
+      mem-keep (asksBelow ref) (names-listed t o ref) z
       (mem-keep (listed (rows t) (walkOptions o) (pats t o ref)) cands z c (walk-listed (rows t) o (pats t o ref) z ∙ and-i (matchesAny (pats t o ref) z) _ h (or-r (M z) _ unmatched)))
-      (mem-some (λ d. below z d && M d) cands (l .0) (l .1) (and-i (below z (l .0)) (M (l .0)) (l .2) (l .3)))
+      (walk-asks (rows t) o (wk .1) z ∙ mem-some (λ d. below z d && M d) cands (l .0) (l .1) (and-i (below z (l .0)) (M (l .0)) (l .2) (l .3)))
     where
       no-hit : (d : Name) → below z d ≡ true → (b : Bool) → matchesAny (pats t o ref) d ≡ b → not b ≡ true
       no-hit d e true q = absurd (deeper d e q)
@@ -130,7 +135,7 @@ module _ (t : List ℕ) (o : ℕ) where
   finds-bytes ref = asc-keep byteOrder (λ n. isFind o (attrsOf t o ref n)) (names-listed t o ref) (listed-asc ref)
 
   pub asks-bytes : (ref : Name) → Asc byteOrder (asks t o ref)
-  asks-bytes ref = asc-keep byteOrder (childOf t o ref) (names-listed t o ref) (listed-asc ref)
+  asks-bytes ref = asc-keep byteOrder (asksBelow ref) (names-listed t o ref) (listed-asc ref)
 
   pub tops-asc : (l : List Name) → ((z : Name) → List·Memᴰ z l → oneLevel z ≡ true) → Asc byteOrder l → Asc walkOrder l
   tops-asc l f s = asc-other byteOrder walkOrder l (λ x y m n e. walk-tops x y (f x m) (f y n) ∙ e) s

@@ -1,7 +1,7 @@
 -- What a command of the collector matches, and that a line is a find exactly if its name meets the criteria. Rests on Percent.
 use mathlib.Core.Path.{_≡_, refl, sym, ap, _∙_, subst}
 use mathlib.Core.Logic.{_↔_}
-use mathlib.Core.Bool.{and-true, or-true, or-false, or-assoc, and-comm, Bool, true, false, cond, _&&_, _||_, not, false≢true}
+use mathlib.Core.Bool.{and-true, and-false, or-true, or-false, or-assoc, and-comm, Bool, true, false, cond, _&&_, _||_, not, false≢true}
 use mathlib.Core.List.{List, [], _∷_, _++_, append-assoc}
 use Prim.Native.Nat.{ℕ, _-_, _≤_}
 use native.Mathlib.Omega.{arith}
@@ -11,26 +11,62 @@ use Rattle.listing_rules.specs.Bytes.{slash, all, same, raise, raised, w
 use Rattle.listing_rules.specs.Lists.{anyOf}
 use Rattle.listing_rules.specs.Names.{nameByte, inbox, openNames}
 use Rattle.listing_rules.specs.Flags.{exists, subscribed, remote, uses, hasUse}
-use Rattle.listing_rules.specs.Table.{Row, flagsOf}
+use Rattle.listing_rules.specs.Table.{Row, rows, passes, flagsOf}
+use Rattle.listing_rules.specs.Options.{noCriteria, isNone, criteria}
 use Rattle.listing_rules.specs.Match.{wildMatch, matches, matchesAny}
-use Rattle.listing_rules.specs.Listing.{meetsCriteria, candidateMeets, meetsUnmatchedBelow, unselective, levelAbove, listed, attributes}
-use Rattle.listing_rules.specs.Walk.{wantsRemote, wantsSpecial, isFind, attr, useAttr}
+use Rattle.listing_rules.specs.Listing.{meetsCriteria, candidateMeets, meetsBelow, meetsUnmatchedBelow, childInfo, unselective, levelAbove, listed, attributes}
+use Rattle.listing_rules.specs.Walk.{wantsRemote, wantsSpecial, dropsSubscribed, lawfulByte, isFind, attr, useAttr}
 use Rattle.listing_rules.specs.Demand3.{walkOptions}
 use Rattle.listing_rules.proofs.Bools.{and-l, and-r, and-i}
 use Rattle.listing_rules.proofs.ListLaws.{same-true, all-right}
 use Rattle.listing_rules.proofs.Percent.{oneLevel, takes-percent, takes-below}
 use Rattle.listing_rules.proofs.Levels.{child, ChildOf}
+use Rattle.listing_rules.proofs.Passes.{use-exists}
 
 -- "A line is a find if ..": exactly if the name meets the criteria
 find-bools : (S s x e b₈ b₉ b₁₀ b₁₁ b₁₂ b₁₃ b₁₄ : Bool) → (((s && true) && x) && (not S || ((((((b₈ && (S || false) || b₉ && (S || false)) || b₁₀ && (S || false)) || b₁₁ && (S || false)) || b₁₂ && (S || false)) || b₁₃ && (S || false)) || b₁₄ && (S || false)))) ≡ ((((e || true) && x) && s) && (not S || (b₈ || (b₉ || (b₁₀ || (b₁₁ || (b₁₂ || (b₁₃ || (b₁₄ || false)))))))))
 find-bools true s x e b₈ b₉ b₁₀ b₁₁ b₁₂ b₁₃ b₁₄ = simp (and-true, or-true, or-false, or-assoc) (ap (λ (y : Bool). y && (b₈ || (b₉ || (b₁₀ || (b₁₁ || (b₁₂ || (b₁₃ || b₁₄))))))) (and-comm s x))
 find-bools false s x e b₈ b₉ b₁₀ b₁₁ b₁₂ b₁₃ b₁₄ = simp (and-true, or-true) (and-comm s x)
 
-pub find-met : (rs : List Row) (o : ℕ) (ps : List (List ℕ)) (n : List ℕ) → isFind o (attributes rs (walkOptions o) ps n) ≡ candidateMeets rs (walkOptions o) n
+-- without SUBSCRIBED: what has a use exists
+find-dropped : (x e u : Bool) → (u ≡ true → e ≡ true) → (x && u) ≡ ((((e || false) && x) && true) && u)
+find-dropped x e true h = rw (h refl) (sym (and-true (x && true)))
+find-dropped x e false h = and-false x ∙ sym (and-false (((e || false) && x) && true))
+
+find-uses : (x e b₈ b₉ b₁₀ b₁₁ b₁₂ b₁₃ b₁₄ : Bool) → ((b₈ || (b₉ || (b₁₀ || (b₁₁ || (b₁₂ || (b₁₃ || (b₁₄ || false))))))) ≡ true → e ≡ true) → (x && ((((((b₈ && true || b₉ && true) || b₁₀ && true) || b₁₁ && true) || b₁₂ && true) || b₁₃ && true) || b₁₄ && true)) ≡ ((((e || false) && x) && true) && (b₈ || (b₉ || (b₁₀ || (b₁₁ || (b₁₂ || (b₁₃ || (b₁₄ || false))))))))
+find-uses x e b₈ b₉ b₁₀ b₁₁ b₁₂ b₁₃ b₁₄ h = ap (λ (u : Bool). x && u) (simp (and-true, or-false, or-assoc)) ∙ find-dropped x e (b₈ || (b₉ || (b₁₀ || (b₁₁ || (b₁₂ || (b₁₃ || (b₁₄ || false))))))) h
+
+-- a table that passes is walked with a lawful option byte
+abbrev pub Walks : List ℕ → ℕ → Type 0
+Walks t o = (passes t ≡ true) × (lawfulByte o ≡ true)
+
+beside : (o : ℕ) → lawfulByte o ≡ true → (not (dropsSubscribed o) || wantsSpecial o) ≡ true
+unfolding lawfulByte
+beside o h = and-r (leb o 7) (not (dropsSubscribed o) || wantsSpecial o) h
+
+pub find-met : (t : List ℕ) (o : ℕ) → Walks t o → (ps : List (List ℕ)) (n : List ℕ) → isFind o (attributes (rows t) (walkOptions o) ps n) ≡ candidateMeets (rows t) (walkOptions o) n
 unfolding isFind attr useAttr attributes walkOptions candidateMeets meetsCriteria hasUse uses anyOf
-find-met rs o ps n =
-    let f = flagsOf rs n in
-    find-bools (wantsSpecial o) (subscribed f) (not (remote f) || wantsRemote o) (exists f) (bit 8 f) (bit 9 f) (bit 10 f) (bit 11 f) (bit 12 f) (bit 13 f) (bit 14 f)
+find-met t o w ps n = go (dropsSubscribed o) (wantsSpecial o) (beside o (w .1)) (use-exists t (w .0) n)
+  where
+    f : ℕ
+    f = flagsOf (rows t) n
+
+    x : Bool
+    x = not (remote f) || wantsRemote o
+
+    go : (D S : Bool) → (not D || S) ≡ true → ((bit 8 f || (bit 9 f || (bit 10 f || (bit 11 f || (bit 12 f || (bit 13 f || (bit 14 f || false))))))) ≡ true → exists f ≡ true) → (((D || (subscribed f && (not D || false))) && x) && (not S || ((((((bit 8 f && (S || false) || bit 9 f && (S || false)) || bit 10 f && (S || false)) || bit 11 f && (S || false)) || bit 12 f && (S || false)) || bit 13 f && (S || false)) || bit 14 f && (S || false)))) ≡ ((((exists f || not D) && x) && (not (not D) || subscribed f)) && (not S || (bit 8 f || (bit 9 f || (bit 10 f || (bit 11 f || (bit 12 f || (bit 13 f || (bit 14 f || false)))))))))
+    go false S l u = find-bools S (subscribed f) x (exists f) (bit 8 f) (bit 9 f) (bit 10 f) (bit 11 f) (bit 12 f) (bit 13 f) (bit 14 f)
+    go true true l u = find-uses x (exists f) (bit 8 f) (bit 9 f) (bit 10 f) (bit 11 f) (bit 12 f) (bit 13 f) (bit 14 f) u
+    go true false l u = absurd (false≢true l)
+
+-- a name has CHILDINFO exactly if something below it meets the criteria: one at least is selected
+pub walk-asks : (rs : List Row) (o : ℕ) → lawfulByte o ≡ true → (n : List ℕ) → not (isNone (childInfo rs (walkOptions o) n)) ≡ meetsBelow rs (walkOptions o) n
+unfolding childInfo criteria noCriteria isNone walkOptions
+walk-asks rs o h n = go (meetsBelow rs (walkOptions o) n)
+  where
+    go : (b : Bool) → not (isNone (cond (true && b) (record { subscribed = not (dropsSubscribed o); special = wantsSpecial o }) noCriteria)) ≡ b
+    go true = rw (beside o h)
+    go false = refl
 
 -- a walk selects RECURSIVEMATCH, so no level is listed for a final "%" alone
 pub walk-listed : (rs : List Row) (o : ℕ) (ps : List (List ℕ)) (n : List ℕ) → listed rs (walkOptions o) ps n ≡ (matchesAny ps n && (candidateMeets rs (walkOptions o) n || meetsUnmatchedBelow rs (walkOptions o) ps n))

@@ -7,7 +7,6 @@ use Prim.Native.Nat.{ℕ, _+_, zero, suc, _≤_}
 use native.Mathlib.Omega.{arith}
 use lib.ListN.{length, length-append}
 use lib.Seq.{drop-at}
-use borrow.Author.Tests.{le-leb}
 use Rattle.listing_rules.specs.Bytes.{slash, all, within, openBytes}
 use Rattle.listing_rules.specs.Lists.{joined}
 use Rattle.listing_rules.specs.Names.{nameByte, lawfulName}
@@ -24,13 +23,17 @@ use Rattle.listing_rules.proofs.Bfs.{served}
 use Rattle.listing_rules.proofs.Served.{left, front}
 use Rattle.listing_rules.proofs.Outcome.{with-fact, Short, scratch-short, found-short, pending-short, Outcome, went, stopped, then-step, went-to}
 use Rattle.listing_rules.proofs.Asked.{listsOf, Sizes, Answer-fits, asked-cases, packed-le, finds, asks}
+use Rattle.listing_rules.proofs.WalkSets.{Walks}
 use Rattle.listing_rules.proofs.WalkLists.{kids, finds′, fuel, P, F, P-low, P-ends, P-is, F-is, low-cand}
 
 -- a walk that ended, by what lies in found and pending
 abbrev pub result : List Name → List Name → Walked
 result f p = record { count = suc (length p); lists = listsOf f p }
 
-module _ (t : List ℕ) (o : ℕ) (ok : passes t ≡ true) (scratch room₁ room₂ : ℕ) where
+module _ (t : List ℕ) (o : ℕ) (wk : Walks t o) (scratch room₁ room₂ : ℕ) where
+  ok : passes t ≡ true
+  ok = wk .0
+
   -- the answer to this reference fits, and those below each of these names
   abbrev Fits : Name → Type 0
   Fits ref = Answer-fits t o ref scratch
@@ -43,20 +46,20 @@ module _ (t : List ℕ) (o : ℕ) (ok : passes t ≡ true) (scratch room₁ room
 
   -- what a name adds to pending and to found, and what is served from a queue
   abbrev K : Name → List Name
-  K a = kids t o a
+  K a = kids t o wk a
 
   abbrev G : Name → List Name
-  G a = finds′ t o a
+  G a = finds′ t o wk a
 
   abbrev S : ℕ → List Name → List Name
   S k q = served K k q
 
   -- one command below a name that is served
-  step-cases : (a : Name) → List·Memᴰ a (P t o) → (f w : List Name) → Fit f w → Outcome (asked t o scratch room₁ room₂ (listsOf f w) (a ++ (slash ∷ []))) (listsOf (f ++ G a) (w ++ K a)) (Fits (a ++ (slash ∷ [])) × Fit (f ++ G a) (w ++ K a))
-  step-cases a m f w h = rw bytes (asked-cases t o (a ++ (slash ∷ [])) scratch room₁ room₂ ok line-ok (omega (arith, length-append a (slash ∷ []), good-parts a good .most)) f w h)
+  step-cases : (a : Name) → List·Memᴰ a (P t o wk) → (f w : List Name) → Fit f w → Outcome (asked t o scratch room₁ room₂ (listsOf f w) (a ++ (slash ∷ []))) (listsOf (f ++ G a) (w ++ K a)) (Fits (a ++ (slash ∷ [])) × Fit (f ++ G a) (w ++ K a))
+  step-cases a m f w h = rw bytes (asked-cases t o (a ++ (slash ∷ [])) scratch room₁ room₂ (wk .1) ok line-ok (omega (arith, length-append a (slash ∷ []), good-parts a good .most)) f w h)
     where
       good : lawfulName a ≡ true
-      good = candidate-good t ok a (low-cand t o a (P-low t o a m))
+      good = candidate-good t ok a (low-cand t o wk a (P-low t o wk a m))
 
       bytes : all nameByte a ≡ true
       bytes = good-parts a good .bytes
@@ -70,7 +73,7 @@ module _ (t : List ℕ) (o : ℕ) (ok : passes t ≡ true) (scratch room₁ room
   none-left k f done h =
       went (rw (drop-at done [] (length done) refl, walkFrom, append-nil f, append-nil done)) (λ a m. absurd (List·Memᴰ·not-nil m), (rw (append-nil f) (h .0), h .1))
 
-  run-cases : (k : ℕ) (done q f : List Name) → left K k q ≡ [] → ((a : Name) → List·Memᴰ a (S k q) → List·Memᴰ a (P t o)) → Fit f (done ++ q) → Outcome (walkFrom t o scratch room₁ room₂ (suc k) (length done) (listsOf f (done ++ q))) (result (f ++ joined (map G (S k q))) (done ++ S k q)) (All-fit (S k q) × Fit (f ++ joined (map G (S k q))) (done ++ S k q))
+  run-cases : (k : ℕ) (done q f : List Name) → left K k q ≡ [] → ((a : Name) → List·Memᴰ a (S k q) → List·Memᴰ a (P t o wk)) → Fit f (done ++ q) → Outcome (walkFrom t o scratch room₁ room₂ (suc k) (length done) (listsOf f (done ++ q))) (result (f ++ joined (map G (S k q))) (done ++ S k q)) (All-fit (S k q) × Fit (f ++ joined (map G (S k q))) (done ++ S k q))
   unfolding left served joined walkFrom
   run-cases zero done [] f e m h = none-left 0 f done h
   run-cases zero done (a ∷ q) f e m h = absurd (nil≢cons (sym e))
@@ -120,18 +123,18 @@ module _ (t : List ℕ) (o : ℕ) (ok : passes t ≡ true) (scratch room₁ room
       )
 
   -- the whole walk
-  walk-cases : Outcome (walkAll t o scratch room₁ room₂ (suc (fuel t o))) (result (F t o) (P t o)) (Fits [] × (All-fit (P t o) × Fit (F t o) (P t o)))
+  walk-cases : Outcome (walkAll t o scratch room₁ room₂ (suc (fuel t o wk))) (result (F t o wk) (P t o wk)) (Fits [] × (All-fit (P t o wk) × Fit (F t o wk) (P t o wk)))
   unfolding walkAll
   walk-cases =
-      then-step _ (asked-cases t o [] scratch room₁ room₂ ok (unfold all in refl) (omega arith) [] [] (unfold packed joined in (omega arith, omega arith)))
-      (λ h. with-fact (λ v. (h .0, v)) (λ v. v .1) (run-cases (fuel t o) [] (asks t o []) (finds t o []) (P-ends t o) (λ a m. m) (h .1)))
-      (λ v. (v .0, (packed-le (finds t o []) (joined (map G (P t o))) room₁ (v .1 .1 .0), packed-le (asks t o []) (w .0) room₂ (subst (λ (x : List Name). length (packed x) ≤ room₂) (w .1) (v .1 .1 .1)))))
+      then-step _ (asked-cases t o [] scratch room₁ room₂ (wk .1) ok (unfold all in refl) (omega arith) [] [] (unfold packed joined in (omega arith, omega arith)))
+      (λ h. with-fact (λ v. (h .0, v)) (λ v. v .1) (run-cases (fuel t o wk) [] (asks t o []) (finds t o []) (P-ends t o wk) (λ a m. m) (h .1)))
+      (λ v. (v .0, (packed-le (finds t o []) (joined (map G (P t o wk))) room₁ (v .1 .1 .0), packed-le (asks t o []) (w .0) room₂ (subst (λ (x : List Name). length (packed x) ≤ room₂) (w .1) (v .1 .1 .1)))))
     where
-      w : (r : List Name) × (P t o ≡ asks t o [] ++ r)
-      w = front K (fuel t o) (asks t o []) (P-ends t o)
+      w : (r : List Name) × (P t o wk ≡ asks t o [] ++ r)
+      w = front K (fuel t o wk) (asks t o []) (P-ends t o wk)
 
   -- the steps suffice
-  pub walk-ends : walkAll t o scratch room₁ room₂ (suc (fuel t o)) ≡ stop 0 → ⊥
+  pub walk-ends : walkAll t o scratch room₁ room₂ (suc (fuel t o wk)) ≡ stop 0 → ⊥
   walk-ends e = no-stop walk-cases
     where
       no-number : (k : ℕ) → Short k → k ≡ 0 → ⊥
@@ -139,7 +142,7 @@ module _ (t : List ℕ) (o : ℕ) (ok : passes t ≡ true) (scratch room₁ room
       no-number k found-short z = omega arith
       no-number k pending-short z = omega arith
 
-      no-stop : {u : Walked} {H : Type 0} → Outcome (walkAll t o scratch room₁ room₂ (suc (fuel t o))) u H → ⊥
+      no-stop : {u : Walked} {H : Type 0} → Outcome (walkAll t o scratch room₁ room₂ (suc (fuel t o wk))) u H → ⊥
       no-stop (went d h) = let z : _≡_ {A = ℕ} 0 1 = cc in omega arith
       no-stop (stopped k s d n) = no-number k s (cc)
 
@@ -150,9 +153,9 @@ module _ (t : List ℕ) (o : ℕ) (ok : passes t ≡ true) (scratch room₁ room
     pub found : length (packed (meetingNames (rows t) o)) ≤ room₁
     pub pending : length (packed (meetingAncestors (rows t) o)) ≤ room₂
 
-  room-cases : Outcome (walkAll t o scratch room₁ room₂ (suc (fuel t o))) (result (meetingNames (rows t) o) (meetingAncestors (rows t) o)) Room
+  room-cases : Outcome (walkAll t o scratch room₁ room₂ (suc (fuel t o wk))) (result (meetingNames (rows t) o) (meetingAncestors (rows t) o)) Room
   unfolding walkAnswer
-  room-cases = with-fact to from (rw (F-is t o ok, P-is t o ok) at walk-cases)
+  room-cases = with-fact to from (rw (F-is t o wk ok, P-is t o wk ok) at walk-cases)
     where
       to : Fits [] × (All-fit (meetingAncestors (rows t) o) × Fit (meetingNames (rows t) o) (meetingAncestors (rows t) o)) → Room
       to h = record { first = h .0; next = h .1 .0; found = h .1 .1 .0; pending = h .1 .1 .1 }
@@ -161,20 +164,20 @@ module _ (t : List ℕ) (o : ℕ) (ok : passes t ≡ true) (scratch room₁ room
       from R = (R .first, (R .next, (R .found, R .pending)))
 
   -- with room the walk comes to what the paper says, and it is refused exactly if there is none, by 9, 10 or 11
-  pub demand-3-whole : o ≤ 3 → (Room × (walk t o scratch room₁ room₂ ≡ declaredWalk t o)) ⊎ ((Room → ⊥) × ((k : ℕ) × Short k × (walk t o scratch room₁ room₂ ≡ walkRefused k)))
+  pub demand-3-whole : (Room × (walk t o scratch room₁ room₂ ≡ declaredWalk t o)) ⊎ ((Room → ⊥) × ((k : ℕ) × Short k × (walk t o scratch room₁ room₂ ≡ walkRefused k)))
   unfolding walk ended declaredWalk
-  demand-3-whole h = pick room-cases
+  demand-3-whole = pick room-cases
     where
       e : suc (length (meetingAncestors (rows t) o)) ≡ 1 + length (meetingAncestors (rows t) o)
       e = omega arith
 
-      pick : Outcome (walkAll t o scratch room₁ room₂ (suc (fuel t o))) (result (meetingNames (rows t) o) (meetingAncestors (rows t) o)) Room → (Room × (walk t o scratch room₁ room₂ ≡ declaredWalk t o)) ⊎ ((Room → ⊥) × ((k : ℕ) × Short k × (walk t o scratch room₁ room₂ ≡ walkRefused k)))
-      pick (went d R) = inl (R, rw (ok, le-leb o 3 h, d) (ap (λ (n : ℕ). walked n (packed (meetingNames (rows t) o)) (packed (meetingAncestors (rows t) o))) e))
-      pick (stopped k s d n) = inr (n, (k, s, rw (ok, le-leb o 3 h, d)))
+      pick : Outcome (walkAll t o scratch room₁ room₂ (suc (fuel t o wk))) (result (meetingNames (rows t) o) (meetingAncestors (rows t) o)) Room → (Room × (walk t o scratch room₁ room₂ ≡ declaredWalk t o)) ⊎ ((Room → ⊥) × ((k : ℕ) × Short k × (walk t o scratch room₁ room₂ ≡ walkRefused k)))
+      pick (went d R) = inl (R, rw (ok, wk .1, d) (ap (λ (n : ℕ). walked n (packed (meetingNames (rows t) o)) (packed (meetingAncestors (rows t) o))) e))
+      pick (stopped k s d n) = inr (n, (k, s, rw (ok, wk .1, d)))
 
   -- the same, where there is room
-  pub walk-is : Room → walkAll t o scratch room₁ room₂ (suc (fuel t o)) ≡ go (result (meetingNames (rows t) o) (meetingAncestors (rows t) o))
+  pub walk-is : Room → walkAll t o scratch room₁ room₂ (suc (fuel t o wk)) ≡ go (result (meetingNames (rows t) o) (meetingAncestors (rows t) o))
   walk-is R = went-to room-cases R
 
-  pub demand-3 : Room → o ≤ 3 → walk t o scratch room₁ room₂ ≡ declaredWalk t o
-  demand-3 R h = ⊎-elim (λ w. w .1) (λ w. absurd (w .0 R)) (demand-3-whole h)
+  pub demand-3 : Room → walk t o scratch room₁ room₂ ≡ declaredWalk t o
+  demand-3 R = ⊎-elim (λ w. w .1) (λ w. absurd (w .0 R)) demand-3-whole

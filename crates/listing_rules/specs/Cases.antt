@@ -14,14 +14,14 @@ use Rattle.listing_rules.specs.Table.{rows, passes, openTable}
 use Rattle.listing_rules.specs.Namespaces.{namespacesPass, openNamespaces}
 use Rattle.listing_rules.specs.Tokens.{openTokens}
 use Rattle.listing_rules.specs.Feeder.{Event, handed, goOn, denied, quiet, Feeder, reading, inLiteral, dropping, first, feedChunks, openFeeder}
-use Rattle.listing_rules.specs.Options.{openOptions}
+use Rattle.listing_rules.specs.Options.{Criteria, openOptions}
 use Rattle.listing_rules.specs.Command.{openCommand}
 use Rattle.listing_rules.specs.Match.{openMatch}
 use Rattle.listing_rules.specs.Listing.{openListing}
 use Rattle.listing_rules.specs.Lines.{openLines}
 use Rattle.listing_rules.specs.Server.{Reply, refusal, answered, limited, answer, openServer}
 use Rattle.listing_rules.specs.Reader.{Read, line, root, bad, readLine, nameBytes, sameBools, lineFrom, openReader}
-use Rattle.listing_rules.specs.Walk.{WalkReply, walkRefused, walked, walk, openWalk}
+use Rattle.listing_rules.specs.Walk.{lawfulByte, WalkReply, walkRefused, walked, walk, openWalk}
 use Rattle.listing_rules.specs.Demand3.{declaredWalk, tooSmall, openDemand3}
 use Rattle.listing_rules.specs.Frames.{programOutput, step, walkLine, openFrames}
 
@@ -60,7 +60,7 @@ pub data Case : Type 0 where
   -- all of these namespace lists pass, and none of those
   spaces : List (List ℕ) → List (List ℕ) → Case
   -- the line writer gives this, in a buffer of this length
-  writes : ℕ → List Bool → List ℕ → Bool → Reply → Case
+  writes : ℕ → List Bool → List ℕ → Criteria → Reply → Case
   -- the reader reads the line so, and none of those
   reads : List ℕ → Read → List (List ℕ) → Case
   -- the program answers this input so
@@ -88,7 +88,7 @@ abbrev pub sameFlag : Bool → Bool → Bool
 sameFlag a b = cond a b (not b)
 
 abbrev pub sameRead : Read → Read → Bool
-sameRead (line bs n c) (line bs′ n′ c′) = sameBools bs bs′ && same n n′ && sameFlag c c′
+sameRead (line bs n c) (line bs′ n′ c′) = sameBools bs bs′ && same n n′ && sameFlag (c .subscribed) (c′ .subscribed) && sameFlag (c .special) (c′ .special)
 sameRead (line bs n c) root = false
 sameRead (line bs n c) bad = false
 sameRead root (line bs n c) = false
@@ -113,7 +113,7 @@ isFirst (dropping cr) = false
 
 -- what demand 3 says of a walk with this result
 abbrev pub asDeclared : List ℕ → ℕ → ℕ → ℕ → ℕ → WalkReply → Bool
-asDeclared t o s f p (walkRefused k) = not (passes t) || not (leb o 3) || tooSmall (rows t) o s f p
+asDeclared t o s f p (walkRefused k) = not (passes t) || not (lawfulByte o) || tooSmall (rows t) o s f p
 asDeclared t o s f p (walked c fs ps) = not (tooSmall (rows t) o s f p) && sameWalk (declaredWalk t o) (walked c fs ps)
 
 abbrev pub holds : Case → Bool

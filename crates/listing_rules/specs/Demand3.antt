@@ -13,13 +13,13 @@ use Rattle.listing_rules.specs.Table.{Row, rows}
 use Rattle.listing_rules.specs.Options.{Options}
 use Rattle.listing_rules.specs.Listing.{candidates, candidateMeets}
 use Rattle.listing_rules.specs.Server.{listAnswer}
-use Rattle.listing_rules.specs.Walk.{wantsRemote, wantsSpecial, packed, WalkReply, walkRefused, walked}
+use Rattle.listing_rules.specs.Walk.{wantsRemote, wantsSpecial, dropsSubscribed, packed, WalkReply, walkRefused, walked}
 
 -- the options that the walk selects
 unfoldable pub walkOptions : ℕ → Options
 walkOptions o =
     record {
-      selSubscribed = true;
+      selSubscribed = not (dropsSubscribed o);
       selRemote = wantsRemote o;
       selRecursive = true;
       selSpecial = wantsSpecial o;

@@ -1,11 +1,11 @@
--- The expert's sheet, E1 to E8, proved from the definitions as one table under one claim.
+-- The expert's sheet, E1 to E8, with W1's line and cases for W3, proved from the definitions as one table under one claim.
 use mathlib.Core.Path.{_≡_, refl}
 use mathlib.Core.List.{List, [], _∷_, _++_}
 use Prim.Native.Nat.{ℕ}
 use Prim.Native.String.{String}
 use Rattle.listing_rules.specs.Bytes.{text, crlf}
 use Rattle.listing_rules.specs.Server.{Reply, refusal, answered}
-use Rattle.listing_rules.specs.Walk.{WalkReply, walked, packed}
+use Rattle.listing_rules.specs.Walk.{WalkReply, walkRefused, walked, packed}
 use Rattle.listing_rules.specs.Cases.{row, mailbox, times, sends, lines, Case, replies, walks, failures, openAll}
 
 -- "Table E: Foo-x 0001, Foo/Bar 0001, Foo/Baz 0003, INBOX 0031, Moo 0001."
@@ -13,6 +13,12 @@ abbrev pub tableE : List ℕ
 tableE =
     mailbox 0x0001 "Foo-x" ++
     (mailbox 0x0001 "Foo/Bar" ++ (mailbox 0x0003 "Foo/Baz" ++ (mailbox 0x0031 "INBOX" ++ mailbox 0x0001 "Moo")))
+
+-- Table U, for the special folders: A/all 0103, A/plain 0003, R/junk 1005, S 2001, S/old 0201.
+abbrev pub tableU : List ℕ
+tableU =
+    mailbox 0x0103 "A/all" ++
+    (mailbox 0x0003 "A/plain" ++ (mailbox 0x1005 "R/junk" ++ (mailbox 0x2001 "S" ++ mailbox 0x0201 "S/old")))
 
 -- a command over a table, with an empty namespace list and the program's buffer
 abbrev over : List ℕ → List ℕ → Reply → Case
@@ -46,6 +52,19 @@ sheet =
     -- E7
     ∷ over tableE (sends "a LIST (RECURSIVEMATCH REMOTE) \"\" \"*\"") (refusal 7)
     ∷ over tableE (sends "a LIST (RECURSIVEMATCH FOO) \"\" \"*\"") (refusal 6)
+    -- W3: RECURSIVEMATCH beside SPECIAL-USE; CHILDINFO names the criteria selected, "SUBSCRIBED" before "SPECIAL-USE"
+    ∷ over tableU (sends "a LIST (RECURSIVEMATCH SPECIAL-USE) \"\" %")
+    (answered (lines ("* LIST (\\NonExistent) \"/\" \"A\" (\"CHILDINFO\" (\"SPECIAL-USE\"))" ∷ "* LIST (\\Sent) \"/\" \"S\" (\"CHILDINFO\" (\"SPECIAL-USE\"))" ∷ "a OK done" ∷ [])))
+    ∷ over tableU (sends "a LIST (SPECIAL-USE SUBSCRIBED RECURSIVEMATCH) \"\" %")
+    (answered (lines ("* LIST (\\NonExistent) \"/\" \"A\" (\"CHILDINFO\" (\"SUBSCRIBED\" \"SPECIAL-USE\"))" ∷ "a OK done" ∷ [])))
+    ∷ over tableU (sends "a LIST (RECURSIVEMATCH) \"\" % RETURN (SPECIAL-USE SUBSCRIBED)") (refusal 7)
+    -- W3: option byte 6 walks for the uses, with 1 the remote ones too; 4 is legal only with 2
+    ∷ walks tableU 6 16384 8192 8192 (walked 3 (packed (text "S" ∷ text "A/all" ∷ text "S/old" ∷ [])) (packed (text "A" ∷ text "S" ∷ [])))
+    ∷ walks tableU 7 16384 8192 8192 (walked 4 (packed (text "S" ∷ text "A/all" ∷ text "R/junk" ∷ text "S/old" ∷ [])) (packed (text "A" ∷ text "R" ∷ text "S" ∷ [])))
+    ∷ walks tableU 2 16384 8192 8192 (walked 2 (packed (text "A/all" ∷ [])) (packed (text "A" ∷ [])))
+    ∷ walks tableU 4 16384 8192 8192 (walkRefused 6)
+    ∷ walks tableU 5 16384 8192 8192 (walkRefused 6)
+    ∷ walks tableU 8 16384 8192 8192 (walkRefused 6)
     -- E8: 8 patterns pass, 9 are 8
     ∷ over tableE (sends "a LIST \"\" (a b c d e f \"\" h)") nothing
     ∷ over tableE (sends "a LIST \"\" (a b c d e f \"\" h i)") (refusal 8)

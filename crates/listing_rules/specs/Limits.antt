@@ -8,6 +8,7 @@ use Prim.Native.String.{String}
 use Rattle.listing_rules.specs.Bytes.{text, crlf}
 use Rattle.listing_rules.specs.Lists.{joined}
 use Rattle.listing_rules.specs.Feeder.{Event, handed, goOn, denied}
+use Rattle.listing_rules.specs.Options.{Criteria, noCriteria}
 use Rattle.listing_rules.specs.Server.{Reply, refusal, answered}
 use Rattle.listing_rules.specs.Reader.{Read, line, root, bad}
 use Rattle.listing_rules.specs.Walk.{WalkReply, walkRefused, walked, packed}
@@ -34,6 +35,19 @@ many (suc n) k more = named ((65 + k / 32) ∷ (65 + k % 32) ∷ times more 97) 
 -- no attribute, and the marked and unmarked one
 abbrev plain : List Bool
 plain = replicate 16 false
+
+-- what CHILDINFO may name
+abbrev none-named : Criteria
+none-named = noCriteria
+
+abbrev subscribed-named : Criteria
+subscribed-named = record { subscribed = true; special = false }
+
+abbrev special-named : Criteria
+special-named = record { subscribed = false; special = true }
+
+abbrev both-named : Criteria
+both-named = record { subscribed = true; special = true }
 
 abbrev both-marked : List Bool
 both-marked = true ∷ true ∷ replicate 14 false
@@ -125,7 +139,7 @@ limits =
     -- values nest; 4 before 6 before 7 before 8; RETURN is not beside RECURSIVEMATCH; an option is known in its own list only
     ∷ refuses 4 (sends "a LIST (FOO (a (b  c) e)) \"\" *" ∷ sends "a LIST (FOO ()) \"\" *" ∷ sends "a LIST (FOO (a) (b)) \"\" *" ∷ sends "a LIST (RECURSIVEMATCH FOO) \"\" (a ) RETURN ()" ∷ [])
     ∷ refuses 6 (sends "a LIST (FOO (a (b \"c \\\\\") ]e)) \"\" *" ∷ sends "a LIST (RECURSIVEMATCH) \"\" * RETURN (REMOTE)" ∷ sends "a LIST (SUBSCRIBED (x)) \"\" *" ∷ sends "a LIST (CHILDREN) \"\" *" ∷ [])
-    ∷ refuses 7 (sends "a LIST (RECURSIVEMATCH SPECIAL-USE) \"\" (a b c d e f g h i) RETURN (SUBSCRIBED)" ∷ [])
+    ∷ refuses 7 (sends "a LIST (RECURSIVEMATCH REMOTE) \"\" (a b c d e f g h i) RETURN (SUBSCRIBED SPECIAL-USE)" ∷ [])
     -- 9 counts the tagged line; an equal length fits
     ∷ replies 32 (all-named ("Moo" ∷ [])) [] (sends "a LIST \"\" *") (answered (lines ("* LIST () \"/\" \"Moo\"" ∷ "a OK done" ∷ [])))
     ∷ replies 31 (all-named ("Moo" ∷ [])) [] (sends "a LIST \"\" *") (refusal 9)
@@ -145,16 +159,24 @@ limits =
     ∷ walks (joined (mailbox 0x0007 "R" ∷ mailbox 0x0003 "R/a" ∷ mailbox 0x0107 "S" ∷ mailbox 0x0103 "T/u" ∷ [])) 3 16384 64 64
     (walked 2 (packed (text "S" ∷ text "T/u" ∷ [])) (packed (text "T" ∷ [])))
     -- the line writer: 12, then 9; the root line; marked with unmarked
-    ∷ writes 0 plain [] false (refusal 12)
-    ∷ writes 19 plain (text "a") false (answered (sends "* LIST () \"/\" \"a\""))
-    ∷ writes 18 plain (text "a") false (refusal 9)
-    ∷ writes 99 both-marked (text "a") true (answered (sends "* LIST (\\Marked \\Unmarked) \"/\" \"a\" (\"CHILDINFO\" (\"SUBSCRIBED\"))"))
-    ∷ writes 99 (false ∷ false ∷ true ∷ replicate 13 false) [] false (answered (sends "* LIST (\\Noselect) \"/\" \"\""))
+    ∷ writes 0 plain [] none-named (refusal 12)
+    ∷ writes 19 plain (text "a") none-named (answered (sends "* LIST () \"/\" \"a\""))
+    ∷ writes 18 plain (text "a") none-named (refusal 9)
+    ∷ writes 99 both-marked (text "a") subscribed-named (answered (sends "* LIST (\\Marked \\Unmarked) \"/\" \"a\" (\"CHILDINFO\" (\"SUBSCRIBED\"))"))
+    ∷ writes 99 plain (text "a") special-named (answered (sends "* LIST () \"/\" \"a\" (\"CHILDINFO\" (\"SPECIAL-USE\"))"))
+    ∷ writes 62 plain (text "a") both-named (answered (sends "* LIST () \"/\" \"a\" (\"CHILDINFO\" (\"SUBSCRIBED\" \"SPECIAL-USE\"))"))
+    ∷ writes 61 plain (text "a") both-named (refusal 9)
+    ∷ writes 99 (false ∷ false ∷ true ∷ replicate 13 false) [] special-named (refusal 12)
+    ∷ writes 99 (false ∷ false ∷ true ∷ replicate 13 false) [] none-named (answered (sends "* LIST (\\Noselect) \"/\" \"\""))
     -- the reader: exact bytes
     ∷ reads (sends "* LIST (\\Noselect) \"/\" \"\"") root (sends "* LIST () \"/\" \"\"" ∷ sends "* LIST (\\Noselect) \"/\" \"\" (\"CHILDINFO\" (\"SUBSCRIBED\"))" ∷ text "* LIST (\\Noselect) \"/\" \"\"" ∷ [])
-    ∷ reads (sends "* LIST (\\Marked \\Unmarked) \"/\" \"a\\\\\" (\"CHILDINFO\" (\"SUBSCRIBED\"))") (line both-marked (text "a\\") true)
+    ∷ reads (sends "* LIST (\\Marked \\Unmarked) \"/\" \"a\\\\\" (\"CHILDINFO\" (\"SUBSCRIBED\"))") (line both-marked (text "a\\") subscribed-named)
     (sends "* LIST (\\Unmarked \\Marked) \"/\" \"a\"" ∷ sends "* LIST (\\marked) \"/\" \"a\"" ∷ sends "* LIST (\\Marked) \"/\" a" ∷ sends "* LIST () \"/\" \"\\a\"" ∷ sends "* LIST () \"/\" \"inbox\"" ∷ sends "* LIST () \"/\" \"a/\"" ∷ [])
-    ∷ reads (text "* LIST () \"/\" \"" ++ (times 200 97 ++ sends "\"")) (line plain (times 200 97) false) ((text "* LIST () \"/\" \"" ++ (times 201 97 ++ sends "\"")) ∷ [])
+    ∷ reads (sends "* LIST () \"/\" \"a\" (\"CHILDINFO\" (\"SPECIAL-USE\"))") (line plain (text "a") special-named)
+    (sends "* LIST () \"/\" \"a\" (\"CHILDINFO\" ())" ∷ sends "* LIST () \"/\" \"a\" (\"CHILDINFO\" (\"special-use\"))" ∷ sends "* LIST () \"/\" \"a\" (\"CHILDINFO\" (\"REMOTE\"))" ∷ [])
+    ∷ reads (sends "* LIST () \"/\" \"a\" (\"CHILDINFO\" (\"SUBSCRIBED\" \"SPECIAL-USE\"))") (line plain (text "a") both-named)
+    (sends "* LIST () \"/\" \"a\" (\"CHILDINFO\" (\"SPECIAL-USE\" \"SUBSCRIBED\"))" ∷ sends "* LIST () \"/\" \"a\" (\"CHILDINFO\" (\"SUBSCRIBED\"  \"SPECIAL-USE\"))" ∷ sends "* LIST () \"/\" \"a\" (\"CHILDINFO\" (\"SUBSCRIBED\" \"SUBSCRIBED\"))" ∷ [])
+    ∷ reads (text "* LIST () \"/\" \"" ++ (times 200 97 ++ sends "\"")) (line plain (times 200 97) none-named) ((text "* LIST () \"/\" \"" ++ (times 201 97 ++ sends "\"")) ∷ [])
     -- the program: document 01's whole session; then a table in two frames, each cause of 13, walks, and a last frame without LF
     ∷ program (text "4361204E414D4553504143450D0A\n4D0003\n4d0161\n\n4D0\n43 61\n57\n570000\n58\n5700\n5704\n4D00\n5700\n5700")
     (text "412A204E414D455350414345204E494C204E494C204E494C0D0A61204F4B20646F6E650D0A\n520D\n520D\n520D\n520D\n520D\n520D\n5700010161\n5206\n5201\n520D\n")

@@ -4,6 +4,7 @@ use mathlib.Core.Bool.{Bool, true, false, cond, _||_}
 use lib.Dec.{eqb}
 use Prim.Native.Nat.{ℕ}
 use Rattle.listing_rules.specs.Bytes.{text, quote, backslash, space, crlf}
+use Rattle.listing_rules.specs.Options.{Criteria, isNone}
 
 -- "Attributes, these sixteen, in this order"
 unfoldable pub attributeNames : List (List ℕ)
@@ -49,13 +50,18 @@ escaped (b ∷ t) = let r = escaped t in cond (eqb b quote || eqb b backslash) (
 unfoldable pub quoted : List ℕ → List ℕ
 quoted t = quote ∷ (escaped t ++ (quote ∷ []))
 
--- "then perhaps ` ("CHILDINFO" ("SUBSCRIBED"))`"
-unfoldable pub childInfoText : Bool → List ℕ
-childInfoText true = text " (\"CHILDINFO\" (\"SUBSCRIBED\"))"
-childInfoText false = []
+-- "then perhaps ` ("CHILDINFO" ("SUBSCRIBED"))`". W3: "CHILDINFO names the criteria selected, "SUBSCRIBED" before "SPECIAL-USE"".
+unfoldable pub criteriaNames : List (List ℕ)
+criteriaNames = text "\"SUBSCRIBED\"" ∷ text "\"SPECIAL-USE\"" ∷ []
+
+unfoldable pub criteriaText : Criteria → List ℕ
+criteriaText c = spaced (chosen (c .subscribed ∷ c .special ∷ []) criteriaNames)
+
+unfoldable pub childInfoText : Criteria → List ℕ
+childInfoText c = cond (isNone c) [] (text " (\"CHILDINFO\" (" ++ (criteriaText c ++ text "))"))
 
 -- "Line: `* LIST (attributes) "/" "name"`, then perhaps ` ("CHILDINFO" ("SUBSCRIBED"))`, CR LF."
-unfoldable pub listLine : List Bool → List ℕ → Bool → List ℕ
+unfoldable pub listLine : List Bool → List ℕ → Criteria → List ℕ
 listLine bs n c =
     text "* LIST (" ++ (spaced (chosen bs attributeNames) ++ (text ") \"/\" " ++ (quoted n ++ (childInfoText c ++ crlf))))
 
@@ -69,5 +75,5 @@ okLine tag = tag ++ (text " OK done" ++ crlf)
 
 -- opens every definition of this file, for a proof by computation
 unfoldable pub openLines : Unit {0}
-unfolding attributeNames chosen spacedTail spaced escaped quoted childInfoText listLine rootLine okLine
+unfolding attributeNames chosen spacedTail spaced escaped quoted criteriaNames criteriaText childInfoText listLine rootLine okLine
 openLines = tt

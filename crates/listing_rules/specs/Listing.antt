@@ -1,6 +1,6 @@
 -- What is listed, and with which attributes.
 use mathlib.Core.List.{List, [], _∷_, map}
-use mathlib.Core.Bool.{Bool, false, _&&_, _||_, not}
+use mathlib.Core.Bool.{Bool, false, cond, _&&_, _||_, not}
 use lib.Dec.{eqb}
 use Prim.Native.Nat.{ℕ}
 use Rattle.listing_rules.specs.Bytes.{bit}
@@ -9,7 +9,7 @@ use Rattle.listing_rules.specs.Orders.{byteOrder, sorted}
 use Rattle.listing_rules.specs.Names.{properAncestors, below}
 use Rattle.listing_rules.specs.Flags.{exists, subscribed, remote, noSelect, noInferiors, marked, unmarked, hasUse}
 use Rattle.listing_rules.specs.Table.{Row, hasRow, flagsOf}
-use Rattle.listing_rules.specs.Options.{Options}
+use Rattle.listing_rules.specs.Options.{Options, Criteria, noCriteria, criteria}
 use Rattle.listing_rules.specs.Match.{matchesAny}
 
 -- "Candidates are the table's names and all their proper ancestors"; each once, ascending by name
@@ -61,9 +61,10 @@ unfoldable pub listed : List Row → Options → List (List ℕ) → List ℕ �
 listed rs o ps n =
     (matchesAny ps n && (candidateMeets rs o n || (o .selRecursive && meetsUnmatchedBelow rs o ps n))) || levelAbove rs o ps n
 
--- "CHILDINFO is on a listed line exactly if RECURSIVEMATCH was given and some proper descendant meets the criteria"
-unfoldable pub childInfo : List Row → Options → List ℕ → Bool
-childInfo rs o n = o .selRecursive && meetsBelow rs o n
+-- "CHILDINFO is on a listed line exactly if RECURSIVEMATCH was given and some proper descendant meets the criteria"; the criteria that
+-- it names, none where it is not on the line
+unfoldable pub childInfo : List Row → Options → List ℕ → Criteria
+childInfo rs o n = cond (o .selRecursive && meetsBelow rs o n) (criteria o) noCriteria
 
 -- "\HasChildren: some existing row lies below that is local, or REMOTE is selected."
 unfoldable pub hasChildren : List Row → Options → List ℕ → Bool

@@ -8,12 +8,13 @@ use Prim.Native.Nat.{ℕ, _-_}
 use Rattle.listing_rules.specs.Bytes.{text, space, crlf, same, isEmpty}
 use Rattle.listing_rules.specs.Names.{lawfulName}
 use Rattle.listing_rules.specs.Tokens.{Got, got, after, withFirst, unquoted, _>>=_}
+use Rattle.listing_rules.specs.Options.{Criteria, noCriteria, isNone}
 use Rattle.listing_rules.specs.Lines.{attributeNames, childInfoText, listLine, rootLine}
 use Rattle.listing_rules.specs.Server.{Reply, refusal, answered, limited}
 
 -- what the reader finds: a line's attributes, name and CHILDINFO; the root line; or neither
 pub data Read : Type 0 where
-  line : List Bool → List ℕ → Bool → Read
+  line : List Bool → List ℕ → Criteria → Read
   root : Read
   bad : Read
 
@@ -28,9 +29,22 @@ readChosen first [] t = got [] t
 readChosen first (n ∷ ns) t =
     elim (after (separated first n) t) [ none ↦ withFirst false (readChosen first ns t) | some u ↦ withFirst true (readChosen false ns u) ]
 
--- "with or without CHILDINFO": what stands behind the name
-unfoldable pub childInfoRead : List ℕ → Option Bool
-childInfoRead t = cond (same t crlf) (some false) (cond (same t (childInfoText true ++ crlf)) (some true) none)
+-- "with or without CHILDINFO"; W3: "one, the other, or both in that order"
+unfoldable pub criteriaSets : List Criteria
+criteriaSets =
+    noCriteria
+    ∷ record { subscribed = true; special = false }
+    ∷ record { subscribed = false; special = true }
+    ∷ record { subscribed = true; special = true }
+    ∷ []
+
+-- what stands behind the name
+unfoldable pub readAmong : List Criteria → List ℕ → Option Criteria
+readAmong [] t = none
+readAmong (c ∷ cs) t = let later = readAmong cs t in cond (same t (childInfoText c ++ crlf)) (some c) later
+
+unfoldable pub childInfoRead : List ℕ → Option Criteria
+childInfoRead t = readAmong criteriaSets t
 
 -- a line with "a name of the table's shape (bytes, levels, INBOX rule, 1 to 200 bytes)"
 unfoldable pub readParts : List ℕ → Option Read
@@ -66,10 +80,10 @@ nameRead (line bs n c) = n
 nameRead root = []
 nameRead bad = []
 
-unfoldable pub childInfoOf : Read → Bool
+unfoldable pub childInfoOf : Read → Criteria
 childInfoOf (line bs n c) = c
-childInfoOf root = false
-childInfoOf bad = false
+childInfoOf root = noCriteria
+childInfoOf bad = noCriteria
 
 -- "12: reader: not such a line"; 0 where it is one
 unfoldable pub readNumber : Read → ℕ
@@ -88,20 +102,20 @@ sameBools (x ∷ xs) [] = false
 sameBools (x ∷ xs) (y ∷ ys) = cond x y (cond y false true) && sameBools xs ys
 
 -- the parts of the root line
-unfoldable pub rootParts : List Bool → List ℕ → Bool → Bool
-rootParts bs n c = sameBools bs rootAttributes && isEmpty n && cond c false true
+unfoldable pub rootParts : List Bool → List ℕ → Criteria → Bool
+rootParts bs n c = sameBools bs rootAttributes && isEmpty n && isNone c
 
 -- "The line writer .. writes any of these lines from its parts, marked with unmarked too; other parts are 12"
-unfoldable pub lineFrom : List Bool → List ℕ → Bool → Reply
+unfoldable pub lineFrom : List Bool → List ℕ → Criteria → Reply
 lineFrom bs n c =
     let other = cond (rootParts bs n c) (answered rootLine) (refusal 12) in
     cond (lawfulName n) (answered (listLine bs n c)) other
 
 -- "a short buffer 9, in that order"; bytes behind the line stay, and a refusal changes no byte: `bufferAfter`
-unfoldable pub written : List Bool → List ℕ → Bool → List ℕ → Reply
+unfoldable pub written : List Bool → List ℕ → Criteria → List ℕ → Reply
 written bs n c buffer = limited (length buffer) (lineFrom bs n c)
 
 -- opens every definition of this file, for a proof by computation
 unfoldable pub openReader : Unit {0}
-unfolding separated readChosen childInfoRead readParts orBad readLine rootAttributes attributesRead nameRead childInfoOf readNumber nameBytes sameBools rootParts lineFrom written
+unfolding separated readChosen criteriaSets readAmong childInfoRead readParts orBad readLine rootAttributes attributesRead nameRead childInfoOf readNumber nameBytes sameBools rootParts lineFrom written
 openReader = tt

@@ -7,17 +7,25 @@ use Prim.Native.Nat.{ℕ, zero, suc, _-_}
 use Rattle.listing_rules.specs.Bytes.{text, crlf, bit, slash}
 use Rattle.listing_rules.specs.Lists.{joined, onFirst}
 use Rattle.listing_rules.specs.Table.{rows, passes}
+use Rattle.listing_rules.specs.Options.{isNone}
 use Rattle.listing_rules.specs.Listing.{candidates}
 use Rattle.listing_rules.specs.Lines.{quoted}
 use Rattle.listing_rules.specs.Server.{Reply, refusal, answered, answer, limited}
 use Rattle.listing_rules.specs.Reader.{Read, line, root, bad, readLine}
 
--- "an option byte (1 REMOTE, 2 SPECIAL-USE)"
+-- "an option byte (1 REMOTE, 2 SPECIAL-USE)"; W3: "Option byte 4 lets the collector drop SUBSCRIBED"
 unfoldable pub wantsRemote : ℕ → Bool
 wantsRemote o = bit 0 o
 
 unfoldable pub wantsSpecial : ℕ → Bool
 wantsSpecial o = bit 1 o
+
+unfoldable pub dropsSubscribed : ℕ → Bool
+dropsSubscribed o = bit 2 o
+
+-- "legal only with 2 (else 6; a byte above 7 is 6)"
+unfoldable pub lawfulByte : ℕ → Bool
+lawfulByte o = leb o 7 && (not (dropsSubscribed o) || wantsSpecial o)
 
 unfoldable pub when : Bool → List ℕ → List ℕ
 when true t = t
@@ -26,8 +34,10 @@ when false t = []
 -- "It sends tag `w`, selection in the order SUBSCRIBED RECURSIVEMATCH SPECIAL-USE REMOTE, reference .., pattern "%"."
 unfoldable pub commandLine : ℕ → List ℕ → List ℕ
 commandLine o reference =
-    text "w LIST (SUBSCRIBED RECURSIVEMATCH" ++
-    (when (wantsSpecial o) (text " SPECIAL-USE") ++ (when (wantsRemote o) (text " REMOTE") ++ (text ") " ++ (quoted reference ++ (text " \"%\"" ++ crlf)))))
+    text "w LIST (" ++
+    (when (not (dropsSubscribed o)) (text "SUBSCRIBED ") ++
+    (text "RECURSIVEMATCH" ++
+    (when (wantsSpecial o) (text " SPECIAL-USE") ++ (when (wantsRemote o) (text " REMOTE") ++ (text ") " ++ (quoted reference ++ (text " \"%\"" ++ crlf)))))))
 
 -- the lines of an answer, each with its line feed
 unfoldable pub linesOf : List ℕ → List (List ℕ)
@@ -60,9 +70,10 @@ attr k bs = getD bs k false
 unfoldable pub useAttr : List Bool → Bool
 useAttr bs = attr 7 bs || attr 8 bs || attr 9 bs || attr 10 bs || attr 11 bs || attr 12 bs || attr 13 bs
 
--- "A line is a find if it has \Subscribed, has no \Remote unless REMOTE was asked, and has a use if SPECIAL-USE was."
+-- "A line is a find if it has \Subscribed, has no \Remote unless REMOTE was asked, and has a use if SPECIAL-USE was." Without SUBSCRIBED
+-- (W3) "A find then is a line with a use, under the same rule for remote".
 unfoldable pub isFind : ℕ → List Bool → Bool
-isFind o bs = attr 5 bs && (not (attr 4 bs) || wantsRemote o) && (not (wantsSpecial o) || useAttr bs)
+isFind o bs = (dropsSubscribed o || attr 5 bs) && (not (attr 4 bs) || wantsRemote o) && (not (wantsSpecial o) || useAttr bs)
 
 unfoldable pub withName : Bool → List ℕ → List (List ℕ) → List (List ℕ)
 withName true n ns = ns ++ (n ∷ [])
@@ -76,7 +87,7 @@ fits number room ns = cond (leb (length (packed ns)) room) (go ns) (stop number)
 unfoldable pub takenIn : ℕ → ℕ → ℕ → Lists → Read → Step Lists
 takenIn o room₁ room₂ s (line bs n c) =
     fits 10 room₁ (withName (isFind o bs) n (s .finds)) >>= λ f.
-    fits 11 room₂ (withName c n (s .asks)) >>= λ a. go (record { finds = f; asks = a })
+    fits 11 room₂ (withName (not (isNone c)) n (s .asks)) >>= λ a. go (record { finds = f; asks = a })
 takenIn o room₁ room₂ s root = go s
 takenIn o room₁ room₂ s bad = go s
 
@@ -120,11 +131,11 @@ unfoldable pub ended : Step Walked → WalkReply
 ended (stop k) = walkRefused k
 ended (go w) = walked (w .count) (packed (w .lists .finds)) (packed (w .lists .asks))
 
--- "Collector order: 1, 6, then the walk"; 6 is "an option byte above 3". No candidate is asked twice, so the candidates bound the steps.
+-- "Collector order: 1, 6, then the walk"; 6 is an option byte that is not lawful. No candidate is asked twice, so the candidates bound the steps.
 unfoldable pub walk : List ℕ → ℕ → ℕ → ℕ → ℕ → WalkReply
 walk table o scratch room₁ room₂ =
     let w = ended (walkAll table o scratch room₁ room₂ (suc (suc (length (candidates (rows table)))))) in
-    cond (passes table) (cond (leb o 3) w (walkRefused 6)) (walkRefused 1)
+    cond (passes table) (cond (lawfulByte o) w (walkRefused 6)) (walkRefused 1)
 
 -- the number of a refusal, 0 for none
 unfoldable pub walkNumber : WalkReply → ℕ
@@ -162,5 +173,5 @@ collected table o scratch found pending = walk table o (length scratch) (length 
 
 -- opens every definition of this file, for a proof by computation
 unfoldable pub openWalk : Unit {0}
-unfolding wantsRemote wantsSpecial when commandLine linesOf packed _>>=_ attr useAttr isFind withName fits takenIn takenAll replied asked walkFrom walkAll ended walk walkNumber walkCount foundLength zeroBehind foundAfter pendingAfter scratchAfter collected
+unfolding wantsRemote wantsSpecial dropsSubscribed lawfulByte when commandLine linesOf packed _>>=_ attr useAttr isFind withName fits takenIn takenAll replied asked walkFrom walkAll ended walk walkNumber walkCount foundLength zeroBehind foundAfter pendingAfter scratchAfter collected
 openWalk = tt

@@ -22,18 +22,18 @@ use frames::store;
 use octets::Written;
 
 // "added behind the stored bytes (16,384 and 1,024; no room: 1 or 2, nothing added)".
-pub const MAX_TABLE: usize = 16384;
+pub(crate) const MAX_TABLE: usize = 16384;
 
-pub const MAX_NAMESPACES: usize = 1024;
+pub(crate) const MAX_NAMESPACES: usize = 1024;
 
 const FULL_TABLE: u8 = 1;
 
 const FULL_LIST: u8 = 2;
 
-pub const BAD_FRAME: u8 = 13;
+pub(crate) const BAD_FRAME: u8 = 13;
 
 // How many bytes are stored behind a frame, and how many bytes of output lie at the front of `out`.
-pub struct Outcome {
+pub(crate) struct Outcome {
     pub table: usize,
     pub namespaces: usize,
     pub written: usize,
@@ -170,7 +170,7 @@ fn outcome_of(table: usize, namespaces: usize, written: usize) -> Outcome
 }
 
 // The frame of the characters gathered, when its line feed has come.
-pub fn end_frame(
+pub(crate) fn end_frame(
     rows: usize,
     entries: usize,
     gathered: Gathered,

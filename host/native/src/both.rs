@@ -1,5 +1,7 @@
 //! Each entry of both libraries: the proved one first, then the second program's.
 
+use luspemaro_host::Criteria;
+
 use crate::proved;
 
 pub const PROVED: usize = 0;
@@ -9,7 +11,7 @@ pub type Check = fn(&[u8]) -> bool;
 pub type Matches = fn(&[u8], &[u8]) -> bool;
 pub type Answer = fn(&[u8], &[u8], &[u8], &mut [u8]) -> Result<usize, u8>;
 pub type Collect = fn(&[u8], u8, &mut [u8], &mut [u8], &mut [u8]) -> Result<(usize, usize), u8>;
-pub type WriteLine = fn(u16, &[u8], bool, &mut [u8]) -> Result<usize, u8>;
+pub type WriteLine = fn(u16, &[u8], Criteria, &mut [u8]) -> Result<usize, u8>;
 
 pub const CHECK_TABLE: [Check; 2] = [proved::check_table, luspemaro_host::check_table];
 pub const CHECK_NAMESPACES: [Check; 2] =

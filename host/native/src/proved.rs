@@ -1,6 +1,6 @@
 //! The entries of the crate `exports`, with the second program's signatures.
 
-use luspemaro_host::Line;
+use luspemaro_host::{Criteria, Line};
 
 use crate::feeding::{FedChunk, FeederState};
 
@@ -18,7 +18,7 @@ struct Outcome {
 #[repr(C)]
 struct LineParts {
     number: u8,
-    child_info: bool,
+    criteria: u8,
     attributes: u16,
     length: usize,
     name: [u8; NAME_ROOM],
@@ -65,7 +65,7 @@ extern "C" {
         attributes: u16,
         name: *const u8,
         name_len: usize,
-        child_info: bool,
+        criteria: u8,
         out: *mut u8,
         out_len: usize,
     ) -> Outcome;
@@ -137,7 +137,7 @@ pub fn collect(
 pub fn write_line(
     attributes: u16,
     name: &[u8],
-    child_info: bool,
+    criteria: Criteria,
     out: &mut [u8],
 ) -> Result<usize, u8> {
     let outcome = unsafe {
@@ -145,7 +145,7 @@ pub fn write_line(
             attributes,
             name.as_ptr(),
             name.len(),
-            child_info,
+            criteria.bits(),
             out.as_mut_ptr(),
             out.len(),
         )
@@ -159,10 +159,10 @@ pub fn read_line(line: &[u8]) -> LineRead {
         0 => Ok(Line {
             attrs: parts.attributes,
             name: parts.name[..parts.length].to_vec(),
-            childinfo: parts.child_info,
+            childinfo: Criteria::from_bits(parts.criteria).expect("two criteria"),
         }),
         number => {
-            let is_empty = (parts.attributes, parts.length, parts.child_info) == (0, 0, false);
+            let is_empty = (parts.attributes, parts.length, parts.criteria) == (0, 0, 0);
             assert!(is_empty, "a refusal with attributes, a length or CHILDINFO");
             Err(number)
         }

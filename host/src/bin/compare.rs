@@ -17,8 +17,8 @@ const USAGE: &str = "usage: compare PROGRAM [--seeds A..B] [--quick]";
 /// Status for what is wrong with the call.
 const BAD_CALL: u8 = 2;
 /// The seeds of a whole run and of a quick one.
-const SEEDS: Range<u64> = 0..9_900;
-const QUICK_SEEDS: Range<u64> = 0..1_980;
+const SEEDS: Range<u64> = 0..20_000;
+const QUICK_SEEDS: Range<u64> = 0..4_000;
 /// After so many differences the rest is not run.
 const MOST_FAILURES: u64 = 10;
 

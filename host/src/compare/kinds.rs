@@ -7,7 +7,9 @@ use super::limits;
 use super::literals;
 use super::random::Random;
 use super::sending::Sending;
+use super::special_uses;
 use super::tables::{good_table, rows_named, table_bytes, NewRow};
+use super::walks::some_walk;
 use crate::child::SentFrame;
 use crate::command::MAX_LINE;
 use crate::frames::MAX_DIGITS;
@@ -19,7 +21,7 @@ use crate::table::Flags;
 type Kind = (&'static str, fn(&mut Random) -> Vec<SentFrame>);
 
 /// A seed's kind is the seed modulo their number.
-pub const KINDS: [Kind; 22] = [
+pub const KINDS: [Kind; 25] = [
     ("a table and commands", commands_over_a_table),
     ("a growing table", growing_table),
     ("a damaged table", damaged_tables),
@@ -42,6 +44,9 @@ pub const KINDS: [Kind; 22] = [
     ("literals", literals::commands_with_literals),
     ("odd literals", literals::odd_commands),
     ("limits of literals", literals::limits),
+    ("special uses by tree", special_uses::trees),
+    ("option bytes", special_uses::option_bytes),
+    ("limits of answers with CHILDINFO", limits::answers_with_childinfo),
 ];
 
 fn commands_over_a_table(random: &mut Random) -> Vec<SentFrame> {
@@ -70,7 +75,7 @@ fn growing_table(random: &mut Random) -> Vec<SentFrame> {
             sending.command(&line);
         }
         if sending.random.percent(30) {
-            let option = sending.random.below(4) as u8;
+            let option = sending.random.below(8) as u8;
             sending.walk(option);
         }
     }
@@ -183,8 +188,8 @@ fn walks_of_deep_trees(random: &mut Random) -> Vec<SentFrame> {
     sending.table(&table_bytes(&rows));
     sending.every_walk();
     for name in names.iter().take(10) {
-        let options = sending.random.pick(&["", " SPECIAL-USE", " REMOTE", " SPECIAL-USE REMOTE"]);
-        let mut line = format!("w LIST (SUBSCRIBED RECURSIVEMATCH{options}) ").into_bytes();
+        let walk = some_walk(sending.random);
+        let mut line = format!("w LIST ({}) ", walk.selection).into_bytes();
         push_quoted(&mut line, &name::descendant_prefix(name));
         line.extend_from_slice(b" \"%\"\r\n");
         sending.command(&line);

@@ -5,6 +5,7 @@ use std::collections::BTreeSet;
 use super::random::Random;
 use super::sending::Sending;
 use super::tables::{table_bytes, NewRow};
+use super::walks::{some_walk, Walk};
 use crate::child::SentFrame;
 use crate::command::{MAX_CANONICAL, MAX_LINE, MAX_PATTERNS};
 use crate::frames::{
@@ -15,9 +16,9 @@ use crate::server::answer;
 use crate::table::{Flags, MAX_ROWS, ROW_HEAD};
 
 /// Existing and subscribed.
-const SUBSCRIBED: Flags = Flags::from_bits(Flags::EXISTS.bits() | Flags::SUBSCRIBED.bits());
+const SUBSCRIBED: Flags = Flags::EXISTS.with(Flags::SUBSCRIBED);
 /// Existing and remote.
-const REMOTE: Flags = Flags::from_bits(Flags::EXISTS.bits() | Flags::REMOTE.bits());
+const REMOTE: Flags = Flags::EXISTS.with(Flags::REMOTE);
 /// Longer than the answers whose length is measured.
 const AMPLE_ROOM: usize = 65_536;
 
@@ -26,8 +27,8 @@ pub fn tables(random: &mut Random) -> Vec<SentFrame> {
     let over = random.below(2);
     let rows = match random.below(3) {
         0 => numbered_rows(MAX_ROWS + over, 5, Flags::EXISTS),
-        1 => vec![row_named("n".repeat(MAX_NAME + over))],
-        _ => vec![row_named(vec!["l"; MAX_LEVELS + over].join("/"))],
+        1 => vec![row_named("n".repeat(MAX_NAME + over), SUBSCRIBED)],
+        _ => vec![row_named(vec!["l"; MAX_LEVELS + over].join("/"), SUBSCRIBED)],
     };
     let mut sending = Sending::new(random);
     sending.table(&table_bytes(&rows));
@@ -71,7 +72,7 @@ fn after_filling(sending: &mut Sending, first: u8) {
 /// Numbers of patterns, canonical lengths and line lengths, each at its limit or one over it.
 pub fn commands(random: &mut Random) -> Vec<SentFrame> {
     let mut sending = Sending::new(random);
-    sending.table(&table_bytes(&[row_named("x".to_string())]));
+    sending.table(&table_bytes(&[row_named("x".to_string(), SUBSCRIBED)]));
     for over in 0..2 {
         let empty = sending.random.below(MAX_PATTERNS);
         let mut patterns = vec!["x"; MAX_PATTERNS + over];
@@ -121,6 +122,21 @@ pub fn answers_with_levels(random: &mut Random) -> Vec<SentFrame> {
     answers_of(random, rows, rest, &[" LIST \"\" %", " LIST \"\" % RETURN (CHILDREN)"])
 }
 
+/// The same for lines with CHILDINFO: each row lies below a level of its own, and meets the
+/// criteria. The lines differ by what is selected.
+pub fn answers_with_childinfo(random: &mut Random) -> Vec<SentFrame> {
+    const SPARE: usize = 2_500;
+    let rest = |walk: &Walk| format!(" LIST ({}) \"\" %", walk.selection);
+    let (walk, other) = (some_walk(random), some_walk(random));
+    let command = format!("t{}\r\n", rest(walk));
+    let rows = rows_filling(
+        ANSWER_ROOM - SPARE,
+        |count| rows_around("", &numbered_rows(count, 10, walk.flags), "/c"),
+        |rows| answer_length(&table_bytes(rows), &command),
+    );
+    answers_of(random, rows, &rest(walk), &[&rest(other)])
+}
+
 /// Commands whose answers fill the buffer, or are a byte longer or shorter; the tag makes the
 /// length. Under the same tags then others.
 fn answers_of(
@@ -148,8 +164,9 @@ fn answers_of(
 /// Walks whose finds fill found, or need a byte more: few long names.
 pub fn walks_for_found(random: &mut Random) -> Vec<SentFrame> {
     let target = FOUND_ROOM + random.below(2);
-    let below = random.pick(&["", "P/"]);
-    let mut rows = rows_below(below, &numbered_rows(41, 150, SUBSCRIBED));
+    let above = random.pick(&["", "P/"]);
+    let flags = some_walk(random).flags;
+    let mut rows = rows_around(above, &numbered_rows(41, 150, flags), "");
     stretch(&mut rows, target, |rows| rows.iter().map(|row| 1 + row.name.len()).sum());
     walks_of(random, &rows)
 }
@@ -162,24 +179,31 @@ pub fn walks_for_pending(random: &mut Random) -> Vec<SentFrame> {
     walks_of(random, &rows)
 }
 
-/// Every level subscribed: a line is a find and pending, and found and pending fill together.
+/// Every level meets the criteria: a line is a find and pending, and found and pending fill
+/// together.
 pub fn walks_for_both(random: &mut Random) -> Vec<SentFrame> {
     let level = "l".repeat(random.within(8..=11));
+    let flags = some_walk(random).flags;
     let chain = |first: usize| {
         let names = (1..=MAX_LEVELS).map(|depth| vec![level.as_str(); depth].join("/"));
-        names.map(|name| row_named(format!("{first}{name}"))).collect::<Vec<_>>()
+        names.map(|name| row_named(format!("{first}{name}"), flags)).collect::<Vec<_>>()
     };
     let rows: Vec<NewRow> = (0..6).flat_map(chain).collect();
     walks_of(random, &rows)
 }
 
-/// Walks with an answer that fills scratch, or is a byte longer: many short names.
+/// Walks with an answer that fills scratch, or is a byte longer: many short names, or as many
+/// levels with CHILDINFO.
 pub fn walks_for_scratch(random: &mut Random) -> Vec<SentFrame> {
     let target = SCRATCH_ROOM + random.below(2);
-    let below = random.pick(&["", "P/"]);
-    let mut rows = rows_below(below, &numbered_rows(random.within(300..=320), 12, SUBSCRIBED));
-    let command = format!("w LIST (SUBSCRIBED RECURSIVEMATCH) \"{below}\" \"%\"\r\n");
-    stretch(&mut rows, target, |rows| answer_length(&table_bytes(rows), &command));
+    let spare = random.within(100..=1_500);
+    let walk = some_walk(random);
+    let (above, below) = (random.pick(&["", "P/"]), random.pick(&["", "/c"]));
+    let command = format!("w LIST ({}) \"{above}\" \"%\"\r\n", walk.selection);
+    let measure = |rows: &[NewRow]| answer_length(&table_bytes(rows), &command);
+    let rows_of = |count| rows_around(above, &numbered_rows(count, 12, walk.flags), below);
+    let mut rows = rows_filling(target - spare, rows_of, measure);
+    stretch(&mut rows, target, measure);
     walks_of(random, &rows)
 }
 
@@ -190,19 +214,31 @@ fn walks_of(random: &mut Random, rows: &[NewRow]) -> Vec<SentFrame> {
     sending.frames
 }
 
-/// Subscribed names at the end of many levels, and behind them names with one level above.
-/// Their pending names leave some room for the latter to be stretched.
+/// Names that meet the criteria at the end of many levels, and behind them names with one level
+/// above. Their pending names leave some room for the latter to be stretched.
 fn chains(random: &mut Random) -> Vec<NewRow> {
     let mut rows = Vec::new();
+    let flags = some_walk(random).flags;
     while pending_length(&rows) < PENDING_ROOM - 3_000 {
         let levels = random.within(8..=MAX_LEVELS);
         let chain = vec!["chain"; levels].join("/");
-        rows.push(row_named(format!("{:03}{chain}", rows.len())));
+        rows.push(row_named(format!("{:03}{chain}", rows.len()), flags));
     }
     for number in rows.len()..rows.len() + 17 {
-        rows.push(row_named(format!("{number:03}/c")));
+        rows.push(row_named(format!("{number:03}/c"), flags));
     }
     rows
+}
+
+/// As many rows as a measure that grows alike with each row lets stand below its target.
+fn rows_filling(
+    target: usize,
+    rows_of: impl Fn(usize) -> Vec<NewRow>,
+    measure: impl Fn(&[NewRow]) -> usize,
+) -> Vec<NewRow> {
+    let one = measure(&rows_of(1));
+    let another = measure(&rows_of(2)) - one;
+    rows_of(1 + (target - one) / another)
 }
 
 /// Lengthens first levels, from the last row on, until a measure that grows with each byte
@@ -237,12 +273,12 @@ fn numbered_rows(count: usize, length: usize, flags: Flags) -> Vec<NewRow> {
     (0..count).map(|number| NewRow { flags, name: name(number).into_bytes() }).collect()
 }
 
-fn rows_below(prefix: &str, rows: &[NewRow]) -> Vec<NewRow> {
-    let below =
-        |row: &NewRow| NewRow { flags: row.flags, name: [prefix.as_bytes(), &row.name].concat() };
-    rows.iter().map(below).collect()
+/// The rows with levels before and behind their names.
+fn rows_around(above: &str, rows: &[NewRow], below: &str) -> Vec<NewRow> {
+    let name = |row: &NewRow| [above.as_bytes(), &row.name, below.as_bytes()].concat();
+    rows.iter().map(|row| NewRow { flags: row.flags, name: name(row) }).collect()
 }
 
-fn row_named(name: String) -> NewRow {
-    NewRow { flags: SUBSCRIBED, name: name.into_bytes() }
+fn row_named(name: String, flags: Flags) -> NewRow {
+    NewRow { flags, name: name.into_bytes() }
 }

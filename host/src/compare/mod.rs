@@ -12,8 +12,10 @@ mod literals;
 pub mod random;
 mod report;
 mod sending;
+mod special_uses;
 pub mod streams;
 pub mod tables;
+mod walks;
 
 use std::path::Path;
 

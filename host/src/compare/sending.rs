@@ -1,6 +1,7 @@
 //! From bytes to the frames of a session.
 
 use super::random::Random;
+use super::walks::{REFUSED_OPTIONS, WALKS};
 use crate::child::SentFrame;
 use crate::frames::{hex_of, COMMAND, ENTRY, MAX_DIGITS, ROW, WALK};
 use crate::table::{split_rows, Row};
@@ -32,9 +33,9 @@ impl Sending<'_> {
         self.frame(WALK, &[option]);
     }
 
-    /// A walk with each option byte that there is, and two that there are not.
+    /// A walk with each lawful option byte, and with some that are refused.
     pub fn every_walk(&mut self) {
-        for option in [0, 1, 2, 3, 4, 255] {
+        for option in WALKS.iter().map(|walk| walk.option).chain(REFUSED_OPTIONS) {
             self.walk(option);
         }
     }

@@ -9,7 +9,7 @@
 //! | a namespace entry | `namespace personal "" "/"`, `namespace shared "#mh/" NIL` |
 //! | a command; CR LF is added | `command a LIST "" "*"` |
 //! | a command with literals | `command a LIST "" {3}`, and in the next line `+ Foo RETURN ()` |
-//! | a walk | `walk`, `walk remote special-use`, `walk 3` |
+//! | a walk | `walk`, `walk remote`, `walk special-use without-subscribed`, `walk 6` |
 //! | a frame as it is sent | `frame 57FF` |
 //!
 //! A command goes on in each line that starts with `+` and follows it at once: CR LF and what

@@ -105,7 +105,7 @@ fn parse_namespace(text: &[u8]) -> Result<Frame, String> {
     Ok(Frame::Entry(entry.ok_or("a prefix has at most 255 bytes in an entry")?))
 }
 
-/// *(remote / special-use / NUMBER)
+/// *(remote / special-use / without-subscribed / NUMBER)
 fn parse_walk(text: &[u8]) -> Result<Frame, String> {
     let option = walk_option_of_words(words_of(text)?);
     option.map(Frame::Walk).map_err(|word| unknown("option of a walk", word, &walk_words()))

@@ -1,6 +1,6 @@
 //! The words of a session file for flags, classes of namespaces and options of a walk.
 
-use crate::collector::{OPTION_REMOTE, OPTION_SPECIAL_USE};
+use crate::collector::{OPTION_REMOTE, OPTION_SPECIAL_USE, OPTION_WITHOUT_SUBSCRIBED};
 use crate::table::Flags;
 
 /// Words, each with the bits that it stands for.
@@ -23,8 +23,11 @@ const FLAG_WORDS: &Words = &[
     ("trash", Flags::TRASH.bits()),
 ];
 
-const WALK_WORDS: &Words =
-    &[("remote", OPTION_REMOTE as u16), ("special-use", OPTION_SPECIAL_USE as u16)];
+const WALK_WORDS: &Words = &[
+    ("remote", OPTION_REMOTE as u16),
+    ("special-use", OPTION_SPECIAL_USE as u16),
+    ("without-subscribed", OPTION_WITHOUT_SUBSCRIBED as u16),
+];
 
 /// In the order of their numbers, 0 to 2.
 const CLASS_WORDS: [&str; 3] = ["personal", "other-users", "shared"];

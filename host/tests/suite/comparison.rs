@@ -12,7 +12,7 @@ const ECHO: &str = "/bin/cat";
 /// A program that answers nothing.
 const SILENT: &str = "/bin/true";
 /// Sessions of every kind.
-const SEEDS: std::ops::Range<u64> = 0..22;
+const SEEDS: std::ops::Range<u64> = 0..25;
 
 #[test]
 fn the_second_program_passes() {

@@ -1,6 +1,6 @@
 //! The line writer and the line reader.
 
-use luspemaro_host::{read_line, write_line, Line};
+use luspemaro_host::{read_line, write_line, Criteria, Line};
 
 const NOSELECT: u16 = 1 << 2;
 const SUBSCRIBED: u16 = 1 << 5;
@@ -8,18 +8,25 @@ const ALL_SIXTEEN: u16 = 0xFFFF;
 const ROOM: usize = 1_000;
 
 /// Attributes, name, CHILDINFO, and the line without its CR LF.
-const LINES: [(u16, &str, bool, &str); 8] = [
-    (0, "Foo", false, r#"* LIST () "/" "Foo""#),
-    (NOSELECT, "", false, r#"* LIST (\Noselect) "/" """#),
-    (NOSELECT, "Foo", false, r#"* LIST (\Noselect) "/" "Foo""#),
-    (0x8001, "a b", false, r#"* LIST (\Marked \HasNoChildren) "/" "a b""#),
-    (0x0003, "x/inbox", false, r#"* LIST (\Marked \Unmarked) "/" "x/inbox""#),
-    (SUBSCRIBED, "INBOX", true, r#"* LIST (\Subscribed) "/" "INBOX" ("CHILDINFO" ("SUBSCRIBED"))"#),
-    (0, r#"q"\"#, true, r#"* LIST () "/" "q\"\\" ("CHILDINFO" ("SUBSCRIBED"))"#),
+const LINES: [(u16, &str, Criteria, &str); 10] = [
+    (0, "Foo", Criteria::NONE, r#"* LIST () "/" "Foo""#),
+    (NOSELECT, "", Criteria::NONE, r#"* LIST (\Noselect) "/" """#),
+    (NOSELECT, "Foo", Criteria::NONE, r#"* LIST (\Noselect) "/" "Foo""#),
+    (0x8001, "a b", Criteria::NONE, r#"* LIST (\Marked \HasNoChildren) "/" "a b""#),
+    (0x0003, "x/inbox", Criteria::NONE, r#"* LIST (\Marked \Unmarked) "/" "x/inbox""#),
+    (
+        SUBSCRIBED,
+        "INBOX",
+        Criteria::SUBSCRIBED,
+        r#"* LIST (\Subscribed) "/" "INBOX" ("CHILDINFO" ("SUBSCRIBED"))"#,
+    ),
+    (0, r#"q"\"#, Criteria::SUBSCRIBED, r#"* LIST () "/" "q\"\\" ("CHILDINFO" ("SUBSCRIBED"))"#),
+    (0, "Foo", Criteria::SPECIAL_USE, r#"* LIST () "/" "Foo" ("CHILDINFO" ("SPECIAL-USE"))"#),
+    (0, "Foo", Criteria::BOTH, r#"* LIST () "/" "Foo" ("CHILDINFO" ("SUBSCRIBED" "SPECIAL-USE"))"#),
     (
         ALL_SIXTEEN,
         "z",
-        false,
+        Criteria::NONE,
         concat!(
             r#"* LIST (\Marked \Unmarked \Noselect \NoInferiors \Remote \Subscribed"#,
             r#" \NonExistent \All \Archive \Drafts \Flagged \Junk \Sent \Trash"#,
@@ -42,13 +49,29 @@ fn written_and_read_back() {
 }
 
 #[test]
-fn every_set_of_attributes_comes_back() {
+fn every_set_of_attributes_and_criteria_comes_back() {
     for attrs in 0..=ALL_SIXTEEN {
-        let mut out = [0; ROOM];
-        let length = write_line(attrs, b"Foo/Bar", true, &mut out).expect("a line");
-        let parts = Line { attrs, name: b"Foo/Bar".to_vec(), childinfo: true };
-        assert_eq!(read_line(&out[..length]), Ok(parts));
+        for childinfo in every_set_of_criteria() {
+            let mut out = [0; ROOM];
+            let length = write_line(attrs, b"Foo/Bar", childinfo, &mut out).expect("a line");
+            let parts = Line { attrs, name: b"Foo/Bar".to_vec(), childinfo };
+            assert_eq!(read_line(&out[..length]), Ok(parts));
+        }
     }
+}
+
+/// Bit 0 is SUBSCRIBED and bit 1 is SPECIAL-USE; no other bit stands for a criterion.
+#[test]
+fn criteria_as_bits() {
+    let sets = [Criteria::NONE, Criteria::SUBSCRIBED, Criteria::SPECIAL_USE, Criteria::BOTH];
+    assert!(every_set_of_criteria().eq(sets));
+    for (bits, set) in (0..).zip(sets) {
+        assert_eq!(set.bits(), bits);
+    }
+}
+
+fn every_set_of_criteria() -> impl Iterator<Item = Criteria> {
+    (0..=u8::MAX).filter_map(Criteria::from_bits)
 }
 
 /// 12 comes before 9, and neither changes a byte.
@@ -56,17 +79,20 @@ fn every_set_of_attributes_comes_back() {
 fn refused_parts() {
     let long = "n".repeat(201);
     let deep = "a/".repeat(16) + "a";
-    let parts: [(u16, &str, bool); 10] = [
-        (0, "", false),
-        (NOSELECT, "", true),
-        (NOSELECT | SUBSCRIBED, "", false),
-        (0, "inbox", false),
-        (0, "Inbox/x", false),
-        (0, "a//b", false),
-        (0, "a%", false),
-        (0, "a\t", false),
-        (0, &long, false),
-        (0, &deep, false),
+    let parts: [(u16, &str, Criteria); 13] = [
+        (0, "", Criteria::NONE),
+        (NOSELECT, "", Criteria::SUBSCRIBED),
+        (NOSELECT, "", Criteria::SPECIAL_USE),
+        (NOSELECT, "", Criteria::BOTH),
+        (NOSELECT | SUBSCRIBED, "", Criteria::NONE),
+        (0, "inbox", Criteria::NONE),
+        (0, "Inbox/x", Criteria::NONE),
+        (0, "a//b", Criteria::NONE),
+        (0, "a%", Criteria::NONE),
+        (0, "a%", Criteria::SPECIAL_USE),
+        (0, "a\t", Criteria::NONE),
+        (0, &long, Criteria::NONE),
+        (0, &deep, Criteria::NONE),
     ];
     for (attrs, name, childinfo) in parts {
         for room in [0, ROOM] {
@@ -86,44 +112,59 @@ fn short_buffers() {
     }
 }
 
+/// Texts that are no LIST line, or not byte for byte as the writer gives it.
+const REFUSED_LINES: &[&str] = &[
+    "",
+    "\r\n",
+    "* LIST () \"/\" \"Foo\"",
+    "* LIST () \"/\" \"Foo\"\n",
+    "* LIST () \"/\" \"Foo\"\r\n\r\n",
+    "* LIST () \"/\" \"Foo\" \r\n",
+    "* list () \"/\" \"Foo\"\r\n",
+    "* LIST  () \"/\" \"Foo\"\r\n",
+    "* LIST () \".\" \"Foo\"\r\n",
+    "* LIST () NIL \"Foo\"\r\n",
+    "* LIST () \"/\" Foo\r\n",
+    "* LIST () \"/\" \"\"\r\n",
+    "* LIST () \"/\" \"Foo\r\n",
+    "* LIST () \"/\" \"F\\oo\"\r\n",
+    "* LIST () \"/\" \"Foo\\\"\r\n",
+    "* LIST () \"/\" \"inbox\"\r\n",
+    "* LIST () \"/\" \"Foo/\"\r\n",
+    "* LIST () \"/\" \"Foo%\"\r\n",
+    "* LIST (\\Subscribed \\Remote) \"/\" \"Foo\"\r\n",
+    "* LIST (\\Remote \\Remote) \"/\" \"Foo\"\r\n",
+    "* LIST (\\Remote  \\Subscribed) \"/\" \"Foo\"\r\n",
+    "* LIST (\\Remote ) \"/\" \"Foo\"\r\n",
+    "* LIST ( \\Remote) \"/\" \"Foo\"\r\n",
+    "* LIST (\\remote) \"/\" \"Foo\"\r\n",
+    "* LIST (\\Remote\\Subscribed) \"/\" \"Foo\"\r\n",
+    "* LIST (\\HasChild) \"/\" \"Foo\"\r\n",
+    "* LIST (\\Noselect \\Remote) \"/\" \"\"\r\n",
+    "* LIST (\\Noselect) \"/\" \"\" (\"CHILDINFO\" (\"SUBSCRIBED\"))\r\n",
+    "* LIST () \"/\" \"Foo\" (\"CHILDINFO\" (\"REMOTE\"))\r\n",
+    "* LIST () \"/\" \"Foo\" (CHILDINFO (\"SUBSCRIBED\"))\r\n",
+    "* LIST () \"/\" \"Foo\"  (\"CHILDINFO\" (\"SUBSCRIBED\"))\r\n",
+    "* LIST (\\Noselect) \"/\" \"\" (\"CHILDINFO\" (\"SPECIAL-USE\"))\r\n",
+    "* LIST () \"/\" \"Foo\" (\"CHILDINFO\" ())\r\n",
+    "* LIST () \"/\" \"Foo\" (\"CHILDINFO\" (\"SPECIAL-USE\" \"SUBSCRIBED\"))\r\n",
+    "* LIST () \"/\" \"Foo\" (\"CHILDINFO\" (\"SUBSCRIBED\"  \"SPECIAL-USE\"))\r\n",
+    "* LIST () \"/\" \"Foo\" (\"CHILDINFO\" (\"SUBSCRIBED\"\"SPECIAL-USE\"))\r\n",
+    "* LIST () \"/\" \"Foo\" (\"CHILDINFO\" (\"SUBSCRIBED\" \"SUBSCRIBED\"))\r\n",
+    "* LIST () \"/\" \"Foo\" (\"CHILDINFO\" (\"SUBSCRIBED\" \"REMOTE\"))\r\n",
+    "* LIST () \"/\" \"Foo\" (\"CHILDINFO\" (\"SUBSCRIBED\" ))\r\n",
+    "* LIST () \"/\" \"Foo\" (\"CHILDINFO\" ( \"SPECIAL-USE\"))\r\n",
+    "* LIST () \"/\" \"Foo\" (\"CHILDINFO\" (\"special-use\"))\r\n",
+    "* LIST () \"/\" \"Foo\" (\"CHILDINFO\" (SPECIAL-USE))\r\n",
+    "* LIST () \"/\" \"Foo\" (\"CHILDINFO\" (\"SPECIAL-USE\")\r\n",
+    "* LIST () \"/\" \"Foo\" (\"CHILDINFO\" (\"SUBSCRIBED\")) (\"CHILDINFO\" (\"SPECIAL-USE\"))\r\n",
+    "* NAMESPACE NIL NIL NIL\r\n",
+    "w OK done\r\n",
+];
+
 #[test]
 fn refused_lines() {
-    let lines = [
-        "",
-        "\r\n",
-        "* LIST () \"/\" \"Foo\"",
-        "* LIST () \"/\" \"Foo\"\n",
-        "* LIST () \"/\" \"Foo\"\r\n\r\n",
-        "* LIST () \"/\" \"Foo\" \r\n",
-        "* list () \"/\" \"Foo\"\r\n",
-        "* LIST  () \"/\" \"Foo\"\r\n",
-        "* LIST () \".\" \"Foo\"\r\n",
-        "* LIST () NIL \"Foo\"\r\n",
-        "* LIST () \"/\" Foo\r\n",
-        "* LIST () \"/\" \"\"\r\n",
-        "* LIST () \"/\" \"Foo\r\n",
-        "* LIST () \"/\" \"F\\oo\"\r\n",
-        "* LIST () \"/\" \"Foo\\\"\r\n",
-        "* LIST () \"/\" \"inbox\"\r\n",
-        "* LIST () \"/\" \"Foo/\"\r\n",
-        "* LIST () \"/\" \"Foo%\"\r\n",
-        "* LIST (\\Subscribed \\Remote) \"/\" \"Foo\"\r\n",
-        "* LIST (\\Remote \\Remote) \"/\" \"Foo\"\r\n",
-        "* LIST (\\Remote  \\Subscribed) \"/\" \"Foo\"\r\n",
-        "* LIST (\\Remote ) \"/\" \"Foo\"\r\n",
-        "* LIST ( \\Remote) \"/\" \"Foo\"\r\n",
-        "* LIST (\\remote) \"/\" \"Foo\"\r\n",
-        "* LIST (\\Remote\\Subscribed) \"/\" \"Foo\"\r\n",
-        "* LIST (\\HasChild) \"/\" \"Foo\"\r\n",
-        "* LIST (\\Noselect \\Remote) \"/\" \"\"\r\n",
-        "* LIST (\\Noselect) \"/\" \"\" (\"CHILDINFO\" (\"SUBSCRIBED\"))\r\n",
-        "* LIST () \"/\" \"Foo\" (\"CHILDINFO\" (\"REMOTE\"))\r\n",
-        "* LIST () \"/\" \"Foo\" (CHILDINFO (\"SUBSCRIBED\"))\r\n",
-        "* LIST () \"/\" \"Foo\"  (\"CHILDINFO\" (\"SUBSCRIBED\"))\r\n",
-        "* NAMESPACE NIL NIL NIL\r\n",
-        "w OK done\r\n",
-    ];
-    for line in lines {
+    for line in REFUSED_LINES {
         assert_eq!(read_line(line.as_bytes()), Err(12), "{line:?}");
     }
 }

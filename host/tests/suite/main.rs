@@ -15,5 +15,6 @@ mod rfc2342;
 mod rfc5258;
 mod rfc6154;
 mod sessions;
+mod special_uses;
 mod streams;
 mod walks;

@@ -72,6 +72,11 @@ fn walks() {
     assert_eq!(output_of("5700\n"), "570001\n");
     assert_eq!(output_of(&format!("{rows}5700\n5701\n")), "57000203612F62\n".repeat(2));
     assert_eq!(output_of(&format!("{rows}5702\n5704\n57ff\n")), "570001\n5206\n5206\n");
+    let used = frame(frames::ROW, b"\x20\x01\x03a/b");
+    assert_eq!(
+        output_of(&format!("{used}5702\n5706\n5707\n5708\n")),
+        "570001\n57000203612F62\n57000203612F62\n5206\n"
+    );
     let bad_table = frame(frames::ROW, b"\x00");
     assert_eq!(output_of(&format!("{bad_table}5704\n")), "5201\n");
     let bad_list = frame(frames::ENTRY, b"\x00");

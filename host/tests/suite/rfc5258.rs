@@ -376,7 +376,9 @@ fn rfc5258_ex11() {
     );
 }
 
-/// The lists of options that section 6 allows, and those that it does not.
+/// The lists of options that section 6 allows, and those that it does not. Beside SPECIAL-USE the
+/// prose of section 3 decides, which forbids RECURSIVEMATCH "only alone or with REMOTE" (W3,
+/// document 02).
 #[test]
 fn rfc5258_section6() {
     let lists = [
@@ -386,6 +388,7 @@ fn rfc5258_section6() {
         ("(SUBSCRIBED REMOTE)", Ok(())),
         ("(SUBSCRIBED RECURSIVEMATCH)", Ok(())),
         ("(SUBSCRIBED REMOTE RECURSIVEMATCH)", Ok(())),
+        ("(SPECIAL-USE RECURSIVEMATCH)", Ok(())),
         ("(RECURSIVEMATCH)", Err(7)),
         ("(REMOTE RECURSIVEMATCH)", Err(7)),
     ];

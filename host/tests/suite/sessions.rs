@@ -15,6 +15,7 @@ const FILE: &str = concat!(env!("CARGO_MANIFEST_DIR"), "/sessions/customers.sess
 const CUSTOMERS: &str = include_str!("../../sessions/customers.session");
 const REFUSALS: &str = include_str!("../../sessions/refusals.session");
 const LITERALS: &str = include_str!("../../sessions/literals.session");
+const SPECIAL_FOLDERS: &str = include_str!("../../sessions/special-folders.session");
 const README: &str = include_str!("../../../README.md");
 
 fn check(source: &str) -> Result<Session, SessionError> {
@@ -60,6 +61,9 @@ fn items_and_their_frames() {
         ("walk", "5700"),
         ("walk remote", "5701"),
         ("walk special-use remote", "5703"),
+        ("walk special-use without-subscribed", "5706"),
+        ("walk without-subscribed", "5704"),
+        ("walk 6 remote", "5707"),
         ("walk 255", "57FF"),
         ("frame 57fF", "57fF"),
         ("frame", ""),
@@ -100,7 +104,11 @@ fn lines_that_are_no_items() {
         ("namespace shared \"\"", "a namespace has"),
         ("namespace shared \"\" \"//\"", "a delimiter is one byte"),
         ("namespace shared \"\" \"/\" x", "a delimiter is one byte"),
-        ("walk local", "unknown option of a walk \"local\"; known are remote, special-use"),
+        (
+            "walk local",
+            "unknown option of a walk \"local\"; known are remote, special-use, without-",
+        ),
+        ("walk subscribed", "unknown option of a walk \"subscribed\""),
         ("walk 256", "unknown option of a walk \"256\""),
         (&long_line, "over 16384 bytes"),
         (&long_command, "over 16384 bytes"),
@@ -252,7 +260,12 @@ fn the_night_of_customers_abc() {
             "           Customers/ABC\n",
         ),
     ];
-    let mut rest = text.as_str();
+    check_parts(&text, &parts);
+}
+
+/// Checks that the parts stand in a text in this order, the last of them at its end.
+fn check_parts(text: &str, parts: &[&str]) {
+    let mut rest = text;
     for part in parts {
         let at = rest.find(part).unwrap_or_else(|| panic!("{part} is not next in\n{text}"));
         rest = &rest[at + part.len()..];
@@ -325,6 +338,43 @@ fn commands_with_literals() {
     );
 }
 
+/// W3: what the walk for special uses finds with SUBSCRIBED and without, and what is refused.
+#[test]
+fn the_special_folders() {
+    let text = printed(SPECIAL_FOLDERS, Form::Text);
+    let parts = [
+        concat!(
+            "Answer     * LIST (\\Archive) \"/\" \"Archive\"\n",
+            "           * LIST () \"/\" \"INBOX\" (\"CHILDINFO\" (\"SPECIAL-USE\"))\n",
+            "           * LIST (\\NonExistent) \"/\" \"Offices\" (\"CHILDINFO\" (\"SPECIAL-USE\"))\n",
+            "           a1 OK done\n",
+        ),
+        "Answer     * LIST () \"/\" \"INBOX\" (\"CHILDINFO\" (\"SUBSCRIBED\" \"SPECIAL-USE\"))\n",
+        concat!(
+            "Walk       option byte 2: special-use\n",
+            "Answer     2 commands sent, 1 mailbox found\n",
+            "           INBOX/Sent\n",
+        ),
+        concat!(
+            "Walk       option byte 6: special-use without-subscribed\n",
+            "Answer     4 commands sent, 3 mailboxes found\n",
+            "           Archive\n",
+            "           INBOX/Sent\n",
+            "           Offices/Berlin/Trash\n",
+        ),
+        concat!(
+            "Walk       option byte 7: remote special-use without-subscribed\n",
+            "Answer     5 commands sent, 4 mailboxes found\n",
+        ),
+        "Refused    7: RECURSIVEMATCH without SUBSCRIBED or SPECIAL-USE\n",
+        concat!(
+            "Walk       option byte 5: remote without-subscribed\n",
+            "Refused    6: unknown option, one with a value, or an unlawful option byte\n",
+        ),
+    ];
+    check_parts(&text, &parts);
+}
+
 /// The session that the README shows gives the output that it shows.
 #[test]
 fn the_session_of_the_readme() {
@@ -361,7 +411,7 @@ fn wrong_calls() {
     assert_eq!(bad_line.status.code(), Some(2));
     assert!(bad_line.stdout.is_empty());
     let message = String::from_utf8(bad_line.stderr).expect("text");
-    assert_eq!(message, "standard input: line 2: unknown option of a walk \"home\"; known are remote, special-use and 0 to 255\n");
+    assert_eq!(message, "standard input: line 2: unknown option of a walk \"home\"; known are remote, special-use, without-subscribed and 0 to 255\n");
 
     let calls: [(&[&str], i32, &str); 6] = [
         (&[], 2, "usage: session"),

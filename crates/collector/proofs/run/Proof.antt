@@ -20,7 +20,7 @@ returns-2 : tie.Need-returns-2
 returns-2 c = refuses-option (c .before .before .before .before .before .before .before .before .args .table .now) (c .before .before .before .before .before .before .before .before .args .option) (length (c .before .before .before .before .before .before .before .before .args .scratch .now)) (length (c .before .before .before .before .before .before .before .before .args .found .now)) (length (c .before .before .before .before .before .before .before .before .args .pending .now)) (sym (c .before .before .before .check .ensures) ∙ not-false _ (c .before .before .if1 .left)) (sym (c .before .lawful .ensures) ∙ not-true _ (c .if2 .taken))
 
 walk-table-requires : tie.Need-walk-table-requires
-walk-table-requires c κs = (sym (c .before .before .before .before .before .before .check .ensures) ∙ not-false _ (c .before .before .before .before .before .if1 .left), c .before .before .before .before .before .before .before .before .before .before .before .pre)
+walk-table-requires c κs = ((sym (c .before .before .before .before .before .before .check .ensures) ∙ not-false _ (c .before .before .before .before .before .if1 .left), sym (c .before .before .before .before .lawful .ensures) ∙ not-false _ (c .before .before .before .if2 .left)), c .before .before .before .before .before .before .before .before .before .before .before .pre)
 
 same-length : tie.Need-same-length
 same-length c = search needs

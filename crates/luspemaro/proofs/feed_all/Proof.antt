@@ -44,7 +44,7 @@ feed-requires c κs = search needs
 enum-known-taken : tie.Need-enum-known-taken Inv-loop μ-loop
 enum-known-taken c = search needs
 
--- /tmp/w/session/target/rlib/frames.rlib/lang/src/gathering.rt:7:29
+-- the state of the gathered characters
 enum-told : tie.Need-enum-told Inv-loop μ-loop
 enum-told c = search needs
 

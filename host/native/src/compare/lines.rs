@@ -1,6 +1,6 @@
 //! The line writer, and the reader on what it wrote.
 
-use luspemaro_host::Line;
+use luspemaro_host::{Criteria, Line};
 
 use super::reading::read_both;
 use super::tally::{shown, Tally, Text};
@@ -14,13 +14,13 @@ const FILL: u8 = b'.';
 /// `\Noselect`, the set of the root line.
 const NOSELECT: u16 = 4;
 
-/// All sets of the sixteen attributes, with and without CHILDINFO.
+/// All sets of the sixteen attributes, with every set of criteria.
 pub fn every_set(tally: &mut Tally) {
     for attributes in 0..=u16::MAX {
-        for child_info in [false, true] {
+        for criteria in every_criteria() {
             let name = b"Customers/\"A\\B\"";
-            let line = write_both(tally, attributes, name, child_info, ROOM);
-            round_trip(tally, &line, attributes, name, child_info);
+            let line = write_both(tally, attributes, name, criteria, ROOM);
+            round_trip(tally, &line, attributes, name, criteria);
         }
     }
 }
@@ -30,18 +30,23 @@ pub fn names_and_rooms(tally: &mut Tally) {
     let sets = [0, 1, 3, NOSELECT, 0x0020, 0x4000, 0x8000, u16::MAX];
     for name in names() {
         for attributes in sets {
-            for child_info in [false, true] {
-                let line = write_both(tally, attributes, &name, child_info, ROOM);
+            for criteria in every_criteria() {
+                let line = write_both(tally, attributes, &name, criteria, ROOM);
                 if !line.is_empty() {
-                    round_trip(tally, &line, attributes, &name, child_info);
+                    round_trip(tally, &line, attributes, &name, criteria);
                 }
                 let need = line.len();
                 for room in [0, 1, need.saturating_sub(1), need, need + 1] {
-                    write_both(tally, attributes, &name, child_info, room);
+                    write_both(tally, attributes, &name, criteria, room);
                 }
             }
         }
     }
+}
+
+/// No CHILDINFO, one criterion, the other, both.
+fn every_criteria() -> impl Iterator<Item = Criteria> {
+    (0..=3).filter_map(Criteria::from_bits)
 }
 
 /// Writes by both libraries and gives the line of the second, empty if it was refused.
@@ -49,28 +54,28 @@ fn write_both(
     tally: &mut Tally,
     attributes: u16,
     name: &[u8],
-    child_info: bool,
+    criteria: Criteria,
     room: usize,
 ) -> Vec<u8> {
     let given = WRITE_LINE.map(|write| {
         let mut out = vec![FILL; room];
-        let result = write(attributes, name, child_info, &mut out);
+        let result = write(attributes, name, criteria, &mut out);
         (result, Text(out))
     });
     let (result, out) = &given[SECOND];
     let line = out.0[..result.unwrap_or(0)].to_vec();
     let call = || {
         let name = shown(name);
-        format!("write_line: attributes {attributes:#06x}, name {name}, CHILDINFO {child_info}, room {room}")
+        format!("write_line: attributes {attributes:#06x}, name {name}, CHILDINFO {criteria:?}, room {room}")
     };
     tally.same(call, given);
     line
 }
 
 /// A line that was written is read back as its parts, by both.
-fn round_trip(tally: &mut Tally, line: &[u8], attributes: u16, name: &[u8], child_info: bool) {
+fn round_trip(tally: &mut Tally, line: &[u8], attributes: u16, name: &[u8], criteria: Criteria) {
     read_both(tally, line);
-    let parts = Line { attrs: attributes, name: name.to_vec(), childinfo: child_info };
+    let parts = Line { attrs: attributes, name: name.to_vec(), childinfo: criteria };
     tally.same(|| format!("read back: {}", shown(line)), [proved::read_line(line).line, Ok(parts)]);
 }
 

@@ -16,7 +16,7 @@ abbrev μ-loop : tie.MeasureT-loop
 μ-loop answer options found₀ pending₀ progress₀ at₀ found pending progress at = length answer - at
 
 loop-holds : tie.Need-loop-holds Inv-loop μ-loop
-loop-holds c = taking-none _ _ _ _ _ (c .before .before .before .pre)
+loop-holds c = taking-none _ _ _ _ _ (c .before .before .before .pre .0)
 
 next-line-requires : tie.Need-next-line-requires Inv-loop μ-loop
 next-line-requires c κs = search needs
@@ -35,7 +35,7 @@ part-take-line-end : tie.Need-part-take-line-end Inv-loop μ-loop
 part-take-line-end c = lies c .1
 
 take-line-requires : tie.Need-take-line-requires Inv-loop μ-loop
-take-line-requires c κs = c .before .before .before .before .before .loop .inv .inside
+take-line-requires c κs = (c .before .before .before .before .before .loop .inv .inside, c .before .before .before .before .before .before .before .before .before .pre .1)
 
 enum-known-next : tie.Need-enum-known-next Inv-loop μ-loop
 enum-known-next c = search needs

@@ -51,7 +51,7 @@ slice-aggregate-take-lines : tie.Need-slice-aggregate-take-lines
 slice-aggregate-take-lines c = simp length-take (omega (arith, answered-so (c .before .before) .0))
 
 take-lines-requires : tie.Need-take-lines-requires
-take-lines-requires c κs = search needs
+take-lines-requires c κs = (record { finds = c .before .before .before .before .before .before .before .before .before .before .before .before .before .before .before .before .before .before .before .before .before .before .pre .1 .0 .finds; asks = c .before .before .before .before .before .before .before .before .before .before .before .before .before .before .before .before .before .before .before .before .before .before .pre .1 .0 .asks }, c .before .before .before .before .before .before .before .before .before .before .before .before .before .before .before .before .before .before .before .before .before .before .pre .1 .1 .1)
 
 enum-known-number : tie.Need-enum-known-number
 enum-known-number c = search needs

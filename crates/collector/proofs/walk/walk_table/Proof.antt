@@ -20,7 +20,7 @@ slice-aggregate-ask : tie.Need-slice-aggregate-ask Inv-loop μ-loop
 slice-aggregate-ask c = search needs
 
 ask-requires : tie.Need-ask-requires Inv-loop μ-loop
-ask-requires c κs = (omega arith, (record { finds = omega arith; asks = omega arith }, omega arith))
+ask-requires c κs = (omega arith, (record { finds = omega arith; asks = omega arith }, (omega arith, c .before .before .before .before .before .before .before .before .pre .0 .1)))
 
 enum-known-first : tie.Need-enum-known-first Inv-loop μ-loop
 enum-known-first c = search needs
@@ -60,7 +60,7 @@ add-end : tie.Need-add-end Inv-loop μ-loop
 add-end c = omega (arith, lies c, c .before .before .before .before .loop .inv .pending-long, c .before .before .before .before .before .before .before .before .before .before .before .before .before .before .ask .kept .1 .1 .1 .1 .1 .0, c .before .before .before .before .before .before .before .before .before .before .before .before .before .before .before .before .before .before .before .before .before .before .before .good)
 
 ask-below-requires : tie.Need-ask-below-requires Inv-loop μ-loop
-ask-below-requires c κs = ((lies (c .before .before .before) .0, omega (arith, lies (c .before .before .before)), omega (arith, c .before .before .before .wide .ensures, c .before .before .before .before .slice-known7 .given (c .before .before .before .before .before .before .before .loop .at))), (record { finds = c .before .before .before .before .before .before .before .loop .inv .holds .finds .room; asks = c .before .before .before .before .before .before .before .loop .inv .holds .asks .room }, lies (c .before .before .before) .3))
+ask-below-requires c κs = ((lies (c .before .before .before) .0, omega (arith, lies (c .before .before .before)), omega (arith, c .before .before .before .wide .ensures, c .before .before .before .before .slice-known7 .given (c .before .before .before .before .before .before .before .loop .at))), (record { finds = c .before .before .before .before .before .before .before .loop .inv .holds .finds .room; asks = c .before .before .before .before .before .before .before .loop .inv .holds .asks .room }, (lies (c .before .before .before) .3, c .before .before .before .before .before .before .before .before .before .before .before .before .before .before .before .before .before .before .before .before .before .before .before .before .before .before .pre .0 .1)))
 
 enum-known-next : tie.Need-enum-known-next Inv-loop μ-loop
 enum-known-next c = search needs

@@ -213,29 +213,33 @@ asked-below-requires-4 c κs =
 attributes-requires : tie.Need-attributes-requires
 attributes-requires c κs = search needs
 
+child-info-requires : tie.Need-child-info-requires
+child-info-requires c κs = search needs
+
 returns-3 : tie.Need-returns-3
 returns-3 c =
-    let area = c .before .before .before .before .before .before .before .before .before .before .before .before .before .before .before .before .before .before .before .before .before .before .before .before .args .area .now in
-    let words = c .before .before .before .before .before .before .before .before .before .before .before .before .before .before .before .before .before .before .before .before .before .before .before .before .args .words .now in
-    let meeting = c .before .before .before .before .before .before .before .before .before .before .before .before .before .before .before .before .before .before .before .before .before .before .before .before .args .meeting .now in
-    let unmatched = c .before .before .before .before .before .before .before .before .before .before .before .before .before .before .before .before .before .before .before .before .before .before .before .before .args .unmatched .now in
-    let children = c .before .before .before .before .before .before .before .before .before .before .before .before .before .before .before .before .before .before .before .before .before .before .before .before .args .children .now in
-    let patterns = c .before .before .before .before .before .before .before .before .before .before .before .before .before .before .before .before .before .before .before .before .before .before .before .before .args .patterns .now in
-    let options = c .before .before .before .before .before .before .before .before .before .before .before .before .before .before .before .before .before .before .before .before .before .before .before .before .args .options in
-    let levels = c .before .before .before .before .before .before .before .before .before .before .before .before .before .before .before .before .before .before .before .before .before .before .before .before .args .levels in
-    let i = c .before .before .before .before .before .before .before .before .before .before .before .before .before .before .before .before .before .before .before .before .before .before .before .before .args .i in
-    let len = c .before .before .before .before .before .before .before .before .before .before .before .before .before .before .before .before .before .before .before .before .before .before .before .before .args .len in
-    let R = c .before .before .before .before .before .before .before .before .before .before .before .before .before .before .before .before .before .before .before .before .before .before .before .before .pre .0 in
-    let a = c .before .before .before .before .before .before .before .before .before .before .before .before .before .before .before .before .before .before .before .before .before .before .before .before .pre .1 in
-    let name : c .before .before .before .before .before .before .before .name-of .result .now ≡ nameAt area (getD words i 0) = named area (getD words i 0) (c .before .before .before .before .before .before .before .before .before .before .before .before .before .before .before .before .of-word .result) (c .before .before .before .before .before .before .before .before .before .before .before .before .before .before .before .before .of-word .ensures) (c .before .before .before .before .before .before .before .name-of .result .now) (c .before .before .before .before .before .before .before .name-of .ensures) in
+    let area = c .before .before .before .before .before .before .before .before .before .before .before .before .before .before .before .before .before .before .before .before .before .before .before .before .before .args .area .now in
+    let words = c .before .before .before .before .before .before .before .before .before .before .before .before .before .before .before .before .before .before .before .before .before .before .before .before .before .args .words .now in
+    let meeting = c .before .before .before .before .before .before .before .before .before .before .before .before .before .before .before .before .before .before .before .before .before .before .before .before .before .args .meeting .now in
+    let unmatched = c .before .before .before .before .before .before .before .before .before .before .before .before .before .before .before .before .before .before .before .before .before .before .before .before .before .args .unmatched .now in
+    let children = c .before .before .before .before .before .before .before .before .before .before .before .before .before .before .before .before .before .before .before .before .before .before .before .before .before .args .children .now in
+    let patterns = c .before .before .before .before .before .before .before .before .before .before .before .before .before .before .before .before .before .before .before .before .before .before .before .before .before .args .patterns .now in
+    let options = c .before .before .before .before .before .before .before .before .before .before .before .before .before .before .before .before .before .before .before .before .before .before .before .before .before .args .options in
+    let levels = c .before .before .before .before .before .before .before .before .before .before .before .before .before .before .before .before .before .before .before .before .before .before .before .before .before .args .levels in
+    let i = c .before .before .before .before .before .before .before .before .before .before .before .before .before .before .before .before .before .before .before .before .before .before .before .before .before .args .i in
+    let len = c .before .before .before .before .before .before .before .before .before .before .before .before .before .before .before .before .before .before .before .before .before .before .before .before .before .args .len in
+    let R = c .before .before .before .before .before .before .before .before .before .before .before .before .before .before .before .before .before .before .before .before .before .before .before .before .before .pre .0 in
+    let a = c .before .before .before .before .before .before .before .before .before .before .before .before .before .before .before .before .before .before .before .before .before .before .before .before .before .pre .1 in
+    let name : c .before .before .before .before .before .before .before .before .name-of .result .now ≡ nameAt area (getD words i 0) = named area (getD words i 0) (c .before .before .before .before .before .before .before .before .before .before .before .before .before .before .before .before .before .of-word .result) (c .before .before .before .before .before .before .before .before .before .before .before .before .before .before .before .before .before .of-word .ensures) (c .before .before .before .before .before .before .before .before .name-of .result .now) (c .before .before .before .before .before .before .before .before .name-of .ensures) in
     let found : List Bool → Bool = λ ms. markedBelow (take len (nameAt area (getD words i 0))) (drop i (names (rowsAt area words))) (drop i ms) in
     shown-line area words (R .indexed) i len a (optionsIs options) (unpacked patterns) meeting unmatched children (R .meeting) (R .lacking) (R .childish) levels (R .levelled)
-    (c .before .before .before .before .before .before .before .before .before .before .before .before .before .before .before .before .of-word .result) (c .before .before .before .before .before .before .before .before .before .before .before .before .before .before .before .before .of-word .ensures) (c .before .before .before .before .before .before .before .before .before .before .before .before .has .result) (recursive options (c .before .before .before .before .before .before .before .before .before .before .before .before .has .result) (c .before .before .before .before .before .before .before .before .before .before .before .before .has .ensures)) (c .before .before .before .before .before .before .before .before .before .before .before .asked-below .result) (c .before .before .before .before .before .before .before .before .before .before .before .asked-below .ensures) (c .before .before .before .before .before .before .before .before .before .before .before .before .before .before .flags-of .result .bits) (c .before .before .before .before .before .before .before .before .before .before .before .before .before .before .flags-of .ensures) (c .before .before .before .before .before .before .before .before .before .asked-below2 .result) (c .before .before .before .before .before .before .before .before .before .asked-below2 .ensures ∙ ap (λ (b : Bool). (levels && not b) && found meeting) (there _ (c .before .before .before .before .before .before .before .before .before .before .has2 .result) (c .before .before .before .before .before .before .before .before .before .before .has2 .ensures)))
-    (c .before .before .before .before .before .matches-any .result) (c .before .before .before .before .before .matches-any .ensures ∙ ap (λ (n : List ℕ). leb (length (take len n)) 255 && matchesAny (chosen (c .before .before .before .before .before .before .before .before .before .asked-below2 .result) (unpacked patterns)) (take len n)) name)
-    (not-false _ (c .before .before .before .before .before .before .before .before .if1 .left)) (not-false _ (c .before .before .before .before .if2 .left))
-    (c .before .asked-below4 .result) (c .before .asked-below4 .ensures ∙ ap (λ (x : Bool). x && found children) (returned options (c .before .before .has3 .result) (c .before .before .has3 .ensures)))
-    (c .attributes .result) (c .attributes .ensures)
-    (c .before .before .before .asked-below3 .result) (c .before .before .before .asked-below3 .ensures)
+    (c .before .before .before .before .before .before .before .before .before .before .before .before .before .before .before .before .before .of-word .result) (c .before .before .before .before .before .before .before .before .before .before .before .before .before .before .before .before .before .of-word .ensures) (c .before .before .before .before .before .before .before .before .before .before .before .before .before .has .result) (recursive options (c .before .before .before .before .before .before .before .before .before .before .before .before .before .has .result) (c .before .before .before .before .before .before .before .before .before .before .before .before .before .has .ensures)) (c .before .before .before .before .before .before .before .before .before .before .before .before .asked-below .result) (c .before .before .before .before .before .before .before .before .before .before .before .before .asked-below .ensures) (c .before .before .before .before .before .before .before .before .before .before .before .before .before .before .before .flags-of .result .bits) (c .before .before .before .before .before .before .before .before .before .before .before .before .before .before .before .flags-of .ensures) (c .before .before .before .before .before .before .before .before .before .before .asked-below2 .result) (c .before .before .before .before .before .before .before .before .before .before .asked-below2 .ensures ∙ ap (λ (b : Bool). (levels && not b) && found meeting) (there _ (c .before .before .before .before .before .before .before .before .before .before .before .has2 .result) (c .before .before .before .before .before .before .before .before .before .before .before .has2 .ensures)))
+    (c .before .before .before .before .before .before .matches-any .result) (c .before .before .before .before .before .before .matches-any .ensures ∙ ap (λ (n : List ℕ). leb (length (take len n)) 255 && matchesAny (chosen (c .before .before .before .before .before .before .before .before .before .before .asked-below2 .result) (unpacked patterns)) (take len n)) name)
+    (not-false _ (c .before .before .before .before .before .before .before .before .before .if1 .left)) (not-false _ (c .before .before .before .before .before .if2 .left))
+    (c .before .before .asked-below4 .result) (c .before .before .asked-below4 .ensures ∙ ap (λ (x : Bool). x && found children) (returned options (c .before .before .before .has3 .result) (c .before .before .before .has3 .ensures)))
+    (c .before .attributes .result) (c .before .attributes .ensures)
+    (c .before .before .before .before .asked-below3 .result) (c .before .before .before .before .asked-below3 .ensures)
+    (c .child-info .result) (c .child-info .ensures)
 
 pub decide-spec : {M : Type 1} → statement M
 decide-spec =
@@ -259,4 +263,5 @@ decide-spec =
     has-requires-3
     asked-below-requires-4
     attributes-requires
+    child-info-requires
     returns-3)

@@ -11,10 +11,11 @@ use borrow.Author.Needs.{needs}
 use Rattle.listing_rules.specs.Bytes.{text}
 use Rattle.listing_rules.specs.Names.{lawfulName}
 use Rattle.listing_rules.specs.Reader.{line, readParts}
+use Rattle.list_line.specs.CriteriaSets.{criteriaIs, criteriaSet}
 use Rattle.list_line.specs.Parts.{Skips, Names}
 use Rattle.list_line.specs.declared.read.Place.the-variants.{At}
 use Rattle.list_line.specs.declared.read.Name.the-variants.{Of}
-use Rattle.list_line.proofs.Reading.{fromEnd, fromName, fromDelimiter, chosenAt, start-read, start-missing, attributes-read, delimiter-read, delimiter-missing, name-read, name-missing, end-read, end-missing, name-front, parts-refused, parts-taken}
+use Rattle.list_line.proofs.Reading.{fromEnd, fromName, fromDelimiter, chosenAt, start-read, start-missing, attributes-read, delimiter-read, delimiter-missing, name-read, name-missing, tail-whole, end-read, end-missing, name-front, parts-refused, parts-taken}
 use Rattle.list_line.proofs.read.read_parts.Statement.{statement}
 use Rattle.list_line.proofs.read.read_parts.Tie as tie
 
@@ -116,8 +117,8 @@ part-read-tail-end c = search needs
 read-tail-requires : tie.Need-read-tail-requires
 read-tail-requires c κs = search needs
 
-enum-known-child-info : tie.Need-enum-known-child-info
-enum-known-child-info c = search needs
+enum-known-criteria : tie.Need-enum-known-criteria
+enum-known-criteria c = search needs
 
 enum-told-4 : tie.Need-enum-told-4
 enum-told-4 c = search needs
@@ -129,8 +130,12 @@ returns-4 : tie.Need-returns-4
 returns-4 c = rw (parts-refused (c .before .before .before .before .before .before .before .before .before .before .before .before .before .before .before .before .before .before .before .before .before .before .before .before .args .line .now) (named (c .before .before .before .before .before) ∙ end-missing _ _ (c .before .before .before .before .before .before .before .before .before .before .before .before .before .before .before .before .before .before .before .before .before .before .before .before .args .line .now) (c .before .before .before .before .before .before .len .given .0 .1 .0) (sym (c .before .before .before .read-tail .ensures) ∙ c .before .enum-told4 .given .1))) (c .refused4 .ensures)
 
 -- what is left behind the end: the name is lawful or not
-ended : (c : tie.After-known-told4) → readParts (c .before .before .before .before .before .before .before .before .before .before .before .before .before .before .before .before .before .before .before .before .before .before .before .before .args .line .now) ≡ cond (lawfulName (name (c .before .before .before .before .before) .0)) (some (line (chosenAt (c .before .before .before .before .before .before .before .before .before .before .before .before .before .before .before .before .before .before .before .before .before .before .before .before .args .line .now) (c .before .before .before .before .before .before .before .before .before .before .before .before .before .before .before .before .before .before .before .a .given .0 .0)) (name (c .before .before .before .before .before) .0) (c .before .child-info .given .0 .0))) none
-ended c = named (c .before .before .before .before .before) ∙ end-read _ _ (c .before .before .before .before .before .before .before .before .before .before .before .before .before .before .before .before .before .before .before .before .before .before .before .before .args .line .now) (c .before .before .before .before .before .before .len .given .0 .1 .0) _ (sym (c .before .before .before .read-tail .ensures) ∙ c .before .child-info .given .1)
+ended : (c : tie.After-known-told4) → readParts (c .before .before .before .before .before .before .before .before .before .before .before .before .before .before .before .before .before .before .before .before .before .before .before .before .args .line .now) ≡ cond (lawfulName (name (c .before .before .before .before .before) .0)) (some (line (chosenAt (c .before .before .before .before .before .before .before .before .before .before .before .before .before .before .before .before .before .before .before .before .before .before .before .before .args .line .now) (c .before .before .before .before .before .before .before .before .before .before .before .before .before .before .before .before .before .before .before .a .given .0 .0)) (name (c .before .before .before .before .before) .0) (criteriaIs (c .before .criteria .given .0 .0 .bits)))) none
+ended c = named (c .before .before .before .before .before) ∙ end-read _ _ (c .before .before .before .before .before .before .before .before .before .before .before .before .before .before .before .before .before .before .before .before .before .before .before .before .args .line .now) (c .before .before .before .before .before .before .len .given .0 .1 .0) _ (sym (c .before .before .before .read-tail .ensures) ∙ c .before .criteria .given .1)
+
+-- the criteria read have no other bit
+whole : (c : tie.After-known-told4) → criteriaSet (criteriaIs (c .before .criteria .given .0 .0 .bits)) ≡ c .before .criteria .given .0 .0 .bits
+whole c = tail-whole _ _ (sym (c .before .before .before .read-tail .ensures) ∙ c .before .criteria .given .1)
 
 array-share-prefix-name : tie.Need-array-share-prefix-name
 array-share-prefix-name c = omega (arith, name (c .before .before .before .before .before) .4)
@@ -152,7 +157,7 @@ returns-5 c = rw (parts-refused (c .before .before .before .before .before .befo
 
 returns-6 : tie.Need-returns-6
 unfolding chosenAt
-returns-6 c = parts-taken (c .before .before .before .before .before .before .before .before .before .before .before .before .before .before .before .before .before .before .before .before .before .before .before .before .before .before .before .args .line .now) (chosenAt (c .before .before .before .before .before .before .before .before .before .before .before .before .before .before .before .before .before .before .before .before .before .before .before .before .before .before .before .args .line .now) (c .before .before .before .before .before .before .before .before .before .before .before .before .before .before .before .before .before .before .before .before .before .before .a .given .0 .0)) (name (c .before .before .before .before .before .before .before .before) .0) (c .before .before .before .before .child-info .given .0 .0) (c .before .before .before .before .before .before .before .before .before .before .before .before .before .before .before .before .before .before .before .before .read-attributes .result .bits) (c .before .before .before .before .before .before .before .before .before .len .given .0 .0) (c .before .before .before .before .before .before .before .before .before .before .before .before .before .before .no-name .result) (c .before .before .before .before .before .before .before .before .before .before .before .before .read-name .last .1 .1 .0) (ended (c .before .before .before) ∙ rw (sym (lawful (c .before)) ∙ not-false _ (c .if1 .left))) (c .before .before .before .before .before .before .before .before .before .before .before .before .before .before .before .before .before .before .before .before .read-attributes .ensures .chosen) (name (c .before .before .before .before .before .before .before .before) .3) (room (c .before .before .before .before .before .before .before .before)) (c .before .before .before .before .before .before .before .before .before .before .before .before .before .before .no-name .ensures) (name (c .before .before .before .before .before .before .before .before) .5)
+returns-6 c = parts-taken (c .before .before .before .before .before .before .before .before .before .before .before .before .before .before .before .before .before .before .before .before .before .before .before .before .before .before .before .args .line .now) (chosenAt (c .before .before .before .before .before .before .before .before .before .before .before .before .before .before .before .before .before .before .before .before .before .before .before .before .before .before .before .args .line .now) (c .before .before .before .before .before .before .before .before .before .before .before .before .before .before .before .before .before .before .before .before .before .before .a .given .0 .0)) (name (c .before .before .before .before .before .before .before .before) .0) (c .before .before .before .before .criteria .given .0 .0) (c .before .before .before .before .before .before .before .before .before .before .before .before .before .before .before .before .before .before .before .before .read-attributes .result .bits) (c .before .before .before .before .before .before .before .before .before .len .given .0 .0) (c .before .before .before .before .before .before .before .before .before .before .before .before .before .before .no-name .result) (c .before .before .before .before .before .before .before .before .before .before .before .before .read-name .last .1 .1 .0) (ended (c .before .before .before) ∙ rw (sym (lawful (c .before)) ∙ not-false _ (c .if1 .left))) (whole (c .before .before .before)) (c .before .before .before .before .before .before .before .before .before .before .before .before .before .before .before .before .before .before .before .before .read-attributes .ensures .chosen) (name (c .before .before .before .before .before .before .before .before) .3) (room (c .before .before .before .before .before .before .before .before)) (c .before .before .before .before .before .before .before .before .before .before .before .before .before .before .no-name .ensures) (name (c .before .before .before .before .before .before .before .before) .5)
 
 pub read-parts-spec : {M : Type 1} → statement M
 read-parts-spec =
@@ -182,7 +187,7 @@ read-parts-spec =
     part-read-tail-start
     part-read-tail-end
     read-tail-requires
-    enum-known-child-info
+    enum-known-criteria
     enum-told-4
     refused-requires-4
     returns-4

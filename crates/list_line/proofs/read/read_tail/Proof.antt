@@ -1,8 +1,9 @@
--- `read_tail` meets its contract, by its two texts (`Reading`).
+-- `read_tail` meets its contract, by its four texts (`Reading`).
 use mathlib.Core.Path.{sym, _∙_}
 use borrow.Author.Needs.{needs}
 use Rattle.listing_rules.specs.Bytes.{text}
-use Rattle.list_line.proofs.Reading.{tail-plain, tail-child, tail-other}
+use Rattle.list_line.specs.declared.read.Tail.the-variants.{ChildInfo}
+use Rattle.list_line.proofs.Reading.{tail-plain, tail-subscribed, tail-special, tail-both, tail-other}
 use Rattle.list_line.proofs.read.read_tail.Statement.{statement}
 use Rattle.list_line.proofs.read.read_tail.Tie as tie
 
@@ -23,11 +24,34 @@ same-bytes-requires-2 c κs = search needs
 
 returns-2 : tie.Need-returns-2
 unfolding text
-returns-2 c = tail-child _ (sym (c .before .before .before .before .same-bytes .ensures) ∙ c .before .before .before .if1 .left) (sym (c .before .same-bytes2 .ensures) ∙ c .if2 .taken)
+returns-2 c = tail-subscribed _ (sym (c .before .before .before .before .same-bytes .ensures) ∙ c .before .before .before .if1 .left) (sym (c .before .same-bytes2 .ensures) ∙ c .if2 .taken)
+
+slice-aggregate-same-bytes-3 : tie.Need-slice-aggregate-same-bytes-3
+slice-aggregate-same-bytes-3 c = search needs
+
+same-bytes-requires-3 : tie.Need-same-bytes-requires-3
+same-bytes-requires-3 c κs = search needs
 
 returns-3 : tie.Need-returns-3
 unfolding text
-returns-3 c = tail-other _ (sym (c .before .before .before .before .same-bytes .ensures) ∙ c .before .before .before .if1 .left) (sym (c .before .same-bytes2 .ensures) ∙ c .if2 .left)
+returns-3 c = tail-special _ (sym (c .before .before .before .before .before .before .before .same-bytes .ensures) ∙ c .before .before .before .before .before .before .if1 .left) (sym (c .before .before .before .before .same-bytes2 .ensures) ∙ c .before .before .before .if2 .left) (sym (c .before .same-bytes3 .ensures) ∙ c .if3 .taken)
+
+slice-aggregate-same-bytes-4 : tie.Need-slice-aggregate-same-bytes-4
+slice-aggregate-same-bytes-4 c = search needs
+
+same-bytes-requires-4 : tie.Need-same-bytes-requires-4
+same-bytes-requires-4 c κs = search needs
+
+union-requires : tie.Need-union-requires
+union-requires c κs = search needs
+
+returns-4 : tie.Need-returns-4
+unfolding text
+returns-4 c = (λ i. ChildInfo (record { bits = c .union .ensures i })) ∙ tail-both _ (sym (c .before .before .before .before .before .before .before .before .before .before .before .same-bytes .ensures) ∙ c .before .before .before .before .before .before .before .before .before .before .if1 .left) (sym (c .before .before .before .before .before .before .before .before .same-bytes2 .ensures) ∙ c .before .before .before .before .before .before .before .if2 .left) (sym (c .before .before .before .before .before .same-bytes3 .ensures) ∙ c .before .before .before .before .if3 .left) (sym (c .before .before .same-bytes4 .ensures) ∙ c .before .if4 .taken)
+
+returns-5 : tie.Need-returns-5
+unfolding text
+returns-5 c = tail-other _ (sym (c .before .before .before .before .before .before .before .before .before .before .same-bytes .ensures) ∙ c .before .before .before .before .before .before .before .before .before .if1 .left) (sym (c .before .before .before .before .before .before .before .same-bytes2 .ensures) ∙ c .before .before .before .before .before .before .if2 .left) (sym (c .before .before .before .before .same-bytes3 .ensures) ∙ c .before .before .before .if3 .left) (sym (c .before .same-bytes4 .ensures) ∙ c .if4 .left)
 
 pub read-tail-spec : {M : Type 1} → statement M
 read-tail-spec =
@@ -39,4 +63,11 @@ read-tail-spec =
     slice-aggregate-same-bytes-2
     same-bytes-requires-2
     returns-2
-    returns-3)
+    slice-aggregate-same-bytes-3
+    same-bytes-requires-3
+    returns-3
+    slice-aggregate-same-bytes-4
+    same-bytes-requires-4
+    union-requires
+    returns-4
+    returns-5)

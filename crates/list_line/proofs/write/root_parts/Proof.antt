@@ -4,8 +4,11 @@ use Rattle.list_line.proofs.Members.{root-parts}
 use Rattle.list_line.proofs.write.root_parts.Statement.{statement}
 use Rattle.list_line.proofs.write.root_parts.Tie as tie
 
+is-none-requires : tie.Need-is-none-requires
+is-none-requires c κs = search needs
+
 returns : tie.Need-returns
-returns c = root-parts _ _ _ (search needs)
+returns c = rw (c .is-none .ensures) (root-parts _ _ _ (search needs))
 
 pub root-parts-spec : {M : Type 1} → statement M
-root-parts-spec = tie.close (tie.spec returns)
+root-parts-spec = tie.close (tie.spec is-none-requires returns)

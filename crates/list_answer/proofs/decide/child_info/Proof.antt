@@ -1,0 +1,35 @@
+-- `child_info` meets its contract: the criteria named are the two selected.
+use mathlib.Core.Path.{_≡_, _∙_}
+use borrow.Author.Needs.{needs}
+use Rattle.listing_rules.specs.Bytes.{bit}
+use Rattle.listing_rules.specs.Options.{criteria, noCriteria}
+use Rattle.octets.proofs.Sets.{contains-bit}
+use Rattle.command_line.specs.OptionSets.{optionsIs}
+use Rattle.list_line.specs.CriteriaSets.{these, criteriaSet}
+use Rattle.list_answer.proofs.decide.child_info.Statement.{statement}
+use Rattle.list_answer.proofs.decide.child_info.Tie as tie
+
+has-requires : tie.Need-has-requires
+has-requires c κs = search needs
+
+has-requires-2 : tie.Need-has-requires-2
+has-requires-2 c κs = search needs
+
+of-requires : tie.Need-of-requires
+of-requires c κs = search needs
+
+returns : tie.Need-returns
+unfolding criteria optionsIs
+returns c =
+    let o = c .before .before .before .before .args .options .bits in
+    let h1 : c .before .before .has .result ≡ bit 0 o = c .before .before .has .ensures ∙ contains-bit 0 o in
+    let h2 : c .before .has2 .result ≡ bit 3 o = c .before .has2 .ensures ∙ contains-bit 3 o in
+    rw (c .before .before .before .if1 .taken) (c .of .ensures ∙ (λ i. criteriaSet (these (h1 i) (h2 i))))
+
+returns-2 : tie.Need-returns-2
+unfolding criteriaSet noCriteria
+returns-2 c = rw (c .if1 .left)
+
+pub child-info-spec : {M : Type 1} → statement M
+child-info-spec =
+    tie.close (tie.spec has-requires has-requires-2 of-requires returns returns-2)

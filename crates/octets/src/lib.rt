@@ -2,6 +2,7 @@
 //
 // A writer never fails. It stores what lies in the buffer and counts its place on behind the buffer's end, so the same function
 // that writes an answer also measures it, over an empty buffer, before a byte is touched.
+pub mod refusals;
 
 ghost use mathlib.Core.Path.{_≡_};
 ghost use mathlib.Core.List.{List, [], _∷_, _++_};
@@ -24,6 +25,10 @@ pub const QUOTE: u8 = 34;
 pub const BACKSLASH: u8 = 92;
 
 pub const SLASH: u8 = 47;
+
+pub const CR: u8 = 13;
+
+pub const LF: u8 = 10;
 
 // A byte as a number of the machine's width.
 pub fn wide(b: u8) -> usize

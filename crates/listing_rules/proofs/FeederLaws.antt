@@ -1,7 +1,7 @@
 -- The feeder: how its bytes are cut into chunks does not matter; and a line that announces no literal has document 01's shape. Rests on
 -- TokenLaws.
 use mathlib.Core.Path.{_≡_, refl, sym, ap, _∙_, subst}
-use mathlib.Core.Bool.{Bool, true, false, cond, _&&_, _||_, not, or-false}
+use mathlib.Core.Bool.{Bool, true, false, cond, _&&_, _||_, not, or-false, false≢true}
 use mathlib.Core.List.{List, [], _∷_, _++_, append-assoc, append-nil}
 use mathlib.Core.Option.{Option, none, some}
 use Prim.Native.Nat.{ℕ, suc, _+_, _-_, _≤_}
@@ -9,11 +9,11 @@ use native.Mathlib.Omega.{arith}
 use lib.Dec.{eqb, leb}
 use lib.ListN.{length, take, length-append}
 use lib.Seq.{take-append-seam}
-use borrow.Author.Tests.{not-true, le-leb, leb-true, ne-eqb, eqb-true}
+use borrow.Author.Tests.{not-true, le-leb, leb-true, eq-eqb, ne-eqb, eqb-true}
 use Rattle.listing_rules.specs.Bytes.{openBytes, text, crlf, same, all, within, isEmpty}
 use Rattle.listing_rules.specs.Lists.{joined}
 use Rattle.listing_rules.specs.Tokens.{Got, got, _>>=_, run₁, digitByte, decimal, number, lineByte}
-use Rattle.listing_rules.specs.Feeder.{Step, stillOne, gives, offends, lineEnded, textByte, endsLine, lastIs, announcedAt, orElse, announced, Event, quiet, handed, goOn, denied, Feeder, reading, inLiteral, dropping, first, fedByte, Feeding, saying, feedAll, feedChunks, allowed, oneCommand}
+use Rattle.listing_rules.specs.Feeder.{Step, stillOne, gives, offends, refusing, lineEnded, textByte, endsLine, lastIs, announcedAt, orElse, announced, Event, quiet, handed, goOn, denied, Feeder, reading, inLiteral, dropping, first, fedByte, Feeding, saying, feedAll, feedChunks, allowed, oneCommand}
 use Rattle.listing_rules.specs.Command.{lineText}
 use Rattle.listing_rules.proofs.Bools.{and-l, and-r}
 use Rattle.listing_rules.proofs.ListLaws.{same-true}
@@ -144,6 +144,155 @@ unfolding lineText first lastIs crlf
 plain-line x h s a =
     let n : length (x ++ crlf) - 2 ≡ length x = omega (arith, length-append x crlf) in
     rw (run-out [] [] x h refl (omega (arith, length-append x crlf)) a, n) (ap some (take-append-seam x crlf))
+
+-- a continuation is asked for
+abbrev pub asks : List Event → Bool
+asks [] = false
+asks (quiet ∷ es) = asks es
+asks (handed l ∷ es) = asks es
+asks (goOn ∷ es) = true
+asks (denied k ∷ es) = asks es
+
+-- Document 01's shape of the line l: its text, CR LF, and no more than 2,048 bytes; x of its bytes are read.
+abbrev Shaped : List ℕ → List ℕ → Type 0
+Shaped x t = (y : List ℕ) × (t ≡ y ++ crlf) × (all lineByte (x ++ y) ≡ true) × (length x + length t ≤ 2048)
+
+last-of-text : (x : List ℕ) → all lineByte x ≡ true → lastIs 13 x ≡ false
+unfolding lastIs isEmpty all
+last-of-text [] h = refl
+last-of-text (c ∷ []) h = line-byte-parts c (and-l (lineByte c) true h) .0
+last-of-text (c ∷ d ∷ x) h = last-of-text (d ∷ x) (and-r (lineByte c) (all lineByte (d ∷ x)) h)
+
+all-snoc : (x : List ℕ) (c : ℕ) → all lineByte x ≡ true → lineByte c ≡ true → all lineByte (x ++ (c ∷ [])) ≡ true
+unfolding all
+all-snoc [] c h e = rw e
+all-snoc (b ∷ x) c h e = rw (and-l (lineByte b) (all lineByte x) h, all-snoc x c (and-r (lineByte b) (all lineByte x) h) e)
+
+-- what a line that is still one command owes at its next byte: the byte is allowed, and the feeder does not refuse it
+next-parts : (kept line : List ℕ) (c : ℕ) (t : List ℕ) → oneCommand (reading kept line) (c ∷ t) ≡ true → (allowed (reading kept line) c ≡ true) × (offends kept c ≡ false)
+unfolding oneCommand stillOne
+next-parts kept line c t e = (and-l (allowed (reading kept line) c) (more (fedByte (reading kept line) c)) e, go (offends kept c) refl)
+  where
+    more : Step → Bool
+    more r = stillOne (r .event) (isEmpty t) (oneCommand (r .state) t)
+
+    denies : offends kept c ≡ true → fedByte (reading kept line) c .event ≡ denied 3
+    denies o = unfold fedByte refusing gives in rw o
+
+    go : (o : Bool) → offends kept c ≡ o → o ≡ false
+    go false o = refl
+    go true o = absurd (false≢true (sym (ap (λ (v : Event). stillOne v (isEmpty t) (oneCommand (fedByte (reading kept line) c .state) t)) (denies o)) ∙ and-r (allowed (reading kept line) c) (more (fedByte (reading kept line) c)) e))
+
+room-left : (kept : List ℕ) (c : ℕ) → offends kept c ≡ false → suc (length kept) ≤ 2048
+unfolding offends
+room-left kept c o = leb-true (suc (length kept)) 2048 (go (leb (suc (length kept)) 2048) (eqb c 0) o)
+  where
+    go : (a b : Bool) → (not a || b) ≡ false → a ≡ true
+    go true b e = refl
+    go false b e = absurd (false≢true (sym e))
+
+-- a byte of text that ends no line leaves the line read, and nothing is said
+quiet-step : (kept line : List ℕ) (c : ℕ) → offends kept c ≡ false → endsLine (line ++ (c ∷ [])) ≡ false → fedByte (reading kept line) c ≡ gives (reading (kept ++ (c ∷ [])) (line ++ (c ∷ []))) quiet
+unfolding fedByte textByte
+quiet-step kept line c o e = rw (o, e)
+
+quiet-on : (kept line : List ℕ) (c : ℕ) (t : List ℕ) → offends kept c ≡ false → endsLine (line ++ (c ∷ [])) ≡ false → feedAll (reading kept line) (c ∷ t) ≡ feedAll (reading (kept ++ (c ∷ [])) (line ++ (c ∷ []))) t
+unfolding feedAll gives saying
+quiet-on kept line c t o e = ap (λ (r : Step). saying (r .event) (feedAll (r .state) t)) (quiet-step kept line c o e)
+
+-- after CR only the LF of the last line is left
+after-cr : (x t : List ℕ) → oneCommand (reading (x ++ (13 ∷ [])) (x ++ (13 ∷ []))) t ≡ true → asks (feedAll (reading (x ++ (13 ∷ [])) (x ++ (13 ∷ []))) t .events) ≡ false → (t ≡ 10 ∷ []) × (length x + 1 + length t ≤ 2048)
+after-cr x [] e a = absurd (false≢true (unfold oneCommand in e))
+after-cr x (c ∷ t) e a = go (announced (kept ++ (c ∷ []))) refl
+  where
+    kept : List ℕ
+    kept = x ++ (13 ∷ [])
+
+    parts : (allowed (reading kept kept) c ≡ true) × (offends kept c ≡ false)
+    parts = next-parts kept kept c t e
+
+    is-lf : c ≡ 10
+    is-lf = eqb-true c 10 (sym (ap (λ (b : Bool). cond b (eqb c 10) (lineByte c || eqb c 13)) (last-snoc 13 x 13)) ∙ (unfold allowed in parts .0))
+
+    ends : endsLine (kept ++ (c ∷ [])) ≡ true
+    ends = ends-snoc kept c ∙ ap (λ (b : Bool). b && eqb c 10) (last-snoc 13 x 13) ∙ eq-eqb c 10 is-lf
+
+    ended : fedByte (reading kept kept) c ≡ lineEnded (kept ++ (c ∷ [])) (announced (kept ++ (c ∷ [])))
+    ended = unfold fedByte textByte in rw (parts .1, ends)
+
+    still : stillOne (fedByte (reading kept kept) c .event) (isEmpty t) (oneCommand (fedByte (reading kept kept) c .state) t) ≡ true
+    still = and-r (allowed (reading kept kept) c) (stillOne (fedByte (reading kept kept) c .event) (isEmpty t) (oneCommand (fedByte (reading kept kept) c .state) t)) (unfold oneCommand in e)
+
+    last : stillOne (lineEnded (kept ++ (c ∷ [])) (announced (kept ++ (c ∷ []))) .event) (isEmpty t) (oneCommand (lineEnded (kept ++ (c ∷ [])) (announced (kept ++ (c ∷ []))) .state) t) ≡ true
+    last = sym (ap (λ (r : Step). stillOne (r .event) (isEmpty t) (oneCommand (r .state) t)) ended) ∙ still
+
+    told : asks (saying (lineEnded (kept ++ (c ∷ [])) (announced (kept ++ (c ∷ []))) .event) (feedAll (lineEnded (kept ++ (c ∷ [])) (announced (kept ++ (c ∷ []))) .state) t) .events) ≡ false
+    told = sym (ap (λ (r : Step). asks (saying (r .event) (feedAll (r .state) t) .events)) ended) ∙ (unfold feedAll in a)
+
+    size : length kept ≡ length x + 1
+    size = length-append x (13 ∷ [])
+
+    done : isEmpty t ≡ true → (c ∷ t ≡ 10 ∷ []) × (length x + 1 + length (c ∷ t) ≤ 2048)
+    done n = rw (is-lf, nothing t n) (refl, omega (arith, room-left kept c (parts .1), size))
+      where
+        nothing : (u : List ℕ) → isEmpty u ≡ true → u ≡ []
+        nothing [] z = refl
+        nothing (b ∷ u) z = absurd (false≢true (unfold isEmpty in z))
+
+    go : (o : Option ℕ) → announced (kept ++ (c ∷ [])) ≡ o → (c ∷ t ≡ 10 ∷ []) × (length x + 1 + length (c ∷ t) ≤ 2048)
+    go none o = done (unfold lineEnded gives stillOne in rw o at last)
+    go (some n) o = absurd (large (leb n 1024) refl)
+      where
+        large : (b : Bool) → leb n 1024 ≡ b → ⊥
+        large true b = false≢true (sym (unfold lineEnded gives saying in rw (o, b) at told))
+        large false b = false≢true (unfold lineEnded gives stillOne in rw (o, b) at last)
+
+shaped-from : (x t : List ℕ) → all lineByte x ≡ true → oneCommand (reading x x) t ≡ true → asks (feedAll (reading x x) t .events) ≡ false → Shaped x t
+shaped-from x [] h e a = absurd (false≢true (unfold oneCommand in e))
+shaped-from x (c ∷ t) h e a = go (shaped-from (x ++ (c ∷ [])) t) (eqb c 13) refl
+  where
+    parts : (allowed (reading x x) c ≡ true) × (offends x c ≡ false)
+    parts = next-parts x x c t e
+
+    open-line : endsLine (x ++ (c ∷ [])) ≡ false
+    open-line = ends-snoc x c ∙ ap (λ (b : Bool). b && eqb c 10) (last-of-text x h)
+
+    on : oneCommand (reading (x ++ (c ∷ [])) (x ++ (c ∷ []))) t ≡ true
+    on = sym (text-goes-on x x c t (parts .0) (parts .1) open-line) ∙ e
+
+    said-on : asks (feedAll (reading (x ++ (c ∷ [])) (x ++ (c ∷ []))) t .events) ≡ false
+    said-on = sym (ap (λ (f : Feeding). asks (f .events)) (quiet-on x x c t (parts .1) open-line)) ∙ a
+
+    of-line : eqb c 13 ≡ false → lineByte c ≡ true
+    of-line n = sym (or-false (lineByte c)) ∙ sym (ap (λ (b : Bool). lineByte c || b) n) ∙ sym (ap (λ (b : Bool). cond b (eqb c 10) (lineByte c || eqb c 13)) (last-of-text x h)) ∙ (unfold allowed in parts .0)
+
+    size : length (x ++ (c ∷ [])) ≡ length x + 1
+    size = length-append x (c ∷ [])
+
+    go : (all lineByte (x ++ (c ∷ [])) ≡ true → oneCommand (reading (x ++ (c ∷ [])) (x ++ (c ∷ []))) t ≡ true → asks (feedAll (reading (x ++ (c ∷ [])) (x ++ (c ∷ []))) t .events) ≡ false → Shaped (x ++ (c ∷ [])) t) → (b : Bool) → eqb c 13 ≡ b → Shaped x (c ∷ t)
+    go rest true b =
+        let cr = eqb-true c 13 b in
+        let w = after-cr x t (rw cr at on) (rw cr at said-on) in
+        ([], (unfold crlf in rw (cr, w .0)), rw append-nil h, omega (arith, w .1))
+    go rest false b =
+        let w = rest (all-snoc x c h (of-line b)) on said-on in
+        (c ∷ w .0, ap (λ (l : List ℕ). c ∷ l) (w .1), sym (ap (all lineByte) (append-assoc x (c ∷ []) (w .0))) ∙ w .2, omega (arith, w .3, size))
+
+-- The converse of `plain-line`: a line that is accepted and for which no continuation is asked has document 01's shape.
+pub plain-shape : (l t : List ℕ) → lineText l ≡ some t → asks (feedAll first l .events) ≡ false → (l ≡ t ++ crlf) × (all lineByte t ≡ true) × (length l ≤ 2048)
+unfolding lineText first crlf
+plain-shape l t e a = go (oneCommand (reading [] []) l) refl
+  where
+    go : (b : Bool) → oneCommand (reading [] []) l ≡ b → (l ≡ t ++ crlf) × (all lineByte t ≡ true) × (length l ≤ 2048)
+    go false b = absurd (none≢some (rw b at e))
+    go true b =
+        let w = shaped-from [] l (unfold all in refl) b a in
+        let n : length l - 2 ≡ length (w .0) = omega (arith, ap length (w .1), length-append (w .0) crlf) in
+        let is : w .0 ≡ t = sym (take-append-seam (w .0) crlf) ∙ ap (take (length (w .0))) (sym (w .1)) ∙ sym (ap (λ (k : ℕ). take k l) n) ∙ some-is (rw b at e) in
+        (w .1 ∙ ap (λ (y : List ℕ). y ++ crlf) is, sym (ap (all lineByte) is) ∙ w .2, omega (arith, w .3))
+      where
+        some-is : {u v : List ℕ} → some u ≡ some v → u ≡ v
+        some-is f = cc
 
 -- a line that ends in another byte than "}" announces none
 clash : (v w : List ℕ) → v ++ (125 ∷ 13 ∷ 10 ∷ []) ≡ w ++ (34 ∷ 13 ∷ 10 ∷ []) → ⊥

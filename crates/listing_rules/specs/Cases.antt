@@ -2,7 +2,7 @@
 use mathlib.Core.List.{List, [], _∷_, _++_}
 use mathlib.Core.Bool.{Bool, true, false, cond, _&&_, _||_, not}
 use lib.Dec.{eqb, leb}
-use lib.ListN.{length, replicate}
+use lib.ListN.{length, take, replicate}
 use Prim.Native.Nat.{ℕ, suc, _+_, _/_, _%_}
 use Prim.Native.String.{String}
 use Rattle.listing_rules.specs.Bytes.{text, crlf, same, isEmpty, openBytes}
@@ -13,15 +13,15 @@ use Rattle.listing_rules.specs.Flags.{openFlags}
 use Rattle.listing_rules.specs.Table.{rows, passes, openTable}
 use Rattle.listing_rules.specs.Namespaces.{namespacesPass, openNamespaces}
 use Rattle.listing_rules.specs.Tokens.{openTokens}
-use Rattle.listing_rules.specs.Feeder.{Event, handed, goOn, denied, quiet, Feeder, reading, inLiteral, dropping, first, feedChunks, openFeeder}
-use Rattle.listing_rules.specs.Options.{Criteria, openOptions}
+use Rattle.listing_rules.specs.Feeder.{Event, handed, goOn, denied, quiet, goOnLine, Feeder, reading, inLiteral, dropping, first, feedChunks, openFeeder}
+use Rattle.listing_rules.specs.Options.{criteriaNumber, openOptions}
 use Rattle.listing_rules.specs.Command.{openCommand}
 use Rattle.listing_rules.specs.Match.{openMatch}
 use Rattle.listing_rules.specs.Listing.{openListing}
 use Rattle.listing_rules.specs.Lines.{openLines}
-use Rattle.listing_rules.specs.Server.{Reply, refusal, answered, limited, answer, openServer}
-use Rattle.listing_rules.specs.Reader.{Read, line, root, bad, readLine, nameBytes, sameBools, lineFrom, openReader}
-use Rattle.listing_rules.specs.Walk.{lawfulByte, WalkReply, walkRefused, walked, walk, openWalk}
+use Rattle.listing_rules.specs.Server.{Reply, refusal, answered, limited, answer, served, numberOf, lengthOf, bufferAfter, openServer}
+use Rattle.listing_rules.specs.Reader.{Read, line, root, bad, readLine, readNumber, attributesRead, childInfoOf, nameBytes, sameBools, lineFrom, written, openReader}
+use Rattle.listing_rules.specs.Walk.{lawfulByte, WalkReply, walkRefused, walked, walk, collected, walkNumber, walkCount, foundLength, scratchAfter, foundAfter, pendingAfter, openWalk}
 use Rattle.listing_rules.specs.Demand3.{declaredWalk, tooSmall, openDemand3}
 use Rattle.listing_rules.specs.Frames.{programOutput, step, walkLine, openFrames}
 
@@ -59,18 +59,31 @@ pub data Case : Type 0 where
   tables : List (List ℕ) → List (List ℕ) → Case
   -- all of these namespace lists pass, and none of those
   spaces : List (List ℕ) → List (List ℕ) → Case
+  -- the same with the answer buffer as it was lent: the number, the length, and the buffer's bytes afterwards
+  answersInto : List ℕ → List ℕ → List ℕ → List ℕ → ℕ → ℕ → List ℕ → Case
+  -- a walk into scratch, found and pending as they were lent: the number, the count, the length of found, and found's and pending's
+  -- bytes afterwards; scratch is zero
+  walksInto : List ℕ → ℕ → List ℕ → List ℕ → List ℕ → ℕ → ℕ → ℕ → List ℕ → List ℕ → Case
   -- the line writer gives this, in a buffer of this length
-  writes : ℕ → List Bool → List ℕ → Criteria → Reply → Case
+  writes : ℕ → List Bool → List ℕ → ℕ → Reply → Case
+  -- the same with the buffer as it was lent: the number, the length, and the buffer's bytes afterwards
+  writesInto : List ℕ → List Bool → List ℕ → ℕ → ℕ → ℕ → List ℕ → Case
+  -- the reader gives this number, these attributes, these criteria by their number, and these 200 bytes of the name
+  gives : List ℕ → ℕ → List Bool → ℕ → List ℕ → Case
   -- the reader reads the line so, and none of those
   reads : List ℕ → Read → List (List ℕ) → Case
   -- the program answers this input so
   program : List ℕ → List ℕ → Case
   -- with these bytes stored, the program takes the frame so: the lengths of what is stored then, and the answer
   steps : ℕ → ℕ → List ℕ → ℕ → ℕ → List ℕ → Case
+  -- with this table stored, the program answers the frame with a line of this length that begins so
+  answersFrame : List ℕ → List ℕ → ℕ → List ℕ → Case
   -- a walk of so many commands that found nothing is answered so
   counts : ℕ → List ℕ → Case
   -- the feeder, fed these chunks from the first state, says this, and is in the first state again or is not
   feeds : List (List ℕ) → List Event → Bool → Case
+  -- the continuation line
+  continues : List ℕ → Case
 
 abbrev pub sameReply : Reply → Reply → Bool
 sameReply (refusal a) (refusal b) = eqb a b
@@ -122,14 +135,31 @@ holds (refuses k ls) = every (λ l. sameReply (answer [] [] l) (refusal k)) ls
 holds (walks t o s f p r) = sameWalk (walk t o s f p) r && asDeclared t o s f p r
 holds (tables good poor) = every passes good && not (anyOf passes poor)
 holds (spaces good poor) = every namespacesPass good && not (anyOf namespacesPass poor)
+holds (answersInto d t ns l k n e) =
+    let r = served t ns l d in
+    eqb (numberOf r) k && eqb (lengthOf r) n && same (bufferAfter d r) e
+holds (walksInto t o s f p k c n f′ p′) =
+    let r = collected t o s f p in
+    eqb (walkNumber r) k && eqb (walkCount r) c && eqb (foundLength r) n
+    && same (scratchAfter (length s) r) (times (length s) 0) && same (foundAfter (length f) r) f′ && same (pendingAfter (length p) r) p′
 holds (writes room bs n c r) = sameReply (limited room (lineFrom bs n c)) r
-holds (reads l r poor) = sameRead (readLine l) r && eqb (length (nameBytes r)) 200 && every (λ x. sameRead (readLine x) bad) poor
+holds (writesInto d bs n c k m e) =
+    let r = written bs n c d in
+    eqb (numberOf r) k && eqb (lengthOf r) m && same (bufferAfter d r) e
+holds (gives l k bs c n) =
+    let r = readLine l in
+    eqb (readNumber r) k && sameBools (attributesRead r) bs && eqb (criteriaNumber (childInfoOf r)) c && same (nameBytes r) n
+holds (reads l r poor) = sameRead (readLine l) r && every (λ x. sameRead (readLine x) bad) poor
 holds (program i o) = same (programOutput i) o
 holds (steps t n l t′ n′ o) =
     let r = step (record { table = times t 0; namespaces = times n 0 }) l in
     eqb (length (r .stored .table)) t′ && eqb (length (r .stored .namespaces)) n′ && same (r .output) o
+holds (answersFrame t l n o) =
+    let r = step (record { table = t; namespaces = [] }) l .output in
+    eqb (length r) n && same (take (length o) r) o
 holds (counts c o) = same (walkLine (walked c [] [])) o
 holds (feeds cs es b) = let f = feedChunks first cs in same (eventBytes (f .events)) (eventBytes es) && sameFlag (isFirst (f .state)) b
+holds (continues l) = same goOnLine l
 
 -- the places of the cases that fail, counted from k
 abbrev pub failures : ℕ → List Case → List ℕ

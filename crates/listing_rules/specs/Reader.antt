@@ -8,7 +8,7 @@ use Prim.Native.Nat.{ℕ, _-_}
 use Rattle.listing_rules.specs.Bytes.{text, space, crlf, same, isEmpty}
 use Rattle.listing_rules.specs.Names.{lawfulName}
 use Rattle.listing_rules.specs.Tokens.{Got, got, after, withFirst, unquoted, _>>=_}
-use Rattle.listing_rules.specs.Options.{Criteria, noCriteria, isNone}
+use Rattle.listing_rules.specs.Options.{Criteria, noCriteria, isNone, lawfulCriteria, criteriaOf}
 use Rattle.listing_rules.specs.Lines.{attributeNames, childInfoText, listLine, rootLine}
 use Rattle.listing_rules.specs.Server.{Reply, refusal, answered, limited}
 
@@ -105,15 +105,17 @@ sameBools (x ∷ xs) (y ∷ ys) = cond x y (cond y false true) && sameBools xs y
 unfoldable pub rootParts : List Bool → List ℕ → Criteria → Bool
 rootParts bs n c = sameBools bs rootAttributes && isEmpty n && isNone c
 
--- "The line writer .. writes any of these lines from its parts, marked with unmarked too; other parts are 12"
-unfoldable pub lineFrom : List Bool → List ℕ → Criteria → Reply
-lineFrom bs n c =
-    let other = cond (rootParts bs n c) (answered rootLine) (refusal 12) in
-    cond (lawfulName n) (answered (listLine bs n c)) other
+-- "The line writer .. writes any of these lines from its parts, marked with unmarked too; other parts are 12". The parts are the
+-- attributes, the name, and the number k of the set of criteria that CHILDINFO names; a number that is no such set is a part of no line.
+unfoldable pub lineFrom : List Bool → List ℕ → ℕ → Reply
+lineFrom bs n k =
+    let named = answered (listLine bs n (criteriaOf k)) in
+    let other = cond (rootParts bs n (criteriaOf k)) (answered rootLine) (refusal 12) in
+    cond (lawfulCriteria k) (cond (lawfulName n) named other) (refusal 12)
 
 -- "a short buffer 9, in that order"; bytes behind the line stay, and a refusal changes no byte: `bufferAfter`
-unfoldable pub written : List Bool → List ℕ → Criteria → List ℕ → Reply
-written bs n c buffer = limited (length buffer) (lineFrom bs n c)
+unfoldable pub written : List Bool → List ℕ → ℕ → List ℕ → Reply
+written bs n k buffer = limited (length buffer) (lineFrom bs n k)
 
 -- opens every definition of this file, for a proof by computation
 unfoldable pub openReader : Unit {0}

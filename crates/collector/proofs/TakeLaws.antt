@@ -10,20 +10,19 @@ use lib.ListN.{length, take, replicate, length-append}
 use lib.Seq.{take-at}
 use Rattle.listing_rules.specs.Bytes.{openBytes}
 use Rattle.listing_rules.specs.Names.{lawfulName}
-use Rattle.listing_rules.specs.Options.{Criteria, isNone}
+use Rattle.listing_rules.specs.Options.{Criteria, isNone, criteriaOf, criteriaNumber}
 use Rattle.listing_rules.specs.Lines.{rootLine}
 use Rattle.listing_rules.specs.Reader.{Read, line, root, bad, readLine, nameRead, nameBytes}
 use Rattle.listing_rules.specs.Walk.{lawfulByte, Lists, Step, stop, go, _>>=_, packed, isFind, withName, fits, takenIn}
 use Rattle.listing_rules.proofs.LawfulNames.{good-parts}
 use Rattle.listing_rules.proofs.ReaderWriter.{Taken, readLine-only}
 use Rattle.list_line.specs.Members.{members, setOf}
-use Rattle.list_line.specs.CriteriaSets.{criteriaIs, criteriaSet}
 use Rattle.list_line.specs.Lines.{lineIs}
 use Rattle.list_line.specs.declared.attributes.Attributes.{Attributes}
 use Rattle.list_line.specs.declared.criteria.Criteria.{Criteria as Set}
 use Rattle.list_line.specs.declared.read.Line.the-variants.{Parts, Refused}
 use Rattle.list_line.proofs.Members.{members-setOf}
-use Rattle.list_line.proofs.CriteriaSets.{criteria-set}
+use Rattle.listing_rules.proofs.RoundTrip.{criteria-number}
 use Rattle.collector.specs.Names.{Keeps}
 use Rattle.collector.specs.Taking.{Inside, Holds, Goes}
 use Rattle.collector.specs.declared.names.Kept.the-variants.{To, Full}
@@ -37,7 +36,7 @@ bothFit room₁ room₂ f a = fits 10 room₁ f >>= λ x. fits 11 room₂ a >>= 
 
 -- whether CHILDINFO names a criterion
 abbrev pub parentOf : Set → Bool
-parentOf k = not (isNone (criteriaIs (k .bits)))
+parentOf k = not (isNone (criteriaOf (k .bits)))
 
 -- What is read is a line with these attributes, this length of the name and CHILDINFO or not; the name stands at the front of the
 -- bytes.
@@ -47,7 +46,7 @@ pub record ReadAs (r : Read) (t : Attributes) (n : ℕ) (c : Bool) (name : List 
   pub taken : (o room₁ room₂ : ℕ) → lawfulByte o ≡ true → (s : Lists) → length (packed (s .finds)) ≤ room₁ → length (packed (s .asks)) ≤ room₂ → takenIn o room₁ room₂ s r ≡ bothFit room₁ room₂ (withName (isFind o (members (t .bits))) (take n name) (s .finds)) (withName c (take n name) (s .asks))
 
 module _ (t : Attributes) (n : ℕ) (k : Set) (name : List ℕ) where
-  as-line : (bs : List Bool) (m : List ℕ) (d : Criteria) → length bs ≡ 16 → length m ≤ 200 → Parts (record { bits = setOf bs }) (length m) (record { bits = criteriaSet d }) ≡ Parts t n k → name ≡ nameBytes (line bs m d) → ReadAs (line bs m d) t n (parentOf k) name
+  as-line : (bs : List Bool) (m : List ℕ) (d : Criteria) → length bs ≡ 16 → length m ≤ 200 → Parts (record { bits = setOf bs }) (length m) (record { bits = criteriaNumber d }) ≡ Parts t n k → name ≡ nameBytes (line bs m d) → ReadAs (line bs m d) t n (parentOf k) name
   unfolding nameBytes nameRead takenIn
   as-line bs m d h f e g =
       record {
@@ -60,7 +59,7 @@ module _ (t : Attributes) (n : ℕ) (k : Set) (name : List ℕ) where
       size = cc
 
       child : not (isNone d) ≡ parentOf k
-      child = let w : record { bits = criteriaSet d } ≡ k = cc in ap (λ (x : Criteria). not (isNone x)) (sym (criteria-set d)) ∙ ap parentOf w
+      child = let w : record { bits = criteriaNumber d } ≡ k = cc in ap (λ (x : Criteria). not (isNone x)) (sym (criteria-number d)) ∙ ap parentOf w
 
       attributes : bs ≡ members (t .bits)
       attributes = let w : record { bits = setOf bs } ≡ t = cc in sym (members-setOf bs h) ∙ ap (λ (x : Attributes). members (x .bits)) w
@@ -70,7 +69,7 @@ module _ (t : Attributes) (n : ℕ) (k : Set) (name : List ℕ) where
 
   -- the root line is no find and has no CHILDINFO
   as-root : Parts (record { bits = 4 }) 0 (record { bits = 0 }) ≡ Parts t n k → ReadAs root t n (parentOf k) name
-  unfolding takenIn withName isNone criteriaIs openBytes _>>=_
+  unfolding takenIn withName isNone criteriaOf openBytes _>>=_
   as-root e =
       record {
         short = let w : 0 ≡ n = cc in omega arith;

@@ -24,7 +24,7 @@ ghost use Rattle.listing_rules.specs.Server.{bufferAfter, served};
 ghost use Rattle.listing_rules.specs.Walk.{lawfulByte, collected, foundAfter, pendingAfter, scratchAfter};
 ghost use Rattle.octets.specs.Written.{writtenIs};
 ghost use Rattle.list_line.specs.Members.{members};
-ghost use Rattle.list_line.specs.CriteriaSets.{criteriaIs};
+ghost use Rattle.listing_rules.specs.Options.{criteriaOf};
 ghost use Rattle.list_line.specs.Lines.{lineIs};
 ghost use Rattle.collector.specs.Result.{collectedIs, WholeWalk};
 ghost use Rattle.exports.specs.Outcomes.{writtenOutcome, collectedOutcome, partsOf};
@@ -94,8 +94,8 @@ pub extern "C" fn luspemaro_write_line(
     criteria: u8,
     out: &mut [u8],
 ) -> Outcome
-    ensures result { λ r. ⌜ r ≡ writtenOutcome (writtenIs (written (members attributes) (now (name .entry)) (criteriaIs criteria) (now (out .entry)))) ⌝ }
-    ensures bytes { λ _. ⌜ now (out .exit) ≡ bufferAfter (now (out .entry)) (written (members attributes) (now (name .entry)) (criteriaIs criteria) (now (out .entry))) ⌝ }
+    ensures result { λ r. ⌜ r ≡ writtenOutcome (writtenIs (written (members attributes) (now (name .entry)) (criteriaOf criteria) (now (out .entry)))) ⌝ }
+    ensures bytes { λ _. ⌜ now (out .exit) ≡ bufferAfter (now (out .entry)) (written (members attributes) (now (name .entry)) (criteriaOf criteria) (now (out .entry))) ⌝ }
 {
     let set = Attributes { bits: attributes };
     let named = Criteria { bits: criteria };

@@ -10,16 +10,15 @@ use borrow.Author.Tests.{le-leb, leb-true}
 use Rattle.listing_rules.specs.Lists.{anyOf}
 use Rattle.listing_rules.specs.Flags.{exists}
 use Rattle.listing_rules.specs.Table.{Row}
-use Rattle.listing_rules.specs.Options.{Options, Criteria, noCriteria, criteria}
+use Rattle.listing_rules.specs.Options.{Options, Criteria, noCriteria, criteria, criteriaOf, criteriaNumber}
 use Rattle.listing_rules.specs.Match.{matchesAny}
 use Rattle.listing_rules.specs.Listing.{unselective, endsInPercent, listed, childInfo, attributes}
 use Rattle.list_line.specs.declared.attributes.Attributes.{Attributes}
 use Rattle.list_line.specs.declared.criteria.Criteria.{Criteria as CriteriaBits}
 use Rattle.listing_rules.specs.Lines.{listLine}
 use Rattle.listing_rules.specs.Server.{lineOf}
-use Rattle.list_line.specs.CriteriaSets.{criteriaIs, criteriaSet}
 use Rattle.list_line.specs.Members.{members, setOf}
-use Rattle.list_line.proofs.CriteriaSets.{criteria-set}
+use Rattle.listing_rules.proofs.RoundTrip.{criteria-number}
 use Rattle.list_line.proofs.Members.{members-setOf}
 use Rattle.mailbox_table.specs.declared.rows.Row.{Row as Place}
 use Rattle.mailbox_table.specs.Words.{rowOfWord}
@@ -102,11 +101,11 @@ module _ (area words : List ℕ) (x : Indexed area words) (i len : ℕ) (a : At 
       pub shown-unmatched : m ≡ false → Nothing ≡ shownIs (rowsAt area words) o ps here
       shown-unmatched f = out (listed-test ∙ ap (λ (b : Bool). b && (((eqb (row .len) len && getD meeting i false) || deep) || level)) (match-is ∙ f))
 
-      pub shown-line : (((eqb (row .len) len && getD meeting i false) || deep) || level) ≡ true → m ≡ true → (parent : Bool) → parent ≡ (o .retChildren && below children) → (bits : Attributes) → bits .bits ≡ setOf (attributesOf flags o parent level) → (info : Bool) → info ≡ (rec && below meeting) → (named : CriteriaBits) → named .bits ≡ criteriaSet (cond info (criteria o) noCriteria) → Line bits named ≡ shownIs (rowsAt area words) o ps here
+      pub shown-line : (((eqb (row .len) len && getD meeting i false) || deep) || level) ≡ true → m ≡ true → (parent : Bool) → parent ≡ (o .retChildren && below children) → (bits : Attributes) → bits .bits ≡ setOf (attributesOf flags o parent level) → (info : Bool) → info ≡ (rec && below meeting) → (named : CriteriaBits) → named .bits ≡ criteriaNumber (cond info (criteria o) noCriteria) → Line bits named ≡ shownIs (rowsAt area words) o ps here
       unfolding shownIs
       shown-line f h parent ep bits eb info ei named en =
           sym
-          (ap (λ (b : Bool). cond b (Line (record { bits = setOf (attributes (rowsAt area words) o ps here) }) (record { bits = criteriaSet (childInfo (rowsAt area words) o here) })) Nothing) shows
+          (ap (λ (b : Bool). cond b (Line (record { bits = setOf (attributes (rowsAt area words) o ps here) }) (record { bits = criteriaNumber (childInfo (rowsAt area words) o here) })) Nothing) shows
           ∙ (λ j. Line (record { bits = shown-bits j }) (record { bits = shown-info j })))
         where
           shows : listed (rowsAt area words) o ps here ≡ true
@@ -128,8 +127,8 @@ module _ (area words : List ℕ) (x : Indexed area words) (i len : ℕ) (a : At 
               child-info-here area words x i len a o ps meeting unmatched children em eu ek levels el
               ∙ ap (λ (b : Bool). cond b (criteria o) noCriteria) (sym (ei ∙ ap (λ (b : Bool). b && below meeting) er))
 
-          shown-info : criteriaSet (childInfo (rowsAt area words) o here) ≡ named .bits
-          shown-info = ap criteriaSet by-criteria ∙ sym en
+          shown-info : criteriaNumber (childInfo (rowsAt area words) o here) ≡ named .bits
+          shown-info = ap criteriaNumber by-criteria ∙ sym en
 
 -- The text of what is shown
 module _ (rs : List Row) (o : Options) (ps : List (List ℕ)) (n : List ℕ) where
@@ -137,7 +136,7 @@ module _ (rs : List Row) (o : Options) (ps : List (List ℕ)) (n : List ℕ) whe
   unfolding shownIs shownText
   text-none e = go (listed rs o ps n) e
     where
-      go : (b : Bool) → cond b (Line (record { bits = setOf (attributes rs o ps n) }) (record { bits = criteriaSet (childInfo rs o n) })) Nothing ≡ Nothing → cond b (lineOf rs o ps n) [] ≡ []
+      go : (b : Bool) → cond b (Line (record { bits = setOf (attributes rs o ps n) }) (record { bits = criteriaNumber (childInfo rs o n) })) Nothing ≡ Nothing → cond b (lineOf rs o ps n) [] ≡ []
       go true f = cc
       go false f = refl
 
@@ -145,14 +144,14 @@ module _ (rs : List Row) (o : Options) (ps : List (List ℕ)) (n : List ℕ) whe
   unfolding attributes
   sixteen = refl
 
-  pub text-line : (a : Attributes) (c : CriteriaBits) → shownIs rs o ps n ≡ Line a c → shownText rs o ps n ≡ listLine (members (a .bits)) n (criteriaIs (c .bits))
+  pub text-line : (a : Attributes) (c : CriteriaBits) → shownIs rs o ps n ≡ Line a c → shownText rs o ps n ≡ listLine (members (a .bits)) n (criteriaOf (c .bits))
   unfolding shownIs shownText lineOf
   text-line a c e = go (listed rs o ps n) e
     where
-      go : (b : Bool) → cond b (Line (record { bits = setOf (attributes rs o ps n) }) (record { bits = criteriaSet (childInfo rs o n) })) Nothing ≡ Line a c → cond b (listLine (attributes rs o ps n) n (childInfo rs o n)) [] ≡ listLine (members (a .bits)) n (criteriaIs (c .bits))
+      go : (b : Bool) → cond b (Line (record { bits = setOf (attributes rs o ps n) }) (record { bits = criteriaNumber (childInfo rs o n) })) Nothing ≡ Line a c → cond b (listLine (attributes rs o ps n) n (childInfo rs o n)) [] ≡ listLine (members (a .bits)) n (criteriaOf (c .bits))
       go true f =
           let g : record { bits = setOf (attributes rs o ps n) } ≡ a = cc in
-          let h : record { bits = criteriaSet (childInfo rs o n) } ≡ c = cc in
-          ap (λ (k : Criteria). listLine (attributes rs o ps n) n k) (sym (criteria-set (childInfo rs o n)) ∙ ap (λ (x : CriteriaBits). criteriaIs (x .bits)) h)
-          ∙ ap (λ (l : List Bool). listLine l n (criteriaIs (c .bits))) (sym (members-setOf (attributes rs o ps n) sixteen) ∙ ap (λ (x : Attributes). members (x .bits)) g)
+          let h : record { bits = criteriaNumber (childInfo rs o n) } ≡ c = cc in
+          ap (λ (k : Criteria). listLine (attributes rs o ps n) n k) (sym (criteria-number (childInfo rs o n)) ∙ ap (λ (x : CriteriaBits). criteriaOf (x .bits)) h)
+          ∙ ap (λ (l : List Bool). listLine l n (criteriaOf (c .bits))) (sym (members-setOf (attributes rs o ps n) sixteen) ∙ ap (λ (x : Attributes). members (x .bits)) g)
       go false f = cc

@@ -9,10 +9,9 @@ use Rattle.listing_rules.specs.Lists.{every, anyOf}
 use Rattle.listing_rules.specs.Names.{lawfulName}
 use Rattle.listing_rules.specs.Flags.{exists, subscribed, remote, noSelect, noInferiors, marked, unmarked}
 use Rattle.listing_rules.specs.Table.{Row}
-use Rattle.listing_rules.specs.Options.{Options}
+use Rattle.listing_rules.specs.Options.{Options, criteriaNumber}
 use Rattle.listing_rules.specs.Listing.{unselective, endsInPercent, listed, attributes, childInfo}
 use Rattle.listing_rules.specs.Server.{lineOf}
-use Rattle.list_line.specs.CriteriaSets.{criteriaSet}
 use Rattle.list_line.specs.Members.{setOf}
 use Rattle.mailbox_table.specs.Words.{rowOfWord}
 use Rattle.mailbox_table.specs.Index.{Indexed, rowsAt}
@@ -47,7 +46,7 @@ attributesOf f o h v =
 
 -- a line with these attributes and these criteria in CHILDINFO, or nothing
 unfoldable pub shownIs : List Row → Options → List (List ℕ) → List ℕ → Shown
-shownIs rs o ps n = cond (listed rs o ps n) (Line (record { bits = setOf (attributes rs o ps n) }) (record { bits = criteriaSet (childInfo rs o n) })) Nothing
+shownIs rs o ps n = cond (listed rs o ps n) (Line (record { bits = setOf (attributes rs o ps n) }) (record { bits = criteriaNumber (childInfo rs o n) })) Nothing
 
 -- the text of a name's line, or none
 unfoldable pub shownText : List Row → Options → List (List ℕ) → List ℕ → List ℕ

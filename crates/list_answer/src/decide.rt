@@ -12,8 +12,7 @@ ghost use mathlib.Core.Bool.{cond, _&&_};
 ghost use Prim.Native.Nat.{_≤_, _<_};
 ghost use lib.ListN.{length, take, drop, getD};
 ghost use Rattle.listing_rules.specs.Table.{names};
-ghost use Rattle.listing_rules.specs.Options.{criteria, noCriteria};
-ghost use Rattle.list_line.specs.CriteriaSets.{criteriaSet};
+ghost use Rattle.listing_rules.specs.Options.{criteria, noCriteria, criteriaNumber};
 ghost use Rattle.list_line.specs.Members.{setOf};
 ghost use Rattle.command_line.specs.OptionSets.{optionsIs};
 ghost use Rattle.mailbox_table.specs.Index.{nameAt, rowsAt};
@@ -66,7 +65,7 @@ fn flags_of(whole: bool, flags: Flags) -> Flags
 
 // The criteria that CHILDINFO names: those selected, where it stands on the line, else none.
 fn child_info(info: bool, options: Options) -> Criteria
-    ensures { λ r. ⌜ r .bits ≡ criteriaSet (cond info (criteria (optionsIs options)) noCriteria) ⌝ }
+    ensures { λ r. ⌜ r .bits ≡ criteriaNumber (cond info (criteria (optionsIs options)) noCriteria) ⌝ }
 {
     if info {
         return Criteria::of(

@@ -1,4 +1,4 @@
--- Laws of the attribute set, of the set of criteria, of the names' places and of the reader's steps.
+-- Laws of the attribute set, of the set of criteria, of the names' places and of the reader's steps; the round trip.
 pub mod Members
 pub mod CriteriaSets
 pub mod Names
@@ -7,3 +7,4 @@ pub mod Skipping
 pub mod Choosing
 pub mod Naming
 pub mod Reading
+pub mod RoundTrip

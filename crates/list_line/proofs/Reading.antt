@@ -14,12 +14,11 @@ use Rattle.listing_rules.specs.Bytes.{openBytes, text, same, within, all}
 use Rattle.listing_rules.specs.Names.{lawfulName, nameByte, levels, isFull, inboxSpelled}
 use Rattle.listing_rules.specs.Lists.{every}
 use Rattle.listing_rules.specs.Tokens.{Got, got, after, unquoted, _>>=_}
-use Rattle.listing_rules.specs.Options.{Criteria, openOptions}
+use Rattle.listing_rules.specs.Options.{Criteria, openOptions, criteriaOf, criteriaNumber}
 use Rattle.listing_rules.specs.Lines.{attributeNames, rootLine, openLines}
 use Rattle.listing_rules.specs.Reader.{Read, line, bad, readChosen, childInfoRead, readParts, orBad, readLine, nameBytes, nameRead, openReader}
 use Rattle.octets.proofs.Puts.{front}
 use Rattle.list_line.specs.Members.{setOf}
-use Rattle.list_line.specs.CriteriaSets.{criteriaIs, criteriaSet}
 use Rattle.list_line.specs.Lines.{lineIs}
 use Rattle.list_line.specs.Parts.{Chooses, Names, tailIs}
 use Rattle.list_line.specs.declared.criteria.Criteria.{Criteria as CriteriaBits}
@@ -27,31 +26,31 @@ use Rattle.list_line.specs.declared.read.Chosen.{Chosen}
 use Rattle.list_line.specs.declared.read.Line.the-variants.{Parts}
 use Rattle.list_line.specs.declared.read.Name.the-variants.{Missing as NoName}
 use Rattle.list_line.specs.declared.read.Tail.the-variants.{ChildInfo, Missing as NoTail}
-use Rattle.list_line.proofs.CriteriaSets.{criteria-set}
+use Rattle.listing_rules.proofs.RoundTrip.{criteria-number}
 
 -- what stands behind the name, as the code compares it
 module _ (t : List ℕ) where
   pub tail-plain : same t (13 ∷ 10 ∷ []) ≡ true → ChildInfo (record { bits = 0 }) ≡ tailIs (childInfoRead t)
-  unfolding openBytes openOptions openLines openReader tailIs criteriaSet
+  unfolding openBytes openOptions openLines openReader tailIs criteriaNumber
   tail-plain e = rw e
 
   module _ (e : same t (13 ∷ 10 ∷ []) ≡ false) where
     pub tail-subscribed : same t (text " (\"CHILDINFO\" (\"SUBSCRIBED\"))\r\n") ≡ true → ChildInfo (record { bits = 1 }) ≡ tailIs (childInfoRead t)
-    unfolding openBytes openOptions openLines openReader tailIs criteriaSet
+    unfolding openBytes openOptions openLines openReader tailIs criteriaNumber
     tail-subscribed f = rw (e, f)
 
     module _ (f : same t (text " (\"CHILDINFO\" (\"SUBSCRIBED\"))\r\n") ≡ false) where
       pub tail-special : same t (text " (\"CHILDINFO\" (\"SPECIAL-USE\"))\r\n") ≡ true → ChildInfo (record { bits = 2 }) ≡ tailIs (childInfoRead t)
-      unfolding openBytes openOptions openLines openReader tailIs criteriaSet
+      unfolding openBytes openOptions openLines openReader tailIs criteriaNumber
       tail-special g = rw (e, f, g)
 
       module _ (g : same t (text " (\"CHILDINFO\" (\"SPECIAL-USE\"))\r\n") ≡ false) where
         pub tail-both : same t (text " (\"CHILDINFO\" (\"SUBSCRIBED\" \"SPECIAL-USE\"))\r\n") ≡ true → ChildInfo (record { bits = 3 }) ≡ tailIs (childInfoRead t)
-        unfolding openBytes openOptions openLines openReader tailIs criteriaSet
+        unfolding openBytes openOptions openLines openReader tailIs criteriaNumber
         tail-both h = rw (e, f, g, h)
 
         pub tail-other : same t (text " (\"CHILDINFO\" (\"SUBSCRIBED\" \"SPECIAL-USE\"))\r\n") ≡ false → NoTail ≡ tailIs (childInfoRead t)
-        unfolding openBytes openOptions openLines openReader tailIs criteriaSet
+        unfolding openBytes openOptions openLines openReader tailIs criteriaNumber
         tail-other h = rw (e, f, g, h)
 
 tail-none : (o : Option Criteria) → tailIs o ≡ NoTail → o ≡ none
@@ -61,17 +60,17 @@ tail-none (some c) e = cc
 
 -- the criteria read are those of the code's set, which has no other bit
 module _ (s : CriteriaBits) where
-  tail-some : (o : Option Criteria) → tailIs o ≡ ChildInfo s → o ≡ some (criteriaIs (s .bits))
+  tail-some : (o : Option Criteria) → tailIs o ≡ ChildInfo s → o ≡ some (criteriaOf (s .bits))
   unfolding tailIs
   tail-some none e = cc
-  tail-some (some c) e = let w : record { bits = criteriaSet c } ≡ s = cc in ap some (sym (criteria-set c) ∙ ap (λ (x : CriteriaBits). criteriaIs (x .bits)) w)
+  tail-some (some c) e = let w : record { bits = criteriaNumber c } ≡ s = cc in ap some (sym (criteria-number c) ∙ ap (λ (x : CriteriaBits). criteriaOf (x .bits)) w)
 
-  pub tail-whole : (o : Option Criteria) → tailIs o ≡ ChildInfo s → criteriaSet (criteriaIs (s .bits)) ≡ s .bits
+  pub tail-whole : (o : Option Criteria) → tailIs o ≡ ChildInfo s → criteriaNumber (criteriaOf (s .bits)) ≡ s .bits
   unfolding tailIs
   tail-whole none e = cc
   tail-whole (some c) e =
-      let w : record { bits = criteriaSet c } ≡ s = cc in
-      subst (λ (x : CriteriaBits). criteriaSet (criteriaIs (x .bits)) ≡ x .bits) w (ap criteriaSet (criteria-set c))
+      let w : record { bits = criteriaNumber c } ≡ s = cc in
+      subst (λ (x : CriteriaBits). criteriaNumber (criteriaOf (x .bits)) ≡ x .bits) w (ap criteriaNumber (criteria-number c))
 
 -- all that is left from a place on, as the code takes it
 rest-from : (l : List ℕ) (j : ℕ) → take (length l - j) (drop j l) ≡ drop j l
@@ -163,7 +162,7 @@ module _ (bs : List Bool) where
       go (some g) m = end-unlawful (g .val) (g .rest) (long-unlawful (g .val) (omega (arith, m g refl, ap length z, length-replicate {A = ℕ} 200 0)))
 
   module _ (n l : List ℕ) (j : ℕ) where
-    pub end-read : (s : CriteriaBits) → tailIs (childInfoRead (take (length l - j) (drop j l))) ≡ ChildInfo s → fromEnd bs n (drop j l) ≡ cond (lawfulName n) (some (line bs n (criteriaIs (s .bits)))) none
+    pub end-read : (s : CriteriaBits) → tailIs (childInfoRead (take (length l - j) (drop j l))) ≡ ChildInfo s → fromEnd bs n (drop j l) ≡ cond (lawfulName n) (some (line bs n (criteriaOf (s .bits)))) none
     unfolding fromEnd _>>=_
     end-read s e = rw (tail-some s (childInfoRead (drop j l)) (rw (rest-from l j) at e))
 
@@ -177,7 +176,7 @@ module _ (l : List ℕ) where
   unfolding orBad
   parts-refused e = rw e
 
-  pub parts-taken : (bs : List Bool) (s : List ℕ) (c : CriteriaBits) (bits n : ℕ) (d e : List ℕ) → readParts l ≡ some (line bs s (criteriaIs (c .bits))) → criteriaSet (criteriaIs (c .bits)) ≡ c .bits → bits ≡ setOf bs → n ≡ length s → n ≤ 200 → d ≡ replicate 200 0 → e ≡ sets d 0 s → (Parts (record { bits = bits }) n c ≡ lineIs (orBad (readParts l))) × (e ≡ nameBytes (orBad (readParts l)))
+  pub parts-taken : (bs : List Bool) (s : List ℕ) (c : CriteriaBits) (bits n : ℕ) (d e : List ℕ) → readParts l ≡ some (line bs s (criteriaOf (c .bits))) → criteriaNumber (criteriaOf (c .bits)) ≡ c .bits → bits ≡ setOf bs → n ≡ length s → n ≤ 200 → d ≡ replicate 200 0 → e ≡ sets d 0 s → (Parts (record { bits = bits }) n c ≡ lineIs (orBad (readParts l))) × (e ≡ nameBytes (orBad (readParts l)))
   unfolding orBad lineIs nameBytes nameRead
   parts-taken bs s c bits n d e p k b m h z w = rw p ((λ i. Parts (record { bits = b i }) (m i) (record { bits = sym k i })), w ∙ named d s z (omega arith))
 

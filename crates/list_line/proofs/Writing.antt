@@ -9,13 +9,13 @@ use lib.ListN.{length, drop}
 use lib.Seq.{drop-cons}
 use borrow.Author.Tests.{eq-eqb, ne-eqb, le-leb, lt-leb}
 use Rattle.listing_rules.specs.Bytes.{openBytes}
-use Rattle.listing_rules.specs.Options.{Criteria}
+use Rattle.listing_rules.specs.Options.{lawfulCriteria, criteriaOf}
 use Rattle.listing_rules.specs.Lines.{attributeNames, chosen, spaced, spacedTail, listLine, rootLine}
 use Rattle.listing_rules.specs.Names.{lawfulName}
-use Rattle.listing_rules.specs.Reader.{separated, rootParts, lineFrom, written}
+use Rattle.listing_rules.specs.Reader.{separated, rootParts, lineFrom}
 use Rattle.listing_rules.specs.Server.{refusal, answered, limited, bufferAfter}
 use Rattle.octets.specs.Put.{Put}
-use Rattle.octets.specs.Written.{writtenIs}
+use Rattle.octets.specs.Written.{writtenIs, Gives}
 use Rattle.octets.specs.declared.Written.the-variants.{Done, Refused}
 use Rattle.octets.proofs.Puts.{put-none, put-then, front}
 use Rattle.list_line.specs.Members.{members}
@@ -113,15 +113,24 @@ unfolding openBytes rootLine
 root-length = refl
 
 -- what the line writer does with its parts
-module _ (bs : List Bool) (n : List ℕ) (c : Criteria) (d : List ℕ) where
-  pub written-named : lawfulName n ≡ true → written bs n c d ≡ limited (length d) (answered (listLine bs n c))
-  unfolding written lineFrom
-  written-named h = rw h
+module _ (bs : List Bool) (n : List ℕ) (k : ℕ) where
+  pub line-unlawful : lawfulCriteria k ≡ false → lineFrom bs n k ≡ refusal 12
+  unfolding lineFrom
+  line-unlawful g = rw g
 
-  pub written-root : lawfulName n ≡ false → rootParts bs n c ≡ true → written bs n c d ≡ limited (length d) (answered rootLine)
-  unfolding written lineFrom
-  written-root h g = rw (h, g)
+  pub line-named : lawfulCriteria k ≡ true → lawfulName n ≡ true → lineFrom bs n k ≡ answered (listLine bs n (criteriaOf k))
+  unfolding lineFrom
+  line-named g h = rw (g, h)
 
-  pub written-other : lawfulName n ≡ false → rootParts bs n c ≡ false → written bs n c d ≡ refusal 12
-  unfolding written lineFrom limited
-  written-other h g = rw (h, g)
+  pub line-root : lawfulCriteria k ≡ true → lawfulName n ≡ false → rootParts bs n (criteriaOf k) ≡ true → lineFrom bs n k ≡ answered rootLine
+  unfolding lineFrom
+  line-root g h p = rw (g, h, p)
+
+  pub line-other : lawfulCriteria k ≡ true → lawfulName n ≡ false → rootParts bs n (criteriaOf k) ≡ false → lineFrom bs n k ≡ refusal 12
+  unfolding lineFrom
+  line-other g h p = rw (g, h, p)
+
+-- a refusal has its number and changes no byte
+pub gives-refusal : (d : List ℕ) (k : ℕ) → Gives (refusal k) d d (Refused k)
+unfolding limited writtenIs bufferAfter
+gives-refusal d k = (refl, refl)

@@ -8,11 +8,10 @@ use Prim.Native.Nat.{ℕ, _≤_, _<_}
 use lib.ListN.{length, drop}
 use lib.Seq.{sets}
 use Rattle.listing_rules.specs.Tokens.{Got, got, after, withFirst, unquoted, _>>=_}
-use Rattle.listing_rules.specs.Options.{Criteria}
+use Rattle.listing_rules.specs.Options.{Criteria, criteriaNumber}
 use Rattle.listing_rules.specs.Lines.{attributeNames}
 use Rattle.listing_rules.specs.Reader.{readChosen}
 use Rattle.list_line.specs.Members.{setOf}
-use Rattle.list_line.specs.CriteriaSets.{criteriaSet}
 use Rattle.list_line.specs.declared.read.Place.{Place}
 use Rattle.list_line.specs.declared.read.Place.the-variants.{At, Missing}
 use Rattle.list_line.specs.declared.read.Chosen.{Chosen}
@@ -49,4 +48,4 @@ Names l from d e NoName = (g : Got (List ℕ)) → unquoted false (drop from l) 
 -- what stands behind the name
 unfoldable pub tailIs : Option Criteria → Tail
 tailIs none = NoTail
-tailIs (some c) = ChildInfo (record { bits = criteriaSet c })
+tailIs (some c) = ChildInfo (record { bits = criteriaNumber c })

@@ -1,10 +1,10 @@
 // The criteria that CHILDINFO names: a set with named members.
 ghost use mathlib.Core.Path.{_≡_};
-ghost use Rattle.listing_rules.specs.Options.{isNone};
+ghost use Rattle.listing_rules.specs.Options.{isNone, lawfulCriteria, criteriaOf, criteriaNumber};
 ghost use Rattle.octets.specs.Sets.{contains, union};
-ghost use Rattle.list_line.specs.CriteriaSets.{criteriaIs, criteriaSet, these};
+ghost use Rattle.list_line.specs.CriteriaSets.{these};
 
-// Member k is 2 to the k. The other bits are no criterion and do not count: a line with them is the line without them.
+// Member k is 2 to the k. A set with another bit is not lawful, and no line has it: the line writer refuses it.
 pub struct Criteria {
     pub bits: u8,
 }
@@ -16,9 +16,12 @@ impl Criteria {
 
     pub const SPECIAL_USE: Criteria = Criteria { bits: 2 };
 
+    // Both: the largest lawful set.
+    const ALL: Criteria = Criteria { bits: 3 };
+
     // The set of those that are named.
     pub fn of(subscribed: bool, special: bool) -> Criteria
-        ensures { λ r. ⌜ r .bits ≡ criteriaSet (these subscribed special) ⌝ }
+        ensures { λ r. ⌜ r .bits ≡ criteriaNumber (these subscribed special) ⌝ }
     {
         if subscribed {
             if special {
@@ -48,9 +51,16 @@ impl Criteria {
         self.bits & member.bits == member.bits
     }
 
+    // Whether it has no members but these two.
+    pub fn lawful(self) -> bool
+        ensures { λ r. ⌜ r ≡ lawfulCriteria (self .bits) ⌝ }
+    {
+        self.bits <= Criteria::ALL.bits
+    }
+
     // Whether no criterion is in: the line has no CHILDINFO.
     pub fn is_none(self) -> bool
-        ensures { λ r. ⌜ r ≡ isNone (criteriaIs (self .bits)) ⌝ }
+        ensures { λ r. ⌜ r ≡ isNone (criteriaOf (self .bits)) ⌝ }
     {
         !(self.has(Criteria::SUBSCRIBED) | self.has(Criteria::SPECIAL_USE))
     }

@@ -9,6 +9,7 @@ use mailbox_table::names::lawful_name;
 use octets::BACKSLASH;
 use octets::QUOTE;
 use octets::byte_at;
+use octets::refusals::NOT_SUCH_LINE;
 use octets::same_bytes;
 ghost use mathlib.Core.Path.{_≡_};
 ghost use Prim.Native.Nat.{_≤_};
@@ -17,9 +18,6 @@ ghost use Rattle.listing_rules.specs.Reader.{bad, childInfoRead, readParts, orB
 ghost use Rattle.list_line.specs.Lines.{lineIs};
 ghost use Rattle.list_line.specs.Names.{allNames, namePlaces};
 ghost use Rattle.list_line.specs.Parts.{Skips, Chooses, Next, Names, tailIs};
-
-// The refusal: not such a line.
-const NOT_A_LINE: u8 = 12;
 
 // What a line says: its attributes, the length of its name and the criteria that its CHILDINFO names; or the number of the refusal.
 pub enum Line {
@@ -113,7 +111,7 @@ fn refused() -> Read
     ensures bytes { λ r. ⌜ r .name ≡ nameBytes bad ⌝ }
 {
     Read {
-        line: Line::Refused(NOT_A_LINE),
+        line: Line::Refused(NOT_SUCH_LINE),
         name: no_name(),
     }
 }

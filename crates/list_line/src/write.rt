@@ -6,23 +6,19 @@ use mailbox_table::names::lawful_name;
 use octets::Written;
 use octets::put_all;
 use octets::put_quoted;
+use octets::refusals::NOT_SUCH_LINE;
+use octets::refusals::SHORT_BUFFER;
 ghost use mathlib.Core.Path.{_≡_};
 ghost use mathlib.Core.List.{_++_};
-ghost use lib.ListN.{length};
 ghost use Rattle.listing_rules.specs.Bytes.{crlf};
 ghost use Rattle.listing_rules.specs.Lines.{attributeNames, chosen, spaced, childInfoText, listLine, rootLine, okLine};
-ghost use Rattle.listing_rules.specs.Reader.{rootParts, written};
-ghost use Rattle.listing_rules.specs.Server.{answered, limited, bufferAfter};
+ghost use Rattle.listing_rules.specs.Options.{criteriaOf};
+ghost use Rattle.listing_rules.specs.Reader.{rootParts, lineFrom};
+ghost use Rattle.listing_rules.specs.Server.{answered};
 ghost use Rattle.octets.specs.Put.{Put};
-ghost use Rattle.octets.specs.Written.{writtenIs};
-ghost use Rattle.list_line.specs.CriteriaSets.{criteriaIs};
+ghost use Rattle.octets.specs.Written.{Gives};
 ghost use Rattle.list_line.specs.Members.{members};
 ghost use Rattle.list_line.specs.Names.{allNames, namePlaces};
-
-// Refusals: the parts are those of no line; the buffer is short.
-const NOT_SUCH_PARTS: u8 = 12;
-
-const SHORT_BUFFER: u8 = 9;
 
 // A LIST line.
 pub fn put_line(
@@ -32,7 +28,7 @@ pub fn put_line(
     name: &[u8],
     criteria: Criteria,
 ) -> usize
-    ensures { λ r. ⌜ Put (now (buf .entry)) (now (buf .exit)) at (listLine (members (attributes .bits)) (now (name .entry)) (criteriaIs (criteria .bits))) r ⌝ }
+    ensures { λ r. ⌜ Put (now (buf .entry)) (now (buf .exit)) at (listLine (members (attributes .bits)) (now (name .entry)) (criteriaOf (criteria .bits))) r ⌝ }
 {
     let a = put_all(buf, at, &texts::LINE_START);
     let b = put_attributes(buf, a, attributes.bits);
@@ -56,22 +52,24 @@ pub fn put_ok_line(buf: &mut [u8], at: usize, tag: &[u8]) -> usize
     put_all(buf, a, &texts::OK_END)
 }
 
-// The line writer: the line of these parts at the front of the buffer. Parts of no line are refused first, then a short buffer.
-// A refusal changes no byte, and the bytes behind the line stay.
+// The line writer: the line of these parts at the front of the buffer. Parts of no line are refused first, among them criteria that
+// are not lawful, then a short buffer. A refusal changes no byte, and the bytes after the line stay.
 pub fn write_line(
     attributes: Attributes,
     name: &[u8],
     criteria: Criteria,
     buf: &mut [u8],
 ) -> Written
-    ensures result { λ r. ⌜ r ≡ writtenIs (written (members (attributes .bits)) (now (name .entry)) (criteriaIs (criteria .bits)) (now (buf .entry))) ⌝ }
-    ensures bytes { λ _. ⌜ now (buf .exit) ≡ bufferAfter (now (buf .entry)) (written (members (attributes .bits)) (now (name .entry)) (criteriaIs (criteria .bits)) (now (buf .entry))) ⌝ }
+    ensures { λ r. ⌜ Gives (lineFrom (members (attributes .bits)) (now (name .entry)) (criteria .bits)) (now (buf .entry)) (now (buf .exit)) r ⌝ }
 {
+    if !criteria.lawful() {
+        return Written::Refused(NOT_SUCH_LINE);
+    }
     if lawful_name(name) {
         return write_named(attributes, name, criteria, buf);
     }
     if !root_parts(attributes, name, criteria) {
-        return Written::Refused(NOT_SUCH_PARTS);
+        return Written::Refused(NOT_SUCH_LINE);
     }
     write_root(buf)
 }
@@ -109,7 +107,7 @@ fn put_chosen(buf: &mut [u8], at: usize, bits: u16, names: &[u8], places: &[u8])
 
 // What stands behind the name.
 fn put_line_end(buf: &mut [u8], at: usize, criteria: Criteria) -> usize
-    ensures { λ r. ⌜ Put (now (buf .entry)) (now (buf .exit)) at (childInfoText (criteriaIs (criteria .bits)) ++ crlf) r ⌝ }
+    ensures { λ r. ⌜ Put (now (buf .entry)) (now (buf .exit)) at (childInfoText (criteriaOf (criteria .bits)) ++ crlf) r ⌝ }
 {
     let subscribed = criteria.has(Criteria::SUBSCRIBED);
     let special = criteria.has(Criteria::SPECIAL_USE);
@@ -127,15 +125,14 @@ fn put_line_end(buf: &mut [u8], at: usize, criteria: Criteria) -> usize
 
 // Whether the parts are those of the root line.
 fn root_parts(attributes: Attributes, name: &[u8], criteria: Criteria) -> bool
-    ensures { λ r. ⌜ r ≡ rootParts (members (attributes .bits)) (now (name .entry)) (criteriaIs (criteria .bits)) ⌝ }
+    ensures { λ r. ⌜ r ≡ rootParts (members (attributes .bits)) (now (name .entry)) (criteriaOf (criteria .bits)) ⌝ }
 {
     (attributes.bits == Attributes::NOSELECT.bits) & (name.len() == 0) & criteria.is_none()
 }
 
 // A line of a lawful name at the front, if there is room.
 fn write_named(attributes: Attributes, name: &[u8], criteria: Criteria, buf: &mut [u8]) -> Written
-    ensures result { λ r. ⌜ r ≡ writtenIs (limited (length (now (buf .entry))) (answered (listLine (members (attributes .bits)) (now (name .entry)) (criteriaIs (criteria .bits))))) ⌝ }
-    ensures bytes { λ _. ⌜ now (buf .exit) ≡ bufferAfter (now (buf .entry)) (limited (length (now (buf .entry))) (answered (listLine (members (attributes .bits)) (now (name .entry)) (criteriaIs (criteria .bits))))) ⌝ }
+    ensures { λ r. ⌜ Gives (answered (listLine (members (attributes .bits)) (now (name .entry)) (criteriaOf (criteria .bits)))) (now (buf .entry)) (now (buf .exit)) r ⌝ }
 {
     let mut none = [0u8; 0];
     let need = put_line(&mut none, 0, attributes, name, criteria);
@@ -147,8 +144,7 @@ fn write_named(attributes: Attributes, name: &[u8], criteria: Criteria, buf: &mu
 
 // The root line at the front, if there is room.
 fn write_root(buf: &mut [u8]) -> Written
-    ensures result { λ r. ⌜ r ≡ writtenIs (limited (length (now (buf .entry))) (answered rootLine)) ⌝ }
-    ensures bytes { λ _. ⌜ now (buf .exit) ≡ bufferAfter (now (buf .entry)) (limited (length (now (buf .entry))) (answered rootLine)) ⌝ }
+    ensures { λ r. ⌜ Gives (answered rootLine) (now (buf .entry)) (now (buf .exit)) r ⌝ }
 {
     if buf.len() < texts::ROOT_LINE.len() {
         return Written::Refused(SHORT_BUFFER);

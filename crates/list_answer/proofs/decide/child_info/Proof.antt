@@ -2,10 +2,10 @@
 use mathlib.Core.Path.{_≡_, _∙_}
 use borrow.Author.Needs.{needs}
 use Rattle.listing_rules.specs.Bytes.{bit}
-use Rattle.listing_rules.specs.Options.{criteria, noCriteria}
+use Rattle.listing_rules.specs.Options.{criteria, noCriteria, criteriaNumber}
 use Rattle.octets.proofs.Sets.{contains-bit}
 use Rattle.command_line.specs.OptionSets.{optionsIs}
-use Rattle.list_line.specs.CriteriaSets.{these, criteriaSet}
+use Rattle.list_line.specs.CriteriaSets.{these}
 use Rattle.list_answer.proofs.decide.child_info.Statement.{statement}
 use Rattle.list_answer.proofs.decide.child_info.Tie as tie
 
@@ -24,10 +24,10 @@ returns c =
     let o = c .before .before .before .before .args .options .bits in
     let h1 : c .before .before .has .result ≡ bit 0 o = c .before .before .has .ensures ∙ contains-bit 0 o in
     let h2 : c .before .has2 .result ≡ bit 3 o = c .before .has2 .ensures ∙ contains-bit 3 o in
-    rw (c .before .before .before .if1 .taken) (c .of .ensures ∙ (λ i. criteriaSet (these (h1 i) (h2 i))))
+    rw (c .before .before .before .if1 .taken) (c .of .ensures ∙ (λ i. criteriaNumber (these (h1 i) (h2 i))))
 
 returns-2 : tie.Need-returns-2
-unfolding criteriaSet noCriteria
+unfolding criteriaNumber noCriteria
 returns-2 c = rw (c .if1 .left)
 
 pub child-info-spec : {M : Type 1} → statement M

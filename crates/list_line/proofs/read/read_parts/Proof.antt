@@ -11,7 +11,7 @@ use borrow.Author.Needs.{needs}
 use Rattle.listing_rules.specs.Bytes.{text}
 use Rattle.listing_rules.specs.Names.{lawfulName}
 use Rattle.listing_rules.specs.Reader.{line, readParts}
-use Rattle.list_line.specs.CriteriaSets.{criteriaIs, criteriaSet}
+use Rattle.listing_rules.specs.Options.{criteriaOf, criteriaNumber}
 use Rattle.list_line.specs.Parts.{Skips, Names}
 use Rattle.list_line.specs.declared.read.Place.the-variants.{At}
 use Rattle.list_line.specs.declared.read.Name.the-variants.{Of}
@@ -130,11 +130,11 @@ returns-4 : tie.Need-returns-4
 returns-4 c = rw (parts-refused (c .before .before .before .before .before .before .before .before .before .before .before .before .before .before .before .before .before .before .before .before .before .before .before .before .args .line .now) (named (c .before .before .before .before .before) ∙ end-missing _ _ (c .before .before .before .before .before .before .before .before .before .before .before .before .before .before .before .before .before .before .before .before .before .before .before .before .args .line .now) (c .before .before .before .before .before .before .len .given .0 .1 .0) (sym (c .before .before .before .read-tail .ensures) ∙ c .before .enum-told4 .given .1))) (c .refused4 .ensures)
 
 -- what is left behind the end: the name is lawful or not
-ended : (c : tie.After-known-told4) → readParts (c .before .before .before .before .before .before .before .before .before .before .before .before .before .before .before .before .before .before .before .before .before .before .before .before .args .line .now) ≡ cond (lawfulName (name (c .before .before .before .before .before) .0)) (some (line (chosenAt (c .before .before .before .before .before .before .before .before .before .before .before .before .before .before .before .before .before .before .before .before .before .before .before .before .args .line .now) (c .before .before .before .before .before .before .before .before .before .before .before .before .before .before .before .before .before .before .before .a .given .0 .0)) (name (c .before .before .before .before .before) .0) (criteriaIs (c .before .criteria .given .0 .0 .bits)))) none
+ended : (c : tie.After-known-told4) → readParts (c .before .before .before .before .before .before .before .before .before .before .before .before .before .before .before .before .before .before .before .before .before .before .before .before .args .line .now) ≡ cond (lawfulName (name (c .before .before .before .before .before) .0)) (some (line (chosenAt (c .before .before .before .before .before .before .before .before .before .before .before .before .before .before .before .before .before .before .before .before .before .before .before .before .args .line .now) (c .before .before .before .before .before .before .before .before .before .before .before .before .before .before .before .before .before .before .before .a .given .0 .0)) (name (c .before .before .before .before .before) .0) (criteriaOf (c .before .criteria .given .0 .0 .bits)))) none
 ended c = named (c .before .before .before .before .before) ∙ end-read _ _ (c .before .before .before .before .before .before .before .before .before .before .before .before .before .before .before .before .before .before .before .before .before .before .before .before .args .line .now) (c .before .before .before .before .before .before .len .given .0 .1 .0) _ (sym (c .before .before .before .read-tail .ensures) ∙ c .before .criteria .given .1)
 
 -- the criteria read have no other bit
-whole : (c : tie.After-known-told4) → criteriaSet (criteriaIs (c .before .criteria .given .0 .0 .bits)) ≡ c .before .criteria .given .0 .0 .bits
+whole : (c : tie.After-known-told4) → criteriaNumber (criteriaOf (c .before .criteria .given .0 .0 .bits)) ≡ c .before .criteria .given .0 .0 .bits
 whole c = tail-whole _ _ (sym (c .before .before .before .read-tail .ensures) ∙ c .before .criteria .given .1)
 
 array-share-prefix-name : tie.Need-array-share-prefix-name

@@ -4,7 +4,7 @@ use mathlib.Core.Bool.{true, false}
 use borrow.Author.Needs.{needs}
 use Rattle.listing_rules.specs.Bytes.{openBytes}
 use Rattle.listing_rules.specs.Lines.{openLines}
-use Rattle.listing_rules.specs.Options.{openOptions}
+use Rattle.listing_rules.specs.Options.{isNone}
 use Rattle.list_line.proofs.CriteriaSets.{criteria-tests}
 use Rattle.list_line.proofs.write.put_line_end.Statement.{statement}
 use Rattle.list_line.proofs.write.put_line_end.Tie as tie
@@ -25,7 +25,7 @@ same-length : tie.Need-same-length
 same-length c = search needs
 
 returns : tie.Need-returns
-unfolding openBytes openLines openOptions
+unfolding openBytes openLines isNone
 returns c = rw (criteria-tests (c .before .before .before .before .before .before .before .before .before .before .args .criteria .bits) true true (sym (c .before .before .before .before .before .before .before .before .has .ensures) ∙ c .before .before .before .before .before .before .if1 .taken) (sym (c .before .before .before .before .before .before .before .has2 .ensures) ∙ c .before .before .before .before .before .if2 .taken)) (c .before .before .put-all .ensures)
 
 slice-aggregate-put-all-2 : tie.Need-slice-aggregate-put-all-2
@@ -38,7 +38,7 @@ same-length-2 : tie.Need-same-length-2
 same-length-2 c = search needs
 
 returns-2 : tie.Need-returns-2
-unfolding openBytes openLines openOptions
+unfolding openBytes openLines isNone
 returns-2 c = rw (criteria-tests (c .before .before .before .before .before .before .before .before .before .before .args .criteria .bits) true false (sym (c .before .before .before .before .before .before .before .before .has .ensures) ∙ c .before .before .before .before .before .before .if1 .taken) (sym (c .before .before .before .before .before .before .before .has2 .ensures) ∙ c .before .before .before .before .before .if2 .left)) (c .before .before .put-all2 .ensures)
 
 slice-aggregate-put-all-3 : tie.Need-slice-aggregate-put-all-3
@@ -51,7 +51,7 @@ same-length-3 : tie.Need-same-length-3
 same-length-3 c = search needs
 
 returns-3 : tie.Need-returns-3
-unfolding openBytes openLines openOptions
+unfolding openBytes openLines isNone
 returns-3 c = rw (criteria-tests (c .before .before .before .before .before .before .before .before .before .before .args .criteria .bits) false true (sym (c .before .before .before .before .before .before .before .before .has .ensures) ∙ c .before .before .before .before .before .before .if1 .left) (sym (c .before .before .before .before .before .before .before .has2 .ensures) ∙ c .before .before .before .before .before .if3 .taken)) (c .before .before .put-all3 .ensures)
 
 slice-aggregate-put-all-4 : tie.Need-slice-aggregate-put-all-4
@@ -64,7 +64,7 @@ same-length-4 : tie.Need-same-length-4
 same-length-4 c = search needs
 
 returns-4 : tie.Need-returns-4
-unfolding openBytes openLines openOptions
+unfolding openBytes openLines isNone
 returns-4 c = rw (criteria-tests (c .before .before .before .before .before .before .before .before .before .before .args .criteria .bits) false false (sym (c .before .before .before .before .before .before .before .before .has .ensures) ∙ c .before .before .before .before .before .before .if1 .left) (sym (c .before .before .before .before .before .before .before .has2 .ensures) ∙ c .before .before .before .before .before .if3 .left)) (c .before .before .put-all4 .ensures)
 
 pub put-line-end-spec : {M : Type 1} → statement M

@@ -1,12 +1,16 @@
 -- `write_line` meets its contract, by the cases of the line writer in `Writing`.
-use mathlib.Core.Path.{refl, sym, _∙_}
+use mathlib.Core.Path.{sym, _∙_}
 use borrow.Author.Tests.{not-true, not-false}
 use borrow.Author.Needs.{needs}
-use Rattle.listing_rules.specs.Server.{bufferAfter}
-use Rattle.octets.specs.Written.{writtenIs}
-use Rattle.list_line.proofs.Writing.{written-named, written-root, written-other}
+use Rattle.list_line.proofs.Writing.{line-unlawful, line-named, line-root, line-other, gives-refusal}
 use Rattle.list_line.proofs.write.write_line.Statement.{statement}
 use Rattle.list_line.proofs.write.write_line.Tie as tie
+
+lawful-requires : tie.Need-lawful-requires
+lawful-requires c κs = search needs
+
+returns : tie.Need-returns
+returns c = rw (line-unlawful _ _ _ (sym (c .before .lawful .ensures) ∙ not-true _ (c .if1 .taken))) (gives-refusal _ 12)
 
 lawful-name-requires : tie.Need-lawful-name-requires
 lawful-name-requires c κs = search needs
@@ -17,15 +21,27 @@ write-named-requires c κs = search needs
 same-length : tie.Need-same-length
 same-length c = search needs
 
-returns : tie.Need-returns
-returns c = rw (written-named _ _ _ _ (sym (c .before .before .before .before .before .lawful-name .ensures) ∙ c .before .before .before .before .if1 .taken)) (c .before .before .write-named .ensures)
+returns-2 : tie.Need-returns-2
+returns-2 c =
+    let named = c .before .before .before .before in
+    let checked = named .before .before in
+    rw
+    (line-named _ _ _ (sym (checked .before .lawful .ensures) ∙ not-false _ (checked .if1 .left)) (sym (named .before .lawful-name .ensures) ∙ named .if2 .taken))
+    (c .before .before .write-named .ensures)
 
 root-parts-requires : tie.Need-root-parts-requires
 root-parts-requires c κs = search needs
 
-returns-2 : tie.Need-returns-2
-unfolding writtenIs bufferAfter
-returns-2 c = rw (written-other _ _ _ _ (sym (c .before .before .before .lawful-name .ensures) ∙ c .before .before .if1 .left) (sym (c .before .root-parts .ensures) ∙ not-true _ (c .if2 .taken))) (refl, refl)
+returns-3 : tie.Need-returns-3
+returns-3 c =
+    let named = c .before .before in
+    let checked = named .before .before in
+    rw
+    (line-other _ _ _
+    (sym (checked .before .lawful .ensures) ∙ not-false _ (checked .if1 .left))
+    (sym (named .before .lawful-name .ensures) ∙ named .if2 .left)
+    (sym (c .before .root-parts .ensures) ∙ not-true _ (c .if3 .taken)))
+    (gives-refusal _ 12)
 
 write-root-requires : tie.Need-write-root-requires
 write-root-requires c κs = search needs
@@ -33,19 +49,30 @@ write-root-requires c κs = search needs
 same-length-2 : tie.Need-same-length-2
 same-length-2 c = search needs
 
-returns-3 : tie.Need-returns-3
-returns-3 c = rw (written-root _ _ _ _ (sym (c .before .before .before .before .before .before .before .lawful-name .ensures) ∙ c .before .before .before .before .before .before .if1 .left) (sym (c .before .before .before .before .before .root-parts .ensures) ∙ not-false _ (c .before .before .before .before .if2 .left))) (c .before .before .write-root .ensures)
+returns-4 : tie.Need-returns-4
+returns-4 c =
+    let root = c .before .before .before .before in
+    let named = root .before .before in
+    let checked = named .before .before in
+    rw
+    (line-root _ _ _
+    (sym (checked .before .lawful .ensures) ∙ not-false _ (checked .if1 .left))
+    (sym (named .before .lawful-name .ensures) ∙ named .if2 .left)
+    (sym (root .before .root-parts .ensures) ∙ not-false _ (root .if3 .left)))
+    (c .before .before .write-root .ensures)
 
 pub write-line-spec : {M : Type 1} → statement M
 write-line-spec =
     tie.close
     (tie.spec
+    lawful-requires
+    returns
     lawful-name-requires
     write-named-requires
     same-length
-    returns
-    root-parts-requires
     returns-2
+    root-parts-requires
+    returns-3
     write-root-requires
     same-length-2
-    returns-3)
+    returns-4)

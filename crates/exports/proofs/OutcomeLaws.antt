@@ -1,5 +1,5 @@
 -- The C forms of the answers, case by case.
-use mathlib.Core.Path.{_≡_, sym, ap}
+use mathlib.Core.Path.{_≡_, refl, sym, ap}
 use mathlib.Core.List.{List}
 use Prim.Native.Nat.{ℕ}
 use Rattle.octets.specs.declared.Written.{Written}
@@ -10,30 +10,55 @@ use Rattle.list_line.specs.declared.attributes.Attributes.{Attributes}
 use Rattle.list_line.specs.declared.criteria.Criteria.{Criteria}
 use Rattle.list_line.specs.declared.read.Line.{Line}
 use Rattle.list_line.specs.declared.read.Line.the-variants.{Parts, Refused as NoLine}
-use Rattle.exports.specs.Outcomes.{writtenOutcome, collectedOutcome, partsOf}
+use Rattle.listing_rules.specs.Options.{openOptions}
+use Rattle.listing_rules.specs.Server.{Reply, refusal, answered, numberOf, lengthOf}
+use Rattle.listing_rules.specs.Reader.{Read, line, root, bad, nameBytes, openReader}
+use Rattle.listing_rules.specs.Walk.{WalkReply, walkRefused, walked, walkNumber, walkCount, foundLength}
+use Rattle.octets.specs.Written.{writtenIs}
+use Rattle.list_line.specs.Members.{setOf}
+use Rattle.list_line.specs.Lines.{lineIs}
+use Rattle.collector.specs.Result.{collectedIs}
+use Rattle.exports.specs.Outcomes.{outcomeOf, walkOutcome, partsOf, writtenCase, collectedCase, lineCase}
 use Rattle.exports.specs.declared.outcomes.Outcome.{Outcome}
 use Rattle.exports.specs.declared.outcomes.LineParts.{LineParts}
 
-pub written-done : (w : Written) (n : ℕ) → w ≡ Done n → record { number = 0; length = n; count = 0 } ≡ writtenOutcome w
-unfolding writtenOutcome
-written-done w n e = sym (ap writtenOutcome e)
+pub written-done : (w : Written) (n : ℕ) → w ≡ Done n → record { number = 0; length = n; count = 0 } ≡ writtenCase w
+unfolding writtenCase
+written-done w n e = sym (ap writtenCase e)
 
-pub written-refused : (w : Written) (k : ℕ) → w ≡ Refused k → record { number = k; length = 0; count = 0 } ≡ writtenOutcome w
-unfolding writtenOutcome
-written-refused w k e = sym (ap writtenOutcome e)
+pub written-refused : (w : Written) (k : ℕ) → w ≡ Refused k → record { number = k; length = 0; count = 0 } ≡ writtenCase w
+unfolding writtenCase
+written-refused w k e = sym (ap writtenCase e)
 
-pub collected-done : (w : Collected) (count n : ℕ) → w ≡ Walked count n → record { number = 0; length = n; count = count } ≡ collectedOutcome w
-unfolding collectedOutcome
-collected-done w count n e = sym (ap collectedOutcome e)
+pub collected-done : (w : Collected) (count n : ℕ) → w ≡ Walked count n → record { number = 0; length = n; count = count } ≡ collectedCase w
+unfolding collectedCase
+collected-done w count n e = sym (ap collectedCase e)
 
-pub collected-refused : (w : Collected) (k : ℕ) → w ≡ Stopped k → record { number = k; length = 0; count = 0 } ≡ collectedOutcome w
-unfolding collectedOutcome
-collected-refused w k e = sym (ap collectedOutcome e)
+pub collected-refused : (w : Collected) (k : ℕ) → w ≡ Stopped k → record { number = k; length = 0; count = 0 } ≡ collectedCase w
+unfolding collectedCase
+collected-refused w k e = sym (ap collectedCase e)
 
-pub parts-read : (l : Line) (bytes : List ℕ) (a : Attributes) (n : ℕ) (c : Criteria) → l ≡ Parts a n c → record { number = 0; criteria = c .bits; attributes = a .bits; length = n; name = bytes } ≡ partsOf l bytes
-unfolding partsOf
-parts-read l bytes a n c e = λ i. partsOf (sym e i) bytes
+pub parts-read : (l : Line) (bytes : List ℕ) (a : Attributes) (n : ℕ) (c : Criteria) → l ≡ Parts a n c → record { number = 0; criteria = c .bits; attributes = a .bits; length = n; name = bytes } ≡ lineCase l bytes
+unfolding lineCase
+parts-read l bytes a n c e = λ i. lineCase (sym e i) bytes
 
-pub parts-refused : (l : Line) (bytes : List ℕ) (k : ℕ) → l ≡ NoLine k → record { number = k; criteria = 0; attributes = 0; length = 0; name = bytes } ≡ partsOf l bytes
-unfolding partsOf
-parts-refused l bytes k e = λ i. partsOf (sym e i) bytes
+pub parts-refused : (l : Line) (bytes : List ℕ) (k : ℕ) → l ≡ NoLine k → record { number = k; criteria = 0; attributes = 0; length = 0; name = bytes } ≡ lineCase l bytes
+unfolding lineCase
+parts-refused l bytes k e = λ i. lineCase (sym e i) bytes
+
+-- the cases of the entries' enums are document 01's numbers
+pub written-case : (r : Reply) → writtenCase (writtenIs r) ≡ outcomeOf r
+unfolding writtenCase writtenIs outcomeOf numberOf lengthOf
+written-case (refusal k) = refl
+written-case (answered a) = refl
+
+pub collected-case : (r : WalkReply) → collectedCase (collectedIs r) ≡ walkOutcome r
+unfolding collectedCase collectedIs walkOutcome walkNumber walkCount foundLength
+collected-case (walkRefused k) = refl
+collected-case (walked c f p) = refl
+
+pub line-case : (r : Read) → lineCase (lineIs r) (nameBytes r) ≡ partsOf r
+unfolding lineCase lineIs partsOf setOf openOptions openReader
+line-case (line bs n c) = refl
+line-case root = refl
+line-case bad = refl

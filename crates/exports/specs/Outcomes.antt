@@ -1,6 +1,13 @@
 -- The answers of the entries, in the forms that C takes.
+use mathlib.Core.Path.{_≡_}
 use mathlib.Core.List.{List}
 use Prim.Native.Nat.{ℕ}
+use lib.ListN.{length}
+use Rattle.listing_rules.specs.Options.{criteriaNumber}
+use Rattle.listing_rules.specs.Server.{Reply, numberOf, lengthOf, bufferAfter}
+use Rattle.listing_rules.specs.Reader.{Read, readNumber, attributesRead, nameRead, childInfoOf, nameBytes}
+use Rattle.listing_rules.specs.Walk.{WalkReply, walkNumber, walkCount, foundLength}
+use Rattle.list_line.specs.Members.{setOf}
 use Rattle.octets.specs.declared.Written.{Written}
 use Rattle.octets.specs.declared.Written.the-variants.{Done, Refused}
 use Rattle.collector.specs.declared.Collected.{Collected}
@@ -10,17 +17,38 @@ use Rattle.list_line.specs.declared.read.Line.the-variants.{Parts, Refused as N
 use Rattle.exports.specs.declared.outcomes.Outcome.{Outcome}
 use Rattle.exports.specs.declared.outcomes.LineParts.{LineParts}
 
--- 0 and the length of what was written; "A refusal has length 0"
-unfoldable pub writtenOutcome : Written → Outcome
-writtenOutcome (Done n) = record { number = 0; length = n; count = 0 }
-writtenOutcome (Refused k) = record { number = k; length = 0; count = 0 }
+-- An answer into a lent buffer: document 01's number and length. "A refusal has length 0".
+unfoldable pub outcomeOf : Reply → Outcome
+outcomeOf r = record { number = numberOf r; length = lengthOf r; count = 0 }
 
 -- "The result has the number of commands sent and the length of found"; "Its refusals give count 0 and length 0"
-unfoldable pub collectedOutcome : Collected → Outcome
-collectedOutcome (Walked count n) = record { number = 0; length = n; count = count }
-collectedOutcome (Stopped k) = record { number = k; length = 0; count = 0 }
+unfoldable pub walkOutcome : WalkReply → Outcome
+walkOutcome r = record { number = walkNumber r; length = foundLength r; count = walkCount r }
 
--- what was read, with the bytes of its name beside it; "The reader's refusal gives no attributes and an empty name."
-unfoldable pub partsOf : Line → List ℕ → LineParts
-partsOf (Parts a n c) bytes = record { number = 0; criteria = c .bits; attributes = a .bits; length = n; name = bytes }
-partsOf (NoLine k) bytes = record { number = k; criteria = 0; attributes = 0; length = 0; name = bytes }
+-- what was read; "The reader's refusal gives no attributes and an empty name."
+unfoldable pub partsOf : Read → LineParts
+partsOf r =
+    record {
+      number = readNumber r;
+      criteria = criteriaNumber (childInfoOf r);
+      attributes = setOf (attributesRead r);
+      length = length (nameRead r);
+      name = nameBytes r;
+    }
+
+-- What a call that answers into a lent buffer owes: the reply's outcome, and the buffer's bytes before and after.
+abbrev pub Into : Reply → List ℕ → List ℕ → Outcome → Type 0
+Into reply before after r = (r ≡ outcomeOf reply) × (after ≡ bufferAfter before reply)
+
+-- The same case by case, for the enums of the entries.
+unfoldable pub writtenCase : Written → Outcome
+writtenCase (Done n) = record { number = 0; length = n; count = 0 }
+writtenCase (Refused k) = record { number = k; length = 0; count = 0 }
+
+unfoldable pub collectedCase : Collected → Outcome
+collectedCase (Walked count n) = record { number = 0; length = n; count = count }
+collectedCase (Stopped k) = record { number = k; length = 0; count = 0 }
+
+unfoldable pub lineCase : Line → List ℕ → LineParts
+lineCase (Parts a n c) bytes = record { number = 0; criteria = c .bits; attributes = a .bits; length = n; name = bytes }
+lineCase (NoLine k) bytes = record { number = k; criteria = 0; attributes = 0; length = 0; name = bytes }

@@ -19,15 +19,12 @@ ghost use lib.ListN.{length};
 ghost use Rattle.listing_rules.specs.Table.{passes};
 ghost use Rattle.listing_rules.specs.Namespaces.{namespacesPass};
 ghost use Rattle.listing_rules.specs.Match.{matches};
-ghost use Rattle.listing_rules.specs.Reader.{written, readLine, nameBytes};
-ghost use Rattle.listing_rules.specs.Server.{bufferAfter, served};
+ghost use Rattle.listing_rules.specs.Reader.{written, readLine};
+ghost use Rattle.listing_rules.specs.Server.{served};
 ghost use Rattle.listing_rules.specs.Walk.{lawfulByte, collected, foundAfter, pendingAfter, scratchAfter};
-ghost use Rattle.octets.specs.Written.{writtenIs};
 ghost use Rattle.list_line.specs.Members.{members};
-ghost use Rattle.listing_rules.specs.Options.{criteriaOf};
-ghost use Rattle.list_line.specs.Lines.{lineIs};
 ghost use Rattle.collector.specs.Result.{collectedIs, WholeWalk};
-ghost use Rattle.exports.specs.Outcomes.{writtenOutcome, collectedOutcome, partsOf};
+ghost use Rattle.exports.specs.Outcomes.{Into, walkOutcome, partsOf};
 
 // Check 1: whether the table passes.
 #[no_mangle]
@@ -61,8 +58,7 @@ pub extern "C" fn luspemaro_answer(
     line: &[u8],
     out: &mut [u8],
 ) -> Outcome
-    ensures result { λ r. ⌜ r ≡ writtenOutcome (writtenIs (served (now (table .entry)) (now (namespaces .entry)) (now (line .entry)) (now (out .entry)))) ⌝ }
-    ensures bytes { λ _. ⌜ now (out .exit) ≡ bufferAfter (now (out .entry)) (served (now (table .entry)) (now (namespaces .entry)) (now (line .entry)) (now (out .entry))) ⌝ }
+    ensures { λ r. ⌜ Into (served (now (table .entry)) (now (namespaces .entry)) (now (line .entry)) (now (out .entry))) (now (out .entry)) (now (out .exit)) r ⌝ }
 {
     written_outcome(server::answer(table, namespaces, line, out))
 }
@@ -76,7 +72,7 @@ pub extern "C" fn luspemaro_collect(
     found: &mut [u8],
     pending: &mut [u8],
 ) -> Outcome
-    ensures result { λ r. ⌜ r ≡ collectedOutcome (collectedIs (collected (now (table .entry)) option (now (scratch .entry)) (now (found .entry)) (now (pending .entry)))) ⌝ }
+    ensures result { λ r. ⌜ r ≡ walkOutcome (collected (now (table .entry)) option (now (scratch .entry)) (now (found .entry)) (now (pending .entry))) ⌝ }
     ensures scratch { λ _. ⌜ now (scratch .exit) ≡ scratchAfter (length (now (scratch .entry))) (collected (now (table .entry)) option (now (scratch .entry)) (now (found .entry)) (now (pending .entry))) ⌝ }
     ensures found { λ _. ⌜ now (found .exit) ≡ foundAfter (length (now (found .entry))) (collected (now (table .entry)) option (now (scratch .entry)) (now (found .entry)) (now (pending .entry))) ⌝ }
     ensures pending { λ _. ⌜ now (pending .exit) ≡ pendingAfter (length (now (pending .entry))) (collected (now (table .entry)) option (now (scratch .entry)) (now (found .entry)) (now (pending .entry))) ⌝ }
@@ -86,7 +82,7 @@ pub extern "C" fn luspemaro_collect(
 }
 
 // The line writer: the line of these parts at the front of `out`. The criteria are those that CHILDINFO names: 1 SUBSCRIBED, 2
-// SPECIAL-USE; other bits do not count.
+// SPECIAL-USE. A number with another bit is refused with 12, first.
 #[no_mangle]
 pub extern "C" fn luspemaro_write_line(
     attributes: u16,
@@ -94,8 +90,7 @@ pub extern "C" fn luspemaro_write_line(
     criteria: u8,
     out: &mut [u8],
 ) -> Outcome
-    ensures result { λ r. ⌜ r ≡ writtenOutcome (writtenIs (written (members attributes) (now (name .entry)) (criteriaOf criteria) (now (out .entry)))) ⌝ }
-    ensures bytes { λ _. ⌜ now (out .exit) ≡ bufferAfter (now (out .entry)) (written (members attributes) (now (name .entry)) (criteriaOf criteria) (now (out .entry))) ⌝ }
+    ensures { λ r. ⌜ Into (written (members attributes) (now (name .entry)) criteria (now (out .entry))) (now (out .entry)) (now (out .exit)) r ⌝ }
 {
     let set = Attributes { bits: attributes };
     let named = Criteria { bits: criteria };
@@ -105,7 +100,7 @@ pub extern "C" fn luspemaro_write_line(
 // The line reader.
 #[no_mangle]
 pub extern "C" fn luspemaro_read_line(line: &[u8]) -> LineParts
-    ensures { λ r. ⌜ r ≡ partsOf (lineIs (readLine (now (line .entry)))) (nameBytes (readLine (now (line .entry)))) ⌝ }
+    ensures { λ r. ⌜ r ≡ partsOf (readLine (now (line .entry))) ⌝ }
 {
     line_parts(list_line::read_line(line))
 }

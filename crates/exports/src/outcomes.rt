@@ -6,7 +6,7 @@ use list_line::Line;
 use list_line::Read;
 use octets::Written;
 ghost use mathlib.Core.Path.{_≡_};
-ghost use Rattle.exports.specs.Outcomes.{writtenOutcome, collectedOutcome, partsOf};
+ghost use Rattle.exports.specs.Outcomes.{writtenCase, collectedCase, lineCase};
 
 // What a call that writes into lent memory answers: 0 and the length of what it wrote, for a walk with the number of commands
 // sent; or the number of the refusal, length 0 and count 0.
@@ -29,7 +29,7 @@ pub struct LineParts {
 }
 
 pub(crate) fn written_outcome(written: Written) -> Outcome
-    ensures { λ r. ⌜ r ≡ writtenOutcome written ⌝ }
+    ensures { λ r. ⌜ r ≡ writtenCase written ⌝ }
 {
     match written {
         Written::Done(length) => Outcome {
@@ -46,7 +46,7 @@ pub(crate) fn written_outcome(written: Written) -> Outcome
 }
 
 pub(crate) fn collected_outcome(collected: Collected) -> Outcome
-    ensures { λ r. ⌜ r ≡ collectedOutcome collected ⌝ }
+    ensures { λ r. ⌜ r ≡ collectedCase collected ⌝ }
 {
     match collected {
         Collected::Done(count, length) => Outcome {
@@ -63,7 +63,7 @@ pub(crate) fn collected_outcome(collected: Collected) -> Outcome
 }
 
 pub(crate) fn line_parts(read: Read) -> LineParts
-    ensures { λ r. ⌜ r ≡ partsOf (read .line) (read .name) ⌝ }
+    ensures { λ r. ⌜ r ≡ lineCase (read .line) (read .name) ⌝ }
 {
     let line = read.line;
     let name = read.name;

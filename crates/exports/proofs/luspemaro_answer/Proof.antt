@@ -1,7 +1,8 @@
 -- `luspemaro_answer` meets its contract: `server::answer`'s promise, in C's form.
 use mathlib.Core.Path.{ap, _∙_}
 use borrow.Author.Needs.{needs}
-use Rattle.exports.specs.Outcomes.{writtenOutcome}
+use Rattle.exports.specs.Outcomes.{writtenCase}
+use Rattle.exports.proofs.OutcomeLaws.{written-case}
 use Rattle.exports.proofs.luspemaro_answer.Statement.{statement}
 use Rattle.exports.proofs.luspemaro_answer.Tie as tie
 
@@ -15,7 +16,9 @@ same-length : tie.Need-same-length
 same-length c = search needs
 
 returns : tie.Need-returns
-returns c = (c .written-outcome .ensures ∙ ap writtenOutcome (c .before .before .before .answer .ensures .0), c .before .before .before .answer .ensures .1)
+returns c =
+    let answered = c .before .before .before .answer .ensures in
+    (c .written-outcome .ensures ∙ ap writtenCase (answered .0) ∙ written-case _, answered .1)
 
 pub luspemaro-answer-spec : {M : Type 1} → statement M
 luspemaro-answer-spec =

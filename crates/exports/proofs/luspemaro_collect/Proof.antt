@@ -1,7 +1,8 @@
 -- `luspemaro_collect` meets its contract: `collector::collect`'s promise, in C's form.
 use mathlib.Core.Path.{ap, _∙_}
 use borrow.Author.Needs.{needs}
-use Rattle.exports.specs.Outcomes.{collectedOutcome}
+use Rattle.exports.specs.Outcomes.{collectedCase}
+use Rattle.exports.proofs.OutcomeLaws.{collected-case}
 use Rattle.exports.proofs.luspemaro_collect.Statement.{statement}
 use Rattle.exports.proofs.luspemaro_collect.Tie as tie
 
@@ -23,7 +24,7 @@ same-length-3 c = search needs
 returns : tie.Need-returns
 returns c =
     let e = c .before .before .before .before .before .before .before .collect .ensures in
-    (c .collected-outcome .ensures ∙ ap collectedOutcome (e .0), (e .1 .0, (e .1 .1 .0, (e .1 .1 .1 .0, λ p l. rw (e .0) at (e .1 .1 .1 .1 p l)))))
+    (c .collected-outcome .ensures ∙ ap collectedCase (e .0) ∙ collected-case _, (e .1 .0, (e .1 .1 .0, (e .1 .1 .1 .0, λ p l. rw (e .0) at (e .1 .1 .1 .1 p l)))))
 
 pub luspemaro-collect-spec : {M : Type 1} → statement M
 luspemaro-collect-spec =

@@ -1,7 +1,8 @@
 -- `luspemaro_read_line` meets its contract: `list_line::read_line`'s promise, in C's form.
 use mathlib.Core.Path.{_∙_}
 use borrow.Author.Needs.{needs}
-use Rattle.exports.specs.Outcomes.{partsOf}
+use Rattle.exports.specs.Outcomes.{lineCase}
+use Rattle.exports.proofs.OutcomeLaws.{line-case}
 use Rattle.exports.proofs.luspemaro_read_line.Statement.{statement}
 use Rattle.exports.proofs.luspemaro_read_line.Tie as tie
 
@@ -12,7 +13,7 @@ line-parts-requires : tie.Need-line-parts-requires
 line-parts-requires c κs = search needs
 
 returns : tie.Need-returns
-returns c = let e = c .before .read-line .ensures in c .line-parts .ensures ∙ (λ i. partsOf (e .0 i) (e .1 i))
+returns c = let e = c .before .read-line .ensures in c .line-parts .ensures ∙ (λ i. lineCase (e .0 i) (e .1 i)) ∙ line-case _
 
 pub luspemaro-read-line-spec : {M : Type 1} → statement M
 luspemaro-read-line-spec = tie.close (tie.spec read-line-requires line-parts-requires returns)

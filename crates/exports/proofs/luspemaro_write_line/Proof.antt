@@ -1,7 +1,9 @@
 -- `luspemaro_write_line` meets its contract: `list_line::write_line`'s promise, in C's form.
 use mathlib.Core.Path.{ap, _∙_}
 use borrow.Author.Needs.{needs}
-use Rattle.exports.specs.Outcomes.{writtenOutcome}
+use Rattle.listing_rules.specs.Reader.{written}
+use Rattle.exports.specs.Outcomes.{writtenCase}
+use Rattle.exports.proofs.OutcomeLaws.{written-case}
 use Rattle.exports.proofs.luspemaro_write_line.Statement.{statement}
 use Rattle.exports.proofs.luspemaro_write_line.Tie as tie
 
@@ -15,7 +17,10 @@ same-length : tie.Need-same-length
 same-length c = search needs
 
 returns : tie.Need-returns
-returns c = (c .written-outcome .ensures ∙ ap writtenOutcome (c .before .before .before .write-line .ensures .0), c .before .before .before .write-line .ensures .1)
+unfolding written
+returns c =
+    let line = c .before .before .before .write-line .ensures in
+    (c .written-outcome .ensures ∙ ap writtenCase (line .0) ∙ written-case _, line .1)
 
 pub luspemaro-write-line-spec : {M : Type 1} → statement M
 luspemaro-write-line-spec =

@@ -14,7 +14,7 @@ use Rattle.listing_rules.specs.Table.{rows, passes}
 use Rattle.listing_rules.specs.Namespaces.{openNamespaces}
 use Rattle.listing_rules.specs.Tokens.{lineByte, openTokens}
 use Rattle.listing_rules.specs.Options.{Criteria, isNone}
-use Rattle.listing_rules.specs.Listing.{candidates, attributes, childInfo, listed, listedNames}
+use Rattle.listing_rules.specs.Listing.{candidates, attributes, attributesFor, inOrder, childInfo, listed, listedNames}
 use Rattle.listing_rules.specs.Lines.{listLine, okLine, openLines}
 use Rattle.listing_rules.specs.Server.{answered, refusal, answer, answerTo, limited, lineOf, listAnswer}
 use Rattle.listing_rules.specs.Reader.{line, readLine, openReader}
@@ -112,7 +112,7 @@ module _ (t : List ℕ) (o : ℕ) (ref : List ℕ) where
   names-listed = listedNames (rows t) (walkOptions o) pats
 
   pub sixteen : (n : List ℕ) → length (attrsOf n) ≡ 16
-  unfolding attributes
+  unfolding attributes attributesFor inOrder
   sixteen n = refl
 
   pub answer-is : lawfulByte o ≡ true → passes t ≡ true → all lineByte ref ≡ true → length ref ≤ 254 → answer t [] (commandLine o ref) ≡ answered (listAnswer (rows t) (text "w") (walkOptions o) pats)

@@ -30,3 +30,4 @@ pub mod WalkWhole
 pub mod WalkFuel
 pub mod Demand3
 pub mod InputCut
+pub mod Places

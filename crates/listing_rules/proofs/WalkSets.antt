@@ -14,7 +14,7 @@ use Rattle.listing_rules.specs.Flags.{exists, subscribed, remote, uses, 
 use Rattle.listing_rules.specs.Table.{Row, rows, passes, flagsOf}
 use Rattle.listing_rules.specs.Options.{noCriteria, isNone, criteria}
 use Rattle.listing_rules.specs.Match.{wildMatch, matches, matchesAny}
-use Rattle.listing_rules.specs.Listing.{meetsCriteria, candidateMeets, meetsBelow, meetsUnmatchedBelow, childInfo, unselective, levelAbove, listed, attributes}
+use Rattle.listing_rules.specs.Listing.{meetsCriteria, candidateMeets, meetsBelow, meetsUnmatchedBelow, childInfo, unselective, levelAbove, listed, attributes, attributesFor, inOrder}
 use Rattle.listing_rules.specs.Walk.{wantsRemote, wantsSpecial, dropsSubscribed, lawfulByte, isFind, attr, useAttr}
 use Rattle.listing_rules.specs.Demand3.{walkOptions}
 use Rattle.listing_rules.proofs.Bools.{and-l, and-r, and-i}
@@ -45,7 +45,7 @@ unfolding lawfulByte
 beside o h = and-r (leb o 7) (not (dropsSubscribed o) || wantsSpecial o) h
 
 pub find-met : (t : List ℕ) (o : ℕ) → Walks t o → (ps : List (List ℕ)) (n : List ℕ) → isFind o (attributes (rows t) (walkOptions o) ps n) ≡ candidateMeets (rows t) (walkOptions o) n
-unfolding isFind attr useAttr attributes walkOptions candidateMeets meetsCriteria hasUse uses anyOf
+unfolding isFind attr useAttr attributes attributesFor inOrder walkOptions candidateMeets meetsCriteria hasUse uses anyOf
 find-met t o w ps n = go (dropsSubscribed o) (wantsSpecial o) (beside o (w .1)) (use-exists t (w .0) n)
   where
     f : ℕ

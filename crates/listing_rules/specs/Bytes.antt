@@ -23,8 +23,33 @@ backslash = 92
 unfoldable pub space : ℕ
 space = 32
 
+-- the other bytes that the rules name, as RFC 3501 writes them
+abbrev pub CR : ℕ
+CR = 13
+
+abbrev pub LF : ℕ
+LF = 10
+
+abbrev pub percent : ℕ
+percent = 37
+
+abbrev pub star : ℕ
+star = 42
+
+abbrev pub plus : ℕ
+plus = 43
+
+abbrev pub opening : ℕ
+opening = 40
+
+abbrev pub bracket : ℕ
+bracket = 93
+
+abbrev pub brace : ℕ
+brace = 123
+
 unfoldable pub crlf : List ℕ
-crlf = 13 ∷ 10 ∷ []
+crlf = CR ∷ LF ∷ []
 
 -- bit k of a number is set
 unfoldable pub bit : ℕ → ℕ → Bool

@@ -5,7 +5,7 @@ use mathlib.Core.Option.{Option, none, some}
 use lib.Dec.{leb}
 use lib.ListN.{length, take}
 use Prim.Native.Nat.{ℕ, zero, suc, _-_}
-use Rattle.listing_rules.specs.Bytes.{text, spells, isEmpty}
+use Rattle.listing_rules.specs.Bytes.{text, spells, isEmpty, opening}
 use Rattle.listing_rules.specs.Lists.{every, anyOf}
 use Rattle.listing_rules.specs.Tokens.{Got, got, at, after, withFirst, _>>=_, tagByte, atomByte, run, run₁, atom, astring, pattern}
 use Rattle.listing_rules.specs.Feeder.{first, oneCommand}
@@ -24,7 +24,7 @@ valueRest zero t = none
 valueRest (suc k) t =
     let inner = after (text "(") t >>= λ v. valueRest k v in
     let word = astring t >>= λ g. some (g .rest) in
-    cond (at 40 t) inner word >>= λ u.
+    cond (at opening t) inner word >>= λ u.
     let more = after (text " ") u >>= λ v. valueRest k v in
     cond (at 32 u) more (after (text ")") u)
 
@@ -97,7 +97,7 @@ listArgs t = do
         hasSelection = isSome (after (text " (") t);
         reference = r .val;
         pats = p .val;
-        inParens = at 40 v;
+        inParens = at opening v;
         returns = e;
         hasReturn = not (isEmpty (p .rest));
       })

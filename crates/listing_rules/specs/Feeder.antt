@@ -5,7 +5,7 @@ use mathlib.Core.Option.{Option, none, some}
 use lib.Dec.{eqb, leb}
 use lib.ListN.{length}
 use Prim.Native.Nat.{ℕ, suc, _-_}
-use Rattle.listing_rules.specs.Bytes.{text, crlf, same, isEmpty}
+use Rattle.listing_rules.specs.Bytes.{text, crlf, same, isEmpty, brace, CR, LF}
 use Rattle.listing_rules.specs.Tokens.{_>>=_, number, lineByte}
 
 -- the line ends in CR LF
@@ -29,7 +29,7 @@ orElse none o = o
 
 unfoldable pub announced : List ℕ → Option ℕ
 announced [] = none
-announced (b ∷ t) = let later = announced t in cond (eqb b 123) (orElse (announcedAt t) later) later
+announced (b ∷ t) = let later = announced t in cond (eqb b brace) (orElse (announcedAt t) later) later
 
 -- What comes of a byte: nothing yet; a whole command; "the continuation line `+ go` CR LF"; a refusal.
 pub data Event : Type 0 where
@@ -61,7 +61,7 @@ gives s e = record { state = s; event = e }
 
 -- "bytes are dropped through the next CR LF"
 unfoldable pub dropped : Bool → ℕ → Feeder
-dropped cr c = cond (cr && eqb c 10) first (dropping (eqb c 13))
+dropped cr c = cond (cr && eqb c LF) first (dropping (eqb c CR))
 
 -- "a byte 00 anywhere, or a command over 2,048 bytes in all is refused with 3"
 unfoldable pub offends : List ℕ → ℕ → Bool
@@ -69,7 +69,7 @@ offends kept c = not (leb (suc (length kept)) 2048) || eqb c 0
 
 -- "dropping counts the offending byte and a CR just before it"
 unfoldable pub refusing : List ℕ → ℕ → Step
-refusing kept c = gives (dropped (lastIs 13 kept) c) (denied 3)
+refusing kept c = gives (dropped (lastIs CR kept) c) (denied 3)
 
 -- n bytes of a literal are to come
 unfoldable pub awaiting : List ℕ → ℕ → Feeder
@@ -115,7 +115,7 @@ feedChunks s (x ∷ xs) =
 
 -- "Check 3 of document 01 now reads over the text outside literals": there only bytes 01 to 7F stand, CR and LF only as the end of a line
 unfoldable pub allowed : Feeder → ℕ → Bool
-allowed (reading kept line) c = cond (lastIs 13 line) (eqb c 10) (lineByte c || eqb c 13)
+allowed (reading kept line) c = cond (lastIs CR line) (eqb c LF) (lineByte c || eqb c CR)
 allowed (inLiteral kept n) c = true
 allowed (dropping cr) c = true
 

@@ -5,7 +5,7 @@ use mathlib.Core.Option.{Option, none, some}
 use lib.Dec.{eqb, leb}
 use lib.ListN.{length}
 use Prim.Native.Nat.{ℕ, _+_, _-_, _*_, _/_, _%_}
-use Rattle.listing_rules.specs.Bytes.{within, isEmpty}
+use Rattle.listing_rules.specs.Bytes.{within, isEmpty, LF}
 use Rattle.listing_rules.specs.Tokens.{_>>=_}
 use Rattle.listing_rules.specs.Server.{Reply, refusal, answered, limited, answer}
 use Rattle.listing_rules.specs.Walk.{WalkReply, walkRefused, walked, walk}
@@ -59,7 +59,7 @@ hex [] = []
 hex (b ∷ t) = hexDigit (b / 16) ∷ hexDigit (b % 16) ∷ hex t
 
 unfoldable pub answerLine : List ℕ → List ℕ
-answerLine bs = hex bs ++ (10 ∷ [])
+answerLine bs = hex bs ++ (LF ∷ [])
 
 -- "52 and the number in one byte"
 unfoldable pub refusalLine : ℕ → List ℕ
@@ -130,7 +130,7 @@ pub record Fed : Type 0 where
 unfoldable pub fed : Session → ℕ → Fed
 fed s c =
     let r = step (s .stored) (s .partial) in
-    cond (eqb c 10)
+    cond (eqb c LF)
     (record { session = record { stored = r .stored; partial = [] }; output = r .output })
     (record { session = record { stored = s .stored; partial = s .partial ++ (c ∷ []) }; output = [] })
 

@@ -27,6 +27,34 @@ attributeNames =
     ∷ text "\\HasNoChildren"
     ∷ []
 
+-- the places of those that the collector asks for (law `places-named`)
+abbrev pub remotePlace : ℕ
+remotePlace = 4
+
+abbrev pub subscribedPlace : ℕ
+subscribedPlace = 5
+
+abbrev pub allPlace : ℕ
+allPlace = 7
+
+abbrev pub archivePlace : ℕ
+archivePlace = 8
+
+abbrev pub draftsPlace : ℕ
+draftsPlace = 9
+
+abbrev pub flaggedPlace : ℕ
+flaggedPlace = 10
+
+abbrev pub junkPlace : ℕ
+junkPlace = 11
+
+abbrev pub sentPlace : ℕ
+sentPlace = 12
+
+abbrev pub trashPlace : ℕ
+trashPlace = 13
+
 -- the names that are shown
 unfoldable pub chosen : List Bool → List (List ℕ) → List (List ℕ)
 chosen [] ns = []

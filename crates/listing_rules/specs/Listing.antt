@@ -3,7 +3,7 @@ use mathlib.Core.List.{List, [], _∷_, map}
 use mathlib.Core.Bool.{Bool, false, cond, _&&_, _||_, not}
 use lib.Dec.{eqb}
 use Prim.Native.Nat.{ℕ}
-use Rattle.listing_rules.specs.Bytes.{bit}
+use Rattle.listing_rules.specs.Bytes.{bit, percent}
 use Rattle.listing_rules.specs.Lists.{anyOf, keep, joined}
 use Rattle.listing_rules.specs.Orders.{byteOrder, sorted}
 use Rattle.listing_rules.specs.Names.{properAncestors, below}
@@ -47,7 +47,7 @@ unselective o = not (o .selRecursive) && not (o .selSubscribed) && not (o .selSp
 -- "a canonical pattern ending in "%"": its last byte, after unquoting
 unfoldable pub endsInPercent : List ℕ → Bool
 endsInPercent [] = false
-endsInPercent (c ∷ []) = eqb c 0x25
+endsInPercent (c ∷ []) = eqb c percent
 endsInPercent (c ∷ d ∷ t) = endsInPercent (d ∷ t)
 
 -- "a candidate that does not exist, matches a canonical pattern ending in "%", and has a descendant that meets the criteria"
@@ -70,31 +70,60 @@ childInfo rs o n = cond (o .selRecursive && meetsBelow rs o n) (criteria o) noCr
 unfoldable pub hasChildren : List Row → Options → List ℕ → Bool
 hasChildren rs o n = anyOf (λ r. below n (r .name) && exists (r .flags) && (not (remote (r .flags)) || o .selRemote)) rs
 
--- Which of the sixteen are shown, in their order. "\Subscribed is shown only if SUBSCRIBED is selected or returned, uses only if
--- SPECIAL-USE is, the last two only with CHILDREN. Bits 2 to 6 always show, \NonExistent on all that do not exist."
--- "Else \HasNoChildren, except beside \NoInferiors." W1: a level above "is listed with \NonExistent and \HasChildren, whether CHILDREN
--- was asked or not, and \Subscribed as document 01 says" (it has children, law `level-has-children`).
-unfoldable pub attributes : List Row → Options → List (List ℕ) → List ℕ → List Bool
-attributes rs o ps n =
-    let f = flagsOf rs n in
+-- The sixteen attributes by their names, and in document 01's order.
+pub record Shown : Type 0 where
+  pub Marked : Bool
+  pub Unmarked : Bool
+  pub Noselect : Bool
+  pub NoInferiors : Bool
+  pub Remote : Bool
+  pub Subscribed : Bool
+  pub NonExistent : Bool
+  pub All : Bool
+  pub Archive : Bool
+  pub Drafts : Bool
+  pub Flagged : Bool
+  pub Junk : Bool
+  pub Sent : Bool
+  pub Trash : Bool
+  pub HasChildren : Bool
+  pub HasNoChildren : Bool
+
+unfoldable pub inOrder : Shown → List Bool
+inOrder s =
+    s .Marked ∷ s .Unmarked ∷ s .Noselect ∷ s .NoInferiors ∷ s .Remote ∷ s .Subscribed ∷ s .NonExistent
+    ∷ s .All ∷ s .Archive ∷ s .Drafts ∷ s .Flagged ∷ s .Junk ∷ s .Sent ∷ s .Trash
+    ∷ s .HasChildren ∷ s .HasNoChildren ∷ []
+
+-- Which are shown of a name with flags f, that has children or has none, and is a level above (W1) or is none. "\Subscribed is shown
+-- only if SUBSCRIBED is selected or returned, uses only if SPECIAL-USE is, the last two only with CHILDREN. Bits 2 to 6 always show,
+-- \NonExistent on all that do not exist." "Else \HasNoChildren, except beside \NoInferiors." W1: a level above "is listed with
+-- \NonExistent and \HasChildren, whether CHILDREN was asked or not, and \Subscribed as document 01 says" (law `level-has-children`).
+unfoldable pub attributesFor : ℕ → Options → Bool → Bool → List Bool
+attributesFor f o children level =
     let usesShow = o .selSpecial || o .retSpecial in
-    marked f
-    ∷ unmarked f
-    ∷ noSelect f
-    ∷ noInferiors f
-    ∷ remote f
-    ∷ (subscribed f && (o .selSubscribed || o .retSubscribed))
-    ∷ not (exists f)
-    ∷ (bit 8 f && usesShow)
-    ∷ (bit 9 f && usesShow)
-    ∷ (bit 10 f && usesShow)
-    ∷ (bit 11 f && usesShow)
-    ∷ (bit 12 f && usesShow)
-    ∷ (bit 13 f && usesShow)
-    ∷ (bit 14 f && usesShow)
-    ∷ ((o .retChildren && hasChildren rs o n) || levelAbove rs o ps n)
-    ∷ (o .retChildren && not (hasChildren rs o n) && not (noInferiors f))
-    ∷ []
+    inOrder
+    (record {
+      Marked = marked f;
+      Unmarked = unmarked f;
+      Noselect = noSelect f;
+      NoInferiors = noInferiors f;
+      Remote = remote f;
+      Subscribed = subscribed f && (o .selSubscribed || o .retSubscribed);
+      NonExistent = not (exists f);
+      All = bit 8 f && usesShow;
+      Archive = bit 9 f && usesShow;
+      Drafts = bit 10 f && usesShow;
+      Flagged = bit 11 f && usesShow;
+      Junk = bit 12 f && usesShow;
+      Sent = bit 13 f && usesShow;
+      Trash = bit 14 f && usesShow;
+      HasChildren = (o .retChildren && children) || level;
+      HasNoChildren = o .retChildren && not children && not (noInferiors f);
+    })
+
+unfoldable pub attributes : List Row → Options → List (List ℕ) → List ℕ → List Bool
+attributes rs o ps n = attributesFor (flagsOf rs n) o (hasChildren rs o n) (levelAbove rs o ps n)
 
 -- "Each name has at most one line; lines ascend by name."
 unfoldable pub listedNames : List Row → Options → List (List ℕ) → List (List ℕ)
@@ -102,5 +131,5 @@ listedNames rs o ps = keep (listed rs o ps) (candidates rs)
 
 -- opens every definition of this file, for a proof by computation
 unfoldable pub openListing : Unit {0}
-unfolding candidates implied meetsCriteria candidateMeets meetsBelow meetsUnmatchedBelow unselective endsInPercent levelAbove listed childInfo hasChildren attributes listedNames
+unfolding candidates implied meetsCriteria candidateMeets meetsBelow meetsUnmatchedBelow unselective endsInPercent levelAbove listed childInfo hasChildren inOrder attributesFor attributes listedNames
 openListing = tt

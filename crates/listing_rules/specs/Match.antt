@@ -3,7 +3,7 @@ use mathlib.Core.List.{List, [], _∷_}
 use mathlib.Core.Bool.{Bool, true, false, cond, _&&_, _||_, not}
 use lib.Dec.{eqb}
 use Prim.Native.Nat.{ℕ}
-use Rattle.listing_rules.specs.Bytes.{slash, same, raised, isEmpty}
+use Rattle.listing_rules.specs.Bytes.{slash, same, raised, isEmpty, star, percent}
 use Rattle.listing_rules.specs.Lists.{anyOf}
 use Rattle.listing_rules.specs.Names.{inbox}
 
@@ -26,10 +26,10 @@ headThen p rest (c ∷ n) = let r = rest n in eqb p c && r
 unfoldable pub wildMatch : List ℕ → List ℕ → Bool
 wildMatch [] n = isEmpty n
 wildMatch (p ∷ ps) n =
-    let star = anyTail (wildMatch ps) n in
-    let percent = anyTailInLevel (wildMatch ps) n in
+    let any = anyTail (wildMatch ps) n in
+    let inLevel = anyTailInLevel (wildMatch ps) n in
     let other = headThen p (wildMatch ps) n in
-    cond (eqb p 42) star (cond (eqb p 37) percent other)
+    cond (eqb p star) any (cond (eqb p percent) inLevel other)
 
 -- "The name INBOX, alone, is compared after the pattern's letters a to z are raised."
 unfoldable pub matches : List ℕ → List ℕ → Bool

@@ -4,7 +4,7 @@ use mathlib.Core.Bool.{Bool, true, false, cond, _&&_, _||_, not}
 use lib.Dec.{eqb, leb}
 use lib.ListN.{length}
 use Prim.Native.Nat.{ℕ, compare, Ordering}
-use Rattle.listing_rules.specs.Bytes.{text, slash, within, all, same, spells}
+use Rattle.listing_rules.specs.Bytes.{text, slash, within, all, same, spells, percent, star}
 use Rattle.listing_rules.specs.Lists.{every, onFirst}
 use Rattle.listing_rules.specs.Orders.{thenBy, lexBy, byteOrder}
 
@@ -38,7 +38,7 @@ inbox = text "INBOX"
 
 -- "name bytes are 20 to 7E (hex), without % and *"
 unfoldable pub nameByte : ℕ → Bool
-nameByte b = within 0x20 0x7E b && not (eqb b 37) && not (eqb b 42)
+nameByte b = within 0x20 0x7E b && not (eqb b percent) && not (eqb b star)
 
 -- a level is "non-empty"
 unfoldable pub isFull : List ℕ → Bool

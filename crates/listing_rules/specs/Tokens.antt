@@ -5,7 +5,7 @@ use mathlib.Core.Option.{Option, none, some}
 use lib.Dec.{eqb, leb}
 use lib.ListN.{length, take, drop}
 use Prim.Native.Nat.{ℕ, _+_, _-_, _*_}
-use Rattle.listing_rules.specs.Bytes.{text, crlf, quote, backslash, within, oneOf, all, isEmpty}
+use Rattle.listing_rules.specs.Bytes.{text, crlf, quote, backslash, within, oneOf, all, isEmpty, bracket, plus, brace, CR, LF}
 
 -- something read, and what is left of the line behind it
 pub record Got (A : Type 0) : Type 0 where
@@ -41,11 +41,11 @@ atomByte b = within 0x21 0x7E b && not (oneOf (text "(){%*\"\\]") b)
 
 -- "A tag is atom bytes and ']', no '+'."
 unfoldable pub tagByte : ℕ → Bool
-tagByte b = (atomByte b || eqb b 93) && not (eqb b 43)
+tagByte b = (atomByte b || eqb b bracket) && not (eqb b plus)
 
 -- RFC 3501: a bare astring is of atom bytes and "]"
 unfoldable pub astringByte : ℕ → Bool
-astringByte b = atomByte b || eqb b 93
+astringByte b = atomByte b || eqb b bracket
 
 -- "a run of atom bytes, ']', '%' and '*'"
 unfoldable pub patternByte : ℕ → Bool
@@ -80,7 +80,7 @@ unquoted false (b ∷ t) =
 
 -- "bytes 01 to 7F other than CR and LF"
 unfoldable pub lineByte : ℕ → Bool
-lineByte b = within 0x01 0x7F b && not (eqb b 13) && not (eqb b 10)
+lineByte b = within 0x01 0x7F b && not (eqb b CR) && not (eqb b LF)
 
 -- RFC 3501: a quoted string holds such bytes alone, so no literal stands in it
 unfoldable pub quotedText : List ℕ → Option (Got (List ℕ))
@@ -107,7 +107,7 @@ literal t = do
 -- a quoted string, a literal "wherever an astring or pattern may stand", or a run
 unfoldable pub stringOr : (ℕ → Bool) → List ℕ → Option (Got (List ℕ))
 stringOr p [] = none
-stringOr p (b ∷ t) = cond (eqb b quote) (quotedText t) (cond (eqb b 123) (literal t) (run₁ p (b ∷ t)))
+stringOr p (b ∷ t) = cond (eqb b quote) (quotedText t) (cond (eqb b brace) (literal t) (run₁ p (b ∷ t)))
 
 unfoldable pub astring : List ℕ → Option (Got (List ℕ))
 astring t = stringOr astringByte t

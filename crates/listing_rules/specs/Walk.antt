@@ -4,12 +4,12 @@ use mathlib.Core.Bool.{Bool, true, false, cond, _&&_, _||_, not}
 use lib.Dec.{eqb, leb}
 use lib.ListN.{length, getD, drop, replicate}
 use Prim.Native.Nat.{ℕ, zero, suc, _-_}
-use Rattle.listing_rules.specs.Bytes.{text, crlf, bit, slash}
+use Rattle.listing_rules.specs.Bytes.{text, crlf, bit, slash, LF}
 use Rattle.listing_rules.specs.Lists.{joined, onFirst}
 use Rattle.listing_rules.specs.Table.{rows, passes}
 use Rattle.listing_rules.specs.Options.{isNone}
 use Rattle.listing_rules.specs.Listing.{candidates}
-use Rattle.listing_rules.specs.Lines.{quoted}
+use Rattle.listing_rules.specs.Lines.{quoted, remotePlace, subscribedPlace, allPlace, archivePlace, draftsPlace, flaggedPlace, junkPlace, sentPlace, trashPlace}
 use Rattle.listing_rules.specs.Server.{Reply, refusal, answered, answer, limited}
 use Rattle.listing_rules.specs.Reader.{Read, line, root, bad, readLine}
 
@@ -42,7 +42,7 @@ commandLine o reference =
 -- the lines of an answer, each with its line feed
 unfoldable pub linesOf : List ℕ → List (List ℕ)
 linesOf [] = []
-linesOf (b ∷ t) = let r = linesOf t in cond (eqb b 10) ((b ∷ []) ∷ r) (onFirst b r)
+linesOf (b ∷ t) = let r = linesOf t in cond (eqb b LF) ((b ∷ []) ∷ r) (onFirst b r)
 
 -- names as they lie in found and pending: "each as a length byte and the name"
 unfoldable pub packed : List (List ℕ) → List ℕ
@@ -63,17 +63,18 @@ unfoldable pub _>>=_ : {A B : Type 0} → Step A → (A → Step B) → Step B
 (stop k) >>= f = stop k
 (go x) >>= f = f x
 
--- an attribute by its place in the sixteen: 4 is \Remote, 5 \Subscribed, 7 to 13 the uses
+-- an attribute by its place in the sixteen
 unfoldable pub attr : ℕ → List Bool → Bool
 attr k bs = getD bs k false
 
 unfoldable pub useAttr : List Bool → Bool
-useAttr bs = attr 7 bs || attr 8 bs || attr 9 bs || attr 10 bs || attr 11 bs || attr 12 bs || attr 13 bs
+useAttr bs =
+    attr allPlace bs || attr archivePlace bs || attr draftsPlace bs || attr flaggedPlace bs || attr junkPlace bs || attr sentPlace bs || attr trashPlace bs
 
 -- "A line is a find if it has \Subscribed, has no \Remote unless REMOTE was asked, and has a use if SPECIAL-USE was." Without SUBSCRIBED
 -- (W3) "A find then is a line with a use, under the same rule for remote".
 unfoldable pub isFind : ℕ → List Bool → Bool
-isFind o bs = (dropsSubscribed o || attr 5 bs) && (not (attr 4 bs) || wantsRemote o) && (not (wantsSpecial o) || useAttr bs)
+isFind o bs = (dropsSubscribed o || attr subscribedPlace bs) && (not (attr remotePlace bs) || wantsRemote o) && (not (wantsSpecial o) || useAttr bs)
 
 unfoldable pub withName : Bool → List ℕ → List (List ℕ) → List (List ℕ)
 withName true n ns = ns ++ (n ∷ [])
@@ -85,16 +86,16 @@ fits number room ns = cond (leb (length (packed ns)) room) (go ns) (stop number)
 
 -- "Finds go to found, names with CHILDINFO to the end of pending"; "by line 10 before 11"
 unfoldable pub takenIn : ℕ → ℕ → ℕ → Lists → Read → Step Lists
-takenIn o room₁ room₂ s (line bs n c) =
-    fits 10 room₁ (withName (isFind o bs) n (s .finds)) >>= λ f.
-    fits 11 room₂ (withName (not (isNone c)) n (s .asks)) >>= λ a. go (record { finds = f; asks = a })
-takenIn o room₁ room₂ s root = go s
-takenIn o room₁ room₂ s bad = go s
+takenIn o found pending s (line bs n c) =
+    fits 10 found (withName (isFind o bs) n (s .finds)) >>= λ f.
+    fits 11 pending (withName (not (isNone c)) n (s .asks)) >>= λ a. go (record { finds = f; asks = a })
+takenIn o found pending s root = go s
+takenIn o found pending s bad = go s
 
 -- "Each answer line is read back."
 unfoldable pub takenAll : ℕ → ℕ → ℕ → Lists → List (List ℕ) → Step Lists
-takenAll o room₁ room₂ s [] = go s
-takenAll o room₁ room₂ s (l ∷ ls) = takenIn o room₁ room₂ s (readLine l) >>= λ u. takenAll o room₁ room₂ u ls
+takenAll o found pending s [] = go s
+takenAll o found pending s (l ∷ ls) = takenIn o found pending s (readLine l) >>= λ u. takenAll o found pending u ls
 
 -- "Refusals 3 to 8 out of one of its own commands are passed on."
 unfoldable pub replied : Reply → Step (List ℕ)
@@ -106,10 +107,10 @@ pub record Walked : Type 0 where
   pub lists : Lists
 
 -- "Its namespace list is empty." "Scratch takes the server's answers": its room, and that of found and pending
-module _ (table : List ℕ) (o scratch room₁ room₂ : ℕ) where
+module _ (table : List ℕ) (o scratch found pending : ℕ) where
   -- one command and its lines: "after each command 9, then by line 10 before 11"
   unfoldable pub asked : Lists → List ℕ → Step Lists
-  asked s reference = replied (limited scratch (answer table [] (commandLine o reference))) >>= λ a. takenAll o room₁ room₂ s (linesOf a)
+  asked s reference = replied (limited scratch (answer table [] (commandLine o reference))) >>= λ a. takenAll o found pending s (linesOf a)
 
   -- "pending is never shortened, and is asked in order": the first `done` names of pending were asked, so one command more was sent.
   -- The reference is "later each pending name and '/'". The number of steps left is a bound; enough are given (law `walk-fuel`).
@@ -133,8 +134,8 @@ ended (go w) = walked (w .count) (packed (w .lists .finds)) (packed (w .lists .a
 
 -- "Collector order: 1, 6, then the walk"; 6 is an option byte that is not lawful. No candidate is asked twice, so the candidates bound the steps.
 unfoldable pub walk : List ℕ → ℕ → ℕ → ℕ → ℕ → WalkReply
-walk table o scratch room₁ room₂ =
-    let w = ended (walkAll table o scratch room₁ room₂ (suc (suc (length (candidates (rows table)))))) in
+walk table o scratch found pending =
+    let w = ended (walkAll table o scratch found pending (suc (suc (length (candidates (rows table)))))) in
     cond (passes table) (cond (lawfulByte o) w (walkRefused 6)) (walkRefused 1)
 
 -- the number of a refusal, 0 for none

@@ -1,0 +1,18 @@
+-- The places of the attributes that the collector asks for are those of their names.
+use mathlib.Core.Path.{_≡_, refl}
+use mathlib.Core.List.{List, [], _∷_, map}
+use Prim.Native.Nat.{ℕ}
+use lib.ListN.{getD}
+use Rattle.listing_rules.specs.Bytes.{openBytes, text}
+use Rattle.listing_rules.specs.Lines.{openLines, attributeNames, remotePlace, subscribedPlace, allPlace, archivePlace, draftsPlace, flaggedPlace, junkPlace, sentPlace, trashPlace}
+
+abbrev places : List ℕ
+places = remotePlace ∷ subscribedPlace ∷ allPlace ∷ archivePlace ∷ draftsPlace ∷ flaggedPlace ∷ junkPlace ∷ sentPlace ∷ trashPlace ∷ []
+
+abbrev spelled : List (List ℕ)
+spelled =
+    text "\\Remote" ∷ text "\\Subscribed" ∷ text "\\All" ∷ text "\\Archive" ∷ text "\\Drafts" ∷ text "\\Flagged" ∷ text "\\Junk" ∷ text "\\Sent" ∷ text "\\Trash" ∷ []
+
+pub places-named : map (λ k. getD attributeNames k []) places ≡ spelled
+unfolding openBytes openLines
+places-named = refl

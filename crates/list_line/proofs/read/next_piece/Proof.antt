@@ -32,10 +32,18 @@ add-t13 : tie.Need-add-t13
 add-t13 c = search needs
 
 returns-4 : tie.Need-returns-4
-returns-4 c = rw (c .before .byte-at .ensures) (piece-escaped (c .before .before .before .before .before .before .before .args .line .now) (c .before .before .before .before .before .before .before .args .i) (c .before .before .before .before .before .if1 .left) (c .before .before .if3 .left) (rw (c .before .byte-at .ensures) at (c .if4 .taken)))
+returns-4 c =
+    let at-if3 = c .before .before in
+    let at-if1 = at-if3 .before .before .before in
+    let start = at-if1 .before .before in
+    rw (c .before .byte-at .ensures) (piece-escaped (start .args .line .now) (start .args .i) (at-if1 .if1 .left) (at-if3 .if3 .left) (rw (c .before .byte-at .ensures) at (c .if4 .taken)))
 
 returns-5 : tie.Need-returns-5
-returns-5 c = piece-bad (c .before .before .before .before .before .before .before .args .line .now) (c .before .before .before .before .before .before .before .args .i) (c .before .before .before .before .before .if1 .left) (c .before .before .if3 .left) (rw (c .before .byte-at .ensures) at (c .if4 .left))
+returns-5 c =
+    let at-if3 = c .before .before in
+    let at-if1 = at-if3 .before .before .before in
+    let start = at-if1 .before .before in
+    piece-bad (start .args .line .now) (start .args .i) (at-if1 .if1 .left) (at-if3 .if3 .left) (rw (c .before .byte-at .ensures) at (c .if4 .left))
 
 pub next-piece-spec : {M : Type 1} → statement M
 next-piece-spec =

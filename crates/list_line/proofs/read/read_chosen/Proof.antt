@@ -40,19 +40,29 @@ skip-requires c κs = c .before .before .before .loop .inv .inside
 
 -- what was looked for is name k
 skipped : (c : tie.After-skip Inv-loop μ-loop) → Skips (c .before .before .before .before .before .before .before .before .args .line .now) (c .before .before .before .before .loop .at) (separated (c .before .before .before .before .loop .first) (nameOf (c .before .before .before .before .loop .k))) (c .skip .result)
-skipped c = subst (λ (x : List ℕ). Skips (c .before .before .before .before .before .before .before .before .args .line .now) (c .before .before .before .before .loop .at) x (c .skip .result)) (span-text (c .before .before .before .before .before .before .before .before .args .names .now) (c .before .before .before .before .before .before .before .before .pre .1 .0) (c .before .before .name-span .ensures)) (c .skip .ensures)
+skipped c =
+    let after-name-span = c .before .before in
+    let turn = after-name-span .before .before in
+    let start = turn .before .before .before .before in
+    subst (λ (x : List ℕ). Skips (start .args .line .now) (turn .loop .at) x (c .skip .result)) (span-text (start .args .names .now) (start .pre .1 .0) (after-name-span .name-span .ensures)) (c .skip .ensures)
 
 enum-known-next : tie.Need-enum-known-next Inv-loop μ-loop
 enum-known-next c = search needs
 
 add-bits : tie.Need-add-bits Inv-loop μ-loop
-add-bits c = omega (arith, choosing-bits (c .before .before .before .before .before .before .before .loop .inv), choosing-member (c .before .before .before .before .before .before .before .loop .inv) (c .before .before .before .before .before .before .loop-test .taken))
+add-bits c =
+    let at-loop-test = c .before .before .before .before .before .before in
+    let turn = at-loop-test .before in
+    omega (arith, choosing-bits (turn .loop .inv), choosing-member (turn .loop .inv) (at-loop-test .loop-test .taken))
 
 enum-told : tie.Need-enum-told Inv-loop μ-loop
 enum-told c = search needs
 
 mul-member : tie.Need-mul-member Inv-loop μ-loop
-mul-member c = omega (arith, choosing-member (c .before .before .before .before .before .loop .inv) (c .before .before .before .before .loop-test .taken))
+mul-member c =
+    let at-loop-test = c .before .before .before .before in
+    let turn = at-loop-test .before in
+    omega (arith, choosing-member (turn .loop .inv) (at-loop-test .loop-test .taken))
 
 add-k : tie.Need-add-k Inv-loop μ-loop
 add-k c = search needs
@@ -62,9 +72,12 @@ loop-less c = search needs
 
 loop-again : tie.Need-loop-again Inv-loop μ-loop
 loop-again c =
-    let inv = c .before .before .before .before .before .loop .inv in
-    let h = c .before .before .before .before .loop-test .taken in
-    let reading = Skips (c .before .before .before .before .before .before .before .before .before .args .line .now) (c .before .before .before .before .before .loop .at) (separated (c .before .before .before .before .before .loop .first) (nameOf (c .before .before .before .before .before .loop .k))) in
+    let at-loop-test = c .before .before .before .before in
+    let turn = at-loop-test .before in
+    let start = turn .before .before .before .before in
+    let inv = turn .loop .inv in
+    let h = at-loop-test .loop-test .taken in
+    let reading = Skips (start .args .line .now) (turn .loop .at) (separated (turn .loop .first) (nameOf (turn .loop .k))) in
     ⊎-elim
     (λ w. let s = subst reading (w .1 .given .1) (skipped (c .before)) in rw (w .3, w .4, w .5) (choosing-in inv _ h (s .0) (s .1)))
     (λ w. rw (w .2, w .3, w .4) (choosing-out inv h (subst reading (w .1 .given .1) (skipped (c .before)))))

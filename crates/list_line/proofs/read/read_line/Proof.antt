@@ -18,14 +18,20 @@ no-name-requires c κs = search needs
 
 returns : tie.Need-returns
 unfolding openBytes rootLine
-returns c = let r = read-root (c .before .before .before .before .before .args .line .now) (sym (c .before .before .same-bytes .ensures) ∙ c .before .if1 .taken) in (r .0, c .no-name .ensures ∙ r .1)
+returns c =
+    let after-same-bytes = c .before .before in
+    let start = after-same-bytes .before .before .before in
+    let r = read-root (start .args .line .now) (sym (after-same-bytes .same-bytes .ensures) ∙ c .before .if1 .taken) in (r .0, c .no-name .ensures ∙ r .1)
 
 read-parts-requires : tie.Need-read-parts-requires
 read-parts-requires c κs = search needs
 
 returns-2 : tie.Need-returns-2
 unfolding openBytes rootLine
-returns-2 c = rw (read-other (c .before .before .before .before .before .args .line .now) (sym (c .before .before .same-bytes .ensures) ∙ c .before .if1 .left)) (c .read-parts .ensures)
+returns-2 c =
+    let after-same-bytes = c .before .before in
+    let start = after-same-bytes .before .before .before in
+    rw (read-other (start .args .line .now) (sym (after-same-bytes .same-bytes .ensures) ∙ c .before .if1 .left)) (c .read-parts .ensures)
 
 pub read-line-spec : {M : Type 1} → statement M
 read-line-spec =

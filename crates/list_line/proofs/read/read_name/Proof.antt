@@ -26,7 +26,11 @@ enum-known-b : tie.Need-enum-known-b Inv-loop μ-loop
 enum-known-b c = search needs
 
 told : (c : tie.After-known-told Inv-loop μ-loop) → Next (c .before .before .before .before .before .before .before .args .line .now) (c .before .before .before .before .loop .i) (Byte (c .before .b .given .0 .0) (c .before .b .given .0 .1 .0))
-told c = subst (Next (c .before .before .before .before .before .before .before .args .line .now) (c .before .before .before .before .loop .i)) (c .before .b .given .1) (c .before .before .before .next-piece .ensures)
+told c =
+    let after-next-piece = c .before .before .before in
+    let turn = after-next-piece .before in
+    let start = turn .before .before .before in
+    subst (Next (start .args .line .now) (turn .loop .i)) (c .before .b .given .1) (after-next-piece .next-piece .ensures)
 
 same-length : tie.Need-same-length Inv-loop μ-loop
 same-length c = c .before .before .before .before .before .loop .inv .long
@@ -53,7 +57,11 @@ same-length-2 : tie.Need-same-length-2 Inv-loop μ-loop
 same-length-2 c = c .before .before .before .before .loop .inv .long
 
 returns-2 : tie.Need-returns-2 Inv-loop μ-loop
-returns-2 c = naming-end (c .before .before .before .before .loop .inv) _ (subst (Next (c .before .before .before .before .before .before .before .args .line .now) (c .before .before .before .before .loop .i)) (c .before .next .given .1) (c .before .before .before .next-piece .ensures))
+returns-2 c =
+    let after-next-piece = c .before .before .before in
+    let turn = after-next-piece .before in
+    let start = turn .before .before .before in
+    naming-end (turn .loop .inv) _ (subst (Next (start .args .line .now) (turn .loop .i)) (c .before .next .given .1) (after-next-piece .next-piece .ensures))
 
 enum-told : tie.Need-enum-told Inv-loop μ-loop
 enum-told c = search needs
@@ -62,7 +70,11 @@ same-length-3 : tie.Need-same-length-3 Inv-loop μ-loop
 same-length-3 c = c .before .before .before .loop .inv .long
 
 returns-3 : tie.Need-returns-3 Inv-loop μ-loop
-returns-3 c = naming-torn (c .before .before .before .loop .inv) (subst (Next (c .before .before .before .before .before .before .args .line .now) (c .before .before .before .loop .i)) (c .enum-told .given .1) (c .before .before .next-piece .ensures))
+returns-3 c =
+    let after-next-piece = c .before .before in
+    let turn = after-next-piece .before in
+    let start = turn .before .before .before in
+    naming-torn (turn .loop .inv) (subst (Next (start .args .line .now) (turn .loop .i)) (c .enum-told .given .1) (after-next-piece .next-piece .ensures))
 
 pub read-name-spec : {M : Type 1} → statement M
 read-name-spec =

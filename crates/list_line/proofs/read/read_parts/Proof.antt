@@ -36,19 +36,28 @@ refused-requires c κs = search needs
 
 returns : tie.Need-returns
 unfolding text
-returns c = rw (parts-refused (c .before .before .before .before .before .before .args .line .now) (start-missing (c .before .before .before .before .before .before .args .line .now) (subst (Skips (c .before .before .before .before .before .before .args .line .now) 0 (text "* LIST (")) (c .before .enum-told .given .1) (c .before .before .before .skip .ensures)))) (c .refused .ensures)
+returns c =
+    let after-skip = c .before .before .before in
+    let start = after-skip .before .before .before in
+    rw (parts-refused (start .args .line .now) (start-missing (start .args .line .now) (subst (Skips (start .args .line .now) 0 (text "* LIST (")) (c .before .enum-told .given .1) (after-skip .skip .ensures)))) (c .refused .ensures)
 
 -- the start stands there
 start : (c : tie.After-known-told) → Skips (c .before .before .before .before .before .before .args .line .now) 0 (text "* LIST (") (At (c .before .a .given .0 .0))
 unfolding text
-start c = subst (Skips (c .before .before .before .before .before .before .args .line .now) 0 (text "* LIST (")) (c .before .a .given .1) (c .before .before .before .skip .ensures)
+start c =
+    let after-skip = c .before .before .before in
+    let start = after-skip .before .before .before in
+    subst (Skips (start .args .line .now) 0 (text "* LIST (")) (c .before .a .given .1) (after-skip .skip .ensures)
 
 read-attributes-requires : tie.Need-read-attributes-requires
 read-attributes-requires c κs = start c .1
 
 -- what is left behind the attributes
 chosen : (c : tie.After-read-attributes) → readParts (c .before .before .before .before .before .before .before .args .line .now) ≡ fromDelimiter (chosenAt (c .before .before .before .before .before .before .before .args .line .now) (c .before .before .a .given .0 .0)) (drop (c .read-attributes .result .at) (c .before .before .before .before .before .before .before .args .line .now))
-chosen c = start-read _ _ (start (c .before) .0) ∙ attributes-read (c .before .before .before .before .before .before .before .args .line .now) (c .before .before .a .given .0 .0) (c .read-attributes .result) (c .read-attributes .ensures)
+chosen c =
+    let after-a = c .before .before in
+    let start-2 = after-a .before .before .before .before .before in
+    start-read _ _ (start (c .before) .0) ∙ attributes-read (start-2 .args .line .now) (after-a .a .given .0 .0) (c .read-attributes .result) (c .read-attributes .ensures)
 
 slice-aggregate-skip-2 : tie.Need-slice-aggregate-skip-2
 slice-aggregate-skip-2 c = search needs
@@ -67,12 +76,20 @@ refused-requires-2 c κs = search needs
 
 returns-2 : tie.Need-returns-2
 unfolding text
-returns-2 c = rw (parts-refused (c .before .before .before .before .before .before .before .before .before .before .before .before .args .line .now) (chosen (c .before .before .before .before .before) ∙ delimiter-missing _ _ (subst (Skips (c .before .before .before .before .before .before .before .before .before .before .before .before .args .line .now) (c .before .before .before .before .before .read-attributes .result .at) (text ") \"/\" \"")) (c .before .enum-told2 .given .1) (c .before .before .before .skip2 .ensures)))) (c .refused2 .ensures)
+returns-2 c =
+    let after-skip2 = c .before .before .before in
+    let stage = after-skip2 .before .before in
+    let start = stage .before .before .before .before .before .before .before in
+    rw (parts-refused (start .args .line .now) (chosen (stage) ∙ delimiter-missing _ _ (subst (Skips (start .args .line .now) (stage .read-attributes .result .at) (text ") \"/\" \"")) (c .before .enum-told2 .given .1) (after-skip2 .skip2 .ensures)))) (c .refused2 .ensures)
 
 -- what is left behind the delimiter
 delimited : (c : tie.After-known-told2) → readParts (c .before .before .before .before .before .before .before .before .before .before .before .before .args .line .now) ≡ fromName (chosenAt (c .before .before .before .before .before .before .before .before .before .before .before .before .args .line .now) (c .before .before .before .before .before .before .before .a .given .0 .0)) (drop (c .before .b .given .0 .0) (c .before .before .before .before .before .before .before .before .before .before .before .before .args .line .now))
 unfolding text
-delimited c = chosen (c .before .before .before .before .before) ∙ delimiter-read _ _ _ (subst (Skips (c .before .before .before .before .before .before .before .before .before .before .before .before .args .line .now) (c .before .before .before .before .before .read-attributes .result .at) (text ") \"/\" \"")) (c .before .b .given .1) (c .before .before .before .skip2 .ensures) .0)
+delimited c =
+    let after-skip2 = c .before .before .before in
+    let stage = after-skip2 .before .before in
+    let start = stage .before .before .before .before .before .before .before in
+    chosen (stage) ∙ delimiter-read _ _ _ (subst (Skips (start .args .line .now) (stage .read-attributes .result .at) (text ") \"/\" \"")) (c .before .b .given .1) (after-skip2 .skip2 .ensures) .0)
 
 no-name-requires : tie.Need-no-name-requires
 no-name-requires c κs = search needs
@@ -93,14 +110,27 @@ refused-requires-3 : tie.Need-refused-requires-3
 refused-requires-3 c κs = search needs
 
 returns-3 : tie.Need-returns-3
-returns-3 c = rw (parts-refused (c .before .before .before .before .before .before .before .before .before .before .before .before .before .before .before .before .before .before .before .args .line .now) (delimited (c .before .before .before .before .before .before .before) ∙ name-missing _ (c .before .before .before .before .before .before .before .before .before .before .before .before .before .before .before .before .before .before .before .args .line .now) (c .before .before .before .before .before .before .before .before .b .given .0 .0) (c .before .before .before .before .before .before .no-name .result) (c .before .before .before .before .read-name .last .1 .1 .0) (c .before .before .before .before .before .before .no-name .ensures) (subst (Names (c .before .before .before .before .before .before .before .before .before .before .before .before .before .before .before .before .before .before .before .args .line .now) (c .before .before .before .before .before .before .before .before .b .given .0 .0) (c .before .before .before .before .before .before .no-name .result) (c .before .before .before .before .read-name .last .1 .1 .0)) (c .before .enum-told3 .given .1) (c .before .before .before .before .read-name .ensures)))) (c .refused3 .ensures)
+returns-3 c =
+    let after-read-name = c .before .before .before .before in
+    let after-no-name = after-read-name .before .before in
+    let stage = after-no-name .before in
+    let after-b = stage .before in
+    let start = after-b .before .before .before .before .before .before .before .before .before .before .before in
+    rw (parts-refused (start .args .line .now) (delimited (stage) ∙ name-missing _ (start .args .line .now) (after-b .b .given .0 .0) (after-no-name .no-name .result) (after-read-name .read-name .last .1 .1 .0) (after-no-name .no-name .ensures) (subst (Names (start .args .line .now) (after-b .b .given .0 .0) (after-no-name .no-name .result) (after-read-name .read-name .last .1 .1 .0)) (c .before .enum-told3 .given .1) (after-read-name .read-name .ensures)))) (c .refused3 .ensures)
 
 -- the name, and what is left behind it
 name : (c : tie.After-known-told3) → Names (c .before .before .before .before .before .before .before .before .before .before .before .before .before .before .before .before .before .before .before .args .line .now) (c .before .before .before .before .before .before .before .before .b .given .0 .0) (c .before .before .before .before .before .before .no-name .result) (c .before .before .before .before .read-name .last .1 .1 .0) (Of (c .before .len .given .0 .0) (c .before .len .given .0 .1 .0))
-name c = subst (Names (c .before .before .before .before .before .before .before .before .before .before .before .before .before .before .before .before .before .before .before .args .line .now) (c .before .before .before .before .before .before .before .before .b .given .0 .0) (c .before .before .before .before .before .before .no-name .result) (c .before .before .before .before .read-name .last .1 .1 .0)) (c .before .len .given .1) (c .before .before .before .before .read-name .ensures)
+name c =
+    let after-read-name = c .before .before .before .before in
+    let after-no-name = after-read-name .before .before in
+    let after-b = after-no-name .before .before in
+    let start = after-b .before .before .before .before .before .before .before .before .before .before .before in
+    subst (Names (start .args .line .now) (after-b .b .given .0 .0) (after-no-name .no-name .result) (after-read-name .read-name .last .1 .1 .0)) (c .before .len .given .1) (after-read-name .read-name .ensures)
 
 room : (c : tie.After-known-told3) → c .before .len .given .0 .0 ≤ 200
-room c = omega (arith, name c .4, ap length (c .before .before .before .before .before .before .no-name .ensures), length-replicate {A = ℕ} 200 0)
+room c =
+    let after-no-name = c .before .before .before .before .before .before in
+    omega (arith, name c .4, ap length (after-no-name .no-name .ensures), length-replicate {A = ℕ} 200 0)
 
 named : (c : tie.After-known-told3) → readParts (c .before .before .before .before .before .before .before .before .before .before .before .before .before .before .before .before .before .before .before .args .line .now) ≡ fromEnd (chosenAt (c .before .before .before .before .before .before .before .before .before .before .before .before .before .before .before .before .before .before .before .args .line .now) (c .before .before .before .before .before .before .before .before .before .before .before .before .before .before .a .given .0 .0)) (name c .0) (drop (c .before .len .given .0 .1 .0) (c .before .before .before .before .before .before .before .before .before .before .before .before .before .before .before .before .before .before .before .args .line .now))
 named c = delimited (c .before .before .before .before .before .before .before) ∙ name-read _ _ _ _ (name c .1)
@@ -127,11 +157,21 @@ refused-requires-4 : tie.Need-refused-requires-4
 refused-requires-4 c κs = search needs
 
 returns-4 : tie.Need-returns-4
-returns-4 c = rw (parts-refused (c .before .before .before .before .before .before .before .before .before .before .before .before .before .before .before .before .before .before .before .before .before .before .before .before .args .line .now) (named (c .before .before .before .before .before) ∙ end-missing _ _ (c .before .before .before .before .before .before .before .before .before .before .before .before .before .before .before .before .before .before .before .before .before .before .before .before .args .line .now) (c .before .before .before .before .before .before .len .given .0 .1 .0) (sym (c .before .before .before .read-tail .ensures) ∙ c .before .enum-told4 .given .1))) (c .refused4 .ensures)
+returns-4 c =
+    let after-read-tail = c .before .before .before in
+    let stage = after-read-tail .before .before in
+    let after-len = stage .before in
+    let start = after-len .before .before .before .before .before .before .before .before .before .before .before .before .before .before .before .before .before .before in
+    rw (parts-refused (start .args .line .now) (named (stage) ∙ end-missing _ _ (start .args .line .now) (after-len .len .given .0 .1 .0) (sym (after-read-tail .read-tail .ensures) ∙ c .before .enum-told4 .given .1))) (c .refused4 .ensures)
 
 -- what is left behind the end: the name is lawful or not
 ended : (c : tie.After-known-told4) → readParts (c .before .before .before .before .before .before .before .before .before .before .before .before .before .before .before .before .before .before .before .before .before .before .before .before .args .line .now) ≡ cond (lawfulName (name (c .before .before .before .before .before) .0)) (some (line (chosenAt (c .before .before .before .before .before .before .before .before .before .before .before .before .before .before .before .before .before .before .before .before .before .before .before .before .args .line .now) (c .before .before .before .before .before .before .before .before .before .before .before .before .before .before .before .before .before .before .before .a .given .0 .0)) (name (c .before .before .before .before .before) .0) (criteriaOf (c .before .criteria .given .0 .0 .bits)))) none
-ended c = named (c .before .before .before .before .before) ∙ end-read _ _ (c .before .before .before .before .before .before .before .before .before .before .before .before .before .before .before .before .before .before .before .before .before .before .before .before .args .line .now) (c .before .before .before .before .before .before .len .given .0 .1 .0) _ (sym (c .before .before .before .read-tail .ensures) ∙ c .before .criteria .given .1)
+ended c =
+    let after-read-tail = c .before .before .before in
+    let stage = after-read-tail .before .before in
+    let after-len = stage .before in
+    let start = after-len .before .before .before .before .before .before .before .before .before .before .before .before .before .before .before .before .before .before in
+    named (stage) ∙ end-read _ _ (start .args .line .now) (after-len .len .given .0 .1 .0) _ (sym (after-read-tail .read-tail .ensures) ∙ c .before .criteria .given .1)
 
 -- the criteria read have no other bit
 whole : (c : tie.After-known-told4) → criteriaNumber (criteriaOf (c .before .criteria .given .0 .0 .bits)) ≡ c .before .criteria .given .0 .0 .bits
@@ -147,17 +187,36 @@ lawful-name-requires : tie.Need-lawful-name-requires
 lawful-name-requires c κs = search needs
 
 lawful : (c : tie.After-lawful-name) → c .lawful-name .result ≡ lawfulName (name (c .before .before .before .before .before .before .before) .0)
-lawful c = c .lawful-name .ensures ∙ ap lawfulName (name-front (c .before .before .before .before .before .before .before .before .before .before .before .before .before .no-name .result) (name (c .before .before .before .before .before .before .before) .0) (c .before .before .before .before .before .before .before .before .before .before .before .before .before .no-name .ensures) (omega (arith, room (c .before .before .before .before .before .before .before), name (c .before .before .before .before .before .before .before) .3)) (c .before .before .before .before .before .before .before .before .len .given .0 .0) (c .before .before .before .before .before .before .before .before .before .before .before .read-name .last .1 .1 .0) (name (c .before .before .before .before .before .before .before) .3) (name (c .before .before .before .before .before .before .before) .5))
+lawful c =
+    let stage = c .before .before .before .before .before .before .before in
+    let after-len = stage .before in
+    let after-read-name = after-len .before .before .before in
+    let after-no-name = after-read-name .before .before in
+    c .lawful-name .ensures ∙ ap lawfulName (name-front (after-no-name .no-name .result) (name (stage) .0) (after-no-name .no-name .ensures) (omega (arith, room (stage), name (stage) .3)) (after-len .len .given .0 .0) (after-read-name .read-name .last .1 .1 .0) (name (stage) .3) (name (stage) .5))
 
 refused-requires-5 : tie.Need-refused-requires-5
 refused-requires-5 c κs = search needs
 
 returns-5 : tie.Need-returns-5
-returns-5 c = rw (parts-refused (c .before .before .before .before .before .before .before .before .before .before .before .before .before .before .before .before .before .before .before .before .before .before .before .before .before .before .before .before .args .line .now) (ended (c .before .before .before .before) ∙ rw (sym (lawful (c .before .before)) ∙ not-true _ (c .before .if1 .taken)))) (c .refused5 .ensures)
+returns-5 c =
+    let stage = c .before .before in
+    let stage-2 = stage .before .before in
+    let start = stage-2 .before .before .before .before .before .before .before .before .before .before .before .before .before .before .before .before .before .before .before .before .before .before .before .before in
+    rw (parts-refused (start .args .line .now) (ended (stage-2) ∙ rw (sym (lawful (stage)) ∙ not-true _ (c .before .if1 .taken)))) (c .refused5 .ensures)
 
 returns-6 : tie.Need-returns-6
 unfolding chosenAt
-returns-6 c = parts-taken (c .before .before .before .before .before .before .before .before .before .before .before .before .before .before .before .before .before .before .before .before .before .before .before .before .before .before .before .args .line .now) (chosenAt (c .before .before .before .before .before .before .before .before .before .before .before .before .before .before .before .before .before .before .before .before .before .before .before .before .before .before .before .args .line .now) (c .before .before .before .before .before .before .before .before .before .before .before .before .before .before .before .before .before .before .before .before .before .before .a .given .0 .0)) (name (c .before .before .before .before .before .before .before .before) .0) (c .before .before .before .before .criteria .given .0 .0) (c .before .before .before .before .before .before .before .before .before .before .before .before .before .before .before .before .before .before .before .before .read-attributes .result .bits) (c .before .before .before .before .before .before .before .before .before .len .given .0 .0) (c .before .before .before .before .before .before .before .before .before .before .before .before .before .before .no-name .result) (c .before .before .before .before .before .before .before .before .before .before .before .before .read-name .last .1 .1 .0) (ended (c .before .before .before) ∙ rw (sym (lawful (c .before)) ∙ not-false _ (c .if1 .left))) (whole (c .before .before .before)) (c .before .before .before .before .before .before .before .before .before .before .before .before .before .before .before .before .before .before .before .before .read-attributes .ensures .chosen) (name (c .before .before .before .before .before .before .before .before) .3) (room (c .before .before .before .before .before .before .before .before)) (c .before .before .before .before .before .before .before .before .before .before .before .before .before .before .no-name .ensures) (name (c .before .before .before .before .before .before .before .before) .5)
+returns-6 c =
+    let stage = c .before .before .before in
+    let after-criteria = stage .before in
+    let stage-2 = after-criteria .before .before .before .before in
+    let after-len = stage-2 .before in
+    let after-read-name = after-len .before .before .before in
+    let after-no-name = after-read-name .before .before in
+    let after-read-attributes = after-no-name .before .before .before .before .before .before in
+    let after-a = after-read-attributes .before .before in
+    let start = after-a .before .before .before .before .before in
+    parts-taken (start .args .line .now) (chosenAt (start .args .line .now) (after-a .a .given .0 .0)) (name (stage-2) .0) (after-criteria .criteria .given .0 .0) (after-read-attributes .read-attributes .result .bits) (after-len .len .given .0 .0) (after-no-name .no-name .result) (after-read-name .read-name .last .1 .1 .0) (ended (stage) ∙ rw (sym (lawful (c .before)) ∙ not-false _ (c .if1 .left))) (whole (stage)) (after-read-attributes .read-attributes .ensures .chosen) (name (stage-2) .3) (room (stage-2)) (after-no-name .no-name .ensures) (name (stage-2) .5)
 
 pub read-parts-spec : {M : Type 1} → statement M
 read-parts-spec =

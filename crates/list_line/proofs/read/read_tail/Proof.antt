@@ -24,7 +24,10 @@ same-bytes-requires-2 c κs = search needs
 
 returns-2 : tie.Need-returns-2
 unfolding text
-returns-2 c = tail-subscribed _ (sym (c .before .before .before .before .same-bytes .ensures) ∙ c .before .before .before .if1 .left) (sym (c .before .same-bytes2 .ensures) ∙ c .if2 .taken)
+returns-2 c =
+    let at-if1 = c .before .before .before in
+    let after-same-bytes = at-if1 .before in
+    tail-subscribed _ (sym (after-same-bytes .same-bytes .ensures) ∙ at-if1 .if1 .left) (sym (c .before .same-bytes2 .ensures) ∙ c .if2 .taken)
 
 slice-aggregate-same-bytes-3 : tie.Need-slice-aggregate-same-bytes-3
 slice-aggregate-same-bytes-3 c = search needs
@@ -34,7 +37,12 @@ same-bytes-requires-3 c κs = search needs
 
 returns-3 : tie.Need-returns-3
 unfolding text
-returns-3 c = tail-special _ (sym (c .before .before .before .before .before .before .before .same-bytes .ensures) ∙ c .before .before .before .before .before .before .if1 .left) (sym (c .before .before .before .before .same-bytes2 .ensures) ∙ c .before .before .before .if2 .left) (sym (c .before .same-bytes3 .ensures) ∙ c .if3 .taken)
+returns-3 c =
+    let at-if2 = c .before .before .before in
+    let after-same-bytes2 = at-if2 .before in
+    let at-if1 = after-same-bytes2 .before .before in
+    let after-same-bytes = at-if1 .before in
+    tail-special _ (sym (after-same-bytes .same-bytes .ensures) ∙ at-if1 .if1 .left) (sym (after-same-bytes2 .same-bytes2 .ensures) ∙ at-if2 .if2 .left) (sym (c .before .same-bytes3 .ensures) ∙ c .if3 .taken)
 
 slice-aggregate-same-bytes-4 : tie.Need-slice-aggregate-same-bytes-4
 slice-aggregate-same-bytes-4 c = search needs
@@ -47,11 +55,26 @@ union-requires c κs = search needs
 
 returns-4 : tie.Need-returns-4
 unfolding text
-returns-4 c = (λ i. ChildInfo (record { bits = c .union .ensures i })) ∙ tail-both _ (sym (c .before .before .before .before .before .before .before .before .before .before .before .same-bytes .ensures) ∙ c .before .before .before .before .before .before .before .before .before .before .if1 .left) (sym (c .before .before .before .before .before .before .before .before .same-bytes2 .ensures) ∙ c .before .before .before .before .before .before .before .if2 .left) (sym (c .before .before .before .before .before .same-bytes3 .ensures) ∙ c .before .before .before .before .if3 .left) (sym (c .before .before .same-bytes4 .ensures) ∙ c .before .if4 .taken)
+returns-4 c =
+    let after-same-bytes4 = c .before .before in
+    let at-if3 = after-same-bytes4 .before .before in
+    let after-same-bytes3 = at-if3 .before in
+    let at-if2 = after-same-bytes3 .before .before in
+    let after-same-bytes2 = at-if2 .before in
+    let at-if1 = after-same-bytes2 .before .before in
+    let after-same-bytes = at-if1 .before in
+    (λ i. ChildInfo (record { bits = c .union .ensures i })) ∙ tail-both _ (sym (after-same-bytes .same-bytes .ensures) ∙ at-if1 .if1 .left) (sym (after-same-bytes2 .same-bytes2 .ensures) ∙ at-if2 .if2 .left) (sym (after-same-bytes3 .same-bytes3 .ensures) ∙ at-if3 .if3 .left) (sym (after-same-bytes4 .same-bytes4 .ensures) ∙ c .before .if4 .taken)
 
 returns-5 : tie.Need-returns-5
 unfolding text
-returns-5 c = tail-other _ (sym (c .before .before .before .before .before .before .before .before .before .before .same-bytes .ensures) ∙ c .before .before .before .before .before .before .before .before .before .if1 .left) (sym (c .before .before .before .before .before .before .before .same-bytes2 .ensures) ∙ c .before .before .before .before .before .before .if2 .left) (sym (c .before .before .before .before .same-bytes3 .ensures) ∙ c .before .before .before .if3 .left) (sym (c .before .same-bytes4 .ensures) ∙ c .if4 .left)
+returns-5 c =
+    let at-if3 = c .before .before .before in
+    let after-same-bytes3 = at-if3 .before in
+    let at-if2 = after-same-bytes3 .before .before in
+    let after-same-bytes2 = at-if2 .before in
+    let at-if1 = after-same-bytes2 .before .before in
+    let after-same-bytes = at-if1 .before in
+    tail-other _ (sym (after-same-bytes .same-bytes .ensures) ∙ at-if1 .if1 .left) (sym (after-same-bytes2 .same-bytes2 .ensures) ∙ at-if2 .if2 .left) (sym (after-same-bytes3 .same-bytes3 .ensures) ∙ at-if3 .if3 .left) (sym (c .before .same-bytes4 .ensures) ∙ c .if4 .left)
 
 pub read-tail-spec : {M : Type 1} → statement M
 read-tail-spec =

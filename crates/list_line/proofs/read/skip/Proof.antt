@@ -11,7 +11,9 @@ sub-if1 : tie.Need-sub-if1
 sub-if1 c = search needs
 
 returns : tie.Need-returns
-returns c = skip-short (c .before .before .before .args .line .now) (c .before .before .before .args .text .now) (c .before .before .before .args .at) (c .if1 .taken)
+returns c =
+    let start = c .before .before .before in
+    skip-short (start .args .line .now) (start .args .text .now) (start .args .at) (c .if1 .taken)
 
 add-e : tie.Need-add-e
 add-e c = search needs
@@ -29,10 +31,14 @@ same-bytes-requires : tie.Need-same-bytes-requires
 same-bytes-requires c κs = search needs
 
 returns-2 : tie.Need-returns-2
-returns-2 c = skip-other _ _ _ (c .before .before .before .if1 .left) (sym (c .before .same-bytes .ensures) ∙ not-true _ (c .if2 .taken))
+returns-2 c =
+    let at-if1 = c .before .before .before in
+    skip-other _ _ _ (at-if1 .if1 .left) (sym (c .before .same-bytes .ensures) ∙ not-true _ (c .if2 .taken))
 
 returns-3 : tie.Need-returns-3
-returns-3 c = (skip-found _ _ _ (c .before .before .before .if1 .left) (sym (c .before .same-bytes .ensures) ∙ not-false _ (c .if2 .left)), omega arith)
+returns-3 c =
+    let at-if1 = c .before .before .before in
+    (skip-found _ _ _ (at-if1 .if1 .left) (sym (c .before .same-bytes .ensures) ∙ not-false _ (c .if2 .left)), omega arith)
 
 pub skip-spec : {M : Type 1} → statement M
 skip-spec =

@@ -11,7 +11,9 @@ use Rattle.list_line.proofs.texts.name_span.Statement.{statement}
 use Rattle.list_line.proofs.texts.name_span.Tie as tie
 
 shared-slice-read-wide : tie.Need-shared-slice-read-wide
-shared-slice-read-wide c = omega (arith, ap length (c .before .before .pre .0), length-places, c .before .before .pre .1)
+shared-slice-read-wide c =
+    let after-pre = c .before .before in
+    omega (arith, ap length (after-pre .pre .0), length-places, after-pre .pre .1)
 
 wide-requires : tie.Need-wide-requires
 wide-requires c κs = search needs
@@ -20,26 +22,41 @@ add-wide : tie.Need-add-wide
 add-wide c = search needs
 
 shared-slice-read-wide-2 : tie.Need-shared-slice-read-wide-2
-shared-slice-read-wide-2 c = omega (arith, ap length (c .before .before .before .before .pre .0), length-places, c .before .before .before .before .pre .1)
+shared-slice-read-wide-2 c =
+    let after-pre = c .before .before .before .before in
+    omega (arith, ap length (after-pre .pre .0), length-places, after-pre .pre .1)
 
 wide-requires-2 : tie.Need-wide-requires-2
 wide-requires-2 c κs = search needs
 
 -- the two places, from the table
 start : (c : tie.After-wide) → c .wide .result ≡ getD namePlaces (c .before .before .before .args .k) 0
-start c = c .wide .ensures ∙ ap (λ (x : List ℕ). getD x (c .before .before .before .args .k) 0) (c .before .before .before .pre .0)
+start c =
+    let start = c .before .before .before in
+    c .wide .ensures ∙ ap (λ (x : List ℕ). getD x (start .args .k) 0) (start .pre .0)
 
 end : (c : tie.After-wide2) → c .wide2 .result ≡ getD namePlaces (c .before .before .before .before .before .args .k + 1) 0
-end c = c .wide2 .ensures ∙ ap (λ (x : List ℕ). getD x (c .before .before .before .before .before .args .k + 1) 0) (c .before .before .before .before .before .pre .0)
+end c =
+    let start = c .before .before .before .before .before in
+    c .wide2 .ensures ∙ ap (λ (x : List ℕ). getD x (start .args .k + 1) 0) (start .pre .0)
 
 add-t11 : tie.Need-add-t11
-add-t11 c = omega (arith, start (c .before .before .before), span-first (c .before .before .before .before .before .before .args .k) (c .before .before .before .before .before .before .pre .1) .order, end (c .before), c .before .wide2 .ok)
+add-t11 c =
+    let stage = c .before .before .before in
+    let start-2 = stage .before .before .before in
+    omega (arith, start (stage), span-first (start-2 .args .k) (start-2 .pre .1) .order, end (c .before), c .before .wide2 .ok)
 
 returns : tie.Need-returns
-returns c = rw (c .if1 .taken, start (c .before .before .before), end (c .before)) (span-first (c .before .before .before .before .before .before .args .k) (c .before .before .before .before .before .before .pre .1))
+returns c =
+    let stage = c .before .before .before in
+    let start-2 = stage .before .before .before in
+    rw (c .if1 .taken, start (stage), end (c .before)) (span-first (start-2 .args .k) (start-2 .pre .1))
 
 returns-2 : tie.Need-returns-2
-returns-2 c = rw (c .if1 .left, start (c .before .before .before), end (c .before)) (span-later (c .before .before .before .before .before .before .args .k) (c .before .before .before .before .before .before .pre .1))
+returns-2 c =
+    let stage = c .before .before .before in
+    let start-2 = stage .before .before .before in
+    rw (c .if1 .left, start (stage), end (c .before)) (span-later (start-2 .args .k) (start-2 .pre .1))
 
 pub name-span-spec : {M : Type 1} → statement M
 name-span-spec =

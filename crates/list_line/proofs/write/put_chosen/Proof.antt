@@ -32,7 +32,9 @@ part-put-all-start : tie.Need-part-put-all-start Inv-loop μ-loop
 part-put-all-start c = c .before .name-span .ensures .order
 
 part-put-all-end : tie.Need-part-put-all-end Inv-loop μ-loop
-part-put-all-end c = omega (arith, c .before .name-span .ensures .inside, ap length (c .before .before .before .before .before .before .before .before .pre .0))
+part-put-all-end c =
+    let after-pre = c .before .before .before .before .before .before .before .before in
+    omega (arith, c .before .name-span .ensures .inside, ap length (after-pre .pre .0))
 
 put-all-requires : tie.Need-put-all-requires Inv-loop μ-loop
 put-all-requires c κs = search needs
@@ -45,12 +47,14 @@ loop-less c = search needs
 
 loop-again : tie.Need-loop-again Inv-loop μ-loop
 loop-again c =
+    let turn = c .before .before in
+    let start = turn .before .before .before .before in
     ⊎-elim
     (λ w.
-    let name = span-text (c .before .before .before .before .before .before .args .names .now) (c .before .before .before .before .before .before .pre .0) (w .1 .ensures) in
-    let put = subst (λ (x : List ℕ). Put (c .before .before .loop .buf) (w .4 .last .0) (c .before .before .loop .to) x (w .4 .result)) name (w .4 .ensures) in
-    rw (w .7, w .8, w .9) (spelled-in (c .before .before .loop .inv) (c .before .loop-test .taken) (w .0 .taken) put))
-    (λ w. rw (w .1, w .2, w .3) (spelled-out (c .before .before .loop .inv) (c .before .loop-test .taken) (w .0 .left)))
+    let name = span-text (start .args .names .now) (start .pre .0) (w .1 .ensures) in
+    let put = subst (λ (x : List ℕ). Put (turn .loop .buf) (w .4 .last .0) (turn .loop .to) x (w .4 .result)) name (w .4 .ensures) in
+    rw (w .7, w .8, w .9) (spelled-in (turn .loop .inv) (c .before .loop-test .taken) (w .0 .taken) put))
+    (λ w. rw (w .1, w .2, w .3) (spelled-out (turn .loop .inv) (c .before .loop-test .taken) (w .0 .left)))
     (c .if1 .came)
 
 same-length : tie.Need-same-length Inv-loop μ-loop

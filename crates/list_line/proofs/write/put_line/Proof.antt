@@ -32,7 +32,13 @@ same-length c = search needs
 
 returns : tie.Need-returns
 unfolding openBytes listLine
-returns c = put-then (c .before .before .before .before .before .before .before .before .before .before .before .before .before .before .before .before .before .before .before .put-all .ensures) (put-then (c .before .before .before .before .before .before .before .before .before .before .before .before .before .before .before .put-attributes .ensures) (put-then (c .before .before .before .before .before .before .before .before .before .before .put-all2 .ensures) (put-then (c .before .before .before .before .before .before .put-quoted .ensures) (c .before .before .put-line-end .ensures))))
+returns c =
+    let after-put-line-end = c .before .before in
+    let after-put-quoted = after-put-line-end .before .before .before .before in
+    let after-put-all2 = after-put-quoted .before .before .before .before in
+    let after-put-attributes = after-put-all2 .before .before .before .before .before in
+    let after-put-all = after-put-attributes .before .before .before .before in
+    put-then (after-put-all .put-all .ensures) (put-then (after-put-attributes .put-attributes .ensures) (put-then (after-put-all2 .put-all2 .ensures) (put-then (after-put-quoted .put-quoted .ensures) (after-put-line-end .put-line-end .ensures))))
 
 pub put-line-spec : {M : Type 1} → statement M
 put-line-spec =

@@ -26,7 +26,14 @@ same-length c = search needs
 
 returns : tie.Need-returns
 unfolding openBytes openLines isNone
-returns c = rw (criteria-tests (c .before .before .before .before .before .before .before .before .before .before .args .criteria .bits) true true (sym (c .before .before .before .before .before .before .before .before .has .ensures) ∙ c .before .before .before .before .before .before .if1 .taken) (sym (c .before .before .before .before .before .before .before .has2 .ensures) ∙ c .before .before .before .before .before .if2 .taken)) (c .before .before .put-all .ensures)
+returns c =
+    let after-put-all = c .before .before in
+    let at-if2 = after-put-all .before .before .before in
+    let at-if1 = at-if2 .before in
+    let after-has2 = at-if1 .before in
+    let after-has = after-has2 .before in
+    let start = after-has .before .before in
+    rw (criteria-tests (start .args .criteria .bits) true true (sym (after-has .has .ensures) ∙ at-if1 .if1 .taken) (sym (after-has2 .has2 .ensures) ∙ at-if2 .if2 .taken)) (after-put-all .put-all .ensures)
 
 slice-aggregate-put-all-2 : tie.Need-slice-aggregate-put-all-2
 slice-aggregate-put-all-2 c = search needs
@@ -39,7 +46,14 @@ same-length-2 c = search needs
 
 returns-2 : tie.Need-returns-2
 unfolding openBytes openLines isNone
-returns-2 c = rw (criteria-tests (c .before .before .before .before .before .before .before .before .before .before .args .criteria .bits) true false (sym (c .before .before .before .before .before .before .before .before .has .ensures) ∙ c .before .before .before .before .before .before .if1 .taken) (sym (c .before .before .before .before .before .before .before .has2 .ensures) ∙ c .before .before .before .before .before .if2 .left)) (c .before .before .put-all2 .ensures)
+returns-2 c =
+    let after-put-all2 = c .before .before in
+    let at-if2 = after-put-all2 .before .before .before in
+    let at-if1 = at-if2 .before in
+    let after-has2 = at-if1 .before in
+    let after-has = after-has2 .before in
+    let start = after-has .before .before in
+    rw (criteria-tests (start .args .criteria .bits) true false (sym (after-has .has .ensures) ∙ at-if1 .if1 .taken) (sym (after-has2 .has2 .ensures) ∙ at-if2 .if2 .left)) (after-put-all2 .put-all2 .ensures)
 
 slice-aggregate-put-all-3 : tie.Need-slice-aggregate-put-all-3
 slice-aggregate-put-all-3 c = search needs
@@ -52,7 +66,14 @@ same-length-3 c = search needs
 
 returns-3 : tie.Need-returns-3
 unfolding openBytes openLines isNone
-returns-3 c = rw (criteria-tests (c .before .before .before .before .before .before .before .before .before .before .args .criteria .bits) false true (sym (c .before .before .before .before .before .before .before .before .has .ensures) ∙ c .before .before .before .before .before .before .if1 .left) (sym (c .before .before .before .before .before .before .before .has2 .ensures) ∙ c .before .before .before .before .before .if3 .taken)) (c .before .before .put-all3 .ensures)
+returns-3 c =
+    let after-put-all3 = c .before .before in
+    let at-if3 = after-put-all3 .before .before .before in
+    let at-if1 = at-if3 .before in
+    let after-has2 = at-if1 .before in
+    let after-has = after-has2 .before in
+    let start = after-has .before .before in
+    rw (criteria-tests (start .args .criteria .bits) false true (sym (after-has .has .ensures) ∙ at-if1 .if1 .left) (sym (after-has2 .has2 .ensures) ∙ at-if3 .if3 .taken)) (after-put-all3 .put-all3 .ensures)
 
 slice-aggregate-put-all-4 : tie.Need-slice-aggregate-put-all-4
 slice-aggregate-put-all-4 c = search needs
@@ -65,7 +86,14 @@ same-length-4 c = search needs
 
 returns-4 : tie.Need-returns-4
 unfolding openBytes openLines isNone
-returns-4 c = rw (criteria-tests (c .before .before .before .before .before .before .before .before .before .before .args .criteria .bits) false false (sym (c .before .before .before .before .before .before .before .before .has .ensures) ∙ c .before .before .before .before .before .before .if1 .left) (sym (c .before .before .before .before .before .before .before .has2 .ensures) ∙ c .before .before .before .before .before .if3 .left)) (c .before .before .put-all4 .ensures)
+returns-4 c =
+    let after-put-all4 = c .before .before in
+    let at-if3 = after-put-all4 .before .before .before in
+    let at-if1 = at-if3 .before in
+    let after-has2 = at-if1 .before in
+    let after-has = after-has2 .before in
+    let start = after-has .before .before in
+    rw (criteria-tests (start .args .criteria .bits) false false (sym (after-has .has .ensures) ∙ at-if1 .if1 .left) (sym (after-has2 .has2 .ensures) ∙ at-if3 .if3 .left)) (after-put-all4 .put-all4 .ensures)
 
 pub put-line-end-spec : {M : Type 1} → statement M
 put-line-end-spec =

@@ -20,7 +20,10 @@ same-length c = search needs
 
 returns : tie.Need-returns
 unfolding openBytes openLines
-returns c = put-then (c .before .before .before .before .before .before .before .put-all .ensures) (c .before .before .put-all2 .ensures)
+returns c =
+    let after-put-all2 = c .before .before in
+    let after-put-all = after-put-all2 .before .before .before .before .before in
+    put-then (after-put-all .put-all .ensures) (after-put-all2 .put-all2 .ensures)
 
 pub put-ok-line-spec : {M : Type 1} → statement M
 put-ok-line-spec =

@@ -23,18 +23,21 @@ same-length c = search needs
 
 returns-2 : tie.Need-returns-2
 returns-2 c =
-    let named = c .before .before .before .before in
+    let after-write-named = c .before .before in
+    let stage = after-write-named .before .before in
+    let named = stage in
     let checked = named .before .before in
     rw
     (line-named _ _ _ (sym (checked .before .lawful .ensures) ∙ not-false _ (checked .if1 .left)) (sym (named .before .lawful-name .ensures) ∙ named .if2 .taken))
-    (c .before .before .write-named .ensures)
+    (after-write-named .write-named .ensures)
 
 root-parts-requires : tie.Need-root-parts-requires
 root-parts-requires c κs = search needs
 
 returns-3 : tie.Need-returns-3
 returns-3 c =
-    let named = c .before .before in
+    let stage = c .before .before in
+    let named = stage in
     let checked = named .before .before in
     rw
     (line-other _ _ _
@@ -51,7 +54,9 @@ same-length-2 c = search needs
 
 returns-4 : tie.Need-returns-4
 returns-4 c =
-    let root = c .before .before .before .before in
+    let after-write-root = c .before .before in
+    let stage = after-write-root .before .before in
+    let root = stage in
     let named = root .before .before in
     let checked = named .before .before in
     rw
@@ -59,7 +64,7 @@ returns-4 c =
     (sym (checked .before .lawful .ensures) ∙ not-false _ (checked .if1 .left))
     (sym (named .before .lawful-name .ensures) ∙ named .if2 .left)
     (sym (root .before .root-parts .ensures) ∙ not-false _ (root .if3 .left)))
-    (c .before .before .write-root .ensures)
+    (after-write-root .write-root .ensures)
 
 pub write-line-spec : {M : Type 1} → statement M
 write-line-spec =

@@ -12,7 +12,10 @@ put-line-requires : tie.Need-put-line-requires
 put-line-requires c κs = search needs
 
 returns : tie.Need-returns
-returns c = let p = c .before .before .put-line .ensures in written-short (c .before .before .before .before .before .before .args .buf .now) _ (omega (arith, p .place))
+returns c =
+    let after-put-line = c .before .before in
+    let start = after-put-line .before .before .before .before in
+    let p = after-put-line .put-line .ensures in written-short (start .args .buf .now) _ (omega (arith, p .place))
 
 put-line-requires-2 : tie.Need-put-line-requires-2
 put-line-requires-2 c κs = search needs
@@ -21,7 +24,10 @@ same-length : tie.Need-same-length
 same-length c = search needs
 
 returns-2 : tie.Need-returns-2
-returns-2 c = let p = c .before .before .before .before .before .before .put-line .ensures in written-fits _ _ (c .before .before .put-line2 .ensures) (omega (arith, p .place))
+returns-2 c =
+    let after-put-line2 = c .before .before in
+    let after-put-line = after-put-line2 .before .before .before .before in
+    let p = after-put-line .put-line .ensures in written-fits _ _ (after-put-line2 .put-line2 .ensures) (omega (arith, p .place))
 
 pub write-named-spec : {M : Type 1} → statement M
 write-named-spec =

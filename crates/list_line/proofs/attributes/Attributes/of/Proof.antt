@@ -26,7 +26,9 @@ sub-k c = search needs
 
 -- src/attributes.rt:38:20
 mul-bits : tie.Need-mul-bits Inv-loop μ-loop
-mul-bits c = omega (arith, setOf-room (c .before .before .args .t1) (c .before .loop .k) (c .before .loop .inv .0) (c .loop-test .taken))
+mul-bits c =
+    let start = c .before .before in
+    omega (arith, setOf-room (start .args .t1) (c .before .loop .k) (c .before .loop .inv .0) (c .loop-test .taken))
 
 -- src/attributes.rt:39:16
 array-read-if1 : tie.Need-array-read-if1 Inv-loop μ-loop
@@ -34,7 +36,10 @@ array-read-if1 c = search needs
 
 -- src/attributes.rt:40:17
 add-bits : tie.Need-add-bits Inv-loop μ-loop
-add-bits c = omega (arith, setOf-room (c .before .before .before .args .t1) (c .before .before .loop .k) (c .before .before .loop .inv .0) (c .before .loop-test .taken))
+add-bits c =
+    let turn = c .before .before in
+    let start = turn .before in
+    omega (arith, setOf-room (start .args .t1) (turn .loop .k) (turn .loop .inv .0) (c .before .loop-test .taken))
 
 -- src/attributes.rt:36:9
 loop-less : tie.Need-loop-less Inv-loop μ-loop
@@ -43,9 +48,11 @@ loop-less c = search needs
 -- src/attributes.rt:36:9
 loop-again : tie.Need-loop-again Inv-loop μ-loop
 loop-again c =
-    let k = c .before .before .loop .k in
+    let turn = c .before .before in
+    let start = turn .before in
+    let k = turn .loop .k in
     let w : k - 1 + 1 ≡ k = omega arith in
-    (c .before .before .loop .inv .0, omega arith, omega (arith, setOf-here (c .before .before .before .args .t1) (k - 1) (omega arith) (c .if1 .taken), ap (λ (n : ℕ). setOf (drop n (c .before .before .before .args .t1))) w))
+    (turn .loop .inv .0, omega arith, omega (arith, setOf-here (start .args .t1) (k - 1) (omega arith) (c .if1 .taken), ap (λ (n : ℕ). setOf (drop n (start .args .t1))) w))
 
 -- src/attributes.rt:36:9
 loop-less-2 : tie.Need-loop-less-2 Inv-loop μ-loop
@@ -54,13 +61,17 @@ loop-less-2 c = search needs
 -- src/attributes.rt:36:9
 loop-again-2 : tie.Need-loop-again-2 Inv-loop μ-loop
 loop-again-2 c =
-    let k = c .before .before .loop .k in
+    let turn = c .before .before in
+    let start = turn .before in
+    let k = turn .loop .k in
     let w : k - 1 + 1 ≡ k = omega arith in
-    (c .before .before .loop .inv .0, omega arith, omega (arith, setOf-not-here (c .before .before .before .args .t1) (k - 1) (omega arith) (c .if1 .left), ap (λ (n : ℕ). setOf (drop n (c .before .before .before .args .t1))) w))
+    (turn .loop .inv .0, omega arith, omega (arith, setOf-not-here (start .args .t1) (k - 1) (omega arith) (c .if1 .left), ap (λ (n : ℕ). setOf (drop n (start .args .t1))) w))
 
 -- src/attributes.rt:31:5
 returns : tie.Need-returns Inv-loop μ-loop
-returns c = let w : c .before .loop .k ≡ 0 = omega arith in c .before .loop .inv .2 ∙ ap (λ (n : ℕ). setOf (drop n (c .before .before .args .t1))) w
+returns c =
+    let start = c .before .before in
+    let w : c .before .loop .k ≡ 0 = omega arith in c .before .loop .inv .2 ∙ ap (λ (n : ℕ). setOf (drop n (start .args .t1))) w
 
 pub of-spec : {M : Type 1} → statement M
 of-spec =

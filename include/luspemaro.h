@@ -10,7 +10,7 @@
  * An entry keeps no pointer and no memory between two calls, allocates nothing and makes no system call; so calls may run in several
  * threads at a time where none writes what another is lent.
  *
- * Document 01 is the rules' paper, and its numbers of refusal are those below. Numbers are in decimal, bytes in hexadecimal.
+ * Document 01 is the paper of the rules.
  */
 #ifndef LUSPEMARO_H
 #define LUSPEMARO_H
@@ -35,8 +35,8 @@ extern "C" {
 #define LUSPEMARO_FLAG_EXISTS 0x0001
 #define LUSPEMARO_FLAG_SUBSCRIBED 0x0002
 #define LUSPEMARO_FLAG_REMOTE 0x0004
-#define LUSPEMARO_FLAG_NOSELECT 0x0008
-#define LUSPEMARO_FLAG_NOINFERIORS 0x0010
+#define LUSPEMARO_FLAG_NO_SELECT 0x0008
+#define LUSPEMARO_FLAG_NO_INFERIORS 0x0010
 #define LUSPEMARO_FLAG_MARKED 0x0020
 #define LUSPEMARO_FLAG_UNMARKED 0x0040
 #define LUSPEMARO_FLAG_ALL 0x0100
@@ -77,10 +77,10 @@ extern "C" {
 #define LUSPEMARO_ATTRIBUTE_MARKED 0x0001
 #define LUSPEMARO_ATTRIBUTE_UNMARKED 0x0002
 #define LUSPEMARO_ATTRIBUTE_NOSELECT 0x0004
-#define LUSPEMARO_ATTRIBUTE_NOINFERIORS 0x0008
+#define LUSPEMARO_ATTRIBUTE_NO_INFERIORS 0x0008
 #define LUSPEMARO_ATTRIBUTE_REMOTE 0x0010
 #define LUSPEMARO_ATTRIBUTE_SUBSCRIBED 0x0020
-#define LUSPEMARO_ATTRIBUTE_NONEXISTENT 0x0040
+#define LUSPEMARO_ATTRIBUTE_NON_EXISTENT 0x0040
 #define LUSPEMARO_ATTRIBUTE_ALL 0x0080
 #define LUSPEMARO_ATTRIBUTE_ARCHIVE 0x0100
 #define LUSPEMARO_ATTRIBUTE_DRAFTS 0x0200
@@ -88,8 +88,8 @@ extern "C" {
 #define LUSPEMARO_ATTRIBUTE_JUNK 0x0800
 #define LUSPEMARO_ATTRIBUTE_SENT 0x1000
 #define LUSPEMARO_ATTRIBUTE_TRASH 0x2000
-#define LUSPEMARO_ATTRIBUTE_HASCHILDREN 0x4000
-#define LUSPEMARO_ATTRIBUTE_HASNOCHILDREN 0x8000
+#define LUSPEMARO_ATTRIBUTE_HAS_CHILDREN 0x4000
+#define LUSPEMARO_ATTRIBUTE_HAS_NO_CHILDREN 0x8000
 
 #define LUSPEMARO_CRITERIA_NONE 0x00 /* a line without CHILDINFO */
 #define LUSPEMARO_CRITERIA_SUBSCRIBED 0x01
@@ -102,22 +102,23 @@ extern "C" {
 #define LUSPEMARO_OPTION_SPECIAL_USE 0x02        /* only those with a special use */
 #define LUSPEMARO_OPTION_WITHOUT_SUBSCRIBED 0x04 /* those that are not subscribed too */
 
-/* ---- Numbers of refusal. The first cause in the order of each entry is told. */
+/* ---- Document 01's numbers of refusal. Of several causes the first in the entry's order is told. */
 
-#define LUSPEMARO_DONE 0            /* no refusal */
-#define LUSPEMARO_BAD_TABLE 1       /* the table does not pass */
-#define LUSPEMARO_BAD_NAMESPACES 2  /* the namespace list does not pass */
-#define LUSPEMARO_BAD_LINE_SHAPE 3  /* the line is too long, has no CR LF at its end, another byte than it may, or a literal cut short */
-#define LUSPEMARO_OFF_GRAMMAR 4     /* the tag, or the rest after a known word, is off the grammar */
-#define LUSPEMARO_UNKNOWN_WORD 5    /* the word is neither LIST nor NAMESPACE */
-#define LUSPEMARO_UNKNOWN_OPTION 6  /* an unknown option, one with a value, or an option byte that is not lawful */
-#define LUSPEMARO_LONE_RECURSIVE 7  /* RECURSIVEMATCH with neither SUBSCRIBED nor SPECIAL-USE */
-#define LUSPEMARO_TOO_MUCH_ASKED 8  /* over 8 patterns, or a canonical pattern of over 255 bytes */
-#define LUSPEMARO_ANSWER_TOO_LONG 9 /* the answer, or the line, is longer than its buffer */
-#define LUSPEMARO_NO_ROOM_FOUND 10  /* a find does not fit */
-#define LUSPEMARO_NO_ROOM_PENDING 11 /* a pending name does not fit */
-#define LUSPEMARO_BAD_LIST_LINE 12  /* not a LIST line, or not the parts of one */
-#define LUSPEMARO_BAD_FRAME 13      /* of the program of frames alone: no entry gives it */
+#define LUSPEMARO_DONE 0 /* no refusal */
+
+#define LUSPEMARO_REFUSAL_TABLE 1                /* the mailbox table does not pass */
+#define LUSPEMARO_REFUSAL_NAMESPACES 2           /* the namespace list does not pass */
+#define LUSPEMARO_REFUSAL_LINE_SHAPE 3           /* too long, no CR LF at its end, a byte that no line has, a literal cut short or too long */
+#define LUSPEMARO_REFUSAL_GRAMMAR 4              /* the tag, or the rest after a known word, is off the grammar */
+#define LUSPEMARO_REFUSAL_WORD 5                 /* the word is neither LIST nor NAMESPACE */
+#define LUSPEMARO_REFUSAL_OPTION 6               /* an unknown option, one with a value, or an unlawful option byte */
+#define LUSPEMARO_REFUSAL_RECURSIVEMATCH_ALONE 7 /* RECURSIVEMATCH with neither SUBSCRIBED nor SPECIAL-USE beside it */
+#define LUSPEMARO_REFUSAL_PATTERNS 8             /* over 8 patterns, or a canonical pattern of over 255 bytes */
+#define LUSPEMARO_REFUSAL_SHORT_BUFFER 9         /* the answer, or the line, is longer than its buffer */
+#define LUSPEMARO_REFUSAL_FOUND_FULL 10          /* a find does not fit */
+#define LUSPEMARO_REFUSAL_PENDING_FULL 11        /* a pending name does not fit */
+#define LUSPEMARO_REFUSAL_NOT_SUCH_LINE 12       /* not a LIST line, or not the parts of one */
+#define LUSPEMARO_REFUSAL_BAD_FRAME 13           /* the program of frames alone: no entry gives it */
 
 /* ---- Rooms: lengths of lent memory with which 9, 10 and 11 are never given, whatever the table and the command. Less suffices for a
  * table of t bytes: an answer to a line of n bytes has at most 59 t + n + 1,666 bytes; scratch needs at most 42 t + 11, found t and
@@ -155,9 +156,9 @@ struct luspemaro_outcome {
     size_t count;
 };
 
-/* A LIST line in its parts. number: LUSPEMARO_DONE or LUSPEMARO_BAD_LIST_LINE. criteria: what CHILDINFO names. The name is the first
- * length bytes of name, and the bytes after it are zero. The root line has attribute NOSELECT and an empty name. A refusal has no
- * attributes, no criteria and an empty name. */
+/* A LIST line in its parts. number: LUSPEMARO_DONE or LUSPEMARO_REFUSAL_NOT_SUCH_LINE. criteria: what CHILDINFO names. The name is the
+ * first length bytes of name, and the bytes after it are zero. The root line has attribute NOSELECT and an empty name. A refusal has
+ * no attributes, no criteria and an empty name. */
 struct luspemaro_line {
     uint8_t number;
     uint8_t criteria;
@@ -182,8 +183,8 @@ struct luspemaro_feeder {
 #define LUSPEMARO_EVENT_QUIET 0     /* nothing yet */
 #define LUSPEMARO_EVENT_COMMAND 1   /* a whole command: the first length bytes of the lent memory */
 #define LUSPEMARO_EVENT_GO_ON 2     /* the continuation line is due */
-#define LUSPEMARO_EVENT_REFUSED 3   /* number is LUSPEMARO_BAD_LINE_SHAPE: a literal of over 1,024 bytes, a byte 00, a command of over 2,048 */
-#define LUSPEMARO_EVENT_TOO_SMALL 4 /* the lent memory has under 2,048 bytes, or the state's size is over 2,048: nothing is done */
+#define LUSPEMARO_EVENT_REFUSED 3   /* with LINE_SHAPE: a literal of over 1,024 bytes, a byte 00, or a command of over 2,048 bytes */
+#define LUSPEMARO_EVENT_TOO_SMALL 4 /* the lent memory has under 2,048 bytes, or the state's size is over 2,048: nothing is taken */
 
 /* What comes of a chunk. number is 0 but with REFUSED, length is 0 but with COMMAND. used: bytes of the chunk that were taken. state:
  * for the next call. */

@@ -1,7 +1,7 @@
 /* Tests of luspemaro_answer. */
 #include "check.h"
 
-static const struct rows no_rows = {0, {0}};
+#include <stdio.h>
 
 static struct luspemaro_outcome answer_text(const struct rows *rows, const char *line, size_t room)
 {
@@ -49,12 +49,44 @@ static void expert_sheet(void)
     EXPECT(answers(table_e(), "a LIST () \"\" \"\"\r\n", "a OK done\r\n"));
 }
 
+/* Each flag shows its attribute. */
+static void each_flag(void)
+{
+    static const struct {
+        unsigned flag;
+        const char *attribute;
+    } flags[] = {
+        {LUSPEMARO_FLAG_EXISTS, ""},
+        {LUSPEMARO_FLAG_SUBSCRIBED, "\\Subscribed"},
+        {LUSPEMARO_FLAG_REMOTE, "\\Remote"},
+        {LUSPEMARO_FLAG_NO_SELECT, "\\Noselect"},
+        {LUSPEMARO_FLAG_NO_INFERIORS, "\\NoInferiors"},
+        {LUSPEMARO_FLAG_MARKED, "\\Marked"},
+        {LUSPEMARO_FLAG_UNMARKED, "\\Unmarked"},
+        {LUSPEMARO_FLAG_ALL, "\\All"},
+        {LUSPEMARO_FLAG_ARCHIVE, "\\Archive"},
+        {LUSPEMARO_FLAG_DRAFTS, "\\Drafts"},
+        {LUSPEMARO_FLAG_FLAGGED, "\\Flagged"},
+        {LUSPEMARO_FLAG_JUNK, "\\Junk"},
+        {LUSPEMARO_FLAG_SENT, "\\Sent"},
+        {LUSPEMARO_FLAG_TRASH, "\\Trash"},
+    };
+    static struct rows rows;
+    for (size_t i = 0; i < sizeof flags / sizeof flags[0]; i++) {
+        char answer[100];
+        snprintf(answer, sizeof answer, "* LIST (%s) \"/\" \"x\"\r\na OK done\r\n", flags[i].attribute);
+        rows.length = 0;
+        add_row(&rows, LUSPEMARO_FLAG_EXISTS | flags[i].flag, "x");
+        EXPECT(answers(&rows, "a LIST (REMOTE) \"\" x RETURN (SUBSCRIBED SPECIAL-USE)\r\n", answer));
+    }
+}
+
 static void other_answers(void)
 {
-    EXPECT(answers(&no_rows, "a LIST \"\" *\r\n", "a OK done\r\n"));
-    EXPECT(answers(&no_rows, "a NAMESPACE\r\n", "* NAMESPACE NIL NIL NIL\r\na OK done\r\n"));
+    EXPECT(answers(&NO_ROWS, "a LIST \"\" *\r\n", "a OK done\r\n"));
+    EXPECT(answers(&NO_ROWS, "a NAMESPACE\r\n", "* NAMESPACE NIL NIL NIL\r\na OK done\r\n"));
     lend_bytes(NAMESPACES, "\0\0/\0\4#mh/\\\2\1\"\0", 14);
-    EXPECT(answers(&no_rows, "a NAMESPACE\r\n",
+    EXPECT(answers(&NO_ROWS, "a NAMESPACE\r\n",
                    "* NAMESPACE ((\"\" \"/\")(\"#mh/\" \"\\\\\")) NIL ((\"\\\"\" NIL))\r\na OK done\r\n"));
     EXPECT(answers(table_e(), "a LIST {0}\r\n {3}\r\nMoo\r\n", "* LIST () \"/\" \"Moo\"\r\na OK done\r\n"));
 }
@@ -62,16 +94,16 @@ static void other_answers(void)
 static void bad_table(void)
 {
     static const struct rows half = {2, {0, 1}};
-    EXPECT(refuses_text(&half, "a LIST \"\" *\r\n", LUSPEMARO_BAD_TABLE));
+    EXPECT(refuses_text(&half, "a LIST \"\" *\r\n", LUSPEMARO_REFUSAL_TABLE));
     lend_bytes(NAMESPACES, "\3\0/", 3);
-    EXPECT(refuses_text(&half, "", LUSPEMARO_BAD_TABLE));
+    EXPECT(refuses_text(&half, "", LUSPEMARO_REFUSAL_TABLE));
 }
 
 static void bad_namespaces(void)
 {
     lend_bytes(NAMESPACES, "\3\0/", 3);
-    EXPECT(refuses_text(table_e(), "a LIST \"\" *\r\n", LUSPEMARO_BAD_NAMESPACES));
-    EXPECT(refuses_text(table_e(), "", LUSPEMARO_BAD_NAMESPACES));
+    EXPECT(refuses_text(table_e(), "a LIST \"\" *\r\n", LUSPEMARO_REFUSAL_NAMESPACES));
+    EXPECT(refuses_text(table_e(), "", LUSPEMARO_REFUSAL_NAMESPACES));
 }
 
 /* The refusals of a line, 3 to 8, each before those after it. */
@@ -106,10 +138,10 @@ static void bad_lines(void)
     };
     for (size_t i = 0; i < sizeof lines / sizeof lines[0]; i++)
         EXPECT(refuses_text(table_e(), lines[i].line, lines[i].number));
-    EXPECT(refuses(table_e(), "a LIST \"\" \0\r\n", 13, LUSPEMARO_BAD_LINE_SHAPE));
+    EXPECT(refuses(table_e(), "a LIST \"\" \0\r\n", 13, LUSPEMARO_REFUSAL_LINE_SHAPE));
 }
 
-/* `a LIST "" ` and a pattern of so many "a", or 'a LIST ' with a tag that makes a line of so many bytes. */
+/* A line with a pattern of so many bytes; a line of so many bytes, most of them its tag. The line's length. */
 static size_t long_pattern(char *line, size_t length)
 {
     memcpy(line, "a LIST \"\" ", 10);
@@ -120,21 +152,22 @@ static size_t long_pattern(char *line, size_t length)
 
 static size_t long_tag(char *line, size_t length)
 {
-    memset(line, 'a', length - 10);
-    memcpy(line + length - 10, " LIST \"\" x\r\n", 12);
-    return length + 2;
+    memset(line, 'a', length - 12);
+    memcpy(line + length - 12, " LIST \"\" x\r\n", 12);
+    return length;
 }
 
 static void limits_of_a_line(void)
 {
     static char line[LUSPEMARO_MAX_COMMAND + 100];
     size_t length = long_pattern(line, LUSPEMARO_MAX_CANONICAL);
-    EXPECT(answer_to(&no_rows, line, length, 100).number == LUSPEMARO_DONE);
+    EXPECT(answer_to(&NO_ROWS, line, length, 100).number == LUSPEMARO_DONE);
     length = long_pattern(line, LUSPEMARO_MAX_CANONICAL + 1);
-    EXPECT(refuses(&no_rows, line, length, LUSPEMARO_TOO_MUCH_ASKED));
-    length = long_tag(line, LUSPEMARO_MAX_COMMAND - 2);
-    EXPECT(length == LUSPEMARO_MAX_COMMAND && answer_to(&no_rows, line, length, 2046).number == LUSPEMARO_DONE);
-    EXPECT(refuses(&no_rows, line, long_tag(line, LUSPEMARO_MAX_COMMAND - 1), LUSPEMARO_BAD_LINE_SHAPE));
+    EXPECT(refuses(&NO_ROWS, line, length, LUSPEMARO_REFUSAL_PATTERNS));
+    length = long_tag(line, LUSPEMARO_MAX_COMMAND);
+    EXPECT(answer_to(&NO_ROWS, line, length, LUSPEMARO_MAX_COMMAND).number == LUSPEMARO_DONE);
+    length = long_tag(line, LUSPEMARO_MAX_COMMAND + 1);
+    EXPECT(refuses(&NO_ROWS, line, length, LUSPEMARO_REFUSAL_LINE_SHAPE));
 }
 
 /* 9 with every buffer that is shorter than the answer, and no byte changes; a buffer of the answer's length holds it. */
@@ -147,7 +180,7 @@ static void short_buffers(void)
         memcpy(whole, lent(OUT), length);
         EXPECT(length > 0);
         for (size_t room = 0; room < length; room++) {
-            EXPECT(is_refusal(answer_text(table_e(), lines[i], room), LUSPEMARO_ANSWER_TOO_LONG));
+            EXPECT(is_refusal(answer_text(table_e(), lines[i], room), LUSPEMARO_REFUSAL_SHORT_BUFFER));
             EXPECT(untouched(OUT));
         }
         EXPECT(answer_text(table_e(), lines[i], length).length == length);
@@ -159,7 +192,7 @@ static void short_buffers(void)
 static void nothing_lent(void)
 {
     uint8_t nothing = FILLER;
-    EXPECT(is_refusal(luspemaro_answer(&nothing, 0, &nothing, 0, &nothing, 0, &nothing, 0), LUSPEMARO_BAD_LINE_SHAPE));
+    EXPECT(is_refusal(luspemaro_answer(&nothing, 0, &nothing, 0, &nothing, 0, &nothing, 0), LUSPEMARO_REFUSAL_LINE_SHAPE));
     EXPECT(nothing == FILLER);
 }
 
@@ -176,11 +209,12 @@ static void room_of_an_answer(void)
     struct luspemaro_outcome r = answer_to(table, line, sizeof line, LUSPEMARO_ROOM_ANSWER);
     EXPECT(r.number == LUSPEMARO_DONE);
     EXPECT(LUSPEMARO_ROOM_ANSWER / 5 * 4 < r.length && r.length <= 59 * table->length + sizeof line + 1666);
-    EXPECT(is_refusal(answer_to(table, line, sizeof line, r.length - 1), LUSPEMARO_ANSWER_TOO_LONG));
+    EXPECT(is_refusal(answer_to(table, line, sizeof line, r.length - 1), LUSPEMARO_REFUSAL_SHORT_BUFFER));
 }
 
 const struct test answer_tests[] = {
     {"answer: the expert's sheet", expert_sheet},
+    {"answer: each flag", each_flag},
     {"answer: namespaces, literals, an empty table", other_answers},
     {"answer: 1", bad_table},
     {"answer: 2", bad_namespaces},

@@ -89,6 +89,8 @@ bool untouched(enum area area)
 
 /* ---- tables */
 
+const struct rows NO_ROWS = {0, {0}};
+
 void add_row_of(struct rows *rows, unsigned flags, const uint8_t *name, size_t length)
 {
     uint8_t *row = rows->bytes + rows->length;

@@ -44,6 +44,8 @@ struct rows {
 void add_row_of(struct rows *rows, unsigned flags, const uint8_t *name, size_t length);
 void add_row(struct rows *rows, unsigned flags, const char *name);
 
+extern const struct rows NO_ROWS;
+
 /* Document 01's table E: Foo-x, Foo/Bar, Foo/Baz, INBOX, Moo. */
 const struct rows *table_e(void);
 

@@ -212,13 +212,13 @@ static void patterns(void)
         const char *pattern, *name;
         bool match;
     } cases[] = {
-        {"", "", true},          {"", "a", false},           {"*", "", true},
-        {"%", "", true},         {"a", "", false},           {"*", "a/b/c", true},
-        {"%", "a/b", false},     {"%/%", "a/b", true},       {"%/%", "a/b/c", false},
-        {"a*c", "a/b/c", true},  {"a%c", "abbc", true},      {"a%c", "a/c", false},
-        {"*%", "a/b", true},     {"%*%", "a/b", true},       {"Foo", "foo", false},
-        {"inbox", "INBOX", true},{"i%", "INBOX", true},      {"inbox/%", "INBOX/x", false},
-        {"in%x", "INBOX", true}, {"INBOX", "inbox", false},  {"a?", "ab", false},
+        {"", "", true},           {"", "a", false},         {"*", "", true},
+        {"%", "", true},          {"a", "", false},         {"*", "a/b/c", true},
+        {"%", "a/b", false},      {"%/%", "a/b", true},     {"%/%", "a/b/c", false},
+        {"a*c", "a/b/c", true},   {"a%c", "abbc", true},    {"a%c", "a/c", false},
+        {"*%", "a/b", true},      {"%*%", "a/b", true},     {"Foo", "foo", false},
+        {"inbox", "INBOX", true}, {"i%", "INBOX", true},    {"inbox/%", "INBOX/x", false},
+        {"in%x", "INBOX", true},  {"INBOX", "inbox", false}, {"a?", "ab", false},
     };
     for (size_t i = 0; i < sizeof cases / sizeof cases[0]; i++)
         EXPECT(match(cases[i].pattern, strlen(cases[i].pattern), cases[i].name, strlen(cases[i].name)) == cases[i].match);

@@ -21,7 +21,7 @@ static bool has_parts(struct luspemaro_line line, unsigned attributes, const cha
 
 static bool is_bad(struct luspemaro_line line)
 {
-    return line.number == LUSPEMARO_BAD_LIST_LINE && line.attributes == 0 && line.criteria == 0 && line.length == 0
+    return line.number == LUSPEMARO_REFUSAL_NOT_SUCH_LINE && line.attributes == 0 && line.criteria == 0 && line.length == 0
            && all_are(line.name, sizeof line.name, 0);
 }
 
@@ -39,7 +39,7 @@ static void texts(void)
 {
     EXPECT(is_written(0, "Moo", 0, "* LIST () \"/\" \"Moo\"\r\n"));
     EXPECT(is_written(LUSPEMARO_ATTRIBUTE_NOSELECT, "", 0, "* LIST (\\Noselect) \"/\" \"\"\r\n"));
-    EXPECT(is_written(LUSPEMARO_ATTRIBUTE_NONEXISTENT, "Foo", LUSPEMARO_CRITERIA_SUBSCRIBED,
+    EXPECT(is_written(LUSPEMARO_ATTRIBUTE_NON_EXISTENT, "Foo", LUSPEMARO_CRITERIA_SUBSCRIBED,
                       "* LIST (\\NonExistent) \"/\" \"Foo\" (\"CHILDINFO\" (\"SUBSCRIBED\"))\r\n"));
     EXPECT(is_written(0, "a\"b\\c", LUSPEMARO_CRITERIA_SPECIAL_USE,
                       "* LIST () \"/\" \"a\\\"b\\\\c\" (\"CHILDINFO\" (\"SPECIAL-USE\"))\r\n"));
@@ -59,10 +59,10 @@ static void each_attribute(void)
         {LUSPEMARO_ATTRIBUTE_MARKED, "* LIST (\\Marked) \"/\" \"a\"\r\n"},
         {LUSPEMARO_ATTRIBUTE_UNMARKED, "* LIST (\\Unmarked) \"/\" \"a\"\r\n"},
         {LUSPEMARO_ATTRIBUTE_NOSELECT, "* LIST (\\Noselect) \"/\" \"a\"\r\n"},
-        {LUSPEMARO_ATTRIBUTE_NOINFERIORS, "* LIST (\\NoInferiors) \"/\" \"a\"\r\n"},
+        {LUSPEMARO_ATTRIBUTE_NO_INFERIORS, "* LIST (\\NoInferiors) \"/\" \"a\"\r\n"},
         {LUSPEMARO_ATTRIBUTE_REMOTE, "* LIST (\\Remote) \"/\" \"a\"\r\n"},
         {LUSPEMARO_ATTRIBUTE_SUBSCRIBED, "* LIST (\\Subscribed) \"/\" \"a\"\r\n"},
-        {LUSPEMARO_ATTRIBUTE_NONEXISTENT, "* LIST (\\NonExistent) \"/\" \"a\"\r\n"},
+        {LUSPEMARO_ATTRIBUTE_NON_EXISTENT, "* LIST (\\NonExistent) \"/\" \"a\"\r\n"},
         {LUSPEMARO_ATTRIBUTE_ALL, "* LIST (\\All) \"/\" \"a\"\r\n"},
         {LUSPEMARO_ATTRIBUTE_ARCHIVE, "* LIST (\\Archive) \"/\" \"a\"\r\n"},
         {LUSPEMARO_ATTRIBUTE_DRAFTS, "* LIST (\\Drafts) \"/\" \"a\"\r\n"},
@@ -70,8 +70,8 @@ static void each_attribute(void)
         {LUSPEMARO_ATTRIBUTE_JUNK, "* LIST (\\Junk) \"/\" \"a\"\r\n"},
         {LUSPEMARO_ATTRIBUTE_SENT, "* LIST (\\Sent) \"/\" \"a\"\r\n"},
         {LUSPEMARO_ATTRIBUTE_TRASH, "* LIST (\\Trash) \"/\" \"a\"\r\n"},
-        {LUSPEMARO_ATTRIBUTE_HASCHILDREN, "* LIST (\\HasChildren) \"/\" \"a\"\r\n"},
-        {LUSPEMARO_ATTRIBUTE_HASNOCHILDREN, "* LIST (\\HasNoChildren) \"/\" \"a\"\r\n"},
+        {LUSPEMARO_ATTRIBUTE_HAS_CHILDREN, "* LIST (\\HasChildren) \"/\" \"a\"\r\n"},
+        {LUSPEMARO_ATTRIBUTE_HAS_NO_CHILDREN, "* LIST (\\HasNoChildren) \"/\" \"a\"\r\n"},
     };
     for (size_t i = 0; i < sizeof lines / sizeof lines[0]; i++)
         EXPECT(is_written(lines[i].attribute, "a", 0, lines[i].line));
@@ -94,12 +94,12 @@ static void every_criteria(void)
     for (unsigned criteria = 0; criteria <= 0xFF; criteria++) {
         if (criteria <= 3) {
             EXPECT(write_line(0, "a", 1, criteria, 100).number == LUSPEMARO_DONE);
-            EXPECT(is_refusal(write_line(0, "a", 1, criteria, 0), LUSPEMARO_ANSWER_TOO_LONG));
+            EXPECT(is_refusal(write_line(0, "a", 1, criteria, 0), LUSPEMARO_REFUSAL_SHORT_BUFFER));
         } else {
-            EXPECT(is_refusal(write_line(0, "a", 1, criteria, 100), LUSPEMARO_BAD_LIST_LINE) && untouched(OUT));
-            EXPECT(is_refusal(write_line(0, "a", 1, criteria, 0), LUSPEMARO_BAD_LIST_LINE));
-            EXPECT(is_refusal(write_line(0, "a//", 3, criteria, 0), LUSPEMARO_BAD_LIST_LINE));
-            EXPECT(is_refusal(write_line(LUSPEMARO_ATTRIBUTE_NOSELECT, "", 0, criteria, 100), LUSPEMARO_BAD_LIST_LINE));
+            EXPECT(is_refusal(write_line(0, "a", 1, criteria, 100), LUSPEMARO_REFUSAL_NOT_SUCH_LINE) && untouched(OUT));
+            EXPECT(is_refusal(write_line(0, "a", 1, criteria, 0), LUSPEMARO_REFUSAL_NOT_SUCH_LINE));
+            EXPECT(is_refusal(write_line(0, "a//", 3, criteria, 0), LUSPEMARO_REFUSAL_NOT_SUCH_LINE));
+            EXPECT(is_refusal(write_line(LUSPEMARO_ATTRIBUTE_NOSELECT, "", 0, criteria, 100), LUSPEMARO_REFUSAL_NOT_SUCH_LINE));
         }
     }
 }
@@ -110,14 +110,14 @@ static void bad_parts(void)
     static const char *const names[] = {"/", "a/", "/a", "a//b", "inbox", "Inbox/x", "a%", "a*", "\x1F", "\x7F", "\x80"};
     for (size_t i = 0; i < sizeof names / sizeof names[0]; i++)
         for (size_t room = 0; room <= 100; room += 100) {
-            EXPECT(is_refusal(write_line(0, names[i], strlen(names[i]), 0, room), LUSPEMARO_BAD_LIST_LINE));
+            EXPECT(is_refusal(write_line(0, names[i], strlen(names[i]), 0, room), LUSPEMARO_REFUSAL_NOT_SUCH_LINE));
             EXPECT(untouched(OUT));
         }
     for (unsigned attributes = 0; attributes <= 0xFFFF; attributes++)
         if (attributes != LUSPEMARO_ATTRIBUTE_NOSELECT)
-            EXPECT(is_refusal(write_line(attributes, "", 0, 0, 100), LUSPEMARO_BAD_LIST_LINE) && untouched(OUT));
+            EXPECT(is_refusal(write_line(attributes, "", 0, 0, 100), LUSPEMARO_REFUSAL_NOT_SUCH_LINE) && untouched(OUT));
     for (unsigned criteria = 1; criteria <= 3; criteria++)
-        EXPECT(is_refusal(write_line(LUSPEMARO_ATTRIBUTE_NOSELECT, "", 0, criteria, 100), LUSPEMARO_BAD_LIST_LINE));
+        EXPECT(is_refusal(write_line(LUSPEMARO_ATTRIBUTE_NOSELECT, "", 0, criteria, 100), LUSPEMARO_REFUSAL_NOT_SUCH_LINE));
 }
 
 /* 9 with every buffer that is shorter than the line, and no byte changes. The longest line has 612 bytes. */
@@ -126,11 +126,11 @@ static void short_buffers(void)
     static char name[LUSPEMARO_MAX_NAME + 1];
     memset(name, '"', sizeof name);
     for (size_t room = 0; room < LUSPEMARO_ROOM_LIST_LINE; room++)
-        EXPECT(is_refusal(write_line(0xFFFF, name, LUSPEMARO_MAX_NAME, 3, room), LUSPEMARO_ANSWER_TOO_LONG) && untouched(OUT));
+        EXPECT(is_refusal(write_line(0xFFFF, name, LUSPEMARO_MAX_NAME, 3, room), LUSPEMARO_REFUSAL_SHORT_BUFFER) && untouched(OUT));
     struct luspemaro_outcome r = write_line(0xFFFF, name, LUSPEMARO_MAX_NAME, 3, LUSPEMARO_ROOM_LIST_LINE);
     EXPECT(r.number == LUSPEMARO_DONE && r.length == LUSPEMARO_ROOM_LIST_LINE && front_untouched(OUT));
     EXPECT(has_parts(read_line(lent(OUT), r.length), 0xFFFF, name, LUSPEMARO_MAX_NAME, 3));
-    EXPECT(is_refusal(write_line(0xFFFF, name, LUSPEMARO_MAX_NAME + 1, 3, 0), LUSPEMARO_BAD_LIST_LINE));
+    EXPECT(is_refusal(write_line(0xFFFF, name, LUSPEMARO_MAX_NAME + 1, 3, 0), LUSPEMARO_REFUSAL_NOT_SUCH_LINE));
 }
 
 static void every_length_of_a_name(void)

@@ -211,7 +211,8 @@ static void call_nothing(void)
 
 /* ---- the claims */
 
-/* What a call costs that does nothing: the frames of this program below the top of the stack. */
+/* What a call costs that does nothing: the frames of this program below the top of the stack. What is measured beyond it has the frame
+ * of the caller in it, which is above the bound by some bytes where that holds the answer. */
 static size_t frames;
 
 static void measure(const char *entry, const char *input, size_t stated, void (*call)(void))
@@ -229,16 +230,16 @@ static void measure_answer(const char *input, unsigned number)
 static void measure_answers(void)
 {
     set_long_line("a LIST (X (", '(', "\r\n");
-    measure_answer("the deepest value, never closed", LUSPEMARO_OFF_GRAMMAR);
+    measure_answer("the deepest value, never closed", LUSPEMARO_REFUSAL_GRAMMAR);
     claim(dies_on(LUSPEMARO_STACK_ANSWER / 2 / PAGE * PAGE, call_answer), "answer", "half of the stated stack, which must not do");
     set_long_line("a LIST \"\" * RETURN (X (", '(', "\r\n");
-    measure_answer("the deepest value after RETURN, never closed", LUSPEMARO_OFF_GRAMMAR);
+    measure_answer("the deepest value after RETURN, never closed", LUSPEMARO_REFUSAL_GRAMMAR);
     set_long_line("a LIST (X (", '(', "{0}\r\n)\r\n");
-    measure_answer("the deepest value with a literal", LUSPEMARO_OFF_GRAMMAR);
+    measure_answer("the deepest value with a literal", LUSPEMARO_REFUSAL_GRAMMAR);
     set_closed_line(1014);
-    measure_answer("the deepest value, closed", LUSPEMARO_UNKNOWN_OPTION);
+    measure_answer("the deepest value, closed", LUSPEMARO_REFUSAL_OPTION);
     set_long_line("a LIST (SUBSCRIBED RECURSIVEMATCH) \"\" (% %/*%*/%", '%', ") RETURN (CHILDREN)\r\n");
-    measure_answer("the longest pattern", LUSPEMARO_TOO_MUCH_ASKED);
+    measure_answer("the longest pattern", LUSPEMARO_REFUSAL_PATTERNS);
     set_line("a LIST (SUBSCRIBED RECURSIVEMATCH SPECIAL-USE REMOTE) \"\" (% %/% *%*%*%x a b c d *) RETURN (CHILDREN SUBSCRIBED)\r\n");
     measure_answer("eight patterns over a full table", LUSPEMARO_DONE);
     set_line("a LIST \"\" *% RETURN (CHILDREN SUBSCRIBED SPECIAL-USE)\r\n");
@@ -256,7 +257,7 @@ static void measure_walks(void)
     claim(outcome.number == LUSPEMARO_DONE && outcome.count == 1 + 512 * 15, "collect", "a full table");
     option = 8;
     measure("collect", "an option byte that is not lawful", LUSPEMARO_STACK_COLLECT, call_collect);
-    claim(outcome.number == LUSPEMARO_UNKNOWN_OPTION, "collect", "an option byte that is not lawful");
+    claim(outcome.number == LUSPEMARO_REFUSAL_OPTION, "collect", "an option byte that is not lawful");
 }
 
 static void measure_lines(void)
@@ -268,7 +269,7 @@ static void measure_lines(void)
     claim(parts.number == LUSPEMARO_DONE && parts.length == 61, "read_line", "every attribute");
     line_length = 0;
     measure("read_line", "nothing", LUSPEMARO_STACK_READ_LINE, call_read_line);
-    claim(parts.number == LUSPEMARO_BAD_LIST_LINE, "read_line", "nothing");
+    claim(parts.number == LUSPEMARO_REFUSAL_NOT_SUCH_LINE, "read_line", "nothing");
 }
 
 static void measure_others(void)

@@ -1,8 +1,6 @@
 /* Tests of luspemaro_collect. */
 #include "check.h"
 
-static const struct rows no_rows = {0, {0}};
-
 enum { ROOM = 2000 };
 
 /* Two finds under one level of two, a remote one, and one with a use alone. */
@@ -41,7 +39,7 @@ static bool walks(const struct rows *rows, unsigned option, size_t count, const 
 static void expert_sheet(void)
 {
     EXPECT(walks(table_e(), 0, 2, "\7Foo/Baz", "\3Foo"));
-    EXPECT(walks(&no_rows, 0, 1, "", ""));
+    EXPECT(walks(&NO_ROWS, 0, 1, "", ""));
 }
 
 /* The names in walk order, fewer levels first, by option byte. */
@@ -61,7 +59,7 @@ static void every_option_byte(void)
     for (unsigned option = 0; option <= 0xFF; option++) {
         bool lawful = option <= 3 || option == 6 || option == 7;
         struct luspemaro_outcome r = walk(night(), option, ROOM, ROOM, ROOM);
-        EXPECT(lawful ? r.number == LUSPEMARO_DONE : is_refusal(r, LUSPEMARO_UNKNOWN_OPTION) && all_zero());
+        EXPECT(lawful ? r.number == LUSPEMARO_DONE : is_refusal(r, LUSPEMARO_REFUSAL_OPTION) && all_zero());
     }
 }
 
@@ -70,9 +68,9 @@ static void bad_table(void)
 {
     static const struct rows half = {2, {0, 1}};
     for (unsigned option = 0; option <= 0xFF; option++)
-        EXPECT(is_refusal(walk(&half, option, ROOM, ROOM, ROOM), LUSPEMARO_BAD_TABLE) && all_zero());
-    EXPECT(is_refusal(walk(&half, 0, 0, 0, 0), LUSPEMARO_BAD_TABLE));
-    EXPECT(is_refusal(walk(night(), 4, 0, 0, 0), LUSPEMARO_UNKNOWN_OPTION));
+        EXPECT(is_refusal(walk(&half, option, ROOM, ROOM, ROOM), LUSPEMARO_REFUSAL_TABLE) && all_zero());
+    EXPECT(is_refusal(walk(&half, 0, 0, 0, 0), LUSPEMARO_REFUSAL_TABLE));
+    EXPECT(is_refusal(walk(night(), 4, 0, 0, 0), LUSPEMARO_REFUSAL_OPTION));
 }
 
 /* Each buffer one by one, from nothing to what it needs. */
@@ -81,15 +79,15 @@ static void short_buffers(void)
     size_t found = walk(night(), 1, ROOM, ROOM, ROOM).length, pending = 0, scratch = 0;
     while (lent(PENDING)[pending] != 0)
         pending += 1u + lent(PENDING)[pending];
-    while (is_refusal(walk(night(), 1, scratch, ROOM, ROOM), LUSPEMARO_ANSWER_TOO_LONG)) {
+    while (is_refusal(walk(night(), 1, scratch, ROOM, ROOM), LUSPEMARO_REFUSAL_SHORT_BUFFER)) {
         EXPECT(all_zero());
         scratch++;
     }
     EXPECT(found == 47 && pending == 28 && 100 < scratch && scratch < ROOM);
     for (size_t room = 0; room < found; room++)
-        EXPECT(is_refusal(walk(night(), 1, scratch, room, ROOM), LUSPEMARO_NO_ROOM_FOUND) && all_zero());
+        EXPECT(is_refusal(walk(night(), 1, scratch, room, ROOM), LUSPEMARO_REFUSAL_FOUND_FULL) && all_zero());
     for (size_t room = 0; room < pending; room++)
-        EXPECT(is_refusal(walk(night(), 1, scratch, ROOM, room), LUSPEMARO_NO_ROOM_PENDING) && all_zero());
+        EXPECT(is_refusal(walk(night(), 1, scratch, ROOM, room), LUSPEMARO_REFUSAL_PENDING_FULL) && all_zero());
     struct luspemaro_outcome r = walk(night(), 1, scratch, found, pending);
     EXPECT(r.number == LUSPEMARO_DONE && r.count == 4 && r.length == found && holds(SCRATCH, "", 0));
 }
@@ -97,8 +95,8 @@ static void short_buffers(void)
 /* The first answer of a walk over no rows is `w OK done` CR LF. */
 static void nothing_lent(void)
 {
-    EXPECT(is_refusal(walk(&no_rows, 0, 10, 0, 0), LUSPEMARO_ANSWER_TOO_LONG));
-    struct luspemaro_outcome r = walk(&no_rows, 0, 11, 0, 0);
+    EXPECT(is_refusal(walk(&NO_ROWS, 0, 10, 0, 0), LUSPEMARO_REFUSAL_SHORT_BUFFER));
+    struct luspemaro_outcome r = walk(&NO_ROWS, 0, 11, 0, 0);
     EXPECT(r.number == LUSPEMARO_DONE && r.count == 1 && r.length == 0 && all_zero());
 }
 
@@ -117,7 +115,7 @@ static void rooms_of_a_walk(void)
 
     table = largest_table(LUSPEMARO_MAX_ROWS, 1, 0x7F5F);
     size_t scratch = LUSPEMARO_ROOM_SCRATCH / 5 * 4;
-    EXPECT(is_refusal(walk(table, 3, scratch, LUSPEMARO_ROOM_FOUND, 0), LUSPEMARO_ANSWER_TOO_LONG));
+    EXPECT(is_refusal(walk(table, 3, scratch, LUSPEMARO_ROOM_FOUND, 0), LUSPEMARO_REFUSAL_SHORT_BUFFER));
     r = walk(table, 3, LUSPEMARO_ROOM_SCRATCH, LUSPEMARO_ROOM_FOUND, 0);
     EXPECT(r.number == LUSPEMARO_DONE && r.count == 1 && r.length == LUSPEMARO_MAX_ROWS * 62);
 }

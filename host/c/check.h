@@ -1,0 +1,69 @@
+/* What the tests of the C entries share: claims, tests by name, lent memory, and tables of rows. */
+#ifndef CHECK_H
+#define CHECK_H
+
+#include <string.h>
+
+#include "luspemaro.h"
+
+/* A claim of the test that runs. One that does not hold is told with its place, and the test fails. */
+#define EXPECT(claim) expect((claim), #claim, __FILE__, __LINE__)
+void expect(bool holds, const char *claim, const char *file, int line);
+
+struct test {
+    const char *name;
+    void (*run)(void);
+};
+
+/* The tests of one file, up to a row without a name. */
+extern const struct test check_tests[], answer_tests[], walk_tests[], line_tests[], feeder_tests[];
+
+/* Memory to lend, filled with FILLER. An access past its end stops the program: a page that no one may touch begins there. One area
+ * lends one run at a time, of at most AREA_ROOM bytes. */
+enum { FILLER = 0xA5, AREA_ROOM = 1 << 21 };
+enum area { TABLE, NAMESPACES, LINE, OUT, SCRATCH, FOUND, PENDING, AREAS };
+uint8_t *lend(enum area area, size_t length);
+
+/* Lent memory with these bytes. */
+uint8_t *lend_bytes(enum area area, const void *bytes, size_t length);
+
+/* Whether every byte is the same. */
+bool all_are(const uint8_t *at, size_t length, uint8_t byte);
+
+/* Whether no byte of the area's lent memory has changed, nor one of those before it. */
+bool untouched(enum area area);
+
+/* Whether the bytes before the lent memory have not changed. */
+bool front_untouched(enum area area);
+
+/* A mailbox table in the making. */
+struct rows {
+    size_t length;
+    uint8_t bytes[LUSPEMARO_MAX_TABLE + 512];
+};
+void add_row_of(struct rows *rows, unsigned flags, const uint8_t *name, size_t length);
+void add_row(struct rows *rows, unsigned flags, const char *name);
+
+extern const struct rows NO_ROWS;
+
+/* Document 01's table E: Foo-x, Foo/Bar, Foo/Baz, INBOX, Moo. */
+const struct rows *table_e(void);
+
+/* A table that is as large as it may be: so many rows, with names as long as may be, whose first levels all differ and take what the
+ * other levels, of one byte each, leave. A quote and a backslash take two bytes in a line: the last level is a backslash, the others
+ * between are quotes, and the first has both. */
+const struct rows *largest_table(size_t count, size_t levels, unsigned flags);
+
+/* Calls over lent memory, which ends at its last byte. */
+bool table_passes(const struct rows *rows);
+struct luspemaro_outcome answer_to(const struct rows *rows, const void *line, size_t line_length, size_t room);
+struct luspemaro_outcome walk(const struct rows *rows, unsigned option, size_t scratch, size_t found, size_t pending);
+
+/* The lent memory of an area, as it was lent last. */
+uint8_t *lent(enum area area);
+size_t lent_length(enum area area);
+
+/* Whether the outcome is this refusal: length 0 and count 0. */
+bool is_refusal(struct luspemaro_outcome outcome, unsigned number);
+
+#endif

@@ -1,0 +1,305 @@
+/* Runs each entry on a stack of the size that the header states, with the inputs that need most of it, and prints what they needed.
+ *
+ * The stack ends at a page that no one may touch, so that a call which needs more ends the program. The last line is 'N passed, M
+ * failed'. */
+#ifndef _GNU_SOURCE
+#define _GNU_SOURCE
+#endif
+#include <stdio.h>
+#include <stdlib.h>
+#include <string.h>
+#include <sys/mman.h>
+#include <sys/resource.h>
+#include <sys/wait.h>
+#include <ucontext.h>
+#include <unistd.h>
+
+#include "luspemaro.h"
+
+enum { PAGE = 4096, PAINT = 0x5A };
+
+static unsigned passed, failed;
+
+static void claim(bool holds, const char *entry, const char *input)
+{
+    if (holds) {
+        passed++;
+    } else {
+        failed++;
+        printf("failed: %s, %s\n", entry, input);
+    }
+}
+
+/* ---- a call on a stack of its own */
+
+static ucontext_t caller, called;
+static void (*body)(void);
+
+static void enter(void)
+{
+    body();
+}
+
+static void give_up(const char *what)
+{
+    perror(what);
+    exit(2);
+}
+
+/* Runs the call on a stack of so many bytes, a whole number of pages, and gives the number of bytes from the top of the stack to the
+ * lowest one that was written. */
+static size_t run_on(size_t size, void (*call)(void))
+{
+    void *start = mmap(NULL, PAGE + size, PROT_READ | PROT_WRITE, MAP_PRIVATE | MAP_ANONYMOUS, -1, 0);
+    if (start == MAP_FAILED || mprotect(start, PAGE, PROT_NONE) != 0 || getcontext(&called) != 0)
+        give_up("stack");
+    uint8_t *stack = (uint8_t *)start + PAGE;
+    memset(stack, PAINT, size);
+    called.uc_stack.ss_sp = stack;
+    called.uc_stack.ss_size = size;
+    called.uc_link = &caller;
+    body = call;
+    makecontext(&called, enter, 0);
+    if (swapcontext(&caller, &called) != 0)
+        give_up("stack");
+    size_t untouched = 0;
+    while (untouched < size && stack[untouched] == PAINT)
+        untouched++;
+    munmap(start, PAGE + size);
+    return size - untouched;
+}
+
+/* Whether the call ends its process by a signal on a stack of so many bytes. */
+static bool dies_on(size_t size, void (*call)(void))
+{
+    fflush(stdout);
+    pid_t child = fork();
+    if (child < 0)
+        give_up("fork");
+    if (child == 0) {
+        const struct rlimit no_core = {0, 0};
+        setrlimit(RLIMIT_CORE, &no_core);
+        run_on(size, call);
+        _exit(0);
+    }
+    int status = 0;
+    if (waitpid(child, &status, 0) != child)
+        give_up("wait");
+    return WIFSIGNALED(status);
+}
+
+/* ---- the inputs */
+
+static uint8_t table[LUSPEMARO_MAX_TABLE], namespaces[LUSPEMARO_MAX_NAMESPACES], line[LUSPEMARO_MAX_COMMAND];
+static size_t table_length, namespaces_length, line_length;
+static uint8_t out[LUSPEMARO_ROOM_ANSWER], scratch[LUSPEMARO_ROOM_SCRATCH], found[LUSPEMARO_ROOM_FOUND],
+    pending[LUSPEMARO_ROOM_PENDING], command[LUSPEMARO_ROOM_COMMAND];
+
+/* A full table: 512 rows of 61 bytes in 16 levels, all existing, subscribed and with a use. */
+static void fill_table(void)
+{
+    for (unsigned row = 0; row < LUSPEMARO_MAX_ROWS; row++) {
+        uint8_t *at = table + 64 * row;
+        at[0] = 0x01;
+        at[1] = LUSPEMARO_FLAG_EXISTS | LUSPEMARO_FLAG_SUBSCRIBED;
+        at[2] = 61;
+        memset(at + 3, '"', 61);
+        for (unsigned level = 1; level < LUSPEMARO_MAX_LEVELS; level++)
+            at[64 - 2 * level] = '/';
+        for (unsigned bit = 0; bit < 9; bit++)
+            at[3 + bit] = (row >> (8 - bit) & 1) != 0 ? '\\' : '"';
+    }
+    table_length = sizeof table;
+}
+
+static void fill_namespaces(void)
+{
+    for (unsigned entry = 0; entry < 12; entry++) {
+        uint8_t *at = namespaces + 67 * entry;
+        at[0] = (uint8_t)(entry / 4);
+        at[1] = LUSPEMARO_MAX_PREFIX;
+        memset(at + 2, '"', 65);
+    }
+    namespaces_length = sizeof namespaces;
+}
+
+static void set_line(const char *text)
+{
+    line_length = strlen(text);
+    memcpy(line, text, line_length);
+}
+
+/* A line of 2,048 bytes: the first text, then this byte as often as it fits, then the last text. */
+static void set_long_line(const char *first, char byte, const char *last)
+{
+    size_t end = sizeof line - strlen(last);
+    memset(line, byte, end);
+    memcpy(line, first, strlen(first));
+    memcpy(line + end, last, strlen(last));
+    line_length = sizeof line;
+}
+
+/* A line of at most 2,048 bytes: a value with so many parentheses around one item, all closed. */
+static void set_closed_line(size_t depth)
+{
+    memcpy(line, "a LIST (X ", 10);
+    memset(line + 10, '(', depth);
+    line[10 + depth] = 'a';
+    memset(line + 11 + depth, ')', depth);
+    memcpy(line + 11 + 2 * depth, ") \"\" *\r\n", 8);
+    line_length = 19 + 2 * depth;
+}
+
+/* ---- the calls, and what they answered */
+
+static struct luspemaro_outcome outcome;
+static struct luspemaro_line parts;
+static struct luspemaro_fed fed;
+static bool truth;
+static size_t place;
+static uint8_t option;
+
+static void call_check_table(void)
+{
+    truth = luspemaro_check_table(table, table_length);
+}
+
+static void call_check_namespaces(void)
+{
+    truth = luspemaro_check_namespaces(namespaces, namespaces_length);
+}
+
+static void call_matches(void)
+{
+    truth = luspemaro_matches(line, line_length, table + 3, 61);
+}
+
+static void call_answer(void)
+{
+    outcome = luspemaro_answer(table, table_length, namespaces, namespaces_length, line, line_length, out, sizeof out);
+}
+
+static void call_collect(void)
+{
+    outcome = luspemaro_collect(table, table_length, option, scratch, sizeof scratch, found, sizeof found, pending, sizeof pending);
+}
+
+static void call_write_line(void)
+{
+    outcome = luspemaro_write_line(0xFFFF, table + 3, 61, 3, out, sizeof out);
+}
+
+static void call_read_line(void)
+{
+    parts = luspemaro_read_line(out, line_length);
+}
+
+static void call_feed(void)
+{
+    const struct luspemaro_feeder first = {0, 0, 0, 0};
+    fed = luspemaro_feed(first, command, sizeof command, line, line_length);
+}
+
+static void call_put_go_on(void)
+{
+    place = luspemaro_put_go_on(out, sizeof out, 3);
+}
+
+static void call_nothing(void)
+{
+}
+
+/* ---- the claims */
+
+/* What a call costs that does nothing: the frames of this program below the top of the stack. What is measured beyond it has the frame
+ * of the caller in it, which is above the bound by some bytes where that holds the answer. */
+static size_t frames;
+
+static void measure(const char *entry, const char *input, size_t stated, void (*call)(void))
+{
+    size_t need = run_on(stated, call) - frames;
+    printf("%s, %s: %zu of %zu bytes\n", entry, input, need, stated);
+}
+
+static void measure_answer(const char *input, unsigned number)
+{
+    measure("answer", input, LUSPEMARO_STACK_ANSWER, call_answer);
+    claim(outcome.number == number, "answer", input);
+}
+
+static void measure_answers(void)
+{
+    set_long_line("a LIST (X (", '(', "\r\n");
+    measure_answer("the deepest value, never closed", LUSPEMARO_REFUSAL_GRAMMAR);
+    claim(dies_on(LUSPEMARO_STACK_ANSWER / 2 / PAGE * PAGE, call_answer), "answer", "half of the stated stack, which must not do");
+    set_long_line("a LIST \"\" * RETURN (X (", '(', "\r\n");
+    measure_answer("the deepest value after RETURN, never closed", LUSPEMARO_REFUSAL_GRAMMAR);
+    set_long_line("a LIST (X (", '(', "{0}\r\n)\r\n");
+    measure_answer("the deepest value with a literal", LUSPEMARO_REFUSAL_GRAMMAR);
+    set_closed_line(1014);
+    measure_answer("the deepest value, closed", LUSPEMARO_REFUSAL_OPTION);
+    set_long_line("a LIST (SUBSCRIBED RECURSIVEMATCH) \"\" (% %/*%*/%", '%', ") RETURN (CHILDREN)\r\n");
+    measure_answer("the longest pattern", LUSPEMARO_REFUSAL_PATTERNS);
+    set_line("a LIST (SUBSCRIBED RECURSIVEMATCH SPECIAL-USE REMOTE) \"\" (% %/% *%*%*%x a b c d *) RETURN (CHILDREN SUBSCRIBED)\r\n");
+    measure_answer("eight patterns over a full table", LUSPEMARO_DONE);
+    set_line("a LIST \"\" *% RETURN (CHILDREN SUBSCRIBED SPECIAL-USE)\r\n");
+    measure_answer("every level of a full table", LUSPEMARO_DONE);
+    set_line("a LIST \"\" \"\"\r\n");
+    measure_answer("the root line", LUSPEMARO_DONE);
+    set_line("a NAMESPACE\r\n");
+    measure_answer("a full namespace list", LUSPEMARO_DONE);
+}
+
+static void measure_walks(void)
+{
+    option = 3;
+    measure("collect", "a full table", LUSPEMARO_STACK_COLLECT, call_collect);
+    claim(outcome.number == LUSPEMARO_DONE && outcome.count == 1 + 512 * 15, "collect", "a full table");
+    option = 8;
+    measure("collect", "an option byte that is not lawful", LUSPEMARO_STACK_COLLECT, call_collect);
+    claim(outcome.number == LUSPEMARO_REFUSAL_OPTION, "collect", "an option byte that is not lawful");
+}
+
+static void measure_lines(void)
+{
+    measure("write_line", "every attribute", LUSPEMARO_STACK_WRITE_LINE, call_write_line);
+    claim(outcome.number == LUSPEMARO_DONE, "write_line", "every attribute");
+    line_length = outcome.length;
+    measure("read_line", "every attribute", LUSPEMARO_STACK_READ_LINE, call_read_line);
+    claim(parts.number == LUSPEMARO_DONE && parts.length == 61, "read_line", "every attribute");
+    line_length = 0;
+    measure("read_line", "nothing", LUSPEMARO_STACK_READ_LINE, call_read_line);
+    claim(parts.number == LUSPEMARO_REFUSAL_NOT_SUCH_LINE, "read_line", "nothing");
+}
+
+static void measure_others(void)
+{
+    measure("check_table", "a full table", LUSPEMARO_STACK_CHECK_TABLE, call_check_table);
+    claim(truth, "check_table", "a full table");
+    measure("check_namespaces", "a full list", LUSPEMARO_STACK_CHECK_NAMESPACES, call_check_namespaces);
+    claim(truth, "check_namespaces", "a full list");
+    set_long_line("*%", '*', "%");
+    measure("matches", "2,048 wildcards", LUSPEMARO_STACK_MATCHES, call_matches);
+    claim(truth, "matches", "2,048 wildcards");
+    set_long_line("a {1024}\r\n", 'a', "\r\n");
+    measure("feed", "a line with a header", LUSPEMARO_STACK_FEED, call_feed);
+    claim(fed.event == LUSPEMARO_EVENT_GO_ON, "feed", "a line with a header");
+    set_long_line("a", 'a', "\r\n");
+    measure("feed", "the longest line", LUSPEMARO_STACK_FEED, call_feed);
+    claim(fed.event == LUSPEMARO_EVENT_COMMAND, "feed", "the longest line");
+    measure("put_go_on", "a place", LUSPEMARO_STACK_PUT_GO_ON, call_put_go_on);
+    claim(place == 9, "put_go_on", "a place");
+}
+
+int main(void)
+{
+    fill_table();
+    fill_namespaces();
+    frames = run_on(4 * PAGE, call_nothing);
+    measure_answers();
+    measure_walks();
+    measure_lines();
+    measure_others();
+    printf("%u passed, %u failed\n", passed, failed);
+    return failed == 0 ? EXIT_SUCCESS : EXIT_FAILURE;
+}

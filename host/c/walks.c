@@ -1,0 +1,132 @@
+/* Tests of luspemaro_collect. */
+#include "check.h"
+
+enum { ROOM = 2000 };
+
+/* Two finds under one level of two, a remote one, and one with a use alone. */
+static const struct rows *night(void)
+{
+    static struct rows rows;
+    rows.length = 0;
+    add_row(&rows, LUSPEMARO_FLAG_EXISTS | LUSPEMARO_FLAG_SUBSCRIBED, "Customers/ABC");
+    add_row(&rows, LUSPEMARO_FLAG_EXISTS | LUSPEMARO_FLAG_SENT, "Customers/Sent");
+    add_row(&rows, LUSPEMARO_FLAG_SUBSCRIBED, "Customers/XYZ/Old");
+    add_row(&rows, LUSPEMARO_FLAG_EXISTS | LUSPEMARO_FLAG_SUBSCRIBED | LUSPEMARO_FLAG_REMOTE | LUSPEMARO_FLAG_JUNK, "Far/Junk");
+    add_row(&rows, LUSPEMARO_FLAG_EXISTS | LUSPEMARO_FLAG_SUBSCRIBED, "INBOX");
+    return &rows;
+}
+
+/* Whether the area holds these bytes at its front, and zeros after them. */
+static bool holds(enum area area, const void *bytes, size_t length)
+{
+    return length <= lent_length(area) && memcmp(lent(area), bytes, length) == 0
+           && all_are(lent(area) + length, lent_length(area) - length, 0) && front_untouched(area);
+}
+
+static bool all_zero(void)
+{
+    return holds(SCRATCH, "", 0) && holds(FOUND, "", 0) && holds(PENDING, "", 0);
+}
+
+/* Whether the walk sends so many commands, and leaves this in found and pending. */
+static bool walks(const struct rows *rows, unsigned option, size_t count, const char *found, const char *pending)
+{
+    struct luspemaro_outcome r = walk(rows, option, ROOM, ROOM, ROOM);
+    return r.number == LUSPEMARO_DONE && r.count == count && r.length == strlen(found) && holds(SCRATCH, "", 0)
+           && holds(FOUND, found, strlen(found)) && holds(PENDING, pending, strlen(pending));
+}
+
+static void expert_sheet(void)
+{
+    EXPECT(walks(table_e(), 0, 2, "\7Foo/Baz", "\3Foo"));
+    EXPECT(walks(&NO_ROWS, 0, 1, "", ""));
+}
+
+/* The names in walk order, fewer levels first, by option byte. */
+static void every_lawful_byte(void)
+{
+    EXPECT(walks(night(), 0, 3, "\5INBOX\15Customers/ABC\21Customers/XYZ/Old", "\11Customers\15Customers/XYZ"));
+    EXPECT(walks(night(), LUSPEMARO_OPTION_REMOTE, 4, "\5INBOX\15Customers/ABC\10Far/Junk\21Customers/XYZ/Old",
+                 "\11Customers\3Far\15Customers/XYZ"));
+    EXPECT(walks(night(), LUSPEMARO_OPTION_SPECIAL_USE, 1, "", ""));
+    EXPECT(walks(night(), LUSPEMARO_OPTION_REMOTE | LUSPEMARO_OPTION_SPECIAL_USE, 2, "\10Far/Junk", "\3Far"));
+    EXPECT(walks(night(), LUSPEMARO_OPTION_SPECIAL_USE | LUSPEMARO_OPTION_WITHOUT_SUBSCRIBED, 2, "\16Customers/Sent", "\11Customers"));
+    EXPECT(walks(night(), 7, 3, "\16Customers/Sent\10Far/Junk", "\11Customers\3Far"));
+}
+
+static void every_option_byte(void)
+{
+    for (unsigned option = 0; option <= 0xFF; option++) {
+        bool lawful = option <= 3 || option == 6 || option == 7;
+        struct luspemaro_outcome r = walk(night(), option, ROOM, ROOM, ROOM);
+        EXPECT(lawful ? r.number == LUSPEMARO_DONE : is_refusal(r, LUSPEMARO_REFUSAL_OPTION) && all_zero());
+    }
+}
+
+/* 1 comes before 6, and both before anything is written or asked. */
+static void bad_table(void)
+{
+    static const struct rows half = {2, {0, 1}};
+    for (unsigned option = 0; option <= 0xFF; option++)
+        EXPECT(is_refusal(walk(&half, option, ROOM, ROOM, ROOM), LUSPEMARO_REFUSAL_TABLE) && all_zero());
+    EXPECT(is_refusal(walk(&half, 0, 0, 0, 0), LUSPEMARO_REFUSAL_TABLE));
+    EXPECT(is_refusal(walk(night(), 4, 0, 0, 0), LUSPEMARO_REFUSAL_OPTION));
+}
+
+/* Each buffer one by one, from nothing to what it needs. */
+static void short_buffers(void)
+{
+    size_t found = walk(night(), 1, ROOM, ROOM, ROOM).length, pending = 0, scratch = 0;
+    while (lent(PENDING)[pending] != 0)
+        pending += 1u + lent(PENDING)[pending];
+    while (is_refusal(walk(night(), 1, scratch, ROOM, ROOM), LUSPEMARO_REFUSAL_SHORT_BUFFER)) {
+        EXPECT(all_zero());
+        scratch++;
+    }
+    EXPECT(found == 47 && pending == 28 && 100 < scratch && scratch < ROOM);
+    for (size_t room = 0; room < found; room++)
+        EXPECT(is_refusal(walk(night(), 1, scratch, room, ROOM), LUSPEMARO_REFUSAL_FOUND_FULL) && all_zero());
+    for (size_t room = 0; room < pending; room++)
+        EXPECT(is_refusal(walk(night(), 1, scratch, ROOM, room), LUSPEMARO_REFUSAL_PENDING_FULL) && all_zero());
+    struct luspemaro_outcome r = walk(night(), 1, scratch, found, pending);
+    EXPECT(r.number == LUSPEMARO_DONE && r.count == 4 && r.length == found && holds(SCRATCH, "", 0));
+}
+
+/* The first answer of a walk over no rows is `w OK done` CR LF. */
+static void nothing_lent(void)
+{
+    EXPECT(is_refusal(walk(&NO_ROWS, 0, 10, 0, 0), LUSPEMARO_REFUSAL_SHORT_BUFFER));
+    struct luspemaro_outcome r = walk(&NO_ROWS, 0, 11, 0, 0);
+    EXPECT(r.number == LUSPEMARO_DONE && r.count == 1 && r.length == 0 && all_zero());
+}
+
+/* The rooms that suffice for every walk. found and pending: rows of 200 bytes in 16 levels. scratch: 512 rows of one level with every
+ * attribute that a row may have. */
+static void rooms_of_a_walk(void)
+{
+    const struct rows *table = largest_table(161, LUSPEMARO_MAX_LEVELS, 0x7F03);
+    struct luspemaro_outcome r = walk(table, 0, LUSPEMARO_ROOM_SCRATCH, LUSPEMARO_ROOM_FOUND, LUSPEMARO_ROOM_PENDING);
+    EXPECT(r.number == LUSPEMARO_DONE && r.count == 1 + 161 * 15 && r.length == 161 * 201);
+    size_t names = 0, pending = 0;
+    for (; lent(PENDING)[pending] != 0; names++)
+        pending += 1u + lent(PENDING)[pending];
+    EXPECT(names == r.count - 1 && LUSPEMARO_ROOM_PENDING / 5 * 4 < pending && pending <= 15 * table->length);
+    EXPECT(LUSPEMARO_ROOM_FOUND / 5 * 4 < r.length && r.length <= table->length);
+
+    table = largest_table(LUSPEMARO_MAX_ROWS, 1, 0x7F5F);
+    size_t scratch = LUSPEMARO_ROOM_SCRATCH / 5 * 4;
+    EXPECT(is_refusal(walk(table, 3, scratch, LUSPEMARO_ROOM_FOUND, 0), LUSPEMARO_REFUSAL_SHORT_BUFFER));
+    r = walk(table, 3, LUSPEMARO_ROOM_SCRATCH, LUSPEMARO_ROOM_FOUND, 0);
+    EXPECT(r.number == LUSPEMARO_DONE && r.count == 1 && r.length == LUSPEMARO_MAX_ROWS * 62);
+}
+
+const struct test walk_tests[] = {
+    {"collect: the expert's sheet", expert_sheet},
+    {"collect: every lawful option byte", every_lawful_byte},
+    {"collect: every option byte", every_option_byte},
+    {"collect: 1, and 1 before 6", bad_table},
+    {"collect: short buffers, 9 to 11", short_buffers},
+    {"collect: nothing lent", nothing_lent},
+    {"collect: the rooms that suffice", rooms_of_a_walk},
+    {NULL, NULL},
+};

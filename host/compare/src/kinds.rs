@@ -1,0 +1,255 @@
+//! The kinds of sessions.
+
+use child::SentFrame;
+use second::command::MAX_LINE;
+use second::frames::MAX_DIGITS;
+use second::name::{self, MAX_LEVELS, MAX_NAME};
+use second::quoted::push_quoted;
+use second::table::Flags;
+
+use crate::commands::{command, damaged, hostile_pattern, push_value};
+use crate::damage::{damaged_table, namespace_list};
+use crate::levels::levels_above;
+use crate::limits;
+use crate::literals;
+use crate::random::Random;
+use crate::sending::Sending;
+use crate::special_uses;
+use crate::tables::{good_table, names_of, rows_named, table_bytes};
+use crate::walks::some_walk;
+
+/// What makes the session of a seed.
+type Generator = fn(&mut Random) -> Vec<SentFrame>;
+
+/// A kind of sessions. Its sessions hang on its name and the seed alone, so they stay what they are
+/// when another kind is added.
+#[derive(Clone, Copy)]
+pub struct Kind {
+    pub name: &'static str,
+    generator: Generator,
+}
+
+impl Kind {
+    /// The session of a seed.
+    pub fn session(self, seed: u64) -> Vec<SentFrame> {
+        (self.generator)(&mut Random::of(self.name, seed))
+    }
+}
+
+/// Every kind.
+pub fn kinds() -> impl Iterator<Item = Kind> {
+    GENERATORS.into_iter().map(|(name, generator)| Kind { name, generator })
+}
+
+const GENERATORS: [(&str, Generator); 25] = [
+    ("a table and commands", commands_over_a_table),
+    ("a growing table", growing_table),
+    ("a damaged table", damaged_tables),
+    ("namespace lists", namespace_lists),
+    ("damaged commands", damaged_commands),
+    ("hostile patterns", hostile_patterns),
+    ("nested values", nested_values),
+    ("walks of deep trees", walks_of_deep_trees),
+    ("bad frames", bad_frames),
+    ("limits of tables", limits::tables),
+    ("limits of stored bytes", limits::stored_bytes),
+    ("limits of commands", limits::commands),
+    ("limits of answers", limits::answers),
+    ("limits of found", limits::walks_for_found),
+    ("limits of pending", limits::walks_for_pending),
+    ("limits of found and pending", limits::walks_for_both),
+    ("limits of scratch", limits::walks_for_scratch),
+    ("levels above mailboxes", levels_above),
+    ("limits of answers with levels", limits::answers_with_levels),
+    ("literals", literals::commands_with_literals),
+    ("odd literals", literals::odd_commands),
+    ("limits of literals", literals::limits),
+    ("special uses by tree", special_uses::trees),
+    ("option bytes", special_uses::option_bytes),
+    ("limits of answers with CHILDINFO", limits::answers_with_childinfo),
+];
+
+fn commands_over_a_table(random: &mut Random) -> Vec<SentFrame> {
+    let count = random.within(0..=40);
+    let rows = good_table(random, count);
+    let names = names_of(&rows);
+    let mut sending = Sending::new(random);
+    sending.table(&table_bytes(&rows));
+    for _ in 0..24 {
+        let line = command(sending.random, &names);
+        sending.command(&line);
+    }
+    sending.every_walk();
+    sending.frames
+}
+
+/// Commands and walks between the rows.
+fn growing_table(random: &mut Random) -> Vec<SentFrame> {
+    let rows = good_table(random, 30);
+    let names = names_of(&rows);
+    let mut sending = Sending::new(random);
+    for row in rows {
+        sending.table(&table_bytes(&[row]));
+        if sending.random.percent(60) {
+            let line = command(sending.random, &names);
+            sending.command(&line);
+        }
+        if sending.random.percent(30) {
+            let option = sending.random.below(8) as u8;
+            sending.walk(option);
+        }
+    }
+    sending.frames
+}
+
+fn damaged_tables(random: &mut Random) -> Vec<SentFrame> {
+    let count = random.within(0..=12);
+    let rows = good_table(random, count);
+    let names = names_of(&rows);
+    let table = damaged_table(random, rows);
+    let mut sending = Sending::new(random);
+    sending.table(&table);
+    sending.command_text("a LIST \"\" *");
+    sending.command_text("a NAMESPACE");
+    for _ in 0..4 {
+        let line = command(sending.random, &names);
+        sending.command(&line);
+    }
+    sending.every_walk();
+    sending.frames
+}
+
+fn namespace_lists(random: &mut Random) -> Vec<SentFrame> {
+    let rows = good_table(random, 3);
+    let list = namespace_list(random);
+    let mut sending = Sending::new(random);
+    sending.table(&table_bytes(&rows));
+    sending.namespaces(&list);
+    for text in ["a NAMESPACE", "b namespace", "c LIST \"\" *", "d NAMESPACE ", "e NOOP", ""] {
+        sending.command_text(text);
+    }
+    sending.walk(0);
+    sending.frames
+}
+
+fn damaged_commands(random: &mut Random) -> Vec<SentFrame> {
+    let rows = good_table(random, 8);
+    let names = names_of(&rows);
+    let mut sending = Sending::new(random);
+    sending.table(&table_bytes(&rows));
+    for _ in 0..80 {
+        let line = command(sending.random, &names);
+        let line = damaged(sending.random, line);
+        sending.command(&line[..line.len().min(MAX_LINE)]);
+    }
+    sending.frames
+}
+
+/// Patterns that are slow to try every way, over names that nearly match them.
+fn hostile_patterns(random: &mut Random) -> Vec<SentFrame> {
+    let mut names: Vec<Vec<u8>> = Vec::new();
+    for _ in 0..12 {
+        let level = "a".repeat(random.within(1..=40));
+        let levels = MAX_NAME / (level.len() + 1);
+        names.push(vec![level; random.within(1..=levels.min(MAX_LEVELS))].join("/").into_bytes());
+    }
+    let rows = rows_named(random, names);
+    let mut sending = Sending::new(random);
+    sending.table(&table_bytes(&rows));
+    for count in [1, 1, 2, 8] {
+        let options = sending.random.pick(&["", " (SUBSCRIBED RECURSIVEMATCH REMOTE)"]);
+        let mut line = format!("a LIST{options} \"\" (").into_bytes();
+        for number in 0..count {
+            line.extend_from_slice(if number == 0 { b"" } else { b" " });
+            line.extend(hostile_pattern(sending.random));
+        }
+        line.extend_from_slice(b")\r\n");
+        sending.command(&line);
+    }
+    sending.frames
+}
+
+/// Values of options, some as deep as the line allows.
+fn nested_values(random: &mut Random) -> Vec<SentFrame> {
+    let mut sending = Sending::new(random);
+    for _ in 0..10 {
+        let mut line = b"a LIST (SUBSCRIBED FOO ".to_vec();
+        let depth = sending.random.within(1..=8);
+        push_value(&mut line, sending.random, depth);
+        line.extend_from_slice(b") \"\" *\r\n");
+        if sending.random.percent(40) {
+            line = damaged(sending.random, line);
+        }
+        sending.command(&line[..line.len().min(MAX_LINE)]);
+    }
+    for end in [") \"\" *", ") \"\" (", "", " ) \"\" *"] {
+        let depth = sending.random.within(900..=1_010);
+        let (open, close) = ("(".repeat(depth), ")".repeat(depth));
+        sending.command_text(&format!("a LIST (FOO {open}a{close}{end}"));
+        sending.command_text(&format!("a LIST \"\" * RETURN (FOO {open}{close}{end}"));
+    }
+    sending.command_text(&format!("a LIST (FOO {}", "(".repeat(MAX_LINE - 16)));
+    sending.command_text(&format!("a LIST (FOO ({}x) \"\" *", "a ".repeat(900)));
+    sending.frames
+}
+
+/// Many subscribed names, remote parents and uses, walked with every option, and the walk's own
+/// commands.
+fn walks_of_deep_trees(random: &mut Random) -> Vec<SentFrame> {
+    let count = random.within(10..=90);
+    let mut rows = good_table(random, count);
+    for row in &mut rows {
+        if random.percent(50) && row.flags.has(Flags::EXISTS) {
+            row.flags.add(Flags::SUBSCRIBED);
+        }
+    }
+    let names = names_of(&rows);
+    let mut sending = Sending::new(random);
+    sending.table(&table_bytes(&rows));
+    sending.every_walk();
+    for name in names.iter().take(10) {
+        let walk = some_walk(sending.random);
+        let mut line = format!("w LIST ({}) ", walk.selection).into_bytes();
+        push_quoted(&mut line, &name::descendant_prefix(name));
+        line.extend_from_slice(b" \"%\"\r\n");
+        sending.command(&line);
+    }
+    sending.frames
+}
+
+/// Bad frames among good ones; the stored rows stay.
+fn bad_frames(random: &mut Random) -> Vec<SentFrame> {
+    let rows = good_table(random, 4);
+    let mut sending = Sending::new(random);
+    sending.table(&table_bytes(&rows));
+    for _ in 0..20 {
+        match sending.random.below(4) {
+            0 | 1 => {
+                let text = sending.random.pick(&BAD_FRAMES);
+                sending.raw(text.as_bytes());
+            }
+            2 => {
+                let length = sending.random.within(1..=9);
+                let bytes = (0..length).map(|_| sending.random.byte());
+                let text: Vec<u8> = bytes.filter(|&byte| byte != b'\n').collect();
+                sending.raw(&text);
+            }
+            _ => sending.command_text("a LIST \"\" *"),
+        }
+    }
+    for digits in [MAX_DIGITS - 2, MAX_DIGITS, MAX_DIGITS + 1, MAX_DIGITS + 2, 3 * MAX_DIGITS] {
+        sending.raw(&[b"43".as_slice(), &b"6".repeat(digits - 2)].concat());
+    }
+    sending.command_text("a LIST \"\" %");
+    if sending.random.percent(50) {
+        let text = sending.random.pick(&[b"5700".as_slice(), b"4", b"4D0001", b"x", b"43"]);
+        sending.cut(text);
+    }
+    sending.frames
+}
+
+/// Empty, odd, with other characters, with other first bytes, and walks without one option.
+const BAD_FRAMES: [&str; 20] = [
+    "", "4", "434", "0x43", "43 0D0A", "4G", " 43", "43\r", "\r", "00", "41", "52", "6D", "57",
+    "570000", "5700 ", "57FF00", "4d4", "4E\t", "4D\0",
+];

@@ -1,0 +1,59 @@
+//! The comparison with the second program: sessions from seeded generators, answered by a program
+//! of frames and by the second program, answer line for answer line; and, in `library`, the proved
+//! library and the second program's, call for call.
+//!
+//! A session has a process of its own, since a program never forgets a stored row.
+
+pub mod commands;
+pub mod damage;
+mod kinds;
+mod levels;
+#[cfg(feature = "library")]
+pub mod library;
+mod limits;
+mod literals;
+pub mod random;
+mod report;
+mod sending;
+mod special_uses;
+pub mod streams;
+mod strings;
+pub mod tables;
+mod walks;
+
+use std::path::Path;
+
+use child::{sender_of, Running, SentFrame, PATIENCE};
+use second::frames::{Answer, Program};
+use second::Refusal;
+
+pub use kinds::{kinds, Kind};
+
+use report::{difference_text, failure_text};
+
+/// Runs the session of a kind and a seed. The error is what differed, as text.
+pub fn compare_session(program: &Path, kind: Kind, seed: u64) -> Result<(), String> {
+    let compared = compare_frames(program, &kind.session(seed));
+    compared.map_err(|text| format!("kind '{}', seed {seed}: {text}", kind.name))
+}
+
+fn compare_frames(program: &Path, session: &[SentFrame]) -> Result<(), String> {
+    let mut second = Program::default();
+    let running = Running::start(program, PATIENCE, sender_of(session));
+    let mut running = running.map_err(failure_text)?;
+    for (at, frame) in session.iter().enumerate() {
+        let answer = if frame.is_cut {
+            Some(Answer::Refused(Refusal::Frame))
+        } else {
+            second.answer(&frame.text)
+        };
+        let Some(expected) = answer.map(|answer| answer.to_line()) else {
+            continue;
+        };
+        match running.next_line() {
+            Ok(Some(line)) if line == expected => {}
+            actual => return Err(difference_text(session, at, &second, &expected, &actual)),
+        }
+    }
+    running.finish().map_err(failure_text)
+}

@@ -1,0 +1,55 @@
+//! The command entry.
+
+use session::{show_namespaces, show_table};
+
+use super::both::{ANSWER, SECOND};
+use super::tally::{shown, Tally, Text};
+use super::SEED;
+use crate::commands::{command, damaged};
+use crate::damage::{damaged_table, namespace_list};
+use crate::random::Random;
+use crate::tables::{good_table, table_bytes};
+
+const TABLES: usize = 4_000;
+const COMMANDS_A_TABLE: usize = 6;
+/// More than any answer here.
+const ROOM: usize = 16_384;
+const FILL: u8 = b'.';
+
+pub fn commands(tally: &mut Tally) {
+    let mut random = Random::of("library: commands", SEED);
+    for _ in 0..TABLES {
+        let count = random.below(20);
+        let rows = good_table(&mut random, count);
+        let names: Vec<Vec<u8>> = rows.iter().map(|row| row.name.clone()).collect();
+        let bad = random.percent(5);
+        let table = if bad { damaged_table(&mut random, rows) } else { table_bytes(&rows) };
+        let list = if random.percent(30) { namespace_list(&mut random) } else { Vec::new() };
+        for _ in 0..COMMANDS_A_TABLE {
+            let mut line = command(&mut random, &names);
+            if random.percent(30) {
+                line = damaged(&mut random, line);
+            }
+            let need = answer_both(tally, &table, &list, &line, ROOM);
+            for room in [0, need.saturating_sub(1), need, need + 1] {
+                answer_both(tally, &table, &list, &line, room);
+            }
+        }
+    }
+}
+
+/// Answers by both libraries, and gives the length of the answer, 0 if it was refused.
+fn answer_both(tally: &mut Tally, table: &[u8], list: &[u8], line: &[u8], room: usize) -> usize {
+    let given = ANSWER.map(|answer| {
+        let mut out = vec![FILL; room];
+        let result = answer(table, list, line, &mut out);
+        (result, Text(out))
+    });
+    let length = given[SECOND].0.unwrap_or(0);
+    let call = || {
+        let (line, table, list) = (shown(line), show_table(table), show_namespaces(list));
+        format!("answer: line {line}, room {room}, table and namespace list\n{table}{list}")
+    };
+    tally.same(call, given);
+    length
+}

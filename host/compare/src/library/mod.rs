@@ -1,0 +1,40 @@
+//! The comparison: the proved library and the second program's, call for call, in one process.
+//!
+//! Every result and every byte of lent memory is compared; of the feeder's memory, the bytes of the
+//! command. The inputs come from fixed seeds.
+
+mod answers;
+pub mod both;
+mod feeding;
+mod lines;
+mod matching;
+mod reading;
+mod tables;
+mod tally;
+mod walks;
+
+pub use tally::Tally;
+
+/// Inputs are the same in every run.
+const SEED: u64 = 0;
+
+/// A name, and what compares.
+pub type Group = (&'static str, fn(&mut Tally));
+
+pub const GROUPS: [Group; 15] = [
+    ("every set of attributes, written and read back", lines::every_set),
+    ("names at the limits, buffers on both sides of the line's length", lines::names_and_rooms),
+    ("lines with one byte changed, left out or added", reading::one_byte_damaged),
+    ("lines cut short, doubled and put together", reading::pieces),
+    ("random bytes as lines", reading::random_bytes),
+    ("patterns and names", matching::patterns),
+    ("hostile patterns and long names", matching::hostile),
+    ("tables, good and damaged", tables::tables),
+    ("tables at the limits", tables::limits),
+    ("namespace lists", tables::namespace_lists),
+    ("commands, buffers on both sides of the answer's length", answers::commands),
+    ("walks, buffers on both sides of what they need", walks::walks),
+    ("streams for the feeder, chunk by chunk", feeding::streams),
+    ("memory and states that the feeder does not take", feeding::not_taken),
+    ("the continuation line at any place of a buffer", feeding::continuation),
+];

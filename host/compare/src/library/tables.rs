@@ -1,0 +1,65 @@
+//! The two checks.
+
+use second::table::{Flags, MAX_ROWS, MAX_TABLE};
+use session::{show_namespaces, show_table};
+
+use super::both::{CHECK_NAMESPACES, CHECK_TABLE};
+use super::tally::Tally;
+use super::SEED;
+use crate::damage::{damaged_bytes, damaged_table, namespace_list};
+use crate::random::Random;
+use crate::tables::{good_table, table_bytes, NewRow};
+
+const TABLES: usize = 60_000;
+const LISTS: usize = 200_000;
+
+pub fn tables(tally: &mut Tally) {
+    let mut random = Random::of("library: tables", SEED);
+    for _ in 0..TABLES {
+        let count = random.below(24);
+        let rows = good_table(&mut random, count);
+        check_both(tally, &table_bytes(&rows));
+        check_both(tally, &damaged_table(&mut random, rows.clone()));
+        check_both(tally, &damaged_bytes(&mut random, table_bytes(&rows)));
+    }
+}
+
+/// Numbers of rows and of bytes on both sides of what passes.
+pub fn limits(tally: &mut Tally) {
+    for rows in MAX_ROWS - 1..=MAX_ROWS + 1 {
+        check_both(tally, &table_of(rows, 8));
+    }
+    // 162 rows of 203 bytes less a few, so that one more byte in the last name decides.
+    for length in 1..=200 {
+        let mut rows = numbered(MAX_TABLE / 203, 200);
+        rows.push(NewRow { flags: Flags::EXISTS, name: vec![b'~'; length] });
+        check_both(tally, &table_bytes(&rows));
+    }
+    for length in 0..=255 {
+        check_both(tally, &table_of(3, length));
+    }
+}
+
+pub fn namespace_lists(tally: &mut Tally) {
+    let mut random = Random::of("library: namespace lists", SEED);
+    for _ in 0..LISTS {
+        let list = namespace_list(&mut random);
+        let call = || format!("check_namespaces\n{}", show_namespaces(&list));
+        tally.same(call, CHECK_NAMESPACES.map(|check| check(&list)));
+    }
+}
+
+fn check_both(tally: &mut Tally, table: &[u8]) {
+    let call = || format!("check_table\n{}", show_table(table));
+    tally.same(call, CHECK_TABLE.map(|check| check(table)));
+}
+
+fn table_of(rows: usize, length: usize) -> Vec<u8> {
+    table_bytes(&numbered(rows, length))
+}
+
+/// Rows with ascending names of one length, where it is at least 4.
+fn numbered(rows: usize, length: usize) -> Vec<NewRow> {
+    let name = |at: usize| format!("{at:04}{}", "n".repeat(length)).into_bytes()[..length].to_vec();
+    (0..rows).map(|at| NewRow { flags: Flags::EXISTS, name: name(at) }).collect()
+}

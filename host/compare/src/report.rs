@@ -1,0 +1,71 @@
+//! A difference as text.
+
+use std::io;
+
+use child::SentFrame;
+use second::frames::{Frame, Program};
+use session::{show_answer, show_frame, show_namespaces, show_table, Shown};
+
+/// A frame that is answered differently: what was sent, and both answers.
+pub fn difference_text(
+    session: &[SentFrame],
+    at: usize,
+    second: &Program,
+    expected: &[u8],
+    actual: &io::Result<Option<Vec<u8>>>,
+) -> String {
+    let before: String =
+        session[..at].iter().filter(|frame| !is_stored(frame)).map(shown).collect();
+    let parts = [
+        ("The stored table", shown_if_any(&second.table, show_table)),
+        ("The stored namespace list", shown_if_any(&second.namespaces, show_namespaces)),
+        ("The frames before it, without rows and entries", before),
+        ("The frame", shown(&session[at])),
+        ("The second program answers", answer_text(expected)),
+        ("The program answers", actual_text(actual)),
+    ];
+    let mut text = format!("frame {} of {} is answered differently\n", at + 1, session.len());
+    for (heading, part) in parts.iter().filter(|(_, part)| !part.is_empty()) {
+        text += &format!("{heading}\n{part}");
+    }
+    text
+}
+
+/// A program that cannot be started, does not answer or does not end well.
+pub fn failure_text(error: io::Error) -> String {
+    format!("the program failed: {error}\n")
+}
+
+/// Rows and entries stand in the stored table and list.
+fn is_stored(frame: &SentFrame) -> bool {
+    matches!(Frame::decode(&frame.text), Ok(Frame::Row(_) | Frame::Entry(_)))
+}
+
+fn shown(frame: &SentFrame) -> String {
+    show_frame(frame).to_string()
+}
+
+fn shown_if_any(stored: &[u8], show: fn(&[u8]) -> Shown) -> String {
+    if stored.is_empty() {
+        String::new()
+    } else {
+        show(stored).to_string()
+    }
+}
+
+/// What came in place of the answer line: another line, the end of the output, or a failure.
+fn actual_text(actual: &io::Result<Option<Vec<u8>>>) -> String {
+    match actual {
+        Ok(Some(line)) => answer_text(line),
+        Ok(None) => "Nothing\n".to_string(),
+        Err(error) => format!("Nothing: {error}\n"),
+    }
+}
+
+/// An answer line, with its LF or without one.
+fn answer_text(line: &[u8]) -> String {
+    match line.strip_suffix(b"\n") {
+        Some(answer) => show_answer(answer).to_string(),
+        None => format!("{}without LF\n", show_answer(line)),
+    }
+}

@@ -1,0 +1,183 @@
+//! The C names of the crate `exports` and its structs, and a safe call of each. A slice passes as a
+//! pointer and a length.
+
+use crate::refusal::Refusal;
+
+/// The bytes of the area that a name is read into.
+pub const NAME_ROOM: usize = 200;
+
+/// `Outcome` of the crate `exports`.
+#[repr(C)]
+pub struct Outcome {
+    number: u8,
+    pub length: usize,
+    pub count: usize,
+}
+
+/// `LineParts` of the crate `exports`.
+#[repr(C)]
+pub struct LineParts {
+    pub number: u8,
+    pub criteria: u8,
+    pub attributes: u16,
+    pub length: usize,
+    pub name: [u8; NAME_ROOM],
+}
+
+/// A feeder between two chunks, `FeederState` of the crate `exports`. The default is its first state.
+#[repr(C)]
+#[derive(Clone, Copy, Debug, Default, PartialEq, Eq)]
+pub struct FeederState {
+    pub place: u8,
+    pub cr: bool,
+    pub value: usize,
+    /// The command's bytes so far.
+    pub size: usize,
+}
+
+/// `FedChunk` of the crate `exports`.
+#[repr(C)]
+pub struct FedChunk {
+    pub event: u8,
+    pub number: u8,
+    pub length: usize,
+    pub used: usize,
+    pub state: FeederState,
+}
+
+extern "C" {
+    fn luspemaro_check_table(table: *const u8, table_len: usize) -> bool;
+    fn luspemaro_check_namespaces(list: *const u8, list_len: usize) -> bool;
+    fn luspemaro_matches(
+        pattern: *const u8,
+        pattern_len: usize,
+        name: *const u8,
+        name_len: usize,
+    ) -> bool;
+    fn luspemaro_answer(
+        table: *const u8,
+        table_len: usize,
+        namespaces: *const u8,
+        namespaces_len: usize,
+        line: *const u8,
+        line_len: usize,
+        out: *mut u8,
+        out_len: usize,
+    ) -> Outcome;
+    fn luspemaro_collect(
+        table: *const u8,
+        table_len: usize,
+        option: u8,
+        scratch: *mut u8,
+        scratch_len: usize,
+        found: *mut u8,
+        found_len: usize,
+        pending: *mut u8,
+        pending_len: usize,
+    ) -> Outcome;
+    fn luspemaro_write_line(
+        attributes: u16,
+        name: *const u8,
+        name_len: usize,
+        criteria: u8,
+        out: *mut u8,
+        out_len: usize,
+    ) -> Outcome;
+    fn luspemaro_read_line(line: *const u8, line_len: usize) -> LineParts;
+    fn luspemaro_feed(
+        state: FeederState,
+        command: *mut u8,
+        command_len: usize,
+        chunk: *const u8,
+        chunk_len: usize,
+    ) -> FedChunk;
+    fn luspemaro_put_go_on(out: *mut u8, out_len: usize, at: usize) -> usize;
+}
+
+// Every call below is sound for any slices: the archive's functions are proved to stay inside of
+// what they are lent, with no condition on the caller but that what is written overlaps nothing
+// else, and an exclusive reference overlaps nothing.
+
+pub fn check_table(table: &[u8]) -> bool {
+    unsafe { luspemaro_check_table(table.as_ptr(), table.len()) }
+}
+
+pub fn check_namespaces(list: &[u8]) -> bool {
+    unsafe { luspemaro_check_namespaces(list.as_ptr(), list.len()) }
+}
+
+pub fn matches(pattern: &[u8], name: &[u8]) -> bool {
+    unsafe { luspemaro_matches(pattern.as_ptr(), pattern.len(), name.as_ptr(), name.len()) }
+}
+
+pub fn answer(table: &[u8], namespaces: &[u8], line: &[u8], out: &mut [u8]) -> Outcome {
+    unsafe {
+        luspemaro_answer(
+            table.as_ptr(),
+            table.len(),
+            namespaces.as_ptr(),
+            namespaces.len(),
+            line.as_ptr(),
+            line.len(),
+            out.as_mut_ptr(),
+            out.len(),
+        )
+    }
+}
+
+pub fn collect(
+    table: &[u8],
+    option: u8,
+    scratch: &mut [u8],
+    found: &mut [u8],
+    pending: &mut [u8],
+) -> Outcome {
+    unsafe {
+        luspemaro_collect(
+            table.as_ptr(),
+            table.len(),
+            option,
+            scratch.as_mut_ptr(),
+            scratch.len(),
+            found.as_mut_ptr(),
+            found.len(),
+            pending.as_mut_ptr(),
+            pending.len(),
+        )
+    }
+}
+
+pub fn write_line(attributes: u16, name: &[u8], criteria: u8, out: &mut [u8]) -> Outcome {
+    let (name, name_len) = (name.as_ptr(), name.len());
+    unsafe {
+        luspemaro_write_line(attributes, name, name_len, criteria, out.as_mut_ptr(), out.len())
+    }
+}
+
+pub fn read_line(line: &[u8]) -> LineParts {
+    unsafe { luspemaro_read_line(line.as_ptr(), line.len()) }
+}
+
+pub fn feed(state: FeederState, command: &mut [u8], chunk: &[u8]) -> FedChunk {
+    unsafe {
+        luspemaro_feed(state, command.as_mut_ptr(), command.len(), chunk.as_ptr(), chunk.len())
+    }
+}
+
+pub fn put_go_on(out: &mut [u8], at: usize) -> usize {
+    unsafe { luspemaro_put_go_on(out.as_mut_ptr(), out.len(), at) }
+}
+
+impl Outcome {
+    /// A refusal has length 0 and count 0.
+    pub fn result(&self) -> Result<(), Refusal> {
+        let result = Refusal::check(self.number);
+        assert!(result.is_ok() || (self.length, self.count) == (0, 0), "a refusal with a length");
+        result
+    }
+
+    /// The length of what was written.
+    pub fn written(&self) -> Result<usize, Refusal> {
+        self.result().map(|()| self.length)
+    }
+}

@@ -1,0 +1,75 @@
+//! The structs that pass between Rust and the archive, against the numbers of `host/c/layouts.def`,
+//! which the tests of the C header read too.
+
+// The archive is linked through the library. The structs are private to it, so their source is read
+// here again.
+use luspemaro as _;
+
+#[allow(dead_code)]
+#[path = "../src/raw.rs"]
+mod raw;
+#[allow(dead_code)]
+#[path = "../src/refusal.rs"]
+mod refusal;
+
+use std::mem::{offset_of, size_of, transmute};
+
+use raw::{FedChunk, FeederState, LineParts, Outcome};
+
+const LAYOUTS: &str = include_str!("../../c/layouts.def");
+
+/// A line of the file: `MEMBER(type, member, place)`, or `STRUCT(type, size)` without a member.
+type Layout<'a> = (&'a str, Option<&'a str>, usize);
+
+fn parse(line: &str) -> Option<Layout<'_>> {
+    let (macro_name, arguments) = line.strip_suffix(')')?.split_once('(')?;
+    let words: Vec<&str> = arguments.split(", ").collect();
+    match (macro_name, words.as_slice()) {
+        ("MEMBER", &[name, member, place]) => Some((name, Some(member), place.parse().ok()?)),
+        ("STRUCT", &[name, size]) => Some((name, None, size.parse().ok()?)),
+        _ => None,
+    }
+}
+
+/// The place of an outcome's number, which is private: the one byte that makes it a refusal.
+fn number_place() -> usize {
+    let is_refusal = |place: &usize| {
+        let mut bytes = [0u8; size_of::<Outcome>()];
+        bytes[*place] = 9;
+        // Sound for any bytes: every member is a number.
+        let outcome: Outcome = unsafe { transmute(bytes) };
+        outcome.result().is_err()
+    };
+    let places: Vec<usize> = (0..size_of::<Outcome>()).filter(is_refusal).collect();
+    assert_eq!(places.len(), 1, "one byte is the number");
+    places[0]
+}
+
+#[test]
+fn layouts_are_those_of_the_header() {
+    let in_rust = [
+        ("luspemaro_outcome", Some("number"), number_place()),
+        ("luspemaro_outcome", Some("length"), offset_of!(Outcome, length)),
+        ("luspemaro_outcome", Some("count"), offset_of!(Outcome, count)),
+        ("luspemaro_outcome", None, size_of::<Outcome>()),
+        ("luspemaro_line", Some("number"), offset_of!(LineParts, number)),
+        ("luspemaro_line", Some("criteria"), offset_of!(LineParts, criteria)),
+        ("luspemaro_line", Some("attributes"), offset_of!(LineParts, attributes)),
+        ("luspemaro_line", Some("length"), offset_of!(LineParts, length)),
+        ("luspemaro_line", Some("name"), offset_of!(LineParts, name)),
+        ("luspemaro_line", None, size_of::<LineParts>()),
+        ("luspemaro_feeder", Some("place"), offset_of!(FeederState, place)),
+        ("luspemaro_feeder", Some("cr"), offset_of!(FeederState, cr)),
+        ("luspemaro_feeder", Some("value"), offset_of!(FeederState, value)),
+        ("luspemaro_feeder", Some("size"), offset_of!(FeederState, size)),
+        ("luspemaro_feeder", None, size_of::<FeederState>()),
+        ("luspemaro_fed", Some("event"), offset_of!(FedChunk, event)),
+        ("luspemaro_fed", Some("number"), offset_of!(FedChunk, number)),
+        ("luspemaro_fed", Some("length"), offset_of!(FedChunk, length)),
+        ("luspemaro_fed", Some("used"), offset_of!(FedChunk, used)),
+        ("luspemaro_fed", Some("state"), offset_of!(FedChunk, state)),
+        ("luspemaro_fed", None, size_of::<FedChunk>()),
+    ];
+    let in_file: Vec<Layout> = LAYOUTS.lines().filter_map(parse).collect();
+    assert_eq!(in_file, in_rust);
+}

@@ -1,0 +1,171 @@
+//! The collector: walks a table by sending it commands and reading its lines.
+
+use crate::line::{read_line, Attributes, Criteria, Line};
+use crate::name::descendant_prefix;
+use crate::quoted::push_quoted;
+use crate::refusal::Refusal;
+use crate::server::answer;
+use crate::table::check_table;
+
+/// The option byte: 1 asks for REMOTE, 2 for SPECIAL-USE, 4 drops SUBSCRIBED.
+pub const OPTION_REMOTE: u8 = 1;
+pub const OPTION_SPECIAL_USE: u8 = 2;
+pub const OPTION_WITHOUT_SUBSCRIBED: u8 = 4;
+pub const MAX_OPTION: u8 = 7;
+
+/// "Its namespace list is empty."
+const NO_NAMESPACES: &[u8] = &[];
+
+/// What a walk asks for.
+#[derive(Clone, Copy)]
+struct WalkOptions {
+    criteria: Criteria,
+    remote: bool,
+}
+
+/// Names in lent memory, "each as a length byte and the name", one behind the other.
+struct Names<'b> {
+    bytes: &'b mut [u8],
+    used: usize,
+}
+
+/// The walk of a table. The result is the number of commands sent and the length of found.
+///
+/// "On success pending holds its names; room behind the lengths, and all scratch, is zero."
+/// "Its refusals give count 0 and length 0 and zero all three buffers."
+pub fn collect(
+    table: &[u8],
+    option: u8,
+    scratch: &mut [u8],
+    found: &mut [u8],
+    pending: &mut [u8],
+) -> Result<(usize, usize), Refusal> {
+    let mut found = Names { bytes: found, used: 0 };
+    let mut pending = Names { bytes: pending, used: 0 };
+    let result = walk(table, option, scratch, &mut found, &mut pending);
+    scratch.fill(0);
+    if result.is_err() {
+        found.used = 0;
+        pending.used = 0;
+    }
+    found.clear_behind();
+    pending.clear_behind();
+    result.map(|count| (count, found.used))
+}
+
+/// "Collector order: 1, 6, then the walk". Gives the number of commands sent.
+fn walk(
+    table: &[u8],
+    option: u8,
+    scratch: &mut [u8],
+    found: &mut Names,
+    pending: &mut Names,
+) -> Result<usize, Refusal> {
+    if !check_table(table) {
+        return Err(Refusal::Table);
+    }
+    let options = WalkOptions::from_byte(option).ok_or(Refusal::UnknownOption)?;
+    let mut reference = Vec::new();
+    let mut asked = 0;
+    let mut count = 0;
+    loop {
+        let length = answer(table, NO_NAMESPACES, &options.command(&reference), scratch)?;
+        count += 1;
+        take_lines(&scratch[..length], options, found, pending)?;
+        let Some((name, behind)) = pending.name_at(asked) else {
+            return Ok(count);
+        };
+        reference = descendant_prefix(name);
+        asked = behind;
+    }
+}
+
+/// Each answer line is read back; the last one is the tagged OK line. "by line 10 before 11"
+fn take_lines(
+    answer: &[u8],
+    options: WalkOptions,
+    found: &mut Names,
+    pending: &mut Names,
+) -> Result<(), Refusal> {
+    let lines = answer.split_inclusive(|&byte| byte == b'\n');
+    for text in lines.take_while(|line| line.starts_with(b"* ")) {
+        let line = read_line(text)?;
+        if options.is_find(&line) && !found.push(&line.name) {
+            return Err(Refusal::FoundRoom);
+        }
+        if !line.childinfo.is_empty() && !pending.push(&line.name) {
+            return Err(Refusal::PendingRoom);
+        }
+    }
+    Ok(())
+}
+
+impl WalkOptions {
+    /// "Option byte 4 lets the collector drop SUBSCRIBED, legal only with 2 (else 6; a byte above
+    /// 7 is 6)." (W3)
+    fn from_byte(option: u8) -> Option<WalkOptions> {
+        let mut criteria = Criteria::NONE;
+        if option & OPTION_WITHOUT_SUBSCRIBED == 0 {
+            criteria.add(Criteria::SUBSCRIBED);
+        }
+        if option & OPTION_SPECIAL_USE != 0 {
+            criteria.add(Criteria::SPECIAL_USE);
+        }
+        let is_lawful = option <= MAX_OPTION && !criteria.is_empty();
+        is_lawful.then_some(WalkOptions { criteria, remote: option & OPTION_REMOTE != 0 })
+    }
+
+    /// "It sends tag `w`, selection in the order SUBSCRIBED RECURSIVEMATCH SPECIAL-USE REMOTE,
+    /// reference "" first and later each pending name and "/", pattern "%"."
+    fn command(self, reference: &[u8]) -> Vec<u8> {
+        let mut selection = Vec::new();
+        if self.criteria.has(Criteria::SUBSCRIBED) {
+            selection.push("SUBSCRIBED");
+        }
+        selection.push("RECURSIVEMATCH");
+        if self.criteria.has(Criteria::SPECIAL_USE) {
+            selection.push("SPECIAL-USE");
+        }
+        if self.remote {
+            selection.push("REMOTE");
+        }
+        let mut command = format!("w LIST ({}) ", selection.join(" ")).into_bytes();
+        push_quoted(&mut command, reference);
+        command.extend_from_slice(b" \"%\"\r\n");
+        command
+    }
+
+    /// "A line is a find if it has `\Subscribed`, has no `\Remote` unless REMOTE was asked, and
+    /// has a use if SPECIAL-USE was." Where SUBSCRIBED is dropped, "A find then is a line with a
+    /// use, under the same rule for remote." (W3)
+    fn is_find(self, line: &Line) -> bool {
+        let attributes = Attributes::from_bits(line.attrs);
+        (attributes.has(Attributes::SUBSCRIBED) || !self.criteria.has(Criteria::SUBSCRIBED))
+            && (!attributes.has(Attributes::REMOTE) || self.remote)
+            && (attributes.has(Attributes::USES) || !self.criteria.has(Criteria::SPECIAL_USE))
+    }
+}
+
+impl Names<'_> {
+    /// Adds a name of at most 200 bytes at the end; false, and nothing added, if it does not fit.
+    fn push(&mut self, name: &[u8]) -> bool {
+        let Some(room) = self.bytes[self.used..].get_mut(..1 + name.len()) else {
+            return false;
+        };
+        room[0] = name.len() as u8;
+        room[1..].copy_from_slice(name);
+        self.used += room.len();
+        true
+    }
+
+    /// The name whose length byte is at a place, and the place behind it.
+    fn name_at(&self, at: usize) -> Option<(&[u8], usize)> {
+        let (&length, rest) = self.bytes[at..self.used].split_first()?;
+        let length = usize::from(length);
+        Some((&rest[..length], at + 1 + length))
+    }
+
+    fn clear_behind(&mut self) {
+        self.bytes[self.used..].fill(0);
+    }
+}

@@ -1,0 +1,195 @@
+//! The tokens of a command line, read from left to right. What is off the grammar is 4.
+//!
+//! Atoms, quoted strings and literals are RFC 3501's. Each method has its grammar above it; SP is
+//! one space. A literal is one symbol: no other token reaches over it.
+
+use crate::literal::Literal;
+use crate::pattern::is_wildcard;
+use crate::quoted::read_quoted;
+use crate::refusal::Refusal;
+
+const SPACE: u8 = b' ';
+
+/// A token, or the refusal.
+pub type Token<T> = Result<T, Refusal>;
+
+/// What is left of the line.
+pub struct Cursor<'l, 's> {
+    /// The text up to the next literal.
+    rest: &'l [u8],
+    literals: &'s [Literal<'l>],
+}
+
+/// An option as it is written. A value is read and not kept: no known option has one.
+pub struct WrittenOption<'l> {
+    pub name: &'l [u8],
+    pub has_value: bool,
+}
+
+impl<'l, 's> Cursor<'l, 's> {
+    /// A text, and behind it the literals with the text behind each.
+    pub fn new(text: &'l [u8], literals: &'s [Literal<'l>]) -> Cursor<'l, 's> {
+        Cursor { rest: text, literals }
+    }
+
+    /// Whether `byte` is next.
+    pub fn sees(&self, byte: u8) -> bool {
+        self.rest.first() == Some(&byte)
+    }
+
+    /// Whether SP and "(" are next.
+    pub fn sees_space_and_list(&self) -> bool {
+        self.rest.starts_with(b" (")
+    }
+
+    /// The end of the line.
+    pub fn end(&self) -> Token<()> {
+        if self.rest.is_empty() && self.literals.is_empty() {
+            Ok(())
+        } else {
+            Err(Refusal::Grammar)
+        }
+    }
+
+    /// SP
+    pub fn space(&mut self) -> Token<()> {
+        self.byte(SPACE)
+    }
+
+    /// tag = 1*(atom byte / "]"), no "+"
+    pub fn tag(&mut self) -> Token<&'l [u8]> {
+        self.non_empty_run(|byte| is_astring_byte(byte) && byte != b'+')
+    }
+
+    /// word = *(atom byte), the longest run
+    pub fn word(&mut self) -> &'l [u8] {
+        self.run(is_atom_byte)
+    }
+
+    /// reference = astring
+    pub fn reference(&mut self) -> Token<Vec<u8>> {
+        self.astring()
+    }
+
+    /// patterns = pattern / "(" pattern *(SP pattern) ")"
+    pub fn patterns(&mut self) -> Token<Vec<Vec<u8>>> {
+        if self.sees(b'(') {
+            self.list(Self::pattern)
+        } else {
+            Ok(vec![self.pattern()?])
+        }
+    }
+
+    /// options = "(" [option *(SP option)] ")"
+    pub fn options(&mut self) -> Token<Vec<WrittenOption<'l>>> {
+        match self.rest.strip_prefix(b"()") {
+            Some(behind) => {
+                self.rest = behind;
+                Ok(Vec::new())
+            }
+            None => self.list(Self::option),
+        }
+    }
+
+    /// option = 1*(atom byte) [SP value]
+    fn option(&mut self) -> Token<WrittenOption<'l>> {
+        let name = self.non_empty_run(is_atom_byte)?;
+        let has_value = self.sees_space_and_list();
+        if has_value {
+            self.space()?;
+            self.value()?;
+        }
+        Ok(WrittenOption { name, has_value })
+    }
+
+    /// value = "(" item *(SP item) ")"
+    fn value(&mut self) -> Token<()> {
+        self.list(Self::value_item).map(drop)
+    }
+
+    /// item = astring / value; "values nest as deep as the line allows"
+    fn value_item(&mut self) -> Token<()> {
+        if self.sees(b'(') {
+            self.value()
+        } else {
+            self.astring().map(drop)
+        }
+    }
+
+    /// astring = quoted / literal / 1*(atom byte / "]")
+    fn astring(&mut self) -> Token<Vec<u8>> {
+        self.string_or_run(is_astring_byte)
+    }
+
+    /// pattern = quoted / literal / 1*(atom byte / "]" / "%" / "*")
+    fn pattern(&mut self) -> Token<Vec<u8>> {
+        self.string_or_run(|byte| is_astring_byte(byte) || is_wildcard(byte))
+    }
+
+    /// "(" item *(SP item) ")"
+    fn list<T>(&mut self, item: fn(&mut Self) -> Token<T>) -> Token<Vec<T>> {
+        self.byte(b'(')?;
+        let mut items = vec![item(self)?];
+        while self.sees(SPACE) {
+            self.space()?;
+            items.push(item(self)?);
+        }
+        self.byte(b')')?;
+        Ok(items)
+    }
+
+    fn string_or_run(&mut self, belongs: fn(u8) -> bool) -> Token<Vec<u8>> {
+        if self.sees(b'"') {
+            return self.quoted();
+        }
+        match self.literal() {
+            Some(bytes) => Ok(bytes.to_vec()),
+            None => self.non_empty_run(belongs).map(<[u8]>::to_vec),
+        }
+    }
+
+    /// literal = "{" 1*DIGIT "}" CR LF and so many bytes, if it is next
+    fn literal(&mut self) -> Option<&'l [u8]> {
+        let (literal, behind) = self.literals.split_first().filter(|_| self.rest.is_empty())?;
+        self.rest = literal.text_behind;
+        self.literals = behind;
+        Some(literal.bytes)
+    }
+
+    /// quoted = DQUOTE *(any byte of a line but DQUOTE and "\" / "\" (DQUOTE / "\")) DQUOTE
+    fn quoted(&mut self) -> Token<Vec<u8>> {
+        let (bytes, behind) = read_quoted(self.rest).ok_or(Refusal::Grammar)?;
+        self.rest = behind;
+        Ok(bytes)
+    }
+
+    fn non_empty_run(&mut self, belongs: fn(u8) -> bool) -> Token<&'l [u8]> {
+        let run = self.run(belongs);
+        if run.is_empty() {
+            Err(Refusal::Grammar)
+        } else {
+            Ok(run)
+        }
+    }
+
+    fn run(&mut self, belongs: fn(u8) -> bool) -> &'l [u8] {
+        let length = self.rest.iter().take_while(|&&byte| belongs(byte)).count();
+        let (run, behind) = self.rest.split_at(length);
+        self.rest = behind;
+        run
+    }
+
+    fn byte(&mut self, wanted: u8) -> Token<()> {
+        self.rest = self.rest.strip_prefix(&[wanted]).ok_or(Refusal::Grammar)?;
+        Ok(())
+    }
+}
+
+/// Atom bytes are 21 to 7E without ( ) { % * " \ and "]".
+fn is_atom_byte(byte: u8) -> bool {
+    byte.is_ascii_graphic() && !b"(){%*\"\\]".contains(&byte)
+}
+
+fn is_astring_byte(byte: u8) -> bool {
+    is_atom_byte(byte) || byte == b']'
+}

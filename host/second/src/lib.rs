@@ -1,0 +1,32 @@
+//! The second program of the listing rules: written from the papers alone, document 01 and of
+//! document 02 requests W1 to W3, to be compared with the proved program and to be the plain
+//! measure of its speed.
+//!
+//! The entries are those of document 01: the two checks, the command entry, the line writer,
+//! the line reader, the collector and the frames of the program; and W2's feeder. Left out, as
+//! there: login, SELECT, FETCH, modified UTF-7, sockets.
+
+pub mod collector;
+pub mod command;
+mod cursor;
+pub mod feeder;
+pub mod frames;
+pub mod line;
+mod listing;
+pub mod literal;
+pub mod name;
+pub mod namespaces;
+mod pattern;
+pub mod quoted;
+pub mod refusal;
+mod server;
+pub mod table;
+
+pub use collector::collect;
+pub use feeder::{Event, Feeder};
+pub use line::{read_line, write_line, Criteria, Line};
+pub use namespaces::check_namespaces;
+pub use pattern::matches;
+pub use refusal::Refusal;
+pub use server::answer;
+pub use table::check_table;

@@ -1,0 +1,154 @@
+//! The mailbox table: its flags, its rows and check 1.
+
+use crate::name;
+
+/// Document 01: "At most 512 rows and 32,768 bytes."
+pub const MAX_ROWS: usize = 512;
+pub const MAX_TABLE: usize = 32_768;
+/// The bytes of a row before its name: flags, high byte first, and the name length.
+pub const ROW_HEAD: usize = 3;
+
+/// The flags of a row, a set with named members.
+#[derive(Clone, Copy, Debug, PartialEq, Eq)]
+pub struct Flags(u16);
+
+impl Flags {
+    /// "An ancestor without a row is an implied name: it does not exist, and is neither
+    /// subscribed nor remote."
+    pub const IMPLIED: Flags = Flags(0);
+    pub const EXISTS: Flags = Flags(1 << 0);
+    pub const SUBSCRIBED: Flags = Flags(1 << 1);
+    pub const REMOTE: Flags = Flags(1 << 2);
+    pub const NO_SELECT: Flags = Flags(1 << 3);
+    pub const NO_INFERIORS: Flags = Flags(1 << 4);
+    pub const MARKED: Flags = Flags(1 << 5);
+    pub const UNMARKED: Flags = Flags(1 << 6);
+    pub const ALL: Flags = Flags(1 << 8);
+    pub const ARCHIVE: Flags = Flags(1 << 9);
+    pub const DRAFTS: Flags = Flags(1 << 10);
+    pub const FLAGGED: Flags = Flags(1 << 11);
+    pub const JUNK: Flags = Flags(1 << 12);
+    pub const SENT: Flags = Flags(1 << 13);
+    pub const TRASH: Flags = Flags(1 << 14);
+    /// The special uses, bits 8 to 14.
+    pub const USES: Flags = Flags(0x7F00);
+    /// Bits 7 and 15 "must be 0".
+    const UNNAMED: Flags = Flags(1 << 7 | 1 << 15);
+
+    /// The members, each with a word for it, in the order of their bits.
+    pub const NAMED: [(&'static str, Flags); 14] = [
+        ("exists", Flags::EXISTS),
+        ("subscribed", Flags::SUBSCRIBED),
+        ("remote", Flags::REMOTE),
+        ("noselect", Flags::NO_SELECT),
+        ("noinferiors", Flags::NO_INFERIORS),
+        ("marked", Flags::MARKED),
+        ("unmarked", Flags::UNMARKED),
+        ("all", Flags::ALL),
+        ("archive", Flags::ARCHIVE),
+        ("drafts", Flags::DRAFTS),
+        ("flagged", Flags::FLAGGED),
+        ("junk", Flags::JUNK),
+        ("sent", Flags::SENT),
+        ("trash", Flags::TRASH),
+    ];
+
+    pub const fn from_bits(bits: u16) -> Flags {
+        Flags(bits)
+    }
+
+    pub const fn bits(self) -> u16 {
+        self.0
+    }
+
+    /// Whether some member of `wanted` is in the set.
+    pub const fn has(self, wanted: Flags) -> bool {
+        self.0 & wanted.0 != 0
+    }
+
+    /// The members of both sets.
+    pub const fn with(self, added: Flags) -> Flags {
+        Flags(self.0 | added.0)
+    }
+
+    pub fn add(&mut self, added: Flags) {
+        self.0 |= added.0;
+    }
+
+    pub fn remove(&mut self, removed: Flags) {
+        self.0 &= !removed.0;
+    }
+
+    /// "a row that does not exist has flags exactly 0002; marked and unmarked are not both set"
+    fn are_lawful(self) -> bool {
+        !self.has(Flags::UNNAMED)
+            && (self.has(Flags::EXISTS) || self == Flags::SUBSCRIBED)
+            && !(self.has(Flags::MARKED) && self.has(Flags::UNMARKED))
+    }
+}
+
+/// One row of the table.
+#[derive(Clone, Copy, Debug)]
+pub struct Row<'t> {
+    pub flags: Flags,
+    pub name: &'t [u8],
+}
+
+impl Row<'_> {
+    /// The bytes of the row, or none for a name longer than its length byte can say.
+    pub fn to_bytes(&self) -> Option<Vec<u8>> {
+        let length = u8::try_from(self.name.len()).ok()?;
+        Some([&self.flags.bits().to_be_bytes(), &[length][..], self.name].concat())
+    }
+}
+
+/// Check 1.
+pub fn check_table(table: &[u8]) -> bool {
+    checked_rows(table).is_some()
+}
+
+/// The rows of a table that passes check 1, ascending by name.
+pub fn checked_rows(table: &[u8]) -> Option<Vec<Row<'_>>> {
+    if table.len() > MAX_TABLE {
+        return None;
+    }
+    let (rows, rest) = split_rows(table);
+    let passes = rest.is_empty()
+        && rows.len() <= MAX_ROWS
+        && rows.iter().all(|row| row.flags.are_lawful() && name::is_lawful(row.name))
+        && rows.is_sorted_by(|earlier, later| earlier.name < later.name)
+        && no_row_below_no_inferiors(&rows);
+    passes.then_some(rows)
+}
+
+/// The rows of a table, not judged any further, and the bytes behind them that are no whole row.
+pub fn split_rows(table: &[u8]) -> (Vec<Row<'_>>, &[u8]) {
+    let mut rows = Vec::new();
+    let mut rest = table;
+    while let Some((row, behind)) = split_row(rest) {
+        rows.push(row);
+        rest = behind;
+    }
+    (rows, rest)
+}
+
+/// "A row is flags (2 bytes, high byte first), name length 1 to 200, name."
+fn split_row(table: &[u8]) -> Option<(Row<'_>, &[u8])> {
+    let (head, rest) = table.split_at_checked(ROW_HEAD)?;
+    let (name, rest) = rest.split_at_checked(usize::from(head[2]))?;
+    Some((Row { flags: Flags(u16::from_be_bytes([head[0], head[1]])), name }, rest))
+}
+
+/// The rows that are descendants of `name`. In ascending rows they stand side by side.
+pub fn rows_below<'r, 't>(rows: &'r [Row<'t>], name: &[u8]) -> &'r [Row<'t>] {
+    let prefix = name::descendant_prefix(name);
+    let start = rows.partition_point(|row| row.name < prefix.as_slice());
+    let behind = &rows[start..];
+    &behind[..behind.partition_point(|row| row.name.starts_with(&prefix))]
+}
+
+/// "no row lies below a row with no inferiors", at any depth. The rows ascend.
+fn no_row_below_no_inferiors(rows: &[Row]) -> bool {
+    let mut childless = rows.iter().filter(|row| row.flags.has(Flags::NO_INFERIORS));
+    childless.all(|row| rows_below(rows, row.name).is_empty())
+}

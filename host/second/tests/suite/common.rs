@@ -1,0 +1,100 @@
+//! Set-ups, exchanges and walks as data, and the checks of them.
+
+use second::namespaces::Entry;
+use second::table::{Flags, Row};
+use second::{answer, collect, frames, Refusal};
+
+/// What a lent buffer holds before a call.
+const FILL: u8 = 0xA5;
+
+/// Rows, each as a name and its flags in words or in four digits.
+pub type Rows<'a> = [(&'a str, &'a str)];
+/// Namespace entries, each as class, prefix and delimiter.
+pub type Entries<'a> = [(u8, &'a str, Option<u8>)];
+/// A command without its CR LF, and the lines of its answer without theirs, or the refusal.
+pub type Exchange<'a> = (&'a str, Result<&'a [&'a str], u8>);
+
+/// The names that a walk leaves in found and in pending, and the number of commands sent.
+pub type Walked<'a> = (usize, &'a [&'a str], &'a [&'a str]);
+
+/// The bytes of a table.
+pub fn table_of(rows: &Rows) -> Vec<u8> {
+    let row = |&(name, words): &(&str, &str)| {
+        Row { flags: flags_of(words), name: name.as_bytes() }
+            .to_bytes()
+            .expect("a name of at most 255 bytes")
+    };
+    rows.iter().flat_map(row).collect()
+}
+
+/// Checks a dialogue as the RFCs print it: commands behind `C:`, the lines of their answers
+/// behind `S:`.
+pub fn check_dialogue(rows: &Rows, entries: &Entries, dialogue: &str) {
+    let lines: Vec<&str> =
+        dialogue.lines().map(str::trim).filter(|line| !line.is_empty()).collect();
+    let is_either = |line: &&str| line.starts_with("C: ") || line.starts_with("S: ");
+    assert!(!lines.is_empty() && lines.iter().all(is_either), "not a dialogue");
+    for exchange in lines.chunk_by(|_, line| line.starts_with("S: ")) {
+        let text: Vec<&str> = exchange.iter().map(|line| &line[3..]).collect();
+        check(rows, entries, &[(text[0], Ok(&text[1..]))]);
+    }
+}
+
+/// Runs each command over the same table and list, and checks its answer, the bytes behind it,
+/// and on refusal every byte of the buffer.
+pub fn check(rows: &Rows, entries: &Entries, exchanges: &[Exchange]) {
+    let table = table_of(rows);
+    let namespaces: Vec<u8> = entries.iter().flat_map(entry_bytes).collect();
+    for (command, expected) in exchanges {
+        let line = format!("{command}\r\n");
+        let mut out = vec![FILL; frames::ANSWER_ROOM];
+        let result =
+            answer(&table, &namespaces, line.as_bytes(), &mut out).map_err(Refusal::number);
+        let (text, behind) = out.split_at(result.unwrap_or(0));
+        let text = str::from_utf8(text).expect("an answer of ASCII");
+        let lines: Vec<&str> = text.split_terminator("\r\n").collect();
+        assert_eq!(result.map(|_| lines.as_slice()), *expected, "{command}");
+        assert!(result.is_err() || text.ends_with("\r\n"), "{command}: no CR LF at the end");
+        assert!(behind.iter().all(|&byte| byte == FILL), "{command}: bytes behind changed");
+    }
+}
+
+/// Runs a walk in buffers of these lengths and checks every byte of the three.
+pub fn check_walk(rows: &Rows, option: u8, rooms: [usize; 3], expected: Result<Walked, u8>) {
+    let [mut scratch, mut found, mut pending] = rooms.map(|room| vec![FILL; room]);
+    let result = collect(&table_of(rows), option, &mut scratch, &mut found, &mut pending);
+    let (found_names, pending_names) = match expected {
+        Ok((_, found, pending)) => (names_bytes(found), names_bytes(pending)),
+        Err(_) => (vec![], vec![]),
+    };
+    assert_eq!(
+        result.map_err(Refusal::number),
+        expected.map(|(count, ..)| (count, found_names.len()))
+    );
+    assert!(scratch.iter().all(|&byte| byte == 0));
+    for (buffer, names) in [(found, found_names), (pending, pending_names)] {
+        assert_eq!(buffer[..names.len()], names);
+        assert!(buffer[names.len()..].iter().all(|&byte| byte == 0));
+    }
+}
+
+/// Flags from their words, or from four digits.
+fn flags_of(words: &str) -> Flags {
+    let mut flags = Flags::IMPLIED;
+    for word in words.split(' ') {
+        let named = Flags::NAMED.iter().find(|(name, _)| *name == word).map(|(_, flag)| *flag);
+        let number = || Flags::from_bits(u16::from_str_radix(word, 16).expect("four digits"));
+        flags.add(named.unwrap_or_else(number));
+    }
+    flags
+}
+
+fn names_bytes(names: &[&str]) -> Vec<u8> {
+    let name = |name: &&str| [&[name.len() as u8], name.as_bytes()].concat();
+    names.iter().flat_map(name).collect()
+}
+
+fn entry_bytes(&(class, prefix, delimiter): &(u8, &str, Option<u8>)) -> Vec<u8> {
+    let entry = Entry { class, prefix: prefix.as_bytes(), delimiter };
+    entry.to_bytes().expect("a prefix of at most 255 bytes")
+}

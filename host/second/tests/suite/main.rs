@@ -1,0 +1,17 @@
+//! The tests of the second program.
+
+mod checks;
+mod commands;
+mod common;
+mod expert_sheet;
+mod feeder;
+mod lines;
+mod listing;
+mod literals;
+mod matcher;
+mod program;
+mod rfc2342;
+mod rfc5258;
+mod rfc6154;
+mod special_uses;
+mod walks;

@@ -1,0 +1,163 @@
+//! The program: frames in, answers out.
+
+use std::io::{self, Read, Write};
+
+use second::frames::{self, hex_of};
+
+/// The program's output for an input, both as text.
+fn output_of(input: &str) -> String {
+    let mut output = Vec::new();
+    frames::run(input.as_bytes(), &mut output).expect("no error in memory");
+    String::from_utf8(output).expect("hexadecimal")
+}
+
+/// A frame of a first byte and the bytes behind it, with its LF.
+fn frame(first: u8, behind: &[u8]) -> String {
+    let digits = hex_of(&[&[first], behind].concat());
+    String::from_utf8(digits).expect("hexadecimal") + "\n"
+}
+
+const NAMESPACE: &str = "4361204E414D4553504143450D0A\n";
+const NAMESPACE_ANSWER: &str =
+    "412A204E414D455350414345204E494C204E494C204E494C0D0A61204F4B20646F6E650D0A\n";
+const BAD_FRAME: &str = "520D\n";
+
+#[test]
+fn the_session_of_document_01() {
+    assert_eq!(output_of(NAMESPACE), NAMESPACE_ANSWER);
+    assert_eq!(output_of(&NAMESPACE.to_ascii_lowercase()), NAMESPACE_ANSWER);
+}
+
+#[test]
+fn bad_frames() {
+    let lines = [
+        "", "4", "434", "0x43", "43 0D0A", "4G", " 43", "43\r", "00", "41", "52", "6D", "57",
+        "570000", "5701 ", "-1", "+1",
+    ];
+    for line in lines {
+        assert_eq!(output_of(&format!("{line}\n")), BAD_FRAME, "{line:?}");
+    }
+    assert_eq!(output_of("\n\n"), BAD_FRAME.repeat(2));
+}
+
+#[test]
+fn input_without_a_last_lf() {
+    assert_eq!(output_of(""), "");
+    assert_eq!(output_of("5700"), BAD_FRAME);
+    assert_eq!(output_of("4D"), BAD_FRAME);
+    assert_eq!(output_of(&format!("{NAMESPACE}43")), format!("{NAMESPACE_ANSWER}{BAD_FRAME}"));
+}
+
+/// 4,100 digits hold a line of 2,049 bytes, which is 3; one byte more is an overlong frame.
+#[test]
+fn lengths_of_frames() {
+    let line_shape = "5203\n";
+    for (digits, answer) in [
+        (4_098, line_shape),
+        (4_100, line_shape),
+        (4_101, BAD_FRAME),
+        (4_102, BAD_FRAME),
+        (1_000_000, BAD_FRAME),
+    ] {
+        let overlong = format!("43{}\n", "6".repeat(digits - 2));
+        assert_eq!(output_of(&(overlong + NAMESPACE)), format!("{answer}{NAMESPACE_ANSWER}"));
+    }
+    let longest_row = frame(frames::ROW, &[0; 2_049]);
+    assert_eq!(output_of(&longest_row), "");
+}
+
+#[test]
+fn walks() {
+    let rows = frame(frames::ROW, b"\x00\x02\x03a/b");
+    assert_eq!(output_of("5700\n"), "570001\n");
+    assert_eq!(output_of(&format!("{rows}5700\n5701\n")), "57000203612F62\n".repeat(2));
+    assert_eq!(output_of(&format!("{rows}5702\n5704\n57ff\n")), "570001\n5206\n5206\n");
+    let used = frame(frames::ROW, b"\x20\x01\x03a/b");
+    assert_eq!(
+        output_of(&format!("{used}5702\n5706\n5707\n5708\n")),
+        "570001\n57000203612F62\n57000203612F62\n5206\n"
+    );
+    let bad_table = frame(frames::ROW, b"\x00");
+    assert_eq!(output_of(&format!("{bad_table}5704\n")), "5201\n");
+    let bad_list = frame(frames::ENTRY, b"\x00");
+    assert_eq!(output_of(&format!("{bad_list}5700\n{NAMESPACE}")), "570001\n5202\n");
+}
+
+/// A frame may hold half a row, two rows or nothing; the table is judged at the next command.
+#[test]
+fn rows_in_pieces() {
+    let list = frame(frames::COMMAND, b"a LIST \"\" %\r\n");
+    let two = "* LIST () \"/\" \"a\"\r\n* LIST () \"/\" \"b\"\r\na OK done\r\n";
+    let listed = frame(frames::ANSWER, two.as_bytes());
+    let pieces: [&[&[u8]]; 3] = [
+        &[b"\x00\x01\x01a\x00\x01\x01b"],
+        &[b"\x00\x01\x01a\x00", b"\x01\x01", b"", b"b"],
+        &[b"", b"\x00\x01\x01a", b"\x00\x01\x01b", b""],
+    ];
+    for rows in pieces {
+        let sent: String = rows.iter().map(|row| frame(frames::ROW, row)).collect();
+        assert_eq!(output_of(&(sent + &list)), listed);
+    }
+    let half = frame(frames::ROW, b"\x00\x01\x01");
+    let rest = frame(frames::ROW, b"a");
+    assert_eq!(output_of(&format!("{half}{list}{rest}")), "5201\n");
+}
+
+/// Room counts bytes alone; nothing of a frame without room is stored.
+#[test]
+fn room_for_rows_and_entries() {
+    let rooms = [
+        (frames::ROW, frames::TABLE_ROOM, "5201\n"),
+        (frames::ENTRY, frames::NAMESPACES_ROOM, "5202\n"),
+    ];
+    for (first, room, refused) in rooms {
+        let filling = frame(first, &[0; 128]).repeat(room / 128 - 1);
+        let last = frame(first, &[0; 128]);
+        let too_long = frame(first, &[0; 129]);
+        let one_byte = frame(first, &[0]);
+        assert_eq!(output_of(&format!("{filling}{last}")), "");
+        assert_eq!(output_of(&format!("{filling}{too_long}{last}")), refused);
+        assert_eq!(output_of(&format!("{filling}{last}{one_byte}")), refused);
+        assert_eq!(output_of(&format!("{filling}{last}{}", frame(first, &[]))), "");
+    }
+}
+
+#[test]
+fn a_bad_frame_keeps_the_stored_bytes() {
+    let row = frame(frames::ROW, b"\x00\x01\x01a");
+    let list = frame(frames::COMMAND, b"a LIST \"\" %\r\n");
+    let listed = frame(frames::ANSWER, b"* LIST () \"/\" \"a\"\r\na OK done\r\n");
+    assert_eq!(output_of(&format!("{row}4D0\n4F00\n{list}")), format!("520D\n520D\n{listed}"));
+}
+
+/// Input that comes a byte at a time gives the same output.
+#[test]
+fn input_in_single_bytes() {
+    struct SingleBytes<'a>(&'a [u8]);
+    impl Read for SingleBytes<'_> {
+        fn read(&mut self, room: &mut [u8]) -> io::Result<usize> {
+            let one = room.len().min(1);
+            self.0.read(&mut room[..one])
+        }
+    }
+    let input = format!("{NAMESPACE}\n{}5700\n43", frame(frames::ROW, b"\x00\x02\x01a"));
+    let mut output = Vec::new();
+    frames::run(SingleBytes(input.as_bytes()), &mut output).expect("no error in memory");
+    assert_eq!(output, output_of(&input).into_bytes());
+}
+
+/// A closed output ends the program with an error and without a panic.
+#[test]
+fn closed_output() {
+    struct Closed;
+    impl Write for Closed {
+        fn write(&mut self, _: &[u8]) -> io::Result<usize> {
+            Err(io::ErrorKind::BrokenPipe.into())
+        }
+        fn flush(&mut self) -> io::Result<()> {
+            Ok(())
+        }
+    }
+    let result = frames::run(NAMESPACE.as_bytes(), Closed);
+    assert_eq!(result.map_err(|error| error.kind()), Err(io::ErrorKind::BrokenPipe));
+}

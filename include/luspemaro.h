@@ -1,0 +1,246 @@
+/* Luspemaro's entries for C and C++, as `rt staticlib exports` puts them into target/staticlib/libexports.a, for x86-64.
+ *
+ * Every entry takes any bytes and any numbers, and its result and every byte of lent memory are decided by a promise that is proved
+ * (crates/exports). What the caller owes:
+ *
+ * - Lent memory passes as a pointer and a length. The pointer is never null, at length 0 too: lend any object then.
+ * - What an entry writes (a pointer without const) overlaps nothing else that the same call is lent.
+ * - The stack has room for the entry: see LUSPEMARO_STACK_ .. below. Nothing checks it.
+ *
+ * An entry keeps no pointer and no memory between two calls, allocates nothing and makes no system call; so calls may run in several
+ * threads at a time where none writes what another is lent.
+ *
+ * Document 01 is the paper of the rules.
+ */
+#ifndef LUSPEMARO_H
+#define LUSPEMARO_H
+
+#ifndef __cplusplus
+#include <stdbool.h>
+#endif
+#include <stddef.h>
+#include <stdint.h>
+
+#if SIZE_MAX != UINT64_MAX
+#error "luspemaro.h: the archive is for x86-64, where a size_t has 64 bits"
+#endif
+
+#ifdef __cplusplus
+extern "C" {
+#endif
+
+/* ---- The mailbox table: rows without a gap. A row is its flags (2 bytes, high byte first), the name's length (1 to 200), the name.
+ * A row that does not exist has flags SUBSCRIBED alone; the bits without a name are 0. An empty table passes. */
+
+#define LUSPEMARO_FLAG_EXISTS 0x0001
+#define LUSPEMARO_FLAG_SUBSCRIBED 0x0002
+#define LUSPEMARO_FLAG_REMOTE 0x0004
+#define LUSPEMARO_FLAG_NO_SELECT 0x0008
+#define LUSPEMARO_FLAG_NO_INFERIORS 0x0010
+#define LUSPEMARO_FLAG_MARKED 0x0020
+#define LUSPEMARO_FLAG_UNMARKED 0x0040
+#define LUSPEMARO_FLAG_ALL 0x0100
+#define LUSPEMARO_FLAG_ARCHIVE 0x0200
+#define LUSPEMARO_FLAG_DRAFTS 0x0400
+#define LUSPEMARO_FLAG_FLAGGED 0x0800
+#define LUSPEMARO_FLAG_JUNK 0x1000
+#define LUSPEMARO_FLAG_SENT 0x2000
+#define LUSPEMARO_FLAG_TRASH 0x4000
+
+/* The most that passes. */
+#define LUSPEMARO_MAX_TABLE 32768 /* bytes of a table */
+#define LUSPEMARO_MAX_ROWS 512
+#define LUSPEMARO_MAX_NAME 200  /* bytes of a name */
+#define LUSPEMARO_MAX_LEVELS 16 /* levels of a name, parted by "/" */
+
+/* ---- The namespace list: entries without a gap. An entry is its class, the prefix's length (0 to 64), the prefix, the delimiter (0
+ * for NIL, or 21 to 7E). Classes do not descend. An empty list passes. */
+
+#define LUSPEMARO_CLASS_PERSONAL 0
+#define LUSPEMARO_CLASS_OTHER_USERS 1
+#define LUSPEMARO_CLASS_SHARED 2
+
+/* The most that passes. */
+#define LUSPEMARO_MAX_ENTRIES 4      /* of a class */
+#define LUSPEMARO_MAX_PREFIX 64      /* bytes of a prefix */
+#define LUSPEMARO_MAX_NAMESPACES 804 /* bytes of a list: three classes of 4 entries of 67 bytes */
+
+/* ---- Command lines. */
+
+#define LUSPEMARO_MAX_COMMAND 2048  /* bytes, literals and the last CR LF counted; more is 3 */
+#define LUSPEMARO_MAX_LITERAL 1024  /* bytes of one literal; more is 3 */
+#define LUSPEMARO_MAX_PATTERNS 8    /* more is 8 */
+#define LUSPEMARO_MAX_CANONICAL 255 /* bytes of reference and pattern together; more is 8 */
+
+/* ---- LIST lines: their attributes, in the order of a line, and the criteria that CHILDINFO names. */
+
+#define LUSPEMARO_ATTRIBUTE_MARKED 0x0001
+#define LUSPEMARO_ATTRIBUTE_UNMARKED 0x0002
+#define LUSPEMARO_ATTRIBUTE_NOSELECT 0x0004
+#define LUSPEMARO_ATTRIBUTE_NO_INFERIORS 0x0008
+#define LUSPEMARO_ATTRIBUTE_REMOTE 0x0010
+#define LUSPEMARO_ATTRIBUTE_SUBSCRIBED 0x0020
+#define LUSPEMARO_ATTRIBUTE_NON_EXISTENT 0x0040
+#define LUSPEMARO_ATTRIBUTE_ALL 0x0080
+#define LUSPEMARO_ATTRIBUTE_ARCHIVE 0x0100
+#define LUSPEMARO_ATTRIBUTE_DRAFTS 0x0200
+#define LUSPEMARO_ATTRIBUTE_FLAGGED 0x0400
+#define LUSPEMARO_ATTRIBUTE_JUNK 0x0800
+#define LUSPEMARO_ATTRIBUTE_SENT 0x1000
+#define LUSPEMARO_ATTRIBUTE_TRASH 0x2000
+#define LUSPEMARO_ATTRIBUTE_HAS_CHILDREN 0x4000
+#define LUSPEMARO_ATTRIBUTE_HAS_NO_CHILDREN 0x8000
+
+#define LUSPEMARO_CRITERIA_NONE 0x00 /* a line without CHILDINFO */
+#define LUSPEMARO_CRITERIA_SUBSCRIBED 0x01
+#define LUSPEMARO_CRITERIA_SPECIAL_USE 0x02
+
+/* ---- The walk's option byte: any of these together; WITHOUT_SUBSCRIBED only with SPECIAL_USE. So 0, 1, 2, 3, 6 and 7 are lawful,
+ * and all others are refused with 6. */
+
+#define LUSPEMARO_OPTION_REMOTE 0x01             /* remote mailboxes too */
+#define LUSPEMARO_OPTION_SPECIAL_USE 0x02        /* only those with a special use */
+#define LUSPEMARO_OPTION_WITHOUT_SUBSCRIBED 0x04 /* those that are not subscribed too */
+
+/* ---- Document 01's numbers of refusal. Of several causes the first in the entry's order is told. */
+
+#define LUSPEMARO_DONE 0 /* no refusal */
+
+#define LUSPEMARO_REFUSAL_TABLE 1                /* the mailbox table does not pass */
+#define LUSPEMARO_REFUSAL_NAMESPACES 2           /* the namespace list does not pass */
+#define LUSPEMARO_REFUSAL_LINE_SHAPE 3           /* too long, no CR LF at its end, a byte that no line has, a literal cut short or too long */
+#define LUSPEMARO_REFUSAL_GRAMMAR 4              /* the tag, or the rest after a known word, is off the grammar */
+#define LUSPEMARO_REFUSAL_WORD 5                 /* the word is neither LIST nor NAMESPACE */
+#define LUSPEMARO_REFUSAL_OPTION 6               /* an unknown option, one with a value, or an unlawful option byte */
+#define LUSPEMARO_REFUSAL_RECURSIVEMATCH_ALONE 7 /* RECURSIVEMATCH with neither SUBSCRIBED nor SPECIAL-USE beside it */
+#define LUSPEMARO_REFUSAL_PATTERNS 8             /* over 8 patterns, or a canonical pattern of over 255 bytes */
+#define LUSPEMARO_REFUSAL_SHORT_BUFFER 9         /* the answer, or the line, is longer than its buffer */
+#define LUSPEMARO_REFUSAL_FOUND_FULL 10          /* a find does not fit */
+#define LUSPEMARO_REFUSAL_PENDING_FULL 11        /* a pending name does not fit */
+#define LUSPEMARO_REFUSAL_NOT_SUCH_LINE 12       /* not a LIST line, or not the parts of one */
+#define LUSPEMARO_REFUSAL_BAD_FRAME 13           /* the program of frames alone: no entry gives it */
+
+/* ---- Rooms: lengths of lent memory with which 9, 10 and 11 are never given, whatever the table and the command. Less suffices for a
+ * table of t bytes: an answer to a line of n bytes has at most 59 t + n + 1,666 bytes; scratch needs at most 42 t + 11, found t and
+ * pending 15 t. These are counted from the rules and are no part of a promise. */
+
+#define LUSPEMARO_ROOM_ANSWER 1572864
+#define LUSPEMARO_ROOM_SCRATCH 147456
+#define LUSPEMARO_ROOM_FOUND 32768
+#define LUSPEMARO_ROOM_PENDING 491520
+#define LUSPEMARO_ROOM_LIST_LINE 612 /* the longest LIST line */
+#define LUSPEMARO_ROOM_COMMAND 2048  /* the feeder asks for this much, and refuses less */
+#define LUSPEMARO_ROOM_GO_ON 6       /* the continuation line */
+
+/* ---- Stacks: bytes below the call that each entry needs at most, with a margin. They are computed from the archive's machine code and
+ * measured (host/c/test), not proved. An answer needs so much since values of options nest as deep as the line allows: a line of 2,048
+ * bytes may open some 2,000 parentheses. */
+
+#define LUSPEMARO_STACK_CHECK_TABLE 16384
+#define LUSPEMARO_STACK_CHECK_NAMESPACES 12288
+#define LUSPEMARO_STACK_MATCHES 12288
+#define LUSPEMARO_STACK_ANSWER 282624
+#define LUSPEMARO_STACK_COLLECT 24576
+#define LUSPEMARO_STACK_WRITE_LINE 12288
+#define LUSPEMARO_STACK_READ_LINE 12288
+#define LUSPEMARO_STACK_FEED 12288
+#define LUSPEMARO_STACK_PUT_GO_ON 12288
+
+/* ---- What the entries answer. */
+
+/* Of a call that writes into lent memory. number: LUSPEMARO_DONE or a refusal. length: bytes written at the front of out, or of found.
+ * count: of a walk, the commands sent; else 0. A refusal has length 0 and count 0. */
+struct luspemaro_outcome {
+    uint8_t number;
+    size_t length;
+    size_t count;
+};
+
+/* A LIST line in its parts. number: LUSPEMARO_DONE or LUSPEMARO_REFUSAL_NOT_SUCH_LINE. criteria: what CHILDINFO names. The name is the
+ * first length bytes of name, and the bytes after it are zero. The root line has attribute NOSELECT and an empty name. A refusal has
+ * no attributes, no criteria and an empty name. */
+struct luspemaro_line {
+    uint8_t number;
+    uint8_t criteria;
+    uint16_t attributes;
+    size_t length;
+    uint8_t name[LUSPEMARO_MAX_NAME];
+};
+
+/* A feeder between two chunks. All zero is the first state: no byte of a command was read. size: the command's bytes so far, at the
+ * front of the lent memory, where they have to be found again at the next call. The rest is only to be given back.
+ *
+ * Any numbers are taken. place: 0 in a line, 1 at a CR, 2 at "{", 3 at digits after it, 4 at "}" after those, 5 at the CR after that, 6
+ * in a literal, 7 and all above bytes are dropped. value: of 3, 4 and 5 the number that the digits spell, of 6 the literal's bytes to
+ * come; given back as 0 with the other places. cr: 0 the last byte is no CR, any other number it is one; given back as 0 or 1. */
+struct luspemaro_feeder {
+    uint8_t place;
+    uint8_t cr;
+    size_t value;
+    size_t size;
+};
+
+#define LUSPEMARO_EVENT_QUIET 0     /* nothing yet */
+#define LUSPEMARO_EVENT_COMMAND 1   /* a whole command: the first length bytes of the lent memory */
+#define LUSPEMARO_EVENT_GO_ON 2     /* the continuation line is due */
+#define LUSPEMARO_EVENT_REFUSED 3   /* with LINE_SHAPE: a literal of over 1,024 bytes, a byte 00, or a command of over 2,048 bytes */
+#define LUSPEMARO_EVENT_TOO_SMALL 4 /* the lent memory has under 2,048 bytes, or the state's size is over 2,048: nothing is taken */
+
+/* What comes of a chunk. number is 0 but with REFUSED, length is 0 but with COMMAND. used: bytes of the chunk that were taken. state:
+ * for the next call. */
+struct luspemaro_fed {
+    uint8_t event;
+    uint8_t number;
+    size_t length;
+    size_t used;
+    struct luspemaro_feeder state;
+};
+
+/* ---- The entries. */
+
+/* Check 1: whether the table passes. */
+bool luspemaro_check_table(const uint8_t *table, size_t table_length);
+
+/* Check 2: whether the namespace list passes. */
+bool luspemaro_check_namespaces(const uint8_t *list, size_t list_length);
+
+/* Whether the name matches the canonical pattern, of any length. False of every name of over 255 bytes. */
+bool luspemaro_matches(const uint8_t *pattern, size_t pattern_length, const uint8_t *name, size_t name_length);
+
+/* The answer to one command line, its CR LF included, at the front of out. Refusals, in this order: 1, 2, 3, 4 for the tag, 5, 4 for the
+ * rest, 6, 7, 8, 9. The bytes after the answer stay; a refusal changes no byte. */
+struct luspemaro_outcome luspemaro_answer(const uint8_t *table, size_t table_length, const uint8_t *namespaces,
+                                          size_t namespaces_length, const uint8_t *line, size_t line_length, uint8_t *out,
+                                          size_t out_length);
+
+/* The collector's walk. option: the sum of LUSPEMARO_OPTION_ .. Finds lie at the front of found, length bytes of them, and the names
+ * that were asked below at the front of pending, count - 1 of them; each as a length byte (1 to 200) and the name, in walk order. The
+ * bytes after them, and all of scratch, are zero. Refusals: 1, 6, then in the walk's own order 9 (scratch), 10, 11; a refusal leaves
+ * all three zero. */
+struct luspemaro_outcome luspemaro_collect(const uint8_t *table, size_t table_length, uint8_t option, uint8_t *scratch,
+                                           size_t scratch_length, uint8_t *found, size_t found_length, uint8_t *pending,
+                                           size_t pending_length);
+
+/* The LIST line of these parts at the front of out: any attributes, a name of the table's shape, and criteria 0 to 3; or the root line,
+ * for NOSELECT, an empty name and no criteria. Refusals, in this order: 12 for criteria above 3, 12 for other parts, 9. The bytes after
+ * the line stay; a refusal changes no byte. */
+struct luspemaro_outcome luspemaro_write_line(uint16_t attributes, const uint8_t *name, size_t name_length, uint8_t criteria,
+                                              uint8_t *out, size_t out_length);
+
+/* The parts of a LIST line, its CR LF included. */
+struct luspemaro_line luspemaro_read_line(const uint8_t *line, size_t line_length);
+
+/* Takes the chunk through the first byte that something comes of, or all of it, and stores the command's bytes at the front of the
+ * lent memory, LUSPEMARO_ROOM_COMMAND bytes or more. Call it again with the rest until nothing is left. A chunk may be empty. */
+struct luspemaro_fed luspemaro_feed(struct luspemaro_feeder state, uint8_t *command, size_t command_length, const uint8_t *chunk,
+                                    size_t chunk_length);
+
+/* "+ go" CR LF from out[at] on, and the place after it: at + 6, but at most SIZE_MAX. Nothing is stored past the end of out, where
+ * the place counts on: an answer above out_length says that the line is not there, or not whole. */
+size_t luspemaro_put_go_on(uint8_t *out, size_t out_length, size_t at);
+
+#ifdef __cplusplus
+}
+#endif
+
+#endif

@@ -7,29 +7,11 @@ use Rattle.list_line.proofs.read.next_piece.Tie as tie
 returns : tie.Need-returns
 returns c = piece-out _ _ (c .if1 .taken)
 
-shared-slice-read-b : tie.Need-shared-slice-read-b
-shared-slice-read-b c = search needs
-
-add-t9 : tie.Need-add-t9
-add-t9 c = search needs
-
 returns-2 : tie.Need-returns-2
 returns-2 c = piece-end _ _ (c .before .before .if1 .left) (c .if2 .taken)
 
-add-t10 : tie.Need-add-t10
-add-t10 c = search needs
-
 returns-3 : tie.Need-returns-3
 returns-3 c = piece-byte _ _ (c .before .before .before .if1 .left) (c .before .if2 .left) (c .if3 .taken)
-
-add-byte-at : tie.Need-add-byte-at
-add-byte-at c = search needs
-
-byte-at-requires : tie.Need-byte-at-requires
-byte-at-requires c κs = search needs
-
-add-t13 : tie.Need-add-t13
-add-t13 c = search needs
 
 returns-4 : tie.Need-returns-4
 returns-4 c =
@@ -50,13 +32,13 @@ next-piece-spec =
     tie.close
     (tie.spec
     returns
-    shared-slice-read-b
-    add-t9
+    (λ c. search needs)
+    (λ c. search needs)
     returns-2
-    add-t10
+    (λ c. search needs)
     returns-3
-    add-byte-at
-    byte-at-requires
-    add-t13
+    (λ c. search needs)
+    (λ c κs. search needs)
+    (λ c. search needs)
     returns-4
     returns-5)

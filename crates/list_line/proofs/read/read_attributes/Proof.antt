@@ -7,24 +7,15 @@ use Rattle.list_line.specs.Names.{allNames, namePlaces}
 use Rattle.list_line.proofs.read.read_attributes.Statement.{statement}
 use Rattle.list_line.proofs.read.read_attributes.Tie as tie
 
-slice-aggregate-read-chosen : tie.Need-slice-aggregate-read-chosen
-slice-aggregate-read-chosen c = search needs
-
-slice-aggregate-read-chosen-2 : tie.Need-slice-aggregate-read-chosen-2
-slice-aggregate-read-chosen-2 c = search needs
-
 read-chosen-requires : tie.Need-read-chosen-requires
 unfolding openBytes openLines allNames namePlaces
 read-chosen-requires c κs = (c .before .before .before .pre, (refl, refl))
-
-returns : tie.Need-returns
-returns c = search needs
 
 pub read-attributes-spec : {M : Type 1} → statement M
 read-attributes-spec =
     tie.close
     (tie.spec
-    slice-aggregate-read-chosen
-    slice-aggregate-read-chosen-2
+    (λ c. search needs)
+    (λ c. search needs)
     read-chosen-requires
-    returns)
+    (λ c. search needs))

@@ -46,29 +46,17 @@ skipped c =
     let start = turn .before .before .before .before in
     subst (λ (x : List ℕ). Skips (start .args .line .now) (turn .loop .at) x (c .skip .result)) (span-text (start .args .names .now) (start .pre .1 .0) (after-name-span .name-span .ensures)) (c .skip .ensures)
 
-enum-known-next : tie.Need-enum-known-next Inv-loop μ-loop
-enum-known-next c = search needs
-
 add-bits : tie.Need-add-bits Inv-loop μ-loop
 add-bits c =
     let at-loop-test = c .before .before .before .before .before .before in
     let turn = at-loop-test .before in
     omega (arith, choosing-bits (turn .loop .inv), choosing-member (turn .loop .inv) (at-loop-test .loop-test .taken))
 
-enum-told : tie.Need-enum-told Inv-loop μ-loop
-enum-told c = search needs
-
 mul-member : tie.Need-mul-member Inv-loop μ-loop
 mul-member c =
     let at-loop-test = c .before .before .before .before in
     let turn = at-loop-test .before in
     omega (arith, choosing-member (turn .loop .inv) (at-loop-test .loop-test .taken))
-
-add-k : tie.Need-add-k Inv-loop μ-loop
-add-k c = search needs
-
-loop-less : tie.Need-loop-less Inv-loop μ-loop
-loop-less c = search needs
 
 loop-again : tie.Need-loop-again Inv-loop μ-loop
 loop-again c =
@@ -101,12 +89,12 @@ read-chosen-spec =
     part-skip-start
     part-skip-end
     skip-requires
-    enum-known-next
+    (λ c. search needs)
     add-bits
-    enum-told
+    (λ c. search needs)
     mul-member
-    add-k
-    loop-less
+    (λ c. search needs)
+    (λ c. search needs)
     loop-again
     cast-t20
     returns)

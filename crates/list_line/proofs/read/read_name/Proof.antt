@@ -19,12 +19,6 @@ abbrev μ-loop : tie.MeasureT-loop
 loop-holds : tie.Need-loop-holds Inv-loop μ-loop
 loop-holds c = naming-none _ _ _
 
-next-piece-requires : tie.Need-next-piece-requires Inv-loop μ-loop
-next-piece-requires c κs = search needs
-
-enum-known-b : tie.Need-enum-known-b Inv-loop μ-loop
-enum-known-b c = search needs
-
 told : (c : tie.After-known-told Inv-loop μ-loop) → Next (c .before .before .before .before .before .before .before .args .line .now) (c .before .before .before .before .loop .i) (Byte (c .before .b .given .0 .0) (c .before .b .given .0 .1 .0))
 told c =
     let after-next-piece = c .before .before .before in
@@ -38,20 +32,11 @@ same-length c = c .before .before .before .before .before .loop .inv .long
 returns : tie.Need-returns Inv-loop μ-loop
 returns c = naming-full (c .before .before .before .before .before .loop .inv) _ _ (told (c .before)) (c .if1 .taken)
 
-slice-write-name : tie.Need-slice-write-name Inv-loop μ-loop
-slice-write-name c = search needs
-
-add-len : tie.Need-add-len Inv-loop μ-loop
-add-len c = search needs
-
 loop-less : tie.Need-loop-less Inv-loop μ-loop
 loop-less c = omega (arith, told (c .before))
 
 loop-again : tie.Need-loop-again Inv-loop μ-loop
 loop-again c = naming-byte (c .before .before .before .before .before .loop .inv) _ _ (told (c .before)) (c .if1 .left)
-
-enum-known-next : tie.Need-enum-known-next Inv-loop μ-loop
-enum-known-next c = search needs
 
 same-length-2 : tie.Need-same-length-2 Inv-loop μ-loop
 same-length-2 c = c .before .before .before .before .loop .inv .long
@@ -62,9 +47,6 @@ returns-2 c =
     let turn = after-next-piece .before in
     let start = turn .before .before .before in
     naming-end (turn .loop .inv) _ (subst (Next (start .args .line .now) (turn .loop .i)) (c .before .next .given .1) (after-next-piece .next-piece .ensures))
-
-enum-told : tie.Need-enum-told Inv-loop μ-loop
-enum-told c = search needs
 
 same-length-3 : tie.Need-same-length-3 Inv-loop μ-loop
 same-length-3 c = c .before .before .before .loop .inv .long
@@ -83,17 +65,17 @@ read-name-spec =
     Inv-loop
     μ-loop
     loop-holds
-    next-piece-requires
-    enum-known-b
+    (λ c κs. search needs)
+    (λ c. search needs)
     same-length
     returns
-    slice-write-name
-    add-len
+    (λ c. search needs)
+    (λ c. search needs)
     loop-less
     loop-again
-    enum-known-next
+    (λ c. search needs)
     same-length-2
     returns-2
-    enum-told
+    (λ c. search needs)
     same-length-3
     returns-3)

@@ -19,21 +19,6 @@ use Rattle.list_line.proofs.Reading.{fromEnd, fromName, fromDelimiter, 
 use Rattle.list_line.proofs.read.read_parts.Statement.{statement}
 use Rattle.list_line.proofs.read.read_parts.Tie as tie
 
-slice-aggregate-skip : tie.Need-slice-aggregate-skip
-slice-aggregate-skip c = search needs
-
-skip-requires : tie.Need-skip-requires
-skip-requires c κs = search needs
-
-enum-known-a : tie.Need-enum-known-a
-enum-known-a c = search needs
-
-enum-told : tie.Need-enum-told
-enum-told c = search needs
-
-refused-requires : tie.Need-refused-requires
-refused-requires c κs = search needs
-
 returns : tie.Need-returns
 unfolding text
 returns c =
@@ -59,21 +44,6 @@ chosen c =
     let start-2 = after-a .before .before .before .before .before in
     start-read _ _ (start (c .before) .0) ∙ attributes-read (start-2 .args .line .now) (after-a .a .given .0 .0) (c .read-attributes .result) (c .read-attributes .ensures)
 
-slice-aggregate-skip-2 : tie.Need-slice-aggregate-skip-2
-slice-aggregate-skip-2 c = search needs
-
-skip-requires-2 : tie.Need-skip-requires-2
-skip-requires-2 c κs = search needs
-
-enum-known-b : tie.Need-enum-known-b
-enum-known-b c = search needs
-
-enum-told-2 : tie.Need-enum-told-2
-enum-told-2 c = search needs
-
-refused-requires-2 : tie.Need-refused-requires-2
-refused-requires-2 c κs = search needs
-
 returns-2 : tie.Need-returns-2
 unfolding text
 returns-2 c =
@@ -90,24 +60,6 @@ delimited c =
     let stage = after-skip2 .before .before in
     let start = stage .before .before .before .before .before .before .before in
     chosen (stage) ∙ delimiter-read _ _ _ (subst (Skips (start .args .line .now) (stage .read-attributes .result .at) (text ") \"/\" \"")) (c .before .b .given .1) (after-skip2 .skip2 .ensures) .0)
-
-no-name-requires : tie.Need-no-name-requires
-no-name-requires c κs = search needs
-
-slice-aggregate-read-name : tie.Need-slice-aggregate-read-name
-slice-aggregate-read-name c = search needs
-
-read-name-requires : tie.Need-read-name-requires
-read-name-requires c κs = search needs
-
-enum-known-len : tie.Need-enum-known-len
-enum-known-len c = search needs
-
-enum-told-3 : tie.Need-enum-told-3
-enum-told-3 c = search needs
-
-refused-requires-3 : tie.Need-refused-requires-3
-refused-requires-3 c κs = search needs
 
 returns-3 : tie.Need-returns-3
 returns-3 c =
@@ -141,21 +93,6 @@ sub-read-tail c = name c .2
 part-read-tail-start : tie.Need-part-read-tail-start
 part-read-tail-start c = name c .2
 
-part-read-tail-end : tie.Need-part-read-tail-end
-part-read-tail-end c = search needs
-
-read-tail-requires : tie.Need-read-tail-requires
-read-tail-requires c κs = search needs
-
-enum-known-criteria : tie.Need-enum-known-criteria
-enum-known-criteria c = search needs
-
-enum-told-4 : tie.Need-enum-told-4
-enum-told-4 c = search needs
-
-refused-requires-4 : tie.Need-refused-requires-4
-refused-requires-4 c κs = search needs
-
 returns-4 : tie.Need-returns-4
 returns-4 c =
     let after-read-tail = c .before .before .before in
@@ -183,9 +120,6 @@ array-share-prefix-name c = omega (arith, name (c .before .before .before .befor
 slice-aggregate-lawful-name : tie.Need-slice-aggregate-lawful-name
 slice-aggregate-lawful-name c = simp length-take (omega (arith, name (c .before .before .before .before .before .before) .4))
 
-lawful-name-requires : tie.Need-lawful-name-requires
-lawful-name-requires c κs = search needs
-
 lawful : (c : tie.After-lawful-name) → c .lawful-name .result ≡ lawfulName (name (c .before .before .before .before .before .before .before) .0)
 lawful c =
     let stage = c .before .before .before .before .before .before .before in
@@ -193,9 +127,6 @@ lawful c =
     let after-read-name = after-len .before .before .before in
     let after-no-name = after-read-name .before .before in
     c .lawful-name .ensures ∙ ap lawfulName (name-front (after-no-name .no-name .result) (name (stage) .0) (after-no-name .no-name .ensures) (omega (arith, room (stage), name (stage) .3)) (after-len .len .given .0 .0) (after-read-name .read-name .last .1 .1 .0) (name (stage) .3) (name (stage) .5))
-
-refused-requires-5 : tie.Need-refused-requires-5
-refused-requires-5 c κs = search needs
 
 returns-5 : tie.Need-returns-5
 returns-5 c =
@@ -222,37 +153,37 @@ pub read-parts-spec : {M : Type 1} → statement M
 read-parts-spec =
     tie.close
     (tie.spec
-    slice-aggregate-skip
-    skip-requires
-    enum-known-a
-    enum-told
-    refused-requires
+    (λ c. search needs)
+    (λ c κs. search needs)
+    (λ c. search needs)
+    (λ c. search needs)
+    (λ c κs. search needs)
     returns
     read-attributes-requires
-    slice-aggregate-skip-2
-    skip-requires-2
-    enum-known-b
-    enum-told-2
-    refused-requires-2
+    (λ c. search needs)
+    (λ c κs. search needs)
+    (λ c. search needs)
+    (λ c. search needs)
+    (λ c κs. search needs)
     returns-2
-    no-name-requires
-    slice-aggregate-read-name
-    read-name-requires
-    enum-known-len
-    enum-told-3
-    refused-requires-3
+    (λ c κs. search needs)
+    (λ c. search needs)
+    (λ c κs. search needs)
+    (λ c. search needs)
+    (λ c. search needs)
+    (λ c κs. search needs)
     returns-3
     sub-read-tail
     part-read-tail-start
-    part-read-tail-end
-    read-tail-requires
-    enum-known-criteria
-    enum-told-4
-    refused-requires-4
+    (λ c. search needs)
+    (λ c κs. search needs)
+    (λ c. search needs)
+    (λ c. search needs)
+    (λ c κs. search needs)
     returns-4
     array-share-prefix-name
     slice-aggregate-lawful-name
-    lawful-name-requires
-    refused-requires-5
+    (λ c κs. search needs)
+    (λ c κs. search needs)
     returns-5
     returns-6)

@@ -7,20 +7,8 @@ use Rattle.list_line.proofs.Reading.{tail-plain, tail-subscribed, tail-
 use Rattle.list_line.proofs.read.read_tail.Statement.{statement}
 use Rattle.list_line.proofs.read.read_tail.Tie as tie
 
-slice-aggregate-same-bytes : tie.Need-slice-aggregate-same-bytes
-slice-aggregate-same-bytes c = search needs
-
-same-bytes-requires : tie.Need-same-bytes-requires
-same-bytes-requires c κs = search needs
-
 returns : tie.Need-returns
 returns c = tail-plain _ (sym (c .before .same-bytes .ensures) ∙ c .if1 .taken)
-
-slice-aggregate-same-bytes-2 : tie.Need-slice-aggregate-same-bytes-2
-slice-aggregate-same-bytes-2 c = search needs
-
-same-bytes-requires-2 : tie.Need-same-bytes-requires-2
-same-bytes-requires-2 c κs = search needs
 
 returns-2 : tie.Need-returns-2
 unfolding text
@@ -28,12 +16,6 @@ returns-2 c =
     let at-if1 = c .before .before .before in
     let after-same-bytes = at-if1 .before in
     tail-subscribed _ (sym (after-same-bytes .same-bytes .ensures) ∙ at-if1 .if1 .left) (sym (c .before .same-bytes2 .ensures) ∙ c .if2 .taken)
-
-slice-aggregate-same-bytes-3 : tie.Need-slice-aggregate-same-bytes-3
-slice-aggregate-same-bytes-3 c = search needs
-
-same-bytes-requires-3 : tie.Need-same-bytes-requires-3
-same-bytes-requires-3 c κs = search needs
 
 returns-3 : tie.Need-returns-3
 unfolding text
@@ -43,15 +25,6 @@ returns-3 c =
     let at-if1 = after-same-bytes2 .before .before in
     let after-same-bytes = at-if1 .before in
     tail-special _ (sym (after-same-bytes .same-bytes .ensures) ∙ at-if1 .if1 .left) (sym (after-same-bytes2 .same-bytes2 .ensures) ∙ at-if2 .if2 .left) (sym (c .before .same-bytes3 .ensures) ∙ c .if3 .taken)
-
-slice-aggregate-same-bytes-4 : tie.Need-slice-aggregate-same-bytes-4
-slice-aggregate-same-bytes-4 c = search needs
-
-same-bytes-requires-4 : tie.Need-same-bytes-requires-4
-same-bytes-requires-4 c κs = search needs
-
-union-requires : tie.Need-union-requires
-union-requires c κs = search needs
 
 returns-4 : tie.Need-returns-4
 unfolding text
@@ -80,17 +53,17 @@ pub read-tail-spec : {M : Type 1} → statement M
 read-tail-spec =
     tie.close
     (tie.spec
-    slice-aggregate-same-bytes
-    same-bytes-requires
+    (λ c. search needs)
+    (λ c κs. search needs)
     returns
-    slice-aggregate-same-bytes-2
-    same-bytes-requires-2
+    (λ c. search needs)
+    (λ c κs. search needs)
     returns-2
-    slice-aggregate-same-bytes-3
-    same-bytes-requires-3
+    (λ c. search needs)
+    (λ c κs. search needs)
     returns-3
-    slice-aggregate-same-bytes-4
-    same-bytes-requires-4
-    union-requires
+    (λ c. search needs)
+    (λ c κs. search needs)
+    (λ c κs. search needs)
     returns-4
     returns-5)

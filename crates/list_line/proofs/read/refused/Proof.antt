@@ -6,12 +6,9 @@ use Rattle.list_line.specs.Lines.{lineIs}
 use Rattle.list_line.proofs.read.refused.Statement.{statement}
 use Rattle.list_line.proofs.read.refused.Tie as tie
 
-no-name-requires : tie.Need-no-name-requires
-no-name-requires c κs = search needs
-
 returns : tie.Need-returns
 unfolding lineIs nameBytes nameRead
 returns c = (refl, c .no-name .ensures)
 
 pub refused-spec : {M : Type 1} → statement M
-refused-spec = tie.close (tie.spec no-name-requires returns)
+refused-spec = tie.close (tie.spec (λ c κs. search needs) returns)

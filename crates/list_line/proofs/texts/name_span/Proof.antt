@@ -15,19 +15,10 @@ shared-slice-read-wide c =
     let after-pre = c .before .before in
     omega (arith, ap length (after-pre .pre .0), length-places, after-pre .pre .1)
 
-wide-requires : tie.Need-wide-requires
-wide-requires c κs = search needs
-
-add-wide : tie.Need-add-wide
-add-wide c = search needs
-
 shared-slice-read-wide-2 : tie.Need-shared-slice-read-wide-2
 shared-slice-read-wide-2 c =
     let after-pre = c .before .before .before .before in
     omega (arith, ap length (after-pre .pre .0), length-places, after-pre .pre .1)
-
-wide-requires-2 : tie.Need-wide-requires-2
-wide-requires-2 c κs = search needs
 
 -- the two places, from the table
 start : (c : tie.After-wide) → c .wide .result ≡ getD namePlaces (c .before .before .before .args .k) 0
@@ -63,10 +54,10 @@ name-span-spec =
     tie.close
     (tie.spec
     shared-slice-read-wide
-    wide-requires
-    add-wide
+    (λ c κs. search needs)
+    (λ c. search needs)
     shared-slice-read-wide-2
-    wide-requires-2
+    (λ c κs. search needs)
     add-t11
     returns
     returns-2)

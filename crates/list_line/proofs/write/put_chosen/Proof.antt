@@ -36,15 +36,6 @@ part-put-all-end c =
     let after-pre = c .before .before .before .before .before .before .before .before in
     omega (arith, c .before .name-span .ensures .inside, ap length (after-pre .pre .0))
 
-put-all-requires : tie.Need-put-all-requires Inv-loop μ-loop
-put-all-requires c κs = search needs
-
-add-k : tie.Need-add-k Inv-loop μ-loop
-add-k c = search needs
-
-loop-less : tie.Need-loop-less Inv-loop μ-loop
-loop-less c = search needs
-
 loop-again : tie.Need-loop-again Inv-loop μ-loop
 loop-again c =
     let turn = c .before .before in
@@ -74,9 +65,9 @@ put-chosen-spec =
     sub-put-all
     part-put-all-start
     part-put-all-end
-    put-all-requires
-    add-k
-    loop-less
+    (λ c κs. search needs)
+    (λ c. search needs)
+    (λ c. search needs)
     loop-again
     same-length
     returns)

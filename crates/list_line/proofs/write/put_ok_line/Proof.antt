@@ -6,18 +6,6 @@ use Rattle.octets.proofs.Puts.{put-then}
 use Rattle.list_line.proofs.write.put_ok_line.Statement.{statement}
 use Rattle.list_line.proofs.write.put_ok_line.Tie as tie
 
-put-all-requires : tie.Need-put-all-requires
-put-all-requires c κs = search needs
-
-slice-aggregate-put-all : tie.Need-slice-aggregate-put-all
-slice-aggregate-put-all c = search needs
-
-put-all-requires-2 : tie.Need-put-all-requires-2
-put-all-requires-2 c κs = search needs
-
-same-length : tie.Need-same-length
-same-length c = search needs
-
 returns : tie.Need-returns
 unfolding openBytes openLines
 returns c =
@@ -28,4 +16,4 @@ returns c =
 pub put-ok-line-spec : {M : Type 1} → statement M
 put-ok-line-spec =
     tie.close
-    (tie.spec put-all-requires slice-aggregate-put-all put-all-requires-2 same-length returns)
+    (tie.spec (λ c κs. search needs) (λ c. search needs) (λ c κs. search needs) (λ c. search needs) returns)

@@ -5,19 +5,10 @@ use Rattle.listing_rules.specs.Lines.{openLines}
 use Rattle.list_line.proofs.write.put_root_line.Statement.{statement}
 use Rattle.list_line.proofs.write.put_root_line.Tie as tie
 
-slice-aggregate-put-all : tie.Need-slice-aggregate-put-all
-slice-aggregate-put-all c = search needs
-
-put-all-requires : tie.Need-put-all-requires
-put-all-requires c κs = search needs
-
-same-length : tie.Need-same-length
-same-length c = search needs
-
 returns : tie.Need-returns
 unfolding openBytes openLines
 returns c = c .before .before .put-all .ensures
 
 pub put-root-line-spec : {M : Type 1} → statement M
 put-root-line-spec =
-    tie.close (tie.spec slice-aggregate-put-all put-all-requires same-length returns)
+    tie.close (tie.spec (λ c. search needs) (λ c κs. search needs) (λ c. search needs) returns)

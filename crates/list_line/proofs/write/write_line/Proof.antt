@@ -6,20 +6,8 @@ use Rattle.list_line.proofs.Writing.{line-unlawful, line-named, line-ro
 use Rattle.list_line.proofs.write.write_line.Statement.{statement}
 use Rattle.list_line.proofs.write.write_line.Tie as tie
 
-lawful-requires : tie.Need-lawful-requires
-lawful-requires c κs = search needs
-
 returns : tie.Need-returns
 returns c = rw (line-unlawful _ _ _ (sym (c .before .lawful .ensures) ∙ not-true _ (c .if1 .taken))) (gives-refusal _ 12)
-
-lawful-name-requires : tie.Need-lawful-name-requires
-lawful-name-requires c κs = search needs
-
-write-named-requires : tie.Need-write-named-requires
-write-named-requires c κs = search needs
-
-same-length : tie.Need-same-length
-same-length c = search needs
 
 returns-2 : tie.Need-returns-2
 returns-2 c =
@@ -30,9 +18,6 @@ returns-2 c =
     rw
     (line-named _ _ _ (sym (checked .before .lawful .ensures) ∙ not-false _ (checked .if1 .left)) (sym (named .before .lawful-name .ensures) ∙ named .if2 .taken))
     (after-write-named .write-named .ensures)
-
-root-parts-requires : tie.Need-root-parts-requires
-root-parts-requires c κs = search needs
 
 returns-3 : tie.Need-returns-3
 returns-3 c =
@@ -45,12 +30,6 @@ returns-3 c =
     (sym (named .before .lawful-name .ensures) ∙ named .if2 .left)
     (sym (c .before .root-parts .ensures) ∙ not-true _ (c .if3 .taken)))
     (gives-refusal _ 12)
-
-write-root-requires : tie.Need-write-root-requires
-write-root-requires c κs = search needs
-
-same-length-2 : tie.Need-same-length-2
-same-length-2 c = search needs
 
 returns-4 : tie.Need-returns-4
 returns-4 c =
@@ -70,14 +49,14 @@ pub write-line-spec : {M : Type 1} → statement M
 write-line-spec =
     tie.close
     (tie.spec
-    lawful-requires
+    (λ c κs. search needs)
     returns
-    lawful-name-requires
-    write-named-requires
-    same-length
+    (λ c κs. search needs)
+    (λ c κs. search needs)
+    (λ c. search needs)
     returns-2
-    root-parts-requires
+    (λ c κs. search needs)
     returns-3
-    write-root-requires
-    same-length-2
+    (λ c κs. search needs)
+    (λ c. search needs)
     returns-4)

@@ -5,23 +5,11 @@ use Rattle.list_line.proofs.Writing.{written-fits, written-short}
 use Rattle.list_line.proofs.write.write_named.Statement.{statement}
 use Rattle.list_line.proofs.write.write_named.Tie as tie
 
-slice-aggregate-put-line : tie.Need-slice-aggregate-put-line
-slice-aggregate-put-line c = search needs
-
-put-line-requires : tie.Need-put-line-requires
-put-line-requires c κs = search needs
-
 returns : tie.Need-returns
 returns c =
     let after-put-line = c .before .before in
     let start = after-put-line .before .before .before .before in
     let p = after-put-line .put-line .ensures in written-short (start .args .buf .now) _ (omega (arith, p .place))
-
-put-line-requires-2 : tie.Need-put-line-requires-2
-put-line-requires-2 c κs = search needs
-
-same-length : tie.Need-same-length
-same-length c = search needs
 
 returns-2 : tie.Need-returns-2
 returns-2 c =
@@ -33,9 +21,9 @@ pub write-named-spec : {M : Type 1} → statement M
 write-named-spec =
     tie.close
     (tie.spec
-    slice-aggregate-put-line
-    put-line-requires
+    (λ c. search needs)
+    (λ c κs. search needs)
     returns
-    put-line-requires-2
-    same-length
+    (λ c κs. search needs)
+    (λ c. search needs)
     returns-2)

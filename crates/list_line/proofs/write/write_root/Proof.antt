@@ -9,14 +9,8 @@ use Rattle.list_line.proofs.write.write_root.Tie as tie
 returns : tie.Need-returns
 returns c = written-short (c .before .before .args .buf .now) rootLine (omega (arith, root-length))
 
-put-root-line-requires : tie.Need-put-root-line-requires
-put-root-line-requires c κs = search needs
-
-same-length : tie.Need-same-length
-same-length c = search needs
-
 returns-2 : tie.Need-returns-2
 returns-2 c = written-fits _ rootLine (c .before .before .put-root-line .ensures) (omega (arith, root-length))
 
 pub write-root-spec : {M : Type 1} → statement M
-write-root-spec = tie.close (tie.spec returns put-root-line-requires same-length returns-2)
+write-root-spec = tie.close (tie.spec returns (λ c κs. search needs) (λ c. search needs) returns-2)

@@ -21,9 +21,6 @@ loop-holds : tie.Need-loop-holds Inv-loop μ-loop
 loop-holds c = (search needs, omega arith, sym (setOf-none (c .args .t1) 16 (search needs)))
 
 -- src/attributes.rt:37:13
-sub-k : tie.Need-sub-k Inv-loop μ-loop
-sub-k c = search needs
-
 -- src/attributes.rt:38:20
 mul-bits : tie.Need-mul-bits Inv-loop μ-loop
 mul-bits c =
@@ -31,9 +28,6 @@ mul-bits c =
     omega (arith, setOf-room (start .args .t1) (c .before .loop .k) (c .before .loop .inv .0) (c .loop-test .taken))
 
 -- src/attributes.rt:39:16
-array-read-if1 : tie.Need-array-read-if1 Inv-loop μ-loop
-array-read-if1 c = search needs
-
 -- src/attributes.rt:40:17
 add-bits : tie.Need-add-bits Inv-loop μ-loop
 add-bits c =
@@ -42,9 +36,6 @@ add-bits c =
     omega (arith, setOf-room (start .args .t1) (turn .loop .k) (turn .loop .inv .0) (c .before .loop-test .taken))
 
 -- src/attributes.rt:36:9
-loop-less : tie.Need-loop-less Inv-loop μ-loop
-loop-less c = search needs
-
 -- src/attributes.rt:36:9
 loop-again : tie.Need-loop-again Inv-loop μ-loop
 loop-again c =
@@ -55,9 +46,6 @@ loop-again c =
     (turn .loop .inv .0, omega arith, omega (arith, setOf-here (start .args .t1) (k - 1) (omega arith) (c .if1 .taken), ap (λ (n : ℕ). setOf (drop n (start .args .t1))) w))
 
 -- src/attributes.rt:36:9
-loop-less-2 : tie.Need-loop-less-2 Inv-loop μ-loop
-loop-less-2 c = search needs
-
 -- src/attributes.rt:36:9
 loop-again-2 : tie.Need-loop-again-2 Inv-loop μ-loop
 loop-again-2 c =
@@ -80,12 +68,12 @@ of-spec =
     Inv-loop
     μ-loop
     loop-holds
-    sub-k
+    (λ c. search needs)
     mul-bits
-    array-read-if1
+    (λ c. search needs)
     add-bits
-    loop-less
+    (λ c. search needs)
     loop-again
-    loop-less-2
+    (λ c. search needs)
     loop-again-2
     returns)

@@ -4,9 +4,6 @@ use Rattle.listing_rules.specs.Options.{criteriaNumber}
 use Rattle.list_line.proofs.criteria.Criteria.of.Statement.{statement}
 use Rattle.list_line.proofs.criteria.Criteria.of.Tie as tie
 
-union-requires : tie.Need-union-requires
-union-requires c κs = search needs
-
 returns : tie.Need-returns
 unfolding criteriaNumber
 returns c = rw (c .before .before .if1 .taken, c .before .if2 .taken) (c .union .ensures)
@@ -24,4 +21,4 @@ unfolding criteriaNumber
 returns-4 c = rw (c .before .if1 .left, c .if3 .left)
 
 pub of-spec : {M : Type 1} → statement M
-of-spec = tie.close (tie.spec union-requires returns returns-2 returns-3 returns-4)
+of-spec = tie.close (tie.spec (λ c κs. search needs) returns returns-2 returns-3 returns-4)

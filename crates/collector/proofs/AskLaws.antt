@@ -7,7 +7,7 @@ use native.Mathlib.Omega.{arith}
 use lib.Dec.{eqb}
 use lib.ListN.{length, take, drop, replicate, length-append, length-replicate}
 use lib.Seq.{take-at}
-use Rattle.listing_rules.specs.Bytes.{openBytes}
+use Rattle.listing_rules.proofs.Keys.{openBytes}
 use Rattle.listing_rules.specs.Lines.{escaped, quoted}
 use Rattle.listing_rules.specs.Server.{Reply, refusal, answered, answer, limited, bufferAfter, served}
 use Rattle.listing_rules.specs.Walk.{Lists, Step, stop, go, _>>=_, when, wantsRemote, wantsSpecial, dropsSubscribed, commandLine, linesOf, takenAll, replied, asked}

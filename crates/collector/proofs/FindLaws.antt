@@ -4,7 +4,7 @@ use mathlib.Core.Path.{_≡_, refl, sym, _∙_}
 use mathlib.Core.Bool.{Bool, true, false, not, _||_, _&&_}
 use Prim.Native.Nat.{ℕ, _^_, _<_}
 use lib.Dec.{leb}
-use Rattle.listing_rules.specs.Bytes.{openBytes}
+use Rattle.listing_rules.proofs.Keys.{openBytes}
 use Rattle.listing_rules.specs.Walk.{attr, useAttr, isFind, wantsRemote, wantsSpecial, dropsSubscribed, lawfulByte}
 use Rattle.listing_rules.proofs.Bools.{and-r}
 use Rattle.octets.specs.Sets.{contains}

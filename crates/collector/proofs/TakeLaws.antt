@@ -8,7 +8,7 @@ use Prim.Native.Nat.{ℕ, _-_, _≤_}
 use native.Mathlib.Omega.{arith}
 use lib.ListN.{length, take, replicate, length-append}
 use lib.Seq.{take-at}
-use Rattle.listing_rules.specs.Bytes.{openBytes}
+use Rattle.listing_rules.proofs.Keys.{openBytes}
 use Rattle.listing_rules.specs.Names.{lawfulName}
 use Rattle.listing_rules.specs.Options.{Criteria, isNone, criteriaOf, criteriaNumber}
 use Rattle.listing_rules.specs.Lines.{rootLine}

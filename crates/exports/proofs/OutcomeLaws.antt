@@ -10,9 +10,9 @@ use Rattle.list_line.specs.declared.attributes.Attributes.{Attributes}
 use Rattle.list_line.specs.declared.criteria.Criteria.{Criteria}
 use Rattle.list_line.specs.declared.read.Line.{Line}
 use Rattle.list_line.specs.declared.read.Line.the-variants.{Parts, Refused as NoLine}
-use Rattle.listing_rules.specs.Options.{openOptions}
 use Rattle.listing_rules.specs.Server.{Reply, refusal, answered, numberOf, lengthOf}
-use Rattle.listing_rules.specs.Reader.{Read, line, root, bad, nameBytes, openReader}
+use Rattle.listing_rules.specs.Reader.{Read, line, root, bad, nameBytes}
+use Rattle.listing_rules.proofs.Keys.{openOptions, openReader}
 use Rattle.listing_rules.specs.Walk.{WalkReply, walkRefused, walked, walkNumber, walkCount, foundLength}
 use Rattle.octets.specs.Written.{writtenIs}
 use Rattle.list_line.specs.Members.{setOf}

@@ -9,7 +9,8 @@ use native.Mathlib.Omega.{arith}
 use lib.Dec.{eqb, leb}
 use lib.ListN.{length, length-append}
 use borrow.Author.Tests.{ne-eqb, eqb-true, le-leb, lt-leb, leb-true, leb-false}
-use Rattle.listing_rules.specs.Bytes.{openBytes, within, same, crlf, text, isEmpty}
+use Rattle.listing_rules.specs.Bytes.{within, same, crlf, text, isEmpty}
+use Rattle.listing_rules.proofs.Keys.{openBytes}
 use Rattle.listing_rules.specs.Tokens.{Got, got, _>>=_, digitByte, lineByte, decimal, number, run, run₁, unlessEmpty, withFirst}
 use Rattle.listing_rules.specs.Feeder.{Feeder, reading, inLiteral, dropping, first, lastIs, endsLine, announced, announcedAt, orElse, quiet, goOn, denied, gives, dropped, offends, refusing, awaiting, lineEnded, textByte, fedByte, allowed}
 use Rattle.listing_rules.proofs.Bools.{and-l, and-r}

@@ -8,8 +8,8 @@ use native.Mathlib.Omega.{arith}
 use lib.Dec.{eqb, leb}
 use lib.ListN.{length, getD, take, drop}
 use borrow.Author.Tests.{leb-true, eqb-true}
-use Rattle.listing_rules.specs.Bytes.{openBytes, same, space}
-use Rattle.listing_rules.specs.Lines.{openLines}
+use Rattle.listing_rules.specs.Bytes.{same, space}
+use Rattle.listing_rules.proofs.Keys.{openBytes, openLines}
 use Rattle.listing_rules.specs.Reader.{separated}
 use Rattle.list_line.specs.declared.texts.Span.{Span}
 use Rattle.list_line.specs.Names.{allNames, namePlaces, nameOf, NameSpan}

@@ -10,13 +10,14 @@ use lib.Dec.{leb}
 use lib.ListN.{length, take, drop, replicate, length-replicate, length-drop}
 use lib.Seq.{sets, take-at, take-all}
 use borrow.Author.Tests.{lt-leb}
-use Rattle.listing_rules.specs.Bytes.{openBytes, text, same, within, all}
+use Rattle.listing_rules.specs.Bytes.{text, same, within, all}
 use Rattle.listing_rules.specs.Names.{lawfulName, nameByte, levels, isFull, inboxSpelled}
 use Rattle.listing_rules.specs.Lists.{every}
 use Rattle.listing_rules.specs.Tokens.{Got, got, after, unquoted, _>>=_}
-use Rattle.listing_rules.specs.Options.{Criteria, openOptions, criteriaOf, criteriaNumber}
-use Rattle.listing_rules.specs.Lines.{attributeNames, rootLine, openLines}
-use Rattle.listing_rules.specs.Reader.{Read, line, bad, readChosen, childInfoRead, readParts, orBad, readLine, nameBytes, nameRead, openReader}
+use Rattle.listing_rules.specs.Options.{Criteria, criteriaOf, criteriaNumber}
+use Rattle.listing_rules.specs.Lines.{attributeNames, rootLine}
+use Rattle.listing_rules.specs.Reader.{Read, line, bad, readChosen, childInfoRead, readParts, orBad, readLine, nameBytes, nameRead}
+use Rattle.listing_rules.proofs.Keys.{openBytes, openOptions, openLines, openReader}
 use Rattle.octets.proofs.Puts.{front}
 use Rattle.list_line.specs.Members.{setOf}
 use Rattle.list_line.specs.Lines.{lineIs}

@@ -8,10 +8,11 @@ use Prim.Native.Nat.{ℕ, _-_, _<_}
 use native.Mathlib.Omega.{arith}
 use lib.ListN.{length, take, replicate}
 use lib.Seq.{take-append-seam}
-use Rattle.listing_rules.specs.Options.{Criteria, criteriaNumber, openOptions}
+use Rattle.listing_rules.specs.Options.{Criteria, criteriaNumber}
 use Rattle.listing_rules.specs.Lines.{rootLine}
 use Rattle.listing_rules.specs.Server.{answered}
-use Rattle.listing_rules.specs.Reader.{openReader, Read, line, root, bad, readLine, attributesRead, nameRead, childInfoOf, readNumber, nameBytes, lineFrom}
+use Rattle.listing_rules.specs.Reader.{Read, line, root, bad, readLine, attributesRead, nameRead, childInfoOf, readNumber, nameBytes, lineFrom}
+use Rattle.listing_rules.proofs.Keys.{openOptions, openReader}
 use Rattle.listing_rules.proofs.ReaderWriter.{Taken, readLine-only}
 use Rattle.listing_rules.proofs.RoundTrip.{written-is-read, read-is-written}
 use Rattle.list_line.specs.Members.{members, setOf}

@@ -8,7 +8,7 @@ use native.Mathlib.Omega.{arith}
 use lib.ListN.{length, drop}
 use lib.Seq.{drop-cons}
 use borrow.Author.Tests.{eq-eqb, ne-eqb, le-leb, lt-leb}
-use Rattle.listing_rules.specs.Bytes.{openBytes}
+use Rattle.listing_rules.proofs.Keys.{openBytes}
 use Rattle.listing_rules.specs.Options.{lawfulCriteria, criteriaOf}
 use Rattle.listing_rules.specs.Lines.{attributeNames, chosen, spaced, spacedTail, listLine, rootLine}
 use Rattle.listing_rules.specs.Names.{lawfulName}

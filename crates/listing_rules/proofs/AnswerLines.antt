@@ -6,11 +6,12 @@ use Prim.Native.Nat.{ℕ}
 use native.Mathlib.Omega.{arith}
 use lib.Dec.{eqb}
 use borrow.Author.Tests.{ne-eqb, not-true}
-use Rattle.listing_rules.specs.Bytes.{text, quote, all, openBytes}
-use Rattle.listing_rules.specs.Lists.{every, joined, openLists, onFirst}
+use Rattle.listing_rules.specs.Bytes.{text, quote, all}
+use Rattle.listing_rules.specs.Lists.{every, joined, onFirst}
 use Rattle.listing_rules.specs.Names.{nameByte}
-use Rattle.listing_rules.specs.Options.{Criteria, openOptions}
-use Rattle.listing_rules.specs.Lines.{attributeNames, chosen, spaced, spacedTail, escaped, quoted, childInfoText, listLine, okLine, openLines}
+use Rattle.listing_rules.specs.Options.{Criteria}
+use Rattle.listing_rules.specs.Lines.{attributeNames, chosen, spaced, spacedTail, escaped, quoted, childInfoText, listLine, okLine}
+use Rattle.listing_rules.proofs.Keys.{openBytes, openLists, openOptions, openLines}
 use Rattle.listing_rules.specs.Walk.{linesOf}
 use Rattle.listing_rules.proofs.Bools.{and-l, and-r, and-i}
 use Rattle.listing_rules.proofs.ListLaws.{all-append}

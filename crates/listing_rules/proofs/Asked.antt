@@ -7,17 +7,17 @@ use native.Mathlib.Omega.{arith}
 use lib.Dec.{leb}
 use lib.ListN.{length, length-append}
 use borrow.Author.Tests.{leb-true, leb-false}
-use Rattle.listing_rules.specs.Bytes.{text, all, openBytes}
-use Rattle.listing_rules.specs.Lists.{every, keep, joined, openLists}
+use Rattle.listing_rules.specs.Bytes.{text, all}
+use Rattle.listing_rules.specs.Lists.{every, keep, joined}
 use Rattle.listing_rules.specs.Names.{lawfulName, nameByte}
 use Rattle.listing_rules.specs.Table.{rows, passes}
-use Rattle.listing_rules.specs.Namespaces.{openNamespaces}
-use Rattle.listing_rules.specs.Tokens.{lineByte, openTokens}
+use Rattle.listing_rules.specs.Tokens.{lineByte}
 use Rattle.listing_rules.specs.Options.{Criteria, isNone}
 use Rattle.listing_rules.specs.Listing.{candidates, attributes, attributesFor, inOrder, childInfo, listed, listedNames}
-use Rattle.listing_rules.specs.Lines.{listLine, okLine, openLines}
+use Rattle.listing_rules.specs.Lines.{listLine, okLine}
 use Rattle.listing_rules.specs.Server.{answered, refusal, answer, answerTo, limited, lineOf, listAnswer}
-use Rattle.listing_rules.specs.Reader.{line, readLine, openReader}
+use Rattle.listing_rules.specs.Reader.{line, readLine}
+use Rattle.listing_rules.proofs.Keys.{openBytes, openLists, openNamespaces, openTokens, openLines, openReader}
 use Rattle.listing_rules.specs.Walk.{lawfulByte, Lists, stop, _>>=_, commandLine, linesOf, packed, go, isFind, withName, fits, takenIn, takenAll, replied, asked}
 use Rattle.listing_rules.specs.Demand3.{walkOptions}
 use Rattle.listing_rules.proofs.Bools.{and-l, and-r}

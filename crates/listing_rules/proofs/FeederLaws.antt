@@ -10,7 +10,8 @@ use lib.Dec.{eqb, leb}
 use lib.ListN.{length, take, length-append}
 use lib.Seq.{take-append-seam}
 use borrow.Author.Tests.{not-true, le-leb, leb-true, eq-eqb, ne-eqb, eqb-true}
-use Rattle.listing_rules.specs.Bytes.{openBytes, text, crlf, same, all, within, isEmpty}
+use Rattle.listing_rules.specs.Bytes.{text, crlf, same, all, within, isEmpty}
+use Rattle.listing_rules.proofs.Keys.{openBytes}
 use Rattle.listing_rules.specs.Lists.{joined}
 use Rattle.listing_rules.specs.Tokens.{Got, got, _>>=_, run₁, digitByte, decimal, number, lineByte}
 use Rattle.listing_rules.specs.Feeder.{Step, stillOne, gives, offends, refusing, lineEnded, textByte, endsLine, lastIs, announcedAt, orElse, announced, Event, quiet, handed, goOn, denied, Feeder, reading, inLiteral, dropping, first, fedByte, Feeding, saying, feedAll, feedChunks, allowed, oneCommand}

@@ -8,7 +8,8 @@ use native.Mathlib.Omega.{arith}
 use lib.Dec.{eqb}
 use lib.ListN.{length, length-append}
 use borrow.Author.Tests.{eqb-true, eq-eqb, not-true}
-use Rattle.listing_rules.specs.Bytes.{all, slash, openBytes}
+use Rattle.listing_rules.specs.Bytes.{all, slash}
+use Rattle.listing_rules.proofs.Keys.{openBytes}
 use Rattle.listing_rules.specs.Lists.{onFirst}
 use Rattle.listing_rules.specs.Orders.{lexBy, byteOrder, thenBy}
 use Rattle.listing_rules.specs.Names.{below, levels, levelOrder, walkOrder}

@@ -1,4 +1,5 @@
 -- The laws of the definitions, one file a topic; each file rests on files before it.
+pub mod Keys
 pub mod Bools
 pub mod ListLaws
 pub mod TokenLaws
@@ -31,3 +32,4 @@ pub mod WalkFuel
 pub mod Demand3
 pub mod InputCut
 pub mod Places
+pub mod Tables

@@ -7,11 +7,12 @@ use Prim.Native.Nat.{ℕ, _≤_}
 use lib.Dec.{eqb, leb}
 use lib.ListN.{length}
 use borrow.Author.Tests.{le-leb, leb-true, eqb-true}
-use Rattle.listing_rules.specs.Bytes.{bit, openBytes}
-use Rattle.listing_rules.specs.Lists.{every, openLists}
+use Rattle.listing_rules.specs.Bytes.{bit}
+use Rattle.listing_rules.specs.Lists.{every}
 use Rattle.listing_rules.specs.Orders.{ascends}
 use Rattle.listing_rules.specs.Names.{lawfulName}
-use Rattle.listing_rules.specs.Flags.{exists, marked, unmarked, hasUse, lawfulFlags, openFlags}
+use Rattle.listing_rules.specs.Flags.{exists, marked, unmarked, hasUse, lawfulFlags}
+use Rattle.listing_rules.proofs.Keys.{openBytes, openLists, openFlags}
 use Rattle.listing_rules.specs.Table.{Row, rows, passes, rowsFill, names, noneBelow, hasRow, flagsOf}
 use Rattle.listing_rules.specs.Listing.{candidates, implied}
 use Rattle.listing_rules.proofs.Bools.{and-l, and-r, or-cases}

@@ -6,9 +6,10 @@ use mathlib.Core.List.{List, [], _∷_, _++_}
 use Prim.Native.Nat.{ℕ}
 use lib.Dec.{eqb}
 use borrow.Author.Tests.{eqb-true, eq-eqb, not-true}
-use Rattle.listing_rules.specs.Bytes.{openBytes, slash, all, within}
+use Rattle.listing_rules.specs.Bytes.{slash, all, within}
 use Rattle.listing_rules.specs.Names.{nameByte}
-use Rattle.listing_rules.specs.Match.{openMatch, wildMatch, headThen}
+use Rattle.listing_rules.specs.Match.{wildMatch, headThen}
+use Rattle.listing_rules.proofs.Keys.{openBytes, openMatch}
 use Rattle.listing_rules.proofs.Bools.{and-l, and-r}
 
 -- no slash

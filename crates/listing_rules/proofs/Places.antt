@@ -3,8 +3,9 @@ use mathlib.Core.Path.{_≡_, refl}
 use mathlib.Core.List.{List, [], _∷_, map}
 use Prim.Native.Nat.{ℕ}
 use lib.ListN.{getD}
-use Rattle.listing_rules.specs.Bytes.{openBytes, text}
-use Rattle.listing_rules.specs.Lines.{openLines, attributeNames, remotePlace, subscribedPlace, allPlace, archivePlace, draftsPlace, flaggedPlace, junkPlace, sentPlace, trashPlace}
+use Rattle.listing_rules.specs.Bytes.{text}
+use Rattle.listing_rules.specs.Lines.{attributeNames, remotePlace, subscribedPlace, allPlace, archivePlace, draftsPlace, flaggedPlace, junkPlace, sentPlace, trashPlace}
+use Rattle.listing_rules.proofs.Keys.{openBytes, openLines}
 
 abbrev places : List ℕ
 places = remotePlace ∷ subscribedPlace ∷ allPlace ∷ archivePlace ∷ draftsPlace ∷ flaggedPlace ∷ junkPlace ∷ sentPlace ∷ trashPlace ∷ []

@@ -7,13 +7,14 @@ use mathlib.Core.Option.{Option, none, some}
 use Prim.Native.Nat.{ℕ, suc}
 use lib.ListN.{length}
 use native.Mathlib.Omega.{arith}
-use Rattle.listing_rules.specs.Bytes.{openBytes, text, quote, space, crlf, same}
-use Rattle.listing_rules.specs.Lists.{openLists, every}
-use Rattle.listing_rules.specs.Names.{openNames, lawfulName}
-use Rattle.listing_rules.specs.Tokens.{openTokens, Got, got, _>>=_, after, withFirst}
-use Rattle.listing_rules.specs.Options.{Criteria, openOptions}
-use Rattle.listing_rules.specs.Lines.{openLines, attributeNames, chosen, spacedTail, spaced, escaped, quoted, childInfoText, listLine, rootLine}
-use Rattle.listing_rules.specs.Reader.{openReader, Read, line, root, bad, separated, readChosen, criteriaSets, readAmong, childInfoRead, readParts, orBad, readLine}
+use Rattle.listing_rules.specs.Bytes.{text, quote, space, crlf, same}
+use Rattle.listing_rules.specs.Lists.{every}
+use Rattle.listing_rules.specs.Names.{lawfulName}
+use Rattle.listing_rules.specs.Tokens.{Got, got, _>>=_, after, withFirst}
+use Rattle.listing_rules.specs.Options.{Criteria}
+use Rattle.listing_rules.specs.Lines.{attributeNames, chosen, spacedTail, spaced, escaped, quoted, childInfoText, listLine, rootLine}
+use Rattle.listing_rules.specs.Reader.{Read, line, root, bad, separated, readChosen, criteriaSets, readAmong, childInfoRead, readParts, orBad, readLine}
+use Rattle.listing_rules.proofs.Keys.{openBytes, openLists, openNames, openTokens, openOptions, openLines, openReader}
 use Rattle.listing_rules.proofs.Bools.{and-l, and-r}
 use Rattle.listing_rules.proofs.ListLaws.{same-true}
 use Rattle.listing_rules.proofs.TokenLaws.{none≢some, bind-some, after-append, after-some, clash, after-clash, unquoted-escaped, unquoted-some}

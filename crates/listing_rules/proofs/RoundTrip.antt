@@ -7,12 +7,13 @@ use Prim.Native.Nat.{ℕ, zero, suc}
 use native.Mathlib.Omega.{arith}
 use lib.ListN.{length}
 use borrow.Author.Tests.{leb-true}
-use Rattle.listing_rules.specs.Bytes.{isEmpty, openBytes}
-use Rattle.listing_rules.specs.Names.{lawfulName, openNames}
-use Rattle.listing_rules.specs.Options.{Criteria, noCriteria, isNone, lawfulCriteria, criteriaOf, criteriaNumber, openOptions}
+use Rattle.listing_rules.specs.Bytes.{isEmpty}
+use Rattle.listing_rules.specs.Names.{lawfulName}
+use Rattle.listing_rules.specs.Options.{Criteria, noCriteria, isNone, lawfulCriteria, criteriaOf, criteriaNumber}
 use Rattle.listing_rules.specs.Lines.{listLine, rootLine}
 use Rattle.listing_rules.specs.Server.{Reply, answered, refusal}
-use Rattle.listing_rules.specs.Reader.{openReader, root, bad, readLine, rootAttributes, attributesRead, nameRead, childInfoOf, readNumber, sameBools, rootParts, lineFrom}
+use Rattle.listing_rules.specs.Reader.{root, bad, readLine, rootAttributes, attributesRead, nameRead, childInfoOf, readNumber, sameBools, rootParts, lineFrom}
+use Rattle.listing_rules.proofs.Keys.{openBytes, openNames, openOptions, openReader}
 use Rattle.listing_rules.proofs.Bools.{and-l, and-r}
 use Rattle.listing_rules.proofs.ReaderWriter.{Taken, readLine-written, readLine-root, readLine-only}
 

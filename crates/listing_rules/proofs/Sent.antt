@@ -8,14 +8,14 @@ use native.Mathlib.Omega.{arith}
 use lib.Dec.{eqb, leb}
 use lib.ListN.{length, length-append}
 use borrow.Author.Tests.{ne-eqb, not-true, le-leb}
-use Rattle.listing_rules.specs.Bytes.{text, crlf, same, all, within, openBytes}
-use Rattle.listing_rules.specs.Lists.{openLists}
+use Rattle.listing_rules.specs.Bytes.{text, crlf, same, all, within}
 use Rattle.listing_rules.specs.Names.{nameByte}
-use Rattle.listing_rules.specs.Tokens.{lineByte, openTokens}
+use Rattle.listing_rules.specs.Tokens.{lineByte}
 use Rattle.listing_rules.specs.Feeder.{announced}
-use Rattle.listing_rules.specs.Options.{Options, openOptions}
-use Rattle.listing_rules.specs.Command.{listing, parsed, orRefuse, tagged, openCommand}
-use Rattle.listing_rules.specs.Lines.{escaped, quoted, openLines}
+use Rattle.listing_rules.specs.Options.{Options}
+use Rattle.listing_rules.specs.Command.{listing, parsed, orRefuse, tagged}
+use Rattle.listing_rules.specs.Lines.{escaped, quoted}
+use Rattle.listing_rules.proofs.Keys.{openBytes, openLists, openTokens, openOptions, openCommand, openLines}
 use Rattle.listing_rules.specs.Walk.{commandLine, dropsSubscribed, lawfulByte, wantsSpecial, wantsRemote, when}
 use Rattle.listing_rules.specs.Demand3.{walkOptions}
 use Rattle.listing_rules.proofs.Bools.{and-l, and-r}

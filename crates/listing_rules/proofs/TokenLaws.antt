@@ -8,9 +8,10 @@ use native.Mathlib.Omega.{arith}
 use lib.Dec.{eqb, leb}
 use lib.ListN.{length, take, drop, length-append, length-drop}
 use borrow.Author.Tests.{eqb-true, eq-eqb}
-use Rattle.listing_rules.specs.Bytes.{openBytes, text, crlf, quote, backslash, all, isEmpty}
-use Rattle.listing_rules.specs.Tokens.{openTokens, Got, got, _>>=_, after, withFirst, run, unlessEmpty, run₁, atomByte, astringByte, patternByte, atom, unquoted, lineByte, quotedText, digitByte, decimal, number, literal, stringOr, astring, pattern}
-use Rattle.listing_rules.specs.Lines.{openLines, escaped}
+use Rattle.listing_rules.specs.Bytes.{text, crlf, quote, backslash, all, isEmpty}
+use Rattle.listing_rules.specs.Tokens.{Got, got, _>>=_, after, withFirst, run, unlessEmpty, run₁, atomByte, astringByte, patternByte, atom, unquoted, lineByte, quotedText, digitByte, decimal, number, literal, stringOr, astring, pattern}
+use Rattle.listing_rules.specs.Lines.{escaped}
+use Rattle.listing_rules.proofs.Keys.{openBytes, openTokens, openLines}
 use Rattle.listing_rules.proofs.Bools.{and-l, and-r, and-i}
 
 -- readers one after the other

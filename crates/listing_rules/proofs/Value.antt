@@ -7,8 +7,9 @@ use Prim.Native.Nat.{ℕ, zero, suc, _≤_, _<_}
 use native.Mathlib.Omega.{arith}
 use lib.ListN.{length}
 use Rattle.listing_rules.specs.Bytes.{text}
-use Rattle.listing_rules.specs.Tokens.{after, _>>=_, openTokens, astring, at}
-use Rattle.listing_rules.specs.Command.{valueRest, openCommand}
+use Rattle.listing_rules.specs.Tokens.{after, _>>=_, astring, at}
+use Rattle.listing_rules.specs.Command.{valueRest}
+use Rattle.listing_rules.proofs.Keys.{openTokens, openCommand}
 use Rattle.listing_rules.proofs.TokenLaws.{bind-some, none≢some, bind-cong, after-shorter, astring-shorter}
 
 -- the first item, as a function of what reads an inner value

@@ -5,7 +5,8 @@ use mathlib.Core.List.{List, [], _∷_, _++_, append-assoc, append-cancel-left, 
 use Prim.Native.Nat.{ℕ, Ordering·lt}
 use lib.Dec.{eqb}
 use lib.ListN.{length}
-use Rattle.listing_rules.specs.Bytes.{slash, all, openBytes}
+use Rattle.listing_rules.specs.Bytes.{slash, all}
+use Rattle.listing_rules.proofs.Keys.{openBytes}
 use Rattle.listing_rules.specs.Lists.{anyOf}
 use Rattle.listing_rules.specs.Orders.{lexBy, byteOrder}
 use Rattle.listing_rules.specs.Names.{nameByte, below, levelOrder, walkOrder}

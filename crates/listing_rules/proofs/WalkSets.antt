@@ -7,9 +7,10 @@ use Prim.Native.Nat.{ℕ, _-_, _≤_}
 use native.Mathlib.Omega.{arith}
 use lib.Dec.{eqb, leb}
 use borrow.Author.Tests.{ne-eqb, leb-true, le-leb}
-use Rattle.listing_rules.specs.Bytes.{slash, all, same, raise, raised, within, bit, openBytes}
+use Rattle.listing_rules.specs.Bytes.{slash, all, same, raise, raised, within, bit}
 use Rattle.listing_rules.specs.Lists.{anyOf}
-use Rattle.listing_rules.specs.Names.{nameByte, inbox, openNames}
+use Rattle.listing_rules.specs.Names.{nameByte, inbox}
+use Rattle.listing_rules.proofs.Keys.{openBytes, openNames}
 use Rattle.listing_rules.specs.Flags.{exists, subscribed, remote, uses, hasUse}
 use Rattle.listing_rules.specs.Table.{Row, rows, passes, flagsOf}
 use Rattle.listing_rules.specs.Options.{noCriteria, isNone, criteria}

@@ -7,7 +7,8 @@ use Prim.Native.Nat.{ℕ, _+_, zero, suc, _≤_}
 use native.Mathlib.Omega.{arith}
 use lib.ListN.{length, length-append}
 use lib.Seq.{drop-at}
-use Rattle.listing_rules.specs.Bytes.{slash, all, within, openBytes}
+use Rattle.listing_rules.specs.Bytes.{slash, all, within}
+use Rattle.listing_rules.proofs.Keys.{openBytes}
 use Rattle.listing_rules.specs.Lists.{joined}
 use Rattle.listing_rules.specs.Names.{nameByte, lawfulName}
 use Rattle.listing_rules.specs.Table.{rows, passes}

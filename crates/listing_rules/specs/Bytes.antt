@@ -92,8 +92,3 @@ raised (b ∷ t) = raise b ∷ raised t
 -- the text is the word in any case of letters; the word is written without small letters
 unfoldable pub spells : List ℕ → List ℕ → Bool
 spells t word = same (raised t) word
-
--- opens every definition of this file, for a proof by computation
-unfoldable pub openBytes : Unit {0}
-unfolding text slash quote backslash space crlf bit within oneOf all isEmpty same raise raised spells
-openBytes = tt

@@ -5,25 +5,19 @@ use lib.Dec.{eqb, leb}
 use lib.ListN.{length, take, replicate}
 use Prim.Native.Nat.{ℕ, suc, _+_, _/_, _%_}
 use Prim.Native.String.{String}
-use Rattle.listing_rules.specs.Bytes.{text, crlf, same, isEmpty, openBytes}
-use Rattle.listing_rules.specs.Lists.{every, anyOf, openLists}
-use Rattle.listing_rules.specs.Orders.{openOrders}
-use Rattle.listing_rules.specs.Names.{openNames}
-use Rattle.listing_rules.specs.Flags.{openFlags}
-use Rattle.listing_rules.specs.Table.{rows, passes, openTable}
-use Rattle.listing_rules.specs.Namespaces.{namespacesPass, openNamespaces}
-use Rattle.listing_rules.specs.Tokens.{openTokens}
-use Rattle.listing_rules.specs.Feeder.{Event, handed, goOn, denied, quiet, goOnLine, Feeder, reading, inLiteral, dropping, first, feedChunks, openFeeder}
-use Rattle.listing_rules.specs.Options.{criteriaNumber, openOptions}
-use Rattle.listing_rules.specs.Command.{openCommand}
-use Rattle.listing_rules.specs.Match.{openMatch}
-use Rattle.listing_rules.specs.Listing.{openListing}
-use Rattle.listing_rules.specs.Lines.{openLines}
-use Rattle.listing_rules.specs.Server.{Reply, refusal, answered, limited, answer, served, numberOf, lengthOf, bufferAfter, openServer}
-use Rattle.listing_rules.specs.Reader.{Read, line, root, bad, readLine, readNumber, attributesRead, childInfoOf, nameBytes, sameBools, lineFrom, written, openReader}
-use Rattle.listing_rules.specs.Walk.{lawfulByte, WalkReply, walkRefused, walked, walk, collected, walkNumber, walkCount, foundLength, scratchAfter, foundAfter, pendingAfter, openWalk}
-use Rattle.listing_rules.specs.Demand3.{declaredWalk, tooSmall, openDemand3}
-use Rattle.listing_rules.specs.Frames.{programOutput, step, walkLine, openFrames}
+use Rattle.listing_rules.specs.Bytes.{text, crlf, same, isEmpty}
+use Rattle.listing_rules.specs.Lists.{every, anyOf}
+use Rattle.listing_rules.specs.Table.{rows, passes}
+use Rattle.listing_rules.specs.Namespaces.{namespacesPass}
+use Rattle.listing_rules.specs.Feeder.{Event, handed, goOn, denied, quiet, goOnLine, Feeder, reading, inLiteral, dropping, first, feedChunks}
+use Rattle.listing_rules.specs.Options.{criteriaNumber}
+use Rattle.listing_rules.specs.Server.{Reply, refusal, answered, limited, answer, served, numberOf, lengthOf, bufferAfter}
+use Rattle.listing_rules.specs.Reader.{Read, line, root, bad, readLine, readNumber, attributesRead, childInfoOf, nameBytes, sameBools, lineFrom}
+use Rattle.listing_rules.specs.Reader.{written}
+use Rattle.listing_rules.specs.Walk.{lawfulByte, WalkReply, walkRefused, walked, walk, collected, walkNumber, walkCount, foundLength}
+use Rattle.listing_rules.specs.Walk.{scratchAfter, foundAfter, pendingAfter}
+use Rattle.listing_rules.specs.Demand3.{declaredWalk, tooSmall}
+use Rattle.listing_rules.specs.Frames.{programOutput, step, walkLine}
 
 -- a row and an entry in bytes
 abbrev pub row : ℕ → List ℕ → List ℕ
@@ -165,8 +159,3 @@ holds (continues l) = same goOnLine l
 abbrev pub failures : ℕ → List Case → List ℕ
 failures k [] = []
 failures k (c ∷ cs) = let r = failures (suc k) cs in cond (holds c) r (k ∷ r)
-
--- opens every definition that the cases compute
-unfoldable pub openAll : Unit {0}
-unfolding openBytes openLists openOrders openNames openFlags openTable openNamespaces openTokens openFeeder openOptions openCommand openMatch openListing openLines openServer openReader openWalk openDemand3 openFrames
-openAll = tt

@@ -35,7 +35,12 @@ pub record Opt : Type 0 where
 
 -- "An option is an atom, perhaps followed by a space and a value in parentheses."
 unfoldable pub option : List ℕ → Option (Got Opt)
-option t = atom t >>= λ g. elim (after (text " (") (g .rest)) [ none ↦ some (got (record { word = g .val; valued = false }) (g .rest)) | some u ↦ valueRest (length u) u >>= λ v. some (got (record { word = g .val; valued = true }) v) ]
+option t =
+    atom t >>= λ g.
+    elim (after (text " (") (g .rest)) [
+      | none ↦ some (got (record { word = g .val; valued = false }) (g .rest))
+      | some u ↦ valueRest (length u) u >>= λ v. some (got (record { word = g .val; valued = true }) v)
+    ]
 
 -- one or more items "parted by single spaces", and the closing parenthesis. Each item takes a byte, so the bytes of t are steps
 -- enough (laws `options-fuel`, `patterns-fuel`).
@@ -43,7 +48,10 @@ unfoldable pub parted : {A : Type 0} → (List ℕ → Option (Got A)) → ℕ �
 parted item zero t = none
 parted item (suc k) t = do
   g ← item t
-  elim (at 32 (g .rest)) [ true ↦ after (text " ") (g .rest) >>= λ u. parted item k u >>= λ r. some (withFirst (g .val) r) | false ↦ after (text ")") (g .rest) >>= λ u. some (got (g .val ∷ []) u) ]
+  elim (at 32 (g .rest)) [
+    | true ↦ after (text " ") (g .rest) >>= λ u. parted item k u >>= λ r. some (withFirst (g .val) r)
+    | false ↦ after (text ")") (g .rest) >>= λ u. some (got (g .val ∷ []) u)
+  ]
 
 -- "Options are parted by single spaces; the list may be empty." t stands behind the opening parenthesis.
 unfoldable pub options : List ℕ → Option (Got (List Opt))
@@ -184,8 +192,3 @@ tagged t =
 -- the line shape is 3; then tag 4, 5, rest 4, 6, 7, 8
 unfoldable pub parsed : List ℕ → Parsed
 parsed l = orRefuse 3 (lineText l) tagged
-
--- opens every definition of this file, for a proof by computation
-unfoldable pub openCommand : Unit {0}
-unfolding lineText valueRest option parted options patterns selectionPart returnPart isSome listArgs extended selectionWords returnWords knownIn named optionsOf canonical fewPatterns asksRoot judged orRefuse worded tagged parsed
-openCommand = tt

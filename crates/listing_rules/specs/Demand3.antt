@@ -72,8 +72,3 @@ Demand3 table o scratch found pending (walked count f p) =
     × (count ≡ 1 + length (meetingAncestors (rows table) o))
     × (f ≡ packed (meetingNames (rows table) o))
     × (p ≡ packed (meetingAncestors (rows table) o))
-
--- opens every definition of this file, for a proof by computation
-unfoldable pub openDemand3 : Unit {0}
-unfolding walkOptions meetingNames meetingAncestors declaredWalk walkAnswer scratchTooSmall foundTooSmall pendingTooSmall tooSmall Demand3
-openDemand3 = tt

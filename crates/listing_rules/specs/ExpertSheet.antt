@@ -1,12 +1,12 @@
--- The expert's sheet, E1 to E8, with W1's line and cases for W3, proved from the definitions as one table under one claim.
-use mathlib.Core.Path.{_≡_, refl}
+-- The expert's sheet, E1 to E8, with W1's line and cases for W3, proved from the definitions as one table under one claim
+-- (`sheet-holds` of proofs/Tables).
 use mathlib.Core.List.{List, [], _∷_, _++_}
 use Prim.Native.Nat.{ℕ}
 use Prim.Native.String.{String}
 use Rattle.listing_rules.specs.Bytes.{text, crlf}
 use Rattle.listing_rules.specs.Server.{Reply, refusal, answered}
 use Rattle.listing_rules.specs.Walk.{WalkReply, walkRefused, walked, packed}
-use Rattle.listing_rules.specs.Cases.{row, mailbox, times, sends, lines, Case, replies, walks, failures, openAll}
+use Rattle.listing_rules.specs.Cases.{row, mailbox, times, sends, lines, Case, replies, walks}
 
 -- "Table E: Foo-x 0001, Foo/Bar 0001, Foo/Baz 0003, INBOX 0031, Moo 0001."
 abbrev pub tableE : List ℕ
@@ -38,7 +38,8 @@ sheet =
     (answered (lines ("* LIST (\\Subscribed) \"/\" \"Foo/Baz\"" ∷ "C04 OK done" ∷ [])))
     -- E3, with W1's Foo as its first line
     ∷ over tableE (sends "a LIST \"\" % RETURN (CHILDREN)")
-    (answered (lines ("* LIST (\\NonExistent \\HasChildren) \"/\" \"Foo\"" ∷ "* LIST (\\HasNoChildren) \"/\" \"Foo-x\"" ∷ "* LIST (\\Marked \\NoInferiors) \"/\" \"INBOX\"" ∷ "* LIST (\\HasNoChildren) \"/\" \"Moo\"" ∷ "a OK done" ∷ [])))
+    (answered (lines ("* LIST (\\NonExistent \\HasChildren) \"/\" \"Foo\"" ∷ "* LIST (\\HasNoChildren) \"/\" \"Foo-x\""
+    ∷ "* LIST (\\Marked \\NoInferiors) \"/\" \"INBOX\"" ∷ "* LIST (\\HasNoChildren) \"/\" \"Moo\"" ∷ "a OK done" ∷ [])))
     -- E4: "in%" lists INBOX; "moo" lists nothing
     ∷ over tableE (sends "a LIST \"\" \"in%\"")
     (answered (lines ("* LIST (\\Marked \\NoInferiors) \"/\" \"INBOX\"" ∷ "a OK done" ∷ [])))
@@ -54,13 +55,15 @@ sheet =
     ∷ over tableE (sends "a LIST (RECURSIVEMATCH FOO) \"\" \"*\"") (refusal 6)
     -- W3: RECURSIVEMATCH beside SPECIAL-USE; CHILDINFO names the criteria selected, "SUBSCRIBED" before "SPECIAL-USE"
     ∷ over tableU (sends "a LIST (RECURSIVEMATCH SPECIAL-USE) \"\" %")
-    (answered (lines ("* LIST (\\NonExistent) \"/\" \"A\" (\"CHILDINFO\" (\"SPECIAL-USE\"))" ∷ "* LIST (\\Sent) \"/\" \"S\" (\"CHILDINFO\" (\"SPECIAL-USE\"))" ∷ "a OK done" ∷ [])))
+    (answered (lines ("* LIST (\\NonExistent) \"/\" \"A\" (\"CHILDINFO\" (\"SPECIAL-USE\"))"
+    ∷ "* LIST (\\Sent) \"/\" \"S\" (\"CHILDINFO\" (\"SPECIAL-USE\"))" ∷ "a OK done" ∷ [])))
     ∷ over tableU (sends "a LIST (SPECIAL-USE SUBSCRIBED RECURSIVEMATCH) \"\" %")
     (answered (lines ("* LIST (\\NonExistent) \"/\" \"A\" (\"CHILDINFO\" (\"SUBSCRIBED\" \"SPECIAL-USE\"))" ∷ "a OK done" ∷ [])))
     ∷ over tableU (sends "a LIST (RECURSIVEMATCH) \"\" % RETURN (SPECIAL-USE SUBSCRIBED)") (refusal 7)
     -- W3: option byte 6 walks for the uses, with 1 the remote ones too; 4 is legal only with 2
     ∷ walks tableU 6 16384 8192 8192 (walked 3 (packed (text "S" ∷ text "A/all" ∷ text "S/old" ∷ [])) (packed (text "A" ∷ text "S" ∷ [])))
-    ∷ walks tableU 7 16384 8192 8192 (walked 4 (packed (text "S" ∷ text "A/all" ∷ text "R/junk" ∷ text "S/old" ∷ [])) (packed (text "A" ∷ text "R" ∷ text "S" ∷ [])))
+    ∷ walks tableU 7 16384 8192 8192 (walked 4 (packed (text "S" ∷ text "A/all" ∷ text "R/junk" ∷ text "S/old" ∷ [])) (packed (text "A"
+    ∷ text "R" ∷ text "S" ∷ [])))
     ∷ walks tableU 2 16384 8192 8192 (walked 2 (packed (text "A/all" ∷ [])) (packed (text "A" ∷ [])))
     ∷ walks tableU 4 16384 8192 8192 (walkRefused 6)
     ∷ walks tableU 5 16384 8192 8192 (walkRefused 6)
@@ -79,7 +82,3 @@ sheet =
     ∷ over tableE (times 2034 97 ++ sends " LIST \"\" moo") (answered (times 2034 97 ++ sends " OK done"))
     ∷ over tableE (times 2035 97 ++ sends " LIST \"\" moo") (refusal 3)
     ∷ []
-
-pub claim : failures 1 sheet ≡ []
-unfolding openAll
-claim = refl

@@ -130,8 +130,3 @@ stillOne (denied k) last more = false
 unfoldable pub oneCommand : Feeder → List ℕ → Bool
 oneCommand s [] = false
 oneCommand s (c ∷ t) = let r = fedByte s c in allowed s c && stillOne (r .event) (isEmpty t) (oneCommand (r .state) t)
-
--- opens every definition of this file, for a proof by computation
-unfoldable pub openFeeder : Unit {0}
-unfolding endsLine lastIs announcedAt orElse announced goOnLine first gives dropped offends refusing awaiting lineEnded textByte fedByte saying feedAll feedChunks allowed stillOne oneCommand
-openFeeder = tt

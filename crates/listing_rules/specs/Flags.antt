@@ -41,8 +41,3 @@ lawfulFlags f =
     not (bit 7 f) && not (bit 15 f)
     && (exists f || eqb f 0x0002)
     && not (marked f && unmarked f)
-
--- opens every definition of this file, for a proof by computation
-unfoldable pub openFlags : Unit {0}
-unfolding exists subscribed remote noSelect noInferiors marked unmarked uses hasUse lawfulFlags
-openFlags = tt

@@ -148,8 +148,3 @@ atEnd s = cond (isEmpty (s .partial)) [] (refusalLine 13)
 -- a whole input's answers
 unfoldable pub programOutput : List ℕ → List ℕ
 programOutput input = let f = fedAll start input in f .output ++ atEnd (f .session)
-
--- opens every definition of this file, for a proof by computation
-unfoldable pub openFrames : Unit {0}
-unfolding digit bytesOf walkFrame frameOf readFrame hexDigit hex answerLine refusalLine replyLine walkLine answering addRow addEntry framed step start fed behind fedAll atEnd programOutput
-openFrames = tt

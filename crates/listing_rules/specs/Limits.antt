@@ -1,5 +1,5 @@
--- Each limit, each flag, each attribute's spelling and each refusal of document 01 at both sides, as one table under one claim.
-use mathlib.Core.Path.{_≡_, refl}
+-- Each limit, each flag, each attribute's spelling and each refusal of document 01 at both sides: tables by topic, under one claim
+-- (`limits-hold` of proofs/Tables).
 use mathlib.Core.List.{List, [], _∷_, _++_, map}
 use mathlib.Core.Bool.{Bool, true, false}
 use lib.ListN.{replicate}
@@ -12,7 +12,9 @@ use Rattle.listing_rules.specs.Options.{Criteria, noCriteria}
 use Rattle.listing_rules.specs.Server.{Reply, refusal, answered}
 use Rattle.listing_rules.specs.Reader.{Read, line, root, bad}
 use Rattle.listing_rules.specs.Walk.{WalkReply, walkRefused, walked, packed}
-use Rattle.listing_rules.specs.Cases.{row, mailbox, entry, times, sends, lines, Case, replies, refuses, walks, tables, spaces, answersInto, walksInto, writes, writesInto, gives, reads, program, steps, answersFrame, counts, feeds, continues, failures, openAll}
+use Rattle.listing_rules.specs.Cases.{row, mailbox, entry, times, sends, lines, Case, replies, refuses, walks, tables, spaces, answersInto}
+use Rattle.listing_rules.specs.Cases.{walksInto, writes, writesInto, gives, reads, program, steps, answersFrame, counts, feeds, continues}
+use Rattle.listing_rules.specs.Cases.{}
 use Rattle.listing_rules.specs.ExpertSheet.{tableE}
 
 abbrev named : List ℕ → List ℕ
@@ -102,18 +104,14 @@ levels-table =
     ∷ [])
 
 -- flags, row by row: bits 7 and 15, marked with unmarked, and what does not exist
-abbrev flags-of-a-row : List Case
+abbrev pub flags-of-a-row : List Case
 flags-of-a-row =
     tables (mailbox 0x0001 "a" ∷ mailbox 0x7F3F "a" ∷ mailbox 0x7F5F "a" ∷ mailbox 0x0002 "a" ∷ [] ∷ [])
     (mailbox 0x0081 "a" ∷ mailbox 0x8001 "a" ∷ mailbox 0x0061 "a" ∷ mailbox 0x0000 "a" ∷ mailbox 0x0006 "a" ∷ mailbox 0x0100 "a" ∷ [])
     ∷ []
 
-flags-of-a-row-hold : failures 1 flags-of-a-row ≡ []
-unfolding openAll
-flags-of-a-row-hold = refl
-
 -- name bytes; 1 to 16 non-empty levels; the INBOX rule looks at the first level alone
-abbrev names-of-rows : List Case
+abbrev pub names-of-rows : List Case
 names-of-rows =
     tables (named (32 ∷ 126 ∷ []) ∷ named (text "\"\\(){}]+&") ∷ named (deep 15) ∷ all-named ("INBOX/inbox" ∷ []) ∷ all-named ("x/inbox" ∷ [])
     ∷ all-named ("inboxx" ∷ []) ∷ [])
@@ -121,12 +119,8 @@ names-of-rows =
     ∷ all-named ("a/" ∷ []) ∷ all-named ("a//b" ∷ []) ∷ all-named ("inbox" ∷ []) ∷ all-named ("INBOx/a" ∷ []) ∷ [])
     ∷ []
 
-names-of-rows-hold : failures 1 names-of-rows ≡ []
-unfolding openAll
-names-of-rows-hold = refl
-
 -- order by bytes, a prefix first; no row below a row with no inferiors; rows fill the table exactly
-abbrev order-of-rows : List Case
+abbrev pub order-of-rows : List Case
 order-of-rows =
     tables (all-named ("Foo" ∷ "Foo x" ∷ "Foo-x" ∷ "Foo.x" ∷ "Foo/Bar" ∷ []) ∷ (mailbox 0x0011 "a" ++ mailbox 0x0001 "a-b/c") ∷ [])
     (all-named ("b" ∷ "a" ∷ []) ∷ all-named ("a" ∷ "a" ∷ []) ∷ all-named ("ab" ∷ "a" ∷ []) ∷ (mailbox 0x0011 "a" ++ mailbox 0x0001 "a/b")
@@ -134,45 +128,29 @@ order-of-rows =
     ∷ [])) ∷ [])
     ∷ []
 
-order-of-rows-hold : failures 1 order-of-rows ≡ []
-unfolding openAll
-order-of-rows-hold = refl
-
 -- 512 rows and 32,768 bytes
-abbrev size-of-a-table : List Case
+abbrev pub size-of-a-table : List Case
 size-of-a-table =
     tables (many 512 0 59 ∷ []) (many 513 0 0 ∷ (many 511 0 59 ++ named (80 ∷ 96 ∷ times 60 97)) ∷ [])
     ∷ []
 
-size-of-a-table-hold : failures 1 size-of-a-table ≡ []
-unfolding openAll
-size-of-a-table-hold = refl
-
 -- namespace entries: class, prefix length, prefix bytes, delimiter
-abbrev namespace-entries : List Case
+abbrev pub namespace-entries : List Case
 namespace-entries =
     spaces (entry 2 (times 64 32) 0 ∷ entry 1 (126 ∷ text "%*") 126 ∷ entry 0 [] 33 ∷ [] ∷ [])
     (entry 3 [] 0 ∷ entry 0 (times 65 97) 0 ∷ entry 0 (31 ∷ []) 0 ∷ entry 0 (127 ∷ []) 0 ∷ entry 0 [] 32 ∷ entry 0 [] 127 ∷ entry 0 [] 1 ∷ [])
     ∷ []
 
-namespace-entries-hold : failures 1 namespace-entries ≡ []
-unfolding openAll
-namespace-entries-hold = refl
-
 -- classes do not descend; at most 4 entries a class; entries fill the list
-abbrev namespace-classes : List Case
+abbrev pub namespace-classes : List Case
 namespace-classes =
     spaces (joined (map (λ c. entry c [] 47) (0 ∷ 0 ∷ 0 ∷ 0 ∷ 1 ∷ 1 ∷ 1 ∷ 1 ∷ 2 ∷ 2 ∷ 2 ∷ 2 ∷ [])) ∷ (entry 0 [] 47 ++ entry 2 [] 47) ∷ [])
     ((entry 1 [] 47 ++ entry 0 [] 47) ∷ joined (replicate 5 (entry 0 [] 47)) ∷ joined (replicate 5 (entry 1 [] 47))
     ∷ joined (replicate 5 (entry 2 [] 47)) ∷ (0 ∷ []) ∷ (0 ∷ 0 ∷ []) ∷ (0 ∷ 1 ∷ 47 ∷ []) ∷ [])
     ∷ []
 
-namespace-classes-hold : failures 1 namespace-classes ≡ []
-unfolding openAll
-namespace-classes-hold = refl
-
 -- each use by its name
-abbrev uses-by-name : List Case
+abbrev pub uses-by-name : List Case
 uses-by-name =
     replies 16384
     (joined (mailbox 0x0101 "a" ∷ mailbox 0x0201 "b" ∷ mailbox 0x0401 "c" ∷ mailbox 0x0801 "d" ∷ mailbox 0x1001 "e" ∷ mailbox 0x2001 "f"
@@ -183,12 +161,8 @@ uses-by-name =
     ∷ "a OK done" ∷ [])))
     ∷ []
 
-uses-by-name-hold : failures 1 uses-by-name ≡ []
-unfolding openAll
-uses-by-name-hold = refl
-
 -- each other flag by its name
-abbrev flags-by-name : List Case
+abbrev pub flags-by-name : List Case
 flags-by-name =
     replies 16384
     (joined (mailbox 0x0005 "a" ∷ mailbox 0x0009 "b" ∷ mailbox 0x0011 "c" ∷ mailbox 0x0021 "d" ∷ mailbox 0x0041 "e" ∷ mailbox 0x0003 "f"
@@ -198,12 +172,8 @@ flags-by-name =
     ∷ "* LIST (\\Marked) \"/\" \"d\"" ∷ "* LIST (\\Unmarked) \"/\" \"e\"" ∷ "* LIST () \"/\" \"f\"" ∷ "a OK done" ∷ [])))
     ∷ []
 
-flags-by-name-hold : failures 1 flags-by-name ≡ []
-unfolding openAll
-flags-by-name-hold = refl
-
 -- all that can stand together, in their order; children that are remote or do not exist
-abbrev attributes-together : List Case
+abbrev pub attributes-together : List Case
 attributes-together =
     replies 16384
     (joined (mailbox 0x7F3F "a" ∷ mailbox 0x0001 "b" ∷ mailbox 0x0007 "b/r" ∷ mailbox 0x0002 "c/s" ∷ []))
@@ -214,12 +184,8 @@ attributes-together =
     (answered (lines ("* LIST (\\Subscribed \\NonExistent \\HasNoChildren) \"/\" \"c/s\"" ∷ "a OK done" ∷ [])))
     ∷ []
 
-attributes-together-hold : failures 1 attributes-together ≡ []
-unfolding openAll
-attributes-together-hold = refl
-
 -- children that are local; CHILDINFO and listing by descendants with RECURSIVEMATCH alone; an empty pattern of an extended command
-abbrev children-and-empty-patterns : List Case
+abbrev pub children-and-empty-patterns : List Case
 children-and-empty-patterns =
     replies 16384 (joined (mailbox 0x0001 "b" ∷ mailbox 0x0001 "b/l" ∷ mailbox 0x0001 "c" ∷ mailbox 0x0005 "c/r"
     ∷ [])) [] (sends "a LIST \"\" % RETURN (CHILDREN)")
@@ -230,23 +196,15 @@ children-and-empty-patterns =
     ∷ replies 16384 [] [] (sends "a LIST \"\" \"\" RETURN ()") (answered (sends "a OK done"))
     ∷ []
 
-children-and-empty-patterns-hold : failures 1 children-and-empty-patterns ≡ []
-unfolding openAll
-children-and-empty-patterns-hold = refl
-
 -- SPECIAL-USE is a criterion; options in any case; a repeat counts once
-abbrev special-use-selected : List Case
+abbrev pub special-use-selected : List Case
 special-use-selected =
     replies 16384 (mailbox 0x0101 "a" ++ mailbox 0x0001 "b") [] (sends "a list (special-use Special-Use) \"\" *")
     (answered (lines ("* LIST (\\All) \"/\" \"a\"" ∷ "a OK done" ∷ [])))
     ∷ []
 
-special-use-selected-hold : failures 1 special-use-selected ≡ []
-unfolding openAll
-special-use-selected-hold = refl
-
 -- quotes and backslashes; "%" stays in a level, "*" does not; the reference counts, wildcards and all
-abbrev quotes-and-wildcards : List Case
+abbrev pub quotes-and-wildcards : List Case
 quotes-and-wildcards =
     replies 16384 (all-named ("a\"\\" ∷ "b/c" ∷ [])) [] (sends "a LIST \"%\" (\"\\\"\\\\\" *c /c)")
     (answered (lines ("* LIST () \"/\" \"a\\\"\\\\\"" ∷ "* LIST () \"/\" \"b/c\"" ∷ "a OK done" ∷ [])))
@@ -254,12 +212,8 @@ quotes-and-wildcards =
     ∷ replies 16384 (all-named ("b/c" ∷ [])) [] (sends "a LIST \"\" %c") (answered (sends "a OK done"))
     ∷ []
 
-quotes-and-wildcards-hold : failures 1 quotes-and-wildcards ≡ []
-unfolding openAll
-quotes-and-wildcards-hold = refl
-
 -- CHILDINFO for a descendant, "whether that one matches or not"; a use without SPECIAL-USE, and returned only
-abbrev childinfo-and-uses-shown : List Case
+abbrev pub childinfo-and-uses-shown : List Case
 childinfo-and-uses-shown =
     replies 16384 (mailbox 0x0003 "a" ++ mailbox 0x0003 "a/b") [] (sends "a LIST (SUBSCRIBED RECURSIVEMATCH) \"\" *")
     (answered (lines ("* LIST (\\Subscribed) \"/\" \"a\" (\"CHILDINFO\" (\"SUBSCRIBED\"))" ∷ "* LIST (\\Subscribed) \"/\" \"a/b\"" ∷ "a OK done"
@@ -270,13 +224,9 @@ childinfo-and-uses-shown =
     (answered (lines ("* LIST (\\Trash) \"/\" \"a\"" ∷ "* LIST () \"/\" \"b\"" ∷ "a OK done" ∷ [])))
     ∷ []
 
-childinfo-and-uses-shown-hold : failures 1 childinfo-and-uses-shown ≡ []
-unfolding openAll
-childinfo-and-uses-shown-hold = refl
-
 -- W1: levels above what meets the criteria, under a pattern that ends in "%" and matches them; a remote row does not lift its
 -- parent unless REMOTE is selected
-abbrev levels-listed : List Case
+abbrev pub levels-listed : List Case
 levels-listed =
     replies 16384 levels-table [] (sends "a LIST \"\" %")
     (answered (lines ("* LIST (\\NonExistent \\HasChildren) \"/\" \"P\"" ∷ "* LIST () \"/\" \"Q\""
@@ -288,12 +238,8 @@ levels-listed =
     ∷ "* LIST (\\NonExistent \\HasChildren) \"/\" \"T/u\"" ∷ "* LIST (\\HasNoChildren) \"/\" \"T/u/v\"" ∷ "a OK done" ∷ [])))
     ∷ []
 
-levels-listed-hold : failures 1 levels-listed ≡ []
-unfolding openAll
-levels-listed-hold = refl
-
 -- not under another pattern that matches, nor under SUBSCRIBED or SPECIAL-USE
-abbrev levels-not-listed : List Case
+abbrev pub levels-not-listed : List Case
 levels-not-listed =
     replies 16384 levels-table [] (sends "a LIST \"\" (T* P x%)") (answered (lines ("* LIST () \"/\" \"T/u/v\"" ∷ "a OK done" ∷ [])))
     ∷ replies 16384 levels-table [] (sends "a LIST (SUBSCRIBED) \"\" %") (answered (lines ("* LIST (\\Subscribed \\NonExistent) \"/\" \"P\""
@@ -301,69 +247,45 @@ levels-not-listed =
     ∷ replies 16384 (mailbox 0x0101 "a/b") [] (sends "a LIST (SPECIAL-USE) \"\" %") (answered (sends "a OK done"))
     ∷ []
 
-levels-not-listed-hold : failures 1 levels-not-listed ≡ []
-unfolding openAll
-levels-not-listed-hold = refl
-
 -- 9 counts these lines
-abbrev levels-counted : List Case
+abbrev pub levels-counted : List Case
 levels-counted =
     replies 55 (all-named ("b/c" ∷ [])) [] (sends "a LIST \"\" %") (answered (lines ("* LIST (\\NonExistent \\HasChildren) \"/\" \"b\""
     ∷ "a OK done" ∷ [])))
     ∷ replies 54 (all-named ("b/c" ∷ [])) [] (sends "a LIST \"\" %") (refusal 9)
     ∷ []
 
-levels-counted-hold : failures 1 levels-counted ≡ []
-unfolding openAll
-levels-counted-hold = refl
-
 -- the INBOX rule is for the name INBOX alone
-abbrev inbox-alone : List Case
+abbrev pub inbox-alone : List Case
 inbox-alone =
     replies 16384 (all-named ("INBOX" ∷ "INBOX/x" ∷ [])) [] (sends "a LIST inb (ox ox/% ox/x)")
     (answered (lines ("* LIST () \"/\" \"INBOX\"" ∷ "a OK done" ∷ [])))
     ∷ []
 
-inbox-alone-hold : failures 1 inbox-alone ≡ []
-unfolding openAll
-inbox-alone-hold = refl
-
 -- NAMESPACE
-abbrev namespace-line : List Case
+abbrev pub namespace-line : List Case
 namespace-line =
     replies 16384 [] (entry 0 [] 47 ++ (entry 0 (text "#mh/") 47 ++ (entry 2 (34 ∷ []) 92 ++ entry 2 [] 0))) (sends "a namespace")
     (answered (lines ("* NAMESPACE ((\"\" \"/\")(\"#mh/\" \"/\")) NIL ((\"\\\"\" \"\\\\\")(\"\" NIL))" ∷ "a OK done" ∷ [])))
     ∷ []
 
-namespace-line-hold : failures 1 namespace-line ≡ []
-unfolding openAll
-namespace-line-hold = refl
-
 -- 1 before 2 before 3
-abbrev table-then-list-then-line : List Case
+abbrev pub table-then-list-then-line : List Case
 table-then-list-then-line =
     replies 16384 (0 ∷ []) (3 ∷ []) [] (refusal 1)
     ∷ replies 16384 [] (3 ∷ []) [] (refusal 2)
     ∷ []
 
-table-then-list-then-line-hold : failures 1 table-then-list-then-line ≡ []
-unfolding openAll
-table-then-list-then-line-hold = refl
-
 -- 3: no CR LF at the end, and bytes 00 and 80; 01 and 7F are lawful
-abbrev line-shape : List Case
+abbrev pub line-shape : List Case
 line-shape =
     refuses 3 ([] ∷ (text "+ LIST" ++ (10 ∷ [])) ∷ (text "a LIST \"" ++ (0x80 ∷ text "\" *" ++ crlf)) ∷ (text "a LIST \"" ++ (0x00
     ∷ text "\" *" ++ crlf)) ∷ (13 ∷ sends "a LIST \"\" *") ∷ [])
     ∷ replies 16384 [] [] (text "a LIST \"" ++ (0x7F ∷ 1 ∷ text "\" *" ++ crlf)) (answered (sends "a OK done"))
     ∷ []
 
-line-shape-hold : failures 1 line-shape ≡ []
-unfolding openAll
-line-shape-hold = refl
-
 -- tag 4, then 5, then the rest 4
-abbrev tag-word-rest : List Case
+abbrev pub tag-word-rest : List Case
 tag-word-rest =
     refuses 4 (sends "" ∷ sends "+a FOO" ∷ sends "a]" ∷ sends "a NAMESPACE " ∷ sends "a LIST" ∷ sends "a LIST( ) \"\" *"
     ∷ sends "a LIST ( ) \"\" *" ∷ sends "a LIST \"\"  *" ∷ sends "a LIST % *" ∷ sends "a LIST \"\" ()" ∷ sends "a LIST \"\" * RETURN"
@@ -371,12 +293,8 @@ tag-word-rest =
     ∷ refuses 5 (sends "a]  " ∷ sends "a " ∷ sends "a LISTS \"" ∷ sends "a LIST+ \"\" *" ∷ sends "a FOO \"" ∷ [])
     ∷ []
 
-tag-word-rest-hold : failures 1 tag-word-rest ≡ []
-unfolding openAll
-tag-word-rest-hold = refl
-
 -- values nest; 4 before 6 before 7 before 8; RETURN is not beside RECURSIVEMATCH; an option is known in its own list only
-abbrev values-and-options : List Case
+abbrev pub values-and-options : List Case
 values-and-options =
     refuses 4 (sends "a LIST (FOO (a (b  c) e)) \"\" *" ∷ sends "a LIST (FOO ()) \"\" *" ∷ sends "a LIST (FOO (a) (b)) \"\" *"
     ∷ sends "a LIST (RECURSIVEMATCH FOO) \"\" (a ) RETURN ()" ∷ [])
@@ -385,23 +303,15 @@ values-and-options =
     ∷ refuses 7 (sends "a LIST (RECURSIVEMATCH REMOTE) \"\" (a b c d e f g h i) RETURN (SUBSCRIBED SPECIAL-USE)" ∷ [])
     ∷ []
 
-values-and-options-hold : failures 1 values-and-options ≡ []
-unfolding openAll
-values-and-options-hold = refl
-
 -- 9 counts the tagged line; an equal length fits
-abbrev answer-length : List Case
+abbrev pub answer-length : List Case
 answer-length =
     replies 32 (all-named ("Moo" ∷ [])) [] (sends "a LIST \"\" *") (answered (lines ("* LIST () \"/\" \"Moo\"" ∷ "a OK done" ∷ [])))
     ∷ replies 31 (all-named ("Moo" ∷ [])) [] (sends "a LIST \"\" *") (refusal 9)
     ∷ []
 
-answer-length-hold : failures 1 answer-length ≡ []
-unfolding openAll
-answer-length-hold = refl
-
 -- the answer buffer: bytes after the answer stay; a refusal has length 0 and changes no byte
-abbrev answer-buffer : List Case
+abbrev pub answer-buffer : List Case
 answer-buffer =
     answersInto (times 13 7) [] [] (sends "a LIST \"\" *") 0 11 (sends "a OK done" ++ times 2 7)
     ∷ answersInto (times 11 7) [] [] (sends "a LIST \"\" *") 0 11 (sends "a OK done")
@@ -410,12 +320,8 @@ answer-buffer =
     ∷ answersInto (times 3 7) [] [] (sends "a FOO") 5 0 (times 3 7)
     ∷ []
 
-answer-buffer-hold : failures 1 answer-buffer ≡ []
-unfolding openAll
-answer-buffer-hold = refl
-
 -- the walk: 1 before 6; each buffer exactly long enough, and one byte short
-abbrev walk-buffers-short : List Case
+abbrev pub walk-buffers-short : List Case
 walk-buffers-short =
     walks (0 ∷ []) 4 0 0 0 (walkRefused 1)
     ∷ walks tableE 4 0 0 0 (walkRefused 6)
@@ -426,12 +332,8 @@ walk-buffers-short =
     ∷ walks tableE 0 73 8 3 (walkRefused 11)
     ∷ []
 
-walk-buffers-short-hold : failures 1 walk-buffers-short ≡ []
-unfolding openAll
-walk-buffers-short-hold = refl
-
 -- finds and asks: a remote parent, special uses
-abbrev walk-finds : List Case
+abbrev pub walk-finds : List Case
 walk-finds =
     walks (joined (mailbox 0x0007 "R" ∷ mailbox 0x0003 "R/a" ∷ mailbox 0x0107 "S" ∷ mailbox 0x0103 "T/u" ∷ [])) 0 16384 64 64
     (walked 3 (packed (text "R/a" ∷ text "T/u" ∷ [])) (packed (text "R" ∷ text "T" ∷ [])))
@@ -441,12 +343,8 @@ walk-finds =
     (walked 2 (packed (text "S" ∷ text "T/u" ∷ [])) (packed (text "T" ∷ [])))
     ∷ []
 
-walk-finds-hold : failures 1 walk-finds ≡ []
-unfolding openAll
-walk-finds-hold = refl
-
 -- the three buffers: names at the front and zero after them, scratch zero; a refusal gives count 0 and length 0 and zeroes them
-abbrev walk-buffers-after : List Case
+abbrev pub walk-buffers-after : List Case
 walk-buffers-after =
     walksInto tableE 0 (times 73 7) (times 9 7) (times 6 7) 0 2 8 (7 ∷ text "Foo/Baz" ++ (0 ∷ [])) (3 ∷ text "Foo" ++ (0 ∷ 0 ∷ []))
     ∷ walksInto tableE 0 (times 72 7) (times 9 7) (times 6 7) 9 0 0 (times 9 0) (times 6 0)
@@ -456,12 +354,8 @@ walk-buffers-after =
     ∷ walksInto tableE 8 (times 3 7) (times 2 7) (times 1 7) 6 0 0 (times 2 0) (times 1 0)
     ∷ []
 
-walk-buffers-after-hold : failures 1 walk-buffers-after ≡ []
-unfolding openAll
-walk-buffers-after-hold = refl
-
 -- the line writer: criteria that are none, then the other parts, 12, then 9; the root line; marked with unmarked
-abbrev line-writer : List Case
+abbrev pub line-writer : List Case
 line-writer =
     writes 0 plain (text "a") 4 (refusal 12)
     ∷ writes 99 plain (text "a") 5 (refusal 12)
@@ -481,24 +375,16 @@ line-writer =
     ∷ writes 99 noselect [] 0 (answered (sends "* LIST (\\Noselect) \"/\" \"\""))
     ∷ []
 
-line-writer-hold : failures 1 line-writer ≡ []
-unfolding openAll
-line-writer-hold = refl
-
 -- the reader's parts: a name in 200 bytes, zero after it; a refusal gives no attributes and an empty name
-abbrev reader-parts : List Case
+abbrev pub reader-parts : List Case
 reader-parts =
     gives (sends "* LIST (\\Marked \\Unmarked) \"/\" \"ab\" (\"CHILDINFO\" (\"SUBSCRIBED\" \"SPECIAL-USE\"))") 0 both-marked 3 (text "ab" ++ times 198 0)
     ∷ gives (sends "* LIST (\\Noselect) \"/\" \"\"") 0 noselect 0 (times 200 0)
     ∷ gives (sends "* LIST (\\Marked) \"/\" \"a/\" (\"CHILDINFO\" (\"SUBSCRIBED\"))") 12 plain 0 (times 200 0)
     ∷ []
 
-reader-parts-hold : failures 1 reader-parts ≡ []
-unfolding openAll
-reader-parts-hold = refl
-
 -- the reader: exact bytes
-abbrev reader-lines : List Case
+abbrev pub reader-lines : List Case
 reader-lines =
     reads (sends "* LIST (\\Noselect) \"/\" \"\"") root (sends "* LIST () \"/\" \"\""
     ∷ sends "* LIST (\\Noselect) \"/\" \"\" (\"CHILDINFO\" (\"SUBSCRIBED\"))" ∷ text "* LIST (\\Noselect) \"/\" \"\"" ∷ [])
@@ -512,27 +398,20 @@ reader-lines =
     (sends "* LIST () \"/\" \"a\" (\"CHILDINFO\" (\"SPECIAL-USE\" \"SUBSCRIBED\"))"
     ∷ sends "* LIST () \"/\" \"a\" (\"CHILDINFO\" (\"SUBSCRIBED\"  \"SPECIAL-USE\"))"
     ∷ sends "* LIST () \"/\" \"a\" (\"CHILDINFO\" (\"SUBSCRIBED\" \"SUBSCRIBED\"))" ∷ [])
-    ∷ reads (text "* LIST () \"/\" \"" ++ (times 200 97 ++ sends "\"")) (line plain (times 200 97) none-named) ((text "* LIST () \"/\" \"" ++ (times 201 97 ++ sends "\"")) ∷ [])
+    ∷ reads (text "* LIST () \"/\" \"" ++ (times 200 97 ++ sends "\"")) (line plain (times 200 97) none-named)
+    ((text "* LIST () \"/\" \"" ++ (times 201 97 ++ sends "\"")) ∷ [])
     ∷ []
 
-reader-lines-hold : failures 1 reader-lines ≡ []
-unfolding openAll
-reader-lines-hold = refl
-
 -- the program: document 01's whole session; then a table in two frames, each cause of 13, walks, and a last frame without LF
-abbrev program-frames : List Case
+abbrev pub program-frames : List Case
 program-frames =
     program (text "4361204E414D4553504143450D0A\n4D0003\n4d0161\n\n4D0\n43 61\n57\n570000\n58\n5700\n5704\n4D00\n5700\n5700")
     (text "412A204E414D455350414345204E494C204E494C204E494C0D0A61204F4B20646F6E650D0A\n520D\n520D\n520D\n520D\n520D\n520D\n5700010161\n5206\n5201\n520D\n")
     ∷ program (0x34 ∷ 0x44 ∷ times 4098 0x30 ++ (10 ∷ (0x34 ∷ 0x44 ∷ times 4100 0x30 ++ (10 ∷ [])))) (text "520D\n")
     ∷ []
 
-program-frames-hold : failures 1 program-frames ≡ []
-unfolding openAll
-program-frames-hold = refl
-
 -- digits of either case and their neighbours; stored bytes at both sides of their room; the count's two bytes
-abbrev program-digits-and-room : List Case
+abbrev pub program-digits-and-room : List Case
 program-digits-and-room =
     steps 0 0 (text "4D09AFaf") 3 0 []
     ∷ program (text "4D0/\n4D0:\n4D0@\n4D0G\n4D0`\n4D0g\n") (text "520D\n520D\n520D\n520D\n520D\n520D\n")
@@ -543,56 +422,36 @@ program-digits-and-room =
     ∷ counts 515 (text "570203\n")
     ∷ []
 
-program-digits-and-room-hold : failures 1 program-digits-and-room ≡ []
-unfolding openAll
-program-digits-and-room-hold = refl
-
 -- the program's answer buffer: an answer of 16,384 bytes, and one more
-abbrev program-answer-room : List Case
+abbrev pub program-answer-room : List Case
 program-answer-room =
     answersFrame (long-answer 0) (text "4361204C495354202222202A0D0A") 32771 (text "412A20")
     ∷ answersFrame (long-answer 1) (text "4361204C495354202222202A0D0A") 5 (text "5209\n")
     ∷ []
 
-program-answer-room-hold : failures 1 program-answer-room ≡ []
-unfolding openAll
-program-answer-room-hold = refl
-
 -- its scratch: an answer of 16,384 bytes, and one more
-abbrev program-scratch-room : List Case
+abbrev pub program-scratch-room : List Case
 program-scratch-room =
     answersFrame (long-scratch 0) (text "5700") 15445 (text "570001")
     ∷ answersFrame (long-scratch 1) (text "5700") 5 (text "5209\n")
     ∷ []
 
-program-scratch-room-hold : failures 1 program-scratch-room ≡ []
-unfolding openAll
-program-scratch-room-hold = refl
-
 -- found of 8,192 bytes, and one more
-abbrev program-found-room : List Case
+abbrev pub program-found-room : List Case
 program-found-room =
     answersFrame (long-found 0) (text "5700") 16391 (text "570001")
     ∷ answersFrame (long-found 1) (text "5700") 5 (text "520A\n")
     ∷ []
 
-program-found-room-hold : failures 1 program-found-room ≡ []
-unfolding openAll
-program-found-room-hold = refl
-
 -- pending of 8,192 bytes, after which found is full, and one more
-abbrev program-pending-room : List Case
+abbrev pub program-pending-room : List Case
 program-pending-room =
     answersFrame (long-pending 0) (text "5700") 5 (text "520A\n")
     ∷ answersFrame (long-pending 1) (text "5700") 5 (text "520B\n")
     ∷ []
 
-program-pending-room-hold : failures 1 program-pending-room ≡ []
-unfolding openAll
-program-pending-room-hold = refl
-
 -- W2: a literal as reference, as pattern, among patterns and as an item of a value; its wildcards count; 80 to FF match no name
-abbrev literals : List Case
+abbrev pub literals : List Case
 literals =
     replies 16384 tableE [] (lines ("a LIST {0}" ∷ " {3}" ∷ "Moo" ∷ [])) (answered (lines ("* LIST () \"/\" \"Moo\"" ∷ "a OK done" ∷ [])))
     ∷ replies 16384 tableE [] (lines ("a LIST {2}" ∷ "M% (\"x\" {0002}" ∷ "o* {1}" ∷ []) ++ (0xFF
@@ -601,12 +460,8 @@ literals =
     ∷ replies 16384 [] [] (text "a LIST \"\" {5}" ++ (crlf ++ (13 ∷ 10 ∷ 1 ∷ 128 ∷ 255 ∷ crlf))) (answered (sends "a OK done"))
     ∷ []
 
-literals-hold : failures 1 literals ≡ []
-unfolding openAll
-literals-hold = refl
-
 -- a literal stands alone, and nowhere else; 5 before what stands behind the word
-abbrev literals-misplaced : List Case
+abbrev pub literals-misplaced : List Case
 literals-misplaced =
     refuses 4 (lines ("a LIST \"\" x{1}" ∷ "a" ∷ []) ∷ lines ("a LIST \"\" {1}" ∷ "ax" ∷ []) ∷ lines ("a LIST{0}" ∷ " \"\" *" ∷ []) ∷ lines ("{1}"
     ∷ "a LIST \"\" *" ∷ []) ∷ lines ("a LIST ({10}" ∷ "SUBSCRIBED) \"\" *" ∷ []) ∷ lines ("a LIST \"\" \"{1}" ∷ "a\"" ∷ [])
@@ -614,24 +469,16 @@ literals-misplaced =
     ∷ refuses 5 (lines ("a {4}" ∷ "LIST" ∷ []) ∷ [])
     ∷ []
 
-literals-misplaced-hold : failures 1 literals-misplaced ≡ []
-unfolding openAll
-literals-misplaced-hold = refl
-
 -- a literal cut short, bytes behind the command, a larger n, 00 in a literal, and what check 3 says of the text around it
-abbrev literals-cut-short : List Case
+abbrev pub literals-cut-short : List Case
 literals-cut-short =
     refuses 3 (sends "a LIST \"\" {3}" ∷ sends "a LIST \"\" {0}" ∷ lines ("a LIST \"\" {3}" ∷ "a" ∷ []) ∷ lines ("a LIST \"\" *" ∷ "" ∷ [])
     ∷ (sends "a LIST \"\" {1025}" ++ (times 1025 97 ++ crlf)) ∷ (sends "a LIST \"\" {1}" ++ (0 ∷ crlf)) ∷ (sends "a LIST \"\" {1}" ++ (97 ∷ 128
     ∷ crlf)) ∷ (sends "a LIST \"\" {1}" ++ (97 ∷ 13 ∷ crlf)) ∷ [])
     ∷ []
 
-literals-cut-short-hold : failures 1 literals-cut-short ≡ []
-unfolding openAll
-literals-cut-short-hold = refl
-
 -- the limits: n of 1,024 and a canonical pattern of 255 bytes, 2,048 bytes in all
-abbrev literal-lengths : List Case
+abbrev pub literal-lengths : List Case
 literal-lengths =
     refuses 8 ((sends "a LIST \"\" {1024}" ++ (times 1024 97 ++ crlf)) ∷ (sends "a LIST \"b\" {255}" ++ (times 255 97 ++ crlf)) ∷ [])
     ∷ replies 16384 [] [] (sends "a LIST \"\" {255}" ++ (times 255 97 ++ crlf)) (answered (sends "a OK done"))
@@ -639,12 +486,8 @@ literal-lengths =
     ∷ replies 16384 [] [] (sends "a LIST (A {1024}" ++ (times 1024 41 ++ (text "(" ++ (times 998 97 ++ sends ")) \"\" *")))) (refusal 3)
     ∷ []
 
-literal-lengths-hold : failures 1 literal-lengths ≡ []
-unfolding openAll
-literal-lengths-hold = refl
-
 -- the feeder: chunks cut anywhere, zero length too; a header in a literal is none
-abbrev feeder-chunks : List Case
+abbrev pub feeder-chunks : List Case
 feeder-chunks =
     feeds (text "a LIST \"\" {3}\r" ∷ [] ∷ text "\n" ∷ text "Mo" ∷ text "o\r\n\r" ∷ text "\n" ∷ text "b" ∷ []) (goOn
     ∷ handed (lines ("a LIST \"\" {3}" ∷ "Moo" ∷ [])) ∷ handed crlf ∷ []) false
@@ -655,12 +498,8 @@ feeder-chunks =
     ∷ continues (43 ∷ 32 ∷ 103 ∷ 111 ∷ 13 ∷ 10 ∷ [])
     ∷ []
 
-feeder-chunks-hold : failures 1 feeder-chunks ≡ []
-unfolding openAll
-feeder-chunks-hold = refl
-
 -- a larger n ends the command at its line; leading zeros and many digits
-abbrev feeder-large-literals : List Case
+abbrev pub feeder-large-literals : List Case
 feeder-large-literals =
     feeds (lines ("{1025}" ∷ "a" ∷ []) ∷ []) (denied 3 ∷ handed (sends "a") ∷ []) true
     ∷ feeds ((text "{" ++ (times 1500 48 ++ sends "1}")) ∷ sends "a" ∷ []) (goOn
@@ -668,126 +507,17 @@ feeder-large-literals =
     ∷ feeds ((text "{" ++ (times 1500 57 ++ sends "}")) ∷ []) (denied 3 ∷ []) true
     ∷ []
 
-feeder-large-literals-hold : failures 1 feeder-large-literals ≡ []
-unfolding openAll
-feeder-large-literals-hold = refl
-
 -- 00 drops through the next CR LF, in a literal too, of which a CR just before counts
-abbrev feeder-dropping : List Case
+abbrev pub feeder-dropping : List Case
 feeder-dropping =
     feeds ((sends "{9}" ++ (97 ∷ 0 ∷ sends "b")) ∷ sends "c" ∷ (0 ∷ []) ∷ text "{1}\r" ∷ text "\r\n" ∷ []) (goOn ∷ denied 3 ∷ handed (sends "c")
     ∷ denied 3 ∷ []) true
     ∷ []
 
-feeder-dropping-hold : failures 1 feeder-dropping ≡ []
-unfolding openAll
-feeder-dropping-hold = refl
-
 -- 2,048 bytes; the LF of a line, or of a header, as byte 2,049, and the byte behind a header that ends as byte 2,048
-abbrev feeder-command-length : List Case
+abbrev pub feeder-command-length : List Case
 feeder-command-length =
     feeds ((times 2046 97 ++ crlf) ∷ (times 2047 97 ++ crlf) ∷ (times 2048 97 ++ crlf) ∷ []) (handed (times 2046 97 ++ crlf) ∷ denied 3 ∷ denied 3
     ∷ []) true
     ∷ feeds ((times 2043 97 ++ sends "{1}") ∷ (13 ∷ []) ∷ sends "" ∷ (times 2044 97 ++ sends "{1}") ∷ []) (goOn ∷ denied 3 ∷ denied 3 ∷ []) true
     ∷ []
-
-feeder-command-length-hold : failures 1 feeder-command-length ≡ []
-unfolding openAll
-feeder-command-length-hold = refl
-
--- each of the tables above, by its name
-pub record Limits-hold : Type 0 where
-  pub flags-of-a-row-stand : failures 1 flags-of-a-row ≡ []
-  pub names-of-rows-stand : failures 1 names-of-rows ≡ []
-  pub order-of-rows-stand : failures 1 order-of-rows ≡ []
-  pub size-of-a-table-stand : failures 1 size-of-a-table ≡ []
-  pub namespace-entries-stand : failures 1 namespace-entries ≡ []
-  pub namespace-classes-stand : failures 1 namespace-classes ≡ []
-  pub uses-by-name-stand : failures 1 uses-by-name ≡ []
-  pub flags-by-name-stand : failures 1 flags-by-name ≡ []
-  pub attributes-together-stand : failures 1 attributes-together ≡ []
-  pub children-and-empty-patterns-stand : failures 1 children-and-empty-patterns ≡ []
-  pub special-use-selected-stand : failures 1 special-use-selected ≡ []
-  pub quotes-and-wildcards-stand : failures 1 quotes-and-wildcards ≡ []
-  pub childinfo-and-uses-shown-stand : failures 1 childinfo-and-uses-shown ≡ []
-  pub levels-listed-stand : failures 1 levels-listed ≡ []
-  pub levels-not-listed-stand : failures 1 levels-not-listed ≡ []
-  pub levels-counted-stand : failures 1 levels-counted ≡ []
-  pub inbox-alone-stand : failures 1 inbox-alone ≡ []
-  pub namespace-line-stand : failures 1 namespace-line ≡ []
-  pub table-then-list-then-line-stand : failures 1 table-then-list-then-line ≡ []
-  pub line-shape-stand : failures 1 line-shape ≡ []
-  pub tag-word-rest-stand : failures 1 tag-word-rest ≡ []
-  pub values-and-options-stand : failures 1 values-and-options ≡ []
-  pub answer-length-stand : failures 1 answer-length ≡ []
-  pub answer-buffer-stand : failures 1 answer-buffer ≡ []
-  pub walk-buffers-short-stand : failures 1 walk-buffers-short ≡ []
-  pub walk-finds-stand : failures 1 walk-finds ≡ []
-  pub walk-buffers-after-stand : failures 1 walk-buffers-after ≡ []
-  pub line-writer-stand : failures 1 line-writer ≡ []
-  pub reader-parts-stand : failures 1 reader-parts ≡ []
-  pub reader-lines-stand : failures 1 reader-lines ≡ []
-  pub program-frames-stand : failures 1 program-frames ≡ []
-  pub program-digits-and-room-stand : failures 1 program-digits-and-room ≡ []
-  pub program-answer-room-stand : failures 1 program-answer-room ≡ []
-  pub program-scratch-room-stand : failures 1 program-scratch-room ≡ []
-  pub program-found-room-stand : failures 1 program-found-room ≡ []
-  pub program-pending-room-stand : failures 1 program-pending-room ≡ []
-  pub literals-stand : failures 1 literals ≡ []
-  pub literals-misplaced-stand : failures 1 literals-misplaced ≡ []
-  pub literals-cut-short-stand : failures 1 literals-cut-short ≡ []
-  pub literal-lengths-stand : failures 1 literal-lengths ≡ []
-  pub feeder-chunks-stand : failures 1 feeder-chunks ≡ []
-  pub feeder-large-literals-stand : failures 1 feeder-large-literals ≡ []
-  pub feeder-dropping-stand : failures 1 feeder-dropping ≡ []
-  pub feeder-command-length-stand : failures 1 feeder-command-length ≡ []
-
--- the one claim
-pub claim : Limits-hold
-claim =
-    record {
-      flags-of-a-row-stand = flags-of-a-row-hold;
-      names-of-rows-stand = names-of-rows-hold;
-      order-of-rows-stand = order-of-rows-hold;
-      size-of-a-table-stand = size-of-a-table-hold;
-      namespace-entries-stand = namespace-entries-hold;
-      namespace-classes-stand = namespace-classes-hold;
-      uses-by-name-stand = uses-by-name-hold;
-      flags-by-name-stand = flags-by-name-hold;
-      attributes-together-stand = attributes-together-hold;
-      children-and-empty-patterns-stand = children-and-empty-patterns-hold;
-      special-use-selected-stand = special-use-selected-hold;
-      quotes-and-wildcards-stand = quotes-and-wildcards-hold;
-      childinfo-and-uses-shown-stand = childinfo-and-uses-shown-hold;
-      levels-listed-stand = levels-listed-hold;
-      levels-not-listed-stand = levels-not-listed-hold;
-      levels-counted-stand = levels-counted-hold;
-      inbox-alone-stand = inbox-alone-hold;
-      namespace-line-stand = namespace-line-hold;
-      table-then-list-then-line-stand = table-then-list-then-line-hold;
-      line-shape-stand = line-shape-hold;
-      tag-word-rest-stand = tag-word-rest-hold;
-      values-and-options-stand = values-and-options-hold;
-      answer-length-stand = answer-length-hold;
-      answer-buffer-stand = answer-buffer-hold;
-      walk-buffers-short-stand = walk-buffers-short-hold;
-      walk-finds-stand = walk-finds-hold;
-      walk-buffers-after-stand = walk-buffers-after-hold;
-      line-writer-stand = line-writer-hold;
-      reader-parts-stand = reader-parts-hold;
-      reader-lines-stand = reader-lines-hold;
-      program-frames-stand = program-frames-hold;
-      program-digits-and-room-stand = program-digits-and-room-hold;
-      program-answer-room-stand = program-answer-room-hold;
-      program-scratch-room-stand = program-scratch-room-hold;
-      program-found-room-stand = program-found-room-hold;
-      program-pending-room-stand = program-pending-room-hold;
-      literals-stand = literals-hold;
-      literals-misplaced-stand = literals-misplaced-hold;
-      literals-cut-short-stand = literals-cut-short-hold;
-      literal-lengths-stand = literal-lengths-hold;
-      feeder-chunks-stand = feeder-chunks-hold;
-      feeder-large-literals-stand = feeder-large-literals-hold;
-      feeder-dropping-stand = feeder-dropping-hold;
-      feeder-command-length-stand = feeder-command-length-hold;
-    }

@@ -100,8 +100,3 @@ rootLine = text "* LIST (\\Noselect) \"/\" \"\"" ++ crlf
 -- "Every answer ends with the tag and ` OK done`, CR LF."
 unfoldable pub okLine : List ℕ → List ℕ
 okLine tag = tag ++ (text " OK done" ++ crlf)
-
--- opens every definition of this file, for a proof by computation
-unfoldable pub openLines : Unit {0}
-unfolding attributeNames chosen spacedTail spaced escaped quoted criteriaNames criteriaText childInfoText listLine rootLine okLine
-openLines = tt

@@ -128,8 +128,3 @@ attributes rs o ps n = attributesFor (flagsOf rs n) o (hasChildren rs o n) (leve
 -- "Each name has at most one line; lines ascend by name."
 unfoldable pub listedNames : List Row → Options → List (List ℕ) → List (List ℕ)
 listedNames rs o ps = keep (listed rs o ps) (candidates rs)
-
--- opens every definition of this file, for a proof by computation
-unfoldable pub openListing : Unit {0}
-unfolding candidates implied meetsCriteria candidateMeets meetsBelow meetsUnmatchedBelow unselective endsInPercent levelAbove listed childInfo hasChildren inOrder attributesFor attributes listedNames
-openListing = tt

@@ -27,8 +27,3 @@ module _ {A : Type 0} where
   unfoldable pub onFirst : A → List (List A) → List (List A)
   onFirst b [] = (b ∷ []) ∷ []
   onFirst b (l ∷ ls) = (b ∷ l) ∷ ls
-
--- opens every definition of this file, for a proof by computation
-unfoldable pub openLists : Unit {0}
-unfolding every anyOf keep joined onFirst
-openLists = tt

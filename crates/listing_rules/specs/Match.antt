@@ -38,8 +38,3 @@ matches p n = wildMatch (cond (same n inbox) (raised p) p) n
 -- the name "matches some pattern"
 unfoldable pub matchesAny : List (List ℕ) → List ℕ → Bool
 matchesAny ps n = anyOf (λ p. matches p n) ps
-
--- opens every definition of this file, for a proof by computation
-unfoldable pub openMatch : Unit {0}
-unfolding anyTail anyTailInLevel headThen wildMatch matches matchesAny
-openMatch = tt

@@ -58,8 +58,3 @@ lawfulName n =
     && leb (length (levels n)) 16
     && every isFull (levels n)
     && inboxSpelled (levels n)
-
--- opens every definition of this file, for a proof by computation
-unfoldable pub openNames : Unit {0}
-unfolding levels properAncestors below levelOrder walkOrder inbox nameByte isFull inboxSpelled lawfulName
-openNames = tt

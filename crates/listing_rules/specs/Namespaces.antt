@@ -58,8 +58,3 @@ namespacesPass l =
     && leb (length (ofClass 0 (entries l))) 4
     && leb (length (ofClass 1 (entries l))) 4
     && leb (length (ofClass 2 (entries l))) 4
-
--- opens every definition of this file, for a proof by computation
-unfoldable pub openNamespaces : Unit {0}
-unfolding entryAt entriesAfter entries entriesFill lawfulEntry classesRise ofClass namespacesPass
-openNamespaces = tt

@@ -42,8 +42,3 @@ criteriaNumber c = cond (c .subscribed) 1 0 + cond (c .special) 2 0
 -- "the criteria selected"
 unfoldable pub criteria : Options → Criteria
 criteria o = record { subscribed = o .selSubscribed; special = o .selSpecial }
-
--- opens every definition of this file, for a proof by computation
-unfoldable pub openOptions : Unit {0}
-unfolding lawfulOptions noCriteria isNone lawfulCriteria criteriaOf criteriaNumber criteria
-openOptions = tt

@@ -48,8 +48,3 @@ insert cmp x (y ∷ ys) = let r = insert cmp x ys in placed (cmp x y) x y ys r
 unfoldable pub sorted : {A : Type 0} → (A → A → Ordering) → List A → List A
 sorted cmp [] = []
 sorted cmp (x ∷ xs) = insert cmp x (sorted cmp xs)
-
--- opens every definition of this file, for a proof by computation
-unfoldable pub openOrders : Unit {0}
-unfolding thenBy lexBy byteOrder isLt ascendsFrom ascends placed insert sorted
-openOrders = tt

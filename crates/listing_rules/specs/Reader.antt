@@ -116,8 +116,3 @@ lineFrom bs n k =
 -- "a short buffer 9, in that order"; bytes behind the line stay, and a refusal changes no byte: `bufferAfter`
 unfoldable pub written : List Bool → List ℕ → ℕ → List ℕ → Reply
 written bs n k buffer = limited (length buffer) (lineFrom bs n k)
-
--- opens every definition of this file, for a proof by computation
-unfoldable pub openReader : Unit {0}
-unfolding separated readChosen criteriaSets readAmong childInfoRead readParts orBad readLine rootAttributes attributesRead nameRead childInfoOf readNumber nameBytes sameBools rootParts lineFrom written
-openReader = tt

@@ -79,8 +79,3 @@ lengthOf (answered a) = length a
 -- one command: the table, the namespace list, the line, and the answer buffer as it was lent
 unfoldable pub served : List ℕ → List ℕ → List ℕ → List ℕ → Reply
 served table spaces l buffer = limited (length buffer) (answer table spaces l)
-
--- opens every definition of this file, for a proof by computation
-unfoldable pub openServer : Unit {0}
-unfolding lineOf listAnswer delimiterText entryText classText namespaceAnswer answerTo answer limited bufferAfter numberOf lengthOf served
-openServer = tt

@@ -61,8 +61,3 @@ hasRow rs n = anyOf (λ r. same (r .name) n) rs
 unfoldable pub flagsOf : List Row → List ℕ → ℕ
 flagsOf [] n = 0
 flagsOf (r ∷ rs) n = let s = flagsOf rs n in cond (same (r .name) n) (r .flags) s
-
--- opens every definition of this file, for a proof by computation
-unfoldable pub openTable : Unit {0}
-unfolding rowAt rowsAfter rows rowsFill names noneBelow passes hasRow flagsOf
-openTable = tt

@@ -115,8 +115,3 @@ astring t = stringOr astringByte t
 -- "A pattern is a quoted string or a run of atom bytes, ']', '%' and '*'." With W2, or a literal.
 unfoldable pub pattern : List ℕ → Option (Got (List ℕ))
 pattern t = stringOr patternByte t
-
--- opens every definition of this file, for a proof by computation
-unfoldable pub openTokens : Unit {0}
-unfolding got _>>=_ at after withFirst atomByte tagByte astringByte patternByte run unlessEmpty run₁ atom unquoted lineByte quotedText digitByte decimal number literal stringOr astring pattern
-openTokens = tt

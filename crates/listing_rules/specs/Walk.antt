@@ -9,7 +9,8 @@ use Rattle.listing_rules.specs.Lists.{joined, onFirst}
 use Rattle.listing_rules.specs.Table.{rows, passes}
 use Rattle.listing_rules.specs.Options.{isNone}
 use Rattle.listing_rules.specs.Listing.{candidates}
-use Rattle.listing_rules.specs.Lines.{quoted, remotePlace, subscribedPlace, allPlace, archivePlace, draftsPlace, flaggedPlace, junkPlace, sentPlace, trashPlace}
+use Rattle.listing_rules.specs.Lines.{quoted, remotePlace, subscribedPlace, allPlace, archivePlace, draftsPlace, flaggedPlace, junkPlace}
+use Rattle.listing_rules.specs.Lines.{sentPlace, trashPlace}
 use Rattle.listing_rules.specs.Server.{Reply, refusal, answered, answer, limited}
 use Rattle.listing_rules.specs.Reader.{Read, line, root, bad, readLine}
 
@@ -171,8 +172,3 @@ scratchAfter room r = replicate room 0
 -- one collection: the table, the option byte, and the three buffers as they were lent
 unfoldable pub collected : List ℕ → ℕ → List ℕ → List ℕ → List ℕ → WalkReply
 collected table o scratch found pending = walk table o (length scratch) (length found) (length pending)
-
--- opens every definition of this file, for a proof by computation
-unfoldable pub openWalk : Unit {0}
-unfolding wantsRemote wantsSpecial dropsSubscribed lawfulByte when commandLine linesOf packed _>>=_ attr useAttr isFind withName fits takenIn takenAll replied asked walkFrom walkAll ended walk walkNumber walkCount foundLength zeroBehind foundAfter pendingAfter scratchAfter collected
-openWalk = tt

@@ -10,7 +10,8 @@ use lib.ListN.{length, take, drop, getD, drop-of-length-le, length-take, length-
 use lib.Seq.{drop-cons}
 use mir.Val.{boolByte}
 use borrow.Author.Tests.{eq-eqb, ne-eqb, eqb-true, eqb-false, le-leb, lt-leb, leb-true}
-use Rattle.listing_rules.specs.Bytes.{slash, within, all, same, raise, raised, spells, openBytes}
+use Rattle.listing_rules.specs.Bytes.{slash, within, all, same, raise, raised, spells}
+use Rattle.listing_rules.proofs.Keys.{openBytes}
 use Rattle.listing_rules.specs.Lists.{every, onFirst}
 use Rattle.listing_rules.specs.Names.{levels, isFull, inbox, inboxSpelled, lawfulName, nameByte}
 use Rattle.mailbox_table.specs.Slashes.{slashCount, noPair}

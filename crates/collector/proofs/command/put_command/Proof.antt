@@ -2,7 +2,7 @@
 use mathlib.Core.Path.{ap, _∙_}
 use mathlib.Core.Bool.{not}
 use borrow.Author.Needs.{needs}
-use Rattle.listing_rules.specs.Bytes.{openBytes}
+use Rattle.listing_rules.proofs.Keys.{openBytes}
 use Rattle.listing_rules.specs.Walk.{commandLine}
 use Rattle.octets.proofs.Puts.{put-then, put-length}
 use Rattle.collector.proofs.FindLaws.{has-remote, has-special, has-dropped}

@@ -1,7 +1,7 @@
 -- `read_line` meets its contract: the root line, or `read_parts` (`read-root`, `read-other` of `Reading`).
 use mathlib.Core.Path.{sym, _∙_}
 use borrow.Author.Needs.{needs}
-use Rattle.listing_rules.specs.Bytes.{openBytes}
+use Rattle.listing_rules.proofs.Keys.{openBytes}
 use Rattle.listing_rules.specs.Lines.{rootLine}
 use Rattle.list_line.proofs.Reading.{read-root, read-other}
 use Rattle.list_line.proofs.read.read_line.Statement.{statement}

@@ -1,8 +1,7 @@
 -- `put_attributes` meets its contract: the tables compute to the names' text and places.
 use mathlib.Core.Path.{refl}
 use borrow.Author.Needs.{needs}
-use Rattle.listing_rules.specs.Bytes.{openBytes}
-use Rattle.listing_rules.specs.Lines.{openLines}
+use Rattle.listing_rules.proofs.Keys.{openBytes, openLines}
 use Rattle.list_line.specs.Names.{allNames, namePlaces}
 use Rattle.list_line.proofs.write.put_attributes.Statement.{statement}
 use Rattle.list_line.proofs.write.put_attributes.Tie as tie

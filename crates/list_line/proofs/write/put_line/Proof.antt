@@ -1,6 +1,6 @@
 -- `put_line` meets its contract: five writes, one behind the other (`put-then`).
 use borrow.Author.Needs.{needs}
-use Rattle.listing_rules.specs.Bytes.{openBytes}
+use Rattle.listing_rules.proofs.Keys.{openBytes}
 use Rattle.listing_rules.specs.Lines.{listLine}
 use Rattle.octets.proofs.Puts.{put-then}
 use Rattle.list_line.proofs.write.put_line.Statement.{statement}

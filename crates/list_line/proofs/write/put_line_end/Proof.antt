@@ -2,8 +2,7 @@
 use mathlib.Core.Path.{sym, _∙_}
 use mathlib.Core.Bool.{true, false}
 use borrow.Author.Needs.{needs}
-use Rattle.listing_rules.specs.Bytes.{openBytes}
-use Rattle.listing_rules.specs.Lines.{openLines}
+use Rattle.listing_rules.proofs.Keys.{openBytes, openLines}
 use Rattle.listing_rules.specs.Options.{isNone}
 use Rattle.list_line.proofs.CriteriaSets.{criteria-tests}
 use Rattle.list_line.proofs.write.put_line_end.Statement.{statement}

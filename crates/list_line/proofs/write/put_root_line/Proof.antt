@@ -1,7 +1,6 @@
 -- `put_root_line` meets its contract: its text computes to the root line.
 use borrow.Author.Needs.{needs}
-use Rattle.listing_rules.specs.Bytes.{openBytes}
-use Rattle.listing_rules.specs.Lines.{openLines}
+use Rattle.listing_rules.proofs.Keys.{openBytes, openLines}
 use Rattle.list_line.proofs.write.put_root_line.Statement.{statement}
 use Rattle.list_line.proofs.write.put_root_line.Tie as tie
 

@@ -3,7 +3,7 @@ use mathlib.Core.Path.{_≡_, sym, _∙_}
 use mathlib.Core.Bool.{not}
 use lib.ListN.{drop, length-take}
 use borrow.Author.Tests.{not-true, not-false}
-use Rattle.listing_rules.specs.Bytes.{openBytes}
+use Rattle.listing_rules.proofs.Keys.{openBytes}
 use Rattle.listing_rules.specs.Names.{inbox, levels, inboxSpelled}
 use Rattle.mailbox_table.proofs.NameShape.{endsHere, inbox-other, inbox-same, inbox-short, inbox-misspelled, ends-at, ends-behind}
 use native.Mathlib.Omega.{arith}

@@ -1,0 +1,123 @@
+-- Keys that open the definitions of a file of specs/ for a proof by computation: a proof that unfolds a key unfolds every definition
+-- that the key names.
+use Rattle.listing_rules.specs.Bytes.{text, slash, quote, backslash, space, crlf, bit, within, oneOf, all, isEmpty, same, raise}
+use Rattle.listing_rules.specs.Bytes.{raised, spells}
+use Rattle.listing_rules.specs.Lists.{every, anyOf, keep, joined, onFirst}
+use Rattle.listing_rules.specs.Orders.{thenBy, lexBy, byteOrder, isLt, ascendsFrom, ascends, placed, insert, sorted}
+use Rattle.listing_rules.specs.Names.{levels, properAncestors, below, levelOrder, walkOrder, inbox, nameByte, isFull, inboxSpelled}
+use Rattle.listing_rules.specs.Names.{lawfulName}
+use Rattle.listing_rules.specs.Flags.{exists, subscribed, remote, noSelect, noInferiors, marked, unmarked, uses, hasUse, lawfulFlags}
+use Rattle.listing_rules.specs.Table.{rowAt, rowsAfter, rows, rowsFill, names, noneBelow, passes, hasRow, flagsOf}
+use Rattle.listing_rules.specs.Namespaces.{entryAt, entriesAfter, entries, entriesFill, lawfulEntry, classesRise, ofClass}
+use Rattle.listing_rules.specs.Namespaces.{namespacesPass}
+use Rattle.listing_rules.specs.Tokens.{got, _>>=_, at, after, withFirst, atomByte, tagByte, astringByte, patternByte, run}
+use Rattle.listing_rules.specs.Tokens.{unlessEmpty, run₁, atom, unquoted, lineByte, quotedText, digitByte, decimal, number, literal}
+use Rattle.listing_rules.specs.Tokens.{stringOr, astring, pattern}
+use Rattle.listing_rules.specs.Feeder.{endsLine, lastIs, announcedAt, orElse, announced, goOnLine, first, gives, dropped, offends}
+use Rattle.listing_rules.specs.Feeder.{refusing, awaiting, lineEnded, textByte, fedByte, saying, feedAll, feedChunks, allowed}
+use Rattle.listing_rules.specs.Feeder.{stillOne, oneCommand}
+use Rattle.listing_rules.specs.Options.{lawfulOptions, noCriteria, isNone, lawfulCriteria, criteriaOf, criteriaNumber, criteria}
+use Rattle.listing_rules.specs.Command.{lineText, valueRest, option, parted, options, patterns, selectionPart, returnPart, isSome}
+use Rattle.listing_rules.specs.Command.{listArgs, extended, selectionWords, returnWords, knownIn, named, optionsOf, canonical}
+use Rattle.listing_rules.specs.Command.{fewPatterns, asksRoot, judged, orRefuse, worded, tagged, parsed}
+use Rattle.listing_rules.specs.Match.{anyTail, anyTailInLevel, headThen, wildMatch, matches, matchesAny}
+use Rattle.listing_rules.specs.Listing.{candidates, implied, meetsCriteria, candidateMeets, meetsBelow, meetsUnmatchedBelow}
+use Rattle.listing_rules.specs.Listing.{unselective, endsInPercent, levelAbove, listed, childInfo, hasChildren, inOrder}
+use Rattle.listing_rules.specs.Listing.{attributesFor, attributes, listedNames}
+use Rattle.listing_rules.specs.Lines.{attributeNames, chosen, spacedTail, spaced, escaped, quoted, criteriaNames, criteriaText}
+use Rattle.listing_rules.specs.Lines.{childInfoText, listLine, rootLine, okLine}
+use Rattle.listing_rules.specs.Server.{lineOf, listAnswer, delimiterText, entryText, classText, namespaceAnswer, answerTo, answer}
+use Rattle.listing_rules.specs.Server.{limited, bufferAfter, numberOf, lengthOf, served}
+use Rattle.listing_rules.specs.Reader.{separated, readChosen, criteriaSets, readAmong, childInfoRead, readParts, orBad, readLine}
+use Rattle.listing_rules.specs.Reader.{rootAttributes, attributesRead, nameRead, childInfoOf, readNumber, nameBytes, sameBools}
+use Rattle.listing_rules.specs.Reader.{rootParts, lineFrom, written}
+use Rattle.listing_rules.specs.Walk.{wantsRemote, wantsSpecial, dropsSubscribed, lawfulByte, when, commandLine, linesOf, packed}
+use Rattle.listing_rules.specs.Walk.{_>>=_ as _then_, attr, useAttr, isFind, withName, fits, takenIn, takenAll, replied, asked}
+use Rattle.listing_rules.specs.Walk.{walkFrom, walkAll, ended, walk, walkNumber, walkCount, foundLength, zeroBehind, foundAfter}
+use Rattle.listing_rules.specs.Walk.{pendingAfter, scratchAfter, collected}
+use Rattle.listing_rules.specs.Demand3.{walkOptions, meetingNames, meetingAncestors, declaredWalk, walkAnswer, scratchTooSmall}
+use Rattle.listing_rules.specs.Demand3.{foundTooSmall, pendingTooSmall, tooSmall, Demand3}
+use Rattle.listing_rules.specs.Frames.{digit, bytesOf, walkFrame, frameOf, readFrame, hexDigit, hex, answerLine, refusalLine}
+use Rattle.listing_rules.specs.Frames.{replyLine, walkLine, answering, addRow, addEntry, framed, step, start, fed, behind, fedAll}
+use Rattle.listing_rules.specs.Frames.{atEnd, programOutput}
+
+unfoldable pub openBytes : Unit {0}
+unfolding text slash quote backslash space crlf bit within oneOf all isEmpty same raise raised spells
+openBytes = tt
+
+unfoldable pub openLists : Unit {0}
+unfolding every anyOf keep joined onFirst
+openLists = tt
+
+unfoldable pub openOrders : Unit {0}
+unfolding thenBy lexBy byteOrder isLt ascendsFrom ascends placed insert sorted
+openOrders = tt
+
+unfoldable pub openNames : Unit {0}
+unfolding levels properAncestors below levelOrder walkOrder inbox nameByte isFull inboxSpelled lawfulName
+openNames = tt
+
+unfoldable pub openFlags : Unit {0}
+unfolding exists subscribed remote noSelect noInferiors marked unmarked uses hasUse lawfulFlags
+openFlags = tt
+
+unfoldable pub openTable : Unit {0}
+unfolding rowAt rowsAfter rows rowsFill names noneBelow passes hasRow flagsOf
+openTable = tt
+
+unfoldable pub openNamespaces : Unit {0}
+unfolding entryAt entriesAfter entries entriesFill lawfulEntry classesRise ofClass namespacesPass
+openNamespaces = tt
+
+unfoldable pub openTokens : Unit {0}
+unfolding got _>>=_ at after withFirst atomByte tagByte astringByte patternByte run unlessEmpty run₁ atom unquoted lineByte quotedText digitByte decimal number literal stringOr astring pattern
+openTokens = tt
+
+unfoldable pub openFeeder : Unit {0}
+unfolding endsLine lastIs announcedAt orElse announced goOnLine first gives dropped offends refusing awaiting lineEnded textByte fedByte saying feedAll feedChunks allowed stillOne oneCommand
+openFeeder = tt
+
+unfoldable pub openOptions : Unit {0}
+unfolding lawfulOptions noCriteria isNone lawfulCriteria criteriaOf criteriaNumber criteria
+openOptions = tt
+
+unfoldable pub openCommand : Unit {0}
+unfolding lineText valueRest option parted options patterns selectionPart returnPart isSome listArgs extended selectionWords returnWords knownIn named optionsOf canonical fewPatterns asksRoot judged orRefuse worded tagged parsed
+openCommand = tt
+
+unfoldable pub openMatch : Unit {0}
+unfolding anyTail anyTailInLevel headThen wildMatch matches matchesAny
+openMatch = tt
+
+unfoldable pub openListing : Unit {0}
+unfolding candidates implied meetsCriteria candidateMeets meetsBelow meetsUnmatchedBelow unselective endsInPercent levelAbove listed childInfo hasChildren inOrder attributesFor attributes listedNames
+openListing = tt
+
+unfoldable pub openLines : Unit {0}
+unfolding attributeNames chosen spacedTail spaced escaped quoted criteriaNames criteriaText childInfoText listLine rootLine okLine
+openLines = tt
+
+unfoldable pub openServer : Unit {0}
+unfolding lineOf listAnswer delimiterText entryText classText namespaceAnswer answerTo answer limited bufferAfter numberOf lengthOf served
+openServer = tt
+
+unfoldable pub openReader : Unit {0}
+unfolding separated readChosen criteriaSets readAmong childInfoRead readParts orBad readLine rootAttributes attributesRead nameRead childInfoOf readNumber nameBytes sameBools rootParts lineFrom written
+openReader = tt
+
+unfoldable pub openWalk : Unit {0}
+unfolding wantsRemote wantsSpecial dropsSubscribed lawfulByte when commandLine linesOf packed _then_ attr useAttr isFind withName fits takenIn takenAll replied asked walkFrom walkAll ended walk walkNumber walkCount foundLength zeroBehind foundAfter pendingAfter scratchAfter collected
+openWalk = tt
+
+unfoldable pub openDemand3 : Unit {0}
+unfolding walkOptions meetingNames meetingAncestors declaredWalk walkAnswer scratchTooSmall foundTooSmall pendingTooSmall tooSmall Demand3
+openDemand3 = tt
+
+unfoldable pub openFrames : Unit {0}
+unfolding digit bytesOf walkFrame frameOf readFrame hexDigit hex answerLine refusalLine replyLine walkLine answering addRow addEntry framed step start fed behind fedAll atEnd programOutput
+openFrames = tt
+
+-- opens every definition that the cases of the two tables compute
+unfoldable pub openAll : Unit {0}
+unfolding openBytes openLists openOrders openNames openFlags openTable openNamespaces openTokens openFeeder openOptions openCommand openMatch openListing openLines openServer openReader openWalk openDemand3 openFrames
+openAll = tt

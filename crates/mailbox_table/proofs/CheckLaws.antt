@@ -1,11 +1,11 @@
 -- Check 1 as the code decides it: one pass over the rows, and one over those with no inferiors.
-use mathlib.Core.Path.{_≡_, refl, sym, _∙_}
+use mathlib.Core.Path.{_≡_, refl, sym, ap, _∙_}
 use mathlib.Core.Bool.{Bool, true, false, cond, _&&_, false≢true}
 use mathlib.Core.List.{List, [], _∷_}
 use Prim.Native.Nat.{ℕ, _+_, _≤_, _<_, min}
 use native.Mathlib.Omega.{arith}
 use lib.Dec.{leb}
-use lib.ListN.{length, take}
+use lib.ListN.{length, take, replicate, length-replicate}
 use borrow.Author.Tests.{le-leb, lt-leb, leb-true}
 use Rattle.listing_rules.specs.Lists.{every}
 use Rattle.listing_rules.specs.Orders.{byteOrder, isLt, ascends, ascendsFrom}
@@ -14,7 +14,7 @@ use Rattle.listing_rules.specs.Flags.{lawfulFlags}
 use Rattle.listing_rules.specs.Table.{Row, rows, rowsFill, names, passes, noneBelow}
 use Rattle.mailbox_table.specs.declared.Indexing.the-variants.{Rows, Fails}
 use Rattle.mailbox_table.specs.Index.{rowsAt, Indexed, indexingOf, Indexes}
-use Rattle.mailbox_table.specs.Collect.{rowsRight, scans}
+use Rattle.mailbox_table.specs.Collect.{rowsRight, scans, Collects}
 use Rattle.mailbox_table.proofs.Bools.{and-l, and-r, and-i, and-false, bool-ext}
 use Rattle.mailbox_table.proofs.RightLaws.{RightParts, right-parts, parts-right}
 use Rattle.mailbox_table.proofs.BelowLaws.{ascends-tail}
@@ -130,6 +130,19 @@ module _ (t : List ℕ) (room : ℕ) where
     pub indexing-rows : scans (min room 512) 0 [] t ≡ true → every (λ r. noneBelow (rows t) r) (rows t) ≡ true → indexingOf t room ≡ Rows (length (rows t))
     indexing-rows e d = indexing-is ∙ rw (e, d)
 
+-- what `find_rows` answers is what `index` answers, once the words are cleared where it fails
+pub indexes-rows : {t before after : List ℕ} {n : ℕ} → Collects t before after (indexingOf t (length before)) (Rows n) → Indexes t before after (Rows n)
+indexes-rows x = record { answer = x .answer; room = x .room; found = x .found; rest = x .stays }
+
+pub indexes-fails : {t before after cleared : List ℕ} → Collects t before after (indexingOf t (length before)) Fails → cleared ≡ replicate (length after) 0 → Indexes t before cleared Fails
+indexes-fails {t} {before} {after} x e =
+    record {
+      answer = x .answer;
+      room = ap length e ∙ length-replicate (length after) 0 ∙ x .room;
+      found = tt;
+      rest = e ∙ ap (λ (n : ℕ). replicate n 0) (x .room);
+    }
+
 -- What a caller has who found n rows: the table passes, and the first n words are the index of its rows.
 pub record Held (t words : List ℕ) (n : ℕ) : Type 0 where
   pub table-passes : passes t ≡ true
@@ -139,9 +152,9 @@ pub record Held (t words : List ℕ) (n : ℕ) : Type 0 where
   pub few : n ≤ 512
   pub fits : n ≤ length words
 
-pub index-held : {t before behind : List ℕ} {n : ℕ} → Indexes t before behind (Rows n) → Held t behind n
+pub index-held : {t before after : List ℕ} {n : ℕ} → Indexes t before after (Rows n) → Held t after n
 unfolding indexingOf
-index-held {t} {before} {behind} {n} x =
+index-held {t} {before} {after} {n} x =
     let d = rows-decided (passes t && leb (length (rows t)) (length before)) (length (rows t)) n (x .answer) .0 in
     let p = and-l (passes t) (leb (length (rows t)) (length before)) d in
     let k : length (rows t) ≤ length before = leb-true (length (rows t)) (length before) (and-r (passes t) (leb (length (rows t)) (length before)) d) in
@@ -155,9 +168,9 @@ index-held {t} {before} {behind} {n} x =
     }
 
 -- with room for every row that a table may have, the index fails exactly if the table does not pass
-pub index-refused : {t before behind : List ℕ} → 512 ≤ length before → Indexes t before behind Fails → passes t ≡ false
+pub index-refused : {t before after : List ℕ} → 512 ≤ length before → Indexes t before after Fails → passes t ≡ false
 unfolding indexingOf
-index-refused {t} {before} {behind} h x = go (passes t) refl
+index-refused {t} {before} {after} h x = go (passes t) refl
   where
     failed : (passes t && leb (length (rows t)) (length before)) ≡ false
     failed = fails-decided (passes t && leb (length (rows t)) (length before)) (length (rows t)) (x .answer)

@@ -10,7 +10,7 @@ ghost use Prim.Native.Nat.{_+_, _*_, _≤_, min};
 ghost use lib.ListN.{length};
 ghost use Rattle.listing_rules.specs.Orders.{byteOrder, isLt};
 ghost use Rattle.mailbox_table.specs.Shared.{sharedLen};
-ghost use Rattle.mailbox_table.specs.Collect.{stepAt, Placed, Collects};
+ghost use Rattle.mailbox_table.specs.Collect.{stepAt, Placed, collectedOf, Collects};
 
 // Flags and length come before a name.
 const HEAD: usize = 3;
@@ -24,7 +24,8 @@ enum Step {
 // The rows of the table as words, if they fill it exactly, are no more than there is room for, are lawful and ascend.
 pub(crate) fn collect_rows(table: &[u8], words: &mut [u64]) -> Indexing
     requires { ⌜ length (now table) ≤ 32768 ⌝ }
-    ensures { λ r. ⌜ Collects (now (table .entry)) (now (words .entry)) (now (words .exit)) r ⌝ }
+    ensures { λ r. ⌜ Collects (now (table .entry)) (now (words .entry)) (now (words .exit))
+        (collectedOf (now (table .entry)) (length (now (words .entry)))) r ⌝ }
 {
     let limit = lesser(words.len(), MAX_ROWS);
     let mut n = 0;

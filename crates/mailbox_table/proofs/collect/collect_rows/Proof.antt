@@ -12,7 +12,7 @@ use Rattle.mailbox_table.proofs.collect.collect_rows.Statement.{stateme
 use Rattle.mailbox_table.proofs.collect.collect_rows.Tie as tie
 
 abbrev Inv-loop : tie.InvT-loop
-Inv-loop table words₀ limit n₀ from₀ at₀ words n from at = Collecting table (length words₀) limit words n from at
+Inv-loop table words₀ limit n₀ from₀ at₀ words n from at = Collecting table words₀ limit words n from at
 
 abbrev μ-loop : tie.MeasureT-loop
 μ-loop table words₀ limit n₀ from₀ at₀ words n from at = length table - at

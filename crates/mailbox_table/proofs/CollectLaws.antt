@@ -13,6 +13,7 @@ use Rattle.listing_rules.specs.Orders.{byteOrder, isLt}
 use Rattle.listing_rules.specs.Names.{lawfulName}
 use Rattle.listing_rules.specs.Flags.{lawfulFlags}
 use Rattle.listing_rules.specs.Table.{Row, rows, rowsFill}
+use Rattle.listing_rules.proofs.LawfulNames.{GoodParts, good-parts}
 use Rattle.mailbox_table.specs.declared.Indexing.the-variants.{Rows, Fails}
 use Rattle.mailbox_table.specs.declared.rows.Row as Place
 use Rattle.mailbox_table.specs.declared.collect.Step.the-variants.{Next, Bad}
@@ -21,7 +22,6 @@ use Rattle.mailbox_table.specs.Index.{nameAt, rowAtWord, rowsAt, Indexed
 use Rattle.mailbox_table.specs.Collect.{collectedOf, Collects, flagsThere, nameThere, between, wholeThere, goodThere, rowThere, stepAt, rowsRight, scans}
 use Rattle.mailbox_table.proofs.Bools.{and-l, and-r}
 use Rattle.mailbox_table.proofs.SharedLaws.{shared-le-r}
-use Rattle.mailbox_table.proofs.NameShape.{lawful-length}
 use Rattle.mailbox_table.proofs.StepLaws.{rowHere, rows-at, rows-end, StepIs, step-is, scans-end, scans-full, scans-bad, scans-next, scans-ascend, name-there}
 use Rattle.mailbox_table.proofs.KeptLaws.{Kept, kept-none, kept-indexed, kept-more}
 use Rattle.mailbox_table.proofs.IndexLaws.{rows-length}
@@ -44,12 +44,15 @@ module _ (t : List ℕ) (from at : ℕ) (r : Place.Row) (e : stepAt t from at �
       let x = isLt (byteOrder (between t from at) (nameThere t at)) in
       and-r (lawfulFlags (flagsThere t at)) (lawfulName (nameThere t at)) (and-l (lawfulFlags (flagsThere t at) && lawfulName (nameThere t at)) x (step-next .2))
 
+  step-parts : GoodParts (nameThere t at)
+  step-parts = good-parts (nameThere t at) step-lawful
+
   step-length : length (nameThere t at) ≡ getD t (at + 2) 0
   unfolding nameThere
   step-length = simp (length-take, length-drop) (omega (arith, step-whole))
 
   pub step-len : (1 ≤ r .len) × (r .len ≤ 200)
-  step-len = rw (step-next .0) (omega (arith, lawful-length (nameThere t at) step-lawful, step-length), omega (arith, lawful-length (nameThere t at) step-lawful, step-length))
+  step-len = rw (step-next .0) (omega (arith, step-parts .least, step-length), omega (arith, step-parts .most, step-length))
 
   -- where the name lies
   pub step-inside : r .start + r .len ≤ length t
@@ -70,7 +73,7 @@ module _ (t : List ℕ) (from at : ℕ) (r : Place.Row) (e : stepAt t from at �
     where
       shared-small : r .shared < 256
       shared-small =
-          rw (step-next .0) (omega (arith, shared-le-r (between t from at) (nameThere t at), lawful-length (nameThere t at) step-lawful))
+          rw (step-next .0) (omega (arith, shared-le-r (between t from at) (nameThere t at), step-parts .most))
 
   pub step-flags-fit : ((k : ℕ) → getD t k 0 < 256) → r .flags .bits < 65536
   unfolding flagsThere
@@ -91,7 +94,7 @@ module _ (t : List ℕ) (from at : ℕ) (r : Place.Row) (e : stepAt t from at �
     word-kept : {ws : List ℕ} → Kept t ws (between t from at) → Kept t (ws ++ wordOf r ∷ []) (nameThere t at)
     word-kept k =
         rw word-name at
-        (kept-more k (wordOf r) (rw (word-name, word-row)) (rw word-row (omega (arith, lawful-length (nameThere t at) step-lawful, step-length))) (rw word-row (omega (arith, step-whole))))
+        (kept-more k (wordOf r) (rw (word-name, word-row)) (rw word-row (omega (arith, step-parts .least, step-length))) (rw word-row (omega (arith, step-whole))))
 
 -- The loop: n rows are passed and kept as words, the words after them are as they were lent, the last row ends at `at` with the name
 -- from `from` on, and the rows that are left decide.

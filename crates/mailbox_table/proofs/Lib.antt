@@ -7,7 +7,6 @@ pub mod ScanLaws
 pub mod CheckLaws
 mod Bools
 mod FlagBits
-mod NameShape
 mod RightLaws
 mod StepLaws
 mod KeptLaws

@@ -1,4 +1,4 @@
-// The mailbox table of document 01: flags, names and rows, check 1, and an index of the rows.
+// The mailbox table of document 01: flags and rows, check 1, and an index of the rows.
 //
 // The table stays where the caller has it. The index is one number for each row (`rows::Row::word`), in memory that the caller
 // lends: where the row's name lies in the table, its flags, and how many bytes it shares with the name before. What works on
@@ -6,7 +6,6 @@
 mod collect;
 pub mod flags;
 mod inferiors;
-pub mod names;
 pub mod rows;
 pub mod scan;
 

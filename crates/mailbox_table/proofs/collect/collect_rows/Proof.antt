@@ -17,17 +17,17 @@ Inv-loop table words₀ limit n₀ from₀ at₀ words n from at = Collecting ta
 abbrev μ-loop : tie.MeasureT-loop
 μ-loop table words₀ limit n₀ from₀ at₀ words n from at = length table - at
 
-lesser-requires : tie.Need-lesser-requires Inv-loop μ-loop
-lesser-requires c κs = search needs
+least-requires : tie.Need-least-requires Inv-loop μ-loop
+least-requires c κs = search needs
 
 loop-holds : tie.Need-loop-holds Inv-loop μ-loop
-loop-holds c = collecting-none (c .before .before .before .args .table .now) (c .before .before .before .args .words .now) (c .lesser .result)
+loop-holds c = collecting-none (c .before .before .before .args .table .now) (c .before .before .before .args .words .now) (c .least .result)
 
 same-length : tie.Need-same-length Inv-loop μ-loop
 same-length c = c .before .before .loop .inv .size
 
 returns : tie.Need-returns Inv-loop μ-loop
-returns c = collects-fails (c .before .before .before .lesser .result) (c .before .before .before .lesser .ensures) (collecting-full (c .before .before .loop .inv) (c .before .loop-test .taken) (c .if1 .taken)) (c .before .before .loop .inv .size)
+returns c = collects-fails (c .before .before .before .least .result) (c .before .before .before .least .ensures) (collecting-full (c .before .before .loop .inv) (c .before .loop-test .taken) (c .if1 .taken)) (c .before .before .loop .inv .size)
 
 next-row-requires : tie.Need-next-row-requires Inv-loop μ-loop
 next-row-requires c κs = record { order = c .before .before .loop .inv .order; inside = c .before .loop-test .taken; bound = c .before .before .before .before .before .before .pre }
@@ -43,7 +43,7 @@ same-length-2 c = c .before .before .before .before .before .loop .inv .size
 
 returns-2 : tie.Need-returns-2 Inv-loop μ-loop
 returns-2 c =
-    collects-fails (c .before .before .before .before .before .before .lesser .result) (c .before .before .before .before .before .before .lesser .ensures)
+    collects-fails (c .before .before .before .before .before .before .least .result) (c .before .before .before .before .before .before .least .ensures)
     (collecting-bad (c .before .before .before .before .before .loop .inv) (c .before .before .before .before .loop-test .taken) (sym (c .before .before .next-row .ensures) ∙ c .enum-told .given .1))
     (c .before .before .before .before .before .loop .inv .size)
 
@@ -58,10 +58,10 @@ word-requires : tie.Need-word-requires Inv-loop μ-loop
 word-requires c κs = step-packs (c .before .before .before .before .before .before .before .before .before .before .args .table .now) (c .before .before .before .before .before .before .loop .from) (c .before .before .before .before .before .before .loop .at) (c .before .row .given .0 .0) (stepped c) (c .before .before .before .before .before .before .before .before .before .before .pre)
 
 mul-words : tie.Need-mul-words Inv-loop μ-loop
-mul-words c = omega (arith, c .before .before .before .before .before .before .before .before .lesser .ensures)
+mul-words c = omega (arith, c .before .before .before .before .before .before .before .before .least .ensures)
 
 slice-write-words : tie.Need-slice-write-words Inv-loop μ-loop
-slice-write-words c = omega (arith, c .before .before .before .before .before .before .before .loop .inv .size, c .before .before .before .before .before .before .before .before .lesser .ensures)
+slice-write-words c = omega (arith, c .before .before .before .before .before .before .before .loop .inv .size, c .before .before .before .before .before .before .before .before .least .ensures)
 
 add-n : tie.Need-add-n Inv-loop μ-loop
 add-n c = search needs
@@ -74,14 +74,14 @@ loop-less c = omega (arith, step-start (c .before .before .before .before .befor
 
 loop-again : tie.Need-loop-again Inv-loop μ-loop
 loop-again c =
-    let next = collecting-more (c .before .before .before .before .before .before .before .before .loop .inv) (c .before .before .before .before .before .before .before .loop-test .taken) (c .before .before .before .before .before .before .before .before .before .before .before .before .pre) (λ k. byte c k) (c .before .before .before .before .before .before .if1 .left) (omega (arith, c .before .before .before .before .before .before .before .before .before .lesser .ensures)) (c .before .before .before .row .given .0 .0) (stepped (c .before .before)) in
+    let next = collecting-more (c .before .before .before .before .before .before .before .before .loop .inv) (c .before .before .before .before .before .before .before .loop-test .taken) (c .before .before .before .before .before .before .before .before .before .before .before .before .pre) (λ k. byte c k) (c .before .before .before .before .before .before .if1 .left) (omega (arith, c .before .before .before .before .before .before .before .before .before .least .ensures)) (c .before .before .before .row .given .0 .0) (stepped (c .before .before)) in
     rw (c .before .word .ensures) next
 
 same-length-3 : tie.Need-same-length-3 Inv-loop μ-loop
 same-length-3 c = c .before .loop .inv .size
 
 returns-3 : tie.Need-returns-3 Inv-loop μ-loop
-returns-3 c = collects-rows (c .before .before .lesser .result) (c .before .before .lesser .ensures) (c .before .loop .inv) (c .loop-test .left)
+returns-3 c = collects-rows (c .before .before .least .result) (c .before .before .least .ensures) (c .before .loop .inv) (c .loop-test .left)
 
 pub collect-rows-spec : {M : Type 1} → statement M
 collect-rows-spec =
@@ -89,7 +89,7 @@ collect-rows-spec =
     (tie.spec
     Inv-loop
     μ-loop
-    lesser-requires
+    least-requires
     loop-holds
     same-length
     returns

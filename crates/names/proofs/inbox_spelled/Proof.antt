@@ -1,15 +1,15 @@
--- `mailbox_table::names::inbox_spelled` meets its contract: the first five bytes and what stands behind them decide. By NameShape.
+-- `names::inbox_spelled` meets its contract: the first five bytes and what stands behind them decide. By NameShape.
 use mathlib.Core.Path.{_≡_, sym, _∙_}
 use mathlib.Core.Bool.{not}
 use lib.ListN.{drop, length-take}
 use borrow.Author.Tests.{not-true, not-false}
 use Rattle.listing_rules.specs.Bytes.{openBytes}
 use Rattle.listing_rules.specs.Names.{inbox, levels, inboxSpelled}
-use Rattle.mailbox_table.proofs.NameShape.{endsHere, inbox-other, inbox-same, inbox-short, inbox-misspelled, ends-at, ends-behind}
+use Rattle.names.proofs.NameShape.{endsHere, inbox-other, inbox-same, inbox-short, inbox-misspelled, ends-at, ends-behind}
 use native.Mathlib.Omega.{arith}
 use borrow.Author.Needs.{needs}
-use Rattle.mailbox_table.proofs.names.inbox_spelled.Statement.{statement}
-use Rattle.mailbox_table.proofs.names.inbox_spelled.Tie as tie
+use Rattle.names.proofs.inbox_spelled.Statement.{statement}
+use Rattle.names.proofs.inbox_spelled.Tie as tie
 
 returns : tie.Need-returns
 returns c = let s = c .before .before .args .name .now in sym (inbox-other s (inbox-short s (c .if1 .taken)))
@@ -25,7 +25,9 @@ spells-word-requires c κs = search needs
 
 returns-2 : tie.Need-returns-2
 unfolding openBytes inbox
-returns-2 c = let s = c .before .before .before .before .before .before .args .name .now in sym (inbox-other s (sym (c .before .spells-word .ensures) ∙ not-true _ (c .if2 .taken)))
+returns-2 c =
+    let start = c .before .before .before .before .before .before in
+    let s = start .args .name .now in sym (inbox-other s (sym (c .before .spells-word .ensures) ∙ not-true _ (c .if2 .taken)))
 
 slice-aggregate-same-bytes : tie.Need-slice-aggregate-same-bytes
 slice-aggregate-same-bytes c = search needs
@@ -35,22 +37,30 @@ same-bytes-requires c κs = search needs
 
 returns-3 : tie.Need-returns-3
 unfolding openBytes inbox
-returns-3 c = let s = c .before .before .before .before .before .before .before .before .before .args .name .now in sym (inbox-same s (sym (c .before .same-bytes .ensures) ∙ c .if3 .taken))
+returns-3 c =
+    let start = c .before .before .before .before .before .before .before .before .before in
+    let s = start .args .name .now in sym (inbox-same s (sym (c .before .same-bytes .ensures) ∙ c .if3 .taken))
 
 -- where the first five bytes are another spelling of INBOX
 misspelled : (c : tie.Else3) → inboxSpelled (levels (c .before .before .before .before .before .before .before .before .before .args .name .now)) ≡ not (endsHere (drop 5 (c .before .before .before .before .before .before .before .before .before .args .name .now)))
 unfolding openBytes inbox
 misspelled c =
-    inbox-misspelled (c .before .before .before .before .before .before .before .before .before .args .name .now) (sym (c .before .before .before .before .spells-word .ensures) ∙ not-false _ (c .before .before .before .if2 .left)) (sym (c .before .same-bytes .ensures) ∙ c .if3 .left)
+    let start = c .before .before .before .before .before .before .before .before .before in
+    let spells-word = c .before .before .before .before .spells-word in
+    inbox-misspelled (start .args .name .now) (sym (spells-word .ensures) ∙ not-false _ (c .before .before .before .if2 .left)) (sym (c .before .same-bytes .ensures) ∙ c .if3 .left)
 
 returns-4 : tie.Need-returns-4
-returns-4 c = sym (misspelled (c .before) ∙ rw (ends-behind (c .before .before .before .before .before .before .before .before .before .before .args .name .now) 5 (omega arith)))
+returns-4 c =
+    let start = c .before .before .before .before .before .before .before .before .before .before in
+    sym (misspelled (c .before) ∙ rw (ends-behind (start .args .name .now) 5 (omega arith)))
 
 shared-slice-read-result : tie.Need-shared-slice-read-result
 shared-slice-read-result c = search needs
 
 returns-5 : tie.Need-returns-5
-returns-5 c = sym (misspelled (c .before .before) ∙ rw (ends-at (c .before .before .before .before .before .before .before .before .before .before .before .args .name .now) 5 (omega arith)))
+returns-5 c =
+    let start = c .before .before .before .before .before .before .before .before .before .before .before in
+    sym (misspelled (c .before .before) ∙ rw (ends-at (start .args .name .now) 5 (omega arith)))
 
 pub inbox-spelled-spec : {M : Type 1} → statement M
 inbox-spelled-spec =

@@ -1,6 +1,7 @@
--- Check 1 as the code decides it: one pass over the rows, and one over those with no inferiors.
+-- Check 1 as the code decides it: one pass over the rows, and one over those with no inferiors. Rests on CollectLaws and RightLaws, and on the parts of
+-- check 1 in listing_rules.
 use mathlib.Core.Path.{_≡_, refl, sym, ap, _∙_}
-use mathlib.Core.Bool.{Bool, true, false, cond, _&&_, false≢true}
+use mathlib.Core.Bool.{Bool, true, false, cond, _&&_, false≢true, and-false}
 use mathlib.Core.List.{List, [], _∷_}
 use Prim.Native.Nat.{ℕ, _+_, _≤_, _<_, min}
 use native.Mathlib.Omega.{arith}
@@ -16,7 +17,7 @@ use Rattle.listing_rules.proofs.Passes.{passes-parts, parts-pass}
 use Rattle.mailbox_table.specs.declared.Indexing.the-variants.{Rows, Fails}
 use Rattle.mailbox_table.specs.Index.{rowsAt, Indexed, indexingOf, Indexes}
 use Rattle.mailbox_table.specs.Collect.{rowsRight, scans, Collects}
-use Rattle.mailbox_table.proofs.Bools.{and-l, and-r, and-i, and-false, bool-ext}
+use Rattle.listing_rules.proofs.Bools.{and-l, and-r, and-i, bools-equal}
 use Rattle.mailbox_table.proofs.RightLaws.{RightParts, right-parts, parts-right}
 use Rattle.mailbox_table.proofs.BelowLaws.{ascends-tail}
 use Rattle.mailbox_table.proofs.CollectLaws.{rows-decided, fails-decided}
@@ -38,7 +39,7 @@ from-nil (r ∷ rs) e l =
 -- the two passes decide
 pub two-passes : (t : List ℕ) (room : ℕ) → length t ≤ 32768 → (passes t && leb (length (rows t)) room) ≡ (scans (min room 512) 0 [] t && every (λ r. noneBelow (rows t) r) (rows t))
 unfolding scans
-two-passes t room h = bool-ext _ _ there back
+two-passes t room h = bools-equal _ _ there back
   where
     there : (passes t && leb (length (rows t)) room) ≡ true → (scans (min room 512) 0 [] t && every (λ r. noneBelow (rows t) r) (rows t)) ≡ true
     there e =

@@ -1,4 +1,5 @@
 -- The pass over the packed rows: a row that a step gives goes into its word, the loop's invariant, and what the pass answers.
+-- Rests on StepLaws and KeptLaws.
 use mathlib.Core.Path.{_≡_, refl, sym, ap, _∙_}
 use mathlib.Core.Bool.{Bool, true, false, cond, _&&_}
 use mathlib.Core.List.{List, [], _∷_, _++_, append-nil}
@@ -20,7 +21,7 @@ use Rattle.mailbox_table.specs.declared.collect.Step.the-variants.{Next,
 use Rattle.mailbox_table.specs.Words.{rowOfWord, wordOf, Packs}
 use Rattle.mailbox_table.specs.Index.{nameAt, rowAtWord, rowsAt, Indexed}
 use Rattle.mailbox_table.specs.Collect.{collectedOf, Collects, flagsThere, nameThere, between, wholeThere, goodThere, rowThere, stepAt, rowsRight, scans}
-use Rattle.mailbox_table.proofs.Bools.{and-l, and-r}
+use Rattle.listing_rules.proofs.Bools.{and-l, and-r}
 use Rattle.mailbox_table.proofs.SharedLaws.{shared-le-r}
 use Rattle.mailbox_table.proofs.StepLaws.{rowHere, rows-at, rows-end, StepIs, step-is, scans-end, scans-full, scans-bad, scans-next, scans-ascend, name-there}
 use Rattle.mailbox_table.proofs.KeptLaws.{Kept, kept-none, kept-indexed, kept-more}
@@ -35,8 +36,10 @@ module _ (t : List ℕ) (from at : ℕ) (r : Place.Row) (e : stepAt t from at �
   step-whole : (3 ≤ length t - at) × (getD t (at + 2) 0 ≤ length t - at - 3)
   unfolding wholeThere
   step-whole =
+      let left = length t - at in
+      let len = getD t (at + 2) 0 in
       let w = step-next .1 in
-      (leb-true 3 (length t - at) (and-l (leb 3 (length t - at)) (leb (getD t (at + 2) 0) (length t - at - 3)) w), leb-true (getD t (at + 2) 0) (length t - at - 3) (and-r (leb 3 (length t - at)) (leb (getD t (at + 2) 0) (length t - at - 3)) w))
+      (leb-true 3 left (and-l (leb 3 left) (leb len (left - 3)) w), leb-true len (left - 3) (and-r (leb 3 left) (leb len (left - 3)) w))
 
   step-lawful : lawfulName (nameThere t at) ≡ true
   unfolding goodThere
@@ -129,7 +132,8 @@ module _ {t before : List ℕ} {limit : ℕ} {words : List ℕ} {n from at : ℕ
         bad : StepIs t from at Bad
         bad = rw e at (step-is t from at)
 
-    pub collecting-more : length t ≤ 32768 → ((k : ℕ) → getD t k 0 < 256) → n < limit → limit ≤ length before → (r : Place.Row) → stepAt t from at ≡ Next r → Collecting t before limit (set words n (wordOf r)) (n + 1) (r .start) (r .start + r .len)
+    pub collecting-more : length t ≤ 32768 → ((k : ℕ) → getD t k 0 < 256) → n < limit → limit ≤ length before → (r : Place.Row) → stepAt t from at ≡ Next r
+        → Collecting t before limit (set words n (wordOf r)) (n + 1) (r .start) (r .start + r .len)
     collecting-more h b k l r e =
         record {
           order = omega arith;

@@ -5,7 +5,6 @@ pub mod BelowLaws
 pub mod IndexLaws
 pub mod ScanLaws
 pub mod CheckLaws
-mod Bools
 mod FlagBits
 mod RightLaws
 mod StepLaws

@@ -46,7 +46,8 @@ short-pair [] h = refl
 short-pair (b ∷ []) h = refl
 short-pair (b ∷ c ∷ s) h = absurd (omega arith)
 
-pub pair-more : (s : List ℕ) (ok : Bool) (i : ℕ) → 1 ≤ i → i < length s → ((ok && not (eqb (getD s (i - 1) 0) 47 && eqb (getD s i 0) 47)) && noPair (drop (i + 1 - 1) s)) ≡ (ok && noPair (drop (i - 1) s))
+pub pair-more : (s : List ℕ) (ok : Bool) (i : ℕ) → 1 ≤ i → i < length s
+    → ((ok && not (eqb (getD s (i - 1) 0) 47 && eqb (getD s i 0) 47)) && noPair (drop (i + 1 - 1) s)) ≡ (ok && noPair (drop (i - 1) s))
 pair-more s ok zero h g = absurd (omega arith)
 pair-more s ok (suc j) h g =
     let e : suc j - 1 ≡ j = omega arith in
@@ -290,7 +291,8 @@ module _ (s : List ℕ) where
     not-pair e = not-full (simp (levels-full s h, e, and-false))
 
     -- all but the rule for INBOX hold
-    pub all-but-inbox : length s ≤ 200 → all nameByte s ≡ true → slashCount s < 16 → (getD s 0 0 ≡ 47 → ⊥) → (getD s (length s - 1) 0 ≡ 47 → ⊥) → noPair s ≡ true → lawfulName s ≡ inboxSpelled (levels s)
+    pub all-but-inbox : length s ≤ 200 → all nameByte s ≡ true → slashCount s < 16 → (getD s 0 0 ≡ 47 → ⊥) → (getD s (length s - 1) 0 ≡ 47 → ⊥) → noPair s ≡ true
+        → lawfulName s ≡ inboxSpelled (levels s)
     unfolding lawfulName within
     all-but-inbox l b f p q e =
         simp (

@@ -89,6 +89,10 @@ module _ {d e : List ℕ} {at : ℕ} {whole rest : List ℕ} {to : ℕ} (p : Put
         joined = append-assoc (p .written) piece more ∙ ap (λ (x : List ℕ). p .written ++ x) (sym q) ∙ p .joined;
       }
 
+  -- what is left, told in another way
+  pub putting-on : {more : List ℕ} → rest ≡ more → Putting d e at whole more to
+  putting-on q = record { written = p .written; put = p .put; joined = ap (λ (x : List ℕ). p .written ++ x) (sym q) ∙ p .joined }
+
   pub putting-all : rest ≡ [] → Put d e at whole to
   putting-all q = rw (← p .joined, q, append-nil (p .written)) (p .put)
 

@@ -40,10 +40,12 @@ same-length c = search needs
 returns-2 : tie.Need-returns-2
 returns-2 c =
     let start = c .before .before .before .before .before .before .before .before .before in
-    let passed = c .before .before .before .before .collect-rows .ensures in
+    let if1 = c .before .before .before .before .before .before .if1 in
+    let collect-rows = c .before .before .before .before .collect-rows in
+    let passed = collect-rows .ensures in
     let bad = fails-decided _ _ (sym (c .enum-told .given .1) ∙ passed .answer) in
     record {
-      answer = sym (indexing-bad (start .args .table .now) (length (start .args .words .now)) (c .before .before .before .before .before .before .if1 .left) bad);
+      answer = sym (indexing-bad (start .args .table .now) (length (start .args .words .now)) (if1 .left) bad);
       room = passed .room;
       found = tt;
       stays = tt;
@@ -81,11 +83,13 @@ same-length-2 c = search needs
 returns-3 : tie.Need-returns-3
 returns-3 c =
     let start = c .before .before .before .before .before .before .before .before .before .before .before .before .before in
-    let size = c .before .before .before .before .before .before .before .before .before .before .if1 .left in
+    let if1 = c .before .before .before .before .before .before .before .before .before .before .if1 in
+    let collect-rows = c .before .before .before .before .before .before .before .before .collect-rows in
+    let size = if1 .left in
     let fails = sym (rested (c .before)) ∙ not-true _ (c .if2 .taken) in
     record {
       answer = sym (indexing-below (start .args .table .now) (length (start .args .words .now)) size fails);
-      room = c .before .before .before .before .before .before .before .before .collect-rows .ensures .room;
+      room = collect-rows .ensures .room;
       found = tt;
       stays = tt;
     }
@@ -96,12 +100,14 @@ same-length-3 c = search needs
 returns-4 : tie.Need-returns-4
 returns-4 c =
     let start = c .before .before .before .before .before .before .before .before .before .before .before .before .before in
-    let size = c .before .before .before .before .before .before .before .before .before .before .if1 .left in
+    let if1 = c .before .before .before .before .before .before .before .before .before .before .if1 in
+    let collect-rows = c .before .before .before .before .before .before .before .before .collect-rows in
+    let size = if1 .left in
     let pass = collected (c .before .before .before) in
     let passes = sym (rested (c .before)) ∙ not-false _ (c .if2 .left) in
     record {
       answer = ap Rows (pass .number) ∙ sym (indexing-rows (start .args .table .now) (length (start .args .words .now)) size (pass .right) passes);
-      room = c .before .before .before .before .before .before .before .before .collect-rows .ensures .room;
+      room = collect-rows .ensures .room;
       found = (pass .number, pass .same-rows, pass .indexed);
       stays = pass .stays;
     }

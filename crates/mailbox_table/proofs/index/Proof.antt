@@ -27,10 +27,11 @@ same-length c = search needs
 returns : tie.Need-returns
 returns c =
     let start = c .before .before .before .before .before .before .before .before .before .before .before .before in
+    let enum-told′ = c .before .before .before .before .enum-told in
     let t = start .args .table .now in
     let before = start .args .words .now in
     let found = c .before .before .before .before .before .before .before .before .find-rows in
-    let fails = subst (λ (r : Indexing). Collects t before (found .last .1 .0) (indexingOf t (length before)) r) (c .before .before .before .before .enum-told .given .1) (found .ensures) in
+    let fails = subst (λ (r : Indexing). Collects t before (found .last .1 .0) (indexingOf t (length before)) r) (enum-told′ .given .1) (found .ensures) in
     indexes-fails fails (c .before .before .clear-words .ensures)
 
 same-length-2 : tie.Need-same-length-2

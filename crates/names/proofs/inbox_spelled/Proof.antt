@@ -1,4 +1,4 @@
--- `names::inbox_spelled` meets its contract: the first five bytes and what stands behind them decide. By NameShape.
+-- `names::inbox_spelled` meets its contract: the first five bytes and what follows them decide. By NameShape.
 use mathlib.Core.Path.{_≡_, sym, _∙_}
 use mathlib.Core.Bool.{not}
 use lib.ListN.{drop, length-take}
@@ -42,7 +42,9 @@ returns-3 c =
     let s = start .args .name .now in sym (inbox-same s (sym (c .before .same-bytes .ensures) ∙ c .if3 .taken))
 
 -- where the first five bytes are another spelling of INBOX
-misspelled : (c : tie.Else3) → inboxSpelled (levels (c .before .before .before .before .before .before .before .before .before .args .name .now)) ≡ not (endsHere (drop 5 (c .before .before .before .before .before .before .before .before .before .args .name .now)))
+misspelled : (c : tie.Else3) →
+    let s = c .before .before .before .before .before .before .before .before .before .args .name .now in
+    inboxSpelled (levels s) ≡ not (endsHere (drop 5 s))
 unfolding openBytes inbox
 misspelled c =
     let start = c .before .before .before .before .before .before .before .before .before in

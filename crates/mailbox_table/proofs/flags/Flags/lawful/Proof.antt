@@ -24,10 +24,11 @@ returns : tie.Need-returns
 unfolding lawfulFlags exists marked unmarked
 returns c =
     let start = c .before .before .before .before .before .before in
+    let has = c .before .before .before .before .before .has in
     let f = start .args .self .bits in
     rw (
       ap not (c .has-some .ensures) ∙ none-unnamed f,
-      c .before .before .before .before .before .has .ensures ∙ contains-bit 0 f,
+      has .ensures ∙ contains-bit 0 f,
       c .before .before .has2 .ensures ∙ contains-bit 5 f,
       c .before .has3 .ensures ∙ contains-bit 6 f,
     )

@@ -1,36 +1,20 @@
 -- Where the names stand: one test of all sixteen places, which antt computes, gives what holds at each.
 use mathlib.Core.Path.{_≡_, refl, ap, _∙_}
 use mathlib.Core.Bool.{Bool, true, false, _&&_}
-use mathlib.Core.List.{List, [], _∷_}
+use mathlib.Core.List.{List, _∷_}
 use Prim.Native.Nat.{ℕ, zero, suc, _+_, _-_, _≤_, _<_}
 use native.Mathlib.Decide.{decLt}
 use native.Mathlib.Omega.{arith}
-use lib.Dec.{eqb, leb}
+use lib.Dec.{leb}
 use lib.ListN.{length, getD, take, drop}
-use borrow.Author.Tests.{leb-true, eqb-true}
+use borrow.Author.Tests.{leb-true}
 use Rattle.listing_rules.specs.Bytes.{same, space}
 use Rattle.listing_rules.proofs.Keys.{openBytes, openLines}
 use Rattle.listing_rules.specs.Reader.{separated}
+use Rattle.listing_rules.proofs.Bools.{and-l, and-r}
+use Rattle.listing_rules.proofs.ListLaws.{same-true}
 use Rattle.list_line.specs.declared.texts.Span.{Span}
 use Rattle.list_line.specs.Names.{allNames, namePlaces, nameOf, NameSpan}
-
-and-l : (a b : Bool) → (a && b) ≡ true → a ≡ true
-and-l true b e = refl
-and-l false b e = e
-
-and-r : (a b : Bool) → (a && b) ≡ true → b ≡ true
-and-r true b e = e
-and-r false b e = cc
-
-same-true : (a b : List ℕ) → same a b ≡ true → a ≡ b
-unfolding same
-same-true [] [] e = refl
-same-true [] (y ∷ ys) e = cc
-same-true (x ∷ xs) [] e = cc
-same-true (x ∷ xs) (y ∷ ys) e =
-    let h : x ≡ y = eqb-true x y (and-l (eqb x y) (same xs ys) e) in
-    let t : xs ≡ ys = same-true xs ys (and-r (eqb x y) (same xs ys) e) in
-    cc
 
 -- the test passes at each number below n
 abbrev eachBelow : ℕ → (ℕ → Bool) → Bool

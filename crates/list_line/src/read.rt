@@ -5,7 +5,7 @@
 use super::attributes::Attributes;
 use super::criteria::Criteria;
 use super::texts;
-use mailbox_table::names::lawful_name;
+use names::lawful_name;
 use octets::BACKSLASH;
 use octets::QUOTE;
 use octets::byte_at;

@@ -2,7 +2,7 @@
 use super::attributes::Attributes;
 use super::criteria::Criteria;
 use super::texts;
-use mailbox_table::names::lawful_name;
+use names::lawful_name;
 use octets::Written;
 use octets::put_all;
 use octets::put_quoted;

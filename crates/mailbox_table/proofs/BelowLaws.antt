@@ -1,6 +1,6 @@
 -- Names below a name among names that ascend: where they begin, where they end, and that nothing is missed.
 use mathlib.Core.Path.{_≡_, refl, sym, ap, _∙_}
-use mathlib.Core.Bool.{Bool, true, false, _&&_, _||_, false≢true}
+use mathlib.Core.Bool.{Bool, true, false, _&&_, _||_, false≢true, and-true}
 use mathlib.Core.List.{List, [], _∷_, _++_, map}
 use Prim.Native.Nat.{ℕ, zero, suc, _+_, _-_, _≤_, _<_, Ordering, Ordering·lt, Ordering·eq, Ordering·gt}
 use native.Mathlib.Numerals.{add-one}
@@ -18,7 +18,7 @@ use Rattle.listing_rules.specs.Table.{Row, names}
 use Rattle.listing_rules.proofs.Order.{bytes-total}
 use Rattle.mailbox_table.specs.Shared.{sharedLen}
 use Rattle.mailbox_table.specs.Below.{markedBelow}
-use Rattle.mailbox_table.proofs.Bools.{and-l, and-r, and-i, and-true}
+use Rattle.listing_rules.proofs.Bools.{and-l, and-r, and-i}
 use Rattle.mailbox_table.proofs.SharedLaws.{shared-le-r, order-same, shared-same, order-other, shared-other, order-nil-cons, order-cons-nil, order-to-nil}
 
 -- ascending is transitive

@@ -1,26 +1,27 @@
--- Check 1 as the code decides it: one pass over the rows, and one over those with no inferiors.
-use mathlib.Core.Path.{_≡_, refl, sym, _∙_}
-use mathlib.Core.Bool.{Bool, true, false, cond, _&&_, false≢true}
+-- Check 1 as the code decides it: one pass over the rows, and one over those with no inferiors. Rests on CollectLaws and RightLaws, and on the parts of
+-- check 1 in listing_rules.
+use mathlib.Core.Path.{_≡_, refl, sym, ap, _∙_}
+use mathlib.Core.Bool.{Bool, true, false, cond, _&&_, false≢true, and-false}
 use mathlib.Core.List.{List, [], _∷_}
 use Prim.Native.Nat.{ℕ, _+_, _≤_, _<_, min}
 use native.Mathlib.Omega.{arith}
 use lib.Dec.{leb}
-use lib.ListN.{length, take}
+use lib.ListN.{length, take, replicate, length-replicate}
 use borrow.Author.Tests.{le-leb, lt-leb, leb-true}
 use Rattle.listing_rules.specs.Lists.{every}
 use Rattle.listing_rules.specs.Orders.{byteOrder, isLt, ascends, ascendsFrom}
 use Rattle.listing_rules.specs.Names.{lawfulName}
-use Rattle.listing_rules.specs.Flags.{lawfulFlags}
 use Rattle.listing_rules.specs.Table.{Row, rows, rowsFill, names, passes, noneBelow}
+use Rattle.listing_rules.proofs.LawfulNames.{good-parts}
+use Rattle.listing_rules.proofs.Passes.{passes-parts, parts-pass}
 use Rattle.mailbox_table.specs.declared.Indexing.the-variants.{Rows, Fails}
 use Rattle.mailbox_table.specs.Index.{rowsAt, Indexed, indexingOf, Indexes}
-use Rattle.mailbox_table.specs.Collect.{rowsRight, scans}
-use Rattle.mailbox_table.proofs.Bools.{and-l, and-r, and-i, and-false, bool-ext}
+use Rattle.mailbox_table.specs.Collect.{rowsRight, scans, Collects}
+use Rattle.listing_rules.proofs.Bools.{and-l, and-r, and-i, bools-equal}
 use Rattle.mailbox_table.proofs.RightLaws.{RightParts, right-parts, parts-right}
 use Rattle.mailbox_table.proofs.BelowLaws.{ascends-tail}
 use Rattle.mailbox_table.proofs.CollectLaws.{rows-decided, fails-decided}
 use Rattle.mailbox_table.proofs.SharedLaws.{order-nil-cons}
-use Rattle.mailbox_table.proofs.NameShape.{lawful-length}
 
 -- nothing comes before a lawful name, so the first row may be compared with an empty name
 nil-before : (n : List ℕ) → 1 ≤ length n → isLt (byteOrder [] n) ≡ true
@@ -32,60 +33,19 @@ unfolding every names ascends ascendsFrom
 from-nil [] e l = refl
 from-nil (r ∷ rs) e l =
     and-i (isLt (byteOrder [] (r .name))) (ascendsFrom (r .name) (names rs))
-    (nil-before (r .name) (lawful-length (r .name) (and-l (lawfulName (r .name)) (every (λ q. lawfulName (q .name)) rs) e) .0))
+    (nil-before (r .name) (good-parts (r .name) (and-l (lawfulName (r .name)) (every (λ q. lawfulName (q .name)) rs) e) .least))
     l
-
--- the parts of check 1
-pub record PassParts (t : List ℕ) : Type 0 where
-  pub size : length t ≤ 32768
-  pub fills : rowsFill 0 t ≡ true
-  pub few : length (rows t) ≤ 512
-  pub lawful : every (λ r. lawfulName (r .name)) (rows t) ≡ true
-  pub flagged : every (λ r. lawfulFlags (r .flags)) (rows t) ≡ true
-  pub ascend : ascends (names (rows t)) ≡ true
-  pub inferiors : every (λ r. noneBelow (rows t) r) (rows t) ≡ true
-
-pub pass-parts : (t : List ℕ) → passes t ≡ true → PassParts t
-unfolding passes
-pass-parts t e =
-    let a = leb (length t) 32768 in
-    let f = rowsFill 0 t in
-    let l = leb (length (rows t)) 512 in
-    let n = every (λ r. lawfulName (r .name)) (rows t) in
-    let g = every (λ r. lawfulFlags (r .flags)) (rows t) in
-    let s = ascends (names (rows t)) in
-    let b = every (λ r. noneBelow (rows t) r) (rows t) in
-    let e₅ = and-l (a && f && l && n && g && s) b e in
-    let e₄ = and-l (a && f && l && n && g) s e₅ in
-    let e₃ = and-l (a && f && l && n) g e₄ in
-    let e₂ = and-l (a && f && l) n e₃ in
-    let e₁ = and-l (a && f) l e₂ in
-    record {
-      size = leb-true (length t) 32768 (and-l a f e₁);
-      fills = and-r a f e₁;
-      few = leb-true (length (rows t)) 512 (and-r (a && f) l e₂);
-      lawful = and-r (a && f && l) n e₃;
-      flagged = and-r (a && f && l && n) g e₄;
-      ascend = and-r (a && f && l && n && g) s e₅;
-      inferiors = and-r (a && f && l && n && g && s) b e;
-    }
-
-pub parts-pass : (t : List ℕ) → PassParts t → passes t ≡ true
-unfolding passes
-parts-pass t p =
-    simp
-    (le-leb (length t) 32768 (p .size), p .fills, le-leb (length (rows t)) 512 (p .few), p .lawful, p .flagged, p .ascend, p .inferiors)
 
 -- the two passes decide
 pub two-passes : (t : List ℕ) (room : ℕ) → length t ≤ 32768 → (passes t && leb (length (rows t)) room) ≡ (scans (min room 512) 0 [] t && every (λ r. noneBelow (rows t) r) (rows t))
 unfolding scans
-two-passes t room h = bool-ext _ _ there back
+two-passes t room h = bools-equal _ _ there back
   where
     there : (passes t && leb (length (rows t)) room) ≡ true → (scans (min room 512) 0 [] t && every (λ r. noneBelow (rows t) r) (rows t)) ≡ true
     there e =
-        let p = pass-parts t (and-l (passes t) (leb (length (rows t)) room) e) in
+        let p = passes-parts t (and-l (passes t) (leb (length (rows t)) room) e) in
         let k : length (rows t) ≤ room = leb-true (length (rows t)) room (and-r (passes t) (leb (length (rows t)) room) e) in
-        let r : RightParts [] (rows t) = record { lawful = p .lawful; flagged = p .flagged; ascend = from-nil (rows t) (p .lawful) (p .ascend) } in
+        let r : RightParts [] (rows t) = record { lawful = p .lawful-names; flagged = p .lawful-flags; ascend = from-nil (rows t) (p .lawful-names) (p .ascend) } in
         simp (p .fills, le-leb (0 + length (rows t)) (min room 512) (omega (arith, p .few)), parts-right [] (rows t) r, p .inferiors)
 
     back : (scans (min room 512) 0 [] t && every (λ r. noneBelow (rows t) r) (rows t)) ≡ true → (passes t && leb (length (rows t)) room) ≡ true
@@ -103,8 +63,8 @@ two-passes t room h = bool-ext _ _ there back
           size = h;
           fills = and-l f l (and-l (f && l) w d);
           few = omega arith;
-          lawful = p .lawful;
-          flagged = p .flagged;
+          lawful-names = p .lawful;
+          lawful-flags = p .flagged;
           ascend = ascends-tail [] (names (rows t)) (p .ascend);
           inferiors = and-r (f && l && w) b e;
         }))
@@ -130,6 +90,19 @@ module _ (t : List ℕ) (room : ℕ) where
     pub indexing-rows : scans (min room 512) 0 [] t ≡ true → every (λ r. noneBelow (rows t) r) (rows t) ≡ true → indexingOf t room ≡ Rows (length (rows t))
     indexing-rows e d = indexing-is ∙ rw (e, d)
 
+-- what `find_rows` answers is what `index` answers, once the words are cleared where it fails
+pub indexes-rows : {t before after : List ℕ} {n : ℕ} → Collects t before after (indexingOf t (length before)) (Rows n) → Indexes t before after (Rows n)
+indexes-rows x = record { answer = x .answer; room = x .room; found = x .found; rest = x .stays }
+
+pub indexes-fails : {t before after cleared : List ℕ} → Collects t before after (indexingOf t (length before)) Fails → cleared ≡ replicate (length after) 0 → Indexes t before cleared Fails
+indexes-fails {t} {before} {after} x e =
+    record {
+      answer = x .answer;
+      room = ap length e ∙ length-replicate (length after) 0 ∙ x .room;
+      found = tt;
+      rest = e ∙ ap (λ (n : ℕ). replicate n 0) (x .room);
+    }
+
 -- What a caller has who found n rows: the table passes, and the first n words are the index of its rows.
 pub record Held (t words : List ℕ) (n : ℕ) : Type 0 where
   pub table-passes : passes t ≡ true
@@ -139,9 +112,9 @@ pub record Held (t words : List ℕ) (n : ℕ) : Type 0 where
   pub few : n ≤ 512
   pub fits : n ≤ length words
 
-pub index-held : {t before behind : List ℕ} {n : ℕ} → Indexes t before behind (Rows n) → Held t behind n
+pub index-held : {t before after : List ℕ} {n : ℕ} → Indexes t before after (Rows n) → Held t after n
 unfolding indexingOf
-index-held {t} {before} {behind} {n} x =
+index-held {t} {before} {after} {n} x =
     let d = rows-decided (passes t && leb (length (rows t)) (length before)) (length (rows t)) n (x .answer) .0 in
     let p = and-l (passes t) (leb (length (rows t)) (length before)) d in
     let k : length (rows t) ≤ length before = leb-true (length (rows t)) (length before) (and-r (passes t) (leb (length (rows t)) (length before)) d) in
@@ -150,14 +123,14 @@ index-held {t} {before} {behind} {n} x =
       number = x .found .0;
       same-rows = x .found .1;
       indexed = x .found .2;
-      few = omega (arith, x .found .0, pass-parts t p .few);
+      few = omega (arith, x .found .0, passes-parts t p .few);
       fits = omega (arith, x .found .0, x .room);
     }
 
 -- with room for every row that a table may have, the index fails exactly if the table does not pass
-pub index-refused : {t before behind : List ℕ} → 512 ≤ length before → Indexes t before behind Fails → passes t ≡ false
+pub index-refused : {t before after : List ℕ} → 512 ≤ length before → Indexes t before after Fails → passes t ≡ false
 unfolding indexingOf
-index-refused {t} {before} {behind} h x = go (passes t) refl
+index-refused {t} {before} {after} h x = go (passes t) refl
   where
     failed : (passes t && leb (length (rows t)) (length before)) ≡ false
     failed = fails-decided (passes t && leb (length (rows t)) (length before)) (length (rows t)) (x .answer)
@@ -165,5 +138,5 @@ index-refused {t} {before} {behind} h x = go (passes t) refl
     go : (o : Bool) → passes t ≡ o → o ≡ false
     go false p = refl
     go true p =
-        let few = pass-parts t p .few in
+        let few = passes-parts t p .few in
         absurd (false≢true (sym failed ∙ and-i (passes t) (leb (length (rows t)) (length before)) p (le-leb (length (rows t)) (length before) (omega arith))))

@@ -1,4 +1,4 @@
--- The rows of an index by their places.
+-- The rows of an index by their places. Rests on SharedLaws and BelowLaws.
 use mathlib.Core.Path.{_≡_, refl, ap, subst}
 use mathlib.Core.Bool.{true}
 use mathlib.Core.List.{List, [], _∷_}

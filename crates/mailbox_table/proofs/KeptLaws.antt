@@ -1,4 +1,4 @@
--- Words that are kept one by one: an index but for the order of their names.
+-- Words that are kept one by one: an index but for the order of their names. Rests on SharedLaws.
 use mathlib.Core.Path.{_≡_, refl, sym, ap, _∙_}
 use mathlib.Core.Bool.{true}
 use mathlib.Core.List.{List, [], _∷_, _++_}

@@ -5,9 +5,7 @@ pub mod BelowLaws
 pub mod IndexLaws
 pub mod ScanLaws
 pub mod CheckLaws
-mod Bools
 mod FlagBits
-mod NameShape
 mod RightLaws
 mod StepLaws
 mod KeptLaws

@@ -1,4 +1,4 @@
--- Rows that are right one after the other, and the same of all rows at once.
+-- Rows that are right one after the other: every one is lawful, and they ascend. Rests on the definitions alone.
 use mathlib.Core.Path.{_≡_, refl}
 use mathlib.Core.Bool.{Bool, true, _&&_}
 use mathlib.Core.List.{List, [], _∷_}
@@ -9,7 +9,7 @@ use Rattle.listing_rules.specs.Names.{lawfulName}
 use Rattle.listing_rules.specs.Flags.{lawfulFlags}
 use Rattle.listing_rules.specs.Table.{Row, names}
 use Rattle.mailbox_table.specs.Collect.{rowsRight}
-use Rattle.mailbox_table.proofs.Bools.{and-l, and-r, and-i}
+use Rattle.listing_rules.proofs.Bools.{and-l, and-r, and-i}
 
 -- rows that are right from x on: each is lawful, and they ascend from x on
 pub record RightParts (x : List ℕ) (rs : List Row) : Type 0 where

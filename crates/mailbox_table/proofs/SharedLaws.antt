@@ -1,4 +1,4 @@
--- How far two names are alike, and what that says of their order.
+-- How far two names are alike, and what that says of their order. Rests on the order of bytes in listing_rules.
 use mathlib.Core.Path.{_≡_, refl, sym, _∙_}
 use mathlib.Core.Bool.{Bool, true, false, cond, false≢true}
 use mathlib.Core.List.{List, [], _∷_}

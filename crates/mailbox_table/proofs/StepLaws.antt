@@ -1,6 +1,7 @@
--- A step of the pass over the packed rows: the row at a place, and what it says of the rows that are left.
+-- A step of the pass over the packed rows: the row at a place, and what it says of the rows that are left. Rests on the laws of rows in
+-- listing_rules, and on RightLaws.
 use mathlib.Core.Path.{_≡_, refl, ap, _∙_}
-use mathlib.Core.Bool.{Bool, true, false, cond, _&&_}
+use mathlib.Core.Bool.{Bool, true, false, cond, _&&_, and-false}
 use mathlib.Core.List.{List, [], _∷_}
 use Prim.Native.Nat.{ℕ, suc, _+_, _-_, _≤_, _<_}
 use native.Mathlib.Nat.{add-zero}
@@ -16,8 +17,9 @@ use Rattle.listing_rules.specs.Table.{Row, rowAt, rowsAfter, rows, rowsFill, na
 use Rattle.listing_rules.proofs.Rows.{rows-drop, at-end, at-stub, at-bad, at-row}
 use Rattle.mailbox_table.specs.declared.collect.Step.{Step}
 use Rattle.mailbox_table.specs.declared.collect.Step.the-variants.{Next, Bad}
+use Rattle.mailbox_table.specs.Shared.{sharedLen}
 use Rattle.mailbox_table.specs.Collect.{flagsThere, nameThere, between, wholeThere, goodThere, rowThere, stepAt, rowsRight, scans}
-use Rattle.mailbox_table.proofs.Bools.{and-l, and-r, and-false}
+use Rattle.listing_rules.proofs.Bools.{and-l, and-r}
 use Rattle.mailbox_table.proofs.RightLaws.{right-parts}
 use Rattle.mailbox_table.proofs.BelowLaws.{ascends-tail}
 
@@ -43,16 +45,22 @@ module _ (t : List ℕ) (from at : ℕ) where
   unfolding stepAt goodThere
   step-order e = simp (e, and-false)
 
-  pub step-good : 3 ≤ length t - at → getD t (at + 2) 0 ≤ length t - at - 3 → lawfulFlags (flagsThere t at) ≡ true → lawfulName (nameThere t at) ≡ true → isLt (byteOrder (between t from at) (nameThere t at)) ≡ true → stepAt t from at ≡ Next (rowThere t from at)
+  pub step-good : 3 ≤ length t - at → getD t (at + 2) 0 ≤ length t - at - 3 → lawfulFlags (flagsThere t at) ≡ true → lawfulName (nameThere t at) ≡ true
+      → isLt (byteOrder (between t from at) (nameThere t at)) ≡ true → stepAt t from at ≡ Next (rowThere t from at)
   unfolding stepAt wholeThere goodThere
   step-good h k f n o = simp (le-leb 3 (length t - at) h, le-leb (getD t (at + 2) 0) (length t - at - 3) k, f, n, o)
+
+-- the row that the code makes
+pub row-there : (t : List ℕ) (from at : ℕ) {bits len shared : ℕ} → bits ≡ flagsThere t at → len ≡ getD t (at + 2) 0 → shared ≡ sharedLen (between t from at) (nameThere t at)
+    → record { flags = record { bits = bits }; start = at + 3; len = len; shared = shared } ≡ rowThere t from at
+row-there t from at f l s = λ i. record { flags = record { bits = f i }; start = at + 3; len = l i; shared = s i }
 
 -- the name of a row that the code takes out by its ends
 pub name-there : (t : List ℕ) (at len : ℕ) → len ≡ getD t (at + 2) 0 → take (at + 3 + len - (at + 3)) (drop (at + 3) t) ≡ nameThere t at
 unfolding nameThere
 name-there t at len e = let d : at + 3 + len - (at + 3) ≡ getD t (at + 2) 0 = omega arith in rw d
 
--- the rows at a place: one, and those behind it
+-- the rows at a place: one, and those after it
 abbrev pub rowHere : List ℕ → ℕ → Row
 rowHere t at = record { flags = flagsThere t at; name = nameThere t at }
 
@@ -126,7 +134,8 @@ module _ (t : List ℕ) (limit n : ℕ) (x : List ℕ) (at : ℕ) where
     unfolding scans
     scans-bad e = go (wholeThere t at) (goodThere t x at) refl refl e
       where
-        go : (a b : Bool) → wholeThere t at ≡ a → goodThere t x at ≡ b → (a && b) ≡ false → (rowsFill 0 (drop at t) && leb (n + length (rows (drop at t))) limit && rowsRight x (rows (drop at t))) ≡ false
+        go : (a b : Bool) → wholeThere t at ≡ a → goodThere t x at ≡ b → (a && b) ≡ false
+            → (rowsFill 0 (drop at t) && leb (n + length (rows (drop at t))) limit && rowsRight x (rows (drop at t))) ≡ false
         go false b p q d = rw (not-whole p)
         go true false p q d = simp (not-good q, and-false)
         go true true p q d = cc

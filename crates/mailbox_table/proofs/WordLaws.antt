@@ -1,4 +1,4 @@
--- A row's number tells the row, and a name that is clamped to its area is the name.
+-- A row's number tells the row, and a name that is clamped to its area is the name. Rests on the library alone.
 use mathlib.Core.Path.{_≡_, sym, _∙_}
 use mathlib.Core.List.{List}
 use Prim.Native.Nat.{ℕ, _-_, _/_, _%_, _≤_, _<_}

@@ -64,8 +64,18 @@ rowsRight x (r ∷ rs) =
 unfoldable pub scans : ℕ → ℕ → List ℕ → List ℕ → Bool
 scans limit n x t = rowsFill 0 t && leb (n + length (rows t)) limit && rowsRight x (rows t)
 
--- What `collect_rows` promises.
-pub record Collects (t before behind : List ℕ) (r : Indexing) : Type 0 where
-  pub answer : r ≡ cond (scans (min (length before) 512) 0 [] t) (Rows (length (rows t))) Fails
-  pub room : length behind ≡ length before
-  pub found : Found t behind r
+-- the rows that the pass answers, with room for this many words
+abbrev pub collectedOf : List ℕ → ℕ → Indexing
+collectedOf t room = cond (scans (min room 512) 0 [] t) (Rows (length (rows t))) Fails
+
+-- where rows are found, the words after them stay as they were lent
+abbrev pub Stays : List ℕ → List ℕ → Indexing → Type 0
+Stays before after Fails = Unit {0}
+Stays before after (Rows n) = drop n after ≡ drop n before
+
+-- What a pass over the table promises that is to answer `due`, of the lent words before and after it, and of its answer.
+pub record Collects (t before after : List ℕ) (due r : Indexing) : Type 0 where
+  pub answer : r ≡ due
+  pub room : length after ≡ length before
+  pub found : Found t after r
+  pub stays : Stays before after r

@@ -4,7 +4,7 @@ use mathlib.Core.Bool.{true, cond, _&&_}
 use mathlib.Core.List.{List, map}
 use Prim.Native.Nat.{ℕ, _+_, _<_, _≤_}
 use lib.Dec.{leb}
-use lib.ListN.{length, take, drop, getD}
+use lib.ListN.{length, take, drop, getD, replicate}
 use Rattle.listing_rules.specs.Orders.{ascends}
 use Rattle.listing_rules.specs.Table as Table
 use Rattle.listing_rules.specs.Table.{rows, names, passes}
@@ -52,8 +52,14 @@ abbrev pub Found : List ℕ → List ℕ → Indexing → Type 0
 Found t words Fails = Unit {0}
 Found t words (Rows n) = (n ≡ length (rows t)) × (rowsAt t (take n words) ≡ rows t) × Indexed t (take n words)
 
--- What `index` promises of a table, of the lent words before and behind it, and of its answer.
-pub record Indexes (t before behind : List ℕ) (r : Indexing) : Type 0 where
+-- the lent words that hold no row: after the rows they stay as they were lent, and on failure every word is zero
+abbrev pub Rest : List ℕ → List ℕ → Indexing → Type 0
+Rest before after Fails = after ≡ replicate (length before) 0
+Rest before after (Rows n) = drop n after ≡ drop n before
+
+-- What `index` promises of a table, of the lent words before and after it, and of its answer.
+pub record Indexes (t before after : List ℕ) (r : Indexing) : Type 0 where
   pub answer : r ≡ indexingOf t (length before)
-  pub room : length behind ≡ length before
-  pub found : Found t behind r
+  pub room : length after ≡ length before
+  pub found : Found t after r
+  pub rest : Rest before after r

@@ -1,7 +1,6 @@
--- What the code of the mailbox table means in terms of document 01's definitions. Slashes and Collect serve this crate alone.
+-- What the code of the mailbox table means in terms of document 01's definitions. Collect serves this crate alone.
 pub mod Words
 pub mod Shared
 pub mod Index
 pub mod Below
-pub mod Slashes
 pub mod Collect

@@ -2,15 +2,16 @@
 use super::Indexing;
 use super::MAX_ROWS;
 use super::flags::Flags;
-use super::names::lawful_name;
 use super::rows::Row;
+use names::lawful_name;
+use octets::least;
 use octets::wide;
 ghost use mathlib.Core.Path.{_≡_};
-ghost use Prim.Native.Nat.{_+_, _*_, _≤_, min};
+ghost use Prim.Native.Nat.{_+_, _*_, _≤_};
 ghost use lib.ListN.{length};
 ghost use Rattle.listing_rules.specs.Orders.{byteOrder, isLt};
 ghost use Rattle.mailbox_table.specs.Shared.{sharedLen};
-ghost use Rattle.mailbox_table.specs.Collect.{stepAt, Placed, Collects};
+ghost use Rattle.mailbox_table.specs.Collect.{stepAt, Placed, collectedOf, Collects};
 
 // Flags and length come before a name.
 const HEAD: usize = 3;
@@ -24,9 +25,10 @@ enum Step {
 // The rows of the table as words, if they fill it exactly, are no more than there is room for, are lawful and ascend.
 pub(crate) fn collect_rows(table: &[u8], words: &mut [u64]) -> Indexing
     requires { ⌜ length (now table) ≤ 32768 ⌝ }
-    ensures { λ r. ⌜ Collects (now (table .entry)) (now (words .entry)) (now (words .exit)) r ⌝ }
+    ensures { λ r. ⌜ Collects (now (table .entry)) (now (words .entry)) (now (words .exit))
+        (collectedOf (now (table .entry)) (length (now (words .entry)))) r ⌝ }
 {
-    let limit = lesser(words.len(), MAX_ROWS);
+    let limit = least(words.len(), MAX_ROWS);
     let mut n = 0;
     let mut from = 0;
     let mut at = 0;
@@ -90,18 +92,11 @@ fn pair(high: u8, low: u8) -> u16
     256 * (high as u16) + (low as u16)
 }
 
-// The lesser of two numbers.
-fn lesser(a: usize, b: usize) -> usize
-    ensures { λ r. ⌜ r ≡ min a b ⌝ }
-{
-    if a < b { a } else { b }
-}
-
 // How many bytes the two begin with alike.
 fn common(a: &[u8], b: &[u8]) -> usize
     ensures { λ r. ⌜ r ≡ sharedLen (now (a .entry)) (now (b .entry)) ⌝ }
 {
-    let n = lesser(a.len(), b.len());
+    let n = least(a.len(), b.len());
     let mut i = 0;
     while i < n {
         if a[i] != b[i] {

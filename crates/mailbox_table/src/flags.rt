@@ -1,7 +1,7 @@
 // The flags of a row: a set of named members, bit by bit as document 01 numbers them.
 ghost use mathlib.Core.Path.{_≡_};
 ghost use Rattle.listing_rules.specs.Flags.{lawfulFlags, hasUse};
-ghost use Rattle.octets.specs.Sets.{contains, union};
+ghost use Rattle.octets.specs.Sets.{contains, union, touches};
 
 pub struct Flags {
     pub bits: u16,
@@ -39,13 +39,29 @@ impl Flags {
 
     pub const TRASH: Flags = Flags { bits: 16384 };
 
-    // The bits that no member has.
-    const BIT_7: Flags = Flags { bits: 128 };
+    // The seven special uses.
+    const USES: Flags = Flags {
+        bits: Flags::ALL.bits
+            | Flags::ARCHIVE.bits
+            | Flags::DRAFTS.bits
+            | Flags::FLAGGED.bits
+            | Flags::JUNK.bits
+            | Flags::SENT.bits
+            | Flags::TRASH.bits,
+    };
 
-    const BIT_15: Flags = Flags { bits: 32768 };
-
-    // The seven special uses, ALL to TRASH.
-    const USES: u16 = 32512;
+    // The bits that no member has, 7 and 15.
+    const UNNAMED: Flags = Flags {
+        bits: u16::MAX
+            ^ (Flags::EXISTS.bits
+                | Flags::SUBSCRIBED.bits
+                | Flags::REMOTE.bits
+                | Flags::NO_SELECT.bits
+                | Flags::NO_INFERIORS.bits
+                | Flags::MARKED.bits
+                | Flags::UNMARKED.bits
+                | Flags::USES.bits),
+    };
 
     // What is in either set.
     pub fn union(self, other: Flags) -> Flags
@@ -63,21 +79,27 @@ impl Flags {
         self.bits & members.bits == members.bits
     }
 
+    // Whether some of these members are in the set.
+    fn has_some(self, members: Flags) -> bool
+        ensures { λ r. ⌜ r ≡ touches (self .bits) (members .bits) ⌝ }
+    {
+        self.bits & members.bits != Flags::NONE.bits
+    }
+
     // Whether some special use is in the set.
     pub fn has_use(self) -> bool
         ensures { λ r. ⌜ r ≡ hasUse (self .bits) ⌝ }
     {
-        self.bits & Flags::USES != 0
+        self.has_some(Flags::USES)
     }
 
     // Whether a row may have these flags.
     pub fn lawful(self) -> bool
         ensures { λ r. ⌜ r ≡ lawfulFlags (self .bits) ⌝ }
     {
-        let known = !self.has(Flags::BIT_7) & !self.has(Flags::BIT_15);
         // A row that does not exist is subscribed and nothing else.
         let stands = self.has(Flags::EXISTS) | (self.bits == Flags::SUBSCRIBED.bits);
         let both_marks = self.has(Flags::MARKED) & self.has(Flags::UNMARKED);
-        known & stands & !both_marks
+        !self.has_some(Flags::UNNAMED) & stands & !both_marks
     }
 }

@@ -1,4 +1,4 @@
-// The mailbox table of document 01: flags, names and rows, check 1, and an index of the rows.
+// The mailbox table of document 01: flags and rows, check 1, and an index of the rows.
 //
 // The table stays where the caller has it. The index is one number for each row (`rows::Row::word`), in memory that the caller
 // lends: where the row's name lies in the table, its flags, and how many bytes it shares with the name before. What works on
@@ -6,16 +6,16 @@
 mod collect;
 pub mod flags;
 mod inferiors;
-pub mod names;
 pub mod rows;
 pub mod scan;
 
 use collect::collect_rows;
 use inferiors::inferiors_pass;
 ghost use mathlib.Core.Path.{_≡_};
-ghost use lib.ListN.{replicate};
+ghost use lib.ListN.{length, replicate};
 ghost use Rattle.listing_rules.specs.Table.{passes};
-ghost use Rattle.mailbox_table.specs.Index.{Indexes};
+ghost use Rattle.mailbox_table.specs.Index.{indexingOf, Indexes};
+ghost use Rattle.mailbox_table.specs.Collect.{Collects};
 
 pub const MAX_ROWS: usize = 512;
 
@@ -40,9 +40,21 @@ pub fn check(table: &[u8]) -> bool
 }
 
 // Check 1, and the index of the rows at the front of `words`: with room for 512 words it fails exactly if the table does not
-// pass. What lies in `words` behind the rows, and all of it after Fails, is scratch, which the promise leaves open.
+// pass. The words after the rows stay as they were lent. Where it fails, every word is zero.
 pub fn index(table: &[u8], words: &mut [u64]) -> Indexing
     ensures { λ r. ⌜ Indexes (now (table .entry)) (now (words .entry)) (now (words .exit)) r ⌝ }
+{
+    let Indexing::Rows(n) = find_rows(table, words) else {
+        clear_words(words);
+        return Indexing::Fails;
+    };
+    Indexing::Rows(n)
+}
+
+// Check 1, and the index of the rows. Where it fails, the words are what the passes left.
+fn find_rows(table: &[u8], words: &mut [u64]) -> Indexing
+    ensures { λ r. ⌜ Collects (now (table .entry)) (now (words .entry)) (now (words .exit))
+        (indexingOf (now (table .entry)) (length (now (words .entry)))) r ⌝ }
 {
     if MAX_BYTES < table.len() {
         return Indexing::Fails;
@@ -54,6 +66,17 @@ pub fn index(table: &[u8], words: &mut [u64]) -> Indexing
         return Indexing::Fails;
     }
     Indexing::Rows(n)
+}
+
+// Zeros in all words.
+fn clear_words(words: &mut [u64])
+    ensures { λ _. ⌜ now (words .exit) ≡ replicate (length (now (words .entry))) 0 ⌝ }
+{
+    let mut i = 0;
+    while i < words.len() {
+        words[i] = 0;
+        i += 1;
+    }
 }
 
 // Room for the index of any table that passes.

@@ -1,6 +1,7 @@
 -- Classes that do not descend, with at most four entries each: one count is enough, which starts anew where the class rises.
+-- Rests on the library alone.
 use mathlib.Core.Path.{_≡_, refl, sym, ap, _∙_}
-use mathlib.Core.Bool.{Bool, true, false, cond, _&&_}
+use mathlib.Core.Bool.{Bool, true, false, cond, _&&_, and-false}
 use mathlib.Core.Logic.{_⊎_, inl, inr}
 use mathlib.Core.List.{List, [], _∷_}
 use Prim.Native.Nat.{ℕ, zero, suc, _+_, _≤_, _<_}
@@ -10,7 +11,7 @@ use lib.ListN.{length}
 use borrow.Author.Tests.{eq-eqb, ne-eqb, eqb-true, eqb-false, leb-true, le-leb, lt-leb}
 use Rattle.listing_rules.specs.Lists.{keep}
 use Rattle.listing_rules.specs.Namespaces.{Entry, classesRise, ofClass}
-use Rattle.namespace_list.proofs.Tests.{and-l, and-r, and-false}
+use Rattle.listing_rules.proofs.Bools.{and-l, and-r}
 
 -- what a count of k for the class c says of the class d: nothing was counted of any other class
 unfoldable pub held : ℕ → ℕ → ℕ → ℕ
@@ -102,7 +103,8 @@ module _ (c k : ℕ) (e : Entry) (es : List Entry) where
   unfolding classesRise orderly
   orderly-rise h g = rw (le-leb c (e .class) (omega arith)) (go (classesRise (e .class) es) refl)
     where
-      go : (o : Bool) → classesRise (e .class) es ≡ o → o && (few c k 0 (e ∷ es) && (few c k 1 (e ∷ es) && few c k 2 (e ∷ es))) ≡ o && (few (e .class) 1 0 es && (few (e .class) 1 1 es && few (e .class) 1 2 es))
+      go : (o : Bool) → classesRise (e .class) es ≡ o
+          → o && (few c k 0 (e ∷ es) && (few c k 1 (e ∷ es) && few c k 2 (e ∷ es))) ≡ o && (few (e .class) 1 0 es && (few (e .class) 1 1 es && few (e .class) 1 2 es))
       go true r = rw (few-rise 0 h g r, few-rise 1 h g r, few-rise 2 h g r)
       go false r = refl
 

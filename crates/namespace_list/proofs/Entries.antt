@@ -1,4 +1,4 @@
--- Entries of a packed list, at a place of it.
+-- Entries of a packed list, at a place of it. Rests on the laws of a class in Classes.
 use mathlib.Core.Path.{_≡_, refl, sym, ap, _∙_}
 use mathlib.Core.Bool.{true, false}
 use mathlib.Core.List.{List, [], _∷_}
@@ -75,7 +75,8 @@ module _ (l : List ℕ) (at : ℕ) (h : at < length l) where
       ∙ fill-first (getD l at 0) (drop (suc at) l) size (byte-behind l at 0 (at + 1) (omega arith))
 
   -- what the code reads at a place is the entry there
-  pub entry-here : (e : Entry) → e .class ≡ getD l at 0 → e .start ≡ min (at + 2) (length l) → e .end ≡ min (at + 2 + getD l (at + 1) 0) (length l) → e .delimiter ≡ getD l (at + 2 + getD l (at + 1) 0) 0 → e .next ≡ at + 3 + getD l (at + 1) 0 → EntryAt l at e
+  pub entry-here : (e : Entry) → e .class ≡ getD l at 0 → e .start ≡ min (at + 2) (length l) → e .end ≡ min (at + 2 + getD l (at + 1) 0) (length l)
+      → e .delimiter ≡ getD l (at + 2 + getD l (at + 1) 0) 0 → e .next ≡ at + 3 + getD l (at + 1) 0 → EntryAt l at e
   entry-here e c s z d n =
       record {
         ordered = omega arith;

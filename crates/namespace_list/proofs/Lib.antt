@@ -1,5 +1,4 @@
 -- Laws of entries, of their classes, of check 2 from a place on, and of the line.
-pub mod Tests
 pub mod Classes
 pub mod Entries
 pub mod Passing

@@ -1,4 +1,4 @@
--- The text of a class, and of the whole answer.
+-- The text of a class, and of the whole answer. Rests on Entries.
 use mathlib.Core.Path.{_≡_, refl}
 use mathlib.Core.List.{List, [], _∷_, _++_, append-assoc}
 use Prim.Native.Nat.{ℕ, _≤_, _<_}
@@ -26,7 +26,8 @@ class-some [] h = absurd (omega arith)
 class-some (e ∷ es) h = refl
 
 -- the text of the entries of a class, at a place of the list
-pub text-here : {l : List ℕ} {at : ℕ} {e : Placed} → EntryAt l at e → (c : ℕ) → e .class ≡ c → entriesText (ofClass c (entries (drop at l))) ≡ entryText (meaning l e) ++ entriesText (ofClass c (entries (drop (e .next) l)))
+pub text-here : {l : List ℕ} {at : ℕ} {e : Placed} → EntryAt l at e → (c : ℕ) → e .class ≡ c
+    → entriesText (ofClass c (entries (drop at l))) ≡ entryText (meaning l e) ++ entriesText (ofClass c (entries (drop (e .next) l)))
 unfolding joined
 text-here f c g = rw (class-here f c g)
 

@@ -1,6 +1,6 @@
--- Check 2 from a place of the list on: one law for each way through the loop of `check`.
+-- Check 2 from a place of the list on: one law for each way through the loop of `check`. Rests on Entries and Classes.
 use mathlib.Core.Path.{_≡_, _∙_}
-use mathlib.Core.Bool.{Bool, true, false, _&&_, _||_}
+use mathlib.Core.Bool.{Bool, true, false, _&&_, _||_, and-false, and-assoc}
 use mathlib.Core.List.{List, _∷_}
 use Prim.Native.Nat.{ℕ, _+_, _≤_, _<_}
 use native.Mathlib.Nat.{zero-add}
@@ -12,9 +12,9 @@ use Rattle.listing_rules.specs.Bytes.{all, within}
 use Rattle.listing_rules.specs.Lists.{every}
 use Rattle.listing_rules.specs.Namespaces as rules
 use Rattle.listing_rules.specs.Namespaces.{entries, entriesFill, lawfulEntry, namespacesPass}
+use Rattle.listing_rules.proofs.Bools.{and-l}
 use Rattle.namespace_list.specs.declared.Entry.{Entry}
 use Rattle.namespace_list.specs.Entries.{meaning, EntryAt}
-use Rattle.namespace_list.proofs.Tests.{and-l, and-false, and-assoc}
 use Rattle.namespace_list.proofs.Classes.{held, few, orderly, orderly-same, orderly-rise, orderly-fall, orderly-full, orderly-end}
 use Rattle.namespace_list.proofs.Entries.{entries-end, fill-end, fill-next, fill-past}
 

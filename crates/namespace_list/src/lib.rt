@@ -5,12 +5,13 @@
 // behind the list's end is NIL.
 
 use octets::byte_at;
+use octets::least;
 use octets::put;
 use octets::put_all;
 use octets::put_quoted;
 use octets::wide;
 ghost use mathlib.Core.Path.{_≡_};
-ghost use Prim.Native.Nat.{_<_, min};
+ghost use Prim.Native.Nat.{_<_};
 ghost use lib.ListN.{length};
 ghost use Rattle.listing_rules.specs.Bytes.{all, within};
 ghost use Rattle.listing_rules.specs.Namespaces.{entries, lawfulEntry, ofClass, namespacesPass};
@@ -104,12 +105,6 @@ fn entry_at(list: &[u8], at: usize) -> Entry
     }
 }
 
-fn least(a: usize, b: usize) -> usize
-    ensures { λ r. ⌜ r ≡ min a b ⌝ }
-{
-    if a <= b { a } else { b }
-}
-
 // "class (0 personal, 1 other users, 2 shared), prefix length 0 to 64, prefix of bytes 20 to 7E, delimiter (0 for NIL, or 21 to 7E)"
 fn is_lawful(class: u8, prefix: &[u8], delimiter: u8) -> bool
     ensures { λ r. ⌜ r ≡ lawfulEntry (entryOf class (now (prefix .entry)) delimiter) ⌝ }
@@ -124,10 +119,8 @@ fn is_printable(s: &[u8]) -> bool
 {
     let mut i = 0;
     while i < s.len() {
-        if s[i] < FIRST_PRINTED {
-            return false;
-        }
-        if LAST_PRINTED < s[i] {
+        let b = s[i];
+        if !((FIRST_PRINTED <= b) & (b <= LAST_PRINTED)) {
             return false;
         }
         i += 1;

@@ -1,13 +1,14 @@
--- Laws of writes: a run of them is one write of the bytes joined, and a write at the front that fits is the bytes and what lay behind.
+-- Laws of writes: a run of them is one write of the bytes joined, in a loop too, and a write at the front that fits is the bytes and what
+-- lay after them. Rests on the library's laws of `sets`.
 use mathlib.Core.Path.{_≡_, refl, sym, ap, _∙_}
-use mathlib.Core.List.{List, [], _∷_, _++_}
+use mathlib.Core.List.{List, [], _∷_, _++_, append-assoc, append-nil}
 use mathlib.Core.Logic.{_⊎_, inl, inr, ⊎-elim}
-use Prim.Native.Nat.{ℕ, zero, suc, _+_, _-_, _≤_, _<_, _^_, min}
+use Prim.Native.Nat.{ℕ, suc, _+_, _-_, _≤_, _<_, _^_, min}
 use native.Mathlib.Nat.{zero-add, add-zero, add-suc, suc-add}
 use native.Mathlib.Decide.{decLe}
 use native.Mathlib.Numerals.{add-one}
 use native.Mathlib.Omega.{arith}
-use lib.ListN.{length, set, length-set, length-append, take, getD, drop, length-take, take-append-drop}
+use lib.ListN.{length, set, length-append, take, getD, drop, take-append-drop}
 use lib.Seq.{sets, length-sets, set-out, take-suc, take-all, sets-eq, length-take-le}
 use Rattle.octets.specs.Put.{Put}
 
@@ -69,6 +70,31 @@ module _ {d e : List ℕ} {at : ℕ} {xs : List ℕ} {r : ℕ} where
 -- nothing written yet
 pub put-none : (d : List ℕ) (at : ℕ) → length d + 1 < 2 ^ 64 → at < 2 ^ 64 → Put d d at [] at
 put-none d at h g = record { fits = h; place = omega arith; bytes = refl }
+
+-- A loop that writes the whole piece by piece: some of it is written, and `rest` is left.
+pub record Putting (d e : List ℕ) (at : ℕ) (whole rest : List ℕ) (to : ℕ) : Type 0 where
+  pub written : List ℕ
+  pub put : Put d e at written to
+  pub joined : written ++ rest ≡ whole
+
+pub putting-none : (d : List ℕ) (at : ℕ) (whole : List ℕ) → length d + 1 < 2 ^ 64 → at < 2 ^ 64 → Putting d d at whole whole at
+putting-none d at whole h g = record { written = []; put = put-none d at h g; joined = refl }
+
+module _ {d e : List ℕ} {at : ℕ} {whole rest : List ℕ} {to : ℕ} (p : Putting d e at whole rest to) where
+  pub putting-more : {f piece more : List ℕ} {r : ℕ} → rest ≡ piece ++ more → Put e f to piece r → Putting d f at whole more r
+  putting-more {f} {piece} {more} q w =
+      record {
+        written = p .written ++ piece;
+        put = put-then (p .put) w;
+        joined = append-assoc (p .written) piece more ∙ ap (λ (x : List ℕ). p .written ++ x) (sym q) ∙ p .joined;
+      }
+
+  -- what is left, told in another way
+  pub putting-on : {more : List ℕ} → rest ≡ more → Putting d e at whole more to
+  putting-on q = record { written = p .written; put = p .put; joined = ap (λ (x : List ℕ). p .written ++ x) (sym q) ∙ p .joined }
+
+  pub putting-all : rest ≡ [] → Put d e at whole to
+  putting-all q = rw (← p .joined, q, append-nil (p .written)) (p .put)
 
 -- a write at the front that fits
 pub front : (d vs : List ℕ) → length vs ≤ length d → sets d 0 vs ≡ vs ++ drop (length vs) d

@@ -1,10 +1,10 @@
 -- Two runs compared byte by byte, and a run compared in any case of letters: what is left from a place on decides.
+-- Rests on the library alone.
 use mathlib.Core.Path.{_≡_, refl, sym, ap, _∙_}
 use mathlib.Core.Bool.{Bool, true, false, _&&_}
 use mathlib.Core.List.{List, [], _∷_}
-use Prim.Native.Nat.{ℕ, zero, suc, _+_, _≤_, _<_}
+use Prim.Native.Nat.{ℕ, suc, _+_, _≤_, _<_}
 use native.Mathlib.Numerals.{add-one}
-use native.Mathlib.Omega.{arith}
 use lib.Dec.{eqb}
 use lib.ListN.{length, drop, getD, drop-of-length-le}
 use lib.Seq.{drop-cons}
@@ -23,14 +23,14 @@ same-lengths (x ∷ xs) (y ∷ ys) h = go (eqb x y) (same-lengths xs ys (λ e. h
     go true e = e
     go false e = refl
 
-length-raised : (s : List ℕ) → length (raised s) ≡ length s
+pub raised-length : (s : List ℕ) → length (raised s) ≡ length s
 unfolding raised
-length-raised [] = refl
-length-raised (b ∷ t) = ap suc (length-raised t)
+raised-length [] = refl
+raised-length (b ∷ t) = ap suc (raised-length t)
 
 pub spells-lengths : (s w : List ℕ) → (length s ≡ length w → ⊥) → spells s w ≡ false
 unfolding spells
-spells-lengths s w h = same-lengths (raised s) w (λ e. h (sym (length-raised s) ∙ e))
+spells-lengths s w h = same-lengths (raised s) w (λ e. h (sym (raised-length s) ∙ e))
 
 module _ (a b : List ℕ) (i : ℕ) where
   pub same-step : i < length a → i < length b → getD a i 0 ≡ getD b i 0 → same (drop i a) (drop i b) ≡ same (drop (i + 1) a) (drop (i + 1) b)

@@ -1,8 +1,8 @@
--- A blank row: where no tail of the name matches a rest of the pattern, none matches the pattern.
+-- A blank row: where no tail of the name matches a rest of the pattern, none matches the pattern. Rests on Folded.
 use mathlib.Core.Path.{_≡_, refl, sym, _∙_}
-use mathlib.Core.Bool.{Bool, true, false, cond, not, _&&_, _||_, and-false, false≢true}
+use mathlib.Core.Bool.{Bool, true, false, cond, not, _||_, and-false}
 use mathlib.Core.List.{List, [], _∷_}
-use Prim.Native.Nat.{ℕ, zero, suc, _+_, _-_, _≤_, _<_}
+use Prim.Native.Nat.{ℕ, zero, suc, _+_, _≤_, _<_}
 use native.Mathlib.Decide.{decLe}
 use native.Mathlib.Numerals.{add-one}
 use native.Mathlib.Omega.{arith}
@@ -11,9 +11,10 @@ use lib.ListN.{length, drop, getD, length-drop}
 use lib.Seq.{drop-drop}
 use Rattle.listing_rules.specs.Bytes.{slash}
 use Rattle.listing_rules.specs.Match.{anyTail, anyTailInLevel, headThen, wildMatch}
-use Rattle.pattern.specs.Folded.{letterOf, folded}
+use Rattle.listing_rules.proofs.Bools.{or-none-l, or-none-r}
+use Rattle.pattern.specs.Folded.{folded}
 use Rattle.pattern.specs.Rows.{RowOf, Blank, oneByte}
-use Rattle.pattern.proofs.Folded.{folded-at}
+use Rattle.pattern.proofs.Folded.{letterAt, matchFrom, folded-at}
 
 -- f passes no tail of n
 abbrev pub Dead : (List ℕ → Bool) → List ℕ → Type 0
@@ -47,29 +48,32 @@ one-dead p f n d = rw (star-dead f n d, level-dead f n d, byte-dead p f n d) (ne
 dead-tail : (f : List ℕ → Bool) (n : List ℕ) (k : ℕ) → k ≤ length n → Dead f n → Dead f (drop k n)
 dead-tail f n k h d = λ j g. rw (drop-drop j k n) (d (k + j) (omega (arith, length-drop k n)))
 
-before : (fold : Bool) (pattern : List ℕ) (i : ℕ) (n : List ℕ) → i < length pattern → wildMatch (folded fold (drop i pattern)) n ≡ oneByte (letterOf fold (getD pattern i 0)) (wildMatch (folded fold (drop (i + 1) pattern))) n
+before : (fold : Bool) (pattern : List ℕ) (i : ℕ) (n : List ℕ) → i < length pattern → matchFrom fold pattern i n ≡ oneByte (letterAt fold pattern i) (matchFrom fold pattern (i + 1)) n
 unfolding wildMatch oneByte
 before fold pattern i n h = rw (folded-at fold pattern i h)
 
-pub dead-whole : (fold : Bool) (pattern name : List ℕ) (i : ℕ) → i ≤ length pattern → Dead (wildMatch (folded fold (drop i pattern))) name → wildMatch (folded fold pattern) name ≡ false
+pub dead-whole : (fold : Bool) (pattern name : List ℕ) (i : ℕ) → i ≤ length pattern → Dead (matchFrom fold pattern i) name → wildMatch (folded fold pattern) name ≡ false
 dead-whole fold pattern name zero h d = d 0 (omega arith)
-dead-whole fold pattern name (suc i) h d = dead-whole fold pattern name i (omega arith) (λ k g. before fold pattern i (drop k name) (omega arith) ∙ one-dead (letterOf fold (getD pattern i 0)) (wildMatch (folded fold (drop (i + 1) pattern))) (drop k name) (dead-tail (wildMatch (folded fold (drop (i + 1) pattern))) name k g (rw (add-one i) d)))
+dead-whole fold pattern name (suc i) h d = dead-whole fold pattern name i (omega arith) earlier
+  where
+    later : List ℕ → Bool
+    later = matchFrom fold pattern (i + 1)
+
+    earlier : Dead (matchFrom fold pattern i) name
+    earlier k g =
+        before fold pattern i (drop k name) (omega arith) ∙ one-dead (letterAt fold pattern i) later (drop k name) (dead-tail later name k g (rw (add-one i) d))
 
 -- the row of a rest of the pattern is blank
-pub blank-whole : (fold : Bool) (pattern name : List ℕ) (i : ℕ) (row : List Bool) → i ≤ length pattern → RowOf (wildMatch (folded fold (drop i pattern))) name row → Blank (length name) row → false ≡ wildMatch (folded fold pattern) name
+pub blank-whole : (fold : Bool) (pattern name : List ℕ) (i : ℕ) (row : List Bool) → i ≤ length pattern
+    → RowOf (matchFrom fold pattern i) name row → Blank (length name) row → false ≡ wildMatch (folded fold pattern) name
 blank-whole fold pattern name i row h m b = sym (dead-whole fold pattern name i h (λ k g. sym (m .says k g) ∙ b k g))
 
 -- one place more
-or-left : (a b : Bool) → (a || b) ≡ false → a ≡ false
-or-left true b e = e
-or-left false b e = refl
-
-or-right : (a b : Bool) → (a || b) ≡ false → b ≡ false
-or-right true b e = absurd (false≢true (sym e))
-or-right false b e = e
-
 abbrev pub BlankBelow : ℕ → List Bool → Type 0
 BlankBelow j row = (k : ℕ) → k < j → getD row k false ≡ false
 
 pub below-more : (row : List Bool) (j : ℕ) (a : Bool) → (a ≡ false → BlankBelow j row) → (a || getD row j false) ≡ false → BlankBelow (j + 1) row
-below-more row j a h e = λ k g. elim (decLe (suc k) j) [ yes l ↦ h (or-left a (getD row j false) e) k (omega arith) | no l ↦ (let w : k ≡ j = omega arith in rw w (or-right a (getD row j false) e)) ]
+below-more row j a h e = λ k g. elim (decLe (suc k) j) [
+  | yes l ↦ h (or-none-l a (getD row j false) e) k (omega arith)
+  | no l ↦ (let w : k ≡ j = omega arith in rw w (or-none-r a (getD row j false) e))
+]

@@ -1,4 +1,4 @@
--- Patterns that count, one by one over a packed run.
+-- Patterns that count, one by one over a packed run. Rests on Packed and Folded.
 use mathlib.Core.Path.{_≡_, refl, sym, ap, _∙_}
 use mathlib.Core.Bool.{Bool, true, false, cond, _&&_, _||_, not, false≢true}
 use mathlib.Core.List.{List, [], _∷_}
@@ -52,32 +52,54 @@ chosen-in true true e w f h = rw (← f)
 chosen-in true false e w f h = absurd (false≢true (sym h))
 chosen-in false b e w f h = refl
 
--- a match is one of the first pattern, if that counts, or of one behind it
-chosen-step : (levels : Bool) (p : List ℕ) (ps : List (List ℕ)) (n : List ℕ) → matchesAny (chosen levels (p ∷ ps)) n ≡ (((not levels || endsInPercent p) && matches p n) || matchesAny (chosen levels ps) n)
+-- a match is one of the first pattern, if that counts, or of one after it
+chosen-step : (levels : Bool) (p : List ℕ) (ps : List (List ℕ)) (n : List ℕ)
+    → matchesAny (chosen levels (p ∷ ps)) n ≡ (((not levels || endsInPercent p) && matches p n) || matchesAny (chosen levels ps) n)
 unfolding matchesAny anyOf chosen keep
 chosen-step false p ps n = refl
 chosen-step true p ps n = go (endsInPercent p)
   where
-    go : (b : Bool) → anyOf (λ q. matches q n) (cond b (p ∷ keep endsInPercent ps) (keep endsInPercent ps)) ≡ ((b && matches p n) || anyOf (λ q. matches q n) (keep endsInPercent ps))
+    rest : List (List ℕ)
+    rest = keep endsInPercent ps
+
+    go : (b : Bool) → anyOf (λ q. matches q n) (cond b (p ∷ rest) rest) ≡ ((b && matches p n) || anyOf (λ q. matches q n) rest)
     go true = refl
     go false = refl
 
--- the pattern at a place of the run, and those behind it
+-- the pattern at a place of the run decides, or those after it
 module _ (l : List ℕ) (at e : ℕ) (h : at < length l) (q : e ≡ min (at + 1 + getD l at 0) (length l)) where
   abbrev item : List ℕ
   item = take (e - (at + 1)) (drop (at + 1) l)
 
-  pub match-next : (levels : Bool) (name : List ℕ) (fold : Bool) → fold ≡ same name inbox → (b : Bool) → b ≡ ((not levels || endsInPercent item) && wildMatch (folded fold item) name) → matchesAny (chosen levels (unpacked (drop at l))) name ≡ (b || matchesAny (chosen levels (unpacked (drop e l))) name)
-  match-next levels name fold i b f =
-      ap (λ (ps : List (List ℕ)). matchesAny (chosen levels ps) name) (unpacked-next l at e h q)
-      ∙ chosen-step levels item (unpacked (drop e l)) name
-      ∙ ap (λ (x : Bool). x || matchesAny (chosen levels (unpacked (drop e l))) name) (sym (f ∙ ap (λ (m : Bool). (not levels || endsInPercent item) && m) (matches-folded fold item name i)))
+  module _ (levels : Bool) (name : List ℕ) (fold : Bool) (i : fold ≡ same name inbox) (b : Bool) (f : b ≡ ((not levels || endsInPercent item) && wildMatch (folded fold item) name)) where
+    abbrev later : Bool
+    later = matchesAny (chosen levels (unpacked (drop e l))) name
 
-  pub percent-next : (b : Bool) → b ≡ endsInPercent item → anyOf endsInPercent (unpacked (drop at l)) ≡ (b || anyOf endsInPercent (unpacked (drop e l)))
-  unfolding anyOf
-  percent-next b f = ap (anyOf endsInPercent) (unpacked-next l at e h q) ∙ ap (λ (x : Bool). x || anyOf endsInPercent (unpacked (drop e l))) (sym f)
+    match-next : matchesAny (chosen levels (unpacked (drop at l))) name ≡ (b || later)
+    match-next =
+        ap (λ (ps : List (List ℕ)). matchesAny (chosen levels ps) name) (unpacked-next l at e h q)
+        ∙ chosen-step levels item (unpacked (drop e l)) name
+        ∙ ap (λ (x : Bool). x || later) (sym (f ∙ ap (λ (m : Bool). (not levels || endsInPercent item) && m) (matches-folded fold item name i)))
 
--- behind the last there is none
+    pub match-here : b ≡ true → matchesAny (chosen levels (unpacked (drop at l))) name ≡ true
+    match-here g = match-next ∙ ap (λ (x : Bool). x || later) g
+
+    pub match-later : b ≡ false → matchesAny (chosen levels (unpacked (drop at l))) name ≡ matchesAny (chosen levels (unpacked (drop e l))) name
+    match-later g = match-next ∙ ap (λ (x : Bool). x || later) g
+
+  module _ (b : Bool) (f : b ≡ endsInPercent item) where
+    percent-next : anyOf endsInPercent (unpacked (drop at l)) ≡ (b || anyOf endsInPercent (unpacked (drop e l)))
+    unfolding anyOf
+    percent-next =
+        ap (anyOf endsInPercent) (unpacked-next l at e h q) ∙ ap (λ (x : Bool). x || anyOf endsInPercent (unpacked (drop e l))) (sym f)
+
+    pub percent-here : b ≡ true → anyOf endsInPercent (unpacked (drop at l)) ≡ true
+    percent-here g = percent-next ∙ ap (λ (x : Bool). x || anyOf endsInPercent (unpacked (drop e l))) g
+
+    pub percent-later : b ≡ false → anyOf endsInPercent (unpacked (drop at l)) ≡ anyOf endsInPercent (unpacked (drop e l))
+    percent-later g = percent-next ∙ ap (λ (x : Bool). x || anyOf endsInPercent (unpacked (drop e l))) g
+
+-- after the last there is none
 module _ (l : List ℕ) (at : ℕ) (h : length l ≤ at) where
   pub match-end : (levels : Bool) (name : List ℕ) → matchesAny (chosen levels (unpacked (drop at l))) name ≡ false
   unfolding matchesAny anyOf chosen keep

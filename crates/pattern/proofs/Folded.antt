@@ -1,37 +1,26 @@
--- A pattern's bytes as they are compared: `letterOf` byte by byte, `folded` for the whole; and the test for INBOX.
+-- A pattern's bytes as they are compared: `letterOf` byte by byte, `folded` for the whole. Rests on the definitions alone.
 use mathlib.Core.Path.{_≡_, refl, ap}
-use mathlib.Core.Bool.{Bool, true, false, cond, _&&_, and-assoc, and-true, and-false}
+use mathlib.Core.Bool.{Bool, true, false, cond, _&&_}
 use mathlib.Core.List.{List, [], _∷_}
-use Prim.Native.Nat.{ℕ, _+_, _-_, _≤_, _<_}
+use Prim.Native.Nat.{ℕ, _+_, _≤_, _<_}
 use native.Mathlib.Numerals.{add-one}
-use native.Mathlib.Omega.{arith}
-use lib.Dec.{eqb, leb}
+use lib.Dec.{leb}
 use lib.ListN.{length, drop, getD}
 use lib.Seq.{drop-cons}
 use borrow.Author.Tests.{le-leb, lt-leb}
-use Rattle.listing_rules.specs.Bytes.{text, within, raise, raised, same}
+use Rattle.listing_rules.specs.Bytes.{raise, raised, same}
 use Rattle.listing_rules.specs.Names.{inbox}
 use Rattle.listing_rules.specs.Match.{wildMatch, matches}
 use Rattle.pattern.specs.Folded.{letterOf, folded}
 
--- the letters of a byte that is not raised, of one outside a to z, and of one in it
+-- a byte that stands as it is, and one that is raised
 pub letter-plain : (fold : Bool) (p : ℕ) → fold ≡ false → letterOf fold p ≡ p
 unfolding letterOf
 letter-plain fold p e = rw e
 
-pub letter-low : (fold : Bool) (p : ℕ) → p < 97 → letterOf fold p ≡ p
-unfolding letterOf raise within
-letter-low true p h = rw (lt-leb 97 p h)
-letter-low false p h = refl
-
-pub letter-high : (fold : Bool) (p : ℕ) → 122 < p → letterOf fold p ≡ p
-unfolding letterOf raise within
-letter-high true p h = rw (le-leb 97 p (omega arith), lt-leb p 122 h)
-letter-high false p h = refl
-
-pub letter-raised : (fold : Bool) (p : ℕ) → fold ≡ true → 97 ≤ p → p ≤ 122 → letterOf fold p ≡ p - 32
-unfolding letterOf raise within
-letter-raised fold p e h g = rw (e, le-leb 97 p h, le-leb p 122 g)
+pub letter-raised : (fold : Bool) (p : ℕ) → fold ≡ true → letterOf fold p ≡ raise p
+unfolding letterOf
+letter-raised fold p e = rw e
 
 -- byte by byte is the whole
 pub folded-is : (fold : Bool) (p : List ℕ) → folded fold p ≡ cond fold (raised p) p
@@ -46,27 +35,12 @@ pub folded-at : (fold : Bool) (p : List ℕ) (i : ℕ) → i < length p → fold
 unfolding folded
 folded-at fold p i h = rw (add-one, drop-cons p i 0 h)
 
--- the name of five bytes is INBOX if each is; no other is
-pub inbox-bytes : (n : List ℕ) → length n ≡ 5 → (eqb (getD n 0 0) 73 && eqb (getD n 1 0) 78 && eqb (getD n 2 0) 66 && eqb (getD n 3 0) 79 && eqb (getD n 4 0) 88) ≡ same n inbox
-unfolding same inbox text
-inbox-bytes [] h = absurd (omega arith)
-inbox-bytes (a ∷ []) h = absurd (omega arith)
-inbox-bytes (a ∷ b ∷ []) h = absurd (omega arith)
-inbox-bytes (a ∷ b ∷ c ∷ []) h = absurd (omega arith)
-inbox-bytes (a ∷ b ∷ c ∷ d ∷ []) h = absurd (omega arith)
-inbox-bytes (a ∷ b ∷ c ∷ d ∷ e ∷ []) h = simp (and-assoc, and-true)
-inbox-bytes (a ∷ b ∷ c ∷ d ∷ e ∷ f ∷ t) h = absurd (omega arith)
+-- the byte at a place of the pattern as it is compared, and whether a name matches the pattern from there on
+abbrev pub letterAt : Bool → List ℕ → ℕ → ℕ
+letterAt fold p i = letterOf fold (getD p i 0)
 
-same-length : (m n : List ℕ) → (length m ≡ length n → ⊥) → same m n ≡ false
-unfolding same
-same-length [] [] h = absurd (h refl)
-same-length [] (y ∷ n) h = refl
-same-length (x ∷ m) [] h = refl
-same-length (x ∷ m) (y ∷ n) h = rw (same-length m n (λ e. h (omega arith)), and-false (eqb x y))
-
-pub inbox-length : (n : List ℕ) → (length n ≡ 5 → ⊥) → same n inbox ≡ false
-unfolding inbox text
-inbox-length n h = same-length n inbox h
+abbrev pub matchFrom : Bool → List ℕ → ℕ → List ℕ → Bool
+matchFrom fold p i = wildMatch (folded fold (drop i p))
 
 -- a match is one against the folded pattern
 pub matches-folded : (fold : Bool) (p n : List ℕ) → fold ≡ same n inbox → wildMatch (folded fold p) n ≡ matches p n

@@ -1,6 +1,5 @@
--- Items of a packed run: the item at a place, and that what was packed is unpacked.
+-- Items of a packed run: the item at a place, and that what was packed is unpacked. Rests on the library alone.
 use mathlib.Core.Path.{_≡_, refl, ap, _∙_}
-use mathlib.Core.Bool.{true, false}
 use mathlib.Core.List.{List, [], _∷_, _++_}
 use Prim.Native.Nat.{ℕ, zero, suc, _+_, _-_, _≤_, _<_, min}
 use native.Mathlib.Decide.{decLe}
@@ -23,7 +22,7 @@ pub unpacked-none : unpacked [] ≡ []
 unfolding unpacked unpackedAfter
 unpacked-none = refl
 
--- the first item, and those behind it
+-- the first item, and those after it
 pub unpacked-first : (n : ℕ) (t : List ℕ) → unpacked (n ∷ t) ≡ take n t ∷ unpacked (drop n t)
 unfolding unpacked unpackedAfter
 unpacked-first n t = ap (λ (r : List (List ℕ)). take n t ∷ r) (unpacked-drop n t)
@@ -32,17 +31,21 @@ unpacked-first n t = ap (λ (r : List (List ℕ)). take n t ∷ r) (unpacked-dro
 pub unpacked-at : (l : List ℕ) (at : ℕ) → at < length l → unpacked (drop at l) ≡ take (getD l at 0) (drop (at + 1) l) ∷ unpacked (drop (at + 1 + getD l at 0) l)
 unpacked-at l at h = rw (add-one, drop-cons l at 0 h, ← drop-drop (getD l at 0) (suc at) l) (unpacked-first (getD l at 0) (drop (suc at) l))
 
--- the same, with the item's end as a loop over the run has it
-pub unpacked-next : (l : List ℕ) (at e : ℕ) → at < length l → e ≡ min (at + 1 + getD l at 0) (length l) → unpacked (drop at l) ≡ take (e - (at + 1)) (drop (at + 1) l) ∷ unpacked (drop e l)
+-- with the item's end as a loop over the run has it
+pub unpacked-next : (l : List ℕ) (at e : ℕ) → at < length l → e ≡ min (at + 1 + getD l at 0) (length l)
+    → unpacked (drop at l) ≡ take (e - (at + 1)) (drop (at + 1) l) ∷ unpacked (drop e l)
 unpacked-next l at e h q = unpacked-at l at h ∙ elim (decLe (at + 1 + getD l at 0) (length l)) [ yes g ↦ inside g | no g ↦ cut (omega arith) ]
   where
-    inside : at + 1 + getD l at 0 ≤ length l → Path (List (List ℕ)) (take (getD l at 0) (drop (at + 1) l) ∷ unpacked (drop (at + 1 + getD l at 0) l)) (take (e - (at + 1)) (drop (at + 1) l) ∷ unpacked (drop e l))
+    Same : Type 0
+    Same = take (getD l at 0) (drop (at + 1) l) ∷ unpacked (drop (at + 1 + getD l at 0) l) ≡ take (e - (at + 1)) (drop (at + 1) l) ∷ unpacked (drop e l)
+
+    inside : at + 1 + getD l at 0 ≤ length l → Same
     inside g =
         let w : e ≡ at + 1 + getD l at 0 = omega arith in
         let v : e - (at + 1) ≡ getD l at 0 = omega arith in
         rw (v, w)
 
-    cut : length l < at + 1 + getD l at 0 → Path (List (List ℕ)) (take (getD l at 0) (drop (at + 1) l) ∷ unpacked (drop (at + 1 + getD l at 0) l)) (take (e - (at + 1)) (drop (at + 1) l) ∷ unpacked (drop e l))
+    cut : length l < at + 1 + getD l at 0 → Same
     cut g =
         rw (
           take-all (getD l at 0) (drop (at + 1) l) (omega (arith, length-drop (at + 1) l)),

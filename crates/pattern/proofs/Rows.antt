@@ -2,7 +2,7 @@
 use mathlib.Core.Path.{_≡_, refl, sym, _∙_}
 use mathlib.Core.Bool.{Bool, true, false, not, _&&_, _||_}
 use mathlib.Core.List.{List, []}
-use Prim.Native.Nat.{ℕ, _+_, _≤_, _<_}
+use Prim.Native.Nat.{ℕ, _+_, _≤_, _<_, _-_}
 use native.Mathlib.Decide.{ℕ-discrete}
 use native.Mathlib.Numerals.{add-one}
 use native.Mathlib.Omega.{arith}
@@ -11,9 +11,9 @@ use lib.ListN.{length, drop, getD, set, length-set, replicate, length-replicate,
 use lib.Seq.{getD-set-same, getD-set-other, drop-cons, drop-length}
 use Rattle.listing_rules.specs.Bytes.{slash, isEmpty}
 use Rattle.listing_rules.specs.Match.{anyTail, anyTailInLevel, headThen, wildMatch}
-use Rattle.pattern.specs.Folded.{letterOf, folded}
+use Rattle.pattern.specs.Folded.{folded}
 use Rattle.pattern.specs.Rows.{RowOf, oneByte}
-use Rattle.pattern.proofs.Folded.{folded-at}
+use Rattle.pattern.proofs.Folded.{letterAt, matchFrom, folded-at}
 
 -- the row says what `f` says of each tail that begins below place j, and what `g` says of each other
 pub record Mixed (f g : List ℕ → Bool) (name : List ℕ) (j : ℕ) (row : List Bool) : Type 0 where
@@ -136,15 +136,23 @@ row-end name row e h = record {
     inner : (k : ℕ) → k ≤ length name → (k ≡ length name → ⊥) → getD (replicate 256 false) k false ≡ isEmpty (drop k name)
     inner k b q = let w : k < length name = omega arith in rw (drop-cons name k 0 w) (getD-replicate 256 k false false (omega arith))
 
-pub row-begin : (fold : Bool) (pattern name : List ℕ) (row : List Bool) → RowOf (wildMatch []) name row → RowOf (wildMatch (folded fold (drop (length pattern) pattern))) name row
+pub row-begin : (fold : Bool) (pattern name : List ℕ) (row : List Bool) → RowOf (wildMatch []) name row → RowOf (matchFrom fold pattern (length pattern)) name row
 unfolding folded
 row-begin fold pattern name row m = rw (drop-length pattern) m
 
 -- one byte more of the pattern
-pub row-step : (fold : Bool) (pattern name : List ℕ) (i : ℕ) (row : List Bool) → i < length pattern → RowOf (oneByte (letterOf fold (getD pattern i 0)) (wildMatch (folded fold (drop (i + 1) pattern)))) name row → RowOf (wildMatch (folded fold (drop i pattern))) name row
+row-step : (fold : Bool) (pattern name : List ℕ) (i : ℕ) (row : List Bool) → i < length pattern
+    → RowOf (oneByte (letterAt fold pattern i) (matchFrom fold pattern (i + 1))) name row → RowOf (matchFrom fold pattern i) name row
 unfolding wildMatch oneByte
 row-step fold pattern name i row h m = row-same (λ n. rw (folded-at fold pattern i h)) m
 
+-- the row of the pattern from i on, after the step for the byte before i
+pub row-before : (fold : Bool) (pattern name : List ℕ) (i p : ℕ) (row : List Bool) → 0 < i → i ≤ length pattern → p ≡ letterAt fold pattern (i - 1)
+    → RowOf (oneByte p (matchFrom fold pattern i)) name row → RowOf (matchFrom fold pattern (i - 1)) name row
+row-before fold pattern name i p row h g e m =
+    let w : i ≡ i - 1 + 1 = omega arith in
+    row-step fold pattern name (i - 1) row (omega arith) (rw (← e, ← w) m)
+
 -- the whole pattern, at the first place of the name
-pub row-whole : (fold : Bool) (pattern name : List ℕ) (row : List Bool) → RowOf (wildMatch (folded fold (drop 0 pattern))) name row → getD row 0 false ≡ wildMatch (folded fold pattern) name
+pub row-whole : (fold : Bool) (pattern name : List ℕ) (row : List Bool) → RowOf (matchFrom fold pattern 0) name row → getD row 0 false ≡ wildMatch (folded fold pattern) name
 row-whole fold pattern name row m = m .says 0 (omega arith)

@@ -2,7 +2,11 @@
 //
 // The byte run before the first wildcard is compared directly. A last wildcard is decided at once. What is left is decided by a
 // row of flags, one for each place of the name, computed from the last byte of the pattern to the first.
-
+use octets::SLASH;
+use octets::least;
+use octets::raised_byte;
+use octets::same_bytes;
+use octets::wide;
 ghost use mathlib.Core.Path.{_≡_};
 ghost use mathlib.Core.Bool.{Bool, true, false, _&&_, _||_, not};
 ghost use mathlib.Core.List.{List, []};
@@ -92,34 +96,19 @@ fn chosen_match(pattern: &[u8], levels: bool, name: &[u8], fold: bool) -> bool
     wild_match(pattern, name, fold)
 }
 
-// Where the item at this place of a packed run ends: behind its bytes, or where the run ends.
+// Where the item at this place of a packed run ends: after its bytes, or where the run ends.
 fn item_end(run: &[u8], at: usize) -> usize
     requires { ⌜ at < length (now run) ⌝ }
     ensures { λ r. ⌜ r ≡ min (at + 1 + getD (now (run .entry)) at 0) (length (now (run .entry))) ⌝ }
 {
-    let left = run.len() - at - 1;
-    let n = wide(run[at]);
-    if n < left { at + 1 + n } else { run.len() }
-}
-
-fn wide(b: u8) -> usize
-    ensures { λ r. ⌜ r ≡ b ⌝ }
-{
-    b as usize
+    at + 1 + least(wide(run[at]), run.len() - at - 1)
 }
 
 // Whether the name is INBOX, in capitals.
 fn is_inbox(name: &[u8]) -> bool
     ensures { λ r. ⌜ r ≡ same (now (name .entry)) inbox ⌝ }
 {
-    if name.len() != 5 {
-        return false;
-    }
-    (name[0] == b'I')
-        & (name[1] == b'N')
-        & (name[2] == b'B')
-        & (name[3] == b'O')
-        & (name[4] == b'X')
+    same_bytes(name, b"INBOX")
 }
 
 // A pattern's byte as it is compared: raised if `fold` is set.
@@ -129,13 +118,7 @@ fn letter(p: u8, fold: bool) -> u8
     if !fold {
         return p;
     }
-    if p < b'a' {
-        return p;
-    }
-    if b'z' < p {
-        return p;
-    }
-    p - 32
+    raised_byte(p)
 }
 
 // Whether the byte is "*" or "%".
@@ -207,7 +190,7 @@ fn is_one_level(name: &[u8]) -> bool
 {
     let mut i = 0;
     while i < name.len() {
-        if name[i] == b'/' {
+        if name[i] == SLASH {
             return false;
         }
         i += 1;
@@ -299,7 +282,7 @@ fn level_row(row: &mut [bool; 256], name: &[u8])
     let mut j = name.len();
     while 0 < j {
         j -= 1;
-        row[j] = row[j] | ((name[j] != b'/') & row[j + 1]);
+        row[j] = row[j] | ((name[j] != SLASH) & row[j + 1]);
     }
 }
 

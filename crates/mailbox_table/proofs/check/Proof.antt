@@ -26,13 +26,20 @@ enum-told-2 : tie.Need-enum-told-2
 enum-told-2 c = search needs
 
 returns : tie.Need-returns
-returns c = sym (index-held (subst (λ (r : Indexing). Indexes (c .before .before .before .before .before .before .before .args .table .now) (c .before .before .before .before .before .no-words .result) (c .before .before .before .index .last .1 .0) r) (c .enum-told .given .1) (c .before .before .before .index .ensures)) .table-passes)
+returns c =
+    let start = c .before .before .before .before .before .before .before in
+    let no-words = c .before .before .before .before .before .no-words in
+    let index = c .before .before .before .index in
+    sym (index-held (subst (λ (r : Indexing). Indexes (start .args .table .now) (no-words .result) (index .last .1 .0) r) (c .enum-told .given .1) (index .ensures)) .table-passes)
 
 returns-2 : tie.Need-returns-2
 returns-2 c =
+    let start = c .before .before .before .before .before .before .before in
+    let no-words = c .before .before .before .before .before .no-words in
+    let index = c .before .before .before .index in
     sym
-    (index-refused (omega (arith, ap length (c .before .before .before .before .before .no-words .ensures), length-replicate {A = ℕ} 512 0))
-    (subst (λ (r : Indexing). Indexes (c .before .before .before .before .before .before .before .args .table .now) (c .before .before .before .before .before .no-words .result) (c .before .before .before .index .last .1 .0) r) (c .enum-told2 .given .1) (c .before .before .before .index .ensures)))
+    (index-refused (omega (arith, ap length (no-words .ensures), length-replicate {A = ℕ} 512 0))
+    (subst (λ (r : Indexing). Indexes (start .args .table .now) (no-words .result) (index .last .1 .0) r) (c .enum-told2 .given .1) (index .ensures)))
 
 pub check-spec : {M : Type 1} → statement M
 check-spec =

@@ -1,4 +1,4 @@
--- `check` meets its contract, by the laws of Passing: the entries from `at` on decide, behind `count` entries of `class`.
+-- `check` meets its contract: the entries from `at` on decide, after `count` entries of `class`. By the laws of Passing.
 use mathlib.Core.Path.{_≡_, sym, _∙_}
 use mathlib.Core.Bool.{true}
 use Prim.Native.Nat.{_-_, _≤_}
@@ -25,7 +25,9 @@ entry-at-requires : tie.Need-entry-at-requires Inv-loop μ-loop
 entry-at-requires c κs = search needs
 
 returns : tie.Need-returns Inv-loop μ-loop
-returns c = sym (rest-past (c .before .before .before .before .loop .class) (c .before .before .before .before .loop .count) (c .before .before .before .loop-test .taken) (c .before .before .entry-at .ensures) (c .if1 .taken)) ∙ c .before .before .before .before .loop .inv .1
+returns c =
+    let turn = c .before .before .before .before .loop in
+    sym (rest-past (turn .class) (turn .count) (c .before .before .before .loop-test .taken) (c .before .before .entry-at .ensures) (c .if1 .taken)) ∙ turn .inv .1
 
 sub-is-lawful : tie.Need-sub-is-lawful Inv-loop μ-loop
 sub-is-lawful c = search needs
@@ -40,17 +42,33 @@ is-lawful-requires : tie.Need-is-lawful-requires Inv-loop μ-loop
 is-lawful-requires c κs = search needs
 
 returns-2 : tie.Need-returns-2 Inv-loop μ-loop
-returns-2 c = sym (rest-unlawful (c .before .before .before .before .before .before .before .loop .class) (c .before .before .before .before .before .before .before .loop .count) (c .before .before .before .before .before .before .loop-test .taken) (c .before .before .before .before .before .entry-at .ensures) (sym (c .before .is-lawful .ensures) ∙ not-true _ (c .if2 .taken))) ∙ c .before .before .before .before .before .before .before .loop .inv .1
+returns-2 c =
+    let turn = c .before .before .before .before .before .before .before .loop in
+    let inside = c .before .before .before .before .before .before .loop-test .taken in
+    let entry = c .before .before .before .before .before .entry-at .ensures in
+    sym (rest-unlawful (turn .class) (turn .count) inside entry (sym (c .before .is-lawful .ensures) ∙ not-true _ (c .if2 .taken))) ∙ turn .inv .1
 
--- behind the test for a lawful entry
-lawful : (c : tie.Else2 Inv-loop μ-loop) → lawfulEntry (meaning (c .before .before .before .before .before .before .before .before .before .args .list .now) (c .before .before .before .before .before .entry-at .result)) ≡ true
+-- after the test for a lawful entry
+lawful : (c : tie.Else2 Inv-loop μ-loop) →
+    let start = c .before .before .before .before .before .before .before .before .before in
+    lawfulEntry (meaning (start .args .list .now) (c .before .before .before .before .before .entry-at .result)) ≡ true
 lawful c = sym (c .before .is-lawful .ensures) ∙ not-false _ (c .if2 .left)
 
 returns-3 : tie.Need-returns-3 Inv-loop μ-loop
-returns-3 c = sym (rest-fall (c .before .before .before .before .before .before .before .before .before .loop .class) (c .before .before .before .before .before .before .before .before .before .loop .count) (c .before .before .before .before .before .before .before .before .loop-test .taken) (c .before .before .before .before .before .before .before .entry-at .ensures) (c .before .before .before .before .before .if1 .left) (lawful (c .before .before)) (c .if3 .taken)) ∙ c .before .before .before .before .before .before .before .before .before .loop .inv .1
+returns-3 c =
+    let turn = c .before .before .before .before .before .before .before .before .before .loop in
+    let inside = c .before .before .before .before .before .before .before .before .loop-test .taken in
+    let entry = c .before .before .before .before .before .before .before .entry-at .ensures in
+    let whole = c .before .before .before .before .before .if1 .left in
+    sym (rest-fall (turn .class) (turn .count) inside entry whole (lawful (c .before .before)) (c .if3 .taken)) ∙ turn .inv .1
 
 returns-4 : tie.Need-returns-4 Inv-loop μ-loop
-returns-4 c = sym (rest-full (c .before .before .before .before .before .before .before .before .before .before .before .before .loop .class) (c .before .before .before .before .before .before .before .before .before .before .before .before .loop .count) (c .before .before .before .before .before .before .before .before .before .before .before .loop-test .taken) (c .before .before .before .before .before .before .before .before .before .before .entry-at .ensures) (c .before .before .before .before .before .before .before .before .if1 .left) (lawful (c .before .before .before .before .before)) (c .before .if4 .taken) (omega arith)) ∙ c .before .before .before .before .before .before .before .before .before .before .before .before .loop .inv .1
+returns-4 c =
+    let turn = c .before .before .before .before .before .before .before .before .before .before .before .before .loop in
+    let inside = c .before .before .before .before .before .before .before .before .before .before .before .loop-test .taken in
+    let entry = c .before .before .before .before .before .before .before .before .before .before .entry-at .ensures in
+    let whole = c .before .before .before .before .before .before .before .before .if1 .left in
+    sym (rest-full (turn .class) (turn .count) inside entry whole (lawful (c .before .before .before .before .before)) (c .before .if4 .taken) (omega arith)) ∙ turn .inv .1
 
 add-count : tie.Need-add-count Inv-loop μ-loop
 add-count c = search needs
@@ -59,16 +77,28 @@ loop-less : tie.Need-loop-less Inv-loop μ-loop
 loop-less c = search needs
 
 loop-again : tie.Need-loop-again Inv-loop μ-loop
-loop-again c = (omega arith, sym (rest-same (c .before .before .before .before .before .before .before .before .before .before .before .before .loop .class) (c .before .before .before .before .before .before .before .before .before .before .before .before .loop .count) (c .before .before .before .before .before .before .before .before .before .before .before .loop-test .taken) (c .before .before .before .before .before .before .before .before .before .before .entry-at .ensures) (c .before .before .before .before .before .before .before .before .if1 .left) (lawful (c .before .before .before .before .before)) (c .before .if4 .taken)) ∙ c .before .before .before .before .before .before .before .before .before .before .before .before .loop .inv .1)
+loop-again c =
+    let turn = c .before .before .before .before .before .before .before .before .before .before .before .before .loop in
+    let inside = c .before .before .before .before .before .before .before .before .before .before .before .loop-test .taken in
+    let entry = c .before .before .before .before .before .before .before .before .before .before .entry-at .ensures in
+    let whole = c .before .before .before .before .before .before .before .before .if1 .left in
+    (omega arith, sym (rest-same (turn .class) (turn .count) inside entry whole (lawful (c .before .before .before .before .before)) (c .before .if4 .taken)) ∙ turn .inv .1)
 
 loop-less-2 : tie.Need-loop-less-2 Inv-loop μ-loop
 loop-less-2 c = search needs
 
 loop-again-2 : tie.Need-loop-again-2 Inv-loop μ-loop
-loop-again-2 c = (omega arith, sym (rest-rise (c .before .before .before .before .before .before .before .before .before .before .before .loop .class) (c .before .before .before .before .before .before .before .before .before .before .before .loop .count) (c .before .before .before .before .before .before .before .before .before .before .loop-test .taken) (c .before .before .before .before .before .before .before .before .before .entry-at .ensures) (c .before .before .before .before .before .before .before .if1 .left) (lawful (c .before .before .before .before)) (omega arith) (omega arith)) ∙ c .before .before .before .before .before .before .before .before .before .before .before .loop .inv .1)
+loop-again-2 c =
+    let turn = c .before .before .before .before .before .before .before .before .before .before .before .loop in
+    let inside = c .before .before .before .before .before .before .before .before .before .before .loop-test .taken in
+    let entry = c .before .before .before .before .before .before .before .before .before .entry-at .ensures in
+    let whole = c .before .before .before .before .before .before .before .if1 .left in
+    (omega arith, sym (rest-rise (turn .class) (turn .count) inside entry whole (lawful (c .before .before .before .before)) (omega arith) (omega arith)) ∙ turn .inv .1)
 
 returns-5 : tie.Need-returns-5 Inv-loop μ-loop
-returns-5 c = sym (rest-end (c .before .loop .class) (c .before .loop .count) (c .before .before .before .args .list .now) (c .before .loop .at) (c .loop-test .left) (omega arith)) ∙ c .before .loop .inv .1
+returns-5 c =
+    let turn = c .before .loop in
+    sym (rest-end (turn .class) (turn .count) (c .before .before .before .args .list .now) (turn .at) (c .loop-test .left) (omega arith)) ∙ turn .inv .1
 
 pub check-spec : {M : Type 1} → statement M
 check-spec =

@@ -28,13 +28,17 @@ loop-less : tie.Need-loop-less Inv-loop μ-loop
 loop-less c = search needs
 
 loop-again : tie.Need-loop-again Inv-loop μ-loop
-loop-again c = (omega arith, omega (arith, ap length (class-here (c .before .before .entry-at .ensures) (c .before .before .before .before .before .before .args .class) (c .if1 .taken))))
+loop-again c =
+    let start = c .before .before .before .before .before .before in
+    (omega arith, omega (arith, ap length (class-here (c .before .before .entry-at .ensures) (start .args .class) (c .if1 .taken))))
 
 loop-less-2 : tie.Need-loop-less-2 Inv-loop μ-loop
 loop-less-2 c = search needs
 
 loop-again-2 : tie.Need-loop-again-2 Inv-loop μ-loop
-loop-again-2 c = (omega arith, omega (arith, ap length (class-other (c .before .before .entry-at .ensures) (c .before .before .before .before .before .before .args .class) (c .if1 .left))))
+loop-again-2 c =
+    let start = c .before .before .before .before .before .before in
+    (omega arith, omega (arith, ap length (class-other (c .before .before .entry-at .ensures) (start .args .class) (c .if1 .left))))
 
 returns : tie.Need-returns Inv-loop μ-loop
 returns c = omega (arith, ap length (class-end (c .before .before .before .args .list .now) (c .before .loop .at) (c .before .before .before .args .class) (c .loop-test .left)))

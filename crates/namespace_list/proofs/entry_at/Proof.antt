@@ -40,10 +40,13 @@ add-t12 c = search needs
 
 returns : tie.Need-returns
 returns c =
-    let l = c .before .before .before .before .before .before .before .args .list .now in
-    let at = c .before .before .before .before .before .before .before .args .at in
-    let n : c .before .before .before .before .wide .result ≡ getD l (at + 1) 0 = c .before .before .before .before .wide .ensures ∙ c .before .before .before .before .before .byte-at .ensures in
-    entry-here l at (c .before .before .before .before .before .before .before .pre) _ refl (c .before .before .least .ensures) (omega (arith, c .before .least2 .ensures)) (c .byte-at2 .ensures ∙ ap (λ (k : ℕ). getD l (at + 2 + k) 0) n) (omega arith)
+    let start = c .before .before .before .before .before .before .before in
+    let byte-at = c .before .before .before .before .before .byte-at in
+    let wide = c .before .before .before .before .wide in
+    let l = start .args .list .now in
+    let at = start .args .at in
+    let n : wide .result ≡ getD l (at + 1) 0 = wide .ensures ∙ byte-at .ensures in
+    entry-here l at (start .pre) _ refl (c .before .before .least .ensures) (omega (arith, c .before .least2 .ensures)) (c .byte-at2 .ensures ∙ ap (λ (k : ℕ). getD l (at + 2 + k) 0) n) (omega arith)
 
 pub entry-at-spec : {M : Type 1} → statement M
 entry-at-spec =

@@ -22,7 +22,10 @@ same-length c = search needs
 
 returns : tie.Need-returns
 unfolding text
-returns c = rw (class-none (ofClass (c .before .before .before .before .before .before .before .before .before .args .class) (entries (c .before .before .before .before .before .before .before .before .before .args .list .now))) (omega (arith, c .before .before .before .before .before .before .count-of .ensures))) (c .before .before .put-all .ensures)
+returns c =
+    let start = c .before .before .before .before .before .before .before .before .before in
+    let count-of = c .before .before .before .before .before .before .count-of in
+    rw (class-none (ofClass (start .args .class) (entries (start .args .list .now))) (omega (arith, count-of .ensures))) (c .before .before .put-all .ensures)
 
 slice-aggregate-put-all-2 : tie.Need-slice-aggregate-put-all-2
 slice-aggregate-put-all-2 c = search needs
@@ -41,7 +44,13 @@ same-length-2 c = search needs
 
 returns-2 : tie.Need-returns-2
 unfolding text
-returns-2 c = rw (class-some (ofClass (c .before .before .before .before .before .before .before .before .before .before .before .before .before .before .before .before .before .args .class) (entries (c .before .before .before .before .before .before .before .before .before .before .before .before .before .before .before .before .before .args .list .now))) (omega (arith, c .before .before .before .before .before .before .before .before .before .before .before .before .before .before .count-of .ensures))) (put-then (c .before .before .before .before .before .before .before .before .before .before .put-all2 .ensures) (put-then (c .before .before .before .before .before .before .put-entries .ensures) (c .before .before .put .ensures)))
+returns-2 c =
+    let start = c .before .before .before .before .before .before .before .before .before .before .before .before .before .before .before .before .before in
+    let count-of = c .before .before .before .before .before .before .before .before .before .before .before .before .before .before .count-of in
+    let put-all2 = c .before .before .before .before .before .before .before .before .before .before .put-all2 in
+    let put-entries = c .before .before .before .before .before .before .put-entries in
+    rw (class-some (ofClass (start .args .class) (entries (start .args .list .now))) (omega (arith, count-of .ensures)))
+    (put-then (put-all2 .ensures) (put-then (put-entries .ensures) (c .before .before .put .ensures)))
 
 pub put-class-spec : {M : Type 1} → statement M
 put-class-spec =

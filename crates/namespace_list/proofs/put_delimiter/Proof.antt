@@ -17,7 +17,10 @@ same-length c = search needs
 
 returns : tie.Need-returns
 unfolding text delimiterText
-returns c = rw (eq-eqb (c .before .before .before .before .before .before .before .args .delimiter) 0 (c .before .before .before .before .before .if1 .taken)) (c .before .before .put-all .ensures)
+returns c =
+    let start = c .before .before .before .before .before .before .before in
+    let if1 = c .before .before .before .before .before .if1 in
+    rw (eq-eqb (start .args .delimiter) 0 (if1 .taken)) (c .before .before .put-all .ensures)
 
 slice-aggregate-put-quoted : tie.Need-slice-aggregate-put-quoted
 slice-aggregate-put-quoted c = search needs
@@ -30,7 +33,10 @@ same-length-2 c = search needs
 
 returns-2 : tie.Need-returns-2
 unfolding delimiterText
-returns-2 c = rw (ne-eqb (c .before .before .before .before .before .before .before .args .delimiter) 0 (c .before .before .before .before .before .if1 .left)) (c .before .before .put-quoted .ensures)
+returns-2 c =
+    let start = c .before .before .before .before .before .before .before in
+    let if1 = c .before .before .before .before .before .if1 in
+    rw (ne-eqb (start .args .delimiter) 0 (if1 .left)) (c .before .before .put-quoted .ensures)
 
 pub put-delimiter-spec : {M : Type 1} → statement M
 put-delimiter-spec =

@@ -1,13 +1,12 @@
--- `put_entries` meets its contract: what was written, and the entries of the class from `i` on, are all of the class.
-use mathlib.Core.Path.{_≡_, refl, sym, ap, subst, _∙_}
-use mathlib.Core.List.{List, [], _++_, append-assoc, append-nil}
-use Prim.Native.Nat.{ℕ, _+_, _-_}
+-- `put_entries` meets its contract: the entries of the class before `i` are written, and those from `i` on are left. By `Putting` of
+-- octets and Line.
+use mathlib.Core.Path.{ap}
+use mathlib.Core.List.{List}
+use Prim.Native.Nat.{_-_}
 use lib.ListN.{length, drop}
 use Rattle.listing_rules.specs.Namespaces.{Entry, entries, ofClass}
 use Rattle.listing_rules.specs.Server.{entryText}
-use Rattle.octets.specs.Put.{Put}
-use Rattle.octets.proofs.Puts.{put-none, put-then, put-length}
-use Rattle.namespace_list.specs.Entries.{meaning}
+use Rattle.octets.proofs.Puts.{Putting, putting-none, putting-more, putting-on, putting-all, put-length}
 use Rattle.namespace_list.specs.Line.{entriesText}
 use Rattle.namespace_list.proofs.Entries.{class-other}
 use Rattle.namespace_list.proofs.Line.{text-here, text-end}
@@ -16,13 +15,14 @@ use Rattle.namespace_list.proofs.put_entries.Statement.{statement}
 use Rattle.namespace_list.proofs.put_entries.Tie as tie
 
 abbrev Inv-loop : tie.InvT-loop
-Inv-loop buf₀ at list class to₀ i₀ buf to i = (acc : List ℕ) × Put buf₀ buf at acc to × (acc ++ entriesText (ofClass class (entries (drop i list))) ≡ entriesText (ofClass class (entries list)))
+Inv-loop buf₀ at list class to₀ i₀ buf to i =
+    Putting buf₀ buf at (entriesText (ofClass class (entries list))) (entriesText (ofClass class (entries (drop i list)))) to
 
 abbrev μ-loop : tie.MeasureT-loop
 μ-loop buf₀ at list class to₀ i₀ buf to i = length list - i
 
 loop-holds : tie.Need-loop-holds Inv-loop μ-loop
-loop-holds c = ([], put-none _ _ (search needs) (search needs), refl)
+loop-holds c = putting-none _ _ _ (search needs) (search needs)
 
 entry-at-requires : tie.Need-entry-at-requires Inv-loop μ-loop
 entry-at-requires c κs = search needs
@@ -45,26 +45,29 @@ loop-less c = search needs
 loop-again : tie.Need-loop-again Inv-loop μ-loop
 unfolding entryText
 loop-again c =
-    let w = c .before .before .before .before .before .before .before .before .before .loop .inv in
-    let l = c .before .before .before .before .before .before .before .before .before .before .before .before .args .list .now in
-    let e = c .before .before .before .before .before .before .before .entry-at .result in
-    (w .0 ++ entryText (meaning l e), put-then (w .1) (c .before .before .put-entry .ensures), append-assoc (w .0) (entryText (meaning l e)) (entriesText (ofClass (c .before .before .before .before .before .before .before .before .before .before .before .before .args .class) (entries (drop (e .next) l)))) ∙ ap (λ (x : List ℕ). w .0 ++ x) (sym (text-here (c .before .before .before .before .before .before .before .entry-at .ensures) (c .before .before .before .before .before .before .before .before .before .before .before .before .args .class) (c .before .before .before .before .before .if1 .taken))) ∙ w .2)
+    let start = c .before .before .before .before .before .before .before .before .before .before .before .before in
+    let turn = c .before .before .before .before .before .before .before .before .before .loop in
+    let entry = c .before .before .before .before .before .before .before .entry-at .ensures in
+    let here = c .before .before .before .before .before .if1 .taken in
+    putting-more (turn .inv) (text-here entry (start .args .class) here) (c .before .before .put-entry .ensures)
 
 loop-less-2 : tie.Need-loop-less-2 Inv-loop μ-loop
 loop-less-2 c = search needs
 
 loop-again-2 : tie.Need-loop-again-2 Inv-loop μ-loop
 loop-again-2 c =
-    let w = c .before .before .before .before .loop .inv in
-    (w .0, w .1, ap (λ (x : List Entry). w .0 ++ entriesText x) (sym (class-other (c .before .before .entry-at .ensures) (c .before .before .before .before .before .before .before .args .class) (c .if1 .left))) ∙ w .2)
+    let start = c .before .before .before .before .before .before .before in
+    let turn = c .before .before .before .before .loop in
+    let entry = c .before .before .entry-at .ensures in
+    putting-on (turn .inv) (ap (λ (x : List Entry). entriesText x) (class-other entry (start .args .class) (c .if1 .left)))
 
 same-length : tie.Need-same-length Inv-loop μ-loop
-same-length c = put-length (c .before .loop .inv .1)
+same-length c = put-length (c .before .loop .inv .put)
 
 returns : tie.Need-returns Inv-loop μ-loop
 returns c =
-    let w = c .before .loop .inv in
-    subst (λ (x : List ℕ). Put (c .before .before .before .before .args .buf .now) (c .before .loop .buf) (c .before .before .before .before .args .at) x (c .before .loop .to)) (sym (append-nil (w .0)) ∙ ap (λ (x : List ℕ). w .0 ++ x) (sym (text-end (c .before .before .before .before .args .list .now) (c .before .loop .i) (c .before .before .before .before .args .class) (c .loop-test .left))) ∙ w .2) (w .1)
+    let start = c .before .before .before .before in
+    putting-all (c .before .loop .inv) (text-end (start .args .list .now) (c .before .loop .i) (start .args .class) (c .loop-test .left))
 
 pub put-entries-spec : {M : Type 1} → statement M
 put-entries-spec =

@@ -26,7 +26,12 @@ same-length c = search needs
 
 returns : tie.Need-returns
 unfolding text entryText
-returns c = put-then (c .before .before .before .before .before .before .before .before .before .before .before .before .before .before .before .before .before .before .put .ensures) (put-then (c .before .before .before .before .before .before .before .before .before .before .before .before .before .before .put-quoted .ensures) (put-then (c .before .before .before .before .before .before .before .before .before .before .put2 .ensures) (put-then (c .before .before .before .before .before .before .put-delimiter .ensures) (c .before .before .put3 .ensures))))
+returns c =
+    let start = c .before .before .before .before .before .before .before .before .before .before .before .before .before .before .before .before .before .before in
+    let put-quoted = c .before .before .before .before .before .before .before .before .before .before .before .before .before .before .put-quoted in
+    let put2 = c .before .before .before .before .before .before .before .before .before .before .put2 in
+    let put-delimiter = c .before .before .before .before .before .before .put-delimiter in
+    put-then (start .put .ensures) (put-then (put-quoted .ensures) (put-then (put2 .ensures) (put-then (put-delimiter .ensures) (c .before .before .put3 .ensures))))
 
 pub put-entry-spec : {M : Type 1} → statement M
 put-entry-spec =

@@ -32,7 +32,12 @@ same-length c = search needs
 
 returns : tie.Need-returns
 unfolding text crlf namespaceLine
-returns c = put-then (c .before .before .before .before .before .before .before .before .before .before .before .before .before .before .before .before .before .before .before .put-all .ensures) (put-then (c .before .before .before .before .before .before .before .before .before .before .before .before .before .before .before .put-class .ensures) (put-then (c .before .before .before .before .before .before .before .before .before .before .before .put-class2 .ensures) (put-then (c .before .before .before .before .before .before .before .put-class3 .ensures) (c .before .before .put-all2 .ensures))))
+returns c =
+    let start = c .before .before .before .before .before .before .before .before .before .before .before .before .before .before .before .before .before .before .before in
+    let put-class = c .before .before .before .before .before .before .before .before .before .before .before .before .before .before .before .put-class in
+    let put-class2 = c .before .before .before .before .before .before .before .before .before .before .before .put-class2 in
+    let put-class3 = c .before .before .before .before .before .before .before .put-class3 in
+    put-then (start .put-all .ensures) (put-then (put-class .ensures) (put-then (put-class2 .ensures) (put-then (put-class3 .ensures) (c .before .before .put-all2 .ensures))))
 
 pub put-namespaces-spec : {M : Type 1} → statement M
 put-namespaces-spec =

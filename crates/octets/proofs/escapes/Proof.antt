@@ -1,4 +1,5 @@
-use mathlib.Core.Path.{_≡_, refl, ap, _∙_}
+-- `octets::escapes` meets its contract: a byte that is escaped takes two places. By the laws of Escaping.
+use mathlib.Core.Path.{_≡_, ap, _∙_}
 use mathlib.Core.Logic.{⊎-elim}
 use Prim.Native.Nat.{_≤_, _+_, _-_}
 use lib.ListN.{length, drop, getD, length-append}
@@ -9,8 +10,6 @@ use borrow.Author.Needs.{needs}
 use native.Mathlib.Omega.{arith}
 use Rattle.octets.proofs.escapes.Statement.{statement}
 use Rattle.octets.proofs.escapes.Tie as tie
-use Rattle.octets.proofs.escapes.Reads as reads
-use Rattle.octets.proofs.escapes.Lts as lts
 
 abbrev Inv-loop : tie.InvT-loop
 Inv-loop s n₀ i₀ n i = (i ≤ length s) × (n ≤ i) × (i + n + length (escaped (drop i s)) ≡ length (escaped s))
@@ -18,38 +17,34 @@ Inv-loop s n₀ i₀ n i = (i ≤ length s) × (n ≤ i) × (i + n + length (esc
 abbrev μ-loop : tie.MeasureT-loop
 μ-loop s n₀ i₀ n i = length s - i
 
--- src/lib.rt:142:5
 loop-holds : tie.Need-loop-holds Inv-loop μ-loop
 loop-holds c = (omega arith, omega arith, omega arith)
 
--- src/lib.rt:143:17
 shared-slice-read-b : tie.Need-shared-slice-read-b Inv-loop μ-loop
 shared-slice-read-b c = search needs
 
--- src/lib.rt:145:13
 add-n : tie.Need-add-n Inv-loop μ-loop
 add-n c = search needs
 
--- src/lib.rt:147:9
 add-i : tie.Need-add-i Inv-loop μ-loop
 add-i c = search needs
 
--- src/lib.rt:142:5
 loop-less : tie.Need-loop-less Inv-loop μ-loop
 loop-less c = search needs
 
--- src/lib.rt:142:5
 loop-again : tie.Need-loop-again Inv-loop μ-loop
 loop-again c =
-    let s = c .before .before .before .before .args .s .now in
+    let start = c .before .before .before .before in
+    let s = start .args .s .now in
     let i = c .before .before .before .loop .i in
-    let g : length (escaped (drop i s)) ≡ length (escapeOf (getD s i 0)) + length (escaped (drop (i + 1) s)) = ap length (escaped-at s i (c .before .before .loop-test .taken)) ∙ length-append (escapeOf (getD s i 0)) (escaped (drop (i + 1) s)) in
+    let b = getD s i 0 in
+    let g : length (escaped (drop i s)) ≡ length (escapeOf b) + length (escaped (drop (i + 1) s)) =
+    ap length (escaped-at s i (c .before .before .loop-test .taken)) ∙ length-append (escapeOf b) (escaped (drop (i + 1) s)) in
     ⊎-elim
-    (λ w. (omega arith, omega (arith, w .1), omega (arith, w .1, g, escape-two (getD s i 0) (w .0 .taken))))
-    (λ w. (omega arith, omega (arith, w .1), omega (arith, w .1, g, escape-one (getD s i 0) (w .0 .left))))
+    (λ w. (omega arith, omega (arith, w .1), omega (arith, w .1, g, escape-two b (w .0 .taken))))
+    (λ w. (omega arith, omega (arith, w .1), omega (arith, w .1, g, escape-one b (w .0 .left))))
     (c .if1 .came)
 
--- src/lib.rt:137:1
 returns : tie.Need-returns Inv-loop μ-loop
 returns c = omega (arith, ap length (escaped-end (c .before .before .args .s .now) (c .before .loop .i) (c .loop-test .left)))
 

@@ -1,20 +1,15 @@
-use mathlib.Core.Path.{_≡_, refl, sym, _∙_}
+-- `octets::put` meets its contract: a store after the end changes nothing.
+use mathlib.Core.Path.{_≡_, sym, _∙_}
 use mathlib.Core.Logic.{⊎-elim}
 use lib.ListN.{set, length-set}
 use lib.Seq.{set-out}
-use native.Mathlib.Omega.{arith}
 use borrow.Author.Needs.{needs}
 use Rattle.octets.proofs.put.Statement.{statement}
 use Rattle.octets.proofs.put.Tie as tie
-use Rattle.octets.proofs.put.Reads as reads
-use Rattle.octets.proofs.put.Lts as lts
-use Rattle.octets.proofs.advance.Reads as advance-reads
 
--- src/lib.rt:108:9
 slice-write-buf : tie.Need-slice-write-buf
 slice-write-buf c = search needs
 
--- src/lib.rt:110:5
 advance-requires : tie.Need-advance-requires
 advance-requires c κs = search needs
 
@@ -25,7 +20,6 @@ stored c = ⊎-elim (λ w. w .1) (λ w. w .1 ∙ sym (set-out _ _ _ (w .0 .left)
 same-length : tie.Need-same-length
 same-length c = rw (stored (c .before)) (simp length-set)
 
--- src/lib.rt:104:1
 returns : tie.Need-returns
 returns c = record { fits = search needs; place = c .advance .ensures; bytes = stored (c .before) }
 

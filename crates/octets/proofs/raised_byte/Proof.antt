@@ -1,27 +1,22 @@
+-- `octets::raised_byte` meets its contract: the two tests are those of `raise`.
 use borrow.Author.Tests.{le-leb, lt-leb}
 use Rattle.listing_rules.specs.Bytes.{raise, within}
 use native.Mathlib.Omega.{arith}
 use borrow.Author.Needs.{needs}
 use Rattle.octets.proofs.raised_byte.Statement.{statement}
 use Rattle.octets.proofs.raised_byte.Tie as tie
-use Rattle.octets.proofs.raised_byte.Reads as reads
-use Rattle.octets.proofs.raised_byte.Lts as lts
 
--- src/lib.rt:42:20
 sub-result : tie.Need-sub-result
 sub-result c = search needs
 
--- src/lib.rt:42:13
 returns : tie.Need-returns
 unfolding raise within
 returns c = rw (le-leb _ _ (c .before .if1 .taken), le-leb _ _ (c .if2 .taken))
 
--- src/lib.rt:37:1
 returns-2 : tie.Need-returns-2
 unfolding raise within
 returns-2 c = rw (le-leb _ _ (c .before .if1 .taken), lt-leb (c .before .before .args .b) 122 (omega arith))
 
--- src/lib.rt:37:1
 returns-3 : tie.Need-returns-3
 unfolding raise within
 returns-3 c = rw (lt-leb 97 (c .before .args .b) (omega arith))

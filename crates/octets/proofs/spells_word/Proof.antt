@@ -1,3 +1,4 @@
+-- `octets::spells_word` meets its contract: what is left from i on decides. By the laws of `spells` in Same.
 use mathlib.Core.Path.{_≡_, refl, sym, _∙_}
 use Prim.Native.Nat.{_≤_, _-_}
 use lib.ListN.{length, drop}
@@ -7,9 +8,6 @@ use borrow.Author.Needs.{needs}
 use native.Mathlib.Omega.{arith}
 use Rattle.octets.proofs.spells_word.Statement.{statement}
 use Rattle.octets.proofs.spells_word.Tie as tie
-use Rattle.octets.proofs.spells_word.Reads as reads
-use Rattle.octets.proofs.spells_word.Lts as lts
-use Rattle.octets.proofs.raised_byte.Reads as raised-byte-reads
 
 abbrev Inv-loop : tie.InvT-loop
 Inv-loop s word i₀ i = (length s ≡ length word) × (i ≤ length s) × (spells (drop i s) (drop i word) ≡ spells s word)
@@ -17,45 +15,43 @@ Inv-loop s word i₀ i = (length s ≡ length word) × (i ≤ length s) × (spel
 abbrev μ-loop : tie.MeasureT-loop
 μ-loop s word i₀ i = length s - i
 
--- src/lib.rt:70:9
 returns : tie.Need-returns Inv-loop μ-loop
 returns c = sym (spells-lengths (c .before .before .before .args .s .now) (c .before .before .before .args .word .now) (c .if1 .taken))
 
--- src/lib.rt:73:5
 loop-holds : tie.Need-loop-holds Inv-loop μ-loop
 loop-holds c = (c .if1 .left, omega arith, refl)
 
--- src/lib.rt:74:24
 shared-slice-read-raised-byte : tie.Need-shared-slice-read-raised-byte Inv-loop μ-loop
 shared-slice-read-raised-byte c = search needs
 
--- src/lib.rt:74:12
 raised-byte-requires : tie.Need-raised-byte-requires Inv-loop μ-loop
 raised-byte-requires c κs = search needs
 
--- src/lib.rt:74:33
 shared-slice-read-if2 : tie.Need-shared-slice-read-if2 Inv-loop μ-loop
 shared-slice-read-if2 c = search needs
 
--- src/lib.rt:75:13
 returns-2 : tie.Need-returns-2 Inv-loop μ-loop
-returns-2 c = sym (spells-differ (c .before .before .before .before .before .before .before .before .before .args .s .now) (c .before .before .before .before .before .before .before .before .before .args .word .now) (c .before .before .before .before .before .loop .i) (omega arith) (omega arith) (λ e. c .if2 .taken (c .before .before .raised-byte .ensures ∙ e))) ∙ c .before .before .before .before .before .loop .inv .2
+returns-2 c =
+    let start = c .before .before .before .before .before .before .before .before .before in
+    let turn = c .before .before .before .before .before .loop in
+    sym (spells-differ (start .args .s .now) (start .args .word .now) (turn .i) (omega arith) (omega arith) (λ e. c .if2 .taken (c .before .before .raised-byte .ensures ∙ e))) ∙ turn .inv .2
 
--- src/lib.rt:77:9
 add-i : tie.Need-add-i Inv-loop μ-loop
 add-i c = search needs
 
--- src/lib.rt:73:5
 loop-less : tie.Need-loop-less Inv-loop μ-loop
 loop-less c = search needs
 
--- src/lib.rt:73:5
 loop-again : tie.Need-loop-again Inv-loop μ-loop
-loop-again c = (c .before .before .before .before .before .loop .inv .0, omega arith, sym (spells-step (c .before .before .before .before .before .before .before .before .before .args .s .now) (c .before .before .before .before .before .before .before .before .before .args .word .now) (c .before .before .before .before .before .loop .i) (omega arith) (omega arith) (sym (c .before .before .raised-byte .ensures) ∙ c .if2 .left)) ∙ c .before .before .before .before .before .loop .inv .2)
+loop-again c =
+    let start = c .before .before .before .before .before .before .before .before .before in
+    let turn = c .before .before .before .before .before .loop in
+    (turn .inv .0, omega arith, sym (spells-step (start .args .s .now) (start .args .word .now) (turn .i) (omega arith) (omega arith) (sym (c .before .before .raised-byte .ensures) ∙ c .if2 .left)) ∙ turn .inv .2)
 
--- src/lib.rt:66:1
 returns-3 : tie.Need-returns-3 Inv-loop μ-loop
-returns-3 c = sym (spells-end (c .before .before .before .before .before .args .s .now) (c .before .before .before .before .before .args .word .now) (c .before .loop .i) (omega arith) (omega arith)) ∙ c .before .loop .inv .2
+returns-3 c =
+    let start = c .before .before .before .before .before in
+    sym (spells-end (start .args .s .now) (start .args .word .now) (c .before .loop .i) (omega arith) (omega arith)) ∙ c .before .loop .inv .2
 
 pub spells-word-spec : {M : Type 1} → statement M
 spells-word-spec =

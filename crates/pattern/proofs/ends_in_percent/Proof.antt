@@ -5,22 +5,16 @@ use native.Mathlib.Omega.{arith}
 use borrow.Author.Needs.{needs}
 use Rattle.pattern.proofs.ends_in_percent.Statement.{statement}
 use Rattle.pattern.proofs.ends_in_percent.Tie as tie
-use Rattle.pattern.proofs.ends_in_percent.Reads as reads
-use Rattle.pattern.proofs.ends_in_percent.Lts as lts
 
--- src/lib.rt:79:9
 returns : tie.Need-returns
 returns c = sym (percent-none _ (c .if1 .taken))
 
--- src/lib.rt:81:13
 sub-result : tie.Need-sub-result
 sub-result c = search needs
 
--- src/lib.rt:81:5
 shared-slice-read-result : tie.Need-shared-slice-read-result
 shared-slice-read-result c = search needs
 
--- src/lib.rt:74:1
 returns-2 : tie.Need-returns-2
 returns-2 c = percent-last _ (omega (arith, c .before .if1 .left))
 

@@ -28,7 +28,9 @@ loop-less : tie.Need-loop-less Inv-loop μ-loop
 loop-less c = search needs
 
 loop-again : tie.Need-loop-again Inv-loop μ-loop
-loop-again c = (omega arith, λ e. below-more (c .before .before .before .args .row .now) (c .before .before .loop .j) (c .before .before .loop .some) (c .before .before .loop .inv .1) e)
+loop-again c =
+    let turn = c .before .before .loop in
+    (omega arith, λ e. below-more (c .before .before .before .args .row .now) (turn .j) (turn .some) (turn .inv .1) e)
 
 returns : tie.Need-returns Inv-loop μ-loop
 returns c = λ e k g. c .before .loop .inv .1 (not-true _ e) k (omega arith)

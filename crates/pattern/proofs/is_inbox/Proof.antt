@@ -1,40 +1,19 @@
--- `is_inbox` meets its contract: five bytes, and each of them.
-use mathlib.Core.Path.{sym}
-use Rattle.pattern.proofs.Folded.{inbox-bytes, inbox-length}
-use native.Mathlib.Omega.{arith}
+-- `is_inbox` meets its contract: the text that is compared with is that of the definition.
+use Rattle.listing_rules.specs.Bytes.{text}
+use Rattle.listing_rules.specs.Names.{inbox}
 use borrow.Author.Needs.{needs}
 use Rattle.pattern.proofs.is_inbox.Statement.{statement}
 use Rattle.pattern.proofs.is_inbox.Tie as tie
 
+slice-aggregate-same-bytes : tie.Need-slice-aggregate-same-bytes
+slice-aggregate-same-bytes c = search needs
+
+same-bytes-requires : tie.Need-same-bytes-requires
+same-bytes-requires c κs = search needs
+
 returns : tie.Need-returns
-returns c = sym (inbox-length _ (c .if1 .taken))
-
-shared-slice-read-result : tie.Need-shared-slice-read-result
-shared-slice-read-result c = search needs
-
-shared-slice-read-result-2 : tie.Need-shared-slice-read-result-2
-shared-slice-read-result-2 c = search needs
-
-shared-slice-read-result-3 : tie.Need-shared-slice-read-result-3
-shared-slice-read-result-3 c = search needs
-
-shared-slice-read-result-4 : tie.Need-shared-slice-read-result-4
-shared-slice-read-result-4 c = search needs
-
-shared-slice-read-result-5 : tie.Need-shared-slice-read-result-5
-shared-slice-read-result-5 c = search needs
-
-returns-2 : tie.Need-returns-2
-returns-2 c = inbox-bytes (c .before .before .before .before .before .before .args .name .now) (omega arith)
+unfolding inbox text
+returns c = c .same-bytes .ensures
 
 pub is-inbox-spec : {M : Type 1} → statement M
-is-inbox-spec =
-    tie.close
-    (tie.spec
-    returns
-    shared-slice-read-result
-    shared-slice-read-result-2
-    shared-slice-read-result-3
-    shared-slice-read-result-4
-    shared-slice-read-result-5
-    returns-2)
+is-inbox-spec = tie.close (tie.spec slice-aggregate-same-bytes same-bytes-requires returns)

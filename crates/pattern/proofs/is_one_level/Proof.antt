@@ -1,9 +1,13 @@
--- `is_one_level` meets its contract: what is left has a slash exactly if the whole has.
-use mathlib.Core.Path.{_≡_, refl, sym, _∙_}
-use Prim.Native.Nat.{_-_}
-use lib.ListN.{length, drop}
+-- `is_one_level` meets its contract: what is left has a slash exactly if the whole has. By octets' laws of Every.
+use mathlib.Core.Path.{_≡_, refl, sym, ap, _∙_}
+use mathlib.Core.Bool.{Bool, not}
+use Prim.Native.Nat.{ℕ, _-_}
+use lib.Dec.{eqb}
+use lib.ListN.{length, drop, getD}
+use borrow.Author.Tests.{eq-eqb, ne-eqb}
+use Rattle.listing_rules.specs.Bytes.{slash}
 use Rattle.pattern.specs.Rows.{noSlash}
-use Rattle.pattern.proofs.Wild.{slash-here, slash-step, slash-none}
+use Rattle.octets.proofs.Every.{all-step, all-stop, all-end}
 use borrow.Author.Needs.{needs}
 use Rattle.pattern.proofs.is_one_level.Statement.{statement}
 use Rattle.pattern.proofs.is_one_level.Tie as tie
@@ -14,6 +18,10 @@ Inv-loop name i₀ i = noSlash (drop i name) ≡ noSlash name
 abbrev μ-loop : tie.MeasureT-loop
 μ-loop name i₀ i = length name - i
 
+-- the test that each byte has to pass
+abbrev other : ℕ → Bool
+other b = not (eqb b 47)
+
 loop-holds : tie.Need-loop-holds Inv-loop μ-loop
 loop-holds c = refl
 
@@ -21,7 +29,12 @@ shared-slice-read-if1 : tie.Need-shared-slice-read-if1 Inv-loop μ-loop
 shared-slice-read-if1 c = search needs
 
 returns : tie.Need-returns Inv-loop μ-loop
-returns c = sym (slash-here _ _ (c .before .before .loop-test .taken) (c .if1 .taken)) ∙ c .before .before .before .loop .inv
+unfolding noSlash slash
+returns c =
+    let start = c .before .before .before .before in
+    let turn = c .before .before .before .loop in
+    let name = start .args .name .now in
+    sym (all-stop other name (turn .i) (c .before .before .loop-test .taken) (ap not (eq-eqb (getD name (turn .i) 0) 47 (c .if1 .taken)))) ∙ turn .inv
 
 add-i : tie.Need-add-i Inv-loop μ-loop
 add-i c = search needs
@@ -30,10 +43,16 @@ loop-less : tie.Need-loop-less Inv-loop μ-loop
 loop-less c = search needs
 
 loop-again : tie.Need-loop-again Inv-loop μ-loop
-loop-again c = sym (slash-step _ _ (c .before .before .loop-test .taken) (c .if1 .left)) ∙ c .before .before .before .loop .inv
+unfolding noSlash slash
+loop-again c =
+    let start = c .before .before .before .before in
+    let turn = c .before .before .before .loop in
+    let name = start .args .name .now in
+    sym (all-step other name (turn .i) (c .before .before .loop-test .taken) (ap not (ne-eqb (getD name (turn .i) 0) 47 (c .if1 .left)))) ∙ turn .inv
 
 returns-2 : tie.Need-returns-2 Inv-loop μ-loop
-returns-2 c = sym (slash-none _ _ (c .loop-test .left)) ∙ c .before .loop .inv
+unfolding noSlash slash
+returns-2 c = sym (all-end other (c .before .before .args .name .now) (c .before .loop .i) (c .loop-test .left)) ∙ c .before .loop .inv
 
 pub is-one-level-spec : {M : Type 1} → statement M
 is-one-level-spec =

@@ -43,12 +43,13 @@ loop-less : tie.Need-loop-less Inv-loop μ-loop
 loop-less c = search needs
 
 loop-again : tie.Need-loop-again Inv-loop μ-loop
-loop-again c = (
-  omega arith,
-  λ f m.
-      let w : c .before .before .before .before .loop .j ≡ c .before .before .before .before .loop .j - 1 + 1 = omega arith in
-      level-down f _ _ _ (omega arith) (rw w at (c .before .before .before .before .loop .inv .1 f m)),
-)
+loop-again c =
+    let turn = c .before .before .before .before .loop in (
+      omega arith,
+      λ f m.
+          let w : turn .j ≡ turn .j - 1 + 1 = omega arith in
+          level-down f _ _ _ (omega arith) (rw w at (turn .inv .1 f m)),
+    )
 
 returns : tie.Need-returns Inv-loop μ-loop
 returns c = λ f m.

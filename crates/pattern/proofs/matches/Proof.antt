@@ -15,7 +15,9 @@ wild-match-requires : tie.Need-wild-match-requires
 wild-match-requires c κs = search needs
 
 returns-2 : tie.Need-returns-2
-returns-2 c = short-name (c .before .before .before .before .before .args .name .now) _ _ (c .before .before .if1 .left) (c .wild-match .ensures ∙ matches-folded _ _ _ (c .before .is-inbox .ensures))
+returns-2 c =
+    let start = c .before .before .before .before .before in
+    short-name (start .args .name .now) _ _ (c .before .before .if1 .left) (c .wild-match .ensures ∙ matches-folded _ _ _ (c .before .is-inbox .ensures))
 
 pub matches-spec : {M : Type 1} → statement M
 matches-spec = tie.close (tie.spec returns is-inbox-requires wild-match-requires returns-2)

@@ -1,13 +1,12 @@
 -- `matches_any` meets its contract: some pattern from here on matches exactly if some of the whole does.
-use mathlib.Core.Path.{_≡_, refl, sym, ap, _∙_}
-use mathlib.Core.Bool.{Bool, _||_}
+use mathlib.Core.Path.{_≡_, refl, sym, _∙_}
 use Prim.Native.Nat.{_≤_, _-_}
 use lib.ListN.{length, drop}
 use Rattle.listing_rules.specs.Match.{matchesAny}
 use Rattle.pattern.specs.Packed.{unpacked}
 use Rattle.pattern.specs.Chosen.{chosen}
 use Rattle.pattern.proofs.Folded.{long-name, short-name}
-use Rattle.pattern.proofs.Chosen.{match-next, match-end}
+use Rattle.pattern.proofs.Chosen.{match-here, match-later, match-end}
 use borrow.Author.Needs.{needs}
 use native.Mathlib.Omega.{arith}
 use Rattle.pattern.proofs.matches_any.Statement.{statement}
@@ -47,16 +46,33 @@ chosen-match-requires : tie.Need-chosen-match-requires Inv-loop μ-loop
 chosen-match-requires c κs = search needs
 
 returns-2 : tie.Need-returns-2 Inv-loop μ-loop
-returns-2 c = short-name (c .before .before .before .before .before .before .before .before .before .before .args .name .now) _ _ (c .before .before .before .before .before .before .before .if1 .left) (sym (ap (λ (b : Bool). b || matchesAny (chosen (c .before .before .before .before .before .before .before .before .before .before .args .levels) (unpacked (drop (c .before .before .before .item-end .result) (c .before .before .before .before .before .before .before .before .before .before .args .patterns .now)))) (c .before .before .before .before .before .before .before .before .before .before .args .name .now)) (c .if2 .taken)) ∙ sym (match-next (c .before .before .before .before .before .before .before .before .before .before .args .patterns .now) _ _ (c .before .before .before .before .loop-test .taken) (c .before .before .before .item-end .ensures) (c .before .before .before .before .before .before .before .before .before .before .args .levels) (c .before .before .before .before .before .before .before .before .before .before .args .name .now) _ (c .before .before .before .before .before .before .is-inbox .ensures) _ (c .before .chosen-match .ensures)) ∙ c .before .before .before .before .before .loop .inv .1)
+returns-2 c =
+    let start = c .before .before .before .before .before .before .before .before .before .before in
+    let short = c .before .before .before .before .before .before .before .if1 .left in
+    let folds = c .before .before .before .before .before .before .is-inbox .ensures in
+    let turn = c .before .before .before .before .before .loop in
+    let more = c .before .before .before .before .loop-test .taken in
+    let item = c .before .before .before .item-end .ensures in
+    let found = match-here (start .args .patterns .now) _ _ more item (start .args .levels) _ _ folds _ (c .before .chosen-match .ensures) (c .if2 .taken) in
+    short-name (start .args .name .now) _ _ short (sym found ∙ turn .inv .1)
 
 loop-less : tie.Need-loop-less Inv-loop μ-loop
 loop-less c = search needs
 
 loop-again : tie.Need-loop-again Inv-loop μ-loop
-loop-again c = (omega arith, sym (ap (λ (b : Bool). b || matchesAny (chosen (c .before .before .before .before .before .before .before .before .before .before .args .levels) (unpacked (drop (c .before .before .before .item-end .result) (c .before .before .before .before .before .before .before .before .before .before .args .patterns .now)))) (c .before .before .before .before .before .before .before .before .before .before .args .name .now)) (c .if2 .left)) ∙ sym (match-next (c .before .before .before .before .before .before .before .before .before .before .args .patterns .now) _ _ (c .before .before .before .before .loop-test .taken) (c .before .before .before .item-end .ensures) (c .before .before .before .before .before .before .before .before .before .before .args .levels) (c .before .before .before .before .before .before .before .before .before .before .args .name .now) _ (c .before .before .before .before .before .before .is-inbox .ensures) _ (c .before .chosen-match .ensures)) ∙ c .before .before .before .before .before .loop .inv .1)
+loop-again c =
+    let start = c .before .before .before .before .before .before .before .before .before .before in
+    let folds = c .before .before .before .before .before .before .is-inbox .ensures in
+    let turn = c .before .before .before .before .before .loop in
+    let more = c .before .before .before .before .loop-test .taken in
+    let item = c .before .before .before .item-end .ensures in
+    let onward = match-later (start .args .patterns .now) _ _ more item (start .args .levels) _ _ folds _ (c .before .chosen-match .ensures) (c .if2 .left) in
+    (omega arith, sym onward ∙ turn .inv .1)
 
 returns-3 : tie.Need-returns-3 Inv-loop μ-loop
-returns-3 c = short-name (c .before .before .before .before .before .before .args .name .now) _ _ (c .before .before .before .if1 .left) (sym (match-end _ _ (c .loop-test .left) (c .before .before .before .before .before .before .args .levels) _) ∙ c .before .loop .inv .1)
+returns-3 c =
+    let start = c .before .before .before .before .before .before in
+    short-name (start .args .name .now) _ _ (c .before .before .before .if1 .left) (sym (match-end _ _ (c .loop-test .left) (start .args .levels) _) ∙ c .before .loop .inv .1)
 
 pub matches-any-spec : {M : Type 1} → statement M
 matches-any-spec =

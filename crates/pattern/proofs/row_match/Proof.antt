@@ -1,11 +1,11 @@
 -- `row_match` meets its contract: the row belongs to the part of the pattern that was passed, from its end on.
 use mathlib.Core.Path.{_≡_, refl}
-use Prim.Native.Nat.{_≤_, _-_, _+_}
+use Prim.Native.Nat.{_≤_, _-_}
 use lib.ListN.{length, drop}
 use Rattle.listing_rules.specs.Match.{wildMatch}
 use Rattle.pattern.specs.Folded.{folded}
 use Rattle.pattern.specs.Rows.{RowOf}
-use Rattle.pattern.proofs.Rows.{row-begin, row-step, row-whole}
+use Rattle.pattern.proofs.Rows.{row-begin, row-before, row-whole}
 use Rattle.pattern.proofs.Blank.{blank-whole}
 use borrow.Author.Needs.{needs}
 use native.Mathlib.Omega.{arith}
@@ -22,7 +22,9 @@ end-row-requires : tie.Need-end-row-requires Inv-loop μ-loop
 end-row-requires c κs = search needs
 
 loop-holds : tie.Need-loop-holds Inv-loop μ-loop
-loop-holds c = (omega arith, row-begin _ (c .before .before .before .args .pattern .now) (c .before .before .before .args .name .now) _ (c .end-row .ensures (c .before .before .before .args .name .now) refl))
+loop-holds c =
+    let args = c .before .before .before .args in
+    (omega arith, row-begin _ (args .pattern .now) (args .name .now) _ (c .end-row .ensures (args .name .now) refl))
 
 sub-i : tie.Need-sub-i Inv-loop μ-loop
 sub-i c = search needs
@@ -39,20 +41,26 @@ step-row-requires c κs = search needs
 is-blank-requires : tie.Need-is-blank-requires Inv-loop μ-loop
 is-blank-requires c κs = search needs
 
+-- the row of one byte more of the pattern
+stepped : (c : tie.After-step-row Inv-loop μ-loop) →
+    let args = c .before .before .before .before .before .before .before .before .before .args in
+    RowOf (wildMatch (folded (args .fold) (drop (c .before .before .before .before .before .loop .i - 1) (args .pattern .now)))) (args .name .now) (c .step-row .last .0)
+stepped c =
+    let args = c .before .before .before .before .before .before .before .before .before .args in
+    let turn = c .before .before .before .before .before .loop in
+    row-before (args .fold) (args .pattern .now) (args .name .now) (turn .i) _ _ (omega arith) (turn .inv .0) (c .before .letter .ensures) (c .step-row .ensures _ (turn .inv .1))
+
 returns : tie.Need-returns Inv-loop μ-loop
 returns c =
-    let w : c .before .before .before .before .before .before .before .before .loop .i ≡ c .before .before .before .before .before .before .before .before .loop .i - 1 + 1 = omega arith in
-    blank-whole (c .before .before .before .before .before .before .before .before .before .before .before .before .args .fold) (c .before .before .before .before .before .before .before .before .before .before .before .before .args .pattern .now) (c .before .before .before .before .before .before .before .before .before .before .before .before .args .name .now) (c .before .before .before .before .before .before .before .before .loop .i - 1) (c .before .before .before .step-row .last .0) (omega arith) (row-step (c .before .before .before .before .before .before .before .before .before .before .before .before .args .fold) (c .before .before .before .before .before .before .before .before .before .before .before .before .args .pattern .now) (c .before .before .before .before .before .before .before .before .before .before .before .before .args .name .now) (c .before .before .before .before .before .before .before .before .loop .i - 1) _ (omega arith) (rw (← c .before .before .before .before .letter .ensures) (c .before .before .before .step-row .ensures _ (rw w at (c .before .before .before .before .before .before .before .before .loop .inv .1))))) (c .before .is-blank .ensures (c .if1 .taken))
+    let args = c .before .before .before .before .before .before .before .before .before .before .before .before .args in
+    let turn = c .before .before .before .before .before .before .before .before .loop in
+    blank-whole (args .fold) (args .pattern .now) (args .name .now) (turn .i - 1) _ (omega arith) (stepped (c .before .before .before)) (c .before .is-blank .ensures (c .if1 .taken))
 
 loop-less : tie.Need-loop-less Inv-loop μ-loop
 loop-less c = search needs
 
 loop-again : tie.Need-loop-again Inv-loop μ-loop
-loop-again c = (
-  omega arith,
-  let w : c .before .before .before .before .before .before .before .before .loop .i ≡ c .before .before .before .before .before .before .before .before .loop .i - 1 + 1 = omega arith in
-      row-step (c .before .before .before .before .before .before .before .before .before .before .before .before .args .fold) (c .before .before .before .before .before .before .before .before .before .before .before .before .args .pattern .now) (c .before .before .before .before .before .before .before .before .before .before .before .before .args .name .now) (c .before .before .before .before .before .before .before .before .loop .i - 1) _ (omega arith) (rw (← c .before .before .before .before .letter .ensures) (c .before .before .before .step-row .ensures _ (rw w at (c .before .before .before .before .before .before .before .before .loop .inv .1)))),
-)
+loop-again c = (omega arith, stepped (c .before .before .before))
 
 array-read-result : tie.Need-array-read-result Inv-loop μ-loop
 array-read-result c = search needs

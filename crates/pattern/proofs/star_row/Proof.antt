@@ -40,12 +40,13 @@ loop-less : tie.Need-loop-less Inv-loop μ-loop
 loop-less c = search needs
 
 loop-again : tie.Need-loop-again Inv-loop μ-loop
-loop-again c = (
-  omega arith,
-  λ name f e m.
-      let w : c .before .before .before .loop .j ≡ c .before .before .before .loop .j - 1 + 1 = omega arith in
-      star-down f name _ _ (omega arith) (rw w at (c .before .before .before .loop .inv .1 name f e m)),
-)
+loop-again c =
+    let turn = c .before .before .before .loop in (
+      omega arith,
+      λ name f e m.
+          let w : turn .j ≡ turn .j - 1 + 1 = omega arith in
+          star-down f name _ _ (omega arith) (rw w at (turn .inv .1 name f e m)),
+    )
 
 returns : tie.Need-returns Inv-loop μ-loop
 returns c = λ name f e m.

@@ -48,20 +48,37 @@ part-wild-rest-end-2 c = search needs
 
 wild-rest-requires : tie.Need-wild-rest-requires Inv-loop μ-loop
 wild-rest-requires c κs =
-    let w = wildcard-is (c .before .before .before .before .letter .ensures) (c .before .before .before .is-wildcard .ensures) (c .before .before .if1 .taken) in
-    (rw rest-is (simp length-drop (omega arith)), (rw rest-is (simp length-drop (omega arith)), rw (rest-first (c .before .before .before .before .before .before .before .before .before .before .args .pattern .now) (c .before .before .before .before .before .before .before .loop .i) (c .before .before .before .before .before .before .loop-test .taken)) w))
+    let start = c .before .before .before .before .before .before .before .before .before .before in
+    let turn = c .before .before .before .before .before .before .before .loop in
+    let loop-test = c .before .before .before .before .before .before .loop-test in
+    let letter = c .before .before .before .before .letter in
+    let w = wildcard-is (letter .ensures) (c .before .before .before .is-wildcard .ensures) (c .before .before .if1 .taken) in
+    (rw rest-is (simp length-drop (omega arith)), (rw rest-is (simp length-drop (omega arith)), rw (rest-first (start .args .pattern .now) (turn .i) (loop-test .taken)) w))
 
 returns : tie.Need-returns Inv-loop μ-loop
-returns c = c .wild-rest .ensures ∙ rw (rest-is (c .before .before .before .before .before .before .before .before .before .before .before .args .pattern .now), rest-is (c .before .before .before .before .before .before .before .before .before .before .before .args .name .now)) (c .before .before .before .before .before .before .before .before .loop .inv .1)
+returns c =
+    let start = c .before .before .before .before .before .before .before .before .before .before .before in
+    let turn = c .before .before .before .before .before .before .before .before .loop in
+    c .wild-rest .ensures ∙ rw (rest-is (start .args .pattern .now), rest-is (start .args .name .now)) (turn .inv .1)
 
 returns-2 : tie.Need-returns-2 Inv-loop μ-loop
-returns-2 c = sym (wild-short _ _ _ _ (c .before .before .before .before .before .loop-test .taken) (c .if2 .taken) (wildcard-is (c .before .before .before .letter .ensures) (c .before .before .is-wildcard .ensures) (c .before .if1 .left))) ∙ c .before .before .before .before .before .before .loop .inv .1
+returns-2 c =
+    let turn = c .before .before .before .before .before .before .loop in
+    let loop-test = c .before .before .before .before .before .loop-test in
+    let plain = wildcard-is (c .before .before .before .letter .ensures) (c .before .before .is-wildcard .ensures) (c .before .if1 .left) in
+    sym (wild-short _ _ _ _ (loop-test .taken) (c .if2 .taken) plain) ∙ turn .inv .1
 
 shared-slice-read-if3 : tie.Need-shared-slice-read-if3 Inv-loop μ-loop
 shared-slice-read-if3 c = search needs
 
 returns-3 : tie.Need-returns-3 Inv-loop μ-loop
-returns-3 c = sym (wild-differs _ _ _ _ (c .before .before .before .before .before .before .before .loop-test .taken) (c .before .before .if2 .left) (wildcard-is (c .before .before .before .before .before .letter .ensures) (c .before .before .before .before .is-wildcard .ensures) (c .before .before .before .if1 .left)) (λ e. c .if3 .taken (c .before .before .before .before .before .letter .ensures ∙ e))) ∙ c .before .before .before .before .before .before .before .before .loop .inv .1
+returns-3 c =
+    let turn = c .before .before .before .before .before .before .before .before .loop in
+    let loop-test = c .before .before .before .before .before .before .before .loop-test in
+    let letter = c .before .before .before .before .before .letter in
+    let is-wildcard = c .before .before .before .before .is-wildcard in
+    let plain = wildcard-is (letter .ensures) (is-wildcard .ensures) (c .before .before .before .if1 .left) in
+    sym (wild-differs _ _ _ _ (loop-test .taken) (c .before .before .if2 .left) plain (λ e. c .if3 .taken (letter .ensures ∙ e))) ∙ turn .inv .1
 
 add-i : tie.Need-add-i Inv-loop μ-loop
 add-i c = search needs
@@ -70,7 +87,13 @@ loop-less : tie.Need-loop-less Inv-loop μ-loop
 loop-less c = search needs
 
 loop-again : tie.Need-loop-again Inv-loop μ-loop
-loop-again c = (omega arith, sym (wild-step _ _ _ _ (c .before .before .before .before .before .before .before .loop-test .taken) (c .before .before .if2 .left) (wildcard-is (c .before .before .before .before .before .letter .ensures) (c .before .before .before .before .is-wildcard .ensures) (c .before .before .before .if1 .left)) (sym (c .before .before .before .before .before .letter .ensures) ∙ c .if3 .left)) ∙ c .before .before .before .before .before .before .before .before .loop .inv .1)
+loop-again c =
+    let turn = c .before .before .before .before .before .before .before .before .loop in
+    let loop-test = c .before .before .before .before .before .before .before .loop-test in
+    let letter = c .before .before .before .before .before .letter in
+    let is-wildcard = c .before .before .before .before .is-wildcard in
+    let plain = wildcard-is (letter .ensures) (is-wildcard .ensures) (c .before .before .before .if1 .left) in
+    (omega arith, sym (wild-step _ _ _ _ (loop-test .taken) (c .before .before .if2 .left) plain (sym (letter .ensures) ∙ c .if3 .left)) ∙ turn .inv .1)
 
 returns-4 : tie.Need-returns-4 Inv-loop μ-loop
 returns-4 c = sym (wild-end _ _ _ _ (c .loop-test .left) (c .before .loop .inv .0)) ∙ c .before .loop .inv .1

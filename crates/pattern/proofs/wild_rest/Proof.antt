@@ -24,7 +24,9 @@ row-match-requires : tie.Need-row-match-requires
 row-match-requires c κs = search needs
 
 returns : tie.Need-returns
-returns c = c .row-match .ensures ∙ rw (rest-is (c .before .before .before .before .before .before .args .pattern .now)) (sym (wild-run _ _ _ _ (c .before .before .before .run-end .ensures) (c .before .before .before .before .before .before .pre .1 .1)))
+returns c =
+    let start = c .before .before .before .before .before .before in
+    c .row-match .ensures ∙ rw (rest-is (start .args .pattern .now)) (sym (wild-run _ _ _ _ (c .before .before .before .run-end .ensures) (start .pre .1 .1)))
 
 shared-slice-read-letter : tie.Need-shared-slice-read-letter
 shared-slice-read-letter c = search needs
@@ -33,15 +35,25 @@ letter-requires : tie.Need-letter-requires
 letter-requires c κs = search needs
 
 returns-2 : tie.Need-returns-2
-returns-2 c = sym (wild-run _ _ _ _ (c .before .before .before .before .run-end .ensures) (c .before .before .before .before .before .before .before .pre .1 .1) ∙ last-star _ _ _ _ (c .before .before .before .before .run-end .ensures .inside) (c .before .before .before .if1 .left) (sym (c .before .letter .ensures) ∙ c .if2 .taken))
+returns-2 c =
+    let start = c .before .before .before .before .before .before .before in
+    let run-end = c .before .before .before .before .run-end in
+    let star = sym (c .before .letter .ensures) ∙ c .if2 .taken in
+    sym (wild-run _ _ _ _ (run-end .ensures) (start .pre .1 .1) ∙ last-star _ _ _ _ (run-end .ensures .inside) (c .before .before .before .if1 .left) star)
 
 is-one-level-requires : tie.Need-is-one-level-requires
 is-one-level-requires c κs = search needs
 
 returns-3 : tie.Need-returns-3
 returns-3 c =
+    let start = c .before .before .before .before .before .before .before .before in
+    let run-end = c .before .before .before .before .before .run-end in
+    let if1 = c .before .before .before .before .if1 in
+    let wildcard = start .pre .1 .1 in
     c .is-one-level .ensures
-    ∙ sym (wild-run _ _ _ _ (c .before .before .before .before .before .run-end .ensures) (c .before .before .before .before .before .before .before .before .pre .1 .1) ∙ last-level _ _ _ _ (c .before .before .before .before .before .run-end .ensures) (c .before .before .before .before .if1 .left) (c .before .before .before .before .before .before .before .before .pre .1 .1) (λ e. c .before .if2 .left (c .before .before .letter .ensures ∙ e)))
+    ∙ sym
+    (wild-run _ _ _ _ (run-end .ensures) wildcard
+    ∙ last-level _ _ _ _ (run-end .ensures) (if1 .left) wildcard (λ e. c .before .if2 .left (c .before .before .letter .ensures ∙ e)))
 
 pub wild-rest-spec : {M : Type 1} → statement M
 wild-rest-spec =

@@ -23,9 +23,10 @@ shared-slice-read-result-2 c = search needs
 
 returns-3 : tie.Need-returns-3
 returns-3 c =
-    let a = c .before .before .before .before .args .a .now in
-    let b = c .before .before .before .before .args .b .now in
-    ap (λ (s : ℕ). ltb (getD a s 0) (getD b s 0)) (c .before .before .before .before .pre) ∙ sym (order-differs a b (omega (arith, c .before .before .before .before .pre)) (omega (arith, c .before .before .before .before .pre)))
+    let start = c .before .before .before .before in
+    let a = start .args .a .now in
+    let b = start .args .b .now in
+    ap (λ (s : ℕ). ltb (getD a s 0) (getD b s 0)) (start .pre) ∙ sym (order-differs a b (omega (arith, start .pre)) (omega (arith, start .pre)))
 
 pub ascends-at-spec : {M : Type 1} → statement M
 ascends-at-spec =

@@ -12,25 +12,30 @@ use Rattle.mailbox_table.proofs.collect.collect_rows.Statement.{stateme
 use Rattle.mailbox_table.proofs.collect.collect_rows.Tie as tie
 
 abbrev Inv-loop : tie.InvT-loop
-Inv-loop table words₀ limit n₀ from₀ at₀ words n from at = Collecting table (length words₀) limit words n from at
+Inv-loop table words₀ limit n₀ from₀ at₀ words n from at = Collecting table words₀ limit words n from at
 
 abbrev μ-loop : tie.MeasureT-loop
 μ-loop table words₀ limit n₀ from₀ at₀ words n from at = length table - at
 
-lesser-requires : tie.Need-lesser-requires Inv-loop μ-loop
-lesser-requires c κs = search needs
+least-requires : tie.Need-least-requires Inv-loop μ-loop
+least-requires c κs = search needs
 
 loop-holds : tie.Need-loop-holds Inv-loop μ-loop
-loop-holds c = collecting-none (c .before .before .before .args .table .now) (c .before .before .before .args .words .now) (c .lesser .result)
+loop-holds c = collecting-none (c .before .before .before .args .table .now) (c .before .before .before .args .words .now) (c .least .result)
 
 same-length : tie.Need-same-length Inv-loop μ-loop
 same-length c = c .before .before .loop .inv .size
 
 returns : tie.Need-returns Inv-loop μ-loop
-returns c = collects-fails (c .before .before .before .lesser .result) (c .before .before .before .lesser .ensures) (collecting-full (c .before .before .loop .inv) (c .before .loop-test .taken) (c .if1 .taken)) (c .before .before .loop .inv .size)
+returns c =
+    let limit = c .before .before .before .least in
+    let turn = c .before .before .loop in
+    collects-fails (limit .result) (limit .ensures) (collecting-full (turn .inv) (c .before .loop-test .taken) (c .if1 .taken)) (turn .inv .size)
 
 next-row-requires : tie.Need-next-row-requires Inv-loop μ-loop
-next-row-requires c κs = record { order = c .before .before .loop .inv .order; inside = c .before .loop-test .taken; bound = c .before .before .before .before .before .before .pre }
+next-row-requires c κs =
+    let start = c .before .before .before .before .before .before in
+    record { order = c .before .before .loop .inv .order; inside = c .before .loop-test .taken; bound = start .pre }
 
 enum-known-row : tie.Need-enum-known-row Inv-loop μ-loop
 enum-known-row c = search needs
@@ -43,45 +48,73 @@ same-length-2 c = c .before .before .before .before .before .loop .inv .size
 
 returns-2 : tie.Need-returns-2 Inv-loop μ-loop
 returns-2 c =
-    collects-fails (c .before .before .before .before .before .before .lesser .result) (c .before .before .before .before .before .before .lesser .ensures)
-    (collecting-bad (c .before .before .before .before .before .loop .inv) (c .before .before .before .before .loop-test .taken) (sym (c .before .before .next-row .ensures) ∙ c .enum-told .given .1))
-    (c .before .before .before .before .before .loop .inv .size)
+    let limit = c .before .before .before .before .before .before .least in
+    let turn = c .before .before .before .before .before .loop in
+    let loop-test = c .before .before .before .before .loop-test in
+    collects-fails (limit .result) (limit .ensures)
+    (collecting-bad (turn .inv) (loop-test .taken) (sym (c .before .before .next-row .ensures) ∙ c .enum-told .given .1))
+    (turn .inv .size)
 
 -- where a row is read
-stepped : (c : tie.After-known-told Inv-loop μ-loop) → stepAt (c .before .before .before .before .before .before .before .before .before .before .args .table .now) (c .before .before .before .before .before .before .loop .from) (c .before .before .before .before .before .before .loop .at) ≡ Next (c .before .row .given .0 .0)
+stepped : (c : tie.After-known-told Inv-loop μ-loop) →
+    let start = c .before .before .before .before .before .before .before .before .before .before in
+    let turn = c .before .before .before .before .before .before .loop in
+    stepAt (start .args .table .now) (turn .from) (turn .at) ≡ Next (c .before .row .given .0 .0)
 stepped c = sym (c .before .before .before .next-row .ensures) ∙ c .before .row .given .1
 
-byte : (c : tie.After-struct-known Inv-loop μ-loop) (k : ℕ) → getD (c .before .before .before .before .before .before .before .before .before .before .before .before .args .table .now) k 0 < 256
+byte : (c : tie.After-struct-known Inv-loop μ-loop) (k : ℕ) →
+    let start = c .before .before .before .before .before .before .before .before .before .before .before .before in
+    getD (start .args .table .now) k 0 < 256
 byte c k = c .before .before .before .before .before .before .before .before .before .before .before .shared-slice-known .given k .fits
 
 word-requires : tie.Need-word-requires Inv-loop μ-loop
-word-requires c κs = step-packs (c .before .before .before .before .before .before .before .before .before .before .args .table .now) (c .before .before .before .before .before .before .loop .from) (c .before .before .before .before .before .before .loop .at) (c .before .row .given .0 .0) (stepped c) (c .before .before .before .before .before .before .before .before .before .before .pre)
+word-requires c κs =
+    let start = c .before .before .before .before .before .before .before .before .before .before in
+    let turn = c .before .before .before .before .before .before .loop in
+    step-packs (start .args .table .now) (turn .from) (turn .at) (c .before .row .given .0 .0) (stepped c) (start .pre)
 
 mul-words : tie.Need-mul-words Inv-loop μ-loop
-mul-words c = omega (arith, c .before .before .before .before .before .before .before .before .lesser .ensures)
+mul-words c = omega (arith, c .before .before .before .before .before .before .before .before .least .ensures)
 
 slice-write-words : tie.Need-slice-write-words Inv-loop μ-loop
-slice-write-words c = omega (arith, c .before .before .before .before .before .before .before .loop .inv .size, c .before .before .before .before .before .before .before .before .lesser .ensures)
+slice-write-words c =
+    let limit = c .before .before .before .before .before .before .before .before .least in
+    let turn = c .before .before .before .before .before .before .before .loop in
+    omega (arith, turn .inv .size, limit .ensures)
 
 add-n : tie.Need-add-n Inv-loop μ-loop
 add-n c = search needs
 
 add-at : tie.Need-add-at Inv-loop μ-loop
-add-at c = omega (arith, step-inside (c .before .before .before .before .before .before .before .before .before .before .before .before .args .table .now) (c .before .before .before .before .before .before .before .before .loop .from) (c .before .before .before .before .before .before .before .before .loop .at) (c .before .before .before .row .given .0 .0) (stepped (c .before .before)))
+add-at c =
+    let start = c .before .before .before .before .before .before .before .before .before .before .before .before in
+    let turn = c .before .before .before .before .before .before .before .before .loop in
+    omega (arith, step-inside (start .args .table .now) (turn .from) (turn .at) (c .before .before .before .row .given .0 .0) (stepped (c .before .before)))
 
 loop-less : tie.Need-loop-less Inv-loop μ-loop
-loop-less c = omega (arith, step-start (c .before .before .before .before .before .before .before .before .before .before .before .before .args .table .now) (c .before .before .before .before .before .before .before .before .loop .from) (c .before .before .before .before .before .before .before .before .loop .at) (c .before .before .before .row .given .0 .0) (stepped (c .before .before)))
+loop-less c =
+    let start = c .before .before .before .before .before .before .before .before .before .before .before .before in
+    let turn = c .before .before .before .before .before .before .before .before .loop in
+    omega (arith, step-start (start .args .table .now) (turn .from) (turn .at) (c .before .before .before .row .given .0 .0) (stepped (c .before .before)))
 
 loop-again : tie.Need-loop-again Inv-loop μ-loop
 loop-again c =
-    let next = collecting-more (c .before .before .before .before .before .before .before .before .loop .inv) (c .before .before .before .before .before .before .before .loop-test .taken) (c .before .before .before .before .before .before .before .before .before .before .before .before .pre) (λ k. byte c k) (c .before .before .before .before .before .before .if1 .left) (omega (arith, c .before .before .before .before .before .before .before .before .before .lesser .ensures)) (c .before .before .before .row .given .0 .0) (stepped (c .before .before)) in
-    rw (c .before .word .ensures) next
+    let start = c .before .before .before .before .before .before .before .before .before .before .before .before in
+    let limit = c .before .before .before .before .before .before .before .before .before .least in
+    let turn = c .before .before .before .before .before .before .before .before .loop in
+    let loop-test = c .before .before .before .before .before .before .before .loop-test in
+    let if1 = c .before .before .before .before .before .before .if1 in
+    let row = c .before .before .before .row .given .0 .0 in
+    rw (c .before .word .ensures)
+    (collecting-more (turn .inv) (loop-test .taken) (start .pre) (λ k. byte c k) (if1 .left) (omega (arith, limit .ensures)) row (stepped (c .before .before)))
 
 same-length-3 : tie.Need-same-length-3 Inv-loop μ-loop
 same-length-3 c = c .before .loop .inv .size
 
 returns-3 : tie.Need-returns-3 Inv-loop μ-loop
-returns-3 c = collects-rows (c .before .before .lesser .result) (c .before .before .lesser .ensures) (c .before .loop .inv) (c .loop-test .left)
+returns-3 c =
+    let limit = c .before .before .least in
+    collects-rows (limit .result) (limit .ensures) (c .before .loop .inv) (c .loop-test .left)
 
 pub collect-rows-spec : {M : Type 1} → statement M
 collect-rows-spec =
@@ -89,7 +122,7 @@ collect-rows-spec =
     (tie.spec
     Inv-loop
     μ-loop
-    lesser-requires
+    least-requires
     loop-holds
     same-length
     returns

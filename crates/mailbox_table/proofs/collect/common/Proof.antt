@@ -16,8 +16,8 @@ Inv-loop a b n i₀ i = (i ≤ n) × (i + sharedLen (drop i a) (drop i b) ≡ sh
 abbrev μ-loop : tie.MeasureT-loop
 μ-loop a b n i₀ i = n - i
 
-lesser-requires : tie.Need-lesser-requires Inv-loop μ-loop
-lesser-requires c κs = search needs
+least-requires : tie.Need-least-requires Inv-loop μ-loop
+least-requires c κs = search needs
 
 loop-holds : tie.Need-loop-holds Inv-loop μ-loop
 loop-holds c = (omega arith, zero-add _)
@@ -30,9 +30,12 @@ shared-slice-read-if1-2 c = search needs
 
 returns : tie.Need-returns Inv-loop μ-loop
 returns c =
-    let a = c .before .before .before .before .before .before .before .before .args .a .now in
-    let b = c .before .before .before .before .before .before .before .before .args .b .now in
-    sym (shared-stop a b (c .before .before .before .before .loop .i) (omega (arith, c .before .before .before .before .before .lesser .ensures)) (omega (arith, c .before .before .before .before .before .lesser .ensures)) (c .if1 .taken)) ∙ c .before .before .before .before .loop .inv .1
+    let start = c .before .before .before .before .before .before .before .before in
+    let least′ = c .before .before .before .before .before .least in
+    let turn = c .before .before .before .before .loop in
+    let a = start .args .a .now in
+    let b = start .args .b .now in
+    sym (shared-stop a b (turn .i) (omega (arith, least′ .ensures)) (omega (arith, least′ .ensures)) (c .if1 .taken)) ∙ turn .inv .1
 
 add-i : tie.Need-add-i Inv-loop μ-loop
 add-i c = search needs
@@ -42,15 +45,19 @@ loop-less c = search needs
 
 loop-again : tie.Need-loop-again Inv-loop μ-loop
 loop-again c =
-    let a = c .before .before .before .before .before .before .before .before .args .a .now in
-    let b = c .before .before .before .before .before .before .before .before .args .b .now in
-    (omega arith, sym (shared-more a b (c .before .before .before .before .loop .i) (omega (arith, c .before .before .before .before .before .lesser .ensures)) (omega (arith, c .before .before .before .before .before .lesser .ensures)) (c .if1 .left)) ∙ c .before .before .before .before .loop .inv .1)
+    let start = c .before .before .before .before .before .before .before .before in
+    let least′ = c .before .before .before .before .before .least in
+    let turn = c .before .before .before .before .loop in
+    let a = start .args .a .now in
+    let b = start .args .b .now in
+    (omega arith, sym (shared-more a b (turn .i) (omega (arith, least′ .ensures)) (omega (arith, least′ .ensures)) (c .if1 .left)) ∙ turn .inv .1)
 
 returns-2 : tie.Need-returns-2 Inv-loop μ-loop
 returns-2 c =
-    let a = c .before .before .before .before .before .args .a .now in
-    let b = c .before .before .before .before .before .args .b .now in
-    sym (shared-out a b (c .before .loop .i) (least a b (c .before .loop .i) (omega (arith, c .before .before .lesser .ensures)))) ∙ c .before .loop .inv .1
+    let start = c .before .before .before .before .before in
+    let a = start .args .a .now in
+    let b = start .args .b .now in
+    sym (shared-out a b (c .before .loop .i) (least a b (c .before .loop .i) (omega (arith, c .before .before .least .ensures)))) ∙ c .before .loop .inv .1
 
 pub common-spec : {M : Type 1} → statement M
 common-spec =
@@ -58,7 +65,7 @@ common-spec =
     (tie.spec
     Inv-loop
     μ-loop
-    lesser-requires
+    least-requires
     loop-holds
     shared-slice-read-if1
     shared-slice-read-if1-2

@@ -48,7 +48,8 @@ part-result-end-3 c = search needs
 
 returns-3 : tie.Need-returns-3
 returns-3 c =
-    let whole : c .before .before .before .args .row .start + c .before .before .before .args .row .len - c .before .before .before .args .row .start ≡ c .before .before .before .args .row .len = omega arith in
+    let row = c .before .before .before .args .row in
+    let whole : row .start + row .len - row .start ≡ row .len = omega arith in
     rw whole
 
 pub name-of-spec : {M : Type 1} → statement M

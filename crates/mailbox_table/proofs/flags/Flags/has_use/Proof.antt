@@ -1,10 +1,15 @@
--- `mailbox_table::flags::Flags::has_use` meets its contract, by the law of the mask in FlagBits.
-use Rattle.mailbox_table.proofs.FlagBits.{use-mask}
+-- `mailbox_table::flags::Flags::has_use` meets its contract, by the law of special uses in FlagBits.
+use mathlib.Core.Path.{_∙_}
+use Rattle.mailbox_table.proofs.FlagBits.{some-use}
+use borrow.Author.Needs.{needs}
 use Rattle.mailbox_table.proofs.flags.Flags.has_use.Statement.{statement}
 use Rattle.mailbox_table.proofs.flags.Flags.has_use.Tie as tie
 
+has-some-requires : tie.Need-has-some-requires
+has-some-requires c κs = search needs
+
 returns : tie.Need-returns
-returns c = use-mask (c .before .args .self .bits)
+returns c = c .has-some .ensures ∙ some-use (c .before .args .self .bits)
 
 pub has-use-spec : {M : Type 1} → statement M
-has-use-spec = tie.close (tie.spec returns)
+has-use-spec = tie.close (tie.spec has-some-requires returns)

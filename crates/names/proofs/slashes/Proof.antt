@@ -1,14 +1,14 @@
--- `mailbox_table::names::slashes` meets its contract: those counted and those from i on are all. By the laws of slashes in NameShape.
+-- `names::slashes` meets its contract: those counted and those from i on are all. By the laws of slashes in NameShape.
 use mathlib.Core.Path.{_≡_}
 use Prim.Native.Nat.{_+_, _-_, _≤_}
 use lib.Dec.{eqb}
 use lib.ListN.{length, drop, getD}
-use Rattle.mailbox_table.specs.Slashes.{slashCount}
-use Rattle.mailbox_table.proofs.NameShape.{digit-small, slash-more, slash-end}
+use Rattle.names.specs.Slashes.{slashCount}
+use Rattle.names.proofs.NameShape.{digit-small, slash-more, slash-end}
 use borrow.Author.Needs.{needs}
 use native.Mathlib.Omega.{arith}
-use Rattle.mailbox_table.proofs.names.slashes.Statement.{statement}
-use Rattle.mailbox_table.proofs.names.slashes.Tie as tie
+use Rattle.names.proofs.slashes.Statement.{statement}
+use Rattle.names.proofs.slashes.Tie as tie
 
 abbrev Inv-loop : tie.InvT-loop
 Inv-loop name n₀ i₀ n i = (n ≤ i) × (n + slashCount (drop i name) ≡ slashCount name)

@@ -1,14 +1,16 @@
-// The shape of a mailbox name.
+// Mailbox names: whether a run of bytes has the shape of one, its levels and INBOX's spelling with it.
 //
 // Each condition is a loop over the whole name that keeps a bool or a count and never leaves early, so that it runs on many
 // bytes at a time.
 use octets::SLASH;
+use octets::same_bytes;
+use octets::spells_word;
 ghost use mathlib.Core.Path.{_≡_};
 ghost use Prim.Native.Nat.{_≤_};
 ghost use lib.ListN.{length};
 ghost use Rattle.listing_rules.specs.Bytes.{all};
 ghost use Rattle.listing_rules.specs.Names.{lawfulName, nameByte, levels, inboxSpelled};
-ghost use Rattle.mailbox_table.specs.Slashes.{slashCount, noPair};
+ghost use Rattle.names.specs.Slashes.{slashCount, noPair};
 
 pub const MAX_NAME: usize = 200;
 
@@ -78,7 +80,7 @@ fn slashes(name: &[u8]) -> u8
     n
 }
 
-// Whether no slash stands behind another.
+// Whether no slash follows another.
 fn no_pair(name: &[u8]) -> bool
     ensures { λ r. ⌜ r ≡ noPair (now (name .entry)) ⌝ }
 {
@@ -92,7 +94,7 @@ fn no_pair(name: &[u8]) -> bool
 }
 
 // Whether a first level INBOX, in any case of letters, is spelled INBOX. Another spelling is lawful only where the level goes
-// on behind it.
+// on after it.
 fn inbox_spelled(name: &[u8]) -> bool
     ensures { λ r. ⌜ r ≡ inboxSpelled (levels (now (name .entry))) ⌝ }
 {
@@ -100,10 +102,10 @@ fn inbox_spelled(name: &[u8]) -> bool
         return true;
     }
     let first = &name[..5];
-    if !octets::spells_word(first, b"INBOX") {
+    if !spells_word(first, b"INBOX") {
         return true;
     }
-    if octets::same_bytes(first, b"INBOX") {
+    if same_bytes(first, b"INBOX") {
         return true;
     }
     if name.len() == 5 {

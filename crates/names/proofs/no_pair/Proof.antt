@@ -1,15 +1,14 @@
--- `mailbox_table::names::no_pair` meets its contract: what is kept and the pairs from i - 1 on decide. By the laws of pairs in NameShape.
+-- `names::no_pair` meets its contract: what is kept and the pairs from i - 1 on decide. By the laws of pairs in NameShape.
 use mathlib.Core.Path.{_≡_, refl, sym, _∙_}
-use mathlib.Core.Bool.{_&&_}
+use mathlib.Core.Bool.{_&&_, and-true}
 use Prim.Native.Nat.{_-_, _≤_}
 use lib.ListN.{length, drop}
-use Rattle.mailbox_table.specs.Slashes.{noPair}
-use Rattle.mailbox_table.proofs.Bools.{and-true}
-use Rattle.mailbox_table.proofs.NameShape.{pair-more, pair-end}
+use Rattle.names.specs.Slashes.{noPair}
+use Rattle.names.proofs.NameShape.{pair-more, pair-end}
 use borrow.Author.Needs.{needs}
 use native.Mathlib.Omega.{arith}
-use Rattle.mailbox_table.proofs.names.no_pair.Statement.{statement}
-use Rattle.mailbox_table.proofs.names.no_pair.Tie as tie
+use Rattle.names.proofs.no_pair.Statement.{statement}
+use Rattle.names.proofs.no_pair.Tie as tie
 
 abbrev Inv-loop : tie.InvT-loop
 Inv-loop name ok₀ i₀ ok i = (1 ≤ i) × ((ok && noPair (drop (i - 1) name)) ≡ noPair name)
@@ -37,8 +36,10 @@ loop-less c = search needs
 
 loop-again : tie.Need-loop-again Inv-loop μ-loop
 loop-again c =
-    let s = c .before .before .before .before .args .name .now in
-    (omega arith, pair-more s (c .before .before .before .loop .ok) (c .before .before .before .loop .i) (c .before .before .before .loop .inv .0) (c .before .before .loop-test .taken) ∙ c .before .before .before .loop .inv .1)
+    let start = c .before .before .before .before in
+    let turn = c .before .before .before .loop in
+    let s = start .args .name .now in
+    (omega arith, pair-more s (turn .ok) (turn .i) (turn .inv .0) (c .before .before .loop-test .taken) ∙ turn .inv .1)
 
 returns : tie.Need-returns Inv-loop μ-loop
 returns c =

@@ -1,30 +1,22 @@
--- The shape of a name, as the loops over its bytes see it.
+-- The shape of a name, as the loops over its bytes see it: slashes and levels, INBOX's spelling, and the parts of a lawful name one by
+-- one. Rests on octets' laws of comparing.
 use mathlib.Core.Path.{_≡_, refl, sym, ap, _∙_}
-use mathlib.Core.Bool.{Bool, true, false, cond, not, _&&_, _||_, false≢true}
+use mathlib.Core.Bool.{Bool, true, false, cond, not, _&&_, _||_, and-assoc, and-false, or-false}
 use mathlib.Core.List.{List, [], _∷_, map}
 use Prim.Native.Nat.{ℕ, zero, suc, _+_, _-_, _≤_, _<_}
 use native.Mathlib.Numerals.{add-one}
 use native.Mathlib.Omega.{arith}
-use lib.Dec.{eqb, leb, lit≤}
+use lib.Dec.{eqb, lit≤}
 use lib.ListN.{length, take, drop, getD, drop-of-length-le, length-take, length-drop}
 use lib.Seq.{drop-cons}
 use mir.Val.{boolByte}
-use borrow.Author.Tests.{eq-eqb, ne-eqb, eqb-true, eqb-false, le-leb, lt-leb, leb-true}
+use borrow.Author.Tests.{eq-eqb, ne-eqb, eqb-true, eqb-false, le-leb, lt-leb}
 use Rattle.listing_rules.specs.Bytes.{slash, within, all, same, raise, raised, spells}
 use Rattle.listing_rules.proofs.Keys.{openBytes}
 use Rattle.listing_rules.specs.Lists.{every, onFirst}
 use Rattle.listing_rules.specs.Names.{levels, isFull, inbox, inboxSpelled, lawfulName, nameByte}
-use Rattle.mailbox_table.specs.Slashes.{slashCount, noPair}
-use Rattle.mailbox_table.proofs.Bools.{and-assoc, and-false, and-true, and-l, and-r, or-false}
-
--- one byte more passes the test
-pub all-more : (p : ℕ → Bool) (s : List ℕ) (ok : Bool) (i : ℕ) → i < length s → ((ok && p (getD s i 0)) && all p (drop (i + 1) s)) ≡ (ok && all p (drop i s))
-unfolding all
-all-more p s ok i h = rw (add-one, drop-cons s i 0 h) (and-assoc ok (p (getD s i 0)) (all p (drop (suc i) s)))
-
-pub all-end : (p : ℕ → Bool) (s : List ℕ) (ok : Bool) (i : ℕ) → length s ≤ i → (ok && all p (drop i s)) ≡ ok
-unfolding all
-all-end p s ok i h = rw (drop-of-length-le s h) (and-true ok)
+use Rattle.names.specs.Slashes.{slashCount, noPair}
+use Rattle.octets.proofs.Same.{spells-lengths}
 
 pub digit-small : (b : Bool) → boolByte b ≤ 1
 digit-small true = lit≤ tt
@@ -55,7 +47,8 @@ short-pair [] h = refl
 short-pair (b ∷ []) h = refl
 short-pair (b ∷ c ∷ s) h = absurd (omega arith)
 
-pub pair-more : (s : List ℕ) (ok : Bool) (i : ℕ) → 1 ≤ i → i < length s → ((ok && not (eqb (getD s (i - 1) 0) 47 && eqb (getD s i 0) 47)) && noPair (drop (i + 1 - 1) s)) ≡ (ok && noPair (drop (i - 1) s))
+pub pair-more : (s : List ℕ) (ok : Bool) (i : ℕ) → 1 ≤ i → i < length s
+    → ((ok && not (eqb (getD s (i - 1) 0) 47 && eqb (getD s i 0) 47)) && noPair (drop (i + 1 - 1) s)) ≡ (ok && noPair (drop (i - 1) s))
 pair-more s ok zero h g = absurd (omega arith)
 pair-more s ok (suc j) h g =
     let e : suc j - 1 ≡ j = omega arith in
@@ -262,26 +255,9 @@ pub ends-behind : (s : List ℕ) (i : ℕ) → length s ≤ i → endsHere (drop
 unfolding endsHere
 ends-behind s i h = rw (drop-of-length-le s h)
 
-same-length : (a b : List ℕ) → same a b ≡ true → length a ≡ length b
-unfolding same
-same-length [] [] e = refl
-same-length [] (y ∷ b) e = absurd (false≢true e)
-same-length (x ∷ a) [] e = absurd (false≢true e)
-same-length (x ∷ a) (y ∷ b) e = ap suc (same-length a b (and-r (eqb x y) (same a b) e))
-
-raised-length : (s : List ℕ) → length (raised s) ≡ length s
-unfolding raised
-raised-length [] = refl
-raised-length (b ∷ t) = ap suc (raised-length t)
-
 -- fewer bytes spell no INBOX
 pub inbox-short : (s : List ℕ) → length s < 5 → spells (take 5 s) inbox ≡ false
-unfolding spells
-inbox-short s h = go (same (raised (take 5 s)) inbox) refl
-  where
-    go : (o : Bool) → same (raised (take 5 s)) inbox ≡ o → o ≡ false
-    go false e = refl
-    go true e = absurd (omega (arith, same-length (raised (take 5 s)) inbox e, raised-length (take 5 s), inbox-length, length-take 5 s))
+inbox-short s h = spells-lengths (take 5 s) inbox (λ e. omega (arith, inbox-length, length-take 5 s))
 
 -- the parts of a lawful name, one by one as they are tested
 module _ (s : List ℕ) where
@@ -316,7 +292,8 @@ module _ (s : List ℕ) where
     not-pair e = not-full (simp (levels-full s h, e, and-false))
 
     -- all but the rule for INBOX hold
-    pub all-but-inbox : length s ≤ 200 → all nameByte s ≡ true → slashCount s < 16 → (getD s 0 0 ≡ 47 → ⊥) → (getD s (length s - 1) 0 ≡ 47 → ⊥) → noPair s ≡ true → lawfulName s ≡ inboxSpelled (levels s)
+    pub all-but-inbox : length s ≤ 200 → all nameByte s ≡ true → slashCount s < 16 → (getD s 0 0 ≡ 47 → ⊥) → (getD s (length s - 1) 0 ≡ 47 → ⊥) → noPair s ≡ true
+        → lawfulName s ≡ inboxSpelled (levels s)
     unfolding lawfulName within
     all-but-inbox l b f p q e =
         simp (
@@ -329,14 +306,3 @@ module _ (s : List ℕ) where
           ne-eqb (getD s (length s - 1) 0) 47 q,
           e,
         )
-
--- a lawful name has 1 to 200 bytes
-pub lawful-length : (s : List ℕ) → lawfulName s ≡ true → (1 ≤ length s) × (length s ≤ 200)
-unfolding lawfulName within
-lawful-length s e =
-    let w = leb 1 (length s) && leb (length s) 200 in
-    let a = all nameByte s in
-    let l = leb (length (levels s)) 16 in
-    let f = every isFull (levels s) in
-    let h = and-l w a (and-l (w && a) l (and-l (w && a && l) f (and-l (w && a && l && f) (inboxSpelled (levels s)) e))) in
-    (leb-true 1 (length s) (and-l (leb 1 (length s)) (leb (length s) 200) h), leb-true (length s) 200 (and-r (leb 1 (length s)) (leb (length s) 200) h))

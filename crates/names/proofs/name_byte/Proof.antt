@@ -1,9 +1,9 @@
--- `mailbox_table::names::name_byte` meets its contract: the test is the definition, opened.
+-- `names::name_byte` meets its contract: the test is the definition, opened.
 use mathlib.Core.Path.{refl}
 use Rattle.listing_rules.specs.Bytes.{within}
 use Rattle.listing_rules.specs.Names.{nameByte}
-use Rattle.mailbox_table.proofs.names.name_byte.Statement.{statement}
-use Rattle.mailbox_table.proofs.names.name_byte.Tie as tie
+use Rattle.names.proofs.name_byte.Statement.{statement}
+use Rattle.names.proofs.name_byte.Tie as tie
 
 returns : tie.Need-returns
 unfolding nameByte within

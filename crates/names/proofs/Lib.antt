@@ -1,0 +1,2 @@
+-- Laws of the shape of a name.
+pub mod NameShape

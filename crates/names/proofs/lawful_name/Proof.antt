@@ -1,0 +1,99 @@
+-- `names::lawful_name` meets its contract: each refusal is one part of the definition. By the last laws of NameShape.
+use mathlib.Core.Path.{sym, _∙_}
+use borrow.Author.Tests.{not-true, not-false}
+use Rattle.names.proofs.NameShape.{not-none, not-long, not-bytes, not-few, not-first, not-last, not-pair, all-but-inbox}
+use native.Mathlib.Omega.{arith}
+use borrow.Author.Needs.{needs}
+use Rattle.names.proofs.lawful_name.Statement.{statement}
+use Rattle.names.proofs.lawful_name.Tie as tie
+
+returns : tie.Need-returns
+returns c = sym (not-none (c .before .before .args .name .now) (c .if1 .taken))
+
+returns-2 : tie.Need-returns-2
+returns-2 c = sym (not-long (c .before .before .before .args .name .now) (c .if2 .taken))
+
+name-bytes-requires : tie.Need-name-bytes-requires
+name-bytes-requires c κs = search needs
+
+returns-3 : tie.Need-returns-3
+returns-3 c =
+    let start = c .before .before .before .before .before in
+    sym (not-bytes (start .args .name .now) (sym (c .before .name-bytes .ensures) ∙ not-true _ (c .if3 .taken)))
+
+slashes-requires : tie.Need-slashes-requires
+slashes-requires c κs = search needs
+
+returns-4 : tie.Need-returns-4
+returns-4 c =
+    let start = c .before .before .before .before .before .before .before in
+    sym (not-few (start .args .name .now) (omega (arith, c .before .slashes .ensures)))
+
+shared-slice-read-if5 : tie.Need-shared-slice-read-if5
+shared-slice-read-if5 c = search needs
+
+returns-5 : tie.Need-returns-5
+returns-5 c =
+    let start = c .before .before .before .before .before .before .before .before .before in
+    sym (not-first (start .args .name .now) (omega arith) (c .if5 .taken))
+
+sub-if6 : tie.Need-sub-if6
+sub-if6 c = search needs
+
+shared-slice-read-if6 : tie.Need-shared-slice-read-if6
+shared-slice-read-if6 c = search needs
+
+returns-6 : tie.Need-returns-6
+returns-6 c =
+    let start = c .before .before .before .before .before .before .before .before .before .before .before in
+    sym (not-last (start .args .name .now) (omega arith) (c .if6 .taken))
+
+no-pair-requires : tie.Need-no-pair-requires
+no-pair-requires c κs = search needs
+
+returns-7 : tie.Need-returns-7
+returns-7 c =
+    let start = c .before .before .before .before .before .before .before .before .before .before .before .before .before in
+    sym (not-pair (start .args .name .now) (omega arith) (sym (c .before .no-pair .ensures) ∙ not-true _ (c .if7 .taken)))
+
+inbox-spelled-requires : tie.Need-inbox-spelled-requires
+inbox-spelled-requires c κs = search needs
+
+returns-8 : tie.Need-returns-8
+returns-8 c =
+    let start = c .before .before .before .before .before .before .before .before .before .before .before .before .before .before in
+    let name-bytes = c .before .before .before .before .before .before .before .before .before .before .name-bytes in
+    let if3 = c .before .before .before .before .before .before .before .before .before .if3 in
+    let slashes = c .before .before .before .before .before .before .before .before .slashes in
+    let if5 = c .before .before .before .before .before .if5 in
+    c .inbox-spelled .ensures
+    ∙ sym
+    (all-but-inbox
+    (start .args .name .now)
+    (omega arith)
+    (omega arith)
+    (sym (name-bytes .ensures) ∙ not-false _ (if3 .left))
+    (omega (arith, slashes .ensures))
+    (if5 .left)
+    (c .before .before .before .if6 .left)
+    (sym (c .before .before .no-pair .ensures) ∙ not-false _ (c .before .if7 .left)))
+
+pub lawful-name-spec : {M : Type 1} → statement M
+lawful-name-spec =
+    tie.close
+    (tie.spec
+    returns
+    returns-2
+    name-bytes-requires
+    returns-3
+    slashes-requires
+    returns-4
+    shared-slice-read-if5
+    returns-5
+    sub-if6
+    shared-slice-read-if6
+    returns-6
+    no-pair-requires
+    returns-7
+    inbox-spelled-requires
+    returns-8)

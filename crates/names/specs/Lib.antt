@@ -1,0 +1,2 @@
+-- What the code of lawful names needs beside document 01's definitions.
+pub mod Slashes

@@ -1,0 +1,30 @@
+-- A loop that stores zeros from the front on, over bytes or words. Rests on the library's laws of filling.
+use mathlib.Core.Path.{_≡_, refl, _∙_}
+use mathlib.Core.List.{List, _++_, append-nil}
+use Prim.Native.Nat.{ℕ, _+_, _≤_, _<_}
+use native.Mathlib.Omega.{arith}
+use lib.ListN.{length, drop, set, replicate, length-set}
+use lib.Seq.{drop-length}
+use borrow.Author.Fill.{fill-none, fill-more}
+
+-- the first i elements of d are cleared, which is e
+pub record Cleared (d e : List ℕ) (i : ℕ) : Type 0 where
+  pub inside : i ≤ length d
+  pub size : length e ≡ length d
+  pub elements : e ≡ replicate i 0 ++ drop i d
+
+pub cleared-none : (d : List ℕ) → Cleared d d 0
+cleared-none d = record { inside = omega arith; size = refl; elements = fill-none d 0 }
+
+pub cleared-more : {d e : List ℕ} {i : ℕ} → Cleared d e i → i < length e → Cleared d (set e i 0) (i + 1)
+cleared-more {d} {e} {i} c h =
+    record {
+      inside = omega (arith, c .size);
+      size = length-set e i 0 ∙ c .size;
+      elements = rw (c .elements) (fill-more i 0 d (omega (arith, c .size)));
+    }
+
+pub cleared-all : {d e : List ℕ} {i : ℕ} → Cleared d e i → length e ≤ i → e ≡ replicate (length d) 0
+cleared-all {d} {e} {i} c h =
+    let w : i ≡ length d = omega (arith, c .size, c .inside) in
+    c .elements ∙ rw (w, drop-length d) (append-nil (replicate (length d) 0))

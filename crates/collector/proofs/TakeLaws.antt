@@ -13,7 +13,7 @@ use Rattle.listing_rules.specs.Names.{lawfulName}
 use Rattle.listing_rules.specs.Options.{Criteria, isNone}
 use Rattle.listing_rules.specs.Lines.{rootLine}
 use Rattle.listing_rules.specs.Reader.{Read, line, root, bad, readLine, nameRead, nameBytes}
-use Rattle.listing_rules.specs.Walk.{lawfulByte, Lists, Step, stop, go, _>>=_, packed, isFind, withName, fits, takenIn}
+use Rattle.listing_rules.specs.Walk.{Lists, Step, stop, go, _>>=_, packed, isFind, withName, fits, takenIn}
 use Rattle.listing_rules.proofs.LawfulNames.{good-parts}
 use Rattle.listing_rules.proofs.ReaderWriter.{Taken, readLine-only}
 use Rattle.list_line.specs.Members.{members, setOf}
@@ -25,9 +25,11 @@ use Rattle.list_line.specs.declared.read.Line.the-variants.{Parts, Refused}
 use Rattle.list_line.proofs.Members.{members-setOf}
 use Rattle.list_line.proofs.CriteriaSets.{criteria-set}
 use Rattle.collector.specs.Names.{Keeps}
+use Rattle.collector.specs.Options.{byteOf}
 use Rattle.collector.specs.Taking.{Inside, Holds, Goes}
 use Rattle.collector.specs.declared.names.Kept.the-variants.{To, Full}
 use Rattle.collector.specs.declared.lines.Progress.{Progress}
+use Rattle.collector.specs.declared.options.WalkOptions.{WalkOptions}
 use Rattle.collector.proofs.FindLaws.{root-finds-none}
 use Rattle.collector.proofs.PackLaws.{fits-go, fits-stop}
 
@@ -44,7 +46,7 @@ parentOf k = not (isNone (criteriaIs (k .bits)))
 pub record ReadAs (r : Read) (t : Attributes) (n : ℕ) (c : Bool) (name : List ℕ) : Type 0 where
   pub short : n ≤ 200
   pub inside : n ≤ length name
-  pub taken : (o room₁ room₂ : ℕ) → lawfulByte o ≡ true → (s : Lists) → length (packed (s .finds)) ≤ room₁ → length (packed (s .asks)) ≤ room₂ → takenIn o room₁ room₂ s r ≡ bothFit room₁ room₂ (withName (isFind o (members (t .bits))) (take n name) (s .finds)) (withName c (take n name) (s .asks))
+  pub taken : (w : WalkOptions) (room₁ room₂ : ℕ) (s : Lists) → length (packed (s .finds)) ≤ room₁ → length (packed (s .asks)) ≤ room₂ → takenIn (byteOf w) room₁ room₂ s r ≡ bothFit room₁ room₂ (withName (isFind (byteOf w) (members (t .bits))) (take n name) (s .finds)) (withName c (take n name) (s .asks))
 
 module _ (t : Attributes) (n : ℕ) (k : Set) (name : List ℕ) where
   as-line : (bs : List Bool) (m : List ℕ) (d : Criteria) → length bs ≡ 16 → length m ≤ 200 → Parts (record { bits = setOf bs }) (length m) (record { bits = criteriaSet d }) ≡ Parts t n k → name ≡ nameBytes (line bs m d) → ReadAs (line bs m d) t n (parentOf k) name
@@ -53,7 +55,7 @@ module _ (t : Attributes) (n : ℕ) (k : Set) (name : List ℕ) where
       record {
         short = omega (arith, size);
         inside = omega (arith, size, ap length g, length-append m (replicate (200 - length m) 0));
-        taken = λ o room₁ room₂ ok s p q. λ i. bothFit room₁ room₂ (withName (isFind o (attributes i)) (bytes i) (s .finds)) (withName (child i) (bytes i) (s .asks));
+        taken = λ w room₁ room₂ s p q. λ i. bothFit room₁ room₂ (withName (isFind (byteOf w) (attributes i)) (bytes i) (s .finds)) (withName (child i) (bytes i) (s .asks));
       }
     where
       size : length m ≡ n
@@ -75,9 +77,9 @@ module _ (t : Attributes) (n : ℕ) (k : Set) (name : List ℕ) where
       record {
         short = let w : 0 ≡ n = cc in omega arith;
         inside = let w : 0 ≡ n = cc in omega arith;
-        taken = λ o room₁ room₂ ok s p q.
-            sym (rw (root-finds-none o ok, fits-go 10 room₁ (s .finds) p, fits-go 11 room₂ (s .asks) q))
-            ∙ λ i. bothFit room₁ room₂ (withName (isFind o (members (attributes i .bits))) (take n name) (s .finds)) (withName (child i) (take n name) (s .asks));
+        taken = λ w room₁ room₂ s p q.
+            sym (rw (root-finds-none w, fits-go 10 room₁ (s .finds) p, fits-go 11 room₂ (s .asks) q))
+            ∙ λ i. bothFit room₁ room₂ (withName (isFind (byteOf w) (members (attributes i .bits))) (take n name) (s .finds)) (withName (child i) (take n name) (s .asks));
       }
     where
       child : false ≡ parentOf k
@@ -109,32 +111,32 @@ read-bad l k e = pick (readLine l) e
     pick root z = cc
     pick bad z = refl
 
-module _ (l : List ℕ) (o : ℕ) (d b : List ℕ) (p : Progress) where
+module _ (l : List ℕ) (w : WalkOptions) (d b : List ℕ) (p : Progress) where
   -- the line's step
   abbrev pub lineStep : Lists → Step Lists
-  lineStep s = takenIn o (length d) (length b) s (readLine l)
+  lineStep s = takenIn (byteOf w) (length d) (length b) s (readLine l)
 
   pub line-skipped : (k : ℕ) → lineIs (readLine l) ≡ Refused k → Inside d b p → Goes lineStep (p .count) d b p d b p
   unfolding takenIn
   line-skipped k e h = record { inside = h; counted = refl; lists = λ s g. (s, rw (read-bad l k e), g) }
 
-  module _ (t : Attributes) (n : ℕ) (c : Bool) (name : List ℕ) (R : ReadAs (readLine l) t n c name) (ok : lawfulByte o ≡ true) where
+  module _ (t : Attributes) (n : ℕ) (c : Bool) (name : List ℕ) (R : ReadAs (readLine l) t n c name) where
     abbrev finds′ : Lists → List (List ℕ)
-    finds′ s = withName (isFind o (members (t .bits))) (take n name) (s .finds)
+    finds′ s = withName (isFind (byteOf w) (members (t .bits))) (take n name) (s .finds)
 
     abbrev asks′ : Lists → List (List ℕ)
     asks′ s = withName c (take n name) (s .asks)
 
     parts-step : (s : Lists) → Holds s d b p → lineStep s ≡ bothFit (length d) (length b) (finds′ s) (asks′ s)
-    parts-step s h = R .taken o (length d) (length b) ok s (omega (arith, h .finds .counted, h .finds .room)) (omega (arith, h .asks .counted, h .asks .room))
+    parts-step s h = R .taken w (length d) (length b) s (omega (arith, h .finds .counted, h .finds .room)) (omega (arith, h .asks .counted, h .asks .room))
 
-    pub find-full : (d′ : List ℕ) → Keeps (isFind o (members (t .bits))) (take n name) d (p .found) d′ Full → (s : Lists) → Holds s d b p → lineStep s ≡ stop 10
+    pub find-full : (d′ : List ℕ) → Keeps (isFind (byteOf w) (members (t .bits))) (take n name) d (p .found) d′ Full → (s : Lists) → Holds s d b p → lineStep s ≡ stop 10
     unfolding _>>=_
     find-full d′ k s h = parts-step s h ∙ rw (fits-stop 10 (length d) (finds′ s) (k (s .finds) (h .finds)))
 
-    module _ (d′ : List ℕ) (f : ℕ) (kf : Keeps (isFind o (members (t .bits))) (take n name) d (p .found) d′ (To f)) (same : length d′ ≡ length d) where
+    module _ (d′ : List ℕ) (f : ℕ) (kf : Keeps (isFind (byteOf w) (members (t .bits))) (take n name) d (p .found) d′ (To f)) (same : length d′ ≡ length d) where
       found-fits : (s : Lists) → Holds s d b p → fits 10 (length d) (finds′ s) ≡ go (finds′ s)
-      found-fits s h = let w = kf .1 (s .finds) (h .finds) in fits-go 10 (length d) (finds′ s) (omega (arith, w .counted, w .room))
+      found-fits s h = let k = kf .1 (s .finds) (h .finds) in fits-go 10 (length d) (finds′ s) (omega (arith, k .counted, k .room))
 
       pub ask-full : (b′ : List ℕ) → Keeps c (take n name) b (p .pending) b′ Full → (s : Lists) → Holds s d b p → lineStep s ≡ stop 11
       unfolding _>>=_
@@ -154,4 +156,4 @@ module _ (l : List ℕ) (o : ℕ) (d b : List ℕ) (p : Progress) where
           }
         where
           asks-fit : (s : Lists) → Holds s d b p → fits 11 (length b) (asks′ s) ≡ go (asks′ s)
-          asks-fit s h = let w = kq .1 (s .asks) (h .asks) in fits-go 11 (length b) (asks′ s) (omega (arith, w .counted, w .room))
+          asks-fit s h = let k = kq .1 (s .asks) (h .asks) in fits-go 11 (length b) (asks′ s) (omega (arith, k .counted, k .room))

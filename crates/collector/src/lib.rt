@@ -9,6 +9,7 @@ mod options;
 mod walk;
 
 use octets::clear;
+use options::Asked;
 use options::WalkOptions;
 use walk::walk_table;
 ghost use mathlib.Core.Path.{_≡_};
@@ -72,9 +73,8 @@ fn run(
     if !mailbox_table::check(table) {
         return Collected::Refused(BAD_TABLE);
     }
-    let options = WalkOptions { bits: option };
-    if !options.lawful() {
+    let Asked::Of(options) = WalkOptions::of_byte(option) else {
         return Collected::Refused(BAD_OPTION);
-    }
+    };
     walk_table(table, options, scratch, found, pending)
 }

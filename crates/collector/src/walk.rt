@@ -18,11 +18,12 @@ ghost use lib.ListN.{length, take, drop, replicate};
 ghost use Rattle.listing_rules.specs.Bytes.{slash};
 ghost use Rattle.listing_rules.specs.Table.{rows, passes};
 ghost use Rattle.listing_rules.specs.Listing.{candidates};
-ghost use Rattle.listing_rules.specs.Walk.{lawfulByte, asked, walkAll, ended};
+ghost use Rattle.listing_rules.specs.Walk.{asked, walkAll, ended};
+ghost use Rattle.collector.specs.Options.{byteOf};
 ghost use Rattle.collector.specs.Taking.{Inside, Takes};
 ghost use Rattle.collector.specs.Ends.{Ends};
 
-// Walks a table that passes, with lawful options. Found and pending are zero.
+// Walks a table that passes. Found and pending are zero.
 pub(crate) fn walk_table(
     table: &[u8],
     options: WalkOptions,
@@ -30,10 +31,10 @@ pub(crate) fn walk_table(
     found: &mut [u8],
     pending: &mut [u8],
 ) -> Collected
-    requires { ⌜ (passes (now table) ≡ true) × (lawfulByte (options .bits) ≡ true) ⌝ }
+    requires { ⌜ passes (now table) ≡ true ⌝ }
     requires { ⌜ now found ≡ replicate (length (now found)) 0 ⌝ }
     requires { ⌜ now pending ≡ replicate (length (now pending)) 0 ⌝ }
-    ensures { λ r. ⌜ Ends (ended (walkAll (now (table .entry)) (options .bits) (length (now (scratch .entry))) (length (now (found .entry))) (length (now (pending .entry))) (suc (suc (length (candidates (rows (now (table .entry))))))))) (now (found .exit)) (now (pending .exit)) r ⌝ }
+    ensures { λ r. ⌜ Ends (ended (walkAll (now (table .entry)) (byteOf options) (length (now (scratch .entry))) (length (now (found .entry))) (length (now (pending .entry))) (suc (suc (length (candidates (rows (now (table .entry))))))))) (now (found .exit)) (now (pending .exit)) r ⌝ }
 {
     let begin = Progress {
         count: 0,
@@ -78,8 +79,7 @@ fn ask_below(
     requires { ⌜ (from ≤ end) × (end ≤ length (now pending)) × (end ≤ from + 255) ⌝ }
     requires { ⌜ Inside (now found) (now pending) start ⌝ }
     requires { ⌜ start .count ≤ length (now pending) ⌝ }
-    requires { ⌜ lawfulByte (options .bits) ≡ true ⌝ }
-    ensures { λ r. ⌜ Takes (λ s. asked (now (table .entry)) (options .bits) (length (now (scratch .entry))) (length (now (found .entry))) (length (now (pending .entry))) s (take (end - from) (drop from (now (pending .entry))) ++ (slash ∷ []))) (start .count + 1) (now (found .entry)) (now (pending .entry)) start (now (found .exit)) (now (pending .exit)) r ⌝ }
+    ensures { λ r. ⌜ Takes (λ s. asked (now (table .entry)) (byteOf options) (length (now (scratch .entry))) (length (now (found .entry))) (length (now (pending .entry))) s (take (end - from) (drop from (now (pending .entry))) ++ (slash ∷ []))) (start .count + 1) (now (found .entry)) (now (pending .entry)) start (now (found .exit)) (now (pending .exit)) r ⌝ }
 {
     let mut reference = no_reference();
     let n = put_below(&mut reference, &pending[from..end]);
@@ -108,8 +108,7 @@ fn ask(
     requires { ⌜ length (now reference) ≤ 256 ⌝ }
     requires { ⌜ Inside (now found) (now pending) start ⌝ }
     requires { ⌜ start .count ≤ length (now pending) ⌝ }
-    requires { ⌜ lawfulByte (options .bits) ≡ true ⌝ }
-    ensures { λ r. ⌜ Takes (λ s. asked (now (table .entry)) (options .bits) (length (now (scratch .entry))) (length (now (found .entry))) (length (now (pending .entry))) s (now (reference .entry))) (start .count + 1) (now (found .entry)) (now (pending .entry)) start (now (found .exit)) (now (pending .exit)) r ⌝ }
+    ensures { λ r. ⌜ Takes (λ s. asked (now (table .entry)) (byteOf options) (length (now (scratch .entry))) (length (now (found .entry))) (length (now (pending .entry))) s (now (reference .entry))) (start .count + 1) (now (found .entry)) (now (pending .entry)) start (now (found .exit)) (now (pending .exit)) r ⌝ }
 {
     let mut line = no_command();
     let n = put_command(&mut line, options, reference);

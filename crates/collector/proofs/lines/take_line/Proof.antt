@@ -7,6 +7,7 @@ use borrow.Author.Needs.{needs}
 use Rattle.listing_rules.specs.Reader.{readLine}
 use Rattle.listing_rules.specs.Walk.{isFind}
 use Rattle.list_line.specs.Members.{members}
+use Rattle.collector.specs.Options.{byteOf}
 use Rattle.collector.specs.Names.{Keeps}
 use Rattle.collector.specs.declared.names.Kept.the-variants.{To}
 use Rattle.collector.proofs.PackLaws.{keeps-as}
@@ -24,7 +25,7 @@ enum-told : tie.Need-enum-told
 enum-told c = search needs
 
 returns : tie.Need-returns
-returns c = line-skipped (c .before .before .before .before .before .before .args .line .now) (c .before .before .before .before .before .before .args .options .bits) (c .before .before .before .before .before .before .args .found .now) (c .before .before .before .before .before .before .args .pending .now) (c .before .before .before .before .before .before .args .start) _ (sym (c .before .before .read-line .ensures .0) ∙ c .enum-told .given .1) (c .before .before .before .before .before .before .pre .0)
+returns c = line-skipped (c .before .before .before .before .before .before .args .line .now) (c .before .before .before .before .before .before .args .options) (c .before .before .before .before .before .before .args .found .now) (c .before .before .before .before .before .before .args .pending .now) (c .before .before .before .before .before .before .args .start) _ (sym (c .before .before .read-line .ensures .0) ∙ c .enum-told .given .1) (c .before .before .before .before .before .before .pre)
 
 -- what is read of the line
 told : (c : tie.After-known-told) → ReadAs (readLine (c .before .before .before .before .before .before .before .args .line .now)) (c .before .parts .given .0 .0) (c .before .parts .given .0 .1 .0) (parentOf (c .before .parts .given .0 .1 .1 .0)) (c .before .before .before .read-line .result .name)
@@ -43,7 +44,7 @@ slice-aggregate-keep : tie.Need-slice-aggregate-keep
 slice-aggregate-keep c = simp length-take (omega (arith, told (c .before .before .before .before .before) .inside))
 
 keep-requires : tie.Need-keep-requires
-keep-requires c κs = (omega (arith, c .before .before .before .before .before .before .before .before .before .before .before .before .pre .0), simp length-take (omega (arith, told (c .before .before .before .before .before) .short)))
+keep-requires c κs = (omega (arith, c .before .before .before .before .before .before .before .before .before .before .before .before .pre), simp length-take (omega (arith, told (c .before .before .before .before .before) .short)))
 
 enum-known-found-end : tie.Need-enum-known-found-end
 enum-known-found-end c = search needs
@@ -55,10 +56,10 @@ same-length : tie.Need-same-length
 same-length c = search needs
 
 returns-2 : tie.Need-returns-2
-returns-2 c = find-full (c .before .before .before .before .before .before .before .before .before .before .before .before .before .before .before .before .before .args .line .now) (c .before .before .before .before .before .before .before .before .before .before .before .before .before .before .before .before .before .args .options .bits) (c .before .before .before .before .before .before .before .before .before .before .before .before .before .before .before .before .before .args .found .now) (c .before .before .before .before .before .before .before .before .before .before .before .before .before .before .before .before .before .args .pending .now) (c .before .before .before .before .before .before .before .before .before .before .before .before .before .before .before .before .before .args .start) (c .before .before .before .before .before .before .before .before .before .before .before .parts .given .0 .0) (c .before .before .before .before .before .before .before .before .before .before .before .parts .given .0 .1 .0) (parentOf (c .before .before .before .before .before .before .before .before .before .before .before .parts .given .0 .1 .1 .0)) (c .before .before .before .before .before .before .before .before .before .before .before .before .before .read-line .result .name) (told (c .before .before .before .before .before .before .before .before .before .before)) (c .before .before .before .before .before .before .before .before .before .before .before .before .before .before .before .before .before .pre .1) (c .before .before .before .before .keep .last .1 .0) (keeps-as (take (c .before .before .before .before .before .before .before .before .before .before .before .parts .given .0 .1 .0) (c .before .before .before .before .before .before .before .before .before .before .before .before .before .read-line .result .name)) (c .before .before .before .before .before .before .before .before .before .before .before .before .before .before .before .before .before .args .found .now) (c .before .before .before .before .before .before .before .before .before .before .before .before .before .before .before .before .before .args .start .found) (c .before .before .before .before .keep .last .1 .0) (c .before .before .before .before .before .before .before .before .is-find .ensures) (c .enum-told2 .given .1) (c .before .before .before .before .keep .ensures))
+returns-2 c = find-full (c .before .before .before .before .before .before .before .before .before .before .before .before .before .before .before .before .before .args .line .now) (c .before .before .before .before .before .before .before .before .before .before .before .before .before .before .before .before .before .args .options) (c .before .before .before .before .before .before .before .before .before .before .before .before .before .before .before .before .before .args .found .now) (c .before .before .before .before .before .before .before .before .before .before .before .before .before .before .before .before .before .args .pending .now) (c .before .before .before .before .before .before .before .before .before .before .before .before .before .before .before .before .before .args .start) (c .before .before .before .before .before .before .before .before .before .before .before .parts .given .0 .0) (c .before .before .before .before .before .before .before .before .before .before .before .parts .given .0 .1 .0) (parentOf (c .before .before .before .before .before .before .before .before .before .before .before .parts .given .0 .1 .1 .0)) (c .before .before .before .before .before .before .before .before .before .before .before .before .before .read-line .result .name) (told (c .before .before .before .before .before .before .before .before .before .before)) (c .before .before .before .before .keep .last .1 .0) (keeps-as (take (c .before .before .before .before .before .before .before .before .before .before .before .parts .given .0 .1 .0) (c .before .before .before .before .before .before .before .before .before .before .before .before .before .read-line .result .name)) (c .before .before .before .before .before .before .before .before .before .before .before .before .before .before .before .before .before .args .found .now) (c .before .before .before .before .before .before .before .before .before .before .before .before .before .before .before .before .before .args .start .found) (c .before .before .before .before .keep .last .1 .0) (c .before .before .before .before .before .before .before .before .is-find .ensures) (c .enum-told2 .given .1) (c .before .before .before .before .keep .ensures))
 
 -- the find is kept
-found-kept : (c : tie.After-known-told2) → Keeps (isFind (c .before .before .before .before .before .before .before .before .before .before .before .before .before .before .before .before .before .before .args .options .bits) (members (c .before .before .before .before .before .before .before .before .before .before .before .before .parts .given .0 .0 .bits))) (take (c .before .before .before .before .before .before .before .before .before .before .before .before .parts .given .0 .1 .0) (c .before .before .before .before .before .before .before .before .before .before .before .before .before .before .read-line .result .name)) (c .before .before .before .before .before .before .before .before .before .before .before .before .before .before .before .before .before .before .args .found .now) (c .before .before .before .before .before .before .before .before .before .before .before .before .before .before .before .before .before .before .args .start .found) (c .before .before .before .before .before .keep .last .1 .0) (To (c .before .found-end .given .0 .0))
+found-kept : (c : tie.After-known-told2) → Keeps (isFind (byteOf (c .before .before .before .before .before .before .before .before .before .before .before .before .before .before .before .before .before .before .args .options)) (members (c .before .before .before .before .before .before .before .before .before .before .before .before .parts .given .0 .0 .bits))) (take (c .before .before .before .before .before .before .before .before .before .before .before .before .parts .given .0 .1 .0) (c .before .before .before .before .before .before .before .before .before .before .before .before .before .before .read-line .result .name)) (c .before .before .before .before .before .before .before .before .before .before .before .before .before .before .before .before .before .before .args .found .now) (c .before .before .before .before .before .before .before .before .before .before .before .before .before .before .before .before .before .before .args .start .found) (c .before .before .before .before .before .keep .last .1 .0) (To (c .before .found-end .given .0 .0))
 found-kept c = keeps-as (take (c .before .before .before .before .before .before .before .before .before .before .before .before .parts .given .0 .1 .0) (c .before .before .before .before .before .before .before .before .before .before .before .before .before .before .read-line .result .name)) (c .before .before .before .before .before .before .before .before .before .before .before .before .before .before .before .before .before .before .args .found .now) (c .before .before .before .before .before .before .before .before .before .before .before .before .before .before .before .before .before .before .args .start .found) (c .before .before .before .before .before .keep .last .1 .0) (c .before .before .before .before .before .before .before .before .before .is-find .ensures) (c .before .found-end .given .1) (c .before .before .before .before .before .keep .ensures)
 
 array-share-prefix-name-2 : tie.Need-array-share-prefix-name-2
@@ -68,7 +69,7 @@ slice-aggregate-keep-2 : tie.Need-slice-aggregate-keep-2
 slice-aggregate-keep-2 c = simp length-take (omega (arith, told (c .before .before .before .before .before .before .before .before .before .before .before .before .before) .inside))
 
 keep-requires-2 : tie.Need-keep-requires-2
-keep-requires-2 c κs = (omega (arith, c .before .before .before .before .before .before .before .before .before .before .before .before .before .before .before .before .before .before .before .before .pre .0), simp length-take (omega (arith, told (c .before .before .before .before .before .before .before .before .before .before .before .before .before) .short)))
+keep-requires-2 c κs = (omega (arith, c .before .before .before .before .before .before .before .before .before .before .before .before .before .before .before .before .before .before .before .before .pre), simp length-take (omega (arith, told (c .before .before .before .before .before .before .before .before .before .before .before .before .before) .short)))
 
 enum-known-pending-end : tie.Need-enum-known-pending-end
 enum-known-pending-end c = search needs
@@ -83,7 +84,7 @@ same-length-3 : tie.Need-same-length-3
 same-length-3 c = search needs
 
 returns-3 : tie.Need-returns-3
-returns-3 c = ask-full (c .before .before .before .before .before .before .before .before .before .before .before .before .before .before .before .before .before .before .before .before .before .before .before .before .before .args .line .now) (c .before .before .before .before .before .before .before .before .before .before .before .before .before .before .before .before .before .before .before .before .before .before .before .before .before .args .options .bits) (c .before .before .before .before .before .before .before .before .before .before .before .before .before .before .before .before .before .before .before .before .before .before .before .before .before .args .found .now) (c .before .before .before .before .before .before .before .before .before .before .before .before .before .before .before .before .before .before .before .before .before .before .before .before .before .args .pending .now) (c .before .before .before .before .before .before .before .before .before .before .before .before .before .before .before .before .before .before .before .before .before .before .before .before .before .args .start) (c .before .before .before .before .before .before .before .before .before .before .before .before .before .before .before .before .before .before .before .parts .given .0 .0) (c .before .before .before .before .before .before .before .before .before .before .before .before .before .before .before .before .before .before .before .parts .given .0 .1 .0) (parentOf (c .before .before .before .before .before .before .before .before .before .before .before .before .before .before .before .before .before .before .before .parts .given .0 .1 .1 .0)) (c .before .before .before .before .before .before .before .before .before .before .before .before .before .before .before .before .before .before .before .before .before .read-line .result .name) (told (c .before .before .before .before .before .before .before .before .before .before .before .before .before .before .before .before .before .before)) (c .before .before .before .before .before .before .before .before .before .before .before .before .before .before .before .before .before .before .before .before .before .before .before .before .before .pre .1) (c .before .before .before .before .before .before .before .before .before .before .before .before .keep .last .1 .0) (c .before .before .before .before .before .before .before .before .found-end .given .0 .0) (found-kept (c .before .before .before .before .before .before .before)) (c .before .before .before .before .before .before .before .before .before .before .before .before .keep .kept .1 .0) (c .before .before .before .before .keep2 .last .1 .0) (keeps-as (take (c .before .before .before .before .before .before .before .before .before .before .before .before .before .before .before .before .before .before .before .parts .given .0 .1 .0) (c .before .before .before .before .before .before .before .before .before .before .before .before .before .before .before .before .before .before .before .before .before .read-line .result .name)) (c .before .before .before .before .before .before .before .before .before .before .before .before .before .before .before .before .before .before .before .before .before .before .before .before .before .args .pending .now) (c .before .before .before .before .before .before .before .before .before .before .before .before .before .before .before .before .before .before .before .before .before .before .before .before .before .args .start .pending) (c .before .before .before .before .keep2 .last .1 .0) (ap not (c .before .before .before .before .before .before .before .before .before .before .before .before .before .before .before .is-none .ensures)) (c .enum-told3 .given .1) (c .before .before .before .before .keep2 .ensures))
+returns-3 c = ask-full (c .before .before .before .before .before .before .before .before .before .before .before .before .before .before .before .before .before .before .before .before .before .before .before .before .before .args .line .now) (c .before .before .before .before .before .before .before .before .before .before .before .before .before .before .before .before .before .before .before .before .before .before .before .before .before .args .options) (c .before .before .before .before .before .before .before .before .before .before .before .before .before .before .before .before .before .before .before .before .before .before .before .before .before .args .found .now) (c .before .before .before .before .before .before .before .before .before .before .before .before .before .before .before .before .before .before .before .before .before .before .before .before .before .args .pending .now) (c .before .before .before .before .before .before .before .before .before .before .before .before .before .before .before .before .before .before .before .before .before .before .before .before .before .args .start) (c .before .before .before .before .before .before .before .before .before .before .before .before .before .before .before .before .before .before .before .parts .given .0 .0) (c .before .before .before .before .before .before .before .before .before .before .before .before .before .before .before .before .before .before .before .parts .given .0 .1 .0) (parentOf (c .before .before .before .before .before .before .before .before .before .before .before .before .before .before .before .before .before .before .before .parts .given .0 .1 .1 .0)) (c .before .before .before .before .before .before .before .before .before .before .before .before .before .before .before .before .before .before .before .before .before .read-line .result .name) (told (c .before .before .before .before .before .before .before .before .before .before .before .before .before .before .before .before .before .before)) (c .before .before .before .before .before .before .before .before .before .before .before .before .keep .last .1 .0) (c .before .before .before .before .before .before .before .before .found-end .given .0 .0) (found-kept (c .before .before .before .before .before .before .before)) (c .before .before .before .before .before .before .before .before .before .before .before .before .keep .kept .1 .0) (c .before .before .before .before .keep2 .last .1 .0) (keeps-as (take (c .before .before .before .before .before .before .before .before .before .before .before .before .before .before .before .before .before .before .before .parts .given .0 .1 .0) (c .before .before .before .before .before .before .before .before .before .before .before .before .before .before .before .before .before .before .before .before .before .read-line .result .name)) (c .before .before .before .before .before .before .before .before .before .before .before .before .before .before .before .before .before .before .before .before .before .before .before .before .before .args .pending .now) (c .before .before .before .before .before .before .before .before .before .before .before .before .before .before .before .before .before .before .before .before .before .before .before .before .before .args .start .pending) (c .before .before .before .before .keep2 .last .1 .0) (ap not (c .before .before .before .before .before .before .before .before .before .before .before .before .before .before .before .is-none .ensures)) (c .enum-told3 .given .1) (c .before .before .before .before .keep2 .ensures))
 
 same-length-4 : tie.Need-same-length-4
 same-length-4 c = search needs
@@ -92,7 +93,7 @@ same-length-5 : tie.Need-same-length-5
 same-length-5 c = search needs
 
 returns-4 : tie.Need-returns-4
-returns-4 c = line-taken (c .before .before .before .before .before .before .before .before .before .before .before .before .before .before .before .before .before .before .before .before .before .before .before .before .before .before .args .line .now) (c .before .before .before .before .before .before .before .before .before .before .before .before .before .before .before .before .before .before .before .before .before .before .before .before .before .before .args .options .bits) (c .before .before .before .before .before .before .before .before .before .before .before .before .before .before .before .before .before .before .before .before .before .before .before .before .before .before .args .found .now) (c .before .before .before .before .before .before .before .before .before .before .before .before .before .before .before .before .before .before .before .before .before .before .before .before .before .before .args .pending .now) (c .before .before .before .before .before .before .before .before .before .before .before .before .before .before .before .before .before .before .before .before .before .before .before .before .before .before .args .start) (c .before .before .before .before .before .before .before .before .before .before .before .before .before .before .before .before .before .before .before .before .parts .given .0 .0) (c .before .before .before .before .before .before .before .before .before .before .before .before .before .before .before .before .before .before .before .before .parts .given .0 .1 .0) (parentOf (c .before .before .before .before .before .before .before .before .before .before .before .before .before .before .before .before .before .before .before .before .parts .given .0 .1 .1 .0)) (c .before .before .before .before .before .before .before .before .before .before .before .before .before .before .before .before .before .before .before .before .before .before .read-line .result .name) (told (c .before .before .before .before .before .before .before .before .before .before .before .before .before .before .before .before .before .before .before)) (c .before .before .before .before .before .before .before .before .before .before .before .before .before .before .before .before .before .before .before .before .before .before .before .before .before .before .pre .1) (c .before .before .before .before .before .before .before .before .before .before .before .before .before .keep .last .1 .0) (c .before .before .before .before .before .before .before .before .before .found-end .given .0 .0) (found-kept (c .before .before .before .before .before .before .before .before)) (c .before .before .before .before .before .before .before .before .before .before .before .before .before .keep .kept .1 .0) (c .before .before .before .before .before .keep2 .last .1 .0) (c .before .pending-end .given .0 .0) (keeps-as (take (c .before .before .before .before .before .before .before .before .before .before .before .before .before .before .before .before .before .before .before .before .parts .given .0 .1 .0) (c .before .before .before .before .before .before .before .before .before .before .before .before .before .before .before .before .before .before .before .before .before .before .read-line .result .name)) (c .before .before .before .before .before .before .before .before .before .before .before .before .before .before .before .before .before .before .before .before .before .before .before .before .before .before .args .pending .now) (c .before .before .before .before .before .before .before .before .before .before .before .before .before .before .before .before .before .before .before .before .before .before .before .before .before .before .args .start .pending) (c .before .before .before .before .before .keep2 .last .1 .0) (ap not (c .before .before .before .before .before .before .before .before .before .before .before .before .before .before .before .before .is-none .ensures)) (c .before .pending-end .given .1) (c .before .before .before .before .before .keep2 .ensures)) (c .before .before .before .before .before .keep2 .kept .1 .0)
+returns-4 c = line-taken (c .before .before .before .before .before .before .before .before .before .before .before .before .before .before .before .before .before .before .before .before .before .before .before .before .before .before .args .line .now) (c .before .before .before .before .before .before .before .before .before .before .before .before .before .before .before .before .before .before .before .before .before .before .before .before .before .before .args .options) (c .before .before .before .before .before .before .before .before .before .before .before .before .before .before .before .before .before .before .before .before .before .before .before .before .before .before .args .found .now) (c .before .before .before .before .before .before .before .before .before .before .before .before .before .before .before .before .before .before .before .before .before .before .before .before .before .before .args .pending .now) (c .before .before .before .before .before .before .before .before .before .before .before .before .before .before .before .before .before .before .before .before .before .before .before .before .before .before .args .start) (c .before .before .before .before .before .before .before .before .before .before .before .before .before .before .before .before .before .before .before .before .parts .given .0 .0) (c .before .before .before .before .before .before .before .before .before .before .before .before .before .before .before .before .before .before .before .before .parts .given .0 .1 .0) (parentOf (c .before .before .before .before .before .before .before .before .before .before .before .before .before .before .before .before .before .before .before .before .parts .given .0 .1 .1 .0)) (c .before .before .before .before .before .before .before .before .before .before .before .before .before .before .before .before .before .before .before .before .before .before .read-line .result .name) (told (c .before .before .before .before .before .before .before .before .before .before .before .before .before .before .before .before .before .before .before)) (c .before .before .before .before .before .before .before .before .before .before .before .before .before .keep .last .1 .0) (c .before .before .before .before .before .before .before .before .before .found-end .given .0 .0) (found-kept (c .before .before .before .before .before .before .before .before)) (c .before .before .before .before .before .before .before .before .before .before .before .before .before .keep .kept .1 .0) (c .before .before .before .before .before .keep2 .last .1 .0) (c .before .pending-end .given .0 .0) (keeps-as (take (c .before .before .before .before .before .before .before .before .before .before .before .before .before .before .before .before .before .before .before .before .parts .given .0 .1 .0) (c .before .before .before .before .before .before .before .before .before .before .before .before .before .before .before .before .before .before .before .before .before .before .read-line .result .name)) (c .before .before .before .before .before .before .before .before .before .before .before .before .before .before .before .before .before .before .before .before .before .before .before .before .before .before .args .pending .now) (c .before .before .before .before .before .before .before .before .before .before .before .before .before .before .before .before .before .before .before .before .before .before .before .before .before .before .args .start .pending) (c .before .before .before .before .before .keep2 .last .1 .0) (ap not (c .before .before .before .before .before .before .before .before .before .before .before .before .before .before .before .before .is-none .ensures)) (c .before .pending-end .given .1) (c .before .before .before .before .before .keep2 .ensures)) (c .before .before .before .before .before .keep2 .kept .1 .0)
 
 pub take-line-spec : {M : Type 1} → statement M
 take-line-spec =

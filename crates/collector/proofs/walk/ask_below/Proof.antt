@@ -5,6 +5,7 @@ use native.Mathlib.Omega.{arith}
 use lib.ListN.{take, drop, length-append, length-take}
 use borrow.Author.Needs.{needs}
 use Rattle.listing_rules.specs.Bytes.{slash}
+use Rattle.collector.specs.Options.{byteOf}
 use Rattle.collector.proofs.AskLaws.{Fronts, put-fronts}
 use Rattle.collector.proofs.walk.ask_below.Statement.{statement}
 use Rattle.collector.proofs.walk.ask_below.Tie as tie

@@ -4,4 +4,5 @@ pub mod Options
 pub mod Lines
 pub mod Names
 pub mod Taking
+pub mod Walking
 pub mod Ends

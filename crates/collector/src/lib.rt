@@ -16,7 +16,7 @@ ghost use mathlib.Core.Path.{_≡_};
 ghost use mathlib.Core.Bool.{true};
 ghost use lib.ListN.{length, replicate};
 ghost use Rattle.listing_rules.specs.Table.{passes};
-ghost use Rattle.listing_rules.specs.Walk.{lawfulByte, collected, foundAfter, pendingAfter, scratchAfter, walk};
+ghost use Rattle.listing_rules.specs.Walk.{lawfulByte, collected, foundAfter, pendingAfter, scratchAfter};
 ghost use Rattle.collector.specs.Result.{collectedIs, WholeWalk};
 ghost use Rattle.collector.specs.Ends.{Ends};
 
@@ -68,7 +68,8 @@ fn run(
 ) -> Collected
     requires { ⌜ now found ≡ replicate (length (now found)) 0 ⌝ }
     requires { ⌜ now pending ≡ replicate (length (now pending)) 0 ⌝ }
-    ensures { λ r. ⌜ Ends (walk (now (table .entry)) option (length (now (scratch .entry))) (length (now (found .entry))) (length (now (pending .entry)))) (now (found .exit)) (now (pending .exit)) r ⌝ }
+    ensures { λ r. ⌜ Ends (collected (now (table .entry)) option (now (scratch .entry)) (now (found .entry)) (now (pending .entry)))
+        (now (found .exit)) (now (pending .exit)) r ⌝ }
 {
     if !mailbox_table::check(table) {
         return Collected::Refused(BAD_TABLE);

@@ -7,13 +7,12 @@ use list_line::Line;
 use list_line::read_line;
 ghost use mathlib.Core.Path.{_≡_};
 ghost use Prim.Native.Nat.{_+_};
-ghost use lib.ListN.{length, drop};
-ghost use Rattle.listing_rules.specs.Reader.{readLine};
-ghost use Rattle.listing_rules.specs.Walk.{useAttr, isFind, linesOf, takenIn, takenAll};
+ghost use lib.ListN.{drop};
+ghost use Rattle.listing_rules.specs.Walk.{useAttr, isFind};
 ghost use Rattle.list_line.specs.Members.{members};
 ghost use Rattle.collector.specs.Lines.{lineLength};
 ghost use Rattle.collector.specs.Options.{byteOf};
-ghost use Rattle.collector.specs.Taking.{Inside, Takes};
+ghost use Rattle.collector.specs.Taking.{Inside, TakesLine, TakesAnswer};
 
 // Refusals: a find does not fit, a pending name does not fit.
 const FOUND_FULL: u8 = 10;
@@ -27,6 +26,15 @@ pub(crate) struct Progress {
     pub count: usize,
     pub found: usize,
     pub pending: usize,
+}
+
+impl Progress {
+    // Before the first command.
+    pub const NONE: Progress = Progress {
+        count: 0,
+        found: 0,
+        pending: 0,
+    };
 }
 
 // How far it is behind a line, an answer or a command; or the number of the refusal.
@@ -44,7 +52,8 @@ pub(crate) fn take_lines(
     start: Progress,
 ) -> Taken
     requires { ⌜ Inside (now found) (now pending) start ⌝ }
-    ensures { λ r. ⌜ Takes (λ s. takenAll (byteOf options) (length (now (found .entry))) (length (now (pending .entry))) s (linesOf (now (answer .entry)))) (start .count) (now (found .entry)) (now (pending .entry)) start (now (found .exit)) (now (pending .exit)) r ⌝ }
+    ensures { λ r. ⌜ TakesAnswer options (now (answer .entry)) start
+        (now (found .entry)) (now (pending .entry)) (now (found .exit)) (now (pending .exit)) r ⌝ }
 {
     let mut progress = start;
     let mut at = 0;
@@ -72,7 +81,8 @@ fn take_line(
     start: Progress,
 ) -> Taken
     requires { ⌜ Inside (now found) (now pending) start ⌝ }
-    ensures { λ r. ⌜ Takes (λ s. takenIn (byteOf options) (length (now (found .entry))) (length (now (pending .entry))) s (readLine (now (line .entry)))) (start .count) (now (found .entry)) (now (pending .entry)) start (now (found .exit)) (now (pending .exit)) r ⌝ }
+    ensures { λ r. ⌜ TakesLine options (now (line .entry)) start
+        (now (found .entry)) (now (pending .entry)) (now (found .exit)) (now (pending .exit)) r ⌝ }
 {
     let read = read_line(line);
     let parts = read.line;

@@ -1,13 +1,11 @@
 -- `run` meets its contract: refusals 1 and 6 in their order, then the walk (`WholeLaws`).
 use mathlib.Core.Path.{_≡_, sym, _∙_}
 use mathlib.Core.Bool.{true}
-use lib.ListN.{length}
 use borrow.Author.Tests.{not-true, not-false}
 use borrow.Author.Needs.{needs}
 use Rattle.listing_rules.specs.Table.{passes}
-use Rattle.collector.specs.Options.{byteOf}
-use Rattle.collector.proofs.OptionLaws.{byte-lawful, asked-byte, asked-none}
-use Rattle.collector.proofs.WholeLaws.{refuses-table, refuses-option, walks}
+use Rattle.collector.proofs.OptionLaws.{asked-byte, asked-none}
+use Rattle.collector.proofs.WholeLaws.{refuses-table, refuses-option}
 use Rattle.collector.proofs.run.Statement.{statement}
 use Rattle.collector.proofs.run.Tie as tie
 
@@ -17,7 +15,7 @@ check-requires c κs = search needs
 returns : tie.Need-returns
 returns c =
     let args = c .before .before .before .before .before .before .args in
-    refuses-table (args .table .now) (args .option) (length (args .scratch .now)) (length (args .found .now)) (length (args .pending .now))
+    refuses-table (args .table .now) (args .option) (args .scratch .now) (args .found .now) (args .pending .now)
     (sym (c .before .check .ensures) ∙ not-true _ (c .if1 .taken))
 
 of-byte-requires : tie.Need-of-byte-requires
@@ -37,7 +35,7 @@ returns-2 : tie.Need-returns-2
 returns-2 c =
     let passed = c .before .before .before in
     let args = passed .before .before .before .before .before .before .args in
-    refuses-option (args .table .now) (args .option) (length (args .scratch .now)) (length (args .found .now)) (length (args .pending .now))
+    refuses-option (args .table .now) (args .option) (args .scratch .now) (args .found .now) (args .pending .now)
     (passing passed)
     (asked-none (args .option) (sym (c .before .before .of-byte .ensures) ∙ c .enum-told .given .1))
 
@@ -59,9 +57,7 @@ returns-3 c =
     let asked = walked .before .before .before .before .before in
     let passed = asked .before .before .before in
     let args = passed .before .before .before .before .before .before .args in
-    let options = asked .options .given .0 .0 in
-    rw (← asked-byte (args .option) options (sym (asked .before .before .of-byte .ensures) ∙ asked .options .given .1))
-    (rw (walks (args .table .now) (byteOf options) (length (args .scratch .now)) (length (args .found .now)) (length (args .pending .now)) (passing passed) (byte-lawful options)) (walked .walk-table .ensures))
+    rw (← asked-byte (args .option) (asked .options .given .0 .0) (sym (asked .before .before .of-byte .ensures) ∙ asked .options .given .1)) (walked .walk-table .ensures)
 
 pub run-spec : {M : Type 1} → statement M
 run-spec =

@@ -10,15 +10,17 @@ use lib.Seq.{take-at}
 use Rattle.listing_rules.proofs.Keys.{openBytes}
 use Rattle.listing_rules.specs.Lines.{escaped, quoted}
 use Rattle.listing_rules.specs.Server.{Reply, refusal, answered, answer, limited, bufferAfter, served}
-use Rattle.listing_rules.specs.Walk.{Lists, Step, stop, go, _>>=_, when, wantsRemote, wantsSpecial, dropsSubscribed, commandLine, linesOf, takenAll, replied, asked}
+use Rattle.listing_rules.specs.Walk.{Lists, Step, stop, go, _>>=_, when, wantsRemote, wantsSpecial, dropsSubscribed, commandLine, replied, asked}
 use Rattle.octets.specs.Put.{Put}
 use Rattle.octets.specs.Written.{writtenIs}
 use Rattle.octets.specs.declared.Written.the-variants.{Done, Refused}
 use Rattle.octets.proofs.Puts.{front, put-length}
-use Rattle.collector.specs.Taking.{Takes}
+use Rattle.collector.specs.Options.{byteOf}
+use Rattle.collector.specs.Taking.{Takes, answerStep, commandStep}
 use Rattle.collector.specs.declared.lines.Progress.{Progress}
 use Rattle.collector.specs.declared.lines.Taken.{Taken}
 use Rattle.collector.specs.declared.lines.Taken.the-variants.{All, Refused as Stopped}
+use Rattle.collector.specs.declared.options.WalkOptions.{WalkOptions}
 
 -- the bytes stand at the front of a buffer
 pub record Fronts (e : List ℕ) (n : ℕ) (bs : List ℕ) : Type 0 where
@@ -91,20 +93,20 @@ command-length o reference =
 pub command-fits : (o : ℕ) (reference : List ℕ) → length reference ≤ 256 → length (commandLine o reference) ≤ 640
 command-fits o reference h = omega (arith, command-length o reference)
 
--- the server's reply, by the code's answer
+-- the server's reply to a line, by the code's answer
+abbrev pub reply : List ℕ → List ℕ → List ℕ → Step (List ℕ)
+reply table l scratch = replied (limited (length scratch) (answer table [] l))
+
 module _ (table l scratch : List ℕ) where
-  abbrev pub reply : Step (List ℕ)
-  reply = replied (limited (length scratch) (answer table [] l))
-
-  pub server-refused : (k : ℕ) → writtenIs (served table [] l scratch) ≡ Refused k → reply ≡ stop k
+  server-refused : (k : ℕ) → writtenIs (served table [] l scratch) ≡ Refused k → reply table l scratch ≡ stop k
   unfolding served writtenIs replied
-  server-refused k e = pick (served table [] l scratch) refl e
+  server-refused k e = pick (served table [] l scratch) e
     where
-      pick : (x : Reply) → served table [] l scratch ≡ x → writtenIs x ≡ Refused k → replied x ≡ stop k
-      pick (refusal j) w z = let y : j ≡ k = cc in ap stop y
-      pick (answered a) w z = cc
+      pick : (x : Reply) → writtenIs x ≡ Refused k → replied x ≡ stop k
+      pick (refusal j) z = let y : j ≡ k = cc in ap stop y
+      pick (answered a) z = cc
 
-  pub server-done : (scratch′ : List ℕ) (len : ℕ) → writtenIs (served table [] l scratch) ≡ Done len → scratch′ ≡ bufferAfter scratch (served table [] l scratch) → (len ≤ length scratch′) × (reply ≡ go (take len scratch′))
+  pub server-done : (scratch′ : List ℕ) (len : ℕ) → writtenIs (served table [] l scratch) ≡ Done len → scratch′ ≡ bufferAfter scratch (served table [] l scratch) → (len ≤ length scratch′) × (reply table l scratch ≡ go (take len scratch′))
   unfolding served writtenIs replied bufferAfter
   server-done scratch′ len e g = pick (served table [] l scratch) e g
     where
@@ -115,25 +117,25 @@ module _ (table l scratch : List ℕ) where
           (omega (arith, ap length f, length-append a (drop (length a) scratch)), ap go (sym (ap (take len) f ∙ take-at a (drop (length a) scratch) len y)))
 
 -- one command, by its line at the front of a buffer
-module _ (table : List ℕ) (o : ℕ) (scratch reference line : List ℕ) (n room₁ room₂ : ℕ) (F : Fronts line n (commandLine o reference)) where
-  asks-as : (s : Lists) (x : Step (List ℕ)) → reply table (take n line) scratch ≡ x → asked table o (length scratch) room₁ room₂ s reference ≡ (x >>= λ a. takenAll o room₁ room₂ s (linesOf a))
+module _ (table : List ℕ) (w : WalkOptions) (reference scratch : List ℕ) {line : List ℕ} {n : ℕ} (F : Fronts line n (commandLine (byteOf w) reference)) where
+  asks-as : (found pending : List ℕ) (s : Lists) (x : Step (List ℕ)) → reply table (take n line) scratch ≡ x → commandStep table w reference scratch found pending s ≡ (x >>= λ a. answerStep w a found pending s)
   unfolding asked
-  asks-as s x e = ap (λ (y : Step (List ℕ)). y >>= λ a. takenAll o room₁ room₂ s (linesOf a)) (ap (λ (l : List ℕ). reply table l scratch) (sym (F .bytes)) ∙ e)
+  asks-as found pending s x e = ap (λ (y : Step (List ℕ)). y >>= λ a. answerStep w a found pending s) (ap (λ (l : List ℕ). reply table l scratch) (sym (F .bytes)) ∙ e)
 
-  pub asked-refused : (k : ℕ) → writtenIs (served table [] (take n line) scratch) ≡ Refused k → (s : Lists) → asked table o (length scratch) room₁ room₂ s reference ≡ stop k
+  pub asked-refused : {k : ℕ} → writtenIs (served table [] (take n line) scratch) ≡ Refused k → (found pending : List ℕ) (s : Lists) → commandStep table w reference scratch found pending s ≡ stop k
   unfolding _>>=_
-  asked-refused k e s = asks-as s (stop k) (server-refused table (take n line) scratch k e)
+  asked-refused {k} e found pending s = asks-as found pending s (stop k) (server-refused table (take n line) scratch k e)
 
-  pub asked-done : (a : List ℕ) → reply table (take n line) scratch ≡ go a → (s : Lists) → asked table o (length scratch) room₁ room₂ s reference ≡ takenAll o room₁ room₂ s (linesOf a)
+  pub asked-done : {a : List ℕ} → reply table (take n line) scratch ≡ go a → (found pending : List ℕ) (s : Lists) → commandStep table w reference scratch found pending s ≡ answerStep w a found pending s
   unfolding _>>=_
-  asked-done a e s = asks-as s (go a) e
+  asked-done {a} e found pending s = asks-as found pending s (go a) e
 
--- the same step under another name, and behind another count
-pub takes-step : (step step′ : Lists → Step Lists) (count n : ℕ) (d b : List ℕ) (p : Progress) (d′ b′ : List ℕ) (r : Taken) → ((s : Lists) → step′ s ≡ step s) → Takes step count d b (record { count = n; found = p .found; pending = p .pending }) d′ b′ r → Takes step′ count d b p d′ b′ r
-takes-step step step′ count n d b p d′ b′ (All q) e t =
+-- another name for a step, which begins with another count
+pub takes-step : (step step′ : Lists → Step Lists) (count n : ℕ) (p : Progress) (found pending found′ pending′ : List ℕ) (r : Taken) → ((s : Lists) → step′ s ≡ step s) → Takes step count (record { count = n; found = p .found; pending = p .pending }) found pending found′ pending′ r → Takes step′ count p found pending found′ pending′ r
+takes-step step step′ count n p found pending found′ pending′ (All q) e t =
     record {
       inside = t .inside;
       counted = t .counted;
-      lists = λ s h. let w = t .lists s (record { finds = h .finds; asks = h .asks }) in (w .0, e s ∙ w .1, w .2);
+      lists = λ s h. let u = t .lists s (record { finds = h .finds; asks = h .asks }) in (u .0, e s ∙ u .1, u .2);
     }
-takes-step step step′ count n d b p d′ b′ (Stopped k) e t = λ s h. e s ∙ t s (record { finds = h .finds; asks = h .asks })
+takes-step step step′ count n p found pending found′ pending′ (Stopped k) e t = λ s h. e s ∙ t s (record { finds = h .finds; asks = h .asks })

@@ -1,4 +1,4 @@
--- "pending is never shortened": a step only puts names behind those that are to be asked. Rests on the library alone.
+-- "pending is never shortened": a step only puts names after those that are to be asked. Rests on the library alone.
 use mathlib.Core.Path.{_≡_, refl, sym, ap, _∙_}
 use mathlib.Core.Bool.{Bool, true, false, cond, not}
 use mathlib.Core.List.{List, [], _∷_, _++_, append-assoc, append-nil}
@@ -10,7 +10,7 @@ use Rattle.listing_rules.specs.Options.{isNone}
 use Rattle.listing_rules.specs.Reader.{Read, line, root, bad, readLine}
 use Rattle.listing_rules.specs.Walk.{Lists, Step, stop, go, _>>=_, linesOf, packed, withName, fits, takenIn, takenAll, asked}
 
--- more names stand behind those of s
+-- more names stand after those of s
 abbrev pub Grows : Lists → Lists → Type 0
 Grows s u = (more : List (List ℕ)) × (u .asks ≡ s .asks ++ more)
 
@@ -39,24 +39,24 @@ unfolding withName
 with-more true n ns = (n ∷ [], refl)
 with-more false n ns = ([], sym (append-nil ns))
 
-module _ (o room₁ room₂ : ℕ) where
-  line-grows : (s u : Lists) (r : Read) → takenIn o room₁ room₂ s r ≡ go u → Grows s u
+module _ (o found pending : ℕ) where
+  line-grows : (s u : Lists) (r : Read) → takenIn o found pending s r ≡ go u → Grows s u
   unfolding takenIn
   line-grows s u (line bs n c) e =
       let w = bind-went _ _ u e in
       let v = bind-went _ _ u (w .2) in
       let m = with-more (not (isNone c)) n (s .asks) in
       let y : record { finds = w .0; asks = v .0 } ≡ u = cc in
-      (m .0, ap (λ (x : Lists). x .asks) (sym y) ∙ fits-same 11 room₂ (withName (not (isNone c)) n (s .asks)) (v .0) (v .1) ∙ m .1)
+      (m .0, ap (λ (x : Lists). x .asks) (sym y) ∙ fits-same 11 pending (withName (not (isNone c)) n (s .asks)) (v .0) (v .1) ∙ m .1)
   line-grows s u root e = let y : s ≡ u = cc in grows-as s u y
   line-grows s u bad e = grows-as s u (cc)
 
-  lines-grow : (ls : List (List ℕ)) (s u : Lists) → takenAll o room₁ room₂ s ls ≡ go u → Grows s u
+  lines-grow : (ls : List (List ℕ)) (s u : Lists) → takenAll o found pending s ls ≡ go u → Grows s u
   unfolding takenAll
   lines-grow [] s u e = grows-as s u (cc)
   lines-grow (l ∷ ls) s u e =
       let w = bind-went _ _ u e in grows-on s (w .0) u (line-grows s (w .0) (readLine l) (w .1)) (lines-grow ls (w .0) u (w .2))
 
-  pub asked-grows : (table : List ℕ) (scratch : ℕ) (s u : Lists) (reference : List ℕ) → asked table o scratch room₁ room₂ s reference ≡ go u → Grows s u
+  pub asked-grows : (table : List ℕ) (scratch : ℕ) (s u : Lists) (reference : List ℕ) → asked table o scratch found pending s reference ≡ go u → Grows s u
   unfolding asked
   asked-grows table scratch s u reference e = let w = bind-went _ _ u e in lines-grow (linesOf (w .0)) s u (w .2)

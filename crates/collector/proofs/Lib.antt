@@ -1,4 +1,5 @@
 -- Laws of the collector, one file a topic; each file rests on files before it.
+mod OptionLaws
 mod FindLaws
 mod LineLaws
 mod PackLaws

@@ -34,7 +34,7 @@ pub record NextName (b : List ℕ) (len done : ℕ) (ns : List (List ℕ)) (at :
   pub place : at + 1 + length name ≡ length (packed (take (suc done) ns))
   pub more : suc done ≤ length ns
 
-module _ (b : List ℕ) (len : ℕ) (ns : List (List ℕ)) (p : Packs b len ns) (done at : ℕ) (h : done ≤ length ns) (e : at ≡ length (packed (take done ns))) where
+module _ {b : List ℕ} {len : ℕ} {ns : List (List ℕ)} (p : Packs b len ns) {done at : ℕ} (h : done ≤ length ns) (e : at ≡ length (packed (take done ns))) where
   -- the bytes from the place on
   left : (x : List (List ℕ)) → drop done ns ≡ x → len ≡ at + length (packed x)
   left x w =

@@ -6,29 +6,25 @@ use mathlib.Core.List.{List}
 use Prim.Native.Nat.{ℕ}
 use lib.ListN.{length, replicate}
 use Rattle.listing_rules.specs.Table.{passes}
-use Rattle.listing_rules.specs.Walk.{lawfulByte, WalkReply, walkRefused, walked, walkAll, ended, walk, zeroBehind, foundAfter, pendingAfter, scratchAfter, collected}
+use Rattle.listing_rules.specs.Walk.{lawfulByte, WalkReply, walkRefused, walked, walk, zeroBehind, foundAfter, pendingAfter, scratchAfter, collected}
 use Rattle.listing_rules.specs.Demand3.{Demand3}
 use Rattle.listing_rules.proofs.Demand3.{demand-3-holds}
 use Rattle.collector.specs.Result.{collectedIs, WholeWalk}
 use Rattle.collector.specs.Ends.{Comes}
 use Rattle.collector.specs.declared.Collected.{Collected}
 use Rattle.collector.specs.declared.Collected.the-variants.{Done, Refused}
-use Rattle.collector.proofs.WalkLaws.{stepsOf}
 
 -- "1, 6, then the walk"
-module _ (table : List ℕ) (o scratch found pending : ℕ) where
-  pub refuses-table : passes table ≡ false → walk table o scratch found pending ≡ walkRefused 1
-  unfolding walk
+module _ (table : List ℕ) (o : ℕ) (scratch found pending : List ℕ) where
+  pub refuses-table : passes table ≡ false → collected table o scratch found pending ≡ walkRefused 1
+  unfolding collected walk
   refuses-table e = rw e
 
-  pub refuses-option : passes table ≡ true → lawfulByte o ≡ false → walk table o scratch found pending ≡ walkRefused 6
-  unfolding walk
+  pub refuses-option : passes table ≡ true → lawfulByte o ≡ false → collected table o scratch found pending ≡ walkRefused 6
+  unfolding collected walk
   refuses-option e g = rw (e, g)
 
-  pub walks : passes table ≡ true → lawfulByte o ≡ true → walk table o scratch found pending ≡ ended (walkAll table o scratch found pending (stepsOf table))
-  unfolding walk
-  walks e g = rw (e, g)
-
+module _ (table : List ℕ) (o scratch found pending : ℕ) where
   -- demand 3 for the result and the buffers of a walk
   whole-of : (w : WalkReply) → Demand3 table o scratch found pending w → WholeWalk table o scratch found pending (collectedIs w) (foundAfter found w) (pendingAfter pending w)
   unfolding Demand3 WholeWalk collectedIs foundAfter pendingAfter

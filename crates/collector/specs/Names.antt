@@ -2,11 +2,12 @@
 use mathlib.Core.Path.{_≡_}
 use mathlib.Core.Bool.{Bool}
 use mathlib.Core.List.{List}
-use Prim.Native.Nat.{ℕ, _≤_, _<_}
-use lib.ListN.{length}
+use Prim.Native.Nat.{ℕ, _+_, _-_, _≤_, _<_}
+use lib.ListN.{length, take, drop}
 use Rattle.listing_rules.specs.Walk.{packed, withName, zeroBehind}
 use Rattle.collector.specs.declared.names.Kept.{Kept}
 use Rattle.collector.specs.declared.names.Kept.the-variants.{To, Full}
+use Rattle.collector.specs.declared.walk.NamePlace.{NamePlace}
 
 -- The names lie in the first `len` bytes, and behind them the buffer is zero.
 pub record Packs (buf : List ℕ) (len : ℕ) (ns : List (List ℕ)) : Type 0 where
@@ -18,3 +19,12 @@ pub record Packs (buf : List ℕ) (len : ℕ) (ns : List (List ℕ)) : Type 0 wh
 abbrev pub Keeps : Bool → List ℕ → List ℕ → ℕ → List ℕ → Kept → Type 0
 Keeps wanted n d at e (To r) = (r ≤ length e) × ((ns : List (List ℕ)) → Packs d at ns → Packs e r (withName wanted n ns))
 Keeps wanted n d at e Full = (ns : List (List ℕ)) → Packs d at ns → length d < length (packed (withName wanted n ns))
+
+-- where a name lies in pending, and the name
+pub record Lies (place : NamePlace) (pending : List ℕ) : Type 0 where
+  pub ordered : place .from ≤ place .end
+  pub inside : place .end ≤ length pending
+  pub short : place .end ≤ place .from + 255
+
+abbrev pub nameAt : NamePlace → List ℕ → List ℕ
+nameAt place pending = take (place .end - place .from) (drop (place .from) pending)

@@ -10,6 +10,7 @@ ghost use lib.ListN.{replicate};
 ghost use Rattle.listing_rules.specs.Bytes.{slash};
 ghost use Rattle.listing_rules.specs.Walk.{when, commandLine};
 ghost use Rattle.octets.specs.Put.{Put};
+ghost use Rattle.collector.specs.Options.{byteOf};
 
 // Room for a reference, which is a name of at most 255 bytes and "/", and for a command with it, whose quotes may double it.
 pub(crate) const REFERENCE_ROOM: usize = 256;
@@ -32,18 +33,13 @@ const PATTERN: [u8; 6] = *b" \"%\"\r\n";
 
 // The command with this reference.
 pub(crate) fn put_command(buf: &mut [u8], options: WalkOptions, reference: &[u8]) -> usize
-    ensures { λ r. ⌜ Put (now (buf .entry)) (now (buf .exit)) 0 (commandLine (options .bits) (now (reference .entry))) r ⌝ }
+    ensures { λ r. ⌜ Put (now (buf .entry)) (now (buf .exit)) 0 (commandLine (byteOf options) (now (reference .entry))) r ⌝ }
 {
     let a = put_all(buf, 0, &START);
-    let b = put_when(
-        buf,
-        a,
-        !options.has(WalkOptions::WITHOUT_SUBSCRIBED),
-        &SUBSCRIBED,
-    );
+    let b = put_when(buf, a, options.subscribed(), &SUBSCRIBED);
     let c = put_all(buf, b, &RECURSIVEMATCH);
-    let d = put_when(buf, c, options.has(WalkOptions::SPECIAL_USE), &SPECIAL_USE);
-    let e = put_when(buf, d, options.has(WalkOptions::REMOTE), &REMOTE);
+    let d = put_when(buf, c, options.special_use(), &SPECIAL_USE);
+    let e = put_when(buf, d, options.remote, &REMOTE);
     let f = put_all(buf, e, &SELECTION_END);
     let g = put_quoted(buf, f, reference);
     put_all(buf, g, &PATTERN)

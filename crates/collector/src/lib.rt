@@ -9,13 +9,14 @@ mod options;
 mod walk;
 
 use octets::clear;
+use options::Asked;
 use options::WalkOptions;
 use walk::walk_table;
 ghost use mathlib.Core.Path.{_≡_};
 ghost use mathlib.Core.Bool.{true};
 ghost use lib.ListN.{length, replicate};
 ghost use Rattle.listing_rules.specs.Table.{passes};
-ghost use Rattle.listing_rules.specs.Walk.{lawfulByte, collected, foundAfter, pendingAfter, scratchAfter, walk};
+ghost use Rattle.listing_rules.specs.Walk.{lawfulByte, collected, foundAfter, pendingAfter, scratchAfter};
 ghost use Rattle.collector.specs.Result.{collectedIs, WholeWalk};
 ghost use Rattle.collector.specs.Ends.{Ends};
 
@@ -67,14 +68,14 @@ fn run(
 ) -> Collected
     requires { ⌜ now found ≡ replicate (length (now found)) 0 ⌝ }
     requires { ⌜ now pending ≡ replicate (length (now pending)) 0 ⌝ }
-    ensures { λ r. ⌜ Ends (walk (now (table .entry)) option (length (now (scratch .entry))) (length (now (found .entry))) (length (now (pending .entry)))) (now (found .exit)) (now (pending .exit)) r ⌝ }
+    ensures { λ r. ⌜ Ends (collected (now (table .entry)) option (now (scratch .entry)) (now (found .entry)) (now (pending .entry)))
+        (now (found .exit)) (now (pending .exit)) r ⌝ }
 {
     if !mailbox_table::check(table) {
         return Collected::Refused(BAD_TABLE);
     }
-    let options = WalkOptions { bits: option };
-    if !options.lawful() {
+    let Asked::Of(options) = WalkOptions::of_byte(option) else {
         return Collected::Refused(BAD_OPTION);
-    }
+    };
     walk_table(table, options, scratch, found, pending)
 }

@@ -6,14 +6,13 @@ use list_line::Attributes;
 use list_line::Line;
 use list_line::read_line;
 ghost use mathlib.Core.Path.{_≡_};
-ghost use mathlib.Core.Bool.{true};
 ghost use Prim.Native.Nat.{_+_};
-ghost use lib.ListN.{length, drop};
-ghost use Rattle.listing_rules.specs.Reader.{readLine};
-ghost use Rattle.listing_rules.specs.Walk.{lawfulByte, useAttr, isFind, linesOf, takenIn, takenAll};
+ghost use lib.ListN.{drop};
+ghost use Rattle.listing_rules.specs.Walk.{useAttr, isFind};
 ghost use Rattle.list_line.specs.Members.{members};
 ghost use Rattle.collector.specs.Lines.{lineLength};
-ghost use Rattle.collector.specs.Taking.{Inside, Takes};
+ghost use Rattle.collector.specs.Options.{byteOf};
+ghost use Rattle.collector.specs.Taking.{Inside, TakesLine, TakesAnswer};
 
 // Refusals: a find does not fit, a pending name does not fit.
 const FOUND_FULL: u8 = 10;
@@ -27,6 +26,15 @@ pub(crate) struct Progress {
     pub count: usize,
     pub found: usize,
     pub pending: usize,
+}
+
+impl Progress {
+    // Before the first command.
+    pub const NONE: Progress = Progress {
+        count: 0,
+        found: 0,
+        pending: 0,
+    };
 }
 
 // How far it is behind a line, an answer or a command; or the number of the refusal.
@@ -44,8 +52,8 @@ pub(crate) fn take_lines(
     start: Progress,
 ) -> Taken
     requires { ⌜ Inside (now found) (now pending) start ⌝ }
-    requires { ⌜ lawfulByte (options .bits) ≡ true ⌝ }
-    ensures { λ r. ⌜ Takes (λ s. takenAll (options .bits) (length (now (found .entry))) (length (now (pending .entry))) s (linesOf (now (answer .entry)))) (start .count) (now (found .entry)) (now (pending .entry)) start (now (found .exit)) (now (pending .exit)) r ⌝ }
+    ensures { λ r. ⌜ TakesAnswer options (now (answer .entry)) start
+        (now (found .entry)) (now (pending .entry)) (now (found .exit)) (now (pending .exit)) r ⌝ }
 {
     let mut progress = start;
     let mut at = 0;
@@ -64,7 +72,7 @@ pub(crate) fn take_lines(
     Taken::All(progress)
 }
 
-// One line. What is no LIST line, as the tagged line at the end, adds nothing; nor does the root line, under lawful options.
+// One line. What is no LIST line, as the tagged line at the end, adds nothing; nor does the root line.
 fn take_line(
     line: &[u8],
     options: WalkOptions,
@@ -73,8 +81,8 @@ fn take_line(
     start: Progress,
 ) -> Taken
     requires { ⌜ Inside (now found) (now pending) start ⌝ }
-    requires { ⌜ lawfulByte (options .bits) ≡ true ⌝ }
-    ensures { λ r. ⌜ Takes (λ s. takenIn (options .bits) (length (now (found .entry))) (length (now (pending .entry))) s (readLine (now (line .entry)))) (start .count) (now (found .entry)) (now (pending .entry)) start (now (found .exit)) (now (pending .exit)) r ⌝ }
+    ensures { λ r. ⌜ TakesLine options (now (line .entry)) start
+        (now (found .entry)) (now (pending .entry)) (now (found .exit)) (now (pending .exit)) r ⌝ }
 {
     let read = read_line(line);
     let parts = read.line;
@@ -99,12 +107,11 @@ fn take_line(
 
 // A find has \Subscribed unless SUBSCRIBED was dropped, no \Remote unless REMOTE was asked, and a use if SPECIAL-USE was.
 fn is_find(options: WalkOptions, attributes: Attributes) -> bool
-    ensures { λ r. ⌜ r ≡ isFind (options .bits) (members (attributes .bits)) ⌝ }
+    ensures { λ r. ⌜ r ≡ isFind (byteOf options) (members (attributes .bits)) ⌝ }
 {
-    let subscribed = options.has(WalkOptions::WITHOUT_SUBSCRIBED)
-        | attributes.has(Attributes::SUBSCRIBED);
-    let near = !attributes.has(Attributes::REMOTE) | options.has(WalkOptions::REMOTE);
-    let used = !options.has(WalkOptions::SPECIAL_USE) | has_use(attributes);
+    let subscribed = !options.subscribed() | attributes.has(Attributes::SUBSCRIBED);
+    let near = !attributes.has(Attributes::REMOTE) | options.remote;
+    let used = !options.special_use() | has_use(attributes);
     subscribed & near & used
 }
 

@@ -13,16 +13,24 @@ use octets::wide;
 ghost use mathlib.Core.Path.{_≡_};
 ghost use mathlib.Core.Bool.{true};
 ghost use mathlib.Core.List.{[], _∷_, _++_};
-ghost use Prim.Native.Nat.{_+_, _-_, _≤_, suc};
-ghost use lib.ListN.{length, take, drop, replicate};
+ghost use Prim.Native.Nat.{_≤_};
+ghost use lib.ListN.{length, replicate};
 ghost use Rattle.listing_rules.specs.Bytes.{slash};
-ghost use Rattle.listing_rules.specs.Table.{rows, passes};
-ghost use Rattle.listing_rules.specs.Listing.{candidates};
-ghost use Rattle.listing_rules.specs.Walk.{lawfulByte, asked, walkAll, ended};
-ghost use Rattle.collector.specs.Taking.{Inside, Takes};
+ghost use Rattle.listing_rules.specs.Table.{passes};
+ghost use Rattle.listing_rules.specs.Walk.{collected};
+ghost use Rattle.collector.specs.Names.{Lies, nameAt};
+ghost use Rattle.collector.specs.Options.{byteOf};
+ghost use Rattle.collector.specs.Taking.{Inside, TakesCommand};
+ghost use Rattle.collector.specs.Walking.{Walking};
 ghost use Rattle.collector.specs.Ends.{Ends};
 
-// Walks a table that passes, with lawful options. Found and pending are zero.
+// Where a name lies in pending: its first byte, and the place after its last.
+pub(crate) struct NamePlace {
+    pub from: usize,
+    pub end: usize,
+}
+
+// Walks a table that passes. Found and pending are zero.
 pub(crate) fn walk_table(
     table: &[u8],
     options: WalkOptions,
@@ -30,28 +38,48 @@ pub(crate) fn walk_table(
     found: &mut [u8],
     pending: &mut [u8],
 ) -> Collected
-    requires { ⌜ (passes (now table) ≡ true) × (lawfulByte (options .bits) ≡ true) ⌝ }
+    requires { ⌜ passes (now table) ≡ true ⌝ }
     requires { ⌜ now found ≡ replicate (length (now found)) 0 ⌝ }
     requires { ⌜ now pending ≡ replicate (length (now pending)) 0 ⌝ }
-    ensures { λ r. ⌜ Ends (ended (walkAll (now (table .entry)) (options .bits) (length (now (scratch .entry))) (length (now (found .entry))) (length (now (pending .entry))) (suc (suc (length (candidates (rows (now (table .entry))))))))) (now (found .exit)) (now (pending .exit)) r ⌝ }
+    ensures { λ r. ⌜ Ends (collected (now (table .entry)) (byteOf options) (now (scratch .entry)) (now (found .entry)) (now (pending .entry)))
+        (now (found .exit)) (now (pending .exit)) r ⌝ }
 {
-    let begin = Progress {
-        count: 0,
-        found: 0,
-        pending: 0,
-    };
     let none = [0u8; 0];
-    let mut progress = match ask(table, options, &none, scratch, found, pending, begin) {
-        Taken::All(first) => first,
-        Taken::Refused(number) => {
-            return Collected::Refused(number);
-        }
-    };
+    match ask(
+        table,
+        options,
+        &none,
+        scratch,
+        found,
+        pending,
+        Progress::NONE,
+    ) {
+        Taken::All(first) => ask_pending(table, options, scratch, found, pending, first),
+        Taken::Refused(number) => Collected::Refused(number),
+    }
+}
+
+// Asks below each name of pending, in order; names that are put there meanwhile come in their turn.
+fn ask_pending(
+    table: &[u8],
+    options: WalkOptions,
+    scratch: &mut [u8],
+    found: &mut [u8],
+    pending: &mut [u8],
+    first: Progress,
+) -> Collected
+    requires { ⌜ Walking (now table) options (length (now scratch)) (length (now found)) (length (now pending))
+        (now scratch) (now found) (now pending) first 0 ⌝ }
+    ensures { λ r. ⌜ Ends (collected (now (table .entry)) (byteOf options) (now (scratch .entry)) (now (found .entry)) (now (pending .entry)))
+        (now (found .exit)) (now (pending .exit)) r ⌝ }
+{
+    let mut progress = first;
     let mut at = 0;
     while at < progress.pending {
         let from = at + 1;
         let end = from + wide(pending[at]);
-        match ask_below(table, options, from, end, scratch, found, pending, progress) {
+        let name = NamePlace { from, end };
+        match ask_below(table, options, name, scratch, found, pending, progress) {
             Taken::All(next) => {
                 progress = next;
                 at = end;
@@ -64,23 +92,24 @@ pub(crate) fn walk_table(
     Collected::Done(progress.count, progress.found)
 }
 
-// The command below the pending name between two places.
+// The command below a name of pending.
 fn ask_below(
     table: &[u8],
     options: WalkOptions,
-    from: usize,
-    end: usize,
+    name: NamePlace,
     scratch: &mut [u8],
     found: &mut [u8],
     pending: &mut [u8],
     start: Progress,
 ) -> Taken
-    requires { ⌜ (from ≤ end) × (end ≤ length (now pending)) × (end ≤ from + 255) ⌝ }
+    requires { ⌜ Lies name (now pending) ⌝ }
     requires { ⌜ Inside (now found) (now pending) start ⌝ }
     requires { ⌜ start .count ≤ length (now pending) ⌝ }
-    requires { ⌜ lawfulByte (options .bits) ≡ true ⌝ }
-    ensures { λ r. ⌜ Takes (λ s. asked (now (table .entry)) (options .bits) (length (now (scratch .entry))) (length (now (found .entry))) (length (now (pending .entry))) s (take (end - from) (drop from (now (pending .entry))) ++ (slash ∷ []))) (start .count + 1) (now (found .entry)) (now (pending .entry)) start (now (found .exit)) (now (pending .exit)) r ⌝ }
+    ensures { λ r. ⌜ TakesCommand (now (table .entry)) options (nameAt name (now (pending .entry)) ++ (slash ∷ [])) (now (scratch .entry)) start
+        (now (found .entry)) (now (pending .entry)) (now (found .exit)) (now (pending .exit)) r ⌝ }
 {
+    let from = name.from;
+    let end = name.end;
     let mut reference = no_reference();
     let n = put_below(&mut reference, &pending[from..end]);
     ask(
@@ -108,8 +137,8 @@ fn ask(
     requires { ⌜ length (now reference) ≤ 256 ⌝ }
     requires { ⌜ Inside (now found) (now pending) start ⌝ }
     requires { ⌜ start .count ≤ length (now pending) ⌝ }
-    requires { ⌜ lawfulByte (options .bits) ≡ true ⌝ }
-    ensures { λ r. ⌜ Takes (λ s. asked (now (table .entry)) (options .bits) (length (now (scratch .entry))) (length (now (found .entry))) (length (now (pending .entry))) s (now (reference .entry))) (start .count + 1) (now (found .entry)) (now (pending .entry)) start (now (found .exit)) (now (pending .exit)) r ⌝ }
+    ensures { λ r. ⌜ TakesCommand (now (table .entry)) options (now (reference .entry)) (now (scratch .entry)) start
+        (now (found .entry)) (now (pending .entry)) (now (found .exit)) (now (pending .exit)) r ⌝ }
 {
     let mut line = no_command();
     let n = put_command(&mut line, options, reference);

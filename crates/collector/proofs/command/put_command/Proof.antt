@@ -1,11 +1,10 @@
--- `put_command` meets its contract: eight writes, one behind the other (`put-then`); the options are the definition's (`FindLaws`).
-use mathlib.Core.Path.{ap, _∙_}
-use mathlib.Core.Bool.{not}
+-- `put_command` meets its contract: eight writes, one behind the other (`put-then`); the options are the definition's (`OptionLaws`).
+use mathlib.Core.Path.{sym, _∙_}
 use borrow.Author.Needs.{needs}
 use Rattle.listing_rules.proofs.Keys.{openBytes}
 use Rattle.listing_rules.specs.Walk.{commandLine}
 use Rattle.octets.proofs.Puts.{put-then, put-length}
-use Rattle.collector.proofs.FindLaws.{has-remote, has-special, has-dropped}
+use Rattle.collector.proofs.OptionLaws.{byte-remote, byte-special, byte-subscribed}
 use Rattle.collector.proofs.command.put_command.Statement.{statement}
 use Rattle.collector.proofs.command.put_command.Tie as tie
 
@@ -15,8 +14,8 @@ slice-aggregate-put-all c = search needs
 put-all-requires : tie.Need-put-all-requires
 put-all-requires c κs = search needs
 
-has-requires : tie.Need-has-requires
-has-requires c κs = search needs
+subscribed-requires : tie.Need-subscribed-requires
+subscribed-requires c κs = search needs
 
 slice-aggregate-put-when : tie.Need-slice-aggregate-put-when
 slice-aggregate-put-when c = search needs
@@ -30,17 +29,14 @@ slice-aggregate-put-all-2 c = search needs
 put-all-requires-2 : tie.Need-put-all-requires-2
 put-all-requires-2 c κs = search needs
 
-has-requires-2 : tie.Need-has-requires-2
-has-requires-2 c κs = search needs
+special-use-requires : tie.Need-special-use-requires
+special-use-requires c κs = search needs
 
 slice-aggregate-put-when-2 : tie.Need-slice-aggregate-put-when-2
 slice-aggregate-put-when-2 c = search needs
 
 put-when-requires-2 : tie.Need-put-when-requires-2
 put-when-requires-2 c κs = search needs
-
-has-requires-3 : tie.Need-has-requires-3
-has-requires-3 c κs = search needs
 
 slice-aggregate-put-when-3 : tie.Need-slice-aggregate-put-when-3
 slice-aggregate-put-when-3 c = search needs
@@ -66,12 +62,22 @@ put-all-requires-4 c κs = search needs
 returns : tie.Need-returns
 unfolding openBytes commandLine
 returns c =
-    put-then (c .before .before .before .before .before .before .before .before .before .before .before .before .before .before .before .before .before .before .before .before .before .before .before .before .before .before .before .before .before .before .before .before .before .before .before .before .before .before .before .put-all .ensures)
-    (put-then (rw (ap not (c .before .before .before .before .before .before .before .before .before .before .before .before .before .before .before .before .before .before .before .before .before .before .before .before .before .before .before .before .before .before .before .before .before .before .before .has .ensures ∙ has-dropped (c .before .before .before .before .before .before .before .before .before .before .before .before .before .before .before .before .before .before .before .before .before .before .before .before .before .before .before .before .before .before .before .before .before .before .before .before .before .before .before .before .before .before .before .before .args .options .bits))) at (c .before .before .before .before .before .before .before .before .before .before .before .before .before .before .before .before .before .before .before .before .before .before .before .before .before .before .before .before .before .before .before .before .before .put-when .ensures))
-    (put-then (c .before .before .before .before .before .before .before .before .before .before .before .before .before .before .before .before .before .before .before .before .before .before .before .before .before .before .before .before .put-all2 .ensures)
-    (put-then (rw (c .before .before .before .before .before .before .before .before .before .before .before .before .before .before .before .before .before .before .before .before .before .before .before .before .has2 .ensures ∙ has-special (c .before .before .before .before .before .before .before .before .before .before .before .before .before .before .before .before .before .before .before .before .before .before .before .before .before .before .before .before .before .before .before .before .before .before .before .before .before .before .before .before .before .before .before .before .args .options .bits)) at (c .before .before .before .before .before .before .before .before .before .before .before .before .before .before .before .before .before .before .before .before .before .before .put-when2 .ensures))
-    (put-then (rw (c .before .before .before .before .before .before .before .before .before .before .before .before .before .before .before .before .before .before .has3 .ensures ∙ has-remote (c .before .before .before .before .before .before .before .before .before .before .before .before .before .before .before .before .before .before .before .before .before .before .before .before .before .before .before .before .before .before .before .before .before .before .before .before .before .before .before .before .before .before .before .before .args .options .bits)) at (c .before .before .before .before .before .before .before .before .before .before .before .before .before .before .before .before .put-when3 .ensures))
-    (put-then (c .before .before .before .before .before .before .before .before .before .before .before .put-all3 .ensures) (put-then (c .before .before .before .before .before .before .before .put-quoted .ensures) (c .before .before .put-all4 .ensures)))))))
+    let ended = c .before .before in
+    let quoted = ended .before .before .before .before .before in
+    let closed = quoted .before .before .before .before in
+    let remote = closed .before .before .before .before .before in
+    let special = remote .before .before .before .before .before in
+    let recursive = special .before .before .before .before .before .before in
+    let subscribed = recursive .before .before .before .before .before in
+    let begun = subscribed .before .before .before .before .before .before in
+    let start = begun .before .before .before .before .before in
+    let options = start .args .options in
+    put-then (begun .put-all .ensures)
+    (put-then (rw (subscribed .before .before .subscribed .ensures ∙ sym (byte-subscribed options)) at (subscribed .put-when .ensures))
+    (put-then (recursive .put-all2 .ensures)
+    (put-then (rw (special .before .before .special-use .ensures ∙ sym (byte-special options)) at (special .put-when2 .ensures))
+    (put-then (rw (sym (byte-remote options)) at (remote .put-when3 .ensures))
+    (put-then (closed .put-all3 .ensures) (put-then (quoted .put-quoted .ensures) (ended .put-all4 .ensures)))))))
 
 -- each write keeps the length, so the whole does
 same-length : tie.Need-same-length
@@ -83,15 +89,14 @@ put-command-spec =
     (tie.spec
     slice-aggregate-put-all
     put-all-requires
-    has-requires
+    subscribed-requires
     slice-aggregate-put-when
     put-when-requires
     slice-aggregate-put-all-2
     put-all-requires-2
-    has-requires-2
+    special-use-requires
     slice-aggregate-put-when-2
     put-when-requires-2
-    has-requires-3
     slice-aggregate-put-when-3
     put-when-requires-3
     slice-aggregate-put-all-3

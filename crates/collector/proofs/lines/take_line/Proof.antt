@@ -4,12 +4,11 @@ use mathlib.Core.Bool.{not}
 use native.Mathlib.Omega.{arith}
 use lib.ListN.{take, length-take}
 use borrow.Author.Needs.{needs}
-use Rattle.listing_rules.specs.Reader.{readLine}
 use Rattle.listing_rules.specs.Walk.{isFind}
 use Rattle.list_line.specs.Members.{members}
+use Rattle.collector.specs.Options.{byteOf}
 use Rattle.collector.specs.Names.{Keeps}
 use Rattle.collector.specs.declared.names.Kept.the-variants.{To}
-use Rattle.collector.proofs.PackLaws.{keeps-as}
 use Rattle.collector.proofs.TakeLaws.{parentOf, ReadAs, read-as, line-skipped, find-full, ask-full, line-taken}
 use Rattle.collector.proofs.lines.take_line.Statement.{statement}
 use Rattle.collector.proofs.lines.take_line.Tie as tie
@@ -24,11 +23,20 @@ enum-told : tie.Need-enum-told
 enum-told c = search needs
 
 returns : tie.Need-returns
-returns c = line-skipped (c .before .before .before .before .before .before .args .line .now) (c .before .before .before .before .before .before .args .options .bits) (c .before .before .before .before .before .before .args .found .now) (c .before .before .before .before .before .before .args .pending .now) (c .before .before .before .before .before .before .args .start) _ (sym (c .before .before .read-line .ensures .0) ∙ c .enum-told .given .1) (c .before .before .before .before .before .before .pre .0)
+returns c =
+    let read = c .before .before in
+    let start = read .before .before .before .before in
+    line-skipped (start .args .line .now) (start .args .options) (sym (read .read-line .ensures .0) ∙ c .enum-told .given .1) (start .pre)
 
 -- what is read of the line
-told : (c : tie.After-known-told) → ReadAs (readLine (c .before .before .before .before .before .before .before .args .line .now)) (c .before .parts .given .0 .0) (c .before .parts .given .0 .1 .0) (parentOf (c .before .parts .given .0 .1 .1 .0)) (c .before .before .before .read-line .result .name)
-told c = read-as (c .before .parts .given .0 .0) (c .before .parts .given .0 .1 .0) (c .before .parts .given .0 .1 .1 .0) (c .before .before .before .read-line .result .name) (c .before .before .before .before .before .before .before .args .line .now) (sym (c .before .before .before .read-line .ensures .0) ∙ c .before .parts .given .1) (c .before .before .before .read-line .ensures .1)
+told : (c : tie.After-known-told) →
+    let parts = c .before .parts .given .0 in
+    ReadAs (c .before .before .before .before .before .before .before .args .line .now) (parts .0) (parts .1 .0) (parentOf (parts .1 .1 .0)) (c .before .before .before .read-line .result .name)
+told c =
+    let parts = c .before .parts .given in
+    let read = c .before .before .before in
+    let start = read .before .before .before .before in
+    read-as (start .args .line .now) (parts .0 .0) (parts .0 .1 .0) (parts .0 .1 .1 .0) (read .read-line .result .name) (sym (read .read-line .ensures .0) ∙ parts .1) (read .read-line .ensures .1)
 
 is-find-requires : tie.Need-is-find-requires
 is-find-requires c κs = search needs
@@ -43,7 +51,7 @@ slice-aggregate-keep : tie.Need-slice-aggregate-keep
 slice-aggregate-keep c = simp length-take (omega (arith, told (c .before .before .before .before .before) .inside))
 
 keep-requires : tie.Need-keep-requires
-keep-requires c κs = (omega (arith, c .before .before .before .before .before .before .before .before .before .before .before .before .pre .0), simp length-take (omega (arith, told (c .before .before .before .before .before) .short)))
+keep-requires c κs = let read = c .before .before .before .before .before in (omega (arith, read .before .before .before .before .before .before .before .pre), simp length-take (omega (arith, told read .short)))
 
 enum-known-found-end : tie.Need-enum-known-found-end
 enum-known-found-end c = search needs
@@ -55,11 +63,20 @@ same-length : tie.Need-same-length
 same-length c = search needs
 
 returns-2 : tie.Need-returns-2
-returns-2 c = find-full (c .before .before .before .before .before .before .before .before .before .before .before .before .before .before .before .before .before .args .line .now) (c .before .before .before .before .before .before .before .before .before .before .before .before .before .before .before .before .before .args .options .bits) (c .before .before .before .before .before .before .before .before .before .before .before .before .before .before .before .before .before .args .found .now) (c .before .before .before .before .before .before .before .before .before .before .before .before .before .before .before .before .before .args .pending .now) (c .before .before .before .before .before .before .before .before .before .before .before .before .before .before .before .before .before .args .start) (c .before .before .before .before .before .before .before .before .before .before .before .parts .given .0 .0) (c .before .before .before .before .before .before .before .before .before .before .before .parts .given .0 .1 .0) (parentOf (c .before .before .before .before .before .before .before .before .before .before .before .parts .given .0 .1 .1 .0)) (c .before .before .before .before .before .before .before .before .before .before .before .before .before .read-line .result .name) (told (c .before .before .before .before .before .before .before .before .before .before)) (c .before .before .before .before .before .before .before .before .before .before .before .before .before .before .before .before .before .pre .1) (c .before .before .before .before .keep .last .1 .0) (keeps-as (take (c .before .before .before .before .before .before .before .before .before .before .before .parts .given .0 .1 .0) (c .before .before .before .before .before .before .before .before .before .before .before .before .before .read-line .result .name)) (c .before .before .before .before .before .before .before .before .before .before .before .before .before .before .before .before .before .args .found .now) (c .before .before .before .before .before .before .before .before .before .before .before .before .before .before .before .before .before .args .start .found) (c .before .before .before .before .keep .last .1 .0) (c .before .before .before .before .before .before .before .before .is-find .ensures) (c .enum-told2 .given .1) (c .before .before .before .before .keep .ensures))
+returns-2 c =
+    let kept = c .before .before .before .before in
+    let read = kept .before .before .before .before .before .before in
+    let start = read .before .before .before .before .before .before .before in
+    find-full (told read) (start .args .options) (rw (c .enum-told2 .given .1, kept .before .before .before .before .is-find .ensures) at (kept .keep .ensures))
 
 -- the find is kept
-found-kept : (c : tie.After-known-told2) → Keeps (isFind (c .before .before .before .before .before .before .before .before .before .before .before .before .before .before .before .before .before .before .args .options .bits) (members (c .before .before .before .before .before .before .before .before .before .before .before .before .parts .given .0 .0 .bits))) (take (c .before .before .before .before .before .before .before .before .before .before .before .before .parts .given .0 .1 .0) (c .before .before .before .before .before .before .before .before .before .before .before .before .before .before .read-line .result .name)) (c .before .before .before .before .before .before .before .before .before .before .before .before .before .before .before .before .before .before .args .found .now) (c .before .before .before .before .before .before .before .before .before .before .before .before .before .before .before .before .before .before .args .start .found) (c .before .before .before .before .before .keep .last .1 .0) (To (c .before .found-end .given .0 .0))
-found-kept c = keeps-as (take (c .before .before .before .before .before .before .before .before .before .before .before .before .parts .given .0 .1 .0) (c .before .before .before .before .before .before .before .before .before .before .before .before .before .before .read-line .result .name)) (c .before .before .before .before .before .before .before .before .before .before .before .before .before .before .before .before .before .before .args .found .now) (c .before .before .before .before .before .before .before .before .before .before .before .before .before .before .before .before .before .before .args .start .found) (c .before .before .before .before .before .keep .last .1 .0) (c .before .before .before .before .before .before .before .before .before .is-find .ensures) (c .before .found-end .given .1) (c .before .before .before .before .before .keep .ensures)
+found-kept : (c : tie.After-known-told2) →
+    let kept = c .before .before .before .before .before in
+    let read = kept .before .before .before .before .before .before in
+    let args = read .before .before .before .before .before .before .before .args in
+    let parts = read .before .parts .given .0 in
+    Keeps (isFind (byteOf (args .options)) (members (parts .0 .bits))) (take (parts .1 .0) (read .before .before .before .read-line .result .name)) (args .found .now) (args .start .found) (kept .keep .last .1 .0) (To (c .before .found-end .given .0 .0))
+found-kept c = let kept = c .before .before .before .before .before in rw (c .before .found-end .given .1, kept .before .before .before .before .is-find .ensures) at (kept .keep .ensures)
 
 array-share-prefix-name-2 : tie.Need-array-share-prefix-name-2
 array-share-prefix-name-2 c = told (c .before .before .before .before .before .before .before .before .before .before .before .before) .inside
@@ -68,7 +85,7 @@ slice-aggregate-keep-2 : tie.Need-slice-aggregate-keep-2
 slice-aggregate-keep-2 c = simp length-take (omega (arith, told (c .before .before .before .before .before .before .before .before .before .before .before .before .before) .inside))
 
 keep-requires-2 : tie.Need-keep-requires-2
-keep-requires-2 c κs = (omega (arith, c .before .before .before .before .before .before .before .before .before .before .before .before .before .before .before .before .before .before .before .before .pre .0), simp length-take (omega (arith, told (c .before .before .before .before .before .before .before .before .before .before .before .before .before) .short)))
+keep-requires-2 c κs = let read = c .before .before .before .before .before .before .before .before .before .before .before .before .before in (omega (arith, read .before .before .before .before .before .before .before .pre), simp length-take (omega (arith, told read .short)))
 
 enum-known-pending-end : tie.Need-enum-known-pending-end
 enum-known-pending-end c = search needs
@@ -83,7 +100,13 @@ same-length-3 : tie.Need-same-length-3
 same-length-3 c = search needs
 
 returns-3 : tie.Need-returns-3
-returns-3 c = ask-full (c .before .before .before .before .before .before .before .before .before .before .before .before .before .before .before .before .before .before .before .before .before .before .before .before .before .args .line .now) (c .before .before .before .before .before .before .before .before .before .before .before .before .before .before .before .before .before .before .before .before .before .before .before .before .before .args .options .bits) (c .before .before .before .before .before .before .before .before .before .before .before .before .before .before .before .before .before .before .before .before .before .before .before .before .before .args .found .now) (c .before .before .before .before .before .before .before .before .before .before .before .before .before .before .before .before .before .before .before .before .before .before .before .before .before .args .pending .now) (c .before .before .before .before .before .before .before .before .before .before .before .before .before .before .before .before .before .before .before .before .before .before .before .before .before .args .start) (c .before .before .before .before .before .before .before .before .before .before .before .before .before .before .before .before .before .before .before .parts .given .0 .0) (c .before .before .before .before .before .before .before .before .before .before .before .before .before .before .before .before .before .before .before .parts .given .0 .1 .0) (parentOf (c .before .before .before .before .before .before .before .before .before .before .before .before .before .before .before .before .before .before .before .parts .given .0 .1 .1 .0)) (c .before .before .before .before .before .before .before .before .before .before .before .before .before .before .before .before .before .before .before .before .before .read-line .result .name) (told (c .before .before .before .before .before .before .before .before .before .before .before .before .before .before .before .before .before .before)) (c .before .before .before .before .before .before .before .before .before .before .before .before .before .before .before .before .before .before .before .before .before .before .before .before .before .pre .1) (c .before .before .before .before .before .before .before .before .before .before .before .before .keep .last .1 .0) (c .before .before .before .before .before .before .before .before .found-end .given .0 .0) (found-kept (c .before .before .before .before .before .before .before)) (c .before .before .before .before .before .before .before .before .before .before .before .before .keep .kept .1 .0) (c .before .before .before .before .keep2 .last .1 .0) (keeps-as (take (c .before .before .before .before .before .before .before .before .before .before .before .before .before .before .before .before .before .before .before .parts .given .0 .1 .0) (c .before .before .before .before .before .before .before .before .before .before .before .before .before .before .before .before .before .before .before .before .before .read-line .result .name)) (c .before .before .before .before .before .before .before .before .before .before .before .before .before .before .before .before .before .before .before .before .before .before .before .before .before .args .pending .now) (c .before .before .before .before .before .before .before .before .before .before .before .before .before .before .before .before .before .before .before .before .before .before .before .before .before .args .start .pending) (c .before .before .before .before .keep2 .last .1 .0) (ap not (c .before .before .before .before .before .before .before .before .before .before .before .before .before .before .before .is-none .ensures)) (c .enum-told3 .given .1) (c .before .before .before .before .keep2 .ensures))
+returns-3 c =
+    let asked = c .before .before .before .before in
+    let found = asked .before .before .before in
+    let kept = found .before .before .before .before .before in
+    let read = kept .before .before .before .before .before .before in
+    let start = read .before .before .before .before .before .before .before in
+    ask-full (told read) (start .args .options) (found-kept found) (kept .keep .kept .1 .0) (rw (c .enum-told3 .given .1, ap not (kept .before .before .before .is-none .ensures)) at (asked .keep2 .ensures))
 
 same-length-4 : tie.Need-same-length-4
 same-length-4 c = search needs
@@ -92,7 +115,13 @@ same-length-5 : tie.Need-same-length-5
 same-length-5 c = search needs
 
 returns-4 : tie.Need-returns-4
-returns-4 c = line-taken (c .before .before .before .before .before .before .before .before .before .before .before .before .before .before .before .before .before .before .before .before .before .before .before .before .before .before .args .line .now) (c .before .before .before .before .before .before .before .before .before .before .before .before .before .before .before .before .before .before .before .before .before .before .before .before .before .before .args .options .bits) (c .before .before .before .before .before .before .before .before .before .before .before .before .before .before .before .before .before .before .before .before .before .before .before .before .before .before .args .found .now) (c .before .before .before .before .before .before .before .before .before .before .before .before .before .before .before .before .before .before .before .before .before .before .before .before .before .before .args .pending .now) (c .before .before .before .before .before .before .before .before .before .before .before .before .before .before .before .before .before .before .before .before .before .before .before .before .before .before .args .start) (c .before .before .before .before .before .before .before .before .before .before .before .before .before .before .before .before .before .before .before .before .parts .given .0 .0) (c .before .before .before .before .before .before .before .before .before .before .before .before .before .before .before .before .before .before .before .before .parts .given .0 .1 .0) (parentOf (c .before .before .before .before .before .before .before .before .before .before .before .before .before .before .before .before .before .before .before .before .parts .given .0 .1 .1 .0)) (c .before .before .before .before .before .before .before .before .before .before .before .before .before .before .before .before .before .before .before .before .before .before .read-line .result .name) (told (c .before .before .before .before .before .before .before .before .before .before .before .before .before .before .before .before .before .before .before)) (c .before .before .before .before .before .before .before .before .before .before .before .before .before .before .before .before .before .before .before .before .before .before .before .before .before .before .pre .1) (c .before .before .before .before .before .before .before .before .before .before .before .before .before .keep .last .1 .0) (c .before .before .before .before .before .before .before .before .before .found-end .given .0 .0) (found-kept (c .before .before .before .before .before .before .before .before)) (c .before .before .before .before .before .before .before .before .before .before .before .before .before .keep .kept .1 .0) (c .before .before .before .before .before .keep2 .last .1 .0) (c .before .pending-end .given .0 .0) (keeps-as (take (c .before .before .before .before .before .before .before .before .before .before .before .before .before .before .before .before .before .before .before .before .parts .given .0 .1 .0) (c .before .before .before .before .before .before .before .before .before .before .before .before .before .before .before .before .before .before .before .before .before .before .read-line .result .name)) (c .before .before .before .before .before .before .before .before .before .before .before .before .before .before .before .before .before .before .before .before .before .before .before .before .before .before .args .pending .now) (c .before .before .before .before .before .before .before .before .before .before .before .before .before .before .before .before .before .before .before .before .before .before .before .before .before .before .args .start .pending) (c .before .before .before .before .before .keep2 .last .1 .0) (ap not (c .before .before .before .before .before .before .before .before .before .before .before .before .before .before .before .before .is-none .ensures)) (c .before .pending-end .given .1) (c .before .before .before .before .before .keep2 .ensures)) (c .before .before .before .before .before .keep2 .kept .1 .0)
+returns-4 c =
+    let asked = c .before .before .before .before .before in
+    let found = asked .before .before .before in
+    let kept = found .before .before .before .before .before in
+    let read = kept .before .before .before .before .before .before in
+    let start = read .before .before .before .before .before .before .before in
+    line-taken (told read) (start .args .options) (found-kept found) (kept .keep .kept .1 .0) (rw (c .before .pending-end .given .1, ap not (kept .before .before .before .is-none .ensures)) at (asked .keep2 .ensures)) (asked .keep2 .kept .1 .0)
 
 pub take-line-spec : {M : Type 1} → statement M
 take-line-spec =

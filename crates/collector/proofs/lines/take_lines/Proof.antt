@@ -10,13 +10,13 @@ use Rattle.collector.proofs.lines.take_lines.Statement.{statement}
 use Rattle.collector.proofs.lines.take_lines.Tie as tie
 
 abbrev Inv-loop : tie.InvT-loop
-Inv-loop answer options found₀ pending₀ progress₀ at₀ found pending progress at = Taking (options .bits) answer found₀ pending₀ progress₀ found pending progress at
+Inv-loop answer options found₀ pending₀ progress₀ at₀ found pending progress at = Taking options answer progress₀ found₀ pending₀ found pending progress at
 
 abbrev μ-loop : tie.MeasureT-loop
 μ-loop answer options found₀ pending₀ progress₀ at₀ found pending progress at = length answer - at
 
 loop-holds : tie.Need-loop-holds Inv-loop μ-loop
-loop-holds c = taking-none _ _ _ _ _ (c .before .before .before .pre .0)
+loop-holds c = taking-none (c .before .before .before .pre)
 
 next-line-requires : tie.Need-next-line-requires Inv-loop μ-loop
 next-line-requires c κs = search needs
@@ -35,7 +35,7 @@ part-take-line-end : tie.Need-part-take-line-end Inv-loop μ-loop
 part-take-line-end c = lies c .1
 
 take-line-requires : tie.Need-take-line-requires Inv-loop μ-loop
-take-line-requires c κs = (c .before .before .before .before .before .loop .inv .inside, c .before .before .before .before .before .before .before .before .before .pre .1)
+take-line-requires c κs = c .before .before .before .before .before .loop .inv .inside
 
 enum-known-next : tie.Need-enum-known-next Inv-loop μ-loop
 enum-known-next c = search needs
@@ -44,19 +44,28 @@ loop-less : tie.Need-loop-less Inv-loop μ-loop
 loop-less c = omega (arith, lies (c .before .before .before .before .before .before .before .before .before .before .before))
 
 loop-again : tie.Need-loop-again Inv-loop μ-loop
-loop-again c = taking-line (c .before .before .before .before .before .before .before .before .before .before .before .before .before .before .before .before .before .args .options .bits) (c .before .before .before .before .before .before .before .before .before .before .before .before .before .before .before .before .before .args .answer .now) (c .before .before .before .before .before .before .before .before .before .before .before .before .before .before .before .before .before .args .found .now) (c .before .before .before .before .before .before .before .before .before .before .before .before .before .before .before .before .before .args .pending .now) (c .before .before .before .before .before .before .before .before .before .before .before .before .before .before .before .before .before .args .start) (c .before .before .before .before .before .before .before .before .before .before .before .before .before .loop .found) (c .before .before .before .before .before .before .before .before .before .before .before .before .before .loop .pending) (c .before .before .before .before .before .before .before .before .before .before .before .before .before .loop .progress) (c .before .before .before .before .before .before .before .before .before .before .before .before .before .loop .at) (c .before .before .before .before .before .before .before .before .before .before .before .before .before .loop .inv) (c .before .before .before .before .before .before .before .before .before .before .before .next-line .result) (c .before .before .before .before .before .before .before .before .before .before .before .before .loop-test .taken) (c .before .before .before .before .before .before .before .before .before .before .before .next-line .ensures) (c .before .before .before .before .before .before .before .take-line .last .1 .1 .0) (c .before .before .before .before .before .before .before .take-line .last .1 .1 .1 .0) (c .before .next .given .0 .0) (rw (c .before .next .given .1) at (c .before .before .before .before .before .before .before .take-line .ensures)) (c .before .before .before .before .before .before .before .take-line .kept .1 .1 .0) (c .before .before .before .before .before .before .before .take-line .kept .1 .1 .1 .0)
+loop-again c =
+    let taken = c .before .before .before .before .before .before .before in
+    let found = taken .before .before .before .before in
+    let turn = found .before .before in
+    let kept = taken .take-line .kept .1 .1 in
+    taking-line (turn .loop .inv) (found .before .loop-test .taken) (found .next-line .ensures) (rw (c .before .next .given .1) at (taken .take-line .ensures)) (kept .0) (kept .1 .0)
 
 enum-known-number : tie.Need-enum-known-number Inv-loop μ-loop
 enum-known-number c = search needs
 
 same-length : tie.Need-same-length Inv-loop μ-loop
-same-length c = c .before .before .before .before .before .before .before .take-line .kept .1 .1 .0 ∙ c .before .before .before .before .before .before .before .before .before .before .before .before .before .loop .inv .found-long
+same-length c = let taken = c .before .before .before .before .before .before .before in taken .take-line .kept .1 .1 .0 ∙ taken .before .before .before .before .before .before .loop .inv .found-long
 
 same-length-2 : tie.Need-same-length-2 Inv-loop μ-loop
-same-length-2 c = c .before .before .before .before .before .before .before .take-line .kept .1 .1 .1 .0 ∙ c .before .before .before .before .before .before .before .before .before .before .before .before .before .loop .inv .pending-long
+same-length-2 c = let taken = c .before .before .before .before .before .before .before in taken .take-line .kept .1 .1 .1 .0 ∙ taken .before .before .before .before .before .before .loop .inv .pending-long
 
 returns : tie.Need-returns Inv-loop μ-loop
-returns c = taking-refused (c .before .before .before .before .before .before .before .before .before .before .before .before .before .before .before .before .before .args .options .bits) (c .before .before .before .before .before .before .before .before .before .before .before .before .before .before .before .before .before .args .answer .now) (c .before .before .before .before .before .before .before .before .before .before .before .before .before .before .before .before .before .args .found .now) (c .before .before .before .before .before .before .before .before .before .before .before .before .before .before .before .before .before .args .pending .now) (c .before .before .before .before .before .before .before .before .before .before .before .before .before .before .before .before .before .args .start) (c .before .before .before .before .before .before .before .before .before .before .before .before .before .loop .found) (c .before .before .before .before .before .before .before .before .before .before .before .before .before .loop .pending) (c .before .before .before .before .before .before .before .before .before .before .before .before .before .loop .progress) (c .before .before .before .before .before .before .before .before .before .before .before .before .before .loop .at) (c .before .before .before .before .before .before .before .before .before .before .before .before .before .loop .inv) (c .before .before .before .before .before .before .before .before .before .before .before .next-line .result) (c .before .before .before .before .before .before .before .before .before .before .before .before .loop-test .taken) (c .before .before .before .before .before .before .before .before .before .before .before .next-line .ensures) _ (rw (c .before .number .given .1) at (c .before .before .before .before .before .before .before .take-line .ensures))
+returns c =
+    let taken = c .before .before .before .before .before .before .before in
+    let found = taken .before .before .before .before in
+    let turn = found .before .before in
+    taking-refused (turn .loop .inv) (found .before .loop-test .taken) (found .next-line .ensures) (rw (c .before .number .given .1) at (taken .take-line .ensures))
 
 same-length-3 : tie.Need-same-length-3 Inv-loop μ-loop
 same-length-3 c = c .before .loop .inv .found-long
@@ -65,7 +74,7 @@ same-length-4 : tie.Need-same-length-4 Inv-loop μ-loop
 same-length-4 c = c .before .loop .inv .pending-long
 
 returns-2 : tie.Need-returns-2 Inv-loop μ-loop
-returns-2 c = taking-end (c .before .before .before .before .before .args .options .bits) (c .before .before .before .before .before .args .answer .now) (c .before .before .before .before .before .args .found .now) (c .before .before .before .before .before .args .pending .now) (c .before .before .before .before .before .args .start) (c .before .loop .found) (c .before .loop .pending) (c .before .loop .progress) (c .before .loop .at) (c .before .loop .inv) (c .loop-test .left)
+returns-2 c = taking-end (c .before .loop .inv) (c .loop-test .left)
 
 pub take-lines-spec : {M : Type 1} → statement M
 take-lines-spec =

@@ -5,6 +5,7 @@ use native.Mathlib.Omega.{arith}
 use lib.ListN.{length, take, length-take}
 use borrow.Author.Needs.{needs}
 use Rattle.listing_rules.specs.Walk.{go, commandLine}
+use Rattle.collector.specs.Options.{byteOf}
 use Rattle.collector.proofs.AskLaws.{Fronts, put-fronts, command-fits, reply, server-done, asked-done, asked-refused, takes-step}
 use Rattle.collector.proofs.walk.ask.Statement.{statement}
 use Rattle.collector.proofs.walk.ask.Tie as tie
@@ -22,8 +23,17 @@ slice-aggregate-answer : tie.Need-slice-aggregate-answer
 slice-aggregate-answer c = search needs
 
 -- the command stands at the front of the line
-sent : (c : tie.After-namespaces) → Fronts (c .before .before .put-command .last .0) (c .before .before .put-command .result) (commandLine (c .before .before .before .before .before .before .before .before .before .before .args .options .bits) (c .before .before .before .before .before .before .before .before .before .before .args .reference .now))
-sent c = put-fronts (c .before .before .before .before .no-command .result) (c .before .before .put-command .last .0) (commandLine (c .before .before .before .before .before .before .before .before .before .before .args .options .bits) (c .before .before .before .before .before .before .before .before .before .before .args .reference .now)) (c .before .before .put-command .result) 640 (c .before .before .before .before .no-command .ensures) (c .before .before .put-command .ensures) (command-fits (c .before .before .before .before .before .before .before .before .before .before .args .options .bits) (c .before .before .before .before .before .before .before .before .before .before .args .reference .now) (c .before .before .before .before .before .before .before .before .before .before .pre .0))
+sent : (c : tie.After-namespaces) →
+    let put = c .before .before .put-command in
+    let args = c .before .before .before .before .before .before .before .before .before .before .args in
+    Fronts (put .last .0) (put .result) (commandLine (byteOf (args .options)) (args .reference .now))
+sent c =
+    let put = c .before .before .put-command in
+    let made = c .before .before .before .before .no-command in
+    let start = c .before .before .before .before .before .before .before .before .before .before in
+    let byte = byteOf (start .args .options) in
+    let reference = start .args .reference .now in
+    put-fronts (made .result) (put .last .0) (commandLine byte reference) (put .result) 640 (made .ensures) (put .ensures) (command-fits byte reference (start .pre .0))
 
 array-share-prefix-line : tie.Need-array-share-prefix-line
 array-share-prefix-line c = sent c .inside
@@ -41,8 +51,19 @@ add-count : tie.Need-add-count
 add-count c = search needs
 
 -- the answer stands at the front of scratch
-answered-so : (c : tie.After-known-told) → (c .before .len .given .0 .0 ≤ length (c .before .before .before .before .before .answer .last .1 .1 .1 .0)) × (reply (c .before .before .before .before .before .before .before .before .before .before .before .before .before .before .before .before .before .before .args .table .now) (take (c .before .before .before .before .before .before .before .before .before .before .put-command .result) (c .before .before .before .before .before .before .before .before .before .before .put-command .last .0)) (c .before .before .before .before .before .before .before .before .before .before .before .before .before .before .before .before .before .before .args .scratch .now) ≡ go (take (c .before .len .given .0 .0) (c .before .before .before .before .before .answer .last .1 .1 .1 .0)))
-answered-so c = server-done (c .before .before .before .before .before .before .before .before .before .before .before .before .before .before .before .before .before .before .args .table .now) (take (c .before .before .before .before .before .before .before .before .before .before .put-command .result) (c .before .before .before .before .before .before .before .before .before .before .put-command .last .0)) (c .before .before .before .before .before .before .before .before .before .before .before .before .before .before .before .before .before .before .args .scratch .now) (c .before .before .before .before .before .answer .last .1 .1 .1 .0) (c .before .len .given .0 .0) (sym (c .before .before .before .before .before .answer .ensures .0) ∙ c .before .len .given .1) (c .before .before .before .before .before .answer .ensures .1)
+answered-so : (c : tie.After-known-told) →
+    let answered = c .before .before .before .before .before in
+    let put = answered .before .before .before .before .before .put-command in
+    let args = answered .before .before .before .before .before .before .before .before .before .before .before .before .before .args in
+    let len = c .before .len .given .0 .0 in
+    let scratch = answered .answer .last .1 .1 .1 .0 in
+    (len ≤ length scratch) × (reply (args .table .now) (take (put .result) (put .last .0)) (args .scratch .now) ≡ go (take len scratch))
+answered-so c =
+    let answered = c .before .before .before .before .before in
+    let put = answered .before .before .before .before .before .put-command in
+    let args = answered .before .before .before .before .before .before .before .before .before .before .before .before .before .args in
+    let told = c .before .len .given in
+    server-done (args .table .now) (take (put .result) (put .last .0)) (args .scratch .now) (answered .answer .last .1 .1 .1 .0) (told .0 .0) (sym (answered .answer .ensures .0) ∙ told .1) (answered .answer .ensures .1)
 
 slice-reshare-prefix-take-lines : tie.Need-slice-reshare-prefix-take-lines
 slice-reshare-prefix-take-lines c = answered-so (c .before) .0
@@ -51,7 +72,7 @@ slice-aggregate-take-lines : tie.Need-slice-aggregate-take-lines
 slice-aggregate-take-lines c = simp length-take (omega (arith, answered-so (c .before .before) .0))
 
 take-lines-requires : tie.Need-take-lines-requires
-take-lines-requires c κs = (record { finds = c .before .before .before .before .before .before .before .before .before .before .before .before .before .before .before .before .before .before .before .before .before .before .pre .1 .0 .finds; asks = c .before .before .before .before .before .before .before .before .before .before .before .before .before .before .before .before .before .before .before .before .before .before .pre .1 .0 .asks }, c .before .before .before .before .before .before .before .before .before .before .before .before .before .before .before .before .before .before .before .before .before .before .pre .1 .1 .1)
+take-lines-requires c κs = let start = c .before .before .before .before .before .before .before .before .before .before .before .before .before .before .before .before .before .before .before .before .before .before in record { finds = start .pre .1 .0 .finds; asks = start .pre .1 .0 .asks }
 
 enum-known-number : tie.Need-enum-known-number
 enum-known-number c = search needs
@@ -67,15 +88,26 @@ same-length-3 c = search needs
 
 returns : tie.Need-returns
 returns c =
-    takes-step _ _ _ (c .before .before .before .before .before .before .before .before .before .before .before .before .before .before .before .before .before .before .before .before .before .before .before .before .before .before .before .args .start .count + 1) (c .before .before .before .before .before .before .before .before .before .before .before .before .before .before .before .before .before .before .before .before .before .before .before .before .before .before .before .args .found .now) (c .before .before .before .before .before .before .before .before .before .before .before .before .before .before .before .before .before .before .before .before .before .before .before .before .before .before .before .args .pending .now) (c .before .before .before .before .before .before .before .before .before .before .before .before .before .before .before .before .before .before .before .before .before .before .before .before .before .before .before .args .start) (c .before .before .before .before .take-lines .last .1 .1 .0) (c .before .before .before .before .take-lines .last .1 .1 .1 .0) (c .before .before .before .before .take-lines .result)
-    (asked-done (c .before .before .before .before .before .before .before .before .before .before .before .before .before .before .before .before .before .before .before .before .before .before .before .before .before .before .before .args .table .now) (c .before .before .before .before .before .before .before .before .before .before .before .before .before .before .before .before .before .before .before .before .before .before .before .before .before .before .before .args .options .bits) (c .before .before .before .before .before .before .before .before .before .before .before .before .before .before .before .before .before .before .before .before .before .before .before .before .before .before .before .args .scratch .now) (c .before .before .before .before .before .before .before .before .before .before .before .before .before .before .before .before .before .before .before .before .before .before .before .before .before .before .before .args .reference .now) (c .before .before .before .before .before .before .before .before .before .before .before .before .before .before .before .before .before .before .before .put-command .last .0) (c .before .before .before .before .before .before .before .before .before .before .before .before .before .before .before .before .before .before .before .put-command .result) (length (c .before .before .before .before .before .before .before .before .before .before .before .before .before .before .before .before .before .before .before .before .before .before .before .before .before .before .before .args .found .now)) (length (c .before .before .before .before .before .before .before .before .before .before .before .before .before .before .before .before .before .before .before .before .before .before .before .before .before .before .before .args .pending .now)) (sent (c .before .before .before .before .before .before .before .before .before .before .before .before .before .before .before .before .before)) (take (c .before .before .before .before .before .before .before .before .before .before .len .given .0 .0) (c .before .before .before .before .before .before .before .before .before .before .before .before .before .before .answer .last .1 .1 .1 .0)) (answered-so (c .before .before .before .before .before .before .before .before .before) .1))
-    (c .before .before .before .before .take-lines .ensures)
+    let taken = c .before .before .before .before in
+    let answered = taken .before .before .before .before .before in
+    let written = answered .before .before .before .before .before .before .before .before in
+    let start = written .before .before .before .before .before .before .before .before .before .before in
+    let args = start .args in
+    let last = taken .take-lines .last .1 .1 in
+    takes-step _ _ _ (args .start .count + 1) (args .start) (args .found .now) (args .pending .now) (last .0) (last .1 .0) (taken .take-lines .result)
+    (asked-done (args .table .now) (args .options) (args .reference .now) (args .scratch .now) (sent written) (answered-so answered .1) (args .found .now) (args .pending .now))
+    (taken .take-lines .ensures)
 
 same-length-4 : tie.Need-same-length-4
 same-length-4 c = search needs
 
 returns-2 : tie.Need-returns-2
-returns-2 c = λ s h. asked-refused (c .before .before .before .before .before .before .before .before .before .before .before .before .before .before .before .before .before .before .args .table .now) (c .before .before .before .before .before .before .before .before .before .before .before .before .before .before .before .before .before .before .args .options .bits) (c .before .before .before .before .before .before .before .before .before .before .before .before .before .before .before .before .before .before .args .scratch .now) (c .before .before .before .before .before .before .before .before .before .before .before .before .before .before .before .before .before .before .args .reference .now) (c .before .before .before .before .before .before .before .before .before .before .put-command .last .0) (c .before .before .before .before .before .before .before .before .before .before .put-command .result) (length (c .before .before .before .before .before .before .before .before .before .before .before .before .before .before .before .before .before .before .args .found .now)) (length (c .before .before .before .before .before .before .before .before .before .before .before .before .before .before .before .before .before .before .args .pending .now)) (sent (c .before .before .before .before .before .before .before .before)) _ (sym (c .before .before .before .before .before .answer .ensures .0) ∙ c .before .number .given .1) s
+returns-2 c =
+    let answered = c .before .before .before .before .before in
+    let written = answered .before .before .before in
+    let args = written .before .before .before .before .before .before .before .before .before .before .args in
+    λ s h.
+    asked-refused (args .table .now) (args .options) (args .reference .now) (args .scratch .now) (sent written) (sym (answered .answer .ensures .0) ∙ c .before .number .given .1) (args .found .now) (args .pending .now) s
 
 pub ask-spec : {M : Type 1} → statement M
 ask-spec =

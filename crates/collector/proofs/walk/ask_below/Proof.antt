@@ -1,10 +1,10 @@
 -- `ask_below` meets its contract: the reference is the pending name and "/" (`AskLaws`).
 use mathlib.Core.List.{[], _∷_, _++_}
-use Prim.Native.Nat.{_-_}
 use native.Mathlib.Omega.{arith}
-use lib.ListN.{take, drop, length-append, length-take}
+use lib.ListN.{length-append, length-take}
 use borrow.Author.Needs.{needs}
 use Rattle.listing_rules.specs.Bytes.{slash}
+use Rattle.collector.specs.Names.{nameAt}
 use Rattle.collector.proofs.AskLaws.{Fronts, put-fronts}
 use Rattle.collector.proofs.walk.ask_below.Statement.{statement}
 use Rattle.collector.proofs.walk.ask_below.Tie as tie
@@ -28,8 +28,16 @@ put-below-requires : tie.Need-put-below-requires
 put-below-requires c κs = search needs
 
 -- the name and "/" stand at the front of the reference
-below : (c : tie.After-reference2) → Fronts (c .before .put-below .last .0) (c .before .put-below .result) (take (c .before .before .before .before .before .before .before .before .before .before .args .end - c .before .before .before .before .before .before .before .before .before .before .args .from) (drop (c .before .before .before .before .before .before .before .before .before .before .args .from) (c .before .before .before .before .before .before .before .before .before .before .args .pending .now)) ++ (slash ∷ []))
-below c = put-fronts (c .before .before .before .before .before .no-reference .result) (c .before .put-below .last .0) (take (c .before .before .before .before .before .before .before .before .before .before .args .end - c .before .before .before .before .before .before .before .before .before .before .args .from) (drop (c .before .before .before .before .before .before .before .before .before .before .args .from) (c .before .before .before .before .before .before .before .before .before .before .args .pending .now)) ++ (slash ∷ [])) (c .before .put-below .result) 256 (c .before .before .before .before .before .no-reference .ensures) (c .before .put-below .ensures) (simp (length-append, length-take) (omega (arith, c .before .before .before .before .before .before .before .before .before .before .pre .0)))
+below : (c : tie.After-reference2) →
+    let put = c .before .put-below in
+    let args = c .before .before .before .before .before .before .before .before .before .before .args in
+    Fronts (put .last .0) (put .result) (nameAt (args .name) (args .pending .now) ++ (slash ∷ []))
+below c =
+    let put = c .before .put-below in
+    let made = c .before .before .before .before .before .no-reference in
+    let start = c .before .before .before .before .before .before .before .before .before .before in
+    put-fronts (made .result) (put .last .0) (nameAt (start .args .name) (start .args .pending .now) ++ (slash ∷ [])) (put .result) 256 (made .ensures) (put .ensures)
+    (simp (length-append, length-take) (omega (arith, start .pre .0)))
 
 array-share-prefix-reference : tie.Need-array-share-prefix-reference
 array-share-prefix-reference c = below c .inside
@@ -38,7 +46,10 @@ slice-aggregate-ask : tie.Need-slice-aggregate-ask
 slice-aggregate-ask c = simp length-take (omega (arith, below (c .before) .inside))
 
 ask-requires : tie.Need-ask-requires
-ask-requires c κs = (rw (below (c .before .before .before .before) .bytes) (simp (length-append, length-take) (omega (arith, c .before .before .before .before .before .before .before .before .before .before .before .before .before .before .pre .0))), (c .before .before .before .before .before .before .before .before .before .before .before .before .before .before .pre .1 .0, c .before .before .before .before .before .before .before .before .before .before .before .before .before .before .pre .1 .1))
+ask-requires c κs =
+    let referred = c .before .before .before .before in
+    let start = referred .before .before .before .before .before .before .before .before .before .before in
+    (rw (below referred .bytes) (simp (length-append, length-take) (omega (arith, start .pre .0))), (start .pre .1 .0, start .pre .1 .1))
 
 same-length : tie.Need-same-length
 same-length c = search needs
@@ -50,7 +61,7 @@ same-length-3 : tie.Need-same-length-3
 same-length-3 c = search needs
 
 returns : tie.Need-returns
-returns c = rw (← below (c .before .before .before .before .before .before .before .before .before .before .before) .bytes) (c .before .before .before .before .before .before .ask .ensures)
+returns c = let asked = c .before .before .before .before .before .before in rw (← below (asked .before .before .before .before .before) .bytes) (asked .ask .ensures)
 
 pub ask-below-spec : {M : Type 1} → statement M
 ask-below-spec =

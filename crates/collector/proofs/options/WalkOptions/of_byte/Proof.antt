@@ -1,0 +1,35 @@
+-- `of_byte` meets its contract: what a lawful byte asks for (`OptionLaws`).
+use mathlib.Core.Path.{sym, _∙_}
+use borrow.Author.Needs.{needs}
+use borrow.Author.Tests.{not-true, not-false}
+use Rattle.collector.specs.Options.{askedBy}
+use Rattle.collector.specs.declared.options.Asked.the-variants.{Of}
+use Rattle.collector.proofs.OptionLaws.{has-remote, unlawful-asks}
+use Rattle.collector.proofs.options.WalkOptions.of_byte.Statement.{statement}
+use Rattle.collector.proofs.options.WalkOptions.of_byte.Tie as tie
+
+lawful-requires : tie.Need-lawful-requires
+lawful-requires c κs = search needs
+
+returns : tie.Need-returns
+returns c =
+    let start = c .before .before in
+    sym (unlawful-asks (start .args .byte) (sym (c .before .lawful .ensures) ∙ not-true _ (c .if1 .taken)))
+
+criteria-requires : tie.Need-criteria-requires
+criteria-requires c κs = search needs
+
+has-requires : tie.Need-has-requires
+has-requires c κs = search needs
+
+returns-2 : tie.Need-returns-2
+unfolding askedBy
+returns-2 c =
+    let lawful = c .before .before in
+    let start = lawful .before .before in
+    rw (sym (lawful .before .lawful .ensures) ∙ not-false _ (lawful .if1 .left))
+    (λ i. Of (record { criteria = c .before .criteria .ensures i; remote = (c .has .ensures ∙ has-remote (start .args .byte)) i }))
+
+pub of-byte-spec : {M : Type 1} → statement M
+of-byte-spec =
+    tie.close (tie.spec lawful-requires returns criteria-requires has-requires returns-2)

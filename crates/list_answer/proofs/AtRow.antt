@@ -20,28 +20,7 @@ use Rattle.listing_rules.proofs.LawfulNames.{below-split}
 use Rattle.listing_rules.proofs.NameFlags.{implied-flags, row-flags}
 use Rattle.list_answer.proofs.Prefixes.{Less, prefix-less, mem-right}
 
--- a name comes before its descendants
-pub below-less : (p n : List ℕ) → below p n ≡ true → Less p n
-below-less p n e = let w = below-split p n e in rw (w .1) (prefix-less p (w .0) slash)
-
--- what comes before a name is not below it
-pub less-not-below : (p n : List ℕ) → Less n p → below p n ≡ false
-less-not-below p n h = go (below p n) refl
-  where
-    go : (b : Bool) → below p n ≡ b → b ≡ false
-    go true e = absurd (irrefl byteOrder bytes-total p (bytes-total .trans p n p (below-less p n e) h))
-    go false e = refl
-
 module _ {A : Type 0} (f : A → Bool) where
-  pub any-append : (a b : List A) → anyOf f (a ++ b) ≡ (anyOf f a || anyOf f b)
-  unfolding anyOf
-  any-append [] b = refl
-  any-append (x ∷ a) b = go (f x) (any-append a b)
-    where
-      go : (o : Bool) → anyOf f (a ++ b) ≡ (anyOf f a || anyOf f b) → (o || anyOf f (a ++ b)) ≡ ((o || anyOf f a) || anyOf f b)
-      go true e = refl
-      go false e = e
-
   pub any-none : (a : List A) → ((z : A) → List·Memᴰ z a → f z ≡ false) → anyOf f a ≡ false
   any-none a h = go (anyOf f a) refl
     where
@@ -50,16 +29,6 @@ module _ {A : Type 0} (f : A → Bool) where
       go false e = refl
 
 module _ (rs : List Row) (i : ℕ) (p : List ℕ) (earlier : (r : Row) → List·Memᴰ r (take i rs) → Less (r .name) p) where
-  -- descendants stand from row i on
-  pub below-later : (g : Row → Bool) → anyOf (λ r. below p (r .name) && g r) rs ≡ anyOf (λ r. below p (r .name) && g r) (drop i rs)
-  below-later g =
-      ap (anyOf f) (sym (take-append-drop i rs))
-      ∙ any-append f (take i rs) (drop i rs)
-      ∙ ap (λ (b : Bool). b || anyOf f (drop i rs)) (any-none f (take i rs) (λ r m. rw (less-not-below p (r .name) (earlier r m))))
-    where
-      f : Row → Bool
-      f r = below p (r .name) && g r
-
   -- a beginning that no row from i on has as its name is implied
   pub implied-at : ((r : Row) → List·Memᴰ r (drop i rs) → Less p (r .name)) → flagsOf rs p ≡ 0
   implied-at later = implied-flags rs p (unfold implied hasRow in rw (any-none (λ r. same (r .name) p) rs (λ r m. other r (place r m))))

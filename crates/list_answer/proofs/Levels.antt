@@ -1,8 +1,9 @@
--- Levels above what meets the criteria, as the code decides them: a name is matched either as a level or by its own right.
+-- A name is listed by its own right or as a level, never both, so one match decides.
 use mathlib.Core.Path.{_≡_, refl, sym, ap, _∙_}
-use mathlib.Core.Bool.{Bool, true, false, cond, _&&_, _||_, not, false≢true}
+use mathlib.Core.Bool.{Bool, true, false, _&&_, _||_, not, and-true, and-false, false≢true}
 use mathlib.Core.List.{List}
 use Prim.Native.Nat.{ℕ}
+use borrow.Author.Tests.{not-true}
 use Rattle.listing_rules.specs.Lists.{anyOf, keep}
 use Rattle.listing_rules.specs.Flags.{exists, remote}
 use Rattle.listing_rules.specs.Table.{Row, flagsOf}
@@ -14,6 +15,8 @@ use Rattle.listing_rules.proofs.ListLaws.{some-mem, mem-some, keep-mem}
 use Rattle.listing_rules.proofs.NameFlags.{plain-criteria}
 use Rattle.pattern.specs.Chosen.{chosen}
 use Rattle.pattern.proofs.Chosen.{chosen-all, chosen-levels}
+use Rattle.list_answer.specs.Marks.{levelsAsked, levelOnly}
+use Rattle.list_answer.specs.Shown.{byRight, asLevel, matchesFor}
 
 -- a name matches a pattern that ends in "%" only if there is one
 match-some : (ps : List (List ℕ)) (n : List ℕ) → matchesAny (keep endsInPercent ps) n ≡ true → anyOf endsInPercent ps ≡ true
@@ -23,35 +26,34 @@ match-some ps n e =
     let v = keep-mem endsInPercent ps (w .0) (w .1) in
     mem-some endsInPercent ps (w .0) (v .0) (v .1)
 
--- where levels are listed, what does not exist does not meet the criteria
-absent-meets-not : (o : Options) (f : ℕ) → unselective o ≡ true → exists f ≡ false → meetsCriteria o f ≡ false
-absent-meets-not o f u e = plain-criteria o f u ∙ ap (λ (b : Bool). b && (not (remote f) || o .selRemote)) e
-
-unselective-alone : (o : Options) → unselective o ≡ true → o .selRecursive ≡ false
+-- where levels are listed, RECURSIVEMATCH is not selected, and what does not exist does not meet the criteria
+pub recursive-levels : (o : Options) (ps : List (List ℕ)) → o .selRecursive ≡ true → levelsAsked o ps ≡ false
 unfolding unselective
-unselective-alone o u = go (o .selRecursive) (and-l (not (o .selRecursive)) (not (o .selSubscribed)) (and-l (not (o .selRecursive) && not (o .selSubscribed)) (not (o .selSpecial)) u))
-  where
-    go : (b : Bool) → not b ≡ true → b ≡ false
-    go true h = absurd (false≢true h)
-    go false h = refl
+recursive-levels o ps e = rw e
 
-module _ (rs : List Row) (o : Options) (ps : List (List ℕ)) (n : List ℕ) (levels : Bool) (el : levels ≡ (unselective o && anyOf endsInPercent ps)) where
-  -- it does not exist, and something below it meets the criteria, where levels are listed
-  abbrev pub level : Bool
-  level = (levels && not (exists (flagsOf rs n))) && meetsBelow rs o n
+module _ (o : Options) (ps : List (List ℕ)) (f : ℕ) (h : levelOnly o ps f ≡ true) where
+  asked : levelsAsked o ps ≡ true
+  asked = and-l (levelsAsked o ps) (not (exists f)) h
 
-  -- it is a level above exactly if it matches a pattern that ends in "%", too
-  level-above : levelAbove rs o ps n ≡ (level && matchesAny (keep endsInPercent ps) n)
-  unfolding levelAbove
-  level-above =
-      go (unselective o) (anyOf endsInPercent ps) (not (exists (flagsOf rs n))) (matchesAny (keep endsInPercent ps) n) (meetsBelow rs o n) (match-some ps n)
-      ∙ ap (λ (l : Bool). ((l && not (exists (flagsOf rs n))) && meetsBelow rs o n) && matchesAny (keep endsInPercent ps) n) (sym el)
+  level-plain : o .selRecursive ≡ false
+  level-plain = go (o .selRecursive) refl
     where
-      never : (b : Bool) → (b && false) ≡ false
-      never true = refl
-      never false = refl
+      go : (b : Bool) → o .selRecursive ≡ b → b ≡ false
+      go true e = absurd (false≢true (sym (recursive-levels o ps e) ∙ asked))
+      go false e = refl
 
-      last : (u e d : Bool) → (((u && e) && true) && d) ≡ (((((u && true) && e) && d)) && true)
+  level-meets-not : meetsCriteria o f ≡ false
+  level-meets-not =
+      plain-criteria o f (and-l (unselective o) (anyOf endsInPercent ps) asked)
+      ∙ ap (λ (b : Bool). b && (not (remote f) || o .selRemote)) (not-true (exists f) (and-r (levelsAsked o ps) (not (exists f)) h))
+
+module _ (rs : List Row) (o : Options) (ps : List (List ℕ)) (n : List ℕ) where
+  -- it is a level above exactly if it matches a pattern that ends in "%", too
+  level-above : levelAbove rs o ps n ≡ (asLevel rs o ps n && matchesAny (keep endsInPercent ps) n)
+  unfolding levelAbove
+  level-above = go (unselective o) (anyOf endsInPercent ps) (not (exists (flagsOf rs n))) (matchesAny (keep endsInPercent ps) n) (meetsBelow rs o n) (match-some ps n)
+    where
+      last : (u e d : Bool) → (((u && e) && true) && d) ≡ ((((u && true) && e) && d) && true)
       last true true true = refl
       last true true false = refl
       last true false d = refl
@@ -59,51 +61,46 @@ module _ (rs : List Row) (o : Options) (ps : List (List ℕ)) (n : List ℕ) (le
 
       go : (u a e m d : Bool) → (m ≡ true → a ≡ true) → (((u && e) && m) && d) ≡ ((((u && a) && e) && d) && m)
       go u a e true d f = last u e d ∙ ap (λ (x : Bool). (((u && x) && e) && d) && true) (sym (f refl))
-      go u a e false d f = ap (λ (x : Bool). x && d) (never (u && e)) ∙ sym (never (((u && a) && e) && d))
+      go u a e false d f = ap (λ (x : Bool). x && d) (and-false (u && e)) ∙ sym (and-false (((u && a) && e) && d))
 
-  -- a level does not meet the criteria itself, nor is RECURSIVEMATCH selected
-  level-alone : level ≡ true → (s : Bool) → (candidateMeets rs o n || (o .selRecursive && s)) ≡ false
+  -- what can be listed as a level alone has no right of its own
+  no-right : levelOnly o ps (flagsOf rs n) ≡ true → byRight rs o ps n ≡ false
   unfolding candidateMeets
-  level-alone h s =
-      ap (λ (b : Bool). b || (o .selRecursive && s)) (absent-meets-not o (flagsOf rs n) free (gone (exists (flagsOf rs n)) (and-r levels (not (exists (flagsOf rs n))) asked)))
-      ∙ ap (λ (b : Bool). b && s) (unselective-alone o free)
-    where
-      asked : (levels && not (exists (flagsOf rs n))) ≡ true
-      asked = and-l (levels && not (exists (flagsOf rs n))) (meetsBelow rs o n) h
+  no-right h = rw (level-meets-not o ps (flagsOf rs n) h, level-plain o ps (flagsOf rs n) h)
 
-      free : unselective o ≡ true
-      free = and-l (unselective o) (anyOf endsInPercent ps) (sym el ∙ and-l levels (not (exists (flagsOf rs n))) asked)
-
-      gone : (b : Bool) → not b ≡ true → b ≡ false
-      gone true e = absurd (false≢true e)
-      gone false e = refl
-
-  -- so one test decides, against the patterns that count for it
-  pub listed-chosen : listed rs o ps n ≡ (matchesAny (chosen level ps) n && ((candidateMeets rs o n || (o .selRecursive && meetsUnmatchedBelow rs o ps n)) || level))
+  -- so one match decides, against the patterns that count for it
+  pub listed-for : listed rs o ps n ≡ (matchesFor rs o ps n && (byRight rs o ps n || asLevel rs o ps n))
   unfolding listed
-  listed-chosen =
-      ap (λ (b : Bool). (matchesAny ps n && (candidateMeets rs o n || (o .selRecursive && meetsUnmatchedBelow rs o ps n))) || b) level-above
-      ∙ go level (candidateMeets rs o n || (o .selRecursive && meetsUnmatchedBelow rs o ps n)) (λ h. level-alone h (meetsUnmatchedBelow rs o ps n))
+  listed-for =
+      ap (λ (b : Bool). (matchesAny ps n && byRight rs o ps n) || b) level-above
+      ∙ go (levelOnly o ps (flagsOf rs n)) (byRight rs o ps n) (meetsBelow rs o n) no-right
     where
-      as-level : (m k own : Bool) → own ≡ false → ((m && own) || k) ≡ (k && (own || true))
-      as-level true true own f = rw f
-      as-level true false own f = rw f
-      as-level false true own f = rw f
-      as-level false false own f = refl
+      as-level : (m k own d : Bool) → own ≡ false → ((m && own) || (d && k)) ≡ (k && (own || d))
+      as-level true true true d f = absurd (false≢true (sym f))
+      as-level true true false true f = refl
+      as-level true true false false f = refl
+      as-level true false true d f = absurd (false≢true (sym f))
+      as-level true false false d f = and-false d
+      as-level false true true d f = absurd (false≢true (sym f))
+      as-level false true false true f = refl
+      as-level false true false false f = refl
+      as-level false false own d f = and-false d
 
       by-itself : (m own : Bool) → ((m && own) || false) ≡ (m && (own || false))
       by-itself true true = refl
       by-itself true false = refl
       by-itself false own = refl
 
-      go : (v own : Bool) → (v ≡ true → own ≡ false) → ((matchesAny ps n && own) || (v && matchesAny (keep endsInPercent ps) n)) ≡ (matchesAny (chosen v ps) n && (own || v))
-      go true own f = as-level (matchesAny ps n) (matchesAny (keep endsInPercent ps) n) own (f refl) ∙ ap (λ (l : List (List ℕ)). matchesAny l n && (own || true)) (sym (chosen-levels ps))
-      go false own f = by-itself (matchesAny ps n) own ∙ ap (λ (l : List (List ℕ)). matchesAny l n && (own || false)) (sym (chosen-all ps))
+      go : (l own d : Bool) → (l ≡ true → own ≡ false) → ((matchesAny ps n && own) || ((l && d) && matchesAny (keep endsInPercent ps) n)) ≡ (matchesAny (chosen l ps) n && (own || (l && d)))
+      go true own d f = as-level (matchesAny ps n) (matchesAny (keep endsInPercent ps) n) own d (f refl) ∙ ap (λ (l : List (List ℕ)). matchesAny l n && (own || d)) (sym (chosen-levels ps))
+      go false own d f = by-itself (matchesAny ps n) own ∙ ap (λ (l : List (List ℕ)). matchesAny l n && (own || false)) (sym (chosen-all ps))
 
-  -- what is listed so is a level above
-  pub level-listed : matchesAny (chosen level ps) n ≡ true → levelAbove rs o ps n ≡ level
-  level-listed h = level-above ∙ go level h
+  -- what can be listed as a level and matches is a level above
+  pub level-matched : matchesFor rs o ps n ≡ true → levelAbove rs o ps n ≡ asLevel rs o ps n
+  level-matched h = level-above ∙ go (levelOnly o ps (flagsOf rs n)) h
     where
-      go : (v : Bool) → matchesAny (chosen v ps) n ≡ true → (v && matchesAny (keep endsInPercent ps) n) ≡ v
-      go true k = ap (λ (l : List (List ℕ)). matchesAny l n) (sym (chosen-levels ps)) ∙ k
+      go : (l : Bool) → matchesAny (chosen l ps) n ≡ true → ((l && meetsBelow rs o n) && matchesAny (keep endsInPercent ps) n) ≡ (l && meetsBelow rs o n)
+      go true k =
+          ap (λ (b : Bool). meetsBelow rs o n && b) (ap (λ (l : List (List ℕ)). matchesAny l n) (sym (chosen-levels ps)) ∙ k)
+          ∙ and-true (meetsBelow rs o n)
       go false k = refl

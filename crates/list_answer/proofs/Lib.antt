@@ -1,8 +1,11 @@
-pub mod Prefixes
-pub mod Listed
-pub mod AtRow
-pub mod Marking
-pub mod Levels
-pub mod Deciding
-pub mod Showing
-pub mod RowTexts
+-- Laws of the LIST answer, from what stands alone to what rests on it.
+mod Sets
+mod Prefixes
+mod Listed
+mod AtRow
+mod Levels
+mod Marking
+mod Deciding
+mod Showing
+mod RowTexts
+mod Putting

@@ -24,7 +24,8 @@ use Rattle.listing_rules.proofs.Ancestors.{anc-below, below-anc, candidate, can
 use Rattle.listing_rules.proofs.LawfulNames.{below-split, good-below, good-parts}
 use Rattle.listing_rules.proofs.NameFlags.{implied-meets-not, candidate-row}
 use Rattle.list_answer.specs.Prefixes.{prefixes}
-use Rattle.list_answer.specs.Shown.{Lawful, shownText}
+use Rattle.list_answer.specs.Index.{Lawful}
+use Rattle.list_answer.specs.Shown.{shownText}
 use Rattle.list_answer.proofs.AtRow.{joined-shown}
 use Rattle.list_answer.proofs.Prefixes.{prefixes-have, prefixes-asc, AllFull}
 

@@ -1,137 +1,113 @@
--- What is shown of a name, by the tests of `decide`.
-use mathlib.Core.Path.{_≡_, refl, sym, ap, _∙_, subst}
-use mathlib.Core.Bool.{Bool, true, false, cond, _&&_, _||_, not}
-use mathlib.Core.List.{List, [], map}
-use Prim.Native.Nat.{ℕ, _<_, _≤_}
-use native.Mathlib.Omega.{arith}
-use lib.Dec.{eqb, leb}
-use lib.ListN.{length, take, drop, getD, length-take}
-use borrow.Author.Tests.{le-leb, leb-true}
-use Rattle.listing_rules.specs.Lists.{anyOf}
+-- What is shown of a name, by the tests of `decide`; and its text. Rests on Levels.
+use mathlib.Core.Path.{_≡_, refl, sym, ap, _∙_}
+use mathlib.Core.Bool.{Bool, true, false, cond, _&&_, _||_, not, and-false}
+use mathlib.Core.List.{List, []}
+use Prim.Native.Nat.{ℕ}
+use lib.ListN.{length, take, drop}
 use Rattle.listing_rules.specs.Flags.{exists}
-use Rattle.listing_rules.specs.Table.{Row}
+use Rattle.listing_rules.specs.Table.{Row, flagsOf}
 use Rattle.listing_rules.specs.Options.{Options, Criteria, noCriteria, criteria, criteriaOf, criteriaNumber}
-use Rattle.listing_rules.specs.Match.{matchesAny}
-use Rattle.listing_rules.specs.Listing.{unselective, endsInPercent, listed, childInfo, attributes}
-use Rattle.list_line.specs.declared.attributes.Attributes.{Attributes}
-use Rattle.list_line.specs.declared.criteria.Criteria.{Criteria as CriteriaBits}
+use Rattle.listing_rules.specs.Listing.{meetsCriteria, candidateMeets, meetsBelow, meetsUnmatchedBelow, levelAbove, listed, childInfo, hasChildren, attributes, attributesFor, inOrder}
 use Rattle.listing_rules.specs.Lines.{listLine}
 use Rattle.listing_rules.specs.Server.{lineOf}
+use Rattle.listing_rules.proofs.NameFlags.{meets-zero}
+use Rattle.list_line.specs.declared.attributes.Attributes.{Attributes}
+use Rattle.list_line.specs.declared.criteria.Criteria.{Criteria as CriteriaBits}
 use Rattle.list_line.specs.Members.{members, setOf}
 use Rattle.listing_rules.proofs.RoundTrip.{criteria-number}
 use Rattle.list_line.proofs.Members.{members-setOf}
 use Rattle.mailbox_table.specs.declared.rows.Row.{Row as Place}
 use Rattle.mailbox_table.specs.Words.{rowOfWord}
-use Rattle.mailbox_table.specs.Index.{nameAt, rowsAt, Indexed}
-use Rattle.mailbox_table.specs.Below.{Begins}
-use Rattle.pattern.specs.Chosen.{chosen}
+use Rattle.mailbox_table.specs.Index.{nameAt}
 use Rattle.list_answer.specs.declared.decide.Shown.{Shown}
 use Rattle.list_answer.specs.declared.decide.Shown.the-variants.{Line, Nothing}
-use Rattle.list_answer.specs.Marks.{meetsMark, unmatchedMark, childMark}
-use Rattle.list_answer.specs.Shown.{At, Ready, attributesOf, shownIs, shownText}
-use Rattle.list_answer.proofs.Marking.{marks-reach, name-short}
-use Rattle.list_answer.proofs.Deciding.{table, begun, rowFlags, scanned, stands, listed-here, child-info-here, attributes-here}
+use Rattle.list_answer.specs.Marks.{levelsAsked}
+use Rattle.list_answer.specs.Shown.{byRight, asLevel, matchesFor, shownIs, shownText}
+use Rattle.list_answer.proofs.Levels.{listed-for, level-matched}
 
 -- the name of a row that was looked up
 pub named : (area : List ℕ) (w : ℕ) (r : Place) → r ≡ rowOfWord w → (n : List ℕ) → n ≡ take (r .len) (drop (r .start) area) → n ≡ nameAt area w
 unfolding nameAt
 named area w r e n f = f ∙ ap (λ (q : Place). take (q .len) (drop (q .start) area)) e
 
--- a beginning of a name of the index is short enough for the match
-pub short : (area words : List ℕ) (i len : ℕ) → leb (length (take len (nameAt area (getD words i 0)))) 255 ≡ true
-short area words i len =
-    le-leb (length (take len (nameAt area (getD words i 0)))) 255
-    (omega (arith, length-take len (nameAt area (getD words i 0)), leb-true (length (nameAt area (getD words i 0))) 255 (name-short area (getD words i 0))))
+-- the last two of the sixteen are shown with CHILDREN alone, but for a level, so children need not be looked for without it
+children-asked : (f : ℕ) (o : Options) (h v : Bool) → attributesFor f o (o .retChildren && h) v ≡ attributesFor f o h v
+unfolding attributesFor inOrder
+children-asked f o h v = rw (twice (o .retChildren) h, without (o .retChildren) h)
+  where
+    twice : (a b : Bool) → (a && (a && b)) ≡ (a && b)
+    twice true b = refl
+    twice false b = refl
 
-module _ (area words : List ℕ) (x : Indexed area words) (i len : ℕ) (a : At words i len) (o : Options) (ps : List (List ℕ)) (meeting unmatched children : List Bool) (em : take (length words) meeting ≡ map (meetsMark o) (rowsAt area words)) (eu : take (length words) unmatched ≡ map (unmatchedMark o ps) (rowsAt area words)) (ek : take (length words) children ≡ map (childMark o) (rowsAt area words)) (levels : Bool) (el : levels ≡ (unselective o && anyOf endsInPercent ps)) where
-  abbrev here : List ℕ
-  here = take len (nameAt area (getD words i 0))
+    without : (a b : Bool) → (a && not (a && b)) ≡ (a && not b)
+    without true b = refl
+    without false b = refl
 
-  abbrev below : List Bool → Bool
-  below ms = scanned area words x i len a o ps meeting unmatched children em eu ek levels el ms
+module _ (rs : List Row) (o : Options) (ps : List (List ℕ)) (n : List ℕ) where
+  attributes-are : attributes rs o ps n ≡ attributesFor (flagsOf rs n) o (hasChildren rs o n) (levelAbove rs o ps n)
+  unfolding attributes attributesFor inOrder
+  attributes-are = refl
 
-  -- a scan from here over such marks is allowed
-  pub begins-here : (f : Row → Bool) (ms : List Bool) → take (length words) ms ≡ map f (rowsAt area words) → Begins area words ms i len
-  begins-here f ms e = record { indexed = x; row = a .row; within = a .within; marked = marks-reach f area words ms e }
+  info-is : childInfo rs o n ≡ cond (o .selRecursive && meetsBelow rs o n) (criteria o) noCriteria
+  unfolding childInfo
+  info-is = refl
 
-  out : listed (rowsAt area words) o ps here ≡ false → Nothing ≡ shownIs (rowsAt area words) o ps here
-  unfolding shownIs
-  out e = rw e
+  -- By what the code found of the name: whether it can be a level, and whether it is listed if it matches
+  module _ (level counts : Bool) (el : level ≡ asLevel rs o ps n) (ec : counts ≡ (byRight rs o ps n || level)) where
+    counts-are : counts ≡ (byRight rs o ps n || asLevel rs o ps n)
+    counts-are = ec ∙ ap (λ (b : Bool). byRight rs o ps n || b) el
 
-  -- by the code's values: the row, RECURSIVEMATCH, the flags, and whether it may be listed as a level
-  module _ (row : Place) (e : row ≡ rowOfWord (getD words i 0)) (rec : Bool) (er : rec ≡ o .selRecursive) (deep : Bool) (d : deep ≡ ((rec && not (eqb (row .len) len && getD meeting i false)) && below unmatched)) (flags : ℕ) (ef : flags ≡ cond (eqb (row .len) len) (row .flags .bits) 0) (level : Bool) (l : level ≡ ((levels && not (exists flags)) && below meeting)) where
-    abbrev rights : Bool
-    rights = (eqb (rowOfWord (getD words i 0) .len) len && getD meeting i false) || (o .selRecursive && below unmatched)
+    out : listed rs o ps n ≡ false → Nothing ≡ shownIs rs o ps n
+    unfolding shownIs
+    out e = rw e
 
-    flags-are : flags ≡ cond (eqb (rowOfWord (getD words i 0) .len) len) (rowFlags area words x i len a) 0
-    flags-are = ef ∙ ap (λ (r : Place). cond (eqb (r .len) len) (r .flags .bits) 0) e
+    pub shown-not : counts ≡ false → Nothing ≡ shownIs rs o ps n
+    shown-not e = out (listed-for rs o ps n ∙ ap (λ (b : Bool). matchesFor rs o ps n && b) (sym counts-are ∙ e) ∙ and-false (matchesFor rs o ps n))
 
-    level-is : level ≡ stands area words x i len a o ps meeting unmatched children em eu ek levels el
-    level-is = l ∙ ap (λ (f : ℕ). (levels && not (exists f)) && below meeting) flags-are
+    module _ (e : counts ≡ true) (m : Bool) (em : (byRight rs o ps n || asLevel rs o ps n) ≡ true → m ≡ matchesFor rs o ps n) where
+      match-is : matchesFor rs o ps n ≡ m
+      match-is = sym (em (sym counts-are ∙ e))
 
-    -- the test of the code says what the definition asks
-    same-test : (own r s dp : Bool) → dp ≡ ((r && not own) && s) → (own || dp) ≡ (own || (r && s))
-    same-test true r s dp f = refl
-    same-test false true s dp f = f
-    same-test false false s dp f = f
+      pub shown-unmatched : m ≡ false → Nothing ≡ shownIs rs o ps n
+      shown-unmatched f = out (listed-for rs o ps n ∙ ap (λ (b : Bool). b && (byRight rs o ps n || asLevel rs o ps n)) (match-is ∙ f))
 
-    test : ((eqb (row .len) len && getD meeting i false) || deep) ≡ rights
-    test =
-        same-test (eqb (row .len) len && getD meeting i false) rec (below unmatched) deep d
-        ∙ ap (λ (r : Place). (eqb (r .len) len && getD meeting i false) || (rec && below unmatched)) e
-        ∙ ap (λ (b : Bool). (eqb (rowOfWord (getD words i 0) .len) len && getD meeting i false) || (b && below unmatched)) er
-
-    listed-test : listed (rowsAt area words) o ps here ≡ (matchesAny (chosen level ps) here && (((eqb (row .len) len && getD meeting i false) || deep) || level))
-    listed-test =
-        listed-here area words x i len a o ps meeting unmatched children em eu ek levels el
-        ∙ ap (λ (b : Bool). matchesAny (chosen b ps) here && (rights || b)) (sym level-is)
-        ∙ ap (λ (b : Bool). matchesAny (chosen level ps) here && (b || level)) (sym test)
-
-    pub shown-out : (((eqb (row .len) len && getD meeting i false) || deep) || level) ≡ false → Nothing ≡ shownIs (rowsAt area words) o ps here
-    shown-out f = out (listed-test ∙ ap (λ (b : Bool). matchesAny (chosen level ps) here && b) f ∙ never (matchesAny (chosen level ps) here))
-      where
-        never : (b : Bool) → (b && false) ≡ false
-        never true = refl
-        never false = refl
-
-    module _ (m : Bool) (ma : m ≡ (leb (length here) 255 && matchesAny (chosen level ps) here)) where
-      match-is : matchesAny (chosen level ps) here ≡ m
-      match-is = sym (ma ∙ ap (λ (b : Bool). b && matchesAny (chosen level ps) here) (short area words i len))
-
-      pub shown-unmatched : m ≡ false → Nothing ≡ shownIs (rowsAt area words) o ps here
-      shown-unmatched f = out (listed-test ∙ ap (λ (b : Bool). b && (((eqb (row .len) len && getD meeting i false) || deep) || level)) (match-is ∙ f))
-
-      pub shown-line : (((eqb (row .len) len && getD meeting i false) || deep) || level) ≡ true → m ≡ true → (parent : Bool) → parent ≡ (o .retChildren && below children) → (bits : Attributes) → bits .bits ≡ setOf (attributesOf flags o parent level) → (info : Bool) → info ≡ (rec && below meeting) → (named : CriteriaBits) → named .bits ≡ criteriaNumber (cond info (criteria o) noCriteria) → Line bits named ≡ shownIs (rowsAt area words) o ps here
+      pub shown-line : m ≡ true → (flags : ℕ) → flags ≡ flagsOf rs n → (children : Bool) → children ≡ (o .retChildren && hasChildren rs o n) → (bits : Attributes) → bits .bits ≡ setOf (attributesFor flags o children level) → (info : Bool) → info ≡ (o .selRecursive && meetsBelow rs o n) → (named : CriteriaBits) → named .bits ≡ criteriaNumber (cond info (criteria o) noCriteria) → Line bits named ≡ shownIs rs o ps n
       unfolding shownIs
-      shown-line f h parent ep bits eb info ei named en =
+      shown-line f flags ef children ek bits eb info ei named en =
           sym
-          (ap (λ (b : Bool). cond b (Line (record { bits = setOf (attributes (rowsAt area words) o ps here) }) (record { bits = criteriaNumber (childInfo (rowsAt area words) o here) })) Nothing) shows
+          (ap (λ (b : Bool). cond b (Line (record { bits = setOf (attributes rs o ps n) }) (record { bits = criteriaNumber (childInfo rs o n) })) Nothing) shows
           ∙ (λ j. Line (record { bits = shown-bits j }) (record { bits = shown-info j })))
         where
-          shows : listed (rowsAt area words) o ps here ≡ true
-          shows = listed-test ∙ ap (λ (b : Bool). b && (((eqb (row .len) len && getD meeting i false) || deep) || level)) (match-is ∙ h) ∙ f
+          shows : listed rs o ps n ≡ true
+          shows = listed-for rs o ps n ∙ (λ i. (match-is ∙ f) i && (sym counts-are ∙ e) i)
 
-          by-rows : attributes (rowsAt area words) o ps here ≡ attributesOf flags o parent level
-          by-rows =
-              attributes-here area words x i len a o ps meeting unmatched children em eu ek levels el (ap (λ (b : Bool). matchesAny (chosen b ps) here) (sym level-is) ∙ match-is ∙ h)
-              ∙ sym
-              (ap (λ (n : ℕ). attributesOf n o parent level) flags-are
-              ∙ ap (λ (b : Bool). attributesOf (cond (eqb (rowOfWord (getD words i 0) .len) len) (rowFlags area words x i len a) 0) o b level) ep
-              ∙ ap (attributesOf (cond (eqb (rowOfWord (getD words i 0) .len) len) (rowFlags area words x i len a) 0) o (o .retChildren && below children)) level-is)
+          above : levelAbove rs o ps n ≡ level
+          above = level-matched rs o ps n (match-is ∙ f) ∙ sym el
 
-          shown-bits : setOf (attributes (rowsAt area words) o ps here) ≡ bits .bits
-          shown-bits = ap setOf by-rows ∙ sym eb
+          shown-bits : setOf (attributes rs o ps n) ≡ bits .bits
+          shown-bits =
+              ap setOf (attributes-are ∙ sym (children-asked (flagsOf rs n) o (hasChildren rs o n) (levelAbove rs o ps n)) ∙ (λ i. attributesFor (sym ef i) o (sym ek i) (above i)))
+              ∙ sym eb
 
-          by-criteria : childInfo (rowsAt area words) o here ≡ cond info (criteria o) noCriteria
-          by-criteria =
-              child-info-here area words x i len a o ps meeting unmatched children em eu ek levels el
-              ∙ ap (λ (b : Bool). cond b (criteria o) noCriteria) (sym (ei ∙ ap (λ (b : Bool). b && below meeting) er))
+          shown-info : criteriaNumber (childInfo rs o n) ≡ named .bits
+          shown-info = ap criteriaNumber (info-is ∙ ap (λ (b : Bool). cond b (criteria o) noCriteria) (sym ei)) ∙ sym en
 
-          shown-info : criteriaNumber (childInfo (rowsAt area words) o here) ≡ named .bits
-          shown-info = ap criteriaNumber by-criteria ∙ sym en
+  -- A name without a row is listed under RECURSIVEMATCH or as a level alone
+  pub text-implied : flagsOf rs n ≡ 0 → (o .selRecursive || levelsAsked o ps) ≡ false → shownText rs o ps n ≡ []
+  unfolding shownText candidateMeets
+  text-implied e f = rw (listed-for rs o ps n, none) (ap (λ (b : Bool). cond b (lineOf rs o ps n) []) (and-false (matchesFor rs o ps n)))
+    where
+      go : (r l s t d : Bool) → (r || l) ≡ false → ((false || (r && s)) || ((l && t) && d)) ≡ false
+      go true l s t d g = cc
+      go false true s t d g = cc
+      go false false s t d g = refl
 
--- The text of what is shown
-module _ (rs : List Row) (o : Options) (ps : List (List ℕ)) (n : List ℕ) where
+      none : (byRight rs o ps n || asLevel rs o ps n) ≡ false
+      none =
+          ap (λ (b : Bool). (b || (o .selRecursive && meetsUnmatchedBelow rs o ps n)) || asLevel rs o ps n) (ap (meetsCriteria o) e ∙ meets-zero o)
+          ∙ go (o .selRecursive) (levelsAsked o ps) (meetsUnmatchedBelow rs o ps n) (not (exists (flagsOf rs n))) (meetsBelow rs o n) f
+
+  -- The text of what is shown
   pub text-none : shownIs rs o ps n ≡ Nothing → shownText rs o ps n ≡ []
   unfolding shownIs shownText
   text-none e = go (listed rs o ps n) e

@@ -1,4 +1,8 @@
 -- What the code of the LIST answer means beside document 01's definitions.
+pub mod Sets
+pub mod Index
 pub mod Prefixes
+pub mod Attributes
 pub mod Marks
+pub mod Ready
 pub mod Shown

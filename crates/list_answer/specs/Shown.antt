@@ -1,72 +1,100 @@
 -- What the answer shows of a name.
 use mathlib.Core.Path.{_≡_}
-use mathlib.Core.Bool.{Bool, true, cond, _&&_, _||_, not}
-use mathlib.Core.List.{List, [], _∷_, map}
-use Prim.Native.Nat.{ℕ, _≤_, _<_}
-use lib.ListN.{length, take, getD}
-use Rattle.listing_rules.specs.Bytes.{bit}
-use Rattle.listing_rules.specs.Lists.{every, anyOf}
-use Rattle.listing_rules.specs.Names.{lawfulName}
-use Rattle.listing_rules.specs.Flags.{exists, subscribed, remote, noSelect, noInferiors, marked, unmarked}
-use Rattle.listing_rules.specs.Table.{Row}
+use mathlib.Core.Bool.{Bool, true, cond, _&&_, _||_}
+use mathlib.Core.List.{List, [], map}
+use Prim.Native.Nat.{ℕ}
+use Rattle.listing_rules.specs.Lists.{joined}
+use Rattle.listing_rules.specs.Table.{Row, flagsOf}
 use Rattle.listing_rules.specs.Options.{Options, criteriaNumber}
-use Rattle.listing_rules.specs.Listing.{unselective, endsInPercent, listed, attributes, childInfo}
-use Rattle.listing_rules.specs.Server.{lineOf}
+use Rattle.listing_rules.specs.Match.{matchesAny}
+use Rattle.listing_rules.specs.Listing.{candidateMeets, meetsBelow, meetsUnmatchedBelow, listed, attributes, childInfo}
+use Rattle.listing_rules.specs.Server.{Reply, answered, lineOf, listAnswer}
 use Rattle.list_line.specs.Members.{setOf}
-use Rattle.mailbox_table.specs.Words.{rowOfWord}
-use Rattle.mailbox_table.specs.Index.{Indexed, rowsAt}
+use Rattle.mailbox_table.specs.Index.{nthRow, nthName, rowsAt}
+use Rattle.mailbox_table.specs.Below.{belowFrom, prefixOf}
 use Rattle.pattern.specs.Packed.{unpacked}
+use Rattle.pattern.specs.Chosen.{chosen}
 use Rattle.command_line.specs.declared.Options.{Options as OptionSet}
 use Rattle.command_line.specs.OptionSets.{optionsIs}
-use Rattle.list_answer.specs.Marks.{meetsMark, unmatchedMark, childMark}
+use Rattle.list_answer.specs.declared.question.Question.{Question}
+use Rattle.list_answer.specs.declared.decide.Beginning.{Beginning}
+use Rattle.list_answer.specs.declared.decide.Standing.{Standing}
 use Rattle.list_answer.specs.declared.decide.Shown.{Shown}
 use Rattle.list_answer.specs.declared.decide.Shown.the-variants.{Line, Nothing}
+use Rattle.list_answer.specs.Prefixes.{longer, prefixes}
+use Rattle.list_answer.specs.Marks.{levelOnly}
 
--- the attributes of a name with flags f, where h says that it has children and v that it is listed as a level above some
-unfoldable pub attributesOf : ℕ → Options → Bool → Bool → List Bool
-attributesOf f o h v =
-    let usesShow = o .selSpecial || o .retSpecial in
-    marked f
-    ∷ unmarked f
-    ∷ noSelect f
-    ∷ noInferiors f
-    ∷ remote f
-    ∷ (subscribed f && (o .selSubscribed || o .retSubscribed))
-    ∷ not (exists f)
-    ∷ (bit 8 f && usesShow)
-    ∷ (bit 9 f && usesShow)
-    ∷ (bit 10 f && usesShow)
-    ∷ (bit 11 f && usesShow)
-    ∷ (bit 12 f && usesShow)
-    ∷ (bit 13 f && usesShow)
-    ∷ (bit 14 f && usesShow)
-    ∷ ((o .retChildren && h) || v)
-    ∷ (o .retChildren && not h && not (noInferiors f))
-    ∷ []
+-- A name that matches is listed by its own right, or as a level
+
+-- it meets the criteria, or, under RECURSIVEMATCH, something below it does that matches no pattern
+abbrev pub byRight : List Row → Options → List (List ℕ) → List ℕ → Bool
+byRight rs o ps n = candidateMeets rs o n || (o .selRecursive && meetsUnmatchedBelow rs o ps n)
+
+-- levels are listed, it does not exist, and something below it meets the criteria
+abbrev pub asLevel : List Row → Options → List (List ℕ) → List ℕ → Bool
+asLevel rs o ps n = levelOnly o ps (flagsOf rs n) && meetsBelow rs o n
+
+-- it matches a pattern that counts for it
+abbrev pub matchesFor : List Row → Options → List (List ℕ) → List ℕ → Bool
+matchesFor rs o ps n = matchesAny (chosen (levelOnly o ps (flagsOf rs n)) ps) n
+
+-- What is shown
 
 -- a line with these attributes and these criteria in CHILDINFO, or nothing
 unfoldable pub shownIs : List Row → Options → List (List ℕ) → List ℕ → Shown
-shownIs rs o ps n = cond (listed rs o ps n) (Line (record { bits = setOf (attributes rs o ps n) }) (record { bits = criteriaNumber (childInfo rs o n) })) Nothing
+shownIs rs o ps n =
+    cond (listed rs o ps n)
+    (Line (record { bits = setOf (attributes rs o ps n) }) (record { bits = criteriaNumber (childInfo rs o n) }))
+    Nothing
 
 -- the text of a name's line, or none
 unfoldable pub shownText : List Row → Options → List (List ℕ) → List ℕ → List ℕ
 shownText rs o ps n = cond (listed rs o ps n) (lineOf rs o ps n) []
 
--- What the functions over the rows rely on: the index of the table's rows, their marks for the command's options and patterns, and
--- whether the command lists levels.
-pub record Ready (area words : List ℕ) (meets unmatched children : List Bool) (patterns : List ℕ) (options : OptionSet) (levels : Bool) : Type 0 where
-  pub indexed : Indexed area words
-  pub meeting : take (length words) meets ≡ map (meetsMark (optionsIs options)) (rowsAt area words)
-  pub lacking : take (length words) unmatched ≡ map (unmatchedMark (optionsIs options) (unpacked patterns)) (rowsAt area words)
-  pub childish : take (length words) children ≡ map (childMark (optionsIs options)) (rowsAt area words)
-  pub levelled : levels ≡ (unselective (optionsIs options) && anyOf endsInPercent (unpacked patterns))
+-- The same of what the code has: an index, packed patterns, a question
 
--- a beginning of row i's name, longer than what it shares with the name before
-pub record At (words : List ℕ) (i len : ℕ) : Type 0 where
-  pub row : i < length words
-  pub beyond : rowOfWord (getD words i 0) .shared < len
-  pub within : len ≤ rowOfWord (getD words i 0) .len
+-- the name that a beginning tells of
+abbrev pub begun : List ℕ → List ℕ → Beginning → List ℕ
+begun area words b = prefixOf area words (b .row) (b .len)
 
--- the names of the rows are lawful
-abbrev pub Lawful : List Row → Type 0
-Lawful rs = every (λ (r : Row). lawfulName (r .name)) rs ≡ true
+-- some row below it has these marks
+abbrev pub foundBelow : List ℕ → List ℕ → ℕ → Beginning → Bool
+foundBelow area words m b = belowFrom area words m (begun area words b) (b .row)
+
+abbrev pub shownAt : List ℕ → List ℕ → List ℕ → Question → Beginning → Shown
+shownAt area words patterns q b = shownIs (rowsAt area words) (optionsIs (q .options)) (unpacked patterns) (begun area words b)
+
+-- what `look_at` promises
+pub record Stands (area words patterns : List ℕ) (q : Question) (b : Beginning) (s : Standing) : Type 0 where
+  pub flags : s .flags .bits ≡ flagsOf (rowsAt area words) (begun area words b)
+  pub level : s .level ≡ asLevel (rowsAt area words) (optionsIs (q .options)) (unpacked patterns) (begun area words b)
+  pub counts : s .counts ≡ (byRight (rowsAt area words) (optionsIs (q .options)) (unpacked patterns) (begun area words b) || s .level)
+
+-- what `is_matched` promises: where the name is listed if it matches, whether it does
+abbrev pub Matched : List ℕ → List ℕ → List ℕ → Question → Beginning → Bool → Type 0
+Matched area words patterns q b r =
+    let rs = rowsAt area words in
+    let o = optionsIs (q .options) in
+    let ps = unpacked patterns in
+    let n = begun area words b in
+    (byRight rs o ps n || asLevel rs o ps n) ≡ true → r ≡ matchesFor rs o ps n
+
+-- the texts of a name, of the names that begin at row i, and of all rows
+abbrev pub textOf : List ℕ → List ℕ → List ℕ → Question → List ℕ → List ℕ
+textOf area words patterns q n = shownText (rowsAt area words) (optionsIs (q .options)) (unpacked patterns) n
+
+abbrev pub textAt : List ℕ → List ℕ → List ℕ → Question → Beginning → List ℕ
+textAt area words patterns q b = textOf area words patterns q (begun area words b)
+
+abbrev pub rowText : List ℕ → List ℕ → List ℕ → Question → ℕ → List ℕ
+rowText area words patterns q i = joined (map (textOf area words patterns q) (longer (nthRow words i .shared) (nthName area words i)))
+
+abbrev pub rowsText : List ℕ → List ℕ → List ℕ → Question → List ℕ
+rowsText area words patterns q = joined (map (textOf area words patterns q) (prefixes (rowsAt area words)))
+
+-- the whole answer, and the reply that it is
+abbrev pub listText : List ℕ → List ℕ → List ℕ → OptionSet → List ℕ → List ℕ
+listText area words patterns o tag = listAnswer (rowsAt area words) tag (optionsIs o) (unpacked patterns)
+
+abbrev pub listReply : List ℕ → List ℕ → List ℕ → OptionSet → List ℕ → Reply
+listReply area words patterns o tag = answered (listText area words patterns o tag)

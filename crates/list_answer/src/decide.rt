@@ -1,4 +1,7 @@
-// What the answer shows of one name: the beginning, `len` bytes long, of the name of row i.
+// What the answer shows of one name.
+use super::attributes::attributes_of;
+use super::marks::Marks;
+use super::question::Question;
 use command_line::Options;
 use list_line::Attributes;
 use list_line::Criteria;
@@ -9,16 +12,17 @@ use mailbox_table::scan::some_below;
 use pattern::matches_any;
 ghost use mathlib.Core.Path.{_≡_};
 ghost use mathlib.Core.Bool.{cond, _&&_};
-ghost use Prim.Native.Nat.{_≤_, _<_};
-ghost use lib.ListN.{length, take, drop, getD};
-ghost use Rattle.listing_rules.specs.Table.{names};
 ghost use Rattle.listing_rules.specs.Options.{criteria, noCriteria, criteriaNumber};
-ghost use Rattle.list_line.specs.Members.{setOf};
 ghost use Rattle.command_line.specs.OptionSets.{optionsIs};
-ghost use Rattle.mailbox_table.specs.Index.{nameAt, rowsAt};
-ghost use Rattle.mailbox_table.specs.Below.{markedBelow, Begins};
-ghost use Rattle.pattern.specs.Packed.{unpacked};
-ghost use Rattle.list_answer.specs.Shown.{attributesOf, shownIs, Ready, At};
+ghost use Rattle.mailbox_table.specs.Below.{Begins};
+ghost use Rattle.list_answer.specs.Shown.{foundBelow, shownAt, Stands, Matched};
+ghost use Rattle.list_answer.specs.Ready.{Ready, At};
+
+// A name to look at: the first `len` bytes of a row's name.
+pub(crate) struct Beginning {
+    pub(crate) row: usize,
+    pub(crate) len: usize,
+}
 
 // A line with these attributes and the criteria that its CHILDINFO names; or nothing.
 pub(crate) enum Shown {
@@ -26,31 +30,100 @@ pub(crate) enum Shown {
     Nothing,
 }
 
-// The sixteen, in document 01's order, for a name with these flags. A level shows \HasChildren, asked or not.
-fn attributes(flags: Flags, options: Options, children: bool, level: bool) -> Attributes
-    ensures { λ r. ⌜ r .bits ≡ setOf (attributesOf (flags .bits) (optionsIs options) children level) ⌝ }
+// What the rows say of a name before it is matched: its flags, whether it can be a level, and whether it is listed if it matches.
+struct Standing {
+    flags: Flags,
+    level: bool,
+    counts: bool,
+}
+
+// Whether the name is listed, and how.
+pub(crate) fn decide(
+    area: &[u8],
+    words: &[u64],
+    patterns: &[u8],
+    question: Question,
+    name: Beginning,
+) -> Shown
+    requires { ⌜ Ready (now area) (now words) (now patterns) question ⌝ }
+    requires { ⌜ At (now words) name ⌝ }
+    ensures { λ r. ⌜ r ≡ shownAt (now (area .entry)) (now (words .entry)) (now (patterns .entry)) question name ⌝ }
 {
-    let uses = options.has(Options::SPECIAL_USE) | options.has(Options::RETURN_SPECIAL_USE);
-    let subscribed = options.has(Options::SUBSCRIBED) | options.has(Options::RETURN_SUBSCRIBED);
-    let asked = options.has(Options::RETURN_CHILDREN);
-    Attributes::of([
-        flags.has(Flags::MARKED),
-        flags.has(Flags::UNMARKED),
-        flags.has(Flags::NO_SELECT),
-        flags.has(Flags::NO_INFERIORS),
-        flags.has(Flags::REMOTE),
-        flags.has(Flags::SUBSCRIBED) & subscribed,
-        !flags.has(Flags::EXISTS),
-        flags.has(Flags::ALL) & uses,
-        flags.has(Flags::ARCHIVE) & uses,
-        flags.has(Flags::DRAFTS) & uses,
-        flags.has(Flags::FLAGGED) & uses,
-        flags.has(Flags::JUNK) & uses,
-        flags.has(Flags::SENT) & uses,
-        flags.has(Flags::TRASH) & uses,
-        (asked & children) | level,
-        asked & !children & !flags.has(Flags::NO_INFERIORS),
-    ])
+    let standing = look_at(area, words, patterns, question, name);
+    if !standing.counts {
+        return Shown::Nothing;
+    }
+    if !is_matched(area, words, patterns, question, name) {
+        return Shown::Nothing;
+    }
+    let info = asked_below(question.is_recursive(), area, words, Marks::MEETING, name);
+    let children = asked_below(question.shows_children(), area, words, Marks::CHILD, name);
+    Shown::Line(
+        attributes_of(standing.flags, question, children, standing.level),
+        child_info(info, question.options),
+    )
+}
+
+// What the rows say of the name.
+fn look_at(
+    area: &[u8],
+    words: &[u64],
+    patterns: &[u8],
+    question: Question,
+    name: Beginning,
+) -> Standing
+    requires { ⌜ Ready (now area) (now words) (now patterns) question ⌝ }
+    requires { ⌜ At (now words) name ⌝ }
+    ensures { λ r. ⌜ Stands (now (area .entry)) (now (words .entry)) (now (patterns .entry)) question name r ⌝ }
+{
+    let i = name.row;
+    let word = words[i];
+    let row = Row::of_word(word);
+    let whole = row.len == name.len;
+    let flags = flags_of(whole, row.flags);
+    let own = whole & Marks::of_word(word).has(Marks::MEETING);
+    let recursive = question.is_recursive();
+    let deep = asked_below(recursive & !own, area, words, Marks::UNMATCHED, name);
+    let absent = question.asks_level(flags);
+    let level = asked_below(absent, area, words, Marks::MEETING, name);
+    Standing {
+        flags,
+        level,
+        counts: own | deep | level,
+    }
+}
+
+// Whether a name that is listed if it matches does match. A row's whole name was matched when it was marked.
+fn is_matched(
+    area: &[u8],
+    words: &[u64],
+    patterns: &[u8],
+    question: Question,
+    name: Beginning,
+) -> bool
+    requires { ⌜ Ready (now area) (now words) (now patterns) question ⌝ }
+    requires { ⌜ At (now words) name ⌝ }
+    ensures { λ r. ⌜ Matched (now (area .entry)) (now (words .entry)) (now (patterns .entry)) question name r ⌝ }
+{
+    let i = name.row;
+    let len = name.len;
+    let word = words[i];
+    let row = Row::of_word(word);
+    if row.len == len {
+        return Marks::of_word(word).has(Marks::MATCHED);
+    }
+    matches_any(patterns, question.levels, &name_of(area, row)[..len])
+}
+
+// Whether it is asked, and some row below the name has these marks.
+fn asked_below(asked: bool, area: &[u8], words: &[u64], marks: Marks, name: Beginning) -> bool
+    requires { ⌜ Begins (now area) (now words) (name .row) (name .len) ⌝ }
+    ensures { λ r. ⌜ r ≡ (asked && foundBelow (now (area .entry)) (now (words .entry)) (marks .bits) name) ⌝ }
+{
+    if !asked {
+        return false;
+    }
+    some_below(area, words, marks.bits, name.row, name.len)
 }
 
 // The flags of a name: those of the row where it is the row's whole name, else none.
@@ -60,7 +133,7 @@ fn flags_of(whole: bool, flags: Flags) -> Flags
     if whole {
         return flags;
     }
-    Flags { bits: 0 }
+    Flags::NONE
 }
 
 // The criteria that CHILDINFO names: those selected, where it stands on the line, else none.
@@ -74,62 +147,4 @@ fn child_info(info: bool, options: Options) -> Criteria
         );
     }
     Criteria::NONE
-}
-
-// Whether it is asked, and some marked row lies below the name.
-fn asked_below(
-    asked: bool,
-    area: &[u8],
-    words: &[u64],
-    marks: &[bool],
-    i: usize,
-    len: usize,
-) -> bool
-    requires { ⌜ Begins (now area) (now words) (now marks) i len ⌝ }
-    ensures { λ r. ⌜ r ≡ (asked && markedBelow (take len (nameAt (now (area .entry)) (getD (now (words .entry)) i 0))) (drop i (names (rowsAt (now (area .entry)) (now (words .entry))))) (drop i (now (marks .entry)))) ⌝ }
-{
-    if !asked {
-        return false;
-    }
-    some_below(area, words, marks, i, len)
-}
-
-// Whether the name is listed, and how.
-pub(crate) fn decide(
-    area: &[u8],
-    words: &[u64],
-    meeting: &[bool],
-    unmatched: &[bool],
-    children: &[bool],
-    patterns: &[u8],
-    options: Options,
-    levels: bool,
-    i: usize,
-    len: usize,
-) -> Shown
-    requires { ⌜ Ready (now area) (now words) (now meeting) (now unmatched) (now children) (now patterns) options levels ⌝ }
-    requires { ⌜ At (now words) i len ⌝ }
-    ensures { λ r. ⌜ r ≡ shownIs (rowsAt (now (area .entry)) (now (words .entry))) (optionsIs options) (unpacked (now (patterns .entry))) (take len (nameAt (now (area .entry)) (getD (now (words .entry)) i 0))) ⌝ }
-{
-    let row = Row::of_word(words[i]);
-    let whole = row.len == len;
-    let flags = flags_of(whole, row.flags);
-    let own = whole & meeting[i];
-    let recursive = options.has(Options::RECURSIVEMATCH);
-    let deep = asked_below(recursive & !own, area, words, unmatched, i, len);
-    let absent = levels & !flags.has(Flags::EXISTS);
-    let level = asked_below(absent, area, words, meeting, i, len);
-    if !(own | deep | level) {
-        return Shown::Nothing;
-    }
-    if !matches_any(patterns, level, &name_of(area, row)[..len]) {
-        return Shown::Nothing;
-    }
-    let info = asked_below(recursive, area, words, meeting, i, len);
-    let asked = options.has(Options::RETURN_CHILDREN);
-    let parent = asked_below(asked, area, words, children, i, len);
-    Shown::Line(
-        attributes(flags, options, parent, level),
-        child_info(info, options),
-    )
 }

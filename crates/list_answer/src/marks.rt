@@ -1,119 +1,130 @@
-// The marks of the rows: one flag a row, for one command.
-use command_line::Options;
-use mailbox_table::flags::Flags;
+// The marks of the rows: what the answer asks of a row more than once is found once, and kept in the row's word.
+use super::question::Question;
 use mailbox_table::rows::Row;
 use mailbox_table::rows::name_of;
+use mailbox_table::scan::marks_of;
+use mailbox_table::scan::with_marks;
 use pattern::matches_any;
-use pattern::some_level;
 ghost use mathlib.Core.Path.{_≡_};
+ghost use mathlib.Core.Bool.{_&&_};
 ghost use mathlib.Core.List.{map};
 ghost use Prim.Native.Nat.{_≤_};
-ghost use lib.ListN.{length, take, replicate};
-ghost use mathlib.Core.Bool.{false, _&&_, _||_, not};
-ghost use Rattle.listing_rules.specs.Flags.{exists, remote};
-ghost use Rattle.listing_rules.specs.Lists.{anyOf};
-ghost use Rattle.listing_rules.specs.Listing.{meetsCriteria, unselective, endsInPercent};
+ghost use lib.Dec.{leb};
+ghost use lib.ListN.{length, take};
+ghost use Rattle.listing_rules.specs.Match.{matchesAny};
+ghost use Rattle.octets.specs.Sets.{contains, union};
 ghost use Rattle.command_line.specs.OptionSets.{optionsIs};
-ghost use Rattle.mailbox_table.specs.Index.{rowAtWord, rowsAt};
+ghost use Rattle.mailbox_table.specs.Below.{marksOf};
+ghost use Rattle.mailbox_table.specs.Index.{rowAtWord};
 ghost use Rattle.pattern.specs.Packed.{unpacked};
-ghost use Rattle.list_answer.specs.Marks.{meetsMark, unmatchedMark, childMark};
+ghost use Rattle.pattern.specs.Chosen.{chosen};
+ghost use Rattle.list_answer.specs.Sets.{withMember};
+ghost use Rattle.list_answer.specs.Marks.{rowMarks, markedWord};
+ghost use Rattle.list_answer.specs.Ready.{Knows};
 
-// No row marked.
-pub(crate) fn no_marks() -> [bool; 512]
-    ensures { λ r. ⌜ r ≡ replicate 512 false ⌝ }
-{
-    [false; 512]
+// A set with named members, bit by bit as `rowMarks` of specs/ numbers them.
+pub(crate) struct Marks {
+    pub(crate) bits: u16,
 }
 
-// Whether a row with these flags meets the criteria.
-fn meets(options: Options, flags: Flags) -> bool
-    ensures { λ r. ⌜ r ≡ meetsCriteria (optionsIs options) (flags .bits) ⌝ }
-{
-    let subscribed = options.has(Options::SUBSCRIBED);
-    let there = flags.has(Flags::EXISTS) | subscribed;
-    let near = !flags.has(Flags::REMOTE) | options.has(Options::REMOTE);
-    let wanted = !subscribed | flags.has(Flags::SUBSCRIBED);
-    let special = !options.has(Options::SPECIAL_USE) | flags.has_use();
-    there & near & wanted & special
-}
+impl Marks {
+    pub(crate) const NONE: Marks = Marks { bits: 0 };
 
-// Whether a row with these flags makes a name above it one with children.
-fn counts_as_child(options: Options, flags: Flags) -> bool
-    ensures { λ r. ⌜ r ≡ (exists (flags .bits) && (not (remote (flags .bits)) || optionsIs options .selRemote)) ⌝ }
-{
-    flags.has(Flags::EXISTS) & (!flags.has(Flags::REMOTE) | options.has(Options::REMOTE))
-}
+    // The row meets the criteria.
+    pub(crate) const MEETING: Marks = Marks { bits: 1 };
 
-// Whether neither RECURSIVEMATCH, SUBSCRIBED nor SPECIAL-USE is selected.
-fn is_unselective(options: Options) -> bool
-    ensures { λ r. ⌜ r ≡ unselective (optionsIs options) ⌝ }
-{
-    !options.has(Options::RECURSIVEMATCH)
-        & !options.has(Options::SUBSCRIBED)
-        & !options.has(Options::SPECIAL_USE)
-}
+    // It meets them and matches no pattern, under RECURSIVEMATCH.
+    pub(crate) const UNMATCHED: Marks = Marks { bits: 2 };
 
-// Whether the command lists levels: names that do not exist, above those that meet the criteria.
-pub(crate) fn lists_levels(patterns: &[u8], options: Options) -> bool
-    ensures { λ r. ⌜ r ≡ (unselective (optionsIs options) && anyOf endsInPercent (unpacked (now (patterns .entry)))) ⌝ }
-{
-    is_unselective(options) & some_level(patterns)
-}
+    // It makes a name above it one with children.
+    pub(crate) const CHILD: Marks = Marks { bits: 4 };
 
-// The rows that meet the criteria.
-pub(crate) fn mark_meeting(area: &[u8], words: &[u64], options: Options, marks: &mut [bool])
-    requires { ⌜ length (now words) ≤ length (now marks) ⌝ }
-    ensures { λ _. ⌜ take (length (now (words .entry))) (now (marks .exit)) ≡ map (meetsMark (optionsIs options)) (rowsAt (now (area .entry)) (now (words .entry))) ⌝ }
-{
-    let mut i = 0;
-    while i < words.len() {
-        let row = Row::of_word(words[i]);
-        marks[i] = meets(options, row.flags);
-        i += 1;
+    // Its whole name matches a pattern that counts for it.
+    pub(crate) const MATCHED: Marks = Marks { bits: 8 };
+
+    // The marks in the word of a row.
+    pub(crate) fn of_word(word: u64) -> Marks
+        ensures { λ r. ⌜ r .bits ≡ marksOf word ⌝ }
+    {
+        Marks {
+            bits: marks_of(word),
+        }
+    }
+
+    // What is in either set.
+    fn union(self, other: Marks) -> Marks
+        ensures { λ r. ⌜ r .bits ≡ union (self .bits) (other .bits) ⌝ }
+    {
+        Marks {
+            bits: self.bits | other.bits,
+        }
+    }
+
+    // Whether every one of these members is in the set.
+    pub(crate) fn has(self, members: Marks) -> bool
+        ensures { λ r. ⌜ r ≡ contains (self .bits) (members .bits) ⌝ }
+    {
+        self.bits & members.bits == members.bits
+    }
+
+    // The set with these members, where they hold.
+    fn with(self, holds: bool, members: Marks) -> Marks
+        ensures { λ r. ⌜ r .bits ≡ withMember (self .bits) holds (members .bits) ⌝ }
+    {
+        if holds {
+            return self.union(members);
+        }
+        self
     }
 }
 
-// The rows that count as children.
-pub(crate) fn mark_children(area: &[u8], words: &[u64], options: Options, marks: &mut [bool])
-    requires { ⌜ length (now words) ≤ length (now marks) ⌝ }
-    ensures { λ _. ⌜ take (length (now (words .entry))) (now (marks .exit)) ≡ map (childMark (optionsIs options)) (rowsAt (now (area .entry)) (now (words .entry))) ⌝ }
+// Whether it is asked, and the name matches a pattern that counts.
+fn asked_match(asked: bool, patterns: &[u8], levels: bool, name: &[u8]) -> bool
+    ensures { λ r. ⌜ r ≡ (asked && (leb (length (now (name .entry))) 255
+        && matchesAny (chosen levels (unpacked (now (patterns .entry)))) (now (name .entry)))) ⌝ }
 {
-    let mut i = 0;
-    while i < words.len() {
-        let row = Row::of_word(words[i]);
-        marks[i] = counts_as_child(options, row.flags);
-        i += 1;
+    if !asked {
+        return false;
     }
+    matches_any(patterns, levels, name)
 }
 
-// Whether a row meets the criteria and matches no pattern, under RECURSIVEMATCH.
-fn is_unmatched(area: &[u8], word: u64, patterns: &[u8], options: Options) -> bool
-    ensures { λ r. ⌜ r ≡ unmatchedMark (optionsIs options) (unpacked (now (patterns .entry))) (rowAtWord (now (area .entry)) word) ⌝ }
+// What the row of a word is marked with. A row that can be listed neither by its own right nor as a level is not matched.
+fn marks_for(area: &[u8], word: u64, patterns: &[u8], question: Question) -> Marks
+    requires { ⌜ Knows (now patterns) question ⌝ }
+    ensures { λ r. ⌜ r .bits ≡ rowMarks (optionsIs (question .options)) (unpacked (now (patterns .entry)))
+        (rowAtWord (now (area .entry)) word) ⌝ }
 {
     let row = Row::of_word(word);
-    if !options.has(Options::RECURSIVEMATCH) {
-        return false;
-    }
-    if !meets(options, row.flags) {
-        return false;
-    }
-    !matches_any(patterns, false, name_of(area, row))
+    let meeting = question.is_met(row.flags);
+    let recursive = question.is_recursive();
+    let level = question.asks_level(row.flags);
+    let asked = meeting | recursive | level;
+    let matched = asked_match(asked, patterns, level, name_of(area, row));
+    Marks::NONE
+        .with(meeting, Marks::MEETING)
+        .with(recursive & meeting & !matched, Marks::UNMATCHED)
+        .with(question.counts_child(row.flags), Marks::CHILD)
+        .with(matched, Marks::MATCHED)
 }
 
-// The rows that meet the criteria and match no pattern, under RECURSIVEMATCH.
-pub(crate) fn mark_unmatched(
+// The words of the rows with their marks, at the front of `marked`.
+pub(crate) fn mark_rows(
     area: &[u8],
     words: &[u64],
     patterns: &[u8],
-    options: Options,
-    marks: &mut [bool],
+    question: Question,
+    marked: &mut [u64],
 )
-    requires { ⌜ length (now words) ≤ length (now marks) ⌝ }
-    ensures { λ _. ⌜ take (length (now (words .entry))) (now (marks .exit)) ≡ map (unmatchedMark (optionsIs options) (unpacked (now (patterns .entry)))) (rowsAt (now (area .entry)) (now (words .entry))) ⌝ }
+    requires { ⌜ Knows (now patterns) question ⌝ }
+    requires { ⌜ length (now words) ≤ length (now marked) ⌝ }
+    ensures { λ _. ⌜ take (length (now (words .entry))) (now (marked .exit))
+        ≡ map (markedWord (now (area .entry)) (now (patterns .entry)) question) (now (words .entry)) ⌝ }
 {
     let mut i = 0;
     while i < words.len() {
-        marks[i] = is_unmatched(area, words[i], patterns, options);
+        let marks = marks_for(area, words[i], patterns, question);
+        marked[i] = with_marks(words[i], marks.bits);
         i += 1;
     }
 }

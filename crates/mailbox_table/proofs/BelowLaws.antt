@@ -1,23 +1,19 @@
 -- Names below a name among names that ascend: where they begin, where they end, and that nothing is missed.
 use mathlib.Core.Path.{_≡_, refl, sym, ap, _∙_}
-use mathlib.Core.Bool.{Bool, true, false, _&&_, _||_, false≢true, and-true}
-use mathlib.Core.List.{List, [], _∷_, _++_, map}
+use mathlib.Core.Bool.{Bool, true, false, _&&_, false≢true}
+use mathlib.Core.List.{List, [], _∷_, _++_}
 use Prim.Native.Nat.{ℕ, zero, suc, _+_, _-_, _≤_, _<_, Ordering, Ordering·lt, Ordering·eq, Ordering·gt}
 use native.Mathlib.Numerals.{add-one}
 use native.Mathlib.Decide.{decLe}
 use native.Mathlib.Omega.{arith}
 use lib.Dec.{eqb}
-use lib.ListN.{length, take, drop, getD, replicate, drop-of-length-le}
-use lib.Seq.{drop-cons}
+use lib.ListN.{length, take, drop, getD}
 use borrow.Author.Tests.{eq-eqb, ne-eqb, eqb-true, lt-ltb, le-ltb, ltb-true}
 use Rattle.listing_rules.specs.Bytes.{slash}
-use Rattle.listing_rules.specs.Lists.{anyOf}
 use Rattle.listing_rules.specs.Orders.{byteOrder, isLt, ascendsFrom, ascends}
 use Rattle.listing_rules.specs.Names.{below}
-use Rattle.listing_rules.specs.Table.{Row, names}
 use Rattle.listing_rules.proofs.Order.{bytes-total}
 use Rattle.mailbox_table.specs.Shared.{sharedLen}
-use Rattle.mailbox_table.specs.Below.{markedBelow}
 use Rattle.listing_rules.proofs.Bools.{and-l, and-r, and-i}
 use Rattle.mailbox_table.proofs.SharedLaws.{shared-le-r, order-same, shared-same, order-other, shared-other, order-nil-cons, order-cons-nil, order-to-nil}
 
@@ -124,21 +120,12 @@ behind-shared (x ∷ p) (y ∷ a) (z ∷ b) e l h = go (eqb y z) refl (behind-sh
         let w : y < z = ltb-true y z (sym (order-other y z a b k) ∙ l) in
         order-other z x b (p ++ 48 ∷ []) (ne-eqb z x (λ d. omega (arith, head))) ∙ le-ltb z x (omega (arith, head))
 
-behind-on : (p c d : List ℕ) → Behind p c → isLt (byteOrder c d) ≡ true → Behind p d
+pub behind-on : (p c d : List ℕ) → Behind p c → isLt (byteOrder c d) ≡ true → Behind p d
 behind-on p c d e l = go (isLt (byteOrder d (p ++ 48 ∷ []))) refl
   where
     go : (o : Bool) → isLt (byteOrder d (p ++ 48 ∷ [])) ≡ o → o ≡ false
     go false k = refl
     go true k = absurd (false≢true (sym e ∙ order-trans c d (p ++ 48 ∷ []) l k))
-
--- nothing below p follows
-pub behind-rest : (p c : List ℕ) (ds : List (List ℕ)) (ms : List Bool) → Behind p c → ascendsFrom c ds ≡ true → markedBelow p ds ms ≡ false
-unfolding markedBelow ascendsFrom
-behind-rest p c [] ms e l = refl
-behind-rest p c (d ∷ ds) [] e l = refl
-behind-rest p c (d ∷ ds) (m ∷ ms) e l =
-    let k : Behind p d = behind-on p c d e (and-l (isLt (byteOrder c d)) (ascendsFrom d ds) l) in
-    rw (behind-below p d k) (behind-rest p d ds ms k (and-r (isLt (byteOrder c d)) (ascendsFrom d ds) l))
 
 -- a name that comes before p
 before-below : (p c : List ℕ) → isLt (byteOrder c p) ≡ true → below p c ≡ false
@@ -201,58 +188,13 @@ from-at (n ∷ ns) (suc k) l h = from-at ns k (ascends-tail n ns l) (omega arith
 pub ascends-from : (ns : List (List ℕ)) (k : ℕ) → ascends ns ≡ true → k < length ns → ascendsFrom (getD ns k []) (drop (k + 1) ns) ≡ true
 ascends-from ns k l h = rw (add-one k) (from-at ns k l h)
 
--- marked names: one place, and from a place on
-marked-nil : (p : List ℕ) (ns : List (List ℕ)) → markedBelow p ns [] ≡ false
-unfolding markedBelow
-marked-nil p [] = refl
-marked-nil p (n ∷ ns) = refl
-
-pub marked-at : (p : List ℕ) (ns : List (List ℕ)) (ms : List Bool) (k : ℕ) → k < length ns → k < length ms → markedBelow p (drop k ns) (drop k ms) ≡ ((below p (getD ns k []) && getD ms k false) || markedBelow p (drop (k + 1) ns) (drop (k + 1) ms))
-unfolding markedBelow
-marked-at p ns ms k h g = rw (add-one k, drop-cons ns k [] h, drop-cons ms k false g)
-
-pub marked-end : (p : List ℕ) (ns : List (List ℕ)) (ms : List Bool) (k : ℕ) → length ns ≤ k → markedBelow p (drop k ns) (drop k ms) ≡ false
-unfolding markedBelow
-marked-end p ns ms k h = rw (drop-of-length-le ns h)
-
--- names that do not lie below p may be passed over
-pub marked-drop : (p : List ℕ) (ns : List (List ℕ)) (ms : List Bool) (i : ℕ) → ((k : ℕ) → k < i → below p (getD ns k []) ≡ false) → markedBelow p ns ms ≡ markedBelow p (drop i ns) (drop i ms)
-unfolding markedBelow
-marked-drop p ns ms zero f = refl
-marked-drop p [] ms (suc i) f = refl
-marked-drop p (n ∷ ns) [] (suc i) f = sym (marked-nil p (drop i ns))
-marked-drop p (n ∷ ns) (m ∷ ms) (suc i) f = rw (f 0 (omega arith)) (marked-drop p ns ms i (λ k h. f (suc k) (omega arith)))
-
--- If row i is the first that begins with p, what is found from i on is all that is found.
-pub marked-whole : (p : List ℕ) (ns : List (List ℕ)) (ms : List Bool) (i : ℕ) → ascends ns ≡ true → i < length ns → starts p (getD ns i []) ≡ true → ((k : ℕ) → k + 1 ≡ i → sharedLen (getD ns k []) (getD ns i []) < length p) → markedBelow p ns ms ≡ markedBelow p (drop i ns) (drop i ms)
-marked-whole p ns ms i l h e f = marked-drop p ns ms i earlier
+-- Names before the first that begins with p do not lie below it.
+pub earlier-below : (p : List ℕ) (ns : List (List ℕ)) (i : ℕ) → ascends ns ≡ true → i < length ns → starts p (getD ns i []) ≡ true → ((k : ℕ) → k + 1 ≡ i → sharedLen (getD ns k []) (getD ns i []) < length p) → (k : ℕ) → k < i → below p (getD ns k []) ≡ false
+earlier-below p ns i l h e f k g = before-below p (getD ns k []) (go (decLe (k + 2) i))
   where
-    last : (k : ℕ) → k + 1 ≡ i → isLt (byteOrder (getD ns k []) p) ≡ true
-    last k d = before-first p (getD ns k []) (getD ns i []) e (ascends-at ns k i l (omega arith) h) (f k d)
+    last : (j : ℕ) → j + 1 ≡ i → isLt (byteOrder (getD ns j []) p) ≡ true
+    last j d = before-first p (getD ns j []) (getD ns i []) e (ascends-at ns j i l (omega arith) h) (f j d)
 
-    earlier : (k : ℕ) → k < i → below p (getD ns k []) ≡ false
-    earlier k g = before-below p (getD ns k []) (go (decLe (k + 2) i))
-      where
-        go : Dec (k + 2 ≤ i) → isLt (byteOrder (getD ns k []) p) ≡ true
-        go (yes d) = order-trans (getD ns k []) (getD ns (i - 1) []) p (ascends-at ns k (i - 1) l (omega arith) (omega arith)) (last (i - 1) (omega arith))
-        go (no d) = last k (omega arith)
-
--- marks behind those of the names count for nothing
-pub marked-take : (p : List ℕ) (ns : List (List ℕ)) (ms : List Bool) → markedBelow p ns (take (length ns) ms) ≡ markedBelow p ns ms
-unfolding markedBelow
-marked-take p [] ms = refl
-marked-take p (n ∷ ns) [] = refl
-marked-take p (n ∷ ns) (m ∷ ms) = ap (λ (b : Bool). (below p n && m) || b) (marked-take p ns ms)
-
--- marks that a test of the rows gives
-pub marked-any : (p : List ℕ) (g : Row → Bool) (rs : List Row) → markedBelow p (names rs) (map g rs) ≡ anyOf (λ r. below p (r .name) && g r) rs
-unfolding markedBelow names anyOf
-marked-any p g [] = refl
-marked-any p g (r ∷ rs) = ap (λ (b : Bool). (below p (r .name) && g r) || b) (marked-any p g rs)
-
--- a mark on every row
-pub marked-all : (p : List ℕ) (rs : List Row) (n : ℕ) → length rs ≤ n → markedBelow p (names rs) (replicate n true) ≡ anyOf (λ r. below p (r .name)) rs
-unfolding markedBelow names anyOf
-marked-all p [] n h = refl
-marked-all p (r ∷ rs) zero h = absurd (omega arith)
-marked-all p (r ∷ rs) (suc n) h = rw (and-true (below p (r .name)), marked-all p rs n (omega arith))
+    go : Dec (k + 2 ≤ i) → isLt (byteOrder (getD ns k []) p) ≡ true
+    go (yes d) = order-trans (getD ns k []) (getD ns (i - 1) []) p (ascends-at ns k (i - 1) l (omega arith) (omega arith)) (last (i - 1) (omega arith))
+    go (no d) = last k (omega arith)

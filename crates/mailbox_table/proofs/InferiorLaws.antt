@@ -1,20 +1,20 @@
 -- The last condition of check 1, row by row.
-use mathlib.Core.Path.{_≡_, _∙_}
-use mathlib.Core.Bool.{Bool, true, false, not}
-use mathlib.Core.List.{List}
+use mathlib.Core.Path.{_≡_, refl, _∙_}
+use mathlib.Core.Bool.{Bool, true, false, not, and-true}
+use mathlib.Core.List.{List, [], _∷_}
 use Prim.Native.Nat.{ℕ, _+_, _≤_, _<_}
 use native.Mathlib.Numerals.{add-one}
 use native.Mathlib.Nat.{le-refl}
 use native.Mathlib.Omega.{arith}
-use lib.ListN.{length, drop, getD, replicate, length-replicate, drop-of-length-le}
+use lib.Bits.{and-zero-r}
+use lib.ListN.{length, drop, getD, drop-of-length-le}
 use lib.Seq.{take-take}
 use Rattle.listing_rules.specs.Lists.{every, anyOf}
 use Rattle.listing_rules.specs.Names.{below}
 use Rattle.listing_rules.specs.Flags.{noInferiors}
 use Rattle.listing_rules.specs.Table.{Row, noneBelow}
 use Rattle.mailbox_table.specs.Index.{nameAt, nthRow, nthName, rowAtWord, rowsAt, Indexed}
-use Rattle.mailbox_table.specs.Below.{prefixOf, belowFrom, Begins}
-use Rattle.mailbox_table.proofs.BelowLaws.{marked-all}
+use Rattle.mailbox_table.specs.Below.{marksOf, markedBelow, prefixOf, belowFrom, Begins}
 use Rattle.mailbox_table.proofs.IndexLaws.{rows-length, rows-cons, shares-less}
 use Rattle.mailbox_table.proofs.ScanLaws.{scan-whole}
 
@@ -33,14 +33,19 @@ prefix-whole : (area words : List ℕ) (i : ℕ) → prefixOf area words i (nthR
 unfolding nameAt
 prefix-whole area words i = take-take (nthRow words i .len) (nthRow words i .len) (drop (nthRow words i .start) area) (le-refl (nthRow words i .len))
 
--- with every row marked, what is found from row i on below its name is all that lies below it
-pub below-anywhere : {area words : List ℕ} → Indexed area words → (n i : ℕ) → length words ≤ n → i < length words → belowFrom area words (replicate n true) (prefixOf area words i (nthRow words i .len)) i ≡ anyOf (λ q. below (nthName area words i) (q .name)) (rowsAt area words)
-below-anywhere {area} {words} x n i h g =
-    scan-whole begins (shares-less x i g)
-    ∙ rw (prefix-whole area words i) (marked-all (nthName area words i) (rowsAt area words) n (omega (arith, rows-length area words)))
+-- every row has the empty set of marks
+any-row : (area p ws : List ℕ) → anyOf (markedBelow area 0 p) ws ≡ anyOf (λ q. below p (q .name)) (rowsAt area ws)
+unfolding anyOf
+any-row area p [] = refl
+any-row area p (w ∷ ws) = rw (and-zero-r (marksOf w), and-true (below p (nameAt area w)), any-row area p ws)
+
+-- so what is found from row i on below its name is all that lies below it
+pub below-anywhere : {area words : List ℕ} → Indexed area words → (i : ℕ) → i < length words → belowFrom area words 0 (prefixOf area words i (nthRow words i .len)) i ≡ anyOf (λ q. below (nthName area words i) (q .name)) (rowsAt area words)
+below-anywhere {area} {words} x i g =
+    scan-whole begins 0 (shares-less x i g) ∙ rw (prefix-whole area words i) (any-row area (nthName area words i) words)
   where
-    begins : Begins area words (replicate n true) i (nthRow words i .len)
-    begins = record { indexed = x; row = g; within = le-refl _; marked = omega (arith, length-replicate n true) }
+    begins : Begins area words i (nthRow words i .len)
+    begins = record { indexed = x; row = g; within = le-refl _ }
 
 -- a test of every row, from row i on
 module _ (f : Row → Bool) (area words : List ℕ) (i : ℕ) where

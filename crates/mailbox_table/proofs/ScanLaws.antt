@@ -1,83 +1,147 @@
--- The scan: what row k says of the rows from there on, in the words of the code's tests.
-use mathlib.Core.Path.{_≡_, sym, _∙_, subst}
+-- The scan: what row k says of the rows from there on, in the words of the code's tests; and what marks leave of a word.
+use mathlib.Core.Path.{_≡_, refl, sym, ap, _∙_, subst}
 use mathlib.Core.Bool.{Bool, true, false, _&&_, _||_}
-use mathlib.Core.List.{List, []}
-use Prim.Native.Nat.{ℕ, _+_, _-_, _≤_, _<_}
+use mathlib.Core.List.{List, [], _∷_}
+use Prim.Native.Nat.{ℕ, zero, suc, _+_, _-_, _/_, _%_, _≤_, _<_}
+use native.Mathlib.Numerals.{add-one}
 use native.Mathlib.Omega.{arith}
 use lib.Dec.{eqb}
-use lib.ListN.{length, drop, getD, length-take}
-use Rattle.listing_rules.specs.Orders.{ascendsFrom}
+use lib.ListN.{length, drop, getD, length-take, drop-of-length-le}
+use lib.Seq.{drop-cons}
+use Rattle.listing_rules.specs.Lists.{anyOf}
+use Rattle.listing_rules.specs.Orders.{byteOrder, isLt, ascendsFrom}
+use Rattle.listing_rules.specs.Names.{below}
 use Rattle.listing_rules.specs.Table.{names}
+use Rattle.octets.specs.Sets.{contains}
+use Rattle.mailbox_table.specs.Words.{rowOfWord}
 use Rattle.mailbox_table.specs.Shared.{sharedLen}
-use Rattle.mailbox_table.specs.Index.{nthRow, nthName, rowsAt}
-use Rattle.mailbox_table.specs.Below.{markedBelow, belowFrom, prefixOf, Begins}
-use Rattle.mailbox_table.proofs.BelowLaws.{starts, starts-take, starts-on, starts-below, Behind, behind-below, behind-byte, behind-shared, behind-rest, ascends-from, marked-at, marked-end, marked-whole}
+use Rattle.mailbox_table.specs.Index.{nameAt, nthRow, nthName, rowsAt}
+use Rattle.mailbox_table.specs.Below.{marksOf, withMarks, markedBelow, belowFrom, prefixOf, Begins}
+use Rattle.listing_rules.proofs.Bools.{and-l, and-r}
+use Rattle.mailbox_table.proofs.BelowLaws.{starts, starts-take, starts-on, starts-below, Behind, behind-below, behind-byte, behind-shared, behind-on, ascends-from, earlier-below}
 use Rattle.mailbox_table.proofs.IndexLaws.{names-length, name-at, name-length, names-ascend, shared-at}
 
-module _ {area words : List ℕ} {marks : List Bool} {i len : ℕ} (b : Begins area words marks i len) where
+-- a marked word has its marks, and tells its row
+pub marks-with : (m w : ℕ) → m < 65536 → marksOf (withMarks m w) ≡ m
+unfolding marksOf withMarks
+marks-with m w h = omega arith
+
+pub row-with : (m w : ℕ) → rowOfWord (withMarks m w) ≡ rowOfWord w
+unfolding rowOfWord withMarks
+row-with m w = λ i. record { flags = record { bits = flags i }; start = start i; len = size i; shared = shared i }
+  where
+    v : ℕ
+    v = withMarks m w
+
+    flags : v % 65536 ≡ w % 65536
+    flags = omega arith
+
+    start : v / 65536 % 65536 ≡ w / 65536 % 65536
+    start = omega arith
+
+    size : v / 4294967296 % 256 ≡ w / 4294967296 % 256
+    size = omega arith
+
+    shared : v / 1099511627776 % 256 ≡ w / 1099511627776 % 256
+    shared = omega arith
+
+-- words that a test passes over
+any-drop : (f : ℕ → Bool) (ws : List ℕ) (i : ℕ) → ((k : ℕ) → k < i → f (getD ws k 0) ≡ false) → anyOf f ws ≡ anyOf f (drop i ws)
+unfolding anyOf
+any-drop f ws zero h = refl
+any-drop f [] (suc i) h = refl
+any-drop f (w ∷ ws) (suc i) h = rw (h 0 (omega arith)) (any-drop f ws i (λ k g. h (suc k) (omega arith)))
+
+-- the names of the words from a place on
+names-drop : (area ws : List ℕ) (n : ℕ) → drop n (names (rowsAt area ws)) ≡ names (rowsAt area (drop n ws))
+unfolding names
+names-drop area ws zero = refl
+names-drop area [] (suc n) = refl
+names-drop area (w ∷ ws) (suc n) = names-drop area ws n
+
+-- nothing below p follows a name after all that lies below p
+after-rest : (area : List ℕ) (m : ℕ) (p c ws : List ℕ) → Behind p c → ascendsFrom c (names (rowsAt area ws)) ≡ true → anyOf (markedBelow area m p) ws ≡ false
+unfolding anyOf names ascendsFrom
+after-rest area m p c [] e l = refl
+after-rest area m p c (w ∷ ws) e l =
+    let n = nameAt area w in
+    let k : Behind p n = behind-on p c n e (and-l (isLt (byteOrder c n)) (ascendsFrom n (names (rowsAt area ws))) l) in
+    rw (behind-below p n k) (after-rest area m p n ws k (and-r (isLt (byteOrder c n)) (ascendsFrom n (names (rowsAt area ws))) l))
+
+module _ {area words : List ℕ} {i len : ℕ} (b : Begins area words i len) where
   abbrev p : List ℕ
   p = prefixOf area words i len
 
   pub prefix-length : length (prefixOf area words i len) ≡ len
   prefix-length = simp length-take (omega (arith, name-length (b .indexed) i (b .row), b .within))
 
-  -- no row is left
-  pub scan-end : (k : ℕ) → length words ≤ k → belowFrom area words marks (prefixOf area words i len) k ≡ false
-  unfolding belowFrom
-  scan-end k h = marked-end p (names (rowsAt area words)) marks k (omega (arith, names-length area words))
+  module _ (m : ℕ) where
+    -- what is found from row k on
+    abbrev found : ℕ → Bool
+    found k = belowFrom area words m (prefixOf area words i len) k
 
-  module _ (k : ℕ) (h : k < length words) where
-    -- nothing from a row on that is behind all that lies below p
-    scan-behind : Behind (prefixOf area words i len) (nthName area words k) → belowFrom area words marks (prefixOf area words i len) k ≡ false
-    unfolding belowFrom
-    scan-behind e =
-        marked-at p (names (rowsAt area words)) marks k (omega (arith, names-length area words)) (omega (arith, b .marked))
-        ∙ rw (name-at area words k h, behind-below p (nthName area words k) e, behind-rest p (nthName area words k) (drop (k + 1) (names (rowsAt area words))) (drop (k + 1) marks) e ascend)
-      where
-        ascend : ascendsFrom (nthName area words k) (drop (k + 1) (names (rowsAt area words))) ≡ true
-        ascend =
-            subst (λ (n : List ℕ). ascendsFrom n (drop (k + 1) (names (rowsAt area words))) ≡ true) (name-at area words k h)
-            (ascends-from (names (rowsAt area words)) k (b .indexed .ascend) (omega (arith, names-length area words)))
+    -- no row is left
+    pub scan-end : (k : ℕ) → length words ≤ k → found k ≡ false
+    unfolding belowFrom anyOf
+    scan-end k h = rw (drop-of-length-le words h)
 
-    -- a row whose name begins with p, by the byte behind p
-    module _ (e : starts (prefixOf area words i len) (nthName area words k) ≡ true) where
-      pub scan-byte : 47 < getD (nthName area words k) len 0 → belowFrom area words marks (prefixOf area words i len) k ≡ false
-      scan-byte g = scan-behind (behind-byte p (nthName area words k) e (subst (λ (n : ℕ). 47 < getD (nthName area words k) n 0) (sym prefix-length) g))
+    module _ (k : ℕ) (h : k < length words) where
+      abbrev name : List ℕ
+      name = nthName area words k
 
-      scan-at : belowFrom area words marks (prefixOf area words i len) k ≡ ((eqb (getD (nthName area words k) len 0) 47 && getD marks k false) || belowFrom area words marks (prefixOf area words i len) (k + 1))
+      scan-row : found k ≡ ((below p name && contains (marksOf (getD words k 0)) m) || found (k + 1))
+      unfolding belowFrom anyOf
+      scan-row = rw (add-one k, drop-cons words k 0 h)
+
+      -- nothing from a row on that is after all that lies below p
+      scan-after : Behind p name → found k ≡ false
       unfolding belowFrom
-      scan-at =
-          marked-at p (names (rowsAt area words)) marks k (omega (arith, names-length area words)) (omega (arith, b .marked))
-          ∙ rw (name-at area words k h, starts-below p (nthName area words k) e, prefix-length)
+      scan-after e = scan-row ∙ rw (behind-below p name e) (after-rest area m p name (drop (k + 1) words) e ascend)
+        where
+          ascend : ascendsFrom name (names (rowsAt area (drop (k + 1) words))) ≡ true
+          ascend =
+              rw (← names-drop area words (k + 1), ← name-at area words k h)
+              (ascends-from (names (rowsAt area words)) k (b .indexed .ascend) (omega (arith, names-length area words)))
 
-      pub scan-found : (eqb (getD (nthName area words k) len 0) 47 && getD marks k false) ≡ true → belowFrom area words marks (prefixOf area words i len) k ≡ true
-      scan-found f = scan-at ∙ rw f
+      -- a row whose name begins with p, by the byte after p
+      module _ (e : starts (prefixOf area words i len) (nthName area words k) ≡ true) where
+        pub scan-byte : 47 < getD (nthName area words k) len 0 → found k ≡ false
+        scan-byte g = scan-after (behind-byte p name e (subst (λ (n : ℕ). 47 < getD name n 0) (sym prefix-length) g))
 
-      pub scan-on : (eqb (getD (nthName area words k) len 0) 47 && getD marks k false) ≡ false → belowFrom area words marks (prefixOf area words i len) k ≡ belowFrom area words marks (prefixOf area words i len) (k + 1)
-      scan-on f = scan-at ∙ rw f
+        scan-at : found k ≡ ((eqb (getD name len 0) 47 && contains (marksOf (getD words k 0)) m) || found (k + 1))
+        scan-at = scan-row ∙ rw (starts-below p name e, prefix-length)
 
-    -- a row behind one whose name begins with p, by what the two share
-    module _ (g : 1 ≤ k) (e : starts (prefixOf area words i len) (nthName area words (k - 1)) ≡ true) where
-      pub scan-shared : nthRow words k .shared < len → belowFrom area words marks (prefixOf area words i len) k ≡ false
-      scan-shared l =
-          scan-behind
-          (behind-shared p (nthName area words (k - 1)) (nthName area words k) e (names-ascend (b .indexed) (k - 1) k (omega arith) h) (omega (arith, prefix-length, shared-at (b .indexed) k g h)))
+        pub scan-found : (eqb (getD (nthName area words k) len 0) 47 && contains (marksOf (getD words k 0)) m) ≡ true → found k ≡ true
+        scan-found f = scan-at ∙ rw f
 
-      pub starts-next : len ≤ nthRow words k .shared → starts (prefixOf area words i len) (nthName area words k) ≡ true
-      starts-next l = starts-on p (nthName area words (k - 1)) (nthName area words k) e (omega (arith, prefix-length, shared-at (b .indexed) k g h))
+        pub scan-on : (eqb (getD (nthName area words k) len 0) 47 && contains (marksOf (getD words k 0)) m) ≡ false → found k ≡ found (k + 1)
+        scan-on f = scan-at ∙ rw f
 
-  -- A row that shares less than `len` bytes with the row before is the first whose name begins with p: what is found from there on
-  -- is all that is found.
-  pub scan-whole : nthRow words i .shared < len → belowFrom area words marks (prefixOf area words i len) i ≡ markedBelow (prefixOf area words i len) (names (rowsAt area words)) marks
-  unfolding belowFrom
-  scan-whole h =
-      sym
-      (marked-whole p (names (rowsAt area words)) marks i (b .indexed .ascend) (omega (arith, b .row, names-length area words))
-      (rw (name-at area words i (b .row)) (starts-take len (nthName area words i)))
-      less)
-    where
-      less : (k : ℕ) → k + 1 ≡ i → sharedLen (getD (names (rowsAt area words)) k []) (getD (names (rowsAt area words)) i []) < length (prefixOf area words i len)
-      less k e =
-          let d : i - 1 ≡ k = omega arith in
-          rw (name-at area words k (omega (arith, b .row)), name-at area words i (b .row))
-          (omega (arith, prefix-length, rw d at (shared-at (b .indexed) i (omega arith) (b .row))))
+      -- a row after one whose name begins with p, by what the two share
+      module _ (g : 1 ≤ k) (e : starts (prefixOf area words i len) (nthName area words (k - 1)) ≡ true) where
+        pub scan-shared : nthRow words k .shared < len → found k ≡ false
+        scan-shared l =
+            scan-after
+            (behind-shared p (nthName area words (k - 1)) name e (names-ascend (b .indexed) (k - 1) k (omega arith) h) (omega (arith, prefix-length, shared-at (b .indexed) k g h)))
+
+        pub starts-next : len ≤ nthRow words k .shared → starts (prefixOf area words i len) (nthName area words k) ≡ true
+        starts-next l = starts-on p (nthName area words (k - 1)) name e (omega (arith, prefix-length, shared-at (b .indexed) k g h))
+
+    -- A row that shares less than `len` bytes with the row before is the first whose name begins with p: what is found from there on
+    -- is all that is found.
+    pub scan-whole : nthRow words i .shared < len → belowFrom area words m (prefixOf area words i len) i ≡ anyOf (markedBelow area m (prefixOf area words i len)) words
+    unfolding belowFrom
+    scan-whole h = sym (any-drop (markedBelow area m p) words i (λ k g. rw (other k g)))
+      where
+        less : (k : ℕ) → k + 1 ≡ i → sharedLen (getD (names (rowsAt area words)) k []) (getD (names (rowsAt area words)) i []) < length p
+        less k e =
+            let d : i - 1 ≡ k = omega arith in
+            rw (name-at area words k (omega (arith, b .row)), name-at area words i (b .row))
+            (omega (arith, prefix-length, rw d at (shared-at (b .indexed) i (omega arith) (b .row))))
+
+        other : (k : ℕ) → k < i → below p (nthName area words k) ≡ false
+        other k g =
+            rw (← name-at area words k (omega (arith, b .row)))
+            (earlier-below p (names (rowsAt area words)) i (b .indexed .ascend) (omega (arith, b .row, names-length area words))
+            (rw (name-at area words i (b .row)) (starts-take len (nthName area words i)))
+            less k g)

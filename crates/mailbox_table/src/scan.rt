@@ -1,36 +1,61 @@
-// Which rows lie below a name, without looking at rows that cannot.
+// Which rows lie below a name, without looking at rows that cannot; and the marks by which a caller tells the rows it looks for.
 //
 // The names ascend, so those that begin with the name stand together, and the shared lengths of the index say where they end.
-// Among them "Foo-x" stands before "Foo/x", and all that stands behind "Foo/x" without a slash there ends the search.
+// Among them "Foo-x" stands before "Foo/x", and all that stands after "Foo/x" without a slash there ends the search.
 use super::rows::Row;
 use super::rows::name_of;
 use octets::SLASH;
 use octets::byte_at;
 ghost use mathlib.Core.Path.{_≡_};
 ghost use Prim.Native.Nat.{_+_};
-ghost use Rattle.mailbox_table.specs.Below.{prefixOf, belowFrom, Begins};
+ghost use Rattle.octets.specs.Sets.{contains};
+ghost use Rattle.mailbox_table.specs.Below.{marksOf, withMarks, prefixOf, belowFrom, Begins};
 
-// Whether some marked row from row i on lies below the first `len` bytes of row i's name. Called by this crate's check and by
-// `list_answer` alone, over words that `index` made, whose promise is the first requirement.
-pub fn some_below(area: &[u8], words: &[u64], marks: &[bool], i: usize, len: usize) -> bool
-    requires { ⌜ Begins (now area) (now words) (now marks) i len ⌝ }
-    ensures { λ r. ⌜ r ≡ belowFrom (now (area .entry)) (now (words .entry)) (now (marks .entry))
+// The bits of a word below this tell its row, those above it are free for marks.
+const MARKS: u64 = 281474976710656;
+
+// What the row of a word is marked with: a set of members that the caller names.
+pub fn marks_of(word: u64) -> u16
+    ensures { λ r. ⌜ r ≡ marksOf word ⌝ }
+{
+    (word / MARKS % 65536) as u16
+}
+
+// The word of the same row with these marks.
+pub fn with_marks(word: u64, marks: u16) -> u64
+    ensures { λ r. ⌜ r ≡ withMarks marks word ⌝ }
+{
+    word % MARKS + MARKS * (marks as u64)
+}
+
+// Whether the row of a word has all of these marks, as every row has where none is asked.
+fn is_marked(word: u64, marks: u16) -> bool
+    ensures { λ r. ⌜ r ≡ contains (marksOf word) marks ⌝ }
+{
+    marks_of(word) & marks == marks
+}
+
+// Whether some row from row i on lies below the first `len` bytes of row i's name and has all of these marks. Called by this crate's
+// check and by `list_answer` alone, over words that `index` made, whose promise is the requirement.
+pub fn some_below(area: &[u8], words: &[u64], marks: u16, i: usize, len: usize) -> bool
+    requires { ⌜ Begins (now area) (now words) i len ⌝ }
+    ensures { λ r. ⌜ r ≡ belowFrom (now (area .entry)) (now (words .entry)) marks
         (prefixOf (now (area .entry)) (now (words .entry)) i len) i ⌝ }
 {
     let own = byte_at(name_of(area, Row::of_word(words[i])), len);
     if SLASH < own {
         return false;
     }
-    if (own == SLASH) & marks[i] {
+    if (own == SLASH) & is_marked(words[i], marks) {
         return true;
     }
-    some_behind(area, words, marks, i, len)
+    some_after(area, words, marks, i, len)
 }
 
-// The same for the rows behind row i.
-fn some_behind(area: &[u8], words: &[u64], marks: &[bool], i: usize, len: usize) -> bool
-    requires { ⌜ Begins (now area) (now words) (now marks) i len ⌝ }
-    ensures { λ r. ⌜ r ≡ belowFrom (now (area .entry)) (now (words .entry)) (now (marks .entry))
+// The same for the rows after row i.
+fn some_after(area: &[u8], words: &[u64], marks: u16, i: usize, len: usize) -> bool
+    requires { ⌜ Begins (now area) (now words) i len ⌝ }
+    ensures { λ r. ⌜ r ≡ belowFrom (now (area .entry)) (now (words .entry)) marks
         (prefixOf (now (area .entry)) (now (words .entry)) i len) (i + 1) ⌝ }
 {
     let mut k = i + 1;
@@ -43,7 +68,7 @@ fn some_behind(area: &[u8], words: &[u64], marks: &[bool], i: usize, len: usize)
         if SLASH < b {
             return false;
         }
-        if (b == SLASH) & marks[k] {
+        if (b == SLASH) & is_marked(words[k], marks) {
             return true;
         }
         k += 1;

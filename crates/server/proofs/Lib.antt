@@ -1,4 +1,3 @@
--- Laws of the server: the refusals in order, and what a listing's patterns are.
-pub mod Patterns
-pub mod Order
-pub mod Tables
+-- Laws of the server: what it relies on of its inputs, and the refusals in order.
+mod Inputs
+mod Order

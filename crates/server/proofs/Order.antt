@@ -1,19 +1,14 @@
--- The refusals in document 01's order.
+-- The refusals in document 01's order, and the reply to a command by its kind. Rests on Inputs.
 use mathlib.Core.Path.{_≡_, refl, sym, ap, subst, _∙_}
-use mathlib.Core.Bool.{Bool, true, false, cond, _&&_}
-use mathlib.Core.List.{List, [], _++_}
-use Prim.Native.Nat.{ℕ, _≤_, _<_, _-_}
-use native.Mathlib.Omega.{arith}
-use lib.Dec.{leb}
-use lib.ListN.{length, take, drop}
-use lib.Seq.{drop-length, take-nil}
-use borrow.Author.Tests.{le-leb, lt-leb}
-use Rattle.listing_rules.specs.Table.{Row, rows, passes}
-use Rattle.listing_rules.specs.Namespaces.{Entry, entries, namespacesPass}
-use Rattle.listing_rules.specs.Command.{Parsed, parsed}
-use Rattle.listing_rules.specs.Lines.{rootLine, okLine}
-use Rattle.listing_rules.specs.Server.{refusal, answered, answer, answerTo, limited, served, bufferAfter, listAnswer, namespaceAnswer}
-use Rattle.octets.specs.Written.{writtenIs}
+use mathlib.Core.Bool.{true, false}
+use mathlib.Core.List.{List}
+use Prim.Native.Nat.{ℕ}
+use lib.ListN.{length}
+use Rattle.listing_rules.specs.Table.{rows, passes}
+use Rattle.listing_rules.specs.Namespaces.{entries, namespacesPass}
+use Rattle.listing_rules.specs.Command.{parsed}
+use Rattle.listing_rules.specs.Server.{Reply, refusal, answer, answerTo, limited, served, bufferAfter}
+use Rattle.octets.specs.Written.{writtenIs, Gives}
 use Rattle.octets.specs.declared.Written.{Written}
 use Rattle.octets.specs.declared.Written.the-variants.{Refused}
 use Rattle.command_line.specs.declared.Kind.{Kind}
@@ -21,13 +16,13 @@ use Rattle.command_line.specs.declared.Kind.the-variants.{Root, Namespace, List
 use Rattle.command_line.specs.declared.Command.{Command}
 use Rattle.command_line.specs.OptionSets.{optionsIs}
 use Rattle.command_line.specs.Commands.{meaning, meaningAs, patternsOf}
-use Rattle.command_line.specs.declared.Span.{Span}
-use Rattle.command_line.specs.Spans.{rawBytes, spanBytes, Lies}
-use Rattle.server.specs.Spans.{partOf}
-use Rattle.server.proofs.Patterns.{Few, listing-few}
+use Rattle.command_line.specs.Spans.{spanBytes}
+use Rattle.mailbox_table.specs.Index.{rowsAt}
+use Rattle.server.specs.Replies.{commandReply, spacesReply, rootReply, listingReply, Few}
+use Rattle.server.proofs.Inputs.{listing-few}
 
 -- a number of refusal, and no byte changed
-pub refused-with : (k : ℕ) (d : List ℕ) → (Refused k ≡ writtenIs (limited (length d) (refusal k))) × (d ≡ bufferAfter d (limited (length d) (refusal k)))
+pub refused-with : (k : ℕ) (d : List ℕ) → Gives (refusal k) d d (Refused k)
 unfolding limited writtenIs bufferAfter
 refused-with k d = (refl, refl)
 
@@ -44,58 +39,30 @@ module _ (t s l d : List ℕ) where
   unfolding served answer
   served-on e f = rw (e, f)
 
--- a span that lies inside the line and is not quoted
-pub part-span : (s : List ℕ) (t : Span) → Lies s t → t .quoted ≡ false → partOf s t ≡ spanBytes s t
-unfolding partOf spanBytes rawBytes
-part-span s t l e = rw (le-leb (t .end) (length s) (l .inside), le-leb (t .start) (t .end) (l .order), e)
-
--- no part where the places are not in the line
-module _ (s : List ℕ) (t : Span) where
-  pub part-out : length s < t .end → [] ≡ partOf s t
-  unfolding partOf
-  part-out h = rw (lt-leb (t .end) (length s) h)
-
-  pub part-turned : t .end ≤ length s → t .end < t .start → [] ≡ partOf s t
-  unfolding partOf
-  part-turned h g = rw (le-leb (t .end) (length s) h, lt-leb (t .start) (t .end) g)
-
-  pub part-here : t .end ≤ length s → t .start ≤ t .end → take (t .end - t .start) (drop (t .start) s) ≡ partOf s t
-  unfolding partOf
-  part-here h g = rw (le-leb (t .end) (length s) h, le-leb (t .start) (t .end) g)
-
-pub nothing : (s : List ℕ) → take (length s - length s) (drop (length s) s) ≡ []
-nothing s = ap (take (length s - length s)) (drop-length s) ∙ take-nil (length s - length s)
-
--- What a reply to a command that was read leaves, by the command's kind
-
-abbrev pub Replies : List Row → List Entry → List ℕ → Parsed → Written → List ℕ → Type 0
-Replies rs es d p w e = (w ≡ writtenIs (limited (length d) (answerTo rs es p))) × (e ≡ bufferAfter d (limited (length d) (answerTo rs es p)))
-
-module _ (rs : List Row) (es : List Entry) (d l : List ℕ) (c : Command) (m : meaning l c ≡ parsed l) where
-  kind-is : (k : Kind) → c .kind ≡ k → parsed l ≡ meaningAs k l c
+-- The reply to a command that was read, by its kind
+module _ (area words namespaces l : List ℕ) (c : Command) (m : meaning l c ≡ parsed l) where
+  reply-as : (k : Kind) → c .kind ≡ k → answerTo (rowsAt area words) (entries namespaces) (meaningAs k l c) ≡ commandReply area words namespaces l
   unfolding meaning
-  kind-is k e = sym m ∙ ap (λ (q : Kind). meaningAs q l c) e
+  reply-as k e = ap (answerTo (rowsAt area words) (entries namespaces)) (ap (λ (q : Kind). meaningAs q l c) (sym e) ∙ m)
 
-  pub reply-refused : (k : ℕ) → c .kind ≡ Refusal k → Replies rs es d (parsed l) (Refused k) d
+  pub reply-refused : (k : ℕ) → c .kind ≡ Refusal k → refusal k ≡ commandReply area words namespaces l
   unfolding answerTo meaningAs
-  reply-refused k e = subst (λ (p : Parsed). Replies rs es d p (Refused k) d) (sym (kind-is (Refusal k) e)) (refused-with k d)
+  reply-refused k e = reply-as (Refusal k) e
 
-  module _ (tag : List ℕ) (t : tag ≡ spanBytes l (c .tag)) (w : Written) (e : List ℕ) where
-    pub reply-namespaces : c .kind ≡ Namespace → (w ≡ writtenIs (limited (length d) (answered (namespaceAnswer es tag)))) × (e ≡ bufferAfter d (limited (length d) (answered (namespaceAnswer es tag)))) → Replies rs es d (parsed l) w e
+  module _ (tag : List ℕ) (t : tag ≡ spanBytes l (c .tag)) where
+    pub reply-spaces : c .kind ≡ Namespace → spacesReply namespaces tag ≡ commandReply area words namespaces l
     unfolding answerTo meaningAs
-    reply-namespaces k h =
-        subst (λ (p : Parsed). Replies rs es d p w e) (sym (kind-is Namespace k)) (subst (λ (g : List ℕ). (w ≡ writtenIs (limited (length d) (answered (namespaceAnswer es g)))) × (e ≡ bufferAfter d (limited (length d) (answered (namespaceAnswer es g))))) t h)
+    reply-spaces e = ap (spacesReply namespaces) t ∙ reply-as Namespace e
 
-    pub reply-root : c .kind ≡ Root → (w ≡ writtenIs (limited (length d) (answered (rootLine ++ okLine tag)))) × (e ≡ bufferAfter d (limited (length d) (answered (rootLine ++ okLine tag)))) → Replies rs es d (parsed l) w e
+    pub reply-root : c .kind ≡ Root → rootReply tag ≡ commandReply area words namespaces l
     unfolding answerTo meaningAs
-    reply-root k h =
-        subst (λ (p : Parsed). Replies rs es d p w e) (sym (kind-is Root k)) (subst (λ (g : List ℕ). (w ≡ writtenIs (limited (length d) (answered (rootLine ++ okLine g)))) × (e ≡ bufferAfter d (limited (length d) (answered (rootLine ++ okLine g))))) t h)
+    reply-root e = ap rootReply t ∙ reply-as Root e
 
-    pub reply-list : c .kind ≡ Listing → (w ≡ writtenIs (limited (length d) (answered (listAnswer rs tag (optionsIs (c .options)) (patternsOf l c))))) × (e ≡ bufferAfter d (limited (length d) (answered (listAnswer rs tag (optionsIs (c .options)) (patternsOf l c))))) → Replies rs es d (parsed l) w e
+    pub reply-list : c .kind ≡ Listing → listingReply area words l c tag ≡ commandReply area words namespaces l
     unfolding answerTo meaningAs
-    reply-list k h =
-        subst (λ (p : Parsed). Replies rs es d p w e) (sym (kind-is Listing k)) (subst (λ (g : List ℕ). (w ≡ writtenIs (limited (length d) (answered (listAnswer rs g (optionsIs (c .options)) (patternsOf l c))))) × (e ≡ bufferAfter d (limited (length d) (answered (listAnswer rs g (optionsIs (c .options)) (patternsOf l c)))))) t h)
+    reply-list e = ap (listingReply area words l c) t ∙ reply-as Listing e
 
+  -- what a listing asks for is few and short
   pub list-few : c .kind ≡ Listing → Few (patternsOf l c)
-  unfolding meaningAs
-  list-few k = listing-few l (spanBytes l (c .tag)) (optionsIs (c .options)) (patternsOf l c) (kind-is Listing k)
+  unfolding meaning meaningAs
+  list-few e = listing-few l (spanBytes l (c .tag)) (optionsIs (c .options)) (patternsOf l c) (sym m ∙ ap (λ (q : Kind). meaningAs q l c) e)

@@ -10,42 +10,40 @@ use mailbox_table::Indexing;
 use mailbox_table::index;
 use mailbox_table::no_words;
 use octets::Written;
+use octets::refusals::NAMESPACES;
+use octets::refusals::TABLE;
 use replies::span_of;
 use replies::write_listing;
 use replies::write_namespaces;
 use replies::write_root;
 ghost use mathlib.Core.Path.{_≡_};
-ghost use Prim.Native.Nat.{_≤_};
-ghost use lib.ListN.{length};
-ghost use Rattle.listing_rules.specs.Namespaces.{entries};
-ghost use Rattle.listing_rules.specs.Command.{parsed};
-ghost use Rattle.listing_rules.specs.Server.{answerTo, limited, bufferAfter, served};
-ghost use Rattle.octets.specs.Written.{writtenIs};
-ghost use Rattle.mailbox_table.specs.Index.{Indexed, rowsAt};
-ghost use Rattle.list_answer.specs.Shown.{Lawful};
+ghost use Rattle.listing_rules.specs.Server.{bufferAfter, served};
+ghost use Rattle.octets.specs.Written.{writtenIs, Gives};
+ghost use Rattle.list_answer.specs.Index.{Index};
+ghost use Rattle.server.specs.Replies.{commandReply};
 
 // The answer to one command at the front of `out`, and its length; or the number of its refusal.
 pub fn answer(table: &[u8], namespaces: &[u8], line: &[u8], out: &mut [u8]) -> Written
     ensures result { λ r. ⌜ r ≡ writtenIs (served (now (table .entry)) (now (namespaces .entry)) (now (line .entry)) (now (out .entry))) ⌝ }
-    ensures bytes { λ _. ⌜ now (out .exit) ≡ bufferAfter (now (out .entry)) (served (now (table .entry)) (now (namespaces .entry)) (now (line .entry)) (now (out .entry))) ⌝ }
+    ensures bytes { λ _. ⌜ now (out .exit) ≡ bufferAfter (now (out .entry))
+        (served (now (table .entry)) (now (namespaces .entry)) (now (line .entry)) (now (out .entry))) ⌝ }
 {
     let mut words = no_words();
     let Indexing::Rows(n) = index(table, &mut words) else {
-        return Written::Refused(1);
+        return Written::Refused(TABLE);
     };
     if !namespace_list::check(namespaces) {
-        return Written::Refused(2);
+        return Written::Refused(NAMESPACES);
     }
     respond(table, &words[..n], namespaces, line, out)
 }
 
 // The same where the table and the namespace list pass: the refusals 3 to 9, over the index of the table.
 fn respond(area: &[u8], words: &[u64], namespaces: &[u8], line: &[u8], out: &mut [u8]) -> Written
-    requires { ⌜ Indexed (now area) (now words) ⌝ }
-    requires { ⌜ length (now words) ≤ 512 ⌝ }
-    requires { ⌜ Lawful (rowsAt (now area) (now words)) ⌝ }
-    ensures result { λ r. ⌜ r ≡ writtenIs (limited (length (now (out .entry))) (answerTo (rowsAt (now (area .entry)) (now (words .entry))) (entries (now (namespaces .entry))) (parsed (now (line .entry))))) ⌝ }
-    ensures bytes { λ _. ⌜ now (out .exit) ≡ bufferAfter (now (out .entry)) (limited (length (now (out .entry))) (answerTo (rowsAt (now (area .entry)) (now (words .entry))) (entries (now (namespaces .entry))) (parsed (now (line .entry))))) ⌝ }
+    requires { ⌜ Index (now area) (now words) ⌝ }
+    ensures { λ r. ⌜ Gives
+        (commandReply (now (area .entry)) (now (words .entry)) (now (namespaces .entry)) (now (line .entry)))
+        (now (out .entry)) (now (out .exit)) r ⌝ }
 {
     let command = read_command(line);
     let kind = command.kind;

@@ -7,25 +7,15 @@ use list_line::put_ok_line;
 use list_line::put_root_line;
 use namespace_list::put_namespaces;
 use octets::Written;
+use octets::refusals::SHORT_BUFFER;
 ghost use mathlib.Core.Path.{_≡_};
-ghost use mathlib.Core.Bool.{true};
-ghost use mathlib.Core.List.{_++_};
-ghost use Prim.Native.Nat.{_≤_, _-_};
-ghost use lib.Dec.{leb};
-ghost use lib.ListN.{length, take, drop, replicate};
-ghost use Rattle.listing_rules.specs.Lists.{every};
-ghost use Rattle.listing_rules.specs.Namespaces.{entries};
-ghost use Rattle.listing_rules.specs.Lines.{rootLine, okLine};
-ghost use Rattle.listing_rules.specs.Server.{answered, limited, bufferAfter, listAnswer, namespaceAnswer};
+ghost use lib.ListN.{replicate};
 ghost use Rattle.octets.specs.Put.{Put};
-ghost use Rattle.octets.specs.Written.{writtenIs};
-ghost use Rattle.command_line.specs.OptionSets.{optionsIs};
-ghost use Rattle.command_line.specs.Commands.{patternsOf, short};
-ghost use Rattle.mailbox_table.specs.Index.{Indexed, rowsAt};
-ghost use Rattle.list_answer.specs.Shown.{Lawful};
+ghost use Rattle.octets.specs.Written.{Gives};
+ghost use Rattle.command_line.specs.Commands.{patternsOf};
+ghost use Rattle.list_answer.specs.Index.{Index};
 ghost use Rattle.server.specs.Spans.{partOf};
-
-const SHORT_BUFFER: u8 = 9;
+ghost use Rattle.server.specs.Replies.{spacesText, spacesReply, rootText, rootReply, listingReply, Few};
 
 // The bytes of a span that is not quoted, as far as the line goes.
 pub(crate) fn span_of(line: &[u8], span: Span) -> &[u8]
@@ -45,15 +35,14 @@ pub(crate) fn span_of(line: &[u8], span: Span) -> &[u8]
 
 // The NAMESPACE answer.
 fn put_spaces(buf: &mut [u8], namespaces: &[u8], tag: &[u8]) -> usize
-    ensures { λ r. ⌜ Put (now (buf .entry)) (now (buf .exit)) 0 (namespaceAnswer (entries (now (namespaces .entry))) (now (tag .entry))) r ⌝ }
+    ensures { λ r. ⌜ Put (now (buf .entry)) (now (buf .exit)) 0 (spacesText (now (namespaces .entry)) (now (tag .entry))) r ⌝ }
 {
     let to = put_namespaces(buf, 0, namespaces);
     put_ok_line(buf, to, tag)
 }
 
 pub(crate) fn write_namespaces(namespaces: &[u8], tag: &[u8], out: &mut [u8]) -> Written
-    ensures result { λ r. ⌜ r ≡ writtenIs (limited (length (now (out .entry))) (answered (namespaceAnswer (entries (now (namespaces .entry))) (now (tag .entry))))) ⌝ }
-    ensures bytes { λ _. ⌜ now (out .exit) ≡ bufferAfter (now (out .entry)) (limited (length (now (out .entry))) (answered (namespaceAnswer (entries (now (namespaces .entry))) (now (tag .entry))))) ⌝ }
+    ensures { λ r. ⌜ Gives (spacesReply (now (namespaces .entry)) (now (tag .entry))) (now (out .entry)) (now (out .exit)) r ⌝ }
 {
     let mut none = [0u8; 0];
     let need = put_spaces(&mut none, namespaces, tag);
@@ -66,15 +55,14 @@ pub(crate) fn write_namespaces(namespaces: &[u8], tag: &[u8], out: &mut [u8]) ->
 
 // The root line and the tagged line.
 fn put_root(buf: &mut [u8], tag: &[u8]) -> usize
-    ensures { λ r. ⌜ Put (now (buf .entry)) (now (buf .exit)) 0 (rootLine ++ okLine (now (tag .entry))) r ⌝ }
+    ensures { λ r. ⌜ Put (now (buf .entry)) (now (buf .exit)) 0 (rootText (now (tag .entry))) r ⌝ }
 {
     let to = put_root_line(buf, 0);
     put_ok_line(buf, to, tag)
 }
 
 pub(crate) fn write_root(tag: &[u8], out: &mut [u8]) -> Written
-    ensures result { λ r. ⌜ r ≡ writtenIs (limited (length (now (out .entry))) (answered (rootLine ++ okLine (now (tag .entry))))) ⌝ }
-    ensures bytes { λ _. ⌜ now (out .exit) ≡ bufferAfter (now (out .entry)) (limited (length (now (out .entry))) (answered (rootLine ++ okLine (now (tag .entry))))) ⌝ }
+    ensures { λ r. ⌜ Gives (rootReply (now (tag .entry))) (now (out .entry)) (now (out .exit)) r ⌝ }
 {
     let mut none = [0u8; 0];
     let need = put_root(&mut none, tag);
@@ -101,13 +89,11 @@ pub(crate) fn write_listing(
     tag: &[u8],
     out: &mut [u8],
 ) -> Written
-    requires { ⌜ Indexed (now area) (now words) ⌝ }
-    requires { ⌜ length (now words) ≤ 512 ⌝ }
-    requires { ⌜ Lawful (rowsAt (now area) (now words)) ⌝ }
-    requires { ⌜ every short (patternsOf (now line) command) ≡ true ⌝ }
-    requires { ⌜ length (patternsOf (now line) command) ≤ 8 ⌝ }
-    ensures result { λ r. ⌜ r ≡ writtenIs (limited (length (now (out .entry))) (answered (listAnswer (rowsAt (now (area .entry)) (now (words .entry))) (now (tag .entry)) (optionsIs (command .options)) (patternsOf (now (line .entry)) command)))) ⌝ }
-    ensures bytes { λ _. ⌜ now (out .exit) ≡ bufferAfter (now (out .entry)) (limited (length (now (out .entry))) (answered (listAnswer (rowsAt (now (area .entry)) (now (words .entry))) (now (tag .entry)) (optionsIs (command .options)) (patternsOf (now (line .entry)) command)))) ⌝ }
+    requires { ⌜ Index (now area) (now words) ⌝ }
+    requires { ⌜ Few (patternsOf (now line) command) ⌝ }
+    ensures { λ r. ⌜ Gives
+        (listingReply (now (area .entry)) (now (words .entry)) (now (line .entry)) command (now (tag .entry)))
+        (now (out .entry)) (now (out .exit)) r ⌝ }
 {
     let mut patterns = no_patterns();
     let end = put_patterns(line, command, &mut patterns);

@@ -1,23 +1,18 @@
+-- `list_answer::answer::first_length` meets its contract, way by way.
 use native.Mathlib.Omega.{arith}
 use borrow.Author.Needs.{needs}
 use Rattle.list_answer.proofs.answer.first_length.Statement.{statement}
 use Rattle.list_answer.proofs.answer.first_length.Tie as tie
-use Rattle.list_answer.proofs.answer.first_length.Reads as reads
-use Rattle.list_answer.proofs.answer.first_length.Lts as lts
 
--- src/answer.rt:65:9
 returns : tie.Need-returns
 returns c = search needs
 
--- src/answer.rt:68:9
 returns-2 : tie.Need-returns-2
 returns-2 c = rw (c .before .before .if1 .left) (omega arith)
 
--- src/answer.rt:70:5
 sub-result : tie.Need-sub-result
 sub-result c = search needs
 
--- src/answer.rt:61:1
 returns-3 : tie.Need-returns-3
 returns-3 c = rw (c .before .before .before .if1 .left)
 

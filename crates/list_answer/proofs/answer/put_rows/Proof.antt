@@ -1,88 +1,59 @@
-use mathlib.Core.Path.{_≡_, refl, sym, ap, _∙_, subst}
-use mathlib.Core.List.{List, [], _++_, map, append-assoc, append-nil}
+-- `list_answer::answer::put_rows` meets its contract: the text of the rows before row i is put. By RowTexts and Putting.
+use mathlib.Core.Path.{refl}
 use Prim.Native.Nat.{ℕ, _+_, _-_, _≤_}
-use lib.ListN.{length, getD}
-use Rattle.listing_rules.specs.Lists.{joined}
-use Rattle.octets.specs.Put.{Put}
-use Rattle.octets.proofs.Puts.{put-none, put-then, put-length}
-use Rattle.command_line.specs.OptionSets.{optionsIs}
-use Rattle.mailbox_table.specs.Words.{rowOfWord}
-use Rattle.mailbox_table.specs.Index.{nameAt, rowsAt}
-use Rattle.pattern.specs.Packed.{unpacked}
+use lib.ListN.{length}
+use Rattle.octets.proofs.Puts.{put-length}
 use Rattle.list_answer.specs.Prefixes.{prefixes}
-use Rattle.list_answer.specs.Shown.{shownText}
-use Rattle.list_answer.proofs.RowTexts.{beyond, textFrom, rows-step, rows-end}
-use borrow.Author.Needs.{needs}
+use Rattle.list_answer.specs.Shown.{textOf, rowText, rowsText}
+use Rattle.list_answer.proofs.RowTexts.{textFrom, rows-step, rows-end}
+use Rattle.list_answer.proofs.Putting.{Putting, putting-none, putting-more, putting-end}
 use native.Mathlib.Omega.{arith}
+use borrow.Author.Needs.{needs}
 use Rattle.list_answer.proofs.answer.put_rows.Statement.{statement}
 use Rattle.list_answer.proofs.answer.put_rows.Tie as tie
-use Rattle.list_answer.proofs.answer.put_rows.Reads as reads
-use Rattle.list_answer.proofs.answer.put_rows.Lts as lts
-use Rattle.list_answer.proofs.answer.put_row.Reads as put-row-reads
 
 abbrev Inv-loop : tie.InvT-loop
-Inv-loop buf₀ at area words meeting unmatched children patterns options levels to₀ i₀ buf to i =
-    (i ≤ length words) × ((acc : List ℕ) × Put buf₀ buf at acc to × (acc ++ textFrom (shownText (rowsAt area words) (optionsIs options) (unpacked patterns)) area words i ≡ joined (map (shownText (rowsAt area words) (optionsIs options) (unpacked patterns)) (prefixes (rowsAt area words)))))
+Inv-loop buf₀ at area words patterns question to₀ i₀ buf to i =
+    (i ≤ length words) × Putting buf₀ buf at to (textFrom (textOf area words patterns question) area words i) (rowsText area words patterns question)
 
 abbrev μ-loop : tie.MeasureT-loop
-μ-loop buf₀ at area words meeting unmatched children patterns options levels to₀ i₀ buf to i = length words - i
+μ-loop buf₀ at area words patterns question to₀ i₀ buf to i = length words - i
 
--- src/answer.rt:118:5
 loop-holds : tie.Need-loop-holds Inv-loop μ-loop
 unfolding prefixes
-loop-holds c = (omega arith, ([], put-none _ _ (search needs) (search needs), refl))
+loop-holds c = (omega arith, putting-none _ _ (search needs) (search needs) refl)
 
--- src/answer.rt:119:9
 put-row-requires : tie.Need-put-row-requires Inv-loop μ-loop
-put-row-requires c κs = (c .before .before .before .before .before .before .before .before .before .before .pre, c .before .loop-test .taken)
+put-row-requires c κs = search needs
 
--- src/answer.rt:120:9
 add-i : tie.Need-add-i Inv-loop μ-loop
 add-i c = search needs
 
--- src/answer.rt:118:5
 loop-less : tie.Need-loop-less Inv-loop μ-loop
 loop-less c = search needs
 
--- src/answer.rt:118:5
 loop-again : tie.Need-loop-again Inv-loop μ-loop
 loop-again c =
-    let area = c .before .before .before .before .before .before .before .before .before .before .before .before .before .args .area .now in
-    let words = c .before .before .before .before .before .before .before .before .before .before .before .before .before .args .words .now in
-    let meeting = c .before .before .before .before .before .before .before .before .before .before .before .before .before .args .meeting .now in
-    let unmatched = c .before .before .before .before .before .before .before .before .before .before .before .before .before .args .unmatched .now in
-    let children = c .before .before .before .before .before .before .before .before .before .before .before .before .before .args .children .now in
-    let patterns = c .before .before .before .before .before .before .before .before .before .before .before .before .before .args .patterns .now in
-    let options = c .before .before .before .before .before .before .before .before .before .before .before .before .before .args .options in
-    let levels = c .before .before .before .before .before .before .before .before .before .before .before .before .before .args .levels in
-    let R = c .before .before .before .before .before .before .before .before .before .before .before .before .before .pre in
-    let T = shownText (rowsAt area words) (optionsIs options) (unpacked patterns) in
-    let v = c .before .before .before .before .before .loop .inv .1 in
-    let i = c .before .before .before .before .before .loop .i in
-    let X = beyond T (nameAt area (getD words i 0)) (rowOfWord (getD words i 0) .shared) in (
-      omega arith,
-      (v .0 ++ X, put-then (v .1) (c .before .before .put-row .ensures), append-assoc (v .0) X (textFrom T area words (i + 1)) ∙ ap (λ (l : List ℕ). v .0 ++ l) (sym (rows-step area words (R .indexed) (optionsIs options) (unpacked patterns) meeting unmatched children (R .meeting) (R .lacking) (R .childish) levels (R .levelled) i (c .before .before .before .before .loop-test .taken))) ∙ v .2),
-    )
+    let start = c .before .before .before .before .before .before .before .before .before .before in
+    let area = start .args .area .now in
+    let words = start .args .words .now in
+    let patterns = start .args .patterns .now in
+    let question = start .args .question in
+    let turn = c .before .before .before .before .before .loop in
+    let text = textOf area words patterns question in
+    let step = rows-step area words (start .pre .index .indexed) text (turn .i) (c .before .before .before .before .loop-test .taken) in
+    (omega arith, putting-more (turn .inv .1) (rowText area words patterns question (turn .i)) (textFrom text area words (turn .i + 1)) step (c .before .before .put-row .ensures))
 
--- src/answer.rt:102:1
 same-length : tie.Need-same-length Inv-loop μ-loop
-same-length c = put-length (c .before .loop .inv .1 .1)
+same-length c = put-length (c .before .loop .inv .1 .put)
 
--- src/answer.rt:102:1
 returns : tie.Need-returns Inv-loop μ-loop
 returns c =
-    let area = c .before .before .before .before .before .before .before .before .before .args .area .now in
-    let words = c .before .before .before .before .before .before .before .before .before .args .words .now in
-    let meeting = c .before .before .before .before .before .before .before .before .before .args .meeting .now in
-    let unmatched = c .before .before .before .before .before .before .before .before .before .args .unmatched .now in
-    let children = c .before .before .before .before .before .before .before .before .before .args .children .now in
-    let patterns = c .before .before .before .before .before .before .before .before .before .args .patterns .now in
-    let options = c .before .before .before .before .before .before .before .before .before .args .options in
-    let levels = c .before .before .before .before .before .before .before .before .before .args .levels in
-    let R = c .before .before .before .before .before .before .before .before .before .pre in
-    let T = shownText (rowsAt area words) (optionsIs options) (unpacked patterns) in
-    let v = c .before .loop .inv .1 in
-    subst (λ (l : List ℕ). Put (c .before .before .before .before .before .before .before .before .before .args .buf .now) (c .before .loop .buf) (c .before .before .before .before .before .before .before .before .before .args .at) l (c .before .loop .to)) (sym (append-nil (v .0)) ∙ ap (λ (l : List ℕ). v .0 ++ l) (sym (rows-end area words (R .indexed) (optionsIs options) (unpacked patterns) meeting unmatched children (R .meeting) (R .lacking) (R .childish) levels (R .levelled) (c .before .loop .i) (c .loop-test .left))) ∙ v .2) (v .1)
+    let start = c .before .before .before .before .before .before in
+    let a = start .args in
+    let done = c .before .loop in
+    let text = textOf (a .area .now) (a .words .now) (a .patterns .now) (a .question) in
+    putting-end (done .inv .1) (rows-end (a .area .now) (a .words .now) (start .pre .index .indexed) text (done .i) (omega arith))
 
 pub put-rows-spec : {M : Type 1} → statement M
 put-rows-spec =

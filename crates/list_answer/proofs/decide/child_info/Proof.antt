@@ -1,11 +1,11 @@
--- `child_info` meets its contract: the criteria named are the two selected.
+-- `list_answer::decide::child_info` meets its contract: the criteria named are the two selected.
 use mathlib.Core.Path.{_≡_, _∙_}
-use borrow.Author.Needs.{needs}
 use Rattle.listing_rules.specs.Bytes.{bit}
 use Rattle.listing_rules.specs.Options.{criteria, noCriteria, criteriaNumber}
 use Rattle.octets.proofs.Sets.{contains-bit}
 use Rattle.command_line.specs.OptionSets.{optionsIs}
 use Rattle.list_line.specs.CriteriaSets.{these}
+use borrow.Author.Needs.{needs}
 use Rattle.list_answer.proofs.decide.child_info.Statement.{statement}
 use Rattle.list_answer.proofs.decide.child_info.Tie as tie
 
@@ -31,5 +31,4 @@ unfolding criteriaNumber noCriteria
 returns-2 c = rw (c .if1 .left)
 
 pub child-info-spec : {M : Type 1} → statement M
-child-info-spec =
-    tie.close (tie.spec has-requires has-requires-2 of-requires returns returns-2)
+child-info-spec = tie.close (tie.spec has-requires has-requires-2 of-requires returns returns-2)

@@ -12,30 +12,24 @@ use Rattle.mailbox_table.proofs.inferiors.inferiors_pass.Statement.{sta
 use Rattle.mailbox_table.proofs.inferiors.inferiors_pass.Tie as tie
 
 abbrev Inv-loop : tie.InvT-loop
-Inv-loop area words marks i₀ i =
+Inv-loop area words i₀ i =
     every (λ q. noneBelow (rowsAt area words) q) (drop i (rowsAt area words)) ≡ every (λ q. noneBelow (rowsAt area words) q) (rowsAt area words)
 
 abbrev μ-loop : tie.MeasureT-loop
-μ-loop area words marks i₀ i = length words - i
-
-all-marks-requires : tie.Need-all-marks-requires Inv-loop μ-loop
-all-marks-requires c κs = search needs
+μ-loop area words i₀ i = length words - i
 
 loop-holds : tie.Need-loop-holds Inv-loop μ-loop
 loop-holds c = refl
 
-slice-aggregate-row-passes : tie.Need-slice-aggregate-row-passes Inv-loop μ-loop
-slice-aggregate-row-passes c = search needs
-
 row-passes-requires : tie.Need-row-passes-requires Inv-loop μ-loop
-row-passes-requires c κs =
-    (record { indexed = c .before .before .before .before .before .before .pre .0; few = c .before .before .before .before .before .before .pre .1; all = c .before .before .before .all-marks .ensures }, c .before .loop-test .taken)
+row-passes-requires c κs = (c .before .before .before .before .pre .0, c .loop-test .taken)
 
 returns : tie.Need-returns Inv-loop μ-loop
 returns c =
-    let rs = rowsAt (c .before .before .before .before .before .before .before .before .args .area .now) (c .before .before .before .before .before .before .before .before .args .words .now) in
-    sym (every-stop (λ q. noneBelow rs q) (c .before .before .before .before .before .before .before .before .args .area .now) (c .before .before .before .before .before .before .before .before .args .words .now) (c .before .before .before .before .loop .i) (c .before .before .before .loop-test .taken) (sym (c .before .row-passes .ensures) ∙ not-true _ (c .if1 .taken)))
-    ∙ c .before .before .before .before .loop .inv
+    let a = c .before .before .before .before .before .before .args in
+    let table = rowsAt (a .area .now) (a .words .now) in
+    sym (every-stop (λ q. noneBelow table q) (a .area .now) (a .words .now) (c .before .before .before .loop .i) (c .before .before .loop-test .taken) (sym (c .before .row-passes .ensures) ∙ not-true _ (c .if1 .taken)))
+    ∙ c .before .before .before .loop .inv
 
 add-i : tie.Need-add-i Inv-loop μ-loop
 add-i c = search needs
@@ -45,14 +39,16 @@ loop-less c = search needs
 
 loop-again : tie.Need-loop-again Inv-loop μ-loop
 loop-again c =
-    let rs = rowsAt (c .before .before .before .before .before .before .before .before .args .area .now) (c .before .before .before .before .before .before .before .before .args .words .now) in
-    sym (every-more (λ q. noneBelow rs q) (c .before .before .before .before .before .before .before .before .args .area .now) (c .before .before .before .before .before .before .before .before .args .words .now) (c .before .before .before .before .loop .i) (c .before .before .before .loop-test .taken) (sym (c .before .row-passes .ensures) ∙ not-false _ (c .if1 .left)))
-    ∙ c .before .before .before .before .loop .inv
+    let a = c .before .before .before .before .before .before .args in
+    let table = rowsAt (a .area .now) (a .words .now) in
+    sym (every-more (λ q. noneBelow table q) (a .area .now) (a .words .now) (c .before .before .before .loop .i) (c .before .before .loop-test .taken) (sym (c .before .row-passes .ensures) ∙ not-false _ (c .if1 .left)))
+    ∙ c .before .before .before .loop .inv
 
 returns-2 : tie.Need-returns-2 Inv-loop μ-loop
 returns-2 c =
-    let rs = rowsAt (c .before .before .before .before .before .args .area .now) (c .before .before .before .before .before .args .words .now) in
-    sym (every-end (λ q. noneBelow rs q) (c .before .before .before .before .before .args .area .now) (c .before .before .before .before .before .args .words .now) (c .before .loop .i) (c .loop-test .left)) ∙ c .before .loop .inv
+    let a = c .before .before .before .before .args in
+    let table = rowsAt (a .area .now) (a .words .now) in
+    sym (every-end (λ q. noneBelow table q) (a .area .now) (a .words .now) (c .before .loop .i) (c .loop-test .left)) ∙ c .before .loop .inv
 
 pub inferiors-pass-spec : {M : Type 1} → statement M
 inferiors-pass-spec =
@@ -60,9 +56,7 @@ inferiors-pass-spec =
     (tie.spec
     Inv-loop
     μ-loop
-    all-marks-requires
     loop-holds
-    slice-aggregate-row-passes
     row-passes-requires
     returns
     add-i

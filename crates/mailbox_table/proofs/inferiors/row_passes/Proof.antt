@@ -1,8 +1,8 @@
--- `mailbox_table::inferiors::row_passes` meets its contract: with every row marked, the scan from row i finds all. By InferiorLaws.
+-- `mailbox_table::inferiors::row_passes` meets its contract: every row counts, and the scan from row i finds all. By InferiorLaws.
 use mathlib.Core.Path.{_≡_, sym, ap, _∙_}
-use mathlib.Core.Bool.{true, not}
+use mathlib.Core.Bool.{not}
 use native.Mathlib.Nat.{le-refl}
-use lib.ListN.{length, getD, length-replicate}
+use lib.ListN.{getD}
 use borrow.Author.Tests.{not-true, not-false}
 use Rattle.listing_rules.specs.Bytes.{bit}
 use Rattle.listing_rules.specs.Lists.{anyOf}
@@ -13,7 +13,6 @@ use Rattle.mailbox_table.specs.declared.rows.Row.{Row}
 use Rattle.mailbox_table.specs.Words.{rowOfWord}
 use Rattle.mailbox_table.specs.Index.{nameAt, rowAtWord, rowsAt}
 use Rattle.mailbox_table.proofs.InferiorLaws.{none-any, none-some, below-anywhere}
-use native.Mathlib.Omega.{arith}
 use borrow.Author.Needs.{needs}
 use Rattle.mailbox_table.proofs.inferiors.row_passes.Statement.{statement}
 use Rattle.mailbox_table.proofs.inferiors.row_passes.Tie as tie
@@ -31,29 +30,29 @@ has-requires : tie.Need-has-requires
 has-requires c κs = search needs
 
 -- the flag, of the row as document 01 has it
-flag : (c : tie.After-has) → c .has .result ≡ noInferiors (rowOfWord (getD (c .before .before .before .before .before .before .args .words .now) (c .before .before .before .before .before .before .args .i) 0) .flags .bits)
+flag : (c : tie.After-has) → let a = c .before .before .before .before .before .args in c .has .result ≡ noInferiors (rowOfWord (getD (a .words .now) (a .i) 0) .flags .bits)
 unfolding noInferiors
 flag c = c .has .ensures ∙ contains-bit 4 _ ∙ ap (λ (r : Row). bit 4 (r .flags .bits)) (c .before .of-word .ensures)
 
 returns : tie.Need-returns
-returns c = sym (none-any (rowsAt (c .before .before .before .before .before .before .before .args .area .now) (c .before .before .before .before .before .before .before .args .words .now)) (rowAtWord (c .before .before .before .before .before .before .before .args .area .now) (getD (c .before .before .before .before .before .before .before .args .words .now) (c .before .before .before .before .before .before .before .args .i) 0)) (sym (flag (c .before)) ∙ not-true _ (c .if1 .taken)))
+returns c =
+    let a = c .before .before .before .before .before .before .args in
+    let table = rowsAt (a .area .now) (a .words .now) in
+    sym (none-any table (rowAtWord (a .area .now) (getD (a .words .now) (a .i) 0)) (sym (flag (c .before)) ∙ not-true _ (c .if1 .taken)))
 
 some-below-requires : tie.Need-some-below-requires
 some-below-requires c κs =
-    record {
-      indexed = c .before .before .before .before .before .before .before .pre .0 .indexed;
-      row = c .before .before .before .before .before .before .before .pre .1;
-      within = rw (c .before .before .of-word .ensures) (le-refl _);
-      marked = omega (arith, c .before .before .before .before .before .before .before .pre .0 .few, ap length (c .before .before .before .before .before .before .before .pre .0 .all), length-replicate 512 true);
-    }
+    let start = c .before .before .before .before .before .before in
+    record { indexed = start .pre .0; row = start .pre .1; within = rw (c .before .before .of-word .ensures) (le-refl _) }
 
 returns-2 : tie.Need-returns-2
 returns-2 c =
-    let area = c .before .before .before .before .before .before .before .before .args .area .now in
-    let words = c .before .before .before .before .before .before .before .before .args .words .now in
-    let i = c .before .before .before .before .before .before .before .before .args .i in
+    let start = c .before .before .before .before .before .before .before in
+    let area = start .args .area .now in
+    let words = start .args .words .now in
+    let i = start .args .i in
     let e : c .some-below .result ≡ anyOf (λ q. below (nameAt area (getD words i 0)) (q .name)) (rowsAt area words)
-    = c .some-below .ensures ∙ rw (c .before .before .before .before .before .before .before .before .pre .0 .all, c .before .before .before .of-word .ensures) (below-anywhere (c .before .before .before .before .before .before .before .before .pre .0 .indexed) 512 i (c .before .before .before .before .before .before .before .before .pre .0 .few) (c .before .before .before .before .before .before .before .before .pre .1)) in
+    = c .some-below .ensures ∙ rw (c .before .before .before .of-word .ensures) (below-anywhere (start .pre .0) i (start .pre .1)) in
     ap not e
     ∙ sym (none-some (rowsAt area words) (rowAtWord area (getD words i 0)) (sym (flag (c .before .before)) ∙ not-false _ (c .before .if1 .left)))
 

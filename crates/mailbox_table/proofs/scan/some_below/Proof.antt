@@ -1,19 +1,27 @@
--- `mailbox_table::scan::some_below` meets its contract: row i decides by its byte behind the first bytes, or the rows behind it do.
--- Each way is a law of ScanLaws.
+-- `mailbox_table::scan::some_below` meets its contract: row i decides by its byte after the first bytes and by its marks, or the rows
+-- after it do. Each way is a law of ScanLaws.
 use mathlib.Core.Path.{_≡_, sym, _∙_}
+use mathlib.Core.Bool.{_&&_}
+use lib.Dec.{eqb}
 use lib.ListN.{getD}
-use borrow.Author.Needs.{needs}
-use native.Mathlib.Omega.{arith}
+use Rattle.octets.specs.Sets.{contains}
 use Rattle.mailbox_table.specs.Index.{nameAt, nthName}
+use Rattle.mailbox_table.specs.Below.{marksOf}
 use Rattle.mailbox_table.proofs.BelowLaws.{starts-take}
 use Rattle.mailbox_table.proofs.ScanLaws.{scan-byte, scan-found, scan-on}
+use native.Mathlib.Omega.{arith}
+use borrow.Author.Needs.{needs}
 use Rattle.mailbox_table.proofs.scan.some_below.Statement.{statement}
 use Rattle.mailbox_table.proofs.scan.some_below.Tie as tie
 
--- the byte behind the first bytes in row i's own name
-byte : (c : tie.After-byte-at) → c .byte-at .result ≡ getD (nthName (c .before .before .before .before .before .before .before .args .area .now) (c .before .before .before .before .before .before .before .args .words .now) (c .before .before .before .before .before .before .before .args .i)) (c .before .before .before .before .before .before .before .args .len) 0
+-- the byte after the first bytes in row i's own name
+byte : (c : tie.After-byte-at) → let a = c .before .before .before .before .before .before .args in c .byte-at .result ≡ getD (nthName (a .area .now) (a .words .now) (a .i)) (a .len) 0
 unfolding nameAt
 byte c = c .byte-at .ensures ∙ rw (c .before .name-of .ensures, c .before .before .of-word .ensures)
+
+-- the test of the byte and of the marks
+test : (c : tie.After-is-marked) → let a = c .before .before .before .before .before .before .before .before .before .args in (eqb (c .before .before .before .byte-at .result) 47 && c .is-marked .result) ≡ (eqb (getD (nthName (a .area .now) (a .words .now) (a .i)) (a .len) 0) 47 && contains (marksOf (getD (a .words .now) (a .i) 0)) (a .marks))
+test c = λ j. eqb (byte (c .before .before .before) j) 47 && c .is-marked .ensures j
 
 mul-of-word : tie.Need-mul-of-word
 mul-of-word c = search needs
@@ -31,21 +39,35 @@ byte-at-requires : tie.Need-byte-at-requires
 byte-at-requires c κs = search needs
 
 returns : tie.Need-returns
-returns c = sym (scan-byte (c .before .before .before .before .before .before .before .before .pre) (c .before .before .before .before .before .before .before .before .args .i) (c .before .before .before .before .before .before .before .before .pre .row) (starts-take (c .before .before .before .before .before .before .before .before .args .len) _) (omega (arith, byte (c .before))))
+returns c =
+    let start = c .before .before .before .before .before .before .before in
+    let a = start .args in
+    sym (scan-byte (start .pre) (a .marks) (a .i) (start .pre .row) (starts-take (a .len) _) (omega (arith, byte (c .before))))
 
-shared-slice-read-if2 : tie.Need-shared-slice-read-if2
-shared-slice-read-if2 c = search needs
+mul-is-marked : tie.Need-mul-is-marked
+mul-is-marked c = search needs
+
+shared-slice-read-is-marked : tie.Need-shared-slice-read-is-marked
+shared-slice-read-is-marked c = search needs
+
+is-marked-requires : tie.Need-is-marked-requires
+is-marked-requires c κs = search needs
 
 returns-2 : tie.Need-returns-2
-returns-2 c = sym (scan-found (c .before .before .before .before .before .before .before .before .before .before .pre) (c .before .before .before .before .before .before .before .before .before .before .args .i) (c .before .before .before .before .before .before .before .before .before .before .pre .row) (starts-take (c .before .before .before .before .before .before .before .before .before .before .args .len) _) (rw (byte (c .before .before .before)) at (c .if2 .taken)))
+returns-2 c =
+    let start = c .before .before .before .before .before .before .before .before .before .before in
+    let a = start .args in
+    sym (scan-found (start .pre) (a .marks) (a .i) (start .pre .row) (starts-take (a .len) _) (sym (test (c .before)) ∙ c .if2 .taken))
 
-some-behind-requires : tie.Need-some-behind-requires
-some-behind-requires c κs = search needs
+some-after-requires : tie.Need-some-after-requires
+some-after-requires c κs = search needs
 
 returns-3 : tie.Need-returns-3
 returns-3 c =
-    c .some-behind .ensures
-    ∙ sym (scan-on (c .before .before .before .before .before .before .before .before .before .before .before .pre) (c .before .before .before .before .before .before .before .before .before .before .before .args .i) (c .before .before .before .before .before .before .before .before .before .before .before .pre .row) (starts-take (c .before .before .before .before .before .before .before .before .before .before .before .args .len) _) (rw (byte (c .before .before .before .before)) at (c .before .if2 .left)))
+    let start = c .before .before .before .before .before .before .before .before .before .before .before in
+    let a = start .args in
+    c .some-after .ensures
+    ∙ sym (scan-on (start .pre) (a .marks) (a .i) (start .pre .row) (starts-take (a .len) _) (sym (test (c .before .before)) ∙ c .before .if2 .left))
 
 pub some-below-spec : {M : Type 1} → statement M
 some-below-spec =
@@ -57,7 +79,9 @@ some-below-spec =
     name-of-requires
     byte-at-requires
     returns
-    shared-slice-read-if2
+    mul-is-marked
+    shared-slice-read-is-marked
+    is-marked-requires
     returns-2
-    some-behind-requires
+    some-after-requires
     returns-3)

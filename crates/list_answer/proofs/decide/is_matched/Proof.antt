@@ -1,0 +1,106 @@
+-- `list_answer::decide::is_matched` meets its contract: the row's mark for its whole name, the bytes for a shorter one. By Deciding.
+use mathlib.Core.Path.{_≡_, sym, ap, _∙_}
+use mathlib.Core.Bool.{Bool, _&&_}
+use mathlib.Core.List.{List}
+use Prim.Native.Nat.{ℕ}
+use lib.Dec.{leb}
+use lib.ListN.{length, take, getD}
+use borrow.Author.Tests.{eq-eqb, ne-eqb}
+use Rattle.listing_rules.specs.Match.{matchesAny}
+use Rattle.octets.specs.Sets.{contains}
+use Rattle.command_line.specs.OptionSets.{optionsIs}
+use Rattle.mailbox_table.specs.declared.rows.Row.{Row as Place}
+use Rattle.mailbox_table.specs.Index.{nthRow}
+use Rattle.pattern.specs.Packed.{unpacked}
+use Rattle.pattern.specs.Chosen.{chosen}
+use Rattle.list_answer.specs.Shown.{begun}
+use Rattle.list_answer.proofs.Deciding.{begun-length, begun-short, matched-whole, matched-proper}
+use Rattle.list_answer.proofs.Showing.{named}
+use borrow.Author.Needs.{needs}
+use Rattle.list_answer.proofs.decide.is_matched.Statement.{statement}
+use Rattle.list_answer.proofs.decide.is_matched.Tie as tie
+
+mul-word : tie.Need-mul-word
+mul-word c = search needs
+
+shared-slice-read-word : tie.Need-shared-slice-read-word
+shared-slice-read-word c = search needs
+
+of-word-requires : tie.Need-of-word-requires
+of-word-requires c κs = search needs
+
+of-word-requires-2 : tie.Need-of-word-requires-2
+of-word-requires-2 c κs = search needs
+
+has-requires : tie.Need-has-requires
+has-requires c κs = search needs
+
+returns : tie.Need-returns
+returns c =
+    let start = c .before .before .before .before .before .before .before .before .before in
+    let area = start .args .area .now in
+    let words = start .args .words .now in
+    let name = start .args .name in
+    let ready = start .pre .0 in
+    let o = optionsIs (start .args .question .options) in
+    let ps = unpacked (start .args .patterns .now) in
+    let size = ap (λ (r : Place). r .len) (c .before .before .before .before .of-word .ensures) in
+    let whole = eq-eqb (nthRow words (name .row) .len) (name .len) (sym size ∙ c .before .before .if1 .taken) in
+    λ h.
+    c .has .ensures
+    ∙ ap (λ (m : ℕ). contains m 8) (c .before .of-word2 .ensures)
+    ∙ matched-whole area words (ready .index .indexed) name (start .pre .1) o ps (ready .marked) whole h
+
+name-of-requires : tie.Need-name-of-requires
+name-of-requires c κs = search needs
+
+slice-aggregate-matches-any : tie.Need-slice-aggregate-matches-any
+slice-aggregate-matches-any c =
+    let start = c .before .before .before .before .before .before .before .before .before in
+    let area = start .args .area .now in
+    let words = start .args .words .now in
+    let name = start .args .name in
+    let looked = named area (getD words (name .row) 0) (c .before .before .before .before .of-word .result) (c .before .before .before .before .of-word .ensures) (c .before .name-of .result .now) (c .before .name-of .ensures) in
+    sym (ap (λ (l : List ℕ). length (take (name .len) l)) looked ∙ begun-length area words (start .pre .0 .index .indexed) name (start .pre .1))
+
+matches-any-requires : tie.Need-matches-any-requires
+matches-any-requires c κs = search needs
+
+returns-2 : tie.Need-returns-2
+returns-2 c =
+    let start = c .before .before .before .before .before .before .before .before .before .before in
+    let area = start .args .area .now in
+    let words = start .args .words .now in
+    let question = start .args .question in
+    let name = start .args .name in
+    let ready = start .pre .0 in
+    let x = ready .index .indexed in
+    let at = start .pre .1 in
+    let o = optionsIs (question .options) in
+    let ps = unpacked (start .args .patterns .now) in
+    let n = begun area words name in
+    let place = c .before .before .before .before .before .of-word .ensures in
+    let looked = named area (getD words (name .row) 0) (c .before .before .before .before .before .of-word .result) place (c .before .before .name-of .result .now) (c .before .before .name-of .ensures) in
+    let size = ap (λ (r : Place). r .len) place in
+    let proper = ne-eqb (nthRow words (name .row) .len) (name .len) (λ e. c .before .before .before .if1 .left (size ∙ e)) in
+    λ h.
+    c .matches-any .ensures
+    ∙ ap (λ (l : List ℕ). leb (length (take (name .len) l)) 255 && matchesAny (chosen (question .levels) ps) (take (name .len) l)) looked
+    ∙ ap (λ (b : Bool). b && matchesAny (chosen (question .levels) ps) n) (begun-short area words x name at)
+    ∙ ap (λ (b : Bool). matchesAny (chosen b ps) n) (ready .knows)
+    ∙ matched-proper area words x name at o ps (ready .marked) proper
+
+pub is-matched-spec : {M : Type 1} → statement M
+is-matched-spec =
+    tie.close
+    (tie.spec
+    mul-word
+    shared-slice-read-word
+    of-word-requires
+    of-word-requires-2
+    has-requires
+    returns
+    name-of-requires
+    slice-aggregate-matches-any
+    matches-any-requires
+    returns-2)

@@ -1,0 +1,104 @@
+-- `list_answer::decide::look_at` meets its contract: the row's word and the scans below say what the table does. By Deciding.
+use mathlib.Core.Path.{_≡_, sym, ap, _∙_}
+use mathlib.Core.Bool.{Bool, cond, _&&_, _||_, not}
+use Prim.Native.Nat.{ℕ}
+use lib.Dec.{eqb}
+use lib.ListN.{getD}
+use Rattle.listing_rules.specs.Flags.{exists}
+use Rattle.listing_rules.specs.Table.{flagsOf}
+use Rattle.octets.specs.Sets.{contains}
+use Rattle.command_line.specs.OptionSets.{optionsIs}
+use Rattle.mailbox_table.specs.declared.rows.Row.{Row as Place}
+use Rattle.mailbox_table.specs.Index.{nthRow, rowsAt}
+use Rattle.pattern.specs.Packed.{unpacked}
+use Rattle.list_answer.specs.Marks.{levelOnly}
+use Rattle.list_answer.specs.Shown.{begun, foundBelow}
+use Rattle.list_answer.proofs.Deciding.{flags-here, meets-below, right-here}
+use borrow.Author.Needs.{needs}
+use Rattle.list_answer.proofs.decide.look_at.Statement.{statement}
+use Rattle.list_answer.proofs.decide.look_at.Tie as tie
+
+mul-word : tie.Need-mul-word
+mul-word c = search needs
+
+shared-slice-read-word : tie.Need-shared-slice-read-word
+shared-slice-read-word c = search needs
+
+of-word-requires : tie.Need-of-word-requires
+of-word-requires c κs = search needs
+
+flags-of-requires : tie.Need-flags-of-requires
+flags-of-requires c κs = search needs
+
+of-word-requires-2 : tie.Need-of-word-requires-2
+of-word-requires-2 c κs = search needs
+
+has-requires : tie.Need-has-requires
+has-requires c κs = search needs
+
+is-recursive-requires : tie.Need-is-recursive-requires
+is-recursive-requires c κs = search needs
+
+asked-below-requires : tie.Need-asked-below-requires
+asked-below-requires c κs = search needs
+
+asks-level-requires : tie.Need-asks-level-requires
+asks-level-requires c κs = search needs
+
+asked-below-requires-2 : tie.Need-asked-below-requires-2
+asked-below-requires-2 c κs = search needs
+
+returns : tie.Need-returns
+returns c =
+    let start = c .before .before .before .before .before .before .before .before .before .before .before .before .before .before in
+    let area = start .args .area .now in
+    let words = start .args .words .now in
+    let question = start .args .question in
+    let name = start .args .name in
+    let ready = start .pre .0 in
+    let x = ready .index .indexed in
+    let at = start .pre .1 in
+    let o = optionsIs (question .options) in
+    let ps = unpacked (start .args .patterns .now) in
+    let table = rowsAt area words in
+    let n = begun area words name in
+    let place = c .before .before .before .before .before .before .before .before .before .of-word .ensures in
+    let whole = eqb (nthRow words (name .row) .len) (name .len) in
+    let flags : c .before .before .before .before .before .before .flags-of .result .bits ≡ flagsOf table n =
+    c .before .before .before .before .before .before .flags-of .ensures ∙ ap (λ (r : Place). cond (eqb (r .len) (name .len)) (r .flags .bits) 0) place ∙ sym (flags-here area words x name at) in
+    let meeting = c .before .before .before .before .has .ensures ∙ ap (λ (m : ℕ). contains m 1) (c .before .before .before .before .before .of-word2 .ensures) in
+    let own =
+    ap (λ (r : Place). eqb (r .len) (name .len) && c .before .before .before .before .has .result) place
+    ∙ ap (λ (b : Bool). whole && b) meeting in
+    let deep =
+    c .before .before .asked-below .ensures
+    ∙ ap (λ (b : Bool). (b && not (eqb (c .before .before .before .before .before .before .before .before .before .of-word .result .len) (name .len) && c .before .before .before .before .has .result)) && foundBelow area words 2 name) (c .before .before .before .is-recursive .ensures) in
+    let absent =
+    c .before .asks-level .ensures
+    ∙ ap (λ (b : Bool). b && not (exists (c .before .before .before .before .before .before .flags-of .result .bits))) (ready .knows)
+    ∙ ap (levelOnly o ps) flags in
+    let right = right-here area words x name at o ps (ready .marked) _ _ own deep in
+    record {
+      flags = flags;
+      level =
+          c .asked-below2 .ensures
+          ∙ ap (λ (b : Bool). b && foundBelow area words 1 name) absent
+          ∙ ap (λ (b : Bool). levelOnly o ps (flagsOf table n) && b) (sym (meets-below area words x name at o ps (ready .marked)));
+      counts = ap (λ (b : Bool). b || c .asked-below2 .result) right;
+    }
+
+pub look-at-spec : {M : Type 1} → statement M
+look-at-spec =
+    tie.close
+    (tie.spec
+    mul-word
+    shared-slice-read-word
+    of-word-requires
+    flags-of-requires
+    of-word-requires-2
+    has-requires
+    is-recursive-requires
+    asked-below-requires
+    asks-level-requires
+    asked-below-requires-2
+    returns)

@@ -1,0 +1,17 @@
+-- `list_answer::marks::asked_match` meets its contract, by that of `matches_any`.
+use borrow.Author.Tests.{not-true, not-false}
+use borrow.Author.Needs.{needs}
+use Rattle.list_answer.proofs.marks.asked_match.Statement.{statement}
+use Rattle.list_answer.proofs.marks.asked_match.Tie as tie
+
+returns : tie.Need-returns
+returns c = rw (not-true (c .before .before .before .args .asked) (c .if1 .taken))
+
+matches-any-requires : tie.Need-matches-any-requires
+matches-any-requires c κs = search needs
+
+returns-2 : tie.Need-returns-2
+returns-2 c = rw (not-false (c .before .before .before .before .args .asked) (c .before .if1 .left)) (c .matches-any .ensures)
+
+pub asked-match-spec : {M : Type 1} → statement M
+asked-match-spec = tie.close (tie.spec returns matches-any-requires returns-2)

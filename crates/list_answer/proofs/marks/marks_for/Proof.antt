@@ -1,0 +1,100 @@
+-- `list_answer::marks::marks_for` meets its contract: what the code finds is what the marks say (Marking), a member more with each
+-- line (Sets).
+use mathlib.Core.Path.{_≡_, refl, ap, _∙_}
+use mathlib.Core.Bool.{Bool, _&&_, _||_, not}
+use mathlib.Core.List.{[], _∷_}
+use Prim.Native.Nat.{ℕ}
+use Rattle.listing_rules.specs.Flags.{exists, remote}
+use Rattle.listing_rules.specs.Listing.{meetsCriteria}
+use Rattle.command_line.specs.OptionSets.{optionsIs}
+use Rattle.mailbox_table.specs.declared.rows.Row.{Row as Place}
+use Rattle.mailbox_table.specs.Index.{rowAtWord}
+use Rattle.pattern.specs.Packed.{unpacked}
+use Rattle.list_answer.specs.Sets.{adds}
+use Rattle.list_answer.specs.Marks.{levelOnly, meetsMark, unmatchedMark, childMark, matchedMark, rowMarks}
+use Rattle.list_answer.proofs.Sets.{adds-all, more}
+use Rattle.list_answer.proofs.Marking.{matched-is, unmatched-is}
+use Rattle.list_answer.proofs.Showing.{named}
+use borrow.Author.Needs.{needs}
+use Rattle.list_answer.proofs.marks.marks_for.Statement.{statement}
+use Rattle.list_answer.proofs.marks.marks_for.Tie as tie
+
+of-word-requires : tie.Need-of-word-requires
+of-word-requires c κs = search needs
+
+is-met-requires : tie.Need-is-met-requires
+is-met-requires c κs = search needs
+
+is-recursive-requires : tie.Need-is-recursive-requires
+is-recursive-requires c κs = search needs
+
+asks-level-requires : tie.Need-asks-level-requires
+asks-level-requires c κs = search needs
+
+name-of-requires : tie.Need-name-of-requires
+name-of-requires c κs = search needs
+
+asked-match-requires : tie.Need-asked-match-requires
+asked-match-requires c κs = search needs
+
+with-requires : tie.Need-with-requires
+with-requires c κs = search needs
+
+with-requires-2 : tie.Need-with-requires-2
+with-requires-2 c κs = search needs
+
+counts-child-requires : tie.Need-counts-child-requires
+counts-child-requires c κs = search needs
+
+with-requires-3 : tie.Need-with-requires-3
+with-requires-3 c κs = search needs
+
+with-requires-4 : tie.Need-with-requires-4
+with-requires-4 c κs = search needs
+
+returns : tie.Need-returns
+unfolding adds rowMarks
+returns c =
+    let start = c .before .before .before .before .before .before .before .before .before .before .before .before .before in
+    let area = start .args .area .now in
+    let word = start .args .word in
+    let o = optionsIs (start .args .question .options) in
+    let ps = unpacked (start .args .patterns .now) in
+    let row = rowAtWord area word in
+    let place = c .before .before .before .before .before .before .before .before .before .before .of-word .ensures in
+    let recursive = c .before .before .before .before .before .before .before .before .is-recursive .ensures in
+    let meeting : c .before .before .before .before .before .before .before .before .before .is-met .result ≡ meetsMark o row = c .before .before .before .before .before .before .before .before .before .is-met .ensures ∙ ap (λ (r : Place). meetsCriteria o (r .flags .bits)) place in
+    let level : c .before .before .before .before .before .before .before .asks-level .result ≡ levelOnly o ps (row .flags) =
+    c .before .before .before .before .before .before .before .asks-level .ensures
+    ∙ ap (λ (r : Place). start .args .question .levels && not (exists (r .flags .bits))) place
+    ∙ ap (λ (b : Bool). b && not (exists (row .flags))) (start .pre) in
+    let child : c .before .before .counts-child .result ≡ childMark o row =
+    c .before .before .counts-child .ensures ∙ ap (λ (r : Place). exists (r .flags .bits) && (not (remote (r .flags .bits)) || o .selRemote)) place in
+    let name = named area word (c .before .before .before .before .before .before .before .before .before .before .of-word .result) place (c .before .before .before .before .before .before .name-of .result .now) (c .before .before .before .before .before .before .name-of .ensures) in
+    let matched = matched-is o ps area word _ _ _ _ meeting recursive level name (c .before .before .before .before .before .asked-match .result) (c .before .before .before .before .before .asked-match .ensures) in
+    let unmatched =
+    ap (λ (b : Bool). (b && c .before .before .before .before .before .before .before .before .before .is-met .result) && not (c .before .before .before .before .before .asked-match .result)) recursive
+    ∙ ap (λ (b : Bool). (o .selRecursive && b) && not (c .before .before .before .before .before .asked-match .result)) meeting
+    ∙ unmatched-is o ps row (c .before .before .before .before .before .asked-match .result) matched in
+    let none : _≡_ {A = ℕ} 0 0 = refl in
+    let s1 = more 1 none meeting (c .before .before .before .before .with .ensures) in
+    let s2 = more 2 s1 unmatched (c .before .before .before .with2 .ensures) in
+    let s3 = more 4 s2 child (c .before .with3 .ensures) in
+    more 8 s3 matched (c .with4 .ensures) ∙ adds-all (meetsMark o row ∷ unmatchedMark o ps row ∷ childMark o row ∷ matchedMark o ps row ∷ [])
+
+pub marks-for-spec : {M : Type 1} → statement M
+marks-for-spec =
+    tie.close
+    (tie.spec
+    of-word-requires
+    is-met-requires
+    is-recursive-requires
+    asks-level-requires
+    name-of-requires
+    asked-match-requires
+    with-requires
+    with-requires-2
+    counts-child-requires
+    with-requires-3
+    with-requires-4
+    returns)

@@ -1,0 +1,23 @@
+-- `list_answer::question::is_unselective` meets its contract: the bits of the three members.
+use Rattle.listing_rules.specs.Listing.{unselective}
+use Rattle.octets.proofs.Sets.{contains-bit}
+use Rattle.command_line.specs.OptionSets.{optionsIs}
+use borrow.Author.Needs.{needs}
+use Rattle.list_answer.proofs.question.is_unselective.Statement.{statement}
+use Rattle.list_answer.proofs.question.is_unselective.Tie as tie
+
+has-requires : tie.Need-has-requires
+has-requires c κs = search needs
+
+has-requires-2 : tie.Need-has-requires-2
+has-requires-2 c κs = search needs
+
+has-requires-3 : tie.Need-has-requires-3
+has-requires-3 c κs = search needs
+
+returns : tie.Need-returns
+unfolding unselective optionsIs
+returns c = let o = c .before .before .before .args .options .bits in cc (contains-bit 0 o, contains-bit 2 o, contains-bit 3 o)
+
+pub is-unselective-spec : {M : Type 1} → statement M
+is-unselective-spec = tie.close (tie.spec has-requires has-requires-2 has-requires-3 returns)

@@ -1,0 +1,16 @@
+-- `mailbox_table::scan::is_marked` meets its contract, by that of `marks_of`.
+use mathlib.Core.Path.{ap}
+use Prim.Native.Nat.{ℕ}
+use Rattle.octets.specs.Sets.{contains}
+use borrow.Author.Needs.{needs}
+use Rattle.mailbox_table.proofs.scan.is_marked.Statement.{statement}
+use Rattle.mailbox_table.proofs.scan.is_marked.Tie as tie
+
+marks-of-requires : tie.Need-marks-of-requires
+marks-of-requires c κs = search needs
+
+returns : tie.Need-returns
+returns c = ap (λ (m : ℕ). contains m (c .before .args .marks)) (c .marks-of .ensures)
+
+pub is-marked-spec : {M : Type 1} → statement M
+is-marked-spec = tie.close (tie.spec marks-of-requires returns)

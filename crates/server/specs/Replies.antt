@@ -1,0 +1,43 @@
+-- The replies of the server, of what its functions have: an index, the namespace list, the line, a command that was read.
+use mathlib.Core.Path.{_≡_}
+use mathlib.Core.Bool.{true}
+use mathlib.Core.List.{List, _++_}
+use Prim.Native.Nat.{ℕ, _≤_}
+use lib.Dec.{leb}
+use lib.ListN.{length}
+use Rattle.listing_rules.specs.Lists.{every}
+use Rattle.listing_rules.specs.Namespaces.{entries}
+use Rattle.listing_rules.specs.Command.{parsed}
+use Rattle.listing_rules.specs.Lines.{rootLine, okLine}
+use Rattle.listing_rules.specs.Server.{Reply, answered, answerTo, listAnswer, namespaceAnswer}
+use Rattle.command_line.specs.declared.Command.{Command}
+use Rattle.command_line.specs.OptionSets.{optionsIs}
+use Rattle.command_line.specs.Commands.{patternsOf}
+use Rattle.mailbox_table.specs.Index.{rowsAt}
+
+-- to a line, over an index
+abbrev pub commandReply : List ℕ → List ℕ → List ℕ → List ℕ → Reply
+commandReply area words namespaces line = answerTo (rowsAt area words) (entries namespaces) (parsed line)
+
+-- to NAMESPACE
+abbrev pub spacesText : List ℕ → List ℕ → List ℕ
+spacesText namespaces tag = namespaceAnswer (entries namespaces) tag
+
+abbrev pub spacesReply : List ℕ → List ℕ → Reply
+spacesReply namespaces tag = answered (spacesText namespaces tag)
+
+-- the root line
+abbrev pub rootText : List ℕ → List ℕ
+rootText tag = rootLine ++ okLine tag
+
+abbrev pub rootReply : List ℕ → Reply
+rootReply tag = answered (rootText tag)
+
+-- to LIST
+abbrev pub listingReply : List ℕ → List ℕ → List ℕ → Command → List ℕ → Reply
+listingReply area words line c tag = answered (listAnswer (rowsAt area words) tag (optionsIs (c .options)) (patternsOf line c))
+
+-- few and short patterns
+pub record Few (ps : List (List ℕ)) : Type 0 where
+  pub few : length ps ≤ 8
+  pub brief : every (λ p. leb (length p) 255) ps ≡ true

@@ -113,7 +113,7 @@ fn read_list<'l>(mut cursor: Cursor<'l, '_>) -> Result<WrittenList<'l>, LineFaul
 /// SP "RETURN" SP options, RETURN in any case of letters
 fn read_return<'l>(cursor: &mut Cursor<'l, '_>) -> Result<Vec<WrittenOption<'l>>, LineFault> {
     cursor.space()?;
-    let no_return = cursor.off_grammar("RETURN stands here");
+    let no_return = cursor.off_grammar("RETURN is expected");
     if !cursor.word().eq_ignore_ascii_case(b"RETURN") {
         return Err(no_return);
     }

@@ -63,13 +63,13 @@ impl<'l, 's> Cursor<'l, 's> {
         if self.rest.is_empty() && self.literals.is_empty() {
             Ok(())
         } else {
-            Err(self.off_grammar("the line ends here"))
+            Err(self.off_grammar("the end of the line is expected"))
         }
     }
 
     /// SP
     pub fn space(&mut self) -> Token<()> {
-        self.byte(SPACE, "one space stands here")
+        self.byte(SPACE, "one space is expected")
     }
 
     /// tag = 1*(atom byte / "]"), no "+"
@@ -134,7 +134,7 @@ impl<'l, 's> Cursor<'l, 's> {
 
     /// astring = quoted / literal / 1*(atom byte / "]")
     fn astring(&mut self) -> Token<Vec<u8>> {
-        self.string_or_run(is_astring_byte, "a quoted string, a literal or an atom stands here")
+        self.string_or_run(is_astring_byte, "a quoted string, a literal or an atom is expected")
     }
 
     /// pattern = quoted / literal / 1*(atom byte / "]" / "%" / "*")
@@ -145,13 +145,13 @@ impl<'l, 's> Cursor<'l, 's> {
 
     /// "(" item *(SP item) ")"
     fn list<T>(&mut self, item: fn(&mut Self) -> Token<T>) -> Token<Vec<T>> {
-        self.byte(b'(', "an opening parenthesis stands here")?;
+        self.byte(b'(', "an opening parenthesis is expected")?;
         let mut items = vec![item(self)?];
         while self.sees(SPACE) {
             self.space()?;
             items.push(item(self)?);
         }
-        self.byte(b')', "a space or a closing parenthesis stands here")?;
+        self.byte(b')', "a space or a closing parenthesis is expected")?;
         Ok(items)
     }
 

@@ -1,10 +1,10 @@
 //! The kinds of sessions.
 
 use child::SentFrame;
-use second::command::MAX_LINE;
 use second::frames::MAX_DIGITS;
 use second::name::{self, MAX_LEVELS, MAX_NAME};
 use second::quoted::push_quoted;
+use second::shape::MAX_LINE;
 use second::table::Flags;
 
 use crate::commands::{command, damaged, hostile_pattern, push_value};

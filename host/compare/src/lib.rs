@@ -24,12 +24,13 @@ mod walks;
 use std::path::Path;
 
 use child::{sender_of, Running, SentFrame, PATIENCE};
+use second::fault::Fault;
 use second::frames::{Answer, Program};
 use second::Refusal;
 
 pub use kinds::{kinds, Kind};
 
-use report::{difference_text, failure_text};
+use report::{difference_text, explanation_text, failure_text};
 
 /// Runs the session of a kind and a seed. The error is what differed, as text.
 pub fn compare_session(program: &Path, kind: Kind, seed: u64) -> Result<(), String> {
@@ -42,18 +43,33 @@ fn compare_frames(program: &Path, session: &[SentFrame]) -> Result<(), String> {
     let running = Running::start(program, PATIENCE, sender_of(session));
     let mut running = running.map_err(failure_text)?;
     for (at, frame) in session.iter().enumerate() {
+        let fault = second.fault(&frame.text);
         let answer = if frame.is_cut {
             Some(Answer::Refused(Refusal::Frame))
         } else {
             second.answer(&frame.text)
         };
-        let Some(expected) = answer.map(|answer| answer.to_line()) else {
+        let Some(expected) = answer.as_ref().map(Answer::to_line) else {
             continue;
         };
         match running.next_line() {
             Ok(Some(line)) if line == expected => {}
             actual => return Err(difference_text(session, at, &second, &expected, &actual)),
         }
+        if !frame.is_cut && answer.is_some_and(|answer| !is_explained(&answer, fault)) {
+            return Err(explanation_text(session, at, &second, fault));
+        }
     }
     running.finish().map_err(failure_text)
+}
+
+/// A refusal has its explanation and an answer has none. Of a buffer that is too small there is
+/// nothing to explain.
+fn is_explained(answer: &Answer, fault: Option<Fault>) -> bool {
+    let rooms = [Refusal::AnswerRoom, Refusal::FoundRoom, Refusal::PendingRoom];
+    match answer {
+        Answer::Refused(refusal) if rooms.contains(refusal) => fault.is_none(),
+        Answer::Refused(refusal) => fault.is_some_and(|fault| fault.refusal() == *refusal),
+        Answer::Lines(_) | Answer::Walked { .. } => fault.is_none(),
+    }
 }

@@ -4,11 +4,12 @@ use std::collections::BTreeSet;
 
 use child::SentFrame;
 use second::answer;
-use second::command::{MAX_CANONICAL, MAX_LINE, MAX_PATTERNS};
+use second::command::{MAX_CANONICAL, MAX_PATTERNS};
 use second::frames::{
     ANSWER_ROOM, ENTRY, FOUND_ROOM, NAMESPACES_ROOM, PENDING_ROOM, ROW, SCRATCH_ROOM, TABLE_ROOM,
 };
 use second::name::{self, MAX_LEVELS, MAX_NAME};
+use second::shape::MAX_LINE;
 use second::table::{Flags, MAX_ROWS, ROW_HEAD};
 
 use crate::random::Random;

@@ -1,9 +1,10 @@
 //! Sessions for W2 (document 02): literals in every place, odd ones, and the limits of them.
 
 use child::SentFrame;
-use second::command::{MAX_CANONICAL, MAX_LINE, MAX_PATTERNS};
+use second::command::{MAX_CANONICAL, MAX_PATTERNS};
 use second::literal::MAX_LITERAL;
 use second::quoted::{push_quoted, read_quoted};
+use second::shape::MAX_LINE;
 
 use crate::commands::command;
 use crate::random::Random;

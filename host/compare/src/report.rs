@@ -3,6 +3,7 @@
 use std::io;
 
 use child::SentFrame;
+use second::fault::Fault;
 use second::frames::{Frame, Program};
 use session::{show_answer, show_frame, show_namespaces, show_table, Shown};
 
@@ -14,21 +15,42 @@ pub fn difference_text(
     expected: &[u8],
     actual: &io::Result<Option<Vec<u8>>>,
 ) -> String {
+    let place = format!("frame {} of {} is answered differently\n", at + 1, session.len());
+    let answers = [
+        ("The second program answers", answer_text(expected)),
+        ("The program answers", actual_text(actual)),
+    ];
+    place + &sent_text(session, at, second) + &parts_text(&answers)
+}
+
+/// A frame that both programs answer alike, and that is explained otherwise.
+pub fn explanation_text(
+    session: &[SentFrame],
+    at: usize,
+    second: &Program,
+    fault: Option<Fault>,
+) -> String {
+    let place = format!("frame {} of {} is explained wrongly\n", at + 1, session.len());
+    let explained = [("The explanation", format!("{fault:?}\n"))];
+    place + &sent_text(session, at, second) + &parts_text(&explained)
+}
+
+/// The frame, and what was sent before it.
+fn sent_text(session: &[SentFrame], at: usize, second: &Program) -> String {
     let before: String =
         session[..at].iter().filter(|frame| !is_stored(frame)).map(shown).collect();
-    let parts = [
+    parts_text(&[
         ("The stored table", shown_if_any(&second.table, show_table)),
         ("The stored namespace list", shown_if_any(&second.namespaces, show_namespaces)),
         ("The frames before it, without rows and entries", before),
         ("The frame", shown(&session[at])),
-        ("The second program answers", answer_text(expected)),
-        ("The program answers", actual_text(actual)),
-    ];
-    let mut text = format!("frame {} of {} is answered differently\n", at + 1, session.len());
-    for (heading, part) in parts.iter().filter(|(_, part)| !part.is_empty()) {
-        text += &format!("{heading}\n{part}");
-    }
-    text
+    ])
+}
+
+/// Each part that is not empty, after its heading.
+fn parts_text(parts: &[(&str, String)]) -> String {
+    let parts = parts.iter().filter(|(_, part)| !part.is_empty());
+    parts.map(|(heading, part)| format!("{heading}\n{part}")).collect()
 }
 
 /// A program that cannot be started, does not answer or does not end well.

@@ -10,9 +10,9 @@ use std::fmt::Debug;
 use std::ops::Range;
 use std::slice;
 
-use second::command::MAX_LINE;
 use second::feeder::{Event, Feeder};
 use second::literal::MAX_LITERAL;
+use second::shape::MAX_LINE;
 
 use crate::literals::{literal_command, odd_command};
 use crate::random::Random;

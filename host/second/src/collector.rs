@@ -1,11 +1,12 @@
 //! The collector: walks a table by sending it commands and reading its lines.
 
+use crate::fault::Fault;
 use crate::line::{read_line, Attributes, Criteria, Line};
 use crate::name::descendant_prefix;
 use crate::quoted::push_quoted;
 use crate::refusal::Refusal;
 use crate::server::answer;
-use crate::table::check_table;
+use crate::table::checked_rows;
 
 /// The option byte: 1 asks for REMOTE, 2 for SPECIAL-USE, 4 drops SUBSCRIBED.
 pub const OPTION_REMOTE: u8 = 1;
@@ -53,6 +54,17 @@ pub fn collect(
     result.map(|count| (count, found.used))
 }
 
+/// Why a walk is refused with 1 or 6, or none if it is not.
+pub fn walk_fault(table: &[u8], option: u8) -> Option<Fault> {
+    checked(table, option).err()
+}
+
+fn checked(table: &[u8], option: u8) -> Result<WalkOptions, Fault> {
+    checked_rows(table).map_err(Fault::Table)?;
+    let rule = "an option byte is 0 to 7, and 4 stands beside 2";
+    WalkOptions::from_byte(option).ok_or(Fault::OptionByte(rule))
+}
+
 /// "Collector order: 1, 6, then the walk". Gives the number of commands sent.
 fn walk(
     table: &[u8],
@@ -61,10 +73,7 @@ fn walk(
     found: &mut Names,
     pending: &mut Names,
 ) -> Result<usize, Refusal> {
-    if !check_table(table) {
-        return Err(Refusal::Table);
-    }
-    let options = WalkOptions::from_byte(option).ok_or(Refusal::UnknownOption)?;
+    let options = checked(table, option).map_err(Fault::refusal)?;
     let mut reference = Vec::new();
     let mut asked = 0;
     let mut count = 0;

@@ -3,28 +3,23 @@
 //! With its literals (document 02, W2) a command is one line or more, and is still called its line.
 
 use crate::cursor::{Cursor, WrittenOption};
-use crate::line::{Criteria, CRLF};
-use crate::literal::{first_line, Literal, MAX_LITERAL};
+use crate::fault::LineFault;
+use crate::line::Criteria;
 use crate::refusal::Refusal;
+use crate::shape::shape_of;
 
-/// Document 01: "At most 2,048 bytes"; W2: "in all", with headers, literals and every CR LF.
-pub const MAX_LINE: usize = 2_048;
 /// Document 01: "At most 8 patterns, empty ones counted."
 pub const MAX_PATTERNS: usize = 8;
 /// Document 01: "at most 255 bytes after unquoting".
 pub const MAX_CANONICAL: usize = 255;
 
+/// The one option that is looked for by itself.
+const RECURSIVEMATCH: &[u8] = b"RECURSIVEMATCH";
+
 /// A command that is not refused, with the tag it is answered under.
 pub struct Command<'l> {
     pub tag: &'l [u8],
     pub request: Request,
-}
-
-/// A command whose shape is right: the text outside of its literals, without headers and CR LF.
-struct Shape<'l> {
-    /// The text up to the first literal, or all of it.
-    start: &'l [u8],
-    literals: Vec<Literal<'l>>,
 }
 
 /// What a command asks for.
@@ -64,17 +59,20 @@ struct WrittenList<'l> {
     selection: Vec<WrittenOption<'l>>,
     reference: Vec<u8>,
     patterns: Vec<Vec<u8>>,
+    /// The place of the patterns in the line.
+    patterns_at: usize,
     returned: Vec<WrittenOption<'l>>,
     /// "A command is extended if it has a selection list, parenthesised patterns or RETURN."
     extended: bool,
 }
 
 /// Reads a command line. The order of its refusals is 3, tag 4, 5, rest 4, 6, 7, 8.
-pub fn read_command(line: &[u8]) -> Result<Command<'_>, Refusal> {
-    let shape = shape_of(line).ok_or(Refusal::LineShape)?;
+pub fn read_command(line: &[u8]) -> Result<Command<'_>, LineFault> {
+    let shape = shape_of(line)?;
     let mut cursor = Cursor::new(shape.start, &shape.literals);
     let tag = cursor.tag()?;
     cursor.space()?;
+    let at = cursor.place();
     let word = cursor.word();
     let request = if word.eq_ignore_ascii_case(b"LIST") {
         judge(read_list(cursor)?)?
@@ -82,38 +80,14 @@ pub fn read_command(line: &[u8]) -> Result<Command<'_>, Refusal> {
         cursor.end()?;
         Request::Namespace
     } else {
-        return Err(Refusal::Word);
+        let rule = "the word is LIST or NAMESPACE";
+        return Err(LineFault { refusal: Refusal::Word, at, rule });
     };
     Ok(Command { tag, request })
 }
 
-/// Check 3: the literals of a command, none of them cut short, and the text outside of them,
-/// behind whose CR LF nothing is left.
-fn shape_of(line: &[u8]) -> Option<Shape<'_>> {
-    if line.len() > MAX_LINE || line.contains(&0) {
-        return None;
-    }
-    let mut line = first_line(line)?;
-    let start = line.text;
-    let mut literals = Vec::new();
-    while let Some(length) = line.announced.filter(|&length| length <= MAX_LITERAL) {
-        let (bytes, behind) = line.behind.split_at_checked(length)?;
-        line = first_line(behind)?;
-        literals.push(Literal { bytes, text_behind: line.text });
-    }
-    let is_whole = line.announced.is_none() && line.behind.is_empty();
-    let mut texts = literals.iter().map(|literal| literal.text_behind);
-    (is_whole && is_text(start) && texts.all(is_text)).then_some(Shape { start, literals })
-}
-
-/// "It ends with CR LF, and before that holds only bytes 01 to 7F other than CR and LF", which
-/// since W2 "reads over the text outside literals".
-fn is_text(text: &[u8]) -> bool {
-    text.iter().all(|byte| (0x01..=0x7F).contains(byte) && !CRLF.contains(byte))
-}
-
 /// The rest of a LIST: [SP options] SP reference SP patterns [SP "RETURN" SP options]
-fn read_list<'l>(mut cursor: Cursor<'l, '_>) -> Result<WrittenList<'l>, Refusal> {
+fn read_list<'l>(mut cursor: Cursor<'l, '_>) -> Result<WrittenList<'l>, LineFault> {
     let has_selection = cursor.sees_space_and_list();
     let mut selection = Vec::new();
     if has_selection {
@@ -123,6 +97,7 @@ fn read_list<'l>(mut cursor: Cursor<'l, '_>) -> Result<WrittenList<'l>, Refusal>
     cursor.space()?;
     let reference = cursor.reference()?;
     cursor.space()?;
+    let patterns_at = cursor.place();
     let has_pattern_list = cursor.sees(b'(');
     let patterns = cursor.patterns()?;
     let has_return = cursor.sees(b' ');
@@ -132,31 +107,42 @@ fn read_list<'l>(mut cursor: Cursor<'l, '_>) -> Result<WrittenList<'l>, Refusal>
     }
     cursor.end()?;
     let extended = has_selection || has_pattern_list || has_return;
-    Ok(WrittenList { selection, reference, patterns, returned, extended })
+    Ok(WrittenList { selection, reference, patterns, patterns_at, returned, extended })
 }
 
 /// SP "RETURN" SP options, RETURN in any case of letters
-fn read_return<'l>(cursor: &mut Cursor<'l, '_>) -> Result<Vec<WrittenOption<'l>>, Refusal> {
+fn read_return<'l>(cursor: &mut Cursor<'l, '_>) -> Result<Vec<WrittenOption<'l>>, LineFault> {
     cursor.space()?;
+    let no_return = cursor.off_grammar("RETURN is expected");
     if !cursor.word().eq_ignore_ascii_case(b"RETURN") {
-        return Err(Refusal::Grammar);
+        return Err(no_return);
     }
     cursor.space()?;
     cursor.options()
 }
 
 /// Refusals 6, 7 and 8, in this order, over the whole command.
-fn judge(list: WrittenList) -> Result<Request, Refusal> {
+fn judge(list: WrittenList) -> Result<Request, LineFault> {
     let selection = Selection::of(&list.selection)?;
     let returned = Return::of(&list.returned)?;
     if selection.recursive_match && selection.criteria().is_empty() {
-        return Err(Refusal::RecursiveMatchAlone);
+        return Err(recursive_match_alone(&list.selection));
     }
-    let canonical_patterns = canonical_patterns(&list.reference, &list.patterns)?;
+    let canonical_patterns = canonical_patterns(&list)?;
     if !list.extended && canonical_patterns.is_empty() {
         return Ok(Request::Root);
     }
     Ok(Request::List(ListRequest { selection, returned, canonical_patterns }))
+}
+
+fn recursive_match_alone(selection: &[WrittenOption]) -> LineFault {
+    let mut options = selection.iter();
+    let option = options.find(|option| option.name.eq_ignore_ascii_case(RECURSIVEMATCH));
+    LineFault {
+        refusal: Refusal::RecursiveMatchAlone,
+        at: option.map_or(0, |option| option.at),
+        rule: "SUBSCRIBED or SPECIAL-USE stands beside RECURSIVEMATCH",
+    }
 }
 
 impl Selection {
@@ -173,15 +159,18 @@ impl Selection {
         criteria
     }
 
-    fn of(options: &[WrittenOption]) -> Result<Selection, Refusal> {
+    fn of(options: &[WrittenOption]) -> Result<Selection, LineFault> {
         let mut selection = Selection::default();
         for option in options {
             match known_name(option)?.as_slice() {
                 b"SUBSCRIBED" => selection.subscribed = true,
                 b"REMOTE" => selection.remote = true,
-                b"RECURSIVEMATCH" => selection.recursive_match = true,
+                RECURSIVEMATCH => selection.recursive_match = true,
                 b"SPECIAL-USE" => selection.special_use = true,
-                _ => return Err(Refusal::UnknownOption),
+                _ => {
+                    let rule = "SUBSCRIBED, REMOTE, RECURSIVEMATCH and SPECIAL-USE may be selected";
+                    return Err(unknown(option, rule));
+                }
             }
         }
         Ok(selection)
@@ -189,14 +178,17 @@ impl Selection {
 }
 
 impl Return {
-    fn of(options: &[WrittenOption]) -> Result<Return, Refusal> {
+    fn of(options: &[WrittenOption]) -> Result<Return, LineFault> {
         let mut returned = Return::default();
         for option in options {
             match known_name(option)?.as_slice() {
                 b"SUBSCRIBED" => returned.subscribed = true,
                 b"CHILDREN" => returned.children = true,
                 b"SPECIAL-USE" => returned.special_use = true,
-                _ => return Err(Refusal::UnknownOption),
+                _ => {
+                    let rule = "SUBSCRIBED, CHILDREN and SPECIAL-USE may be returned";
+                    return Err(unknown(option, rule));
+                }
             }
         }
         Ok(returned)
@@ -204,22 +196,30 @@ impl Return {
 }
 
 /// "Known, in any case of letters and without a value": the name in upper case.
-fn known_name(option: &WrittenOption) -> Result<Vec<u8>, Refusal> {
+fn known_name(option: &WrittenOption) -> Result<Vec<u8>, LineFault> {
     if option.has_value {
-        Err(Refusal::UnknownOption)
+        Err(unknown(option, "no known option has a value"))
     } else {
         Ok(option.name.to_ascii_uppercase())
     }
 }
 
+fn unknown(option: &WrittenOption, rule: &'static str) -> LineFault {
+    LineFault { refusal: Refusal::UnknownOption, at: option.at, rule }
+}
+
 /// "The canonical pattern is the reference followed by the pattern". An empty pattern counts
 /// for the eight and has no canonical form, so its reference may be of any length.
-fn canonical_patterns(reference: &[u8], patterns: &[Vec<u8>]) -> Result<Vec<Vec<u8>>, Refusal> {
-    let written = patterns.iter().filter(|pattern| !pattern.is_empty());
-    let canonical: Vec<_> = written.map(|pattern| [reference, pattern].concat()).collect();
-    let too_long = canonical.iter().any(|pattern| pattern.len() > MAX_CANONICAL);
-    if patterns.len() > MAX_PATTERNS || too_long {
-        return Err(Refusal::Patterns);
-    }
-    Ok(canonical)
+fn canonical_patterns(list: &WrittenList) -> Result<Vec<Vec<u8>>, LineFault> {
+    let written = list.patterns.iter().filter(|pattern| !pattern.is_empty());
+    let canonical: Vec<_> =
+        written.map(|pattern| [list.reference.as_slice(), pattern].concat()).collect();
+    let rule = if list.patterns.len() > MAX_PATTERNS {
+        "a command has at most 8 patterns"
+    } else if canonical.iter().any(|pattern| pattern.len() > MAX_CANONICAL) {
+        "a canonical pattern has at most 255 bytes"
+    } else {
+        return Ok(canonical);
+    };
+    Err(LineFault { refusal: Refusal::Patterns, at: list.patterns_at, rule })
 }

@@ -1,8 +1,10 @@
-//! The tokens of a command line, read from left to right. What is off the grammar is 4.
+//! The tokens of a command line, read from left to right. What is off the grammar is 4, at the place
+//! where another byte would have had to stand.
 //!
 //! Atoms, quoted strings and literals are RFC 3501's. Each method has its grammar above it; SP is
 //! one space. A literal is one symbol: no other token reaches over it.
 
+use crate::fault::LineFault;
 use crate::literal::Literal;
 use crate::pattern::is_wildcard;
 use crate::quoted::read_quoted;
@@ -10,13 +12,15 @@ use crate::refusal::Refusal;
 
 const SPACE: u8 = b' ';
 
-/// A token, or the refusal.
-pub type Token<T> = Result<T, Refusal>;
+/// A token, or why there is none.
+pub type Token<T> = Result<T, LineFault>;
 
 /// What is left of the line.
 pub struct Cursor<'l, 's> {
     /// The text up to the next literal.
     rest: &'l [u8],
+    /// The place of that text in the line.
+    at: usize,
     literals: &'s [Literal<'l>],
 }
 
@@ -24,12 +28,24 @@ pub struct Cursor<'l, 's> {
 pub struct WrittenOption<'l> {
     pub name: &'l [u8],
     pub has_value: bool,
+    /// Its place in the line.
+    pub at: usize,
 }
 
 impl<'l, 's> Cursor<'l, 's> {
-    /// A text, and behind it the literals with the text behind each.
+    /// The text that a line starts with, and after it the literals with the text after each.
     pub fn new(text: &'l [u8], literals: &'s [Literal<'l>]) -> Cursor<'l, 's> {
-        Cursor { rest: text, literals }
+        Cursor { rest: text, at: 0, literals }
+    }
+
+    /// The place in the line.
+    pub fn place(&self) -> usize {
+        self.at
+    }
+
+    /// What is refused here for being off the grammar.
+    pub fn off_grammar(&self, rule: &'static str) -> LineFault {
+        LineFault { refusal: Refusal::Grammar, at: self.at, rule }
     }
 
     /// Whether `byte` is next.
@@ -47,18 +63,19 @@ impl<'l, 's> Cursor<'l, 's> {
         if self.rest.is_empty() && self.literals.is_empty() {
             Ok(())
         } else {
-            Err(Refusal::Grammar)
+            Err(self.off_grammar("the end of the line is expected"))
         }
     }
 
     /// SP
     pub fn space(&mut self) -> Token<()> {
-        self.byte(SPACE)
+        self.byte(SPACE, "one space is expected")
     }
 
     /// tag = 1*(atom byte / "]"), no "+"
     pub fn tag(&mut self) -> Token<&'l [u8]> {
-        self.non_empty_run(|byte| is_astring_byte(byte) && byte != b'+')
+        let rule = "a tag is atom bytes and \"]\", no \"+\"";
+        self.non_empty_run(|byte| is_astring_byte(byte) && byte != b'+', rule)
     }
 
     /// word = *(atom byte), the longest run
@@ -82,24 +99,23 @@ impl<'l, 's> Cursor<'l, 's> {
 
     /// options = "(" [option *(SP option)] ")"
     pub fn options(&mut self) -> Token<Vec<WrittenOption<'l>>> {
-        match self.rest.strip_prefix(b"()") {
-            Some(behind) => {
-                self.rest = behind;
-                Ok(Vec::new())
-            }
-            None => self.list(Self::option),
+        if self.rest.starts_with(b"()") {
+            self.skip(2);
+            return Ok(Vec::new());
         }
+        self.list(Self::option)
     }
 
     /// option = 1*(atom byte) [SP value]
     fn option(&mut self) -> Token<WrittenOption<'l>> {
-        let name = self.non_empty_run(is_atom_byte)?;
+        let at = self.at;
+        let name = self.non_empty_run(is_atom_byte, "an option is an atom")?;
         let has_value = self.sees_space_and_list();
         if has_value {
             self.space()?;
             self.value()?;
         }
-        Ok(WrittenOption { name, has_value })
+        Ok(WrittenOption { name, has_value, at })
     }
 
     /// value = "(" item *(SP item) ")"
@@ -118,55 +134,58 @@ impl<'l, 's> Cursor<'l, 's> {
 
     /// astring = quoted / literal / 1*(atom byte / "]")
     fn astring(&mut self) -> Token<Vec<u8>> {
-        self.string_or_run(is_astring_byte)
+        self.string_or_run(is_astring_byte, "a quoted string, a literal or an atom is expected")
     }
 
     /// pattern = quoted / literal / 1*(atom byte / "]" / "%" / "*")
     fn pattern(&mut self) -> Token<Vec<u8>> {
-        self.string_or_run(|byte| is_astring_byte(byte) || is_wildcard(byte))
+        let rule = "a pattern is a quoted string, a literal or a run of atom bytes, ] % and *";
+        self.string_or_run(|byte| is_astring_byte(byte) || is_wildcard(byte), rule)
     }
 
     /// "(" item *(SP item) ")"
     fn list<T>(&mut self, item: fn(&mut Self) -> Token<T>) -> Token<Vec<T>> {
-        self.byte(b'(')?;
+        self.byte(b'(', "an opening parenthesis is expected")?;
         let mut items = vec![item(self)?];
         while self.sees(SPACE) {
             self.space()?;
             items.push(item(self)?);
         }
-        self.byte(b')')?;
+        self.byte(b')', "a space or a closing parenthesis is expected")?;
         Ok(items)
     }
 
-    fn string_or_run(&mut self, belongs: fn(u8) -> bool) -> Token<Vec<u8>> {
+    fn string_or_run(&mut self, belongs: fn(u8) -> bool, rule: &'static str) -> Token<Vec<u8>> {
         if self.sees(b'"') {
             return self.quoted();
         }
         match self.literal() {
             Some(bytes) => Ok(bytes.to_vec()),
-            None => self.non_empty_run(belongs).map(<[u8]>::to_vec),
+            None => self.non_empty_run(belongs, rule).map(<[u8]>::to_vec),
         }
     }
 
     /// literal = "{" 1*DIGIT "}" CR LF and so many bytes, if it is next
     fn literal(&mut self) -> Option<&'l [u8]> {
-        let (literal, behind) = self.literals.split_first().filter(|_| self.rest.is_empty())?;
-        self.rest = literal.text_behind;
-        self.literals = behind;
+        let (literal, after) = self.literals.split_first().filter(|_| self.rest.is_empty())?;
+        self.rest = literal.text_after;
+        self.at = literal.text_place;
+        self.literals = after;
         Some(literal.bytes)
     }
 
     /// quoted = DQUOTE *(any byte of a line but DQUOTE and "\" / "\" (DQUOTE / "\")) DQUOTE
     fn quoted(&mut self) -> Token<Vec<u8>> {
-        let (bytes, behind) = read_quoted(self.rest).ok_or(Refusal::Grammar)?;
-        self.rest = behind;
+        let rule = "a quoted string has both quotes, and a backslash only before \" and \\";
+        let (bytes, after) = read_quoted(self.rest).ok_or_else(|| self.off_grammar(rule))?;
+        self.skip(self.rest.len() - after.len());
         Ok(bytes)
     }
 
-    fn non_empty_run(&mut self, belongs: fn(u8) -> bool) -> Token<&'l [u8]> {
+    fn non_empty_run(&mut self, belongs: fn(u8) -> bool, rule: &'static str) -> Token<&'l [u8]> {
         let run = self.run(belongs);
         if run.is_empty() {
-            Err(Refusal::Grammar)
+            Err(self.off_grammar(rule))
         } else {
             Ok(run)
         }
@@ -174,14 +193,23 @@ impl<'l, 's> Cursor<'l, 's> {
 
     fn run(&mut self, belongs: fn(u8) -> bool) -> &'l [u8] {
         let length = self.rest.iter().take_while(|&&byte| belongs(byte)).count();
-        let (run, behind) = self.rest.split_at(length);
-        self.rest = behind;
-        run
+        self.skip(length)
     }
 
-    fn byte(&mut self, wanted: u8) -> Token<()> {
-        self.rest = self.rest.strip_prefix(&[wanted]).ok_or(Refusal::Grammar)?;
+    fn byte(&mut self, wanted: u8, rule: &'static str) -> Token<()> {
+        if !self.sees(wanted) {
+            return Err(self.off_grammar(rule));
+        }
+        self.skip(1);
         Ok(())
+    }
+
+    /// Goes on by so many bytes of the text, which are given.
+    fn skip(&mut self, length: usize) -> &'l [u8] {
+        let (skipped, after) = self.rest.split_at(length);
+        self.rest = after;
+        self.at += length;
+        skipped
     }
 }
 

@@ -6,10 +6,10 @@
 
 use std::mem;
 
-use crate::command::MAX_LINE;
 use crate::line::CRLF;
 use crate::literal::{first_line, MAX_LITERAL};
 use crate::refusal::Refusal;
+use crate::shape::MAX_LINE;
 
 /// The continuation line that a literal is asked for with.
 pub const CONTINUATION: &[u8] = b"+ go\r\n";

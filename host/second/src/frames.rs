@@ -5,9 +5,10 @@ use std::io::{self, BufRead, BufReader, BufWriter, Read, Write};
 use std::process::ExitCode;
 use std::slice;
 
-use crate::collector::collect;
+use crate::collector::{collect, walk_fault};
+use crate::fault::{Fault, RoomFault};
 use crate::refusal::Refusal;
-use crate::server::answer;
+use crate::server::{answer, command_fault};
 
 /// First byte of a frame that adds to the table.
 pub const ROW: u8 = 0x4D;
@@ -98,19 +99,32 @@ impl Program {
     }
 
     /// Adds the bytes of a frame of 4D, unlooked-at, or refuses and adds nothing.
-    pub fn store_row(&mut self, row: &[u8]) -> Result<(), Refusal> {
-        store(&mut self.table, row, TABLE_ROOM, Refusal::Table)
+    pub fn store_row(&mut self, row: &[u8]) -> Result<(), Fault> {
+        store(&mut self.table, row, TABLE_ROOM).map_err(Fault::TableRoom)
     }
 
     /// Adds the bytes of a frame of 4E, unlooked-at, or refuses and adds nothing.
-    pub fn store_entry(&mut self, entry: &[u8]) -> Result<(), Refusal> {
-        store(&mut self.namespaces, entry, NAMESPACES_ROOM, Refusal::Namespaces)
+    pub fn store_entry(&mut self, entry: &[u8]) -> Result<(), Fault> {
+        store(&mut self.namespaces, entry, NAMESPACES_ROOM).map_err(Fault::NamespacesRoom)
+    }
+
+    /// Why a frame is refused as things stand, or none if it is not, or if a buffer is too small.
+    pub fn fault(&self, text: &[u8]) -> Option<Fault> {
+        match Frame::decode(text) {
+            Err(rule) => Some(Fault::Frame(rule)),
+            Ok(Frame::Row(row)) => room(&self.table, &row, TABLE_ROOM).err().map(Fault::TableRoom),
+            Ok(Frame::Entry(entry)) => {
+                room(&self.namespaces, &entry, NAMESPACES_ROOM).err().map(Fault::NamespacesRoom)
+            }
+            Ok(Frame::Command(line)) => command_fault(&self.table, &self.namespaces, &line),
+            Ok(Frame::Walk(option)) => walk_fault(&self.table, option),
+        }
     }
 
     fn step(&mut self, text: &[u8]) -> Result<Option<Answer>, Refusal> {
-        match Frame::decode(text)? {
-            Frame::Row(row) => self.store_row(&row).map(|()| None),
-            Frame::Entry(entry) => self.store_entry(&entry).map(|()| None),
+        match Frame::decode(text).map_err(|_| Refusal::Frame)? {
+            Frame::Row(row) => self.store_row(&row).map(|()| None).map_err(Fault::refusal),
+            Frame::Entry(entry) => self.store_entry(&entry).map(|()| None).map_err(Fault::refusal),
             Frame::Command(line) => self.answer_command(&line).map(Some),
             Frame::Walk(option) => self.answer_walk(option).map(Some),
         }
@@ -135,18 +149,23 @@ impl Program {
 }
 
 impl Frame {
-    /// Reads a frame without its LF; all that document 01 calls bad is 13.
-    pub fn decode(text: &[u8]) -> Result<Frame, Refusal> {
+    /// Reads a frame without its LF, or says why it is bad, which is 13.
+    pub fn decode(text: &[u8]) -> Result<Frame, &'static str> {
         if text.len() > MAX_DIGITS {
-            return Err(Refusal::Frame);
+            return Err("a frame has at most 4,100 digits");
         }
-        let bytes = bytes_of_hex(text).ok_or(Refusal::Frame)?;
+        if !text.iter().all(u8::is_ascii_hexdigit) {
+            return Err("a frame holds hexadecimal digits alone");
+        }
+        let bytes = bytes_of_hex(text).ok_or("a frame has an even number of digits")?;
         match bytes.as_slice() {
             [ROW, row @ ..] => Ok(Frame::Row(row.to_vec())),
             [ENTRY, entry @ ..] => Ok(Frame::Entry(entry.to_vec())),
             [COMMAND, line @ ..] => Ok(Frame::Command(line.to_vec())),
             [WALK, option] => Ok(Frame::Walk(*option)),
-            _ => Err(Refusal::Frame),
+            [WALK, ..] => Err("57 is followed by one byte"),
+            [] => Err("a frame is not empty"),
+            _ => Err("the first byte of a frame is 4D, 4E, 43 or 57"),
         }
     }
 
@@ -177,11 +196,17 @@ impl Answer {
 }
 
 /// "no room: 1 or 2, nothing added"
-fn store(stored: &mut Vec<u8>, added: &[u8], room: usize, no_room: Refusal) -> Result<(), Refusal> {
-    if stored.len() + added.len() > room {
-        return Err(no_room);
-    }
+fn store(stored: &mut Vec<u8>, added: &[u8], most: usize) -> Result<(), RoomFault> {
+    room(stored, added, most)?;
     stored.extend_from_slice(added);
+    Ok(())
+}
+
+fn room(stored: &[u8], added: &[u8], room: usize) -> Result<(), RoomFault> {
+    let (stored, added) = (stored.len(), added.len());
+    if stored + added > room {
+        return Err(RoomFault { stored, added, room });
+    }
     Ok(())
 }
 

@@ -9,6 +9,7 @@
 pub mod collector;
 pub mod command;
 mod cursor;
+pub mod fault;
 pub mod feeder;
 pub mod frames;
 pub mod line;
@@ -20,6 +21,7 @@ mod pattern;
 pub mod quoted;
 pub mod refusal;
 mod server;
+pub mod shape;
 pub mod table;
 
 pub use collector::collect;

@@ -11,7 +11,9 @@ pub const MAX_LITERAL: usize = 1_024;
 /// A literal, and the text from there to the next one or to the end of the command.
 pub struct Literal<'l> {
     pub bytes: &'l [u8],
-    pub text_behind: &'l [u8],
+    pub text_after: &'l [u8],
+    /// The place of that text in the command.
+    pub text_place: usize,
 }
 
 /// The line that bytes outside literals start with.

@@ -11,10 +11,24 @@ pub const INBOX: &[u8] = b"INBOX";
 
 /// Whether a name has the table's shape: length, bytes, levels and the INBOX rule.
 pub fn is_lawful(name: &[u8]) -> bool {
-    (1..=MAX_NAME).contains(&name.len())
-        && level_count(name) <= MAX_LEVELS
-        && levels(name).all(is_lawful_level)
-        && spells_inbox_lawfully(name)
+    broken_rule(name).is_none()
+}
+
+/// The first rule for names that a name breaks.
+pub fn broken_rule(name: &[u8]) -> Option<&'static str> {
+    if !(1..=MAX_NAME).contains(&name.len()) {
+        Some("a name has 1 to 200 bytes")
+    } else if !levels(name).flatten().all(|&byte| is_name_byte(byte)) {
+        Some("name bytes are 20 to 7E (hex), without % and *")
+    } else if levels(name).any(<[u8]>::is_empty) {
+        Some("no level of a name is empty")
+    } else if levels(name).count() > MAX_LEVELS {
+        Some("names have 1 to 16 levels")
+    } else if !spells_inbox_lawfully(name) {
+        Some("a first level that equals INBOX is spelled INBOX")
+    } else {
+        None
+    }
 }
 
 /// "A name's proper ancestors are what stands before each of its "/"", shortest first.
@@ -36,14 +50,8 @@ fn levels(name: &[u8]) -> impl Iterator<Item = &[u8]> {
     name.split(|&byte| byte == DELIMITER)
 }
 
-fn level_count(name: &[u8]) -> usize {
-    1 + name.iter().filter(|&&byte| byte == DELIMITER).count()
-}
-
-/// Not empty, and "name bytes are 20 to 7E (hex), without % and *".
-fn is_lawful_level(level: &[u8]) -> bool {
-    let is_name_byte = |&byte: &u8| is_printable(byte) && byte != b'%' && byte != b'*';
-    !level.is_empty() && level.iter().all(is_name_byte)
+fn is_name_byte(byte: u8) -> bool {
+    is_printable(byte) && byte != b'%' && byte != b'*'
 }
 
 /// "a first level that equals INBOX without regard to case is spelled INBOX"

@@ -1,5 +1,6 @@
 //! The namespace list: its entries, check 2 and the NAMESPACE line.
 
+use crate::fault::ListFault;
 use crate::line::CRLF;
 use crate::name::is_printable;
 use crate::quoted::push_quoted;
@@ -10,6 +11,8 @@ pub const CLASSES: u8 = 3;
 pub const MAX_ENTRIES_A_CLASS: usize = 4;
 /// Document 01: "prefix length 0 to 64".
 pub const MAX_PREFIX: usize = 64;
+/// The bytes of an entry before its prefix: class and prefix length.
+const ENTRY_HEAD: usize = 2;
 /// The delimiter byte that stands for NIL.
 const NIL_DELIMITER: u8 = 0;
 
@@ -30,27 +33,65 @@ impl Entry<'_> {
         Some([&[self.class, length], self.prefix, &[delimiter]].concat())
     }
 
-    fn is_lawful(&self) -> bool {
-        self.class < CLASSES
-            && self.prefix.len() <= MAX_PREFIX
-            && self.prefix.iter().all(|&byte| is_printable(byte))
-            && self.delimiter.is_none_or(|byte| is_printable(byte) && byte != b' ')
+    /// The first rule that the entry breaks by itself.
+    fn broken_rule(&self) -> Option<&'static str> {
+        if self.class >= CLASSES {
+            Some("a class is 0 personal, 1 other users or 2 shared")
+        } else if self.prefix.len() > MAX_PREFIX {
+            Some("a prefix has 0 to 64 bytes")
+        } else if !self.prefix.iter().all(|&byte| is_printable(byte)) {
+            Some("prefix bytes are 20 to 7E (hex)")
+        } else if !self.delimiter.is_none_or(|byte| is_printable(byte) && byte != b' ') {
+            Some("a delimiter is 0 for NIL, or 21 to 7E (hex)")
+        } else {
+            None
+        }
+    }
+
+    fn length(&self) -> usize {
+        ENTRY_HEAD + self.prefix.len() + 1
     }
 }
 
 /// Check 2.
 pub fn check_namespaces(list: &[u8]) -> bool {
-    checked_entries(list).is_some()
+    checked_entries(list).is_ok()
 }
 
-/// The entries of a namespace list that passes check 2.
-pub fn checked_entries(list: &[u8]) -> Option<Vec<Entry<'_>>> {
+/// The entries of a namespace list that passes check 2, or the first entry that breaks a rule.
+pub fn checked_entries(list: &[u8]) -> Result<Vec<Entry<'_>>, ListFault> {
     let (entries, rest) = split_entries(list);
-    let passes = rest.is_empty()
-        && entries.iter().all(Entry::is_lawful)
-        && entries.is_sorted_by_key(|entry| entry.class)
-        && (0..CLASSES).all(|class| of_class(&entries, class).count() <= MAX_ENTRIES_A_CLASS);
-    passes.then_some(entries)
+    let start = |entry: usize| entries[..entry].iter().map(Entry::length).sum();
+    for entry in 0..entries.len() {
+        if let Some((rule, other)) = broken_rule(&entries, entry) {
+            return Err(ListFault { at: start(entry), rule, other: other.map(start) });
+        }
+    }
+    if rest.is_empty() {
+        return Ok(entries);
+    }
+    let rule = "entries fill the list exactly";
+    Err(ListFault { at: list.len() - rest.len(), rule, other: None })
+}
+
+/// The first rule that an entry breaks by itself or with those before it, and one of them.
+fn broken_rule(entries: &[Entry], at: usize) -> Option<(&'static str, Option<usize>)> {
+    let class = entries[at].class;
+    let before = at.checked_sub(1).filter(|&before| entries[before].class > class);
+    if let Some(rule) = entries[at].broken_rule() {
+        Some((rule, None))
+    } else if before.is_some() {
+        Some(("classes do not descend", before))
+    } else if of_class(&entries[..at], class).count() >= MAX_ENTRIES_A_CLASS {
+        Some(("at most 4 entries a class", None))
+    } else {
+        None
+    }
+}
+
+/// The entry at a place of a list.
+pub fn entry_at(list: &[u8], at: usize) -> Option<Entry<'_>> {
+    split_entry(list.get(at..)?).map(|(entry, _)| entry)
 }
 
 /// The entries of a list, not judged any further, and the bytes behind them that are no whole

@@ -1,11 +1,12 @@
 //! The server side's command entry: the order of refusals, and the answer in a lent buffer.
 
-use crate::command::{read_command, Request};
+use crate::command::{read_command, Command, Request};
+use crate::fault::Fault;
 use crate::line::{put_answer, ROOT_LINE};
 use crate::listing::list_lines;
-use crate::namespaces::{checked_entries, namespace_line};
+use crate::namespaces::{checked_entries, namespace_line, Entry};
 use crate::refusal::Refusal;
-use crate::table::checked_rows;
+use crate::table::{checked_rows, Row};
 
 /// Answers one command line and gives the answer's length.
 ///
@@ -17,15 +18,36 @@ pub fn answer(
     line: &[u8],
     out: &mut [u8],
 ) -> Result<usize, Refusal> {
-    let rows = checked_rows(table).ok_or(Refusal::Table)?;
-    let entries = checked_entries(namespaces).ok_or(Refusal::Namespaces)?;
-    let command = read_command(line)?;
-    let mut text = match &command.request {
-        Request::Namespace => namespace_line(&entries),
+    let checked = checked(table, namespaces, line).map_err(Fault::refusal)?;
+    let mut text = match &checked.command.request {
+        Request::Namespace => namespace_line(&checked.entries),
         Request::Root => ROOT_LINE.to_vec(),
-        Request::List(request) => list_lines(&rows, request),
+        Request::List(request) => list_lines(&checked.rows, request),
     };
-    text.extend_from_slice(command.tag);
+    text.extend_from_slice(checked.command.tag);
     text.extend_from_slice(b" OK done\r\n");
     put_answer(&text, out)
+}
+
+/// Why a command is refused with 1 to 8, or none if it is not.
+pub fn command_fault(table: &[u8], namespaces: &[u8], line: &[u8]) -> Option<Fault> {
+    checked(table, namespaces, line).err()
+}
+
+/// What a command is answered from.
+struct Checked<'i> {
+    rows: Vec<Row<'i>>,
+    entries: Vec<Entry<'i>>,
+    command: Command<'i>,
+}
+
+fn checked<'i>(
+    table: &'i [u8],
+    namespaces: &'i [u8],
+    line: &'i [u8],
+) -> Result<Checked<'i>, Fault> {
+    let rows = checked_rows(table).map_err(Fault::Table)?;
+    let entries = checked_entries(namespaces).map_err(Fault::Namespaces)?;
+    let command = read_command(line).map_err(Fault::Line)?;
+    Ok(Checked { rows, entries, command })
 }

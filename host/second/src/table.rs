@@ -1,5 +1,8 @@
 //! The mailbox table: its flags, its rows and check 1.
 
+use std::ops::Range;
+
+use crate::fault::ListFault;
 use crate::name;
 
 /// Document 01: "At most 512 rows and 32,768 bytes."
@@ -79,11 +82,17 @@ impl Flags {
         self.0 &= !removed.0;
     }
 
-    /// "a row that does not exist has flags exactly 0002; marked and unmarked are not both set"
-    fn are_lawful(self) -> bool {
-        !self.has(Flags::UNNAMED)
-            && (self.has(Flags::EXISTS) || self == Flags::SUBSCRIBED)
-            && !(self.has(Flags::MARKED) && self.has(Flags::UNMARKED))
+    /// The first rule for flags that these break.
+    fn broken_rule(self) -> Option<&'static str> {
+        if self.has(Flags::UNNAMED) {
+            Some("bits 7 and 15 of the flags must be 0")
+        } else if !self.has(Flags::EXISTS) && self != Flags::SUBSCRIBED {
+            Some("a row that does not exist has flags exactly 0002")
+        } else if self.has(Flags::MARKED) && self.has(Flags::UNMARKED) {
+            Some("marked and unmarked are not both set")
+        } else {
+            None
+        }
     }
 }
 
@@ -104,21 +113,65 @@ impl Row<'_> {
 
 /// Check 1.
 pub fn check_table(table: &[u8]) -> bool {
-    checked_rows(table).is_some()
+    checked_rows(table).is_ok()
 }
 
-/// The rows of a table that passes check 1, ascending by name.
-pub fn checked_rows(table: &[u8]) -> Option<Vec<Row<'_>>> {
-    if table.len() > MAX_TABLE {
-        return None;
-    }
+/// The rows of a table that passes check 1, ascending by name, or the first row that breaks a rule.
+pub fn checked_rows(table: &[u8]) -> Result<Vec<Row<'_>>, ListFault> {
     let (rows, rest) = split_rows(table);
-    let passes = rest.is_empty()
-        && rows.len() <= MAX_ROWS
-        && rows.iter().all(|row| row.flags.are_lawful() && name::is_lawful(row.name))
-        && rows.is_sorted_by(|earlier, later| earlier.name < later.name)
-        && no_row_below_no_inferiors(&rows);
-    passes.then_some(rows)
+    if let Some(broken) = first_broken(&rows) {
+        return Err(broken.fault(&rows));
+    }
+    let rule = if !rest.is_empty() {
+        "rows fill the table exactly"
+    } else if table.len() > MAX_TABLE {
+        "a table has at most 32,768 bytes"
+    } else {
+        return Ok(rows);
+    };
+    Err(ListFault { at: table.len() - rest.len(), rule, other: None })
+}
+
+/// The row at a place of a table.
+pub fn row_at(table: &[u8], at: usize) -> Option<Row<'_>> {
+    split_row(table.get(at..)?).map(|(row, _)| row)
+}
+
+/// A row that breaks a rule, and the row with which it does, by their numbers from 0 on.
+struct Broken {
+    row: usize,
+    rule: &'static str,
+    other: Option<usize>,
+}
+
+impl Broken {
+    fn fault(&self, rows: &[Row]) -> ListFault {
+        let start = |row: usize| rows[..row].iter().map(|row| ROW_HEAD + row.name.len()).sum();
+        ListFault { at: start(self.row), rule: self.rule, other: self.other.map(start) }
+    }
+}
+
+/// The first row that breaks a rule. Rows before it ascend, which the search for rows below one with
+/// no inferiors needs.
+fn first_broken(rows: &[Row]) -> Option<Broken> {
+    let broken = (0..rows.len()).find_map(|at| broken_alone(rows, at));
+    let sound = broken.as_ref().map_or(rows.len(), |broken| broken.row);
+    first_below_no_inferiors(&rows[..sound]).or(broken)
+}
+
+/// The first rule that a row breaks by itself, or with the row before.
+fn broken_alone(rows: &[Row], row: usize) -> Option<Broken> {
+    let Row { flags, name } = rows[row];
+    if let Some(rule) = name::broken_rule(name) {
+        return Some(Broken { row, rule, other: None });
+    }
+    let before = row.checked_sub(1).filter(|&before| rows[before].name >= name);
+    if before.is_some() {
+        return Some(Broken { row, rule: "names strictly ascend by bytes", other: before });
+    }
+    let too_many = (row >= MAX_ROWS).then_some("a table has at most 512 rows");
+    let rule = flags.broken_rule().or(too_many)?;
+    Some(Broken { row, rule, other: None })
 }
 
 /// The rows of a table, not judged any further, and the bytes behind them that are no whole row.
@@ -141,14 +194,20 @@ fn split_row(table: &[u8]) -> Option<(Row<'_>, &[u8])> {
 
 /// The rows that are descendants of `name`. In ascending rows they stand side by side.
 pub fn rows_below<'r, 't>(rows: &'r [Row<'t>], name: &[u8]) -> &'r [Row<'t>] {
+    &rows[places_below(rows, name)]
+}
+
+fn places_below(rows: &[Row], name: &[u8]) -> Range<usize> {
     let prefix = name::descendant_prefix(name);
     let start = rows.partition_point(|row| row.name < prefix.as_slice());
-    let behind = &rows[start..];
-    &behind[..behind.partition_point(|row| row.name.starts_with(&prefix))]
+    let count = rows[start..].partition_point(|row| row.name.starts_with(&prefix));
+    start..start + count
 }
 
 /// "no row lies below a row with no inferiors", at any depth. The rows ascend.
-fn no_row_below_no_inferiors(rows: &[Row]) -> bool {
-    let mut childless = rows.iter().filter(|row| row.flags.has(Flags::NO_INFERIORS));
-    childless.all(|row| rows_below(rows, row.name).is_empty())
+fn first_below_no_inferiors(rows: &[Row]) -> Option<Broken> {
+    let childless = (0..rows.len()).filter(|&at| rows[at].flags.has(Flags::NO_INFERIORS));
+    let below = childless.filter_map(|at| Some((places_below(rows, rows[at].name).next()?, at)));
+    let rule = "no row lies below a row with no inferiors";
+    below.min().map(|(row, other)| Broken { row, rule, other: Some(other) })
 }

@@ -1,7 +1,7 @@
-//! Sessions as text: reading a session file into frames, and showing frames and answers.
+//! Sessions as text: reading a session file into frames, running it, and showing frames and answers.
 //!
-//! A session file has one item a line; empty lines and lines that start with `#` are no items.
-//! Rows and entries are sent in the order in which they stand.
+//! A session file has one item a line, its words parted by spaces or tabs; empty lines and lines that
+//! start with `#` are no items.
 //!
 //! | Item | Example |
 //! |---|---|
@@ -11,24 +11,43 @@
 //! | a command with literals | `command a LIST "" {3}`, and in the next line `+ Foo RETURN ()` |
 //! | a walk | `walk`, `walk remote`, `walk special-use without-subscribed`, `walk 6` |
 //! | a frame as it is sent | `frame 57FF` |
+//! | what the item before is refused with | `expect 7` |
+//! | mailbox lines stay as they stand | `order as-given` |
 //!
-//! A command goes on in each line that starts with `+` and follows it at once: CR LF and what
-//! stands behind `+` and one space are added, whatever that is. So `{3}` at the end of a line makes
-//! a literal of the first three bytes behind the next `+`, and without such a line the literal is
-//! cut short. A literal that has CR LF in it has several such lines.
+//! A command goes on in each line that starts with `+` and follows it at once: CR LF and what comes
+//! after `+` and one space are added, whatever that is. So `{3}` at the end of a line makes a literal
+//! of the first three bytes after the next `+`, and without such a line the literal is cut short. A
+//! literal that has CR LF in it has several such lines.
+//!
+//! Rows are sent by the bytes of their names, among those that stand between two items which are
+//! answered; entries in the order in which they stand.
 //!
 //! A file whose first line is a frame is a file of frames, and its lines are sent as they stand.
 
+mod error;
+mod explain;
+mod item;
+mod items;
+mod order;
 mod parse;
+mod printer;
+mod reply;
 mod run;
 mod session;
 mod show;
 mod source;
+mod summary;
 mod text;
+mod utf7;
 mod words;
 
-pub use parse::Item;
-pub use run::{run_session, Form, RunError};
-pub use session::{Session, SessionError};
+pub use error::{BadLine, SessionError};
+pub use item::{Content, Item, Origin, Sent};
+pub use printer::Form;
+pub use run::{run_session, RunError};
+pub use session::Session;
 pub use show::{show_answer, show_frame, show_namespaces, show_table, Shown};
 pub use source::Source;
+pub use summary::Summary;
+pub use text::{comment_text, line_text, name_text};
+pub use utf7::decoded;

@@ -2,21 +2,28 @@
 //!
 //! Sends the session in FILE, or on standard input, to a program of frames, and prints commands
 //! and answers as text; with `--frames`, the frames and answers as they were sent. The form of a
-//! session file stands in the library. Status 2 is a wrong call, or a file or a line
-//! that cannot be read, and then nothing is run; status 1 is a program that does not answer as a
-//! program of frames does.
+//! session file stands in the library. Its statuses are those of `./run`.
 
 use std::env;
+use std::fmt::Display;
 use std::io::{self, BufWriter, Write};
 use std::path::PathBuf;
 use std::process::ExitCode;
 
 use child::find_program;
-use session::{run_session, Form, RunError, Session, SessionError, Source};
+use session::{run_session, Form, RunError, Session, SessionError, Source, Summary};
 
 const USAGE: &str = "usage: session --program PATH [FILE] [--frames]";
-/// Status for what is wrong with the call or the file.
-const BAD_CALL: u8 = 2;
+const CR_FRAMES: &str =
+    "the lines of this file of frames end in CR LF; a frame ends with LF alone, so CR is \
+                         another character and such a frame is bad (13)";
+
+/// Trouble with the machine: no program, a program that fails, output that fails.
+const TROUBLE: u8 = 1;
+/// The call or the file is wrong, and nothing was run.
+const NOT_RUN: u8 = 2;
+/// Something was refused.
+const REFUSED: u8 = 3;
 
 struct Call {
     program: PathBuf,
@@ -24,54 +31,103 @@ struct Call {
     form: Form,
 }
 
-fn main() -> ExitCode {
-    let ready = read_call().and_then(|call| Ok((check_session(&call)?, call)));
-    let (session, call) = match ready {
-        Ok(ready) => ready,
-        Err(message) => {
-            eprintln!("{message}");
-            return ExitCode::from(BAD_CALL);
-        }
-    };
-    let mut output = BufWriter::new(io::stdout().lock());
-    let result = run_session(&call.program, &session, call.form, &mut output);
-    let flushed = output.flush();
-    match result {
-        Ok(()) if flushed.is_ok() => return ExitCode::SUCCESS,
-        Ok(()) | Err(RunError::Output(_)) => {}
-        Err(RunError::Program(error)) => eprintln!("{}: {error}", call.program.display()),
-        Err(RunError::Session(error)) => eprintln!("{}", session_text(&call, &error)),
-    }
-    ExitCode::FAILURE
+/// What is told on standard error, and the status.
+struct Failure {
+    status: u8,
+    message: String,
 }
 
-fn read_call() -> Result<Call, String> {
+fn main() -> ExitCode {
+    match run() {
+        Ok(status) => ExitCode::from(status),
+        Err(failure) => {
+            tell(failure.message);
+            ExitCode::from(failure.status)
+        }
+    }
+}
+
+fn run() -> Result<u8, Failure> {
+    let call = read_call()?;
+    let session = check_session(&call)?;
+    let mut output = BufWriter::new(io::stdout().lock());
+    let result = run_session(&call.program, &session, call.form, &mut output);
+    // What was printed so far is seen before anything is told.
+    let flushed = output.flush();
+    let failed = |message: String| Failure { status: TROUBLE, message };
+    let no_output = |error: io::Error| failed(format!("cannot write the output: {error}"));
+    match result {
+        Err(RunError::Output(error)) => Err(no_output(error)),
+        Err(RunError::Program(error)) => {
+            Err(failed(format!("{}: {error}", call.program.display())))
+        }
+        Err(RunError::Session(error)) => Err(failed(session_text(&call, &error))),
+        Ok(summary) => {
+            flushed.map_err(no_output)?;
+            Ok(told_summary(&call, &summary))
+        }
+    }
+}
+
+/// Tells what was refused, and gives the status.
+fn told_summary(call: &Call, summary: &Summary) -> u8 {
+    if call.form == Form::Frames {
+        tell(summary);
+    }
+    let (troubles, more) = summary.troubles();
+    for trouble in troubles {
+        tell(format!("{}: {trouble}", source_name(call)));
+    }
+    if more > 0 {
+        tell(format!("{}: and {more} more", source_name(call)));
+    }
+    if summary.is_all_answered() {
+        0
+    } else {
+        REFUSED
+    }
+}
+
+/// Where standard error cannot be written to, the status alone tells.
+fn tell(message: impl Display) {
+    let _ = writeln!(io::stderr(), "{message}");
+}
+
+fn read_call() -> Result<Call, Failure> {
+    let wrong = |message: String| Failure { status: NOT_RUN, message };
+    let usage = || wrong(USAGE.to_string());
     let (mut program, mut file, mut form) = (None, None, Form::Text);
     let mut arguments = env::args_os().skip(1);
     while let Some(argument) = arguments.next() {
         match argument.to_str() {
             Some("--program") if program.is_none() => {
-                program = Some(PathBuf::from(arguments.next().ok_or(USAGE)?));
+                program = Some(PathBuf::from(arguments.next().ok_or_else(usage)?));
             }
             Some("--frames") => form = Form::Frames,
-            Some(unknown) if unknown.starts_with("--") => return Err(USAGE.to_string()),
+            Some(unknown) if unknown.starts_with("--") => return Err(usage()),
             _ if file.is_none() => file = Some(PathBuf::from(argument)),
-            _ => return Err(USAGE.to_string()),
+            _ => return Err(usage()),
         }
     }
-    Ok(Call { program: find_program(&program.ok_or(USAGE)?)?, file, form })
+    let program = find_program(&program.ok_or_else(usage)?);
+    let missing = |message| Failure { status: TROUBLE, message };
+    Ok(Call { program: program.map_err(missing)?, file, form })
 }
 
 /// The session, every line of it checked. A session without items is none to run, but no fault.
-fn check_session(call: &Call) -> Result<Session, String> {
+fn check_session(call: &Call) -> Result<Session, Failure> {
     let source = match &call.file {
         Some(file) => Source::of_path(file),
         None => Source::of_stream(io::stdin().lock()),
     };
     let session = source.map_err(SessionError::from).and_then(Session::check);
-    let session = session.map_err(|error| session_text(call, &error))?;
+    let wrong = |error| Failure { status: NOT_RUN, message: session_text(call, &error) };
+    let session = session.map_err(wrong)?;
     if session.length == 0 {
-        eprintln!("{}: no items, so there is nothing to run", source_name(call));
+        tell(format!("{}: no items, so there is nothing to run", source_name(call)));
+    }
+    if session.has_cr_frames {
+        tell(format!("{}: {CR_FRAMES}", source_name(call)));
     }
     Ok(session)
 }
@@ -80,7 +136,11 @@ fn session_text(call: &Call, error: &SessionError) -> String {
     let name = source_name(call);
     match error {
         SessionError::Unreadable(_) => format!("cannot read {name}: {error}"),
-        SessionError::Line { .. } => format!("{name}: {error}"),
+        SessionError::Lines { .. } => {
+            let lines: Vec<String> =
+                error.to_string().lines().map(|line| format!("{name}: {line}")).collect();
+            lines.join("\n")
+        }
     }
 }
 

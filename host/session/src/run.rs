@@ -4,12 +4,16 @@ use std::io::{self, Write};
 use std::path::Path;
 
 use child::{Running, PATIENCE};
-use second::frames::{Frame, Program};
+use second::frames::Frame;
 
-use crate::parse::Item;
-use crate::session::{Session, SessionError};
-use crate::show::{show_answer, show_frame, show_overlong, shown_start};
-use crate::text::printable;
+use crate::error::SessionError;
+use crate::explain::Stored;
+use crate::item::{Content, Item, Sent};
+use crate::printer::{Form, Part, Printer};
+use crate::reply::Reply;
+use crate::session::Session;
+use crate::show::counted;
+use crate::summary::Summary;
 
 /// A session of more items shows its progress on standard error.
 const LONG_SESSION: u64 = 2_000;
@@ -17,61 +21,103 @@ const LONG_SESSION: u64 = 2_000;
 const PROGRESS_STEP: u64 = 1_000;
 const MOST_PROGRESS_LINES: u64 = 40;
 
-/// How a session is printed.
-#[derive(Clone, Copy, Debug, PartialEq, Eq)]
-pub enum Form {
-    Text,
-    /// Frames behind `>` and answers behind `<`, as they were sent.
-    Frames,
-}
-
-/// Why a session was not printed to its end.
+/// Why a session was not run to its end.
 #[derive(Debug)]
 pub enum RunError {
     /// The session's lines could be read at first and cannot be any more.
     Session(SessionError),
-    /// The program cannot be run, or does not answer as a program of frames does.
+    /// The program cannot be run, does not answer as a program of frames does, or reports that
+    /// something failed.
     Program(io::Error),
     /// What is printed cannot be written.
     Output(io::Error),
 }
 
-/// Sends a session to a program and prints each item, with its answer if it has one.
+/// Sends a session to a program and prints each item, with its answer if it has one, and at the end
+/// what came of it all.
 pub fn run_session(
     program: &Path,
     session: &Session,
     form: Form,
     output: &mut impl Write,
-) -> Result<(), RunError> {
-    let mut running = start(program, session)?;
-    let mut printer = Printer { output, form, previous: None };
-    let mut stored = Program::default();
-    let mut progress = Progress { done: 0, length: session.length };
-    for item in session.items().map_err(RunError::Session)? {
-        let item = item.map_err(RunError::Session)?;
-        let part = part_of(&item, &mut stored);
-        printer.print_item(&item, part).map_err(RunError::Output)?;
-        if part == Part::Exchange {
-            let answer = next_answer(&mut running)?;
-            printer.print_answer(&answer).map_err(RunError::Output)?;
-        }
-        progress.count(part);
-    }
-    running.finish().map_err(RunError::Program)
-}
-
-/// Starts a program that is sent a session meanwhile.
-fn start(program: &Path, session: &Session) -> Result<Running, RunError> {
+) -> Result<Summary, RunError> {
     let send = session.sender().map_err(RunError::Session)?;
-    Running::start(program, PATIENCE, send).map_err(RunError::Program)
+    let running = Running::start(program, PATIENCE, send).map_err(RunError::Program)?;
+    let mut run = Run {
+        running,
+        printer: Printer::new(output, form),
+        stored: Stored::default(),
+        summary: Summary::default(),
+        progress: Progress { done: 0, length: session.length },
+    };
+    for item in session.items().map_err(RunError::Session)? {
+        run.take(&item.map_err(RunError::Session)?)?;
+    }
+    run.printer.print_summary(&run.summary).map_err(RunError::Output)?;
+    run.running.finish().map_err(RunError::Program)?;
+    Ok(run.summary)
 }
 
-/// The next line of a program's output, without its LF.
-fn next_answer(running: &mut Running) -> Result<Vec<u8>, RunError> {
-    let line = running.next_line().map_err(RunError::Program)?;
-    let mut line = line.ok_or_else(|| RunError::Program(io::Error::other("no more answers")))?;
-    line.pop_if(|byte| *byte == b'\n');
-    Ok(line)
+/// A session under way.
+struct Run<'o, W> {
+    running: Running,
+    printer: Printer<'o, W>,
+    stored: Stored,
+    summary: Summary,
+    progress: Progress,
+}
+
+impl<W: Write> Run<'_, W> {
+    fn take(&mut self, item: &Item) -> Result<(), RunError> {
+        let printer = &mut self.printer;
+        match &item.content {
+            Content::Comment(comment) => printer.print_comment(comment).map_err(RunError::Output),
+            Content::AsGiven => {
+                printer.print_order("as given".to_string()).map_err(RunError::Output)
+            }
+            Content::Sorted(count) => {
+                let lines = counted(*count, "mailbox line", "mailbox lines");
+                let text = format!("{lines}, put in the order of the bytes of their names");
+                printer.print_order(text).map_err(RunError::Output)
+            }
+            Content::Sent(sent) => self.exchange(item.line, sent),
+        }
+    }
+
+    /// Prints what is sent and what comes of it, and counts both.
+    fn exchange(&mut self, line: u64, sent: &Sent) -> Result<(), RunError> {
+        let whole = Some(&sent.frame).filter(|frame| !frame.is_cut);
+        let frame = whole.and_then(|frame| Frame::decode(&frame.text).ok());
+        let is_kept = self.stored.store(line, frame.as_ref());
+        let part = if is_kept { Part::SetUp } else { Part::Exchange };
+        self.summary.count_sent(frame.as_ref(), is_kept);
+        self.printer.print_sent(sent, part).map_err(RunError::Output)?;
+        let reply = if is_kept { None } else { Some(self.next_reply(frame.as_ref())?) };
+        let explanation = match reply {
+            Some(Reply::Refused(number)) => self.stored.explanation(sent, number),
+            _ => None,
+        };
+        let (reply, explanation) = (reply.as_ref(), explanation.as_deref());
+        self.summary.count_reply(line, sent, reply, explanation);
+        self.printer.print_reply(sent, reply, explanation).map_err(RunError::Output)?;
+        self.progress.count();
+        match reply {
+            Some(Reply::Unreadable(_)) => Err(program_error("what it answers is no answer")),
+            _ => Ok(()),
+        }
+    }
+
+    fn next_reply(&mut self, frame: Option<&Frame>) -> Result<Reply, RunError> {
+        let line = self.running.next_line().map_err(RunError::Program)?;
+        let mut line = line.ok_or_else(|| program_error("no more answers"))?;
+        line.pop_if(|byte| *byte == b'\n');
+        self.printer.print_answer(&line).map_err(RunError::Output)?;
+        Ok(Reply::to_frame(&line, frame))
+    }
+}
+
+fn program_error(message: &str) -> RunError {
+    RunError::Program(io::Error::other(message))
 }
 
 /// How far a long session is.
@@ -81,89 +127,12 @@ struct Progress {
 }
 
 impl Progress {
-    fn count(&mut self, part: Part) {
-        self.done += u64::from(part != Part::Comment);
+    fn count(&mut self) {
+        self.done += 1;
         let step = PROGRESS_STEP.max(self.length / MOST_PROGRESS_LINES);
-        if self.length > LONG_SESSION && part != Part::Comment && self.done.is_multiple_of(step) {
-            eprintln!("{} of {} items", self.done, self.length);
-        }
-    }
-}
-
-/// What an item is to whoever reads the session.
-#[derive(Clone, Copy, PartialEq, Eq)]
-enum Part {
-    Comment,
-    /// A row or an entry that is added and not answered.
-    SetUp,
-    /// A frame that is answered.
-    Exchange,
-}
-
-fn part_of(item: &Item, stored: &mut Program) -> Part {
-    let frame = match item {
-        Item::Comment(_) => return Part::Comment,
-        Item::Overlong { .. } => return Part::Exchange,
-        Item::Frame(frame) => frame,
-    };
-    let added = match Frame::decode(&frame.text) {
-        Ok(Frame::Row(row)) => !frame.is_cut && stored.store_row(&row).is_ok(),
-        Ok(Frame::Entry(entry)) => !frame.is_cut && stored.store_entry(&entry).is_ok(),
-        _ => false,
-    };
-    if added {
-        Part::SetUp
-    } else {
-        Part::Exchange
-    }
-}
-
-struct Printer<'o, W> {
-    output: &'o mut W,
-    form: Form,
-    previous: Option<Part>,
-}
-
-impl<W: Write> Printer<'_, W> {
-    /// An item, behind an empty line where a new part starts. A comment stays with what follows
-    /// it.
-    fn print_item(&mut self, item: &Item, part: Part) -> io::Result<()> {
-        let starts_part = self.previous != Some(part) || part == Part::Exchange;
-        let follows_comment = self.previous.is_none_or(|previous| previous == Part::Comment);
-        self.previous = Some(part);
-        if self.form == Form::Text && starts_part && !follows_comment {
-            writeln!(self.output)?;
-        }
-        match self.form {
-            Form::Text => self.print_text(item),
-            Form::Frames => self.print_frame(item),
-        }
-    }
-
-    fn print_text(&mut self, item: &Item) -> io::Result<()> {
-        match item {
-            Item::Comment(comment) => writeln!(self.output, "{comment}"),
-            Item::Frame(frame) => write!(self.output, "{}", show_frame(frame)),
-            Item::Overlong { start, length, is_cut } => {
-                write!(self.output, "{}", show_overlong(start, *length, *is_cut))
-            }
-        }
-    }
-
-    fn print_frame(&mut self, item: &Item) -> io::Result<()> {
-        match item {
-            Item::Comment(_) => Ok(()),
-            Item::Frame(frame) => writeln!(self.output, "> {}", printable(&frame.text)),
-            Item::Overlong { start, length, .. } => {
-                writeln!(self.output, "> {}", shown_start(start, *length))
-            }
-        }
-    }
-
-    fn print_answer(&mut self, answer: &[u8]) -> io::Result<()> {
-        match self.form {
-            Form::Text => write!(self.output, "{}", show_answer(answer)),
-            Form::Frames => writeln!(self.output, "< {}", printable(answer)),
+        if self.length > LONG_SESSION && self.done.is_multiple_of(step) {
+            // Progress that nobody can read is no reason to stop.
+            let _ = writeln!(io::stderr(), "{} of {} items", self.done, self.length);
         }
     }
 }

@@ -3,8 +3,7 @@
 use session::{show_namespaces, show_table};
 
 use super::both::{ANSWER, SECOND};
-use super::tally::{shown, Tally, Text};
-use super::SEED;
+use super::tally::{shown, Tally, Text, SEED};
 use crate::commands::{command, damaged};
 use crate::damage::{damaged_table, namespace_list};
 use crate::random::Random;

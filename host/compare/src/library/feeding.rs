@@ -6,8 +6,7 @@ use luspemaro::{feed, put_go_on, Fed, FeederState, Happening, COMMAND_ROOM};
 use second::feeder::CONTINUATION;
 use second::{Event, Feeder};
 
-use super::tally::{shown, Tally, Text};
-use super::SEED;
+use super::tally::{shown, Tally, Text, SEED};
 use crate::random::Random;
 use crate::streams::stream_of;
 

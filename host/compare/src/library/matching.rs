@@ -1,8 +1,7 @@
 //! The matcher.
 
 use super::both::MATCHES;
-use super::tally::{shown, Tally};
-use super::SEED;
+use super::tally::{shown, Tally, SEED};
 use crate::commands::hostile_pattern;
 use crate::random::Random;
 

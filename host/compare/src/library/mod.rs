@@ -15,9 +15,6 @@ mod walks;
 
 pub use tally::Tally;
 
-/// Inputs are the same in every run.
-const SEED: u64 = 0;
-
 /// A name, and what compares.
 pub type Group = (&'static str, fn(&mut Tally));
 

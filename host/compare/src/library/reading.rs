@@ -3,8 +3,7 @@
 use luspemaro::NAME_ROOM;
 use second::Refusal;
 
-use super::tally::{shown, Tally, Text};
-use super::SEED;
+use super::tally::{shown, Tally, Text, SEED};
 use crate::random::Random;
 
 /// Lines put together from pieces, and lines of random bytes.

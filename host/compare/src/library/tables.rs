@@ -4,8 +4,7 @@ use second::table::{Flags, MAX_ROWS, MAX_TABLE};
 use session::{show_namespaces, show_table};
 
 use super::both::{CHECK_NAMESPACES, CHECK_TABLE};
-use super::tally::Tally;
-use super::SEED;
+use super::tally::{Tally, SEED};
 use crate::damage::{damaged_bytes, damaged_table, namespace_list};
 use crate::random::Random;
 use crate::tables::{good_table, table_bytes, NewRow};

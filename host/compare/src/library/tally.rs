@@ -2,6 +2,8 @@
 
 use std::fmt::{self, Debug, Formatter};
 
+/// The seed of every stream of inputs, which are the same in every run.
+pub const SEED: u64 = 0;
 /// Differences of one group that are printed; the others are counted.
 const MOST_SHOWN: u64 = 3;
 /// Equal bytes at an end that are counted, not shown.

@@ -3,8 +3,7 @@
 use session::show_table;
 
 use super::both::{COLLECT, SECOND};
-use super::tally::{Tally, Text};
-use super::SEED;
+use super::tally::{Tally, Text, SEED};
 use crate::damage::damaged_table;
 use crate::random::Random;
 use crate::tables::{good_table, table_bytes};

@@ -4,6 +4,7 @@ use std::env;
 use std::path::PathBuf;
 
 mod comparison;
+mod explanations;
 mod streams;
 
 /// The second program. The tests stand in `deps`, beside the folder of the examples.

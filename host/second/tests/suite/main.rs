@@ -4,6 +4,7 @@ mod checks;
 mod commands;
 mod common;
 mod expert_sheet;
+mod faults;
 mod feeder;
 mod lines;
 mod listing;

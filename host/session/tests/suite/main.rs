@@ -1,13 +1,12 @@
 //! The tests of readable sessions and of `./run`.
 
-use std::env;
-use std::path::PathBuf;
-
+mod answered;
+mod building;
+mod calls;
+mod common;
+mod escaped;
+mod explained;
+mod failing;
+mod files;
+mod ordered;
 mod sessions;
-
-/// The second program. The tests stand in `deps`, beside the folder of the examples.
-fn second() -> PathBuf {
-    let test = env::current_exe().expect("the path of the test");
-    let folder = test.ancestors().nth(2).expect("the folder of the build");
-    folder.join("examples/second-of-session")
-}

@@ -1,0 +1,65 @@
+//! Explanations on generated damage: what is refused with 1 to 8 or 13 is explained, and nothing
+//! else is.
+
+use std::collections::BTreeMap;
+
+use child::sender_of;
+use compare::kinds;
+use session::{run_session, Form, Session, Source};
+
+use crate::second;
+
+/// Kinds of sessions with something wrong in them.
+const DAMAGED: [&str; 7] = [
+    "a damaged table",
+    "namespace lists",
+    "damaged commands",
+    "odd literals",
+    "limits of stored bytes",
+    "limits of tables",
+    "bad frames",
+];
+/// Of each kind.
+const SEEDS: u64 = 12;
+/// Refusals for want of room in a buffer, of which the number says all.
+const ROOMS: [u8; 3] = [9, 10, 11];
+
+/// A session's text, as `./run` prints it for a file of frames.
+fn text_of(kind: &str, seed: u64) -> String {
+    let kind = kinds().find(|one| one.name == kind).expect("a kind");
+    let mut bytes = Vec::new();
+    sender_of(&kind.session(seed))(&mut bytes).expect("bytes");
+    let session = Session::check(Source::of_bytes(&bytes)).expect("a file of frames");
+    let mut text = Vec::new();
+    run_session(&second(), &session, Form::Text, &mut text).expect("a run");
+    String::from_utf8(text).expect("text")
+}
+
+#[test]
+fn refusals_are_explained_and_answers_are_not() {
+    let mut refused: BTreeMap<u8, usize> = BTreeMap::new();
+    let mut answered = 0;
+    for kind in DAMAGED {
+        for seed in 0..SEEDS {
+            let text = text_of(kind, seed);
+            assert!(!text.contains("the programs differ"), "{kind}, seed {seed}\n{text}");
+            let mut lines = text.lines().filter(|line| !line.starts_with(' ')).peekable();
+            while let Some(line) = lines.next() {
+                let is_explained = lines.peek().is_some_and(|next| next.starts_with("Explained"));
+                let number =
+                    line.strip_prefix("Refused    ").and_then(|rest| rest.split(':').next());
+                let number = number.map(|number| number.parse().expect("a number"));
+                let is_due = number.is_some_and(|number| !ROOMS.contains(&number));
+                assert_eq!(is_explained, is_due, "{kind}, seed {seed}: {line}\n{text}");
+                answered += usize::from(line.starts_with("Answer"));
+                if let Some(number) = number {
+                    *refused.entry(number).or_default() += 1;
+                }
+            }
+        }
+    }
+    for number in [1, 2, 3, 4, 13] {
+        assert!(refused.get(&number).is_some_and(|&count| count > 20), "{number}: {refused:?}");
+    }
+    assert!(answered > 100, "{answered}");
+}

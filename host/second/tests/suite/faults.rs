@@ -1,0 +1,139 @@
+//! Faults: which rule is broken, and where.
+
+use second::fault::{Fault, LineFault, ListFault, RoomFault};
+use second::frames::{hex_of, Program, COMMAND, ROW, TABLE_ROOM, WALK};
+use second::namespaces::checked_entries;
+use second::table::{checked_rows, row_at};
+use second::Refusal;
+
+use crate::common::{table_of, Rows};
+
+const ASCEND: &str = "names strictly ascend by bytes";
+const BELOW: &str = "no row lies below a row with no inferiors";
+const INBOX: &str = "a first level that equals INBOX is spelled INBOX";
+
+/// The first row that breaks a rule is told, by its name, with the rule and the other row.
+#[test]
+fn rows() {
+    let tables: [(&Rows, &str, &str, Option<&str>); 12] = [
+        (&[("a", "0001"), ("Inbox/x", "0001")], "Inbox/x", INBOX, None),
+        (&[("b", "0001"), ("a", "0001")], "a", ASCEND, Some("b")),
+        (&[("a", "0001"), ("b", "0001"), ("b", "0003")], "b", ASCEND, Some("b")),
+        (&[("a", "0004")], "a", "a row that does not exist has flags exactly 0002", None),
+        (&[("a", "0081")], "a", "bits 7 and 15 of the flags must be 0", None),
+        (&[("a", "0061")], "a", "marked and unmarked are not both set", None),
+        (&[("a%", "0001")], "a%", "name bytes are 20 to 7E (hex), without % and *", None),
+        (&[("a//b", "0001")], "a//b", "no level of a name is empty", None),
+        (&[("", "0001")], "", "a name has 1 to 200 bytes", None),
+        (&[("a", "0011"), ("a-x", "0001"), ("a/b", "0001")], "a/b", BELOW, Some("a")),
+        // The row below comes before the row that is wrong by itself.
+        (&[("a", "0011"), ("a/b", "0001"), ("inbox", "0001")], "a/b", BELOW, Some("a")),
+        (&[("a", "0011"), ("inbox", "0001"), ("a/b", "0001")], "inbox", INBOX, None),
+    ];
+    for (rows, name, rule, other) in tables {
+        let table = table_of(rows);
+        let fault = checked_rows(&table).expect_err("a fault");
+        let name_at = |at| row_at(&table, at).expect("a row").name;
+        assert_eq!((name_at(fault.at), fault.rule), (name.as_bytes(), rule), "{rows:?}");
+        assert_eq!(fault.other.map(name_at), other.map(str::as_bytes), "{rows:?}");
+    }
+}
+
+#[test]
+fn tables_as_a_whole() {
+    let fault = |at, rule| Err(ListFault { at, rule, other: None });
+    let rows = |table: &[u8]| checked_rows(table).map(|rows| rows.len());
+    assert_eq!(rows(b""), Ok(0));
+    assert_eq!(rows(b"\0\x01\x01a\0\x01"), fault(4, "rows fill the table exactly"));
+    let many: Vec<u8> =
+        (0..513).flat_map(|n| [b"\0\x01\x03", row_name(n).as_bytes()].concat()).collect();
+    assert_eq!(rows(&many), fault(512 * 6, "a table has at most 512 rows"));
+    assert_eq!(rows(&many[..512 * 6]), Ok(512));
+}
+
+fn row_name(number: usize) -> String {
+    format!("{number:03}")
+}
+
+#[test]
+fn entries() {
+    let lists: [(&[u8], usize, &str, Option<usize>); 8] = [
+        (b"\x00\x00/\x03\x00/", 3, "a class is 0 personal, 1 other users or 2 shared", None),
+        (&[[0, 65].as_slice(), &[b'p'; 65], b"/"].concat(), 0, "a prefix has 0 to 64 bytes", None),
+        (b"\x00\x01\x7F/", 0, "prefix bytes are 20 to 7E (hex)", None),
+        (b"\x00\x00 ", 0, "a delimiter is 0 for NIL, or 21 to 7E (hex)", None),
+        (b"\x02\x01a/\x01\x00/", 4, "classes do not descend", Some(0)),
+        (&[1, 0, b'/'].repeat(5), 12, "at most 4 entries a class", None),
+        (b"\x00\x00/\x00", 3, "entries fill the list exactly", None),
+        (b"\x00", 0, "entries fill the list exactly", None),
+    ];
+    for (list, at, rule, other) in lists {
+        let fault = checked_entries(list).expect_err("a fault");
+        assert_eq!(fault, ListFault { at, rule, other }, "{list:?}");
+    }
+}
+
+/// What a command is refused with, the place, and the start of the rule.
+#[test]
+fn lines() {
+    let lines: [(&str, u8, usize, &str); 24] = [
+        ("a NAMESPACE", 3, 11, "a line ends with CR LF"),
+        ("a NAME\0SPACE\r\n", 3, 6, "no byte of a command is 00"),
+        ("a NAME\u{e9}\r\n", 3, 6, "a line holds bytes 01 to 7F"),
+        ("a NAMESPACE\r\nb\r\n", 3, 13, "nothing comes after"),
+        ("a LIST \"\" {1025}\r\nx\r\n", 3, 10, "a literal has at most 1,024 bytes"),
+        ("a LIST {1}\r\nx {1025}\r\nx\r\n", 3, 14, "a literal has at most 1,024 bytes"),
+        ("a LIST \"\" {3}\r\n", 3, 15, "a literal has all the bytes"),
+        ("a LIST {1}\r\nx \n\r\n", 3, 14, "a line holds bytes 01 to 7F"),
+        ("+ LIST\r\n", 4, 0, "a tag is"),
+        ("a\r\n", 4, 1, "one space is expected"),
+        ("a SELECT x\r\n", 5, 2, "the word is LIST or NAMESPACE"),
+        ("a NAMESPACE \r\n", 4, 11, "the end of the line is expected"),
+        ("a LIST \"\"\r\n", 4, 9, "one space is expected"),
+        ("a LIST \"\" \r\n", 4, 10, "a pattern is"),
+        ("a LIST \"x *\r\n", 4, 7, "a quoted string has both quotes"),
+        ("a LIST (A  B) \"\" *\r\n", 4, 10, "an option is an atom"),
+        ("a LIST (A \"\" *\r\n", 4, 10, "an option is an atom"),
+        ("a LIST {1}\r\nx{1}\r\ny *\r\n", 4, 13, "one space is expected"),
+        ("a LIST \"\" * RETRUN ()\r\n", 4, 12, "RETURN is expected"),
+        ("a LIST (HIDDEN) \"\" *\r\n", 6, 8, "SUBSCRIBED, REMOTE,"),
+        ("a LIST (REMOTE (x)) \"\" *\r\n", 6, 8, "no known option has a value"),
+        ("a LIST \"\" * RETURN (REMOTE)\r\n", 6, 20, "SUBSCRIBED, CHILDREN and"),
+        ("a LIST (REMOTE RECURSIVEMATCH) \"\" *\r\n", 7, 15, "SUBSCRIBED or SPECIAL-USE"),
+        ("a LIST \"\" (1 2 3 4 5 6 7 8 9)\r\n", 8, 10, "a command has at most 8 patterns"),
+    ];
+    for (line, number, at, rule) in lines {
+        let Some(Fault::Line(fault)) = fault_of(COMMAND, line.as_bytes()) else {
+            panic!("{line:?}: no fault of the line");
+        };
+        let LineFault { refusal, at: place, rule: told } = fault;
+        assert_eq!((refusal.number(), place), (number, at), "{line:?}: {told}");
+        assert!(told.starts_with(rule), "{line:?}: {told}");
+    }
+    assert_eq!(fault_of(COMMAND, b"a LIST \"\" {1}\r\nx\r\n"), None);
+}
+
+fn fault_of(first: u8, bytes: &[u8]) -> Option<Fault> {
+    Program::default().fault(&hex_of(&[&[first], bytes].concat()))
+}
+
+#[test]
+fn frames_and_rooms() {
+    let program = Program { table: vec![0; TABLE_ROOM - 1], namespaces: Vec::new() };
+    let frame = |bytes: &[u8]| program.fault(&hex_of(bytes));
+    let room = RoomFault { stored: TABLE_ROOM - 1, added: 2, room: TABLE_ROOM };
+    assert_eq!(frame(&[ROW, 0, 0]), Some(Fault::TableRoom(room)));
+    assert_eq!(frame(&[ROW, 0]), None);
+    assert_eq!(frame(&[WALK, 4]).map(Fault::refusal), Some(Refusal::Table));
+    assert_eq!(fault_of(WALK, &[4]).map(Fault::refusal), Some(Refusal::UnknownOption));
+    assert_eq!(fault_of(WALK, &[6]), None);
+    for (text, rule) in [
+        ("", "a frame is not empty"),
+        ("430", "a frame has an even number of digits"),
+        ("43 0", "a frame holds hexadecimal digits alone"),
+        ("41", "the first byte of a frame is 4D, 4E, 43 or 57"),
+        ("570000", "57 is followed by one byte"),
+    ] {
+        assert_eq!(program.fault(text.as_bytes()), Some(Fault::Frame(rule)), "{text}");
+    }
+}

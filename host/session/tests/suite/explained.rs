@@ -1,0 +1,100 @@
+//! Refusals 1 to 4 with the row, entry or place that is wrong, by the lines of the session.
+
+use session::Form;
+
+use crate::common::printed;
+
+/// The explanation of the one refusal of a session.
+fn explained(source: &str) -> String {
+    let text = printed(source, Form::Text);
+    let mut lines = text.lines().skip_while(|line| !line.starts_with("Explained  "));
+    let line = lines.next().unwrap_or_else(|| panic!("no explanation in\n{text}"));
+    assert_eq!(lines.next(), Some("           (explained by the second program, not proved)"));
+    line["Explained  ".len()..].to_string()
+}
+
+#[test]
+fn rows() {
+    let tables = [
+        (
+            "# INBOX\nmailbox Inbox/x exists\n",
+            "line 2: 'Inbox/x': a first level that equals INBOX is spelled INBOX",
+        ),
+        (
+            "mailbox a exists\n\nmailbox a exists\n",
+            "line 3: 'a': names strictly ascend by bytes (beside line 1: 'a')",
+        ),
+        (
+            "mailbox a/b exists\nmailbox a exists noinferiors\n",
+            "line 1: 'a/b': no row lies below a row with no inferiors (beside line 2: 'a')",
+        ),
+        (
+            "order as-given\nmailbox b exists\nmailbox a exists\n",
+            "line 3: 'a': names strictly ascend by bytes (beside line 2: 'b')",
+        ),
+        (
+            "mailbox \"b\\\\x80\" 0000\n",
+            "line 1: 'b\\\\x80': a row that does not exist has flags exactly 0002",
+        ),
+        ("frame 4D000101610001\n", "line 1: bytes 0001: rows fill the table exactly"),
+        (
+            "frame 4D0001\nframe 4D0161\nframe 4D00000162\n",
+            "line 3: 'b': a row that does not exist has flags exactly 0002",
+        ),
+    ];
+    for (rows, expected) in tables {
+        assert_eq!(explained(&format!("{rows}command a NAMESPACE\n")), expected, "{rows}");
+        assert_eq!(explained(&format!("{rows}walk\n")), expected, "{rows}");
+    }
+    // The same in a file of frames.
+    assert_eq!(
+        explained("5700\n4D000105696E626F78\n5700\n"),
+        "line 2: 'inbox': a first level that equals INBOX is spelled INBOX"
+    );
+}
+
+#[test]
+fn entries() {
+    let lists = [
+        (
+            "namespace shared \"a\" NIL\nnamespace personal \"\" \"/\"\n",
+            "line 2: '': classes do not descend (beside line 1: 'a')",
+        ),
+        (
+            "namespace personal \"\u{e9}\" NIL\n",
+            "line 1: '\\xC3\\xA9': prefix bytes are 20 to 7E (hex)",
+        ),
+        ("frame 4E00\n", "line 1: bytes 00: entries fill the list exactly"),
+    ];
+    for (entries, expected) in lists {
+        assert_eq!(explained(&format!("{entries}command a NAMESPACE\n")), expected, "{entries}");
+    }
+    let no_room = "frame 4E00FF".to_string() + &"61".repeat(255) + "00\n";
+    assert_eq!(
+        explained(&no_room.repeat(4)),
+        "no room: 774 of 1024 bytes are taken, and this has 258"
+    );
+}
+
+#[test]
+fn places_of_lines() {
+    let commands = [
+        ("command a LIST \"\" (%", "the end of the command, after 12 bytes: a space or a closing parenthesis is expected"),
+        ("command a LIST \"\"  %", "byte 11 of the command, ' ': a pattern is a quoted string, a literal or a run of atom bytes, ] % and *"),
+        ("frame 43610A0D0A", "byte 2 of the command, '\\x0A': a line holds bytes 01 to 7F (hex), without CR and LF"),
+        ("frame 4361", "the end of the command, after 1 bytes: a line ends with CR LF"),
+        ("command a LIST {1}\n+ x{1}\n+ y", "byte 14 of the command, '{': one space is expected"),
+    ];
+    for (command, expected) in commands {
+        assert_eq!(explained(&format!("{command}\n")), expected, "{command}");
+    }
+}
+
+/// What is answered has no explanation, and a buffer that is too small needs none.
+#[test]
+fn nothing_to_explain() {
+    let row = |number| format!("mailbox {number:03}{} exists\n", "n".repeat(197));
+    let rows: String = (0..80).map(row).collect();
+    let text = printed(rows + "command a LIST \"\" *\nwalk\ncommand b NAMESPACE\n", Form::Text);
+    assert!(text.contains("Refused    9: ") && !text.contains("Explained"), "{text}");
+}

@@ -1,0 +1,84 @@
+//! Trouble with the machine: output that fails, and programs that fail.
+
+use std::fs::{self, File, Permissions};
+use std::io::Write;
+use std::os::unix::fs::PermissionsExt;
+use std::path::{Path, PathBuf};
+use std::process::{Command, Stdio};
+
+use crate::common::{run_with, second, told, SESSION};
+
+/// A program that is a script of the shell.
+fn script(name: &str, text: &str) -> PathBuf {
+    let path = Path::new(env!("CARGO_TARGET_TMPDIR")).join(name);
+    let mut file = File::create(&path).expect("a script");
+    write!(file, "#!/bin/sh\n{text}\n").expect("a script");
+    drop(file);
+    fs::set_permissions(&path, Permissions::from_mode(0o755)).expect("a program");
+    path
+}
+
+#[test]
+fn output_that_fails() {
+    for (source, arguments) in
+        [("walk\n".repeat(3), vec![]), ("walk\n".repeat(9_000), vec!["--frames"])]
+    {
+        let path = Path::new(env!("CARGO_TARGET_TMPDIR")).join(format!("full-{}", source.len()));
+        fs::write(&path, &source).expect("a session");
+        let full = File::create("/dev/full").expect("a full device");
+        let mut command = Command::new(SESSION);
+        command.arg("--program").arg(second()).arg(&path).args(arguments).stdout(full);
+        let output = command.stderr(Stdio::piped()).output().expect("a run");
+        assert_eq!(output.status.code(), Some(1));
+        let last = told(&output).lines().last().unwrap_or_default().to_string();
+        assert!(last.starts_with("cannot write the output: No space left"), "{last}");
+    }
+}
+
+#[test]
+fn output_that_is_closed() {
+    let path = Path::new(env!("CARGO_TARGET_TMPDIR")).join("closed.session");
+    fs::write(&path, "walk\n".repeat(9_000)).expect("a session");
+    let mut command = Command::new(SESSION);
+    command.arg("--program").arg(second()).arg(path).stdout(Stdio::piped()).stderr(Stdio::piped());
+    let mut child = command.spawn().expect("a start");
+    drop(child.stdout.take());
+    let output = child.wait_with_output().expect("an end");
+    assert_eq!(output.status.code(), Some(1));
+    assert!(told(&output).contains("cannot write the output: Broken pipe"), "{}", told(&output));
+}
+
+/// Programs that fail, report or answer otherwise: status 1, and what they report is shown.
+#[test]
+fn programs_that_fail() {
+    let answer = "570001";
+    let programs = [
+        ("dies", "read x; exit 4".to_string(), "exit status: 4"),
+        ("killed", "read x; kill -9 $$".to_string(), "signal: 9 (SIGKILL)"),
+        ("no-answer", "cat >/dev/null".to_string(), "no more answers"),
+        (
+            "odd",
+            "read x; echo nonsense; cat >/dev/null".to_string(),
+            "what it answers is no answer",
+        ),
+        ("kind", "read x; echo 41; cat >/dev/null".to_string(), "what it answers is no answer"),
+        ("many", format!("cat >/dev/null; echo {answer}; echo {answer}"), "an answer too many"),
+        (
+            "reports",
+            format!("cat >/dev/null; echo {answer}; echo 'luspemaro: cannot read' >&2"),
+            "it reports: luspemaro: cannot read",
+        ),
+        (
+            "reports-and-fails",
+            format!("cat >/dev/null; echo {answer}; echo 'cannot write' >&2; exit 1"),
+            "exit status: 1; it reports: cannot write",
+        ),
+    ];
+    for (name, text, message) in programs {
+        let program = script(&format!("program-{name}"), &text);
+        let output = run_with(&program, "walk\n");
+        assert_eq!(output.status.code(), Some(1), "{name}: {output:?}");
+        let told = told(&output);
+        assert!(told.ends_with(&format!("program-{name}: {message}\n")), "{name}: {told}");
+    }
+}

@@ -12,7 +12,7 @@ mod raw;
 mod refusal;
 
 pub use feeder::{feed, put_go_on, Event, Fed, Feeder, Happening, COMMAND_ROOM};
-pub use line::{read_line, write_line, Criteria, Line};
+pub use line::{read_line, write_line, write_parts, Criteria, Line};
 pub use raw::{FeederState, NAME_ROOM};
 pub use refusal::Refusal;
 

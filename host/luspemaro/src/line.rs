@@ -60,6 +60,17 @@ pub fn write_line(
     raw::write_line(attributes, name, childinfo.bits(), out).written()
 }
 
+/// The line writer from the number of a set of criteria: one with another bit than the two is
+/// refused with 12, first.
+pub fn write_parts(
+    attributes: u16,
+    name: &[u8],
+    criteria: u8,
+    out: &mut [u8],
+) -> Result<usize, Refusal> {
+    raw::write_line(attributes, name, criteria, out).written()
+}
+
 /// The line reader: the parts of one LIST line with its CR LF.
 pub fn read_line(line: &[u8]) -> Result<Line, Refusal> {
     let parts = raw::read_line(line);

@@ -26,7 +26,7 @@ pub mod table;
 
 pub use collector::collect;
 pub use feeder::{Event, Feeder};
-pub use line::{read_line, write_line, Criteria, Line};
+pub use line::{read_line, write_line, write_parts, Criteria, Line};
 pub use namespaces::check_namespaces;
 pub use pattern::matches;
 pub use refusal::Refusal;

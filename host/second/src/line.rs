@@ -155,6 +155,18 @@ pub fn write_line(
     put_answer(&line, out)
 }
 
+/// The line writer from the number of a set of criteria. A number that is no such set is a part of
+/// no line, and so is refused first.
+pub fn write_parts(
+    attrs: u16,
+    name: &[u8],
+    criteria: u8,
+    out: &mut [u8],
+) -> Result<usize, Refusal> {
+    let childinfo = Criteria::from_bits(criteria).ok_or(Refusal::Line)?;
+    write_line(attrs, name, childinfo, out)
+}
+
 /// The reader: one LIST line with its CR LF, byte for byte as the writer gives it; "All else
 /// is 12."
 pub fn read_line(line: &[u8]) -> Result<Line, Refusal> {

@@ -1,7 +1,7 @@
 //! Each entry of both libraries: the proved one first, then the second program's. Their results are
 //! given in one form: numbers of refusal, and plain numbers for the rest.
 
-use second::{Criteria, Refusal};
+use second::Refusal;
 
 pub const PROVED: usize = 0;
 pub const SECOND: usize = 1;
@@ -10,7 +10,7 @@ pub type Check = fn(&[u8]) -> bool;
 pub type Matches = fn(&[u8], &[u8]) -> bool;
 pub type Answer = fn(&[u8], &[u8], &[u8], &mut [u8]) -> Result<usize, u8>;
 pub type Collect = fn(&[u8], u8, &mut [u8], &mut [u8], &mut [u8]) -> Result<(usize, usize), u8>;
-pub type WriteLine = fn(u16, &[u8], Criteria, &mut [u8]) -> Result<usize, u8>;
+pub type WriteLine = fn(u16, &[u8], u8, &mut [u8]) -> Result<usize, u8>;
 
 pub const CHECK_TABLE: [Check; 2] = [luspemaro::check_table, second::check_table];
 pub const CHECK_NAMESPACES: [Check; 2] = [luspemaro::check_namespaces, second::check_namespaces];
@@ -35,15 +35,9 @@ pub const COLLECT: [Collect; 2] = [
 
 pub const WRITE_LINE: [WriteLine; 2] = [
     |attributes, name, criteria, out| {
-        let written = luspemaro::write_line(attributes, name, proved_criteria(criteria), out);
-        written.map_err(luspemaro::Refusal::number)
+        luspemaro::write_parts(attributes, name, criteria, out).map_err(luspemaro::Refusal::number)
     },
     |attributes, name, criteria, out| {
-        second::write_line(attributes, name, criteria, out).map_err(Refusal::number)
+        second::write_parts(attributes, name, criteria, out).map_err(Refusal::number)
     },
 ];
-
-/// The same set in the proved library.
-pub fn proved_criteria(criteria: Criteria) -> luspemaro::Criteria {
-    luspemaro::Criteria::from_bits(criteria.bits()).expect("two criteria")
-}

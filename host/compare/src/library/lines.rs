@@ -1,7 +1,5 @@
 //! The line writer, and the reader on what it wrote.
 
-use second::Criteria;
-
 use super::both::{SECOND, WRITE_LINE};
 use super::reading::{read_both, Parts};
 use super::tally::{shown, Tally, Text};
@@ -43,9 +41,22 @@ pub fn names_and_rooms(tally: &mut Tally) {
     }
 }
 
+/// All 256 numbers in the place of a set of criteria, of which four are one.
+pub fn every_criteria_byte(tally: &mut Tally) {
+    for name in names() {
+        for attributes in [0, NOSELECT, u16::MAX] {
+            for criteria in 0..=u8::MAX {
+                for room in [0, ROOM] {
+                    write_both(tally, attributes, &name, criteria, room);
+                }
+            }
+        }
+    }
+}
+
 /// No CHILDINFO, one criterion, the other, both.
-fn every_criteria() -> impl Iterator<Item = Criteria> {
-    (0..=3).filter_map(Criteria::from_bits)
+fn every_criteria() -> impl Iterator<Item = u8> {
+    0..=3
 }
 
 /// Writes by both libraries and gives the line of the second, empty if it was refused.
@@ -53,7 +64,7 @@ fn write_both(
     tally: &mut Tally,
     attributes: u16,
     name: &[u8],
-    criteria: Criteria,
+    criteria: u8,
     room: usize,
 ) -> Vec<u8> {
     let given = WRITE_LINE.map(|write| {
@@ -65,16 +76,16 @@ fn write_both(
     let line = out.0[..result.unwrap_or(0)].to_vec();
     let call = || {
         let name = shown(name);
-        format!("write_line: attributes {attributes:#06x}, name {name}, CHILDINFO {criteria:?}, room {room}")
+        format!("write_line: attributes {attributes:#06x}, name {name}, CHILDINFO {criteria}, room {room}")
     };
     tally.same(call, given);
     line
 }
 
 /// A line that was written is read back as its parts, by both.
-fn round_trip(tally: &mut Tally, line: &[u8], attributes: u16, name: &[u8], criteria: Criteria) {
+fn round_trip(tally: &mut Tally, line: &[u8], attributes: u16, name: &[u8], criteria: u8) {
     read_both(tally, line);
-    let parts = Parts { attributes, name: Text(name.to_vec()), childinfo: criteria.bits() };
+    let parts = Parts { attributes, name: Text(name.to_vec()), childinfo: criteria };
     tally.same(|| format!("read back: {}", shown(line)), [Parts::proved(line), Ok(parts)]);
 }
 

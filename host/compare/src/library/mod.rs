@@ -20,6 +20,7 @@ pub type Group = (&'static str, fn(&mut Tally));
 
 pub const GROUPS: [Group; 15] = [
     ("every set of attributes, written and read back", lines::every_set),
+    ("every number of a set of criteria", lines::every_criteria_byte),
     ("names at the limits, buffers on both sides of the line's length", lines::names_and_rooms),
     ("lines with one byte changed, left out or added", reading::one_byte_damaged),
     ("lines cut short, doubled and put together", reading::pieces),

@@ -1,9 +1,8 @@
 //! Running a program: its lines, its end, its reports and the time limit.
 
-use std::fs::{self, Permissions};
 use std::io::{self, ErrorKind, Write};
-use std::os::unix::fs::PermissionsExt;
 use std::path::{Path, PathBuf};
+use std::process::{Command, Stdio};
 use std::thread;
 use std::time::{Duration, Instant};
 
@@ -16,19 +15,24 @@ const SHORT: Duration = Duration::from_millis(300);
 /// A program that is a script of the shell.
 fn script(name: &str, text: &str) -> PathBuf {
     let path = Path::new(env!("CARGO_TARGET_TMPDIR")).join(name);
-    fs::write(&path, format!("#!/bin/sh\n{text}\n")).expect("a script");
-    fs::set_permissions(&path, Permissions::from_mode(0o755)).expect("a program");
+    write_program(&path, &format!("#!/bin/sh\n{text}\n"));
     path
 }
 
-/// Another test that starts a program at this moment may still hold the script open.
+/// Writes a script that can be run. Another process writes it: a file that this one had open could
+/// still be open in a program that another test starts at that moment, and would be busy then.
+fn write_program(path: &Path, text: &str) {
+    let mut command = Command::new("/bin/sh");
+    command.args(["-c", "cat >\"$0\" && chmod 755 \"$0\""]).arg(path).stdin(Stdio::piped());
+    let mut writer = command.spawn().expect("a start");
+    let mut input = writer.stdin.take().expect("an input");
+    input.write_all(text.as_bytes()).expect("an open input");
+    drop(input);
+    assert!(writer.wait().expect("an end").success(), "{}", path.display());
+}
+
 fn start(program: &Path, patience: Duration) -> Running {
-    loop {
-        match Running::start(program, patience, |_| Ok(())) {
-            Err(error) if error.kind() == ErrorKind::ExecutableFileBusy => {}
-            started => return started.expect("a start"),
-        }
-    }
+    Running::start(program, patience, |_| Ok(())).expect("a start")
 }
 
 #[test]
@@ -79,23 +83,22 @@ fn the_time_limit() {
     }
 }
 
-/// A program that takes input and has nothing to answer yet is not late.
+/// A program that takes input and has nothing to answer yet is not late, though all of it takes
+/// longer than the time limit.
 #[test]
 fn taking_input_is_no_silence() {
+    const LIMIT: Duration = Duration::from_millis(1_500);
     let slowly = |input: &mut dyn Write| -> io::Result<()> {
-        for _ in 0..8 {
+        for _ in 0..6 {
             input.write_all(b"x")?;
             input.flush()?;
-            thread::sleep(SHORT / 2);
+            thread::sleep(LIMIT / 3);
         }
         input.write_all(b"\n")
     };
-    let mut running = Running::start(Path::new(ECHO), SHORT, slowly).expect("a start");
-    let mut read = Vec::new();
-    while let Some(line) = running.next_line().expect("in time") {
-        read.extend(line);
-    }
-    assert_eq!(read, b"xxxxxxxx\n");
+    let mut running = Running::start(Path::new(ECHO), LIMIT, slowly).expect("a start");
+    let line = running.next_line().expect("in time");
+    assert_eq!(line.as_deref(), Some(b"xxxxxx\n".as_slice()));
 }
 
 /// Input that cannot be read to its end is told, though the program ends well.

@@ -14,15 +14,22 @@ pub fn is_lawful(name: &[u8]) -> bool {
     broken_rule(name).is_none()
 }
 
-/// The first rule for names that a name breaks.
+/// The first rule for names that a name breaks, in document 01's order.
 pub fn broken_rule(name: &[u8]) -> Option<&'static str> {
     if !(1..=MAX_NAME).contains(&name.len()) {
-        Some("a name has 1 to 200 bytes")
-    } else if !levels(name).flatten().all(|&byte| is_name_byte(byte)) {
-        Some("name bytes are 20 to 7E (hex), without % and *")
-    } else if levels(name).any(<[u8]>::is_empty) {
+        return Some("a name has 1 to 200 bytes");
+    }
+    let (mut count, mut has_empty) = (0, false);
+    for level in levels(name) {
+        if !level.iter().all(|&byte| is_name_byte(byte)) {
+            return Some("name bytes are 20 to 7E (hex), without % and *");
+        }
+        count += 1;
+        has_empty |= level.is_empty();
+    }
+    if has_empty {
         Some("no level of a name is empty")
-    } else if levels(name).count() > MAX_LEVELS {
+    } else if count > MAX_LEVELS {
         Some("names have 1 to 16 levels")
     } else if !spells_inbox_lawfully(name) {
         Some("a first level that equals INBOX is spelled INBOX")

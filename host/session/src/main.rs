@@ -11,7 +11,7 @@ use std::path::PathBuf;
 use std::process::ExitCode;
 
 use child::find_program;
-use session::{run_session, Form, RunError, Session, SessionError, Source, Summary};
+use session::{comment_text, run_session, Form, RunError, Session, SessionError, Source, Summary};
 
 const USAGE: &str = "usage: session --program PATH [FILE] [--frames]";
 const CR_FRAMES: &str =
@@ -51,26 +51,26 @@ fn run() -> Result<u8, Failure> {
     let call = read_call()?;
     let session = check_session(&call)?;
     let mut output = BufWriter::new(io::stdout().lock());
-    let result = run_session(&call.program, &session, call.form, &mut output);
+    let (summary, result) = run_session(&call.program, &session, call.form, &mut output);
     // What was printed so far is seen before anything is told.
-    let flushed = output.flush();
+    let result = result.and_then(|()| output.flush().map_err(RunError::Output));
+    drop(output);
+    tell_summary(&call, &summary);
     let failed = |message: String| Failure { status: TROUBLE, message };
-    let no_output = |error: io::Error| failed(format!("cannot write the output: {error}"));
     match result {
-        Err(RunError::Output(error)) => Err(no_output(error)),
+        Ok(()) if summary.is_all_answered() => Ok(0),
+        Ok(()) => Ok(REFUSED),
+        Err(RunError::Output(error)) => Err(failed(format!("cannot write the output: {error}"))),
         Err(RunError::Program(error)) => {
-            Err(failed(format!("{}: {error}", call.program.display())))
+            let place = format!("after {} of {} items", summary.sent(), session.length);
+            Err(failed(format!("{}: {place}: {error}", call.program.display())))
         }
         Err(RunError::Session(error)) => Err(failed(session_text(&call, &error))),
-        Ok(summary) => {
-            flushed.map_err(no_output)?;
-            Ok(told_summary(&call, &summary))
-        }
     }
 }
 
-/// Tells what was refused, and gives the status.
-fn told_summary(call: &Call, summary: &Summary) -> u8 {
+/// Tells what was refused.
+fn tell_summary(call: &Call, summary: &Summary) {
     if call.form == Form::Frames {
         tell(summary);
     }
@@ -80,11 +80,6 @@ fn told_summary(call: &Call, summary: &Summary) -> u8 {
     }
     if more > 0 {
         tell(format!("{}: and {more} more", source_name(call)));
-    }
-    if summary.is_all_answered() {
-        0
-    } else {
-        REFUSED
     }
 }
 
@@ -145,6 +140,6 @@ fn session_text(call: &Call, error: &SessionError) -> String {
 }
 
 fn source_name(call: &Call) -> String {
-    let name = call.file.as_ref().map(|file| file.display().to_string());
+    let name = call.file.as_ref().map(|file| comment_text(file.as_os_str().as_encoded_bytes()));
     name.unwrap_or_else(|| "standard input".to_string())
 }

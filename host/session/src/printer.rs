@@ -46,10 +46,15 @@ impl<'o, W: Write> Printer<'o, W> {
         }
     }
 
-    /// What is told of the order of the rows. Frames show it by themselves.
-    pub fn print_order(&mut self, text: String) -> io::Result<()> {
+    /// What is told of the order of the rows. Frames have no text beside them, so it is told on
+    /// standard error then.
+    pub fn print_order(&mut self, text: &str) -> io::Result<()> {
         self.start_part(Part::SetUp)?;
-        self.print_shown(&Shown::one_line("Order", text))
+        if self.form == Form::Frames {
+            // The frames show it too.
+            let _ = writeln!(io::stderr(), "{text}");
+        }
+        self.print_shown(&Shown::one_line("Order", text.to_string()))
     }
 
     pub fn print_sent(&mut self, sent: &Sent, part: Part) -> io::Result<()> {

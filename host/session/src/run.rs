@@ -34,51 +34,54 @@ pub enum RunError {
 }
 
 /// Sends a session to a program and prints each item, with its answer if it has one, and at the end
-/// what came of it all.
+/// what came of it all. What came of it is given too where it stopped before its end.
 pub fn run_session(
     program: &Path,
     session: &Session,
     form: Form,
     output: &mut impl Write,
-) -> Result<Summary, RunError> {
+) -> (Summary, Result<(), RunError>) {
+    let mut summary = Summary::default();
+    let result = run_items(program, session, Printer::new(output, form), &mut summary);
+    (summary, result)
+}
+
+fn run_items(
+    program: &Path,
+    session: &Session,
+    printer: Printer<impl Write>,
+    summary: &mut Summary,
+) -> Result<(), RunError> {
     let send = session.sender().map_err(RunError::Session)?;
     let running = Running::start(program, PATIENCE, send).map_err(RunError::Program)?;
-    let mut run = Run {
-        running,
-        printer: Printer::new(output, form),
-        stored: Stored::default(),
-        summary: Summary::default(),
-        progress: Progress { done: 0, length: session.length },
-    };
+    let progress = Progress { done: 0, length: session.length };
+    let mut run = Run { running, printer, stored: Stored::default(), summary, progress };
     for item in session.items().map_err(RunError::Session)? {
         run.take(&item.map_err(RunError::Session)?)?;
     }
-    run.printer.print_summary(&run.summary).map_err(RunError::Output)?;
-    run.running.finish().map_err(RunError::Program)?;
-    Ok(run.summary)
+    run.printer.print_summary(run.summary).map_err(RunError::Output)?;
+    run.running.finish().map_err(RunError::Program)
 }
 
 /// A session under way.
-struct Run<'o, W> {
+struct Run<'o, 's, W> {
     running: Running,
     printer: Printer<'o, W>,
     stored: Stored,
-    summary: Summary,
+    summary: &'s mut Summary,
     progress: Progress,
 }
 
-impl<W: Write> Run<'_, W> {
+impl<W: Write> Run<'_, '_, W> {
     fn take(&mut self, item: &Item) -> Result<(), RunError> {
         let printer = &mut self.printer;
         match &item.content {
             Content::Comment(comment) => printer.print_comment(comment).map_err(RunError::Output),
-            Content::AsGiven => {
-                printer.print_order("as given".to_string()).map_err(RunError::Output)
-            }
+            Content::AsGiven => printer.print_order("as given").map_err(RunError::Output),
             Content::Sorted(count) => {
                 let lines = counted(*count, "mailbox line", "mailbox lines");
                 let text = format!("{lines}, put in the order of the bytes of their names");
-                printer.print_order(text).map_err(RunError::Output)
+                printer.print_order(&text).map_err(RunError::Output)
             }
             Content::Sent(sent) => self.exchange(item.line, sent),
         }

@@ -9,7 +9,7 @@ use crate::order::Ordered;
 use crate::source::Source;
 
 /// Of bad lines no more are kept.
-const MOST_BAD_LINES: usize = 50;
+const MOST_BAD_LINES: usize = 1_000;
 
 /// A session whose lines can be read.
 #[derive(Debug)]

@@ -10,7 +10,7 @@ use crate::reply::Reply;
 use crate::show::{counted, refusal_text};
 
 /// Of what is not as it should be no more is kept.
-const MOST_TROUBLES: usize = 20;
+const MOST_TROUBLES: usize = 100;
 
 /// What came of a session that was run to its end.
 #[derive(Debug, Default)]
@@ -66,6 +66,11 @@ impl Summary {
     /// Whether each item was answered, or refused as it said.
     pub fn is_all_answered(&self) -> bool {
         self.troubled == 0
+    }
+
+    /// How many frames were sent.
+    pub fn sent(&self) -> usize {
+        self.rows.given + self.entries.given + self.commands + self.walks + self.bad_frames
     }
 
     /// What is not as it should be, a line of text each, and how many more there are.

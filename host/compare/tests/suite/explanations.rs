@@ -31,7 +31,7 @@ fn text_of(kind: &str, seed: u64) -> String {
     sender_of(&kind.session(seed))(&mut bytes).expect("bytes");
     let session = Session::check(Source::of_bytes(&bytes)).expect("a file of frames");
     let mut text = Vec::new();
-    run_session(&second(), &session, Form::Text, &mut text).expect("a run");
+    run_session(&second(), &session, Form::Text, &mut text).1.expect("a run");
     String::from_utf8(text).expect("text")
 }
 

@@ -143,9 +143,9 @@ fn lone_expectations() {
 /// Of many refusals the first ones are told, and how many more there are.
 #[test]
 fn many_refusals() {
-    let output = run_on("walk 9\n".repeat(25));
+    let output = run_on("walk 9\n".repeat(105));
     let told = told(&output);
-    assert_eq!(told.lines().count(), 21);
+    assert_eq!(told.lines().count(), 101);
     assert!(told.ends_with("standard input: and 5 more\n"), "{told}");
 }
 

@@ -1,12 +1,12 @@
 //! `./run` in a tree of its own, with stand-ins for `rt` and `cargo`: what it builds, what it tells
 //! meanwhile, and that it writes nothing where all is built.
 
-use std::fs::{self, Permissions};
-use std::os::unix::fs::{MetadataExt, PermissionsExt};
+use std::fs;
+use std::os::unix::fs::MetadataExt;
 use std::path::{Path, PathBuf};
 use std::process::{Command, Output};
 
-use crate::common::{second, told, SESSION};
+use crate::common::{second, told, write_program, SESSION};
 
 const RUN: &str = include_str!("../../../../run");
 
@@ -16,9 +16,12 @@ echo 'crates/alpha/proofs/f/Proof.antt:87:7: note: large solution: the implicit 
 echo 'fn alpha::f: proved' >&2
 echo 'logic /kit/logic: libraries=16 files=1438 sum=064d'
 echo 'library alpha: modules loaded=909 checked=0'
+echo 'note: no function with a body is declared, so nothing was lowered'
+echo 'axioms libc: libc::read, libc::write (2 of the 50 declared)'
 echo 'rt: alpha proved (3 s)'
 echo 'rt: beta proved (unchanged since it was last proved)'
 echo 'rt: luspemaro proved (1 s)'
+echo "rt: luspemaro ran as nobody, and wrote what its file 'stdout' has (1 s)"
 echo 'rt: ok, 3 crates proved'
 "#;
 
@@ -69,8 +72,7 @@ impl Tree {
 
     fn program(&self, path: &Path, text: &str) {
         fs::create_dir_all(path.parent().expect("a folder")).expect("a folder");
-        fs::write(path, text).expect("a file");
-        fs::set_permissions(path, Permissions::from_mode(0o755)).expect("a program");
+        write_program(path, text);
     }
 
     /// Runs `run` with the stand-ins, or where there is neither `rt` nor `cargo`.

@@ -25,7 +25,7 @@ pub fn check(source: impl AsRef<[u8]>) -> Result<Session, SessionError> {
 pub fn whole_text(source: impl AsRef<[u8]>, form: Form) -> String {
     let session = check(source).expect("a session");
     let mut output = Vec::new();
-    run_session(&second(), &session, form, &mut output).expect("a run");
+    run_session(&second(), &session, form, &mut output).1.expect("a run");
     String::from_utf8(output).expect("text")
 }
 
@@ -65,6 +65,18 @@ pub fn run_with(program: &Path, source: impl AsRef<[u8]>) -> Output {
     let _ = stdin.write_all(source.as_ref());
     drop(stdin);
     child.wait_with_output().expect("an end")
+}
+
+/// Writes a script that can be run. Another process writes it: a file that this one had open could
+/// still be open in a program that another test starts at that moment, and would be busy then.
+pub fn write_program(path: &Path, text: &str) {
+    let mut command = Command::new("/bin/sh");
+    command.args(["-c", "cat >\"$0\" && chmod 755 \"$0\""]).arg(path).stdin(Stdio::piped());
+    let mut writer = command.spawn().expect("a start");
+    let mut input = writer.stdin.take().expect("an input");
+    input.write_all(text.as_bytes()).expect("an open input");
+    drop(input);
+    assert!(writer.wait().expect("an end").success(), "{}", path.display());
 }
 
 /// What was told on standard error.

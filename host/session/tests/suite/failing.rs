@@ -1,20 +1,15 @@
 //! Trouble with the machine: output that fails, and programs that fail.
 
-use std::fs::{self, File, Permissions};
-use std::io::Write;
-use std::os::unix::fs::PermissionsExt;
+use std::fs::{self, File};
 use std::path::{Path, PathBuf};
 use std::process::{Command, Stdio};
 
-use crate::common::{run_with, second, told, SESSION};
+use crate::common::{run_with, second, told, write_program, SESSION};
 
 /// A program that is a script of the shell.
 fn script(name: &str, text: &str) -> PathBuf {
     let path = Path::new(env!("CARGO_TARGET_TMPDIR")).join(name);
-    let mut file = File::create(&path).expect("a script");
-    write!(file, "#!/bin/sh\n{text}\n").expect("a script");
-    drop(file);
-    fs::set_permissions(&path, Permissions::from_mode(0o755)).expect("a program");
+    write_program(&path, &format!("#!/bin/sh\n{text}\n"));
     path
 }
 
@@ -79,6 +74,19 @@ fn programs_that_fail() {
         let output = run_with(&program, "walk\n");
         assert_eq!(output.status.code(), Some(1), "{name}: {output:?}");
         let told = told(&output);
-        assert!(told.ends_with(&format!("program-{name}: {message}\n")), "{name}: {told}");
+        let end = format!("program-{name}: after 1 of 1 items: {message}\n");
+        assert!(told.ends_with(&end), "{name}: {told}");
     }
+}
+
+/// What was refused before a program failed is told all the same, and how far the session came.
+#[test]
+fn refused_before_it_failed() {
+    let program = script("program-half", "read x; echo 5206; read x; exit 1");
+    let output = run_with(&program, "walk 9\nwalk\nwalk\n");
+    assert_eq!(output.status.code(), Some(1));
+    let told = told(&output);
+    let lines: Vec<&str> = told.lines().collect();
+    assert!(lines[0].starts_with("standard input: line 1: refused with 6: "), "{told}");
+    assert!(lines[1].ends_with("program-half: after 2 of 3 items: exit status: 1"), "{told}");
 }

@@ -123,9 +123,9 @@ fn every_bad_line_is_told() {
     assert_eq!((output.status.code(), output.stdout.len()), (Some(2), 0));
     let lines: Vec<String> = told(&output).lines().map(|line| line[..24].to_string()).collect();
     assert_eq!(lines, [1, 3, 6].map(|line| format!("standard input: line {line}: ")));
-    let output = run_on("x\n".repeat(60));
+    let output = run_on("x\n".repeat(1_010));
     let told = told(&output);
-    assert_eq!(told.lines().count(), 51);
+    assert_eq!(told.lines().count(), 1_001);
     assert!(told.ends_with("standard input: and 10 more\n"), "{told}");
 }
 

@@ -1,8 +1,12 @@
 //! The order of mailbox lines.
 
+use std::fs;
+use std::path::Path;
+use std::process::Command;
+
 use session::Form;
 
-use crate::common::{printed, run_on};
+use crate::common::{printed, run_on, second, told, SESSION};
 
 /// Lines in any order are sent by the unsigned bytes of the whole name, and that is told.
 #[test]
@@ -39,6 +43,22 @@ fn any_order() {
     let frames = printed(source, Form::Frames);
     let places = names.map(|name| frames.find(&format!("{name}\n")).expect("a frame"));
     assert!(places.is_sorted(), "{frames}");
+}
+
+/// With frames alone on standard output, the order is told on standard error.
+#[test]
+fn told_beside_frames() {
+    let path = Path::new(env!("CARGO_TARGET_TMPDIR")).join("ordered.session");
+    fs::write(&path, "mailbox b exists\nmailbox a exists\n").expect("a session");
+    let mut command = Command::new(SESSION);
+    let output = command.arg("--program").arg(second()).arg("--frames").arg(path).output();
+    assert_eq!(
+        told(&output.expect("a run")),
+        concat!(
+            "2 mailbox lines, put in the order of the bytes of their names\n",
+            "2 of 2 rows and 0 of 0 entries kept; 0 commands, 0 walks; 0 refused\n",
+        )
+    );
 }
 
 /// Lines that ascend already are not told of.

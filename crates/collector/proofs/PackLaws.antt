@@ -1,6 +1,5 @@
 -- Names in a buffer: none, one more, and what stands at a place. Rests on the laws of writes.
-use mathlib.Core.Path.{_≡_, refl, sym, ap, subst, _∙_}
-use mathlib.Core.Bool.{Bool}
+use mathlib.Core.Path.{_≡_, refl, sym, ap, _∙_}
 use mathlib.Core.List.{List, [], _∷_, _++_, append-nil}
 use Prim.Native.Nat.{ℕ, zero, suc, _+_, _-_, _≤_, _<_}
 use native.Mathlib.Nat.{sub-zero, zero-sub, suc-sub-suc}
@@ -13,8 +12,7 @@ use Rattle.listing_rules.specs.Walk.{stop, go, packed, fits, zeroBehind}
 use Rattle.listing_rules.proofs.Asked.{packed-append}
 use Rattle.octets.specs.Put.{Put}
 use Rattle.octets.proofs.Puts.{put-length}
-use Rattle.collector.specs.Names.{Packs, Keeps}
-use Rattle.collector.specs.declared.names.Kept.{Kept}
+use Rattle.collector.specs.Names.{Packs}
 
 drop-zeros : (n k : ℕ) → drop {A = ℕ} k (replicate n 0) ≡ replicate (n - k) 0
 drop-zeros n zero = rw sub-zero
@@ -56,8 +54,8 @@ unfolding zeroBehind
 packs-none buf e = record { counted = rw packed-none; room = omega arith; bytes = rw packed-none (e ∙ rw sub-zero) }
 
 -- a buffer that was cleared
-pub cleared : (d e : List ℕ) (n : ℕ) → length d ≡ n → e ≡ replicate (length d) 0 → e ≡ replicate n 0
-cleared d e n l z = z ∙ ap (λ (k : ℕ). replicate k 0) l
+pub cleared : (d : List ℕ) {e : List ℕ} {n : ℕ} → length d ≡ n → e ≡ replicate (length d) 0 → e ≡ replicate n 0
+cleared d l z = z ∙ ap (λ (k : ℕ). replicate k 0) l
 
 -- one name more
 module _ {d : List ℕ} {at : ℕ} {ns : List (List ℕ)} (n : List ℕ) where
@@ -80,7 +78,3 @@ fits-go k room ns h = rw (le-leb (length (packed ns)) room h)
 pub fits-stop : (k room : ℕ) (ns : List (List ℕ)) → room < length (packed ns) → fits k room ns ≡ stop k
 unfolding fits
 fits-stop k room ns h = rw (lt-leb (length (packed ns)) room h)
-
--- the promise of `keep` where its question and its answer are known
-pub keeps-as : {w w′ : Bool} {r r′ : Kept} (n d : List ℕ) (at : ℕ) (e : List ℕ) → w ≡ w′ → r ≡ r′ → Keeps w n d at e r → Keeps w′ n d at e r′
-keeps-as {w} {w′} {r} {r′} n d at e p q k = subst (λ (x : Bool). Keeps x n d at e r′) p (subst (λ (y : Kept). Keeps w n d at e y) q k)

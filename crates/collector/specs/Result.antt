@@ -1,13 +1,12 @@
--- What the collector answers, in document 01's terms, and demand 3 as one claim about the whole walk.
+-- What the collector answers and leaves in its buffers, in document 01's terms, and demand 3 for it.
 use mathlib.Core.Path.{_≡_}
-use mathlib.Core.Bool.{true, false}
-use mathlib.Core.List.{List, [], _∷_}
-use Prim.Native.Nat.{ℕ, _+_}
+use mathlib.Core.Bool.{true}
+use mathlib.Core.List.{List}
+use Prim.Native.Nat.{ℕ}
 use lib.ListN.{length}
-use Rattle.listing_rules.specs.Bytes.{oneOf}
-use Rattle.listing_rules.specs.Table.{rows}
-use Rattle.listing_rules.specs.Walk.{WalkReply, walkRefused, walked, packed, zeroBehind}
-use Rattle.listing_rules.specs.Demand3.{meetingNames, meetingAncestors, tooSmall}
+use Rattle.listing_rules.specs.Table.{passes}
+use Rattle.listing_rules.specs.Walk.{lawfulByte, WalkReply, walkRefused, walked, collected, scratchAfter, foundAfter, pendingAfter}
+use Rattle.listing_rules.specs.Demand3.{Demand3}
 use Rattle.collector.specs.declared.Collected.{Collected}
 use Rattle.collector.specs.declared.Collected.the-variants.{Done, Refused}
 
@@ -16,16 +15,30 @@ unfoldable pub collectedIs : WalkReply → Collected
 collectedIs (walkRefused k) = Refused k
 collectedIs (walked count f p) = Done count (length f)
 
--- Demand 3: a table and an option byte, the lengths of the three buffers, the collector's answer, and what lies in found and in
--- pending at exit. The walk is refused exactly if a buffer is too small, by 9, 10 or 11. Else the count is one more than the
--- different proper ancestors of the names that meet the criteria, found holds these names and pending those ancestors, each in
--- walk order and with a length byte, zero behind them.
-unfoldable pub WholeWalk : List ℕ → ℕ → ℕ → ℕ → ℕ → Collected → List ℕ → List ℕ → Type 0
-WholeWalk table o scratch found pending (Refused k) foundExit pendingExit =
-    (tooSmall (rows table) o scratch found pending ≡ true) × (oneOf (9 ∷ 10 ∷ 11 ∷ []) k ≡ true)
-WholeWalk table o scratch found pending (Done count len) foundExit pendingExit =
-    (tooSmall (rows table) o scratch found pending ≡ false)
-    × (count ≡ 1 + length (meetingAncestors (rows table) o))
-    × (len ≡ length (packed (meetingNames (rows table) o)))
-    × (foundExit ≡ zeroBehind found (packed (meetingNames (rows table) o)))
-    × (pendingExit ≡ zeroBehind pending (packed (meetingAncestors (rows table) o)))
+-- One collection, by the table, the option byte and the three buffers as they were lent: the answer, and what each buffer holds then.
+module _ (table : List ℕ) (o : ℕ) (scratch found pending : List ℕ) where
+  abbrev pub collectedOf : Collected
+  collectedOf = collectedIs (collected table o scratch found pending)
+
+  abbrev pub scratchOf : List ℕ
+  scratchOf = scratchAfter (length scratch) (collected table o scratch found pending)
+
+  abbrev pub foundOf : List ℕ
+  foundOf = foundAfter (length found) (collected table o scratch found pending)
+
+  abbrev pub pendingOf : List ℕ
+  pendingOf = pendingAfter (length pending) (collected table o scratch found pending)
+
+-- The whole walk, by the lengths of the three buffers: the answer, and what lies in found and in pending then, are those of a reply
+-- that demand 3 allows.
+pub record WholeWalk (table : List ℕ) (o scratch found pending : ℕ) (r : Collected) (inFound inPending : List ℕ) : Type 0 where
+  pub reply : WalkReply
+  pub owed : Demand3 table o scratch found pending reply
+  pub result : r ≡ collectedIs reply
+  pub found-holds : inFound ≡ foundAfter found reply
+  pub pending-holds : inPending ≡ pendingAfter pending reply
+
+-- demand 3 is owed for a table that passes and a lawful option byte
+abbrev pub OwesDemand3 : List ℕ → ℕ → List ℕ → List ℕ → List ℕ → Collected → List ℕ → List ℕ → Type 0
+OwesDemand3 table o scratch found pending r inFound inPending =
+    passes table ≡ true → lawfulByte o ≡ true → WholeWalk table o (length scratch) (length found) (length pending) r inFound inPending

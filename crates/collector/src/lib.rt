@@ -13,11 +13,9 @@ use options::Asked;
 use options::WalkOptions;
 use walk::walk_table;
 ghost use mathlib.Core.Path.{_≡_};
-ghost use mathlib.Core.Bool.{true};
 ghost use lib.ListN.{length, replicate};
-ghost use Rattle.listing_rules.specs.Table.{passes};
-ghost use Rattle.listing_rules.specs.Walk.{lawfulByte, collected, foundAfter, pendingAfter, scratchAfter};
-ghost use Rattle.collector.specs.Result.{collectedIs, WholeWalk};
+ghost use Rattle.listing_rules.specs.Walk.{collected};
+ghost use Rattle.collector.specs.Result.{collectedOf, scratchOf, foundOf, pendingOf, OwesDemand3};
 ghost use Rattle.collector.specs.Ends.{Ends};
 
 // Refusals: the table does not pass; an option byte that is not lawful, so above 7, or 4 without 2.
@@ -40,11 +38,12 @@ pub fn collect(
     found: &mut [u8],
     pending: &mut [u8],
 ) -> Collected
-    ensures result { λ r. ⌜ r ≡ collectedIs (collected (now (table .entry)) option (now (scratch .entry)) (now (found .entry)) (now (pending .entry))) ⌝ }
-    ensures scratch { λ _. ⌜ now (scratch .exit) ≡ scratchAfter (length (now (scratch .entry))) (collected (now (table .entry)) option (now (scratch .entry)) (now (found .entry)) (now (pending .entry))) ⌝ }
-    ensures found { λ _. ⌜ now (found .exit) ≡ foundAfter (length (now (found .entry))) (collected (now (table .entry)) option (now (scratch .entry)) (now (found .entry)) (now (pending .entry))) ⌝ }
-    ensures pending { λ _. ⌜ now (pending .exit) ≡ pendingAfter (length (now (pending .entry))) (collected (now (table .entry)) option (now (scratch .entry)) (now (found .entry)) (now (pending .entry))) ⌝ }
-    ensures demand3 { λ r. ⌜ (passes (now (table .entry)) ≡ true → lawfulByte option ≡ true → WholeWalk (now (table .entry)) option (length (now (scratch .entry))) (length (now (found .entry))) (length (now (pending .entry))) r (now (found .exit)) (now (pending .exit))) ⌝ }
+    ensures result { λ r. ⌜ r ≡ collectedOf (now (table .entry)) option (now (scratch .entry)) (now (found .entry)) (now (pending .entry)) ⌝ }
+    ensures scratch { λ _. ⌜ now (scratch .exit) ≡ scratchOf (now (table .entry)) option (now (scratch .entry)) (now (found .entry)) (now (pending .entry)) ⌝ }
+    ensures found { λ _. ⌜ now (found .exit) ≡ foundOf (now (table .entry)) option (now (scratch .entry)) (now (found .entry)) (now (pending .entry)) ⌝ }
+    ensures pending { λ _. ⌜ now (pending .exit) ≡ pendingOf (now (table .entry)) option (now (scratch .entry)) (now (found .entry)) (now (pending .entry)) ⌝ }
+    ensures demand3 { λ r. ⌜ OwesDemand3 (now (table .entry)) option (now (scratch .entry)) (now (found .entry)) (now (pending .entry))
+        r (now (found .exit)) (now (pending .exit)) ⌝ }
 {
     clear(found);
     clear(pending);

@@ -1,6 +1,5 @@
--- `collect` meets its contract: what `run` left, and zeros where it was refused (`WholeLaws`). Demand 3 follows from the equations.
+-- `collect` meets its contract: what `run` left, and zeros where it was refused; demand 3 follows from the equations (`WholeLaws`).
 use mathlib.Core.Path.{_≡_, refl, sym, subst, _∙_}
-use lib.ListN.{length}
 use borrow.Author.Needs.{needs}
 use Rattle.listing_rules.specs.Walk.{WalkReply, collected}
 use Rattle.collector.specs.Ends.{Comes}
@@ -18,7 +17,11 @@ clear-requires-2 : tie.Need-clear-requires-2
 clear-requires-2 c κs = search needs
 
 run-requires : tie.Need-run-requires
-run-requires c κs = (cleared (c .before .before .before .before .before .before .before .before .before .before .before .before .before .before .before .args .found .now) (c .before .before .before .before .before .before .before .before .before .clear .last .0) (length (c .before .before .before .before .before .before .before .before .before .clear .last .0)) (sym (c .before .before .before .before .before .before .before .before .before .clear .kept .0)) (c .before .before .before .before .before .before .before .before .before .clear .ensures), cleared (c .before .before .before .before .before .before .before .before .before .before .before .before .before .before .before .args .pending .now) (c .before .before .before .before .before .clear2 .last .0) (length (c .before .before .before .before .before .clear2 .last .0)) (sym (c .before .before .before .before .before .clear2 .kept .0)) (c .before .before .before .before .before .clear2 .ensures))
+run-requires c κs =
+    let pending = c .before .before .before .before .before in
+    let found = pending .before .before .before .before in
+    let args = found .before .before .before .before .before .before .args in
+    (cleared (args .found .now) (sym (found .clear .kept .0)) (found .clear .ensures), cleared (args .pending .now) (sym (pending .clear2 .kept .0)) (pending .clear2 .ensures))
 
 clear-requires-3 : tie.Need-clear-requires-3
 clear-requires-3 c κs = search needs
@@ -41,16 +44,31 @@ same-length-2 c = search needs
 same-length-3 : tie.Need-same-length-3
 same-length-3 c = search needs
 
--- what the walk gives, by the buffers' lengths at the entry
+-- what the walk gives, by the buffers as they were lent
 same-reply : (c : tie.After-run) →
-    let args = c .before .before .before .before .before .before .before .before .before .before .before .before .before .before .before .before .args in
-    collected (args .table .now) (args .option) (args .scratch .now) (c .before .before .before .before .before .before .before .before .before .before .clear .last .0) (c .before .before .before .before .before .before .clear2 .last .0) ≡ collected (args .table .now) (args .option) (args .scratch .now) (args .found .now) (args .pending .now)
+    let pending = c .before .before .before .before .before .before in
+    let found = pending .before .before .before .before in
+    let args = found .before .before .before .before .before .before .args in
+    collected (args .table .now) (args .option) (args .scratch .now) (found .clear .last .0) (pending .clear2 .last .0) ≡ collected (args .table .now) (args .option) (args .scratch .now) (args .found .now) (args .pending .now)
 same-reply c =
-    let args = c .before .before .before .before .before .before .before .before .before .before .before .before .before .before .before .before .args in
-    collected-long (args .table .now) (args .option) (args .scratch .now) (args .found .now) (args .pending .now) (args .scratch .now) (c .before .before .before .before .before .before .before .before .before .before .clear .last .0) (c .before .before .before .before .before .before .clear2 .last .0) refl (c .before .before .before .before .before .before .before .before .before .before .clear .kept .0) (c .before .before .before .before .before .before .clear2 .kept .0)
+    let pending = c .before .before .before .before .before .before in
+    let found = pending .before .before .before .before in
+    let args = found .before .before .before .before .before .before .args in
+    collected-long (args .table .now) (args .option) (args .scratch .now) (args .found .now) (args .pending .now) (args .scratch .now) (found .clear .last .0) (pending .clear2 .last .0) refl (found .clear .kept .0) (pending .clear2 .kept .0)
 
 returns : tie.Need-returns
-returns c = promise-refused (c .before .before .before .before .before .before .before .before .before .before .before .before .before .before .before .before .before .before .before .before .before .before .before .before .before .before .before .before .before .before .before .before .before .before .before .before .before .args .table .now) (c .before .before .before .before .before .before .before .before .before .before .before .before .before .before .before .before .before .before .before .before .before .before .before .before .before .before .before .before .before .before .before .before .before .before .before .before .before .args .option) (c .before .before .before .before .before .before .before .before .before .before .before .before .before .before .before .before .before .before .before .before .before .before .before .before .before .before .before .before .before .before .before .before .before .before .before .before .before .args .scratch .now) (c .before .before .before .before .before .before .before .before .before .before .before .before .before .before .before .before .before .before .before .before .before .before .before .before .before .before .before .before .before .before .before .before .before .before .before .before .before .args .found .now) (c .before .before .before .before .before .before .before .before .before .before .before .before .before .before .before .before .before .before .before .before .before .before .before .before .before .before .before .before .before .before .before .before .before .before .before .before .before .args .pending .now) (c .before .before .before .before .before .before .before .before .before .before .before .before .before .clear3 .last .0) (c .before .before .before .before .before .before .clear4 .last .0) (c .before .before .clear5 .last .0) (cleared (c .before .before .before .before .before .before .before .before .before .before .before .before .before .before .before .before .before .before .before .before .before .run .last .1 .1 .0) (c .before .before .before .before .before .before .before .before .before .before .before .before .before .clear3 .last .0) (length (c .before .before .before .before .before .before .before .before .before .before .before .before .before .before .before .before .before .before .before .before .before .before .before .before .before .before .before .before .before .before .before .before .before .before .before .before .before .args .scratch .now)) (c .before .before .before .before .before .before .before .before .before .before .before .before .before .before .before .before .before .before .before .before .before .run .kept .1 .1 .0) (c .before .before .before .before .before .before .before .before .before .before .before .before .before .clear3 .ensures)) (c .before .before .before .before .before .before .before .before .before .result .given .0 .0) (sym (same-reply (c .before .before .before .before .before .before .before .before .before .before .before .before .before .before .before .before .before .before .before .before .before)) ∙ (rw (c .before .before .before .before .before .before .before .before .before .result .given .1) at (c .before .before .before .before .before .before .before .before .before .before .before .before .before .before .before .before .before .before .before .before .before .run .ensures))) (cleared (c .before .before .before .before .before .before .before .before .before .before .before .before .before .before .before .before .before .before .before .before .before .run .last .1 .1 .1 .0) (c .before .before .before .before .before .before .clear4 .last .0) (length (c .before .before .before .before .before .before .before .before .before .before .before .before .before .before .before .before .before .before .before .before .before .before .before .before .before .before .before .before .before .before .before .before .before .before .before .before .before .args .found .now)) (c .before .before .before .before .before .before .before .before .before .before .before .before .before .before .before .before .before .before .before .before .before .run .kept .1 .1 .1 .0 ∙ c .before .before .before .before .before .before .before .before .before .before .before .before .before .before .before .before .before .before .before .before .before .before .before .before .before .before .before .before .before .before .before .clear .kept .0) (c .before .before .before .before .before .before .clear4 .ensures)) (cleared (c .before .before .before .before .before .before .before .before .before .before .before .before .before .before .before .before .before .before .before .before .before .run .last .1 .1 .1 .1 .0) (c .before .before .clear5 .last .0) (length (c .before .before .before .before .before .before .before .before .before .before .before .before .before .before .before .before .before .before .before .before .before .before .before .before .before .before .before .before .before .before .before .before .before .before .before .before .before .args .pending .now)) (c .before .before .before .before .before .before .before .before .before .before .before .before .before .before .before .before .before .before .before .before .before .run .kept .1 .1 .1 .1 .0 ∙ c .before .before .before .before .before .before .before .before .before .before .before .before .before .before .before .before .before .before .before .before .before .before .before .before .before .before .before .clear2 .kept .0) (c .before .before .clear5 .ensures))
+returns c =
+    let told = c .before .before .before .before .before .before .before .before .before in
+    let scratch = told .before .before .before .before in
+    let ran = scratch .before .before .before .before .before .before .before .before in
+    let args = ran .before .before .before .before .before .before .before .before .before .before .before .before .before .before .before .before .args in
+    let last = ran .run .last .1 .1 in
+    let kept = ran .run .kept .1 .1 in
+    promise-refused (args .table .now) (args .option) (args .scratch .now) (args .found .now) (args .pending .now)
+    (cleared (last .0) (kept .0) (scratch .clear3 .ensures))
+    (sym (same-reply ran) ∙ (rw (told .result .given .1) at (ran .run .ensures)))
+    (cleared (last .1 .0) (kept .1 .0 ∙ ran .before .before .before .before .before .before .before .before .before .before .clear .kept .0) (c .before .before .before .before .before .before .clear4 .ensures))
+    (cleared (last .1 .1 .0) (kept .1 .1 .0 ∙ ran .before .before .before .before .before .before .clear2 .kept .0) (c .before .before .clear5 .ensures))
 
 enum-told : tie.Need-enum-told
 enum-told c = search needs
@@ -65,7 +83,21 @@ same-length-6 : tie.Need-same-length-6
 same-length-6 c = search needs
 
 returns-2 : tie.Need-returns-2
-returns-2 c = subst (λ (x : Collected). Promise (c .before .before .before .before .before .before .before .before .before .before .before .before .before .before .before .before .before .before .before .before .before .before .before .before .before .before .before .before .args .table .now) (c .before .before .before .before .before .before .before .before .before .before .before .before .before .before .before .before .before .before .before .before .before .before .before .before .before .before .before .before .args .option) (c .before .before .before .before .before .before .before .before .before .before .before .before .before .before .before .before .before .before .before .before .before .before .before .before .before .before .before .before .args .scratch .now) (c .before .before .before .before .before .before .before .before .before .before .before .before .before .before .before .before .before .before .before .before .before .before .before .before .before .before .before .before .args .found .now) (c .before .before .before .before .before .before .before .before .before .before .before .before .before .before .before .before .before .before .before .before .before .before .before .before .before .before .before .before .args .pending .now) x (c .before .before .before .before .clear3 .last .0) (c .before .before .before .before .before .before .before .before .before .before .before .before .run .last .1 .1 .1 .0) (c .before .before .before .before .before .before .before .before .before .before .before .before .run .last .1 .1 .1 .1 .0)) (sym (c .enum-told .given .1)) (promise-done (c .before .before .before .before .before .before .before .before .before .before .before .before .before .before .before .before .before .before .before .before .before .before .before .before .before .before .before .before .args .table .now) (c .before .before .before .before .before .before .before .before .before .before .before .before .before .before .before .before .before .before .before .before .before .before .before .before .before .before .before .before .args .option) (c .before .before .before .before .before .before .before .before .before .before .before .before .before .before .before .before .before .before .before .before .before .before .before .before .before .before .before .before .args .scratch .now) (c .before .before .before .before .before .before .before .before .before .before .before .before .before .before .before .before .before .before .before .before .before .before .before .before .before .before .before .before .args .found .now) (c .before .before .before .before .before .before .before .before .before .before .before .before .before .before .before .before .before .before .before .before .before .before .before .before .before .before .before .before .args .pending .now) (c .before .before .before .before .clear3 .last .0) (c .before .before .before .before .before .before .before .before .before .before .before .before .run .last .1 .1 .1 .0) (c .before .before .before .before .before .before .before .before .before .before .before .before .run .last .1 .1 .1 .1 .0) (cleared (c .before .before .before .before .before .before .before .before .before .before .before .before .run .last .1 .1 .0) (c .before .before .before .before .clear3 .last .0) (length (c .before .before .before .before .before .before .before .before .before .before .before .before .before .before .before .before .before .before .before .before .before .before .before .before .before .before .before .before .args .scratch .now)) (c .before .before .before .before .before .before .before .before .before .before .before .before .run .kept .1 .1 .0) (c .before .before .before .before .clear3 .ensures)) (c .enum-told .given .0 .0) (c .enum-told .given .0 .1 .0) (subst (λ (w : WalkReply). Comes w (c .before .before .before .before .before .before .before .before .before .before .before .before .run .last .1 .1 .1 .0) (c .before .before .before .before .before .before .before .before .before .before .before .before .run .last .1 .1 .1 .1 .0) (c .enum-told .given .0 .0) (c .enum-told .given .0 .1 .0)) (same-reply (c .before .before .before .before .before .before .before .before .before .before .before .before)) (rw (c .enum-told .given .1) at (c .before .before .before .before .before .before .before .before .before .before .before .before .run .ensures))) (c .before .before .before .before .before .before .before .before .before .before .before .before .run .kept .1 .1 .1 .0 ∙ c .before .before .before .before .before .before .before .before .before .before .before .before .before .before .before .before .before .before .before .before .before .before .clear .kept .0) (c .before .before .before .before .before .before .before .before .before .before .before .before .run .kept .1 .1 .1 .1 .0 ∙ c .before .before .before .before .before .before .before .before .before .before .before .before .before .before .before .before .before .before .clear2 .kept .0))
+returns-2 c =
+    let told = c .enum-told .given in
+    let scratch = c .before .before .before .before in
+    let ran = scratch .before .before .before .before .before .before .before .before in
+    let args = ran .before .before .before .before .before .before .before .before .before .before .before .before .before .before .before .before .args in
+    let last = ran .run .last .1 .1 in
+    let kept = ran .run .kept .1 .1 in
+    subst
+    (λ (r : Collected). Promise (args .table .now) (args .option) (args .scratch .now) (args .found .now) (args .pending .now) r (scratch .clear3 .last .0) (last .1 .0) (last .1 .1 .0))
+    (sym (told .1))
+    (promise-done (args .table .now) (args .option) (args .scratch .now) (args .found .now) (args .pending .now)
+    (cleared (last .0) (kept .0) (scratch .clear3 .ensures))
+    (subst (λ (w : WalkReply). Comes w (last .1 .0) (last .1 .1 .0) (told .0 .0) (told .0 .1 .0)) (same-reply ran) (rw (told .1) at (ran .run .ensures)))
+    (kept .1 .0 ∙ ran .before .before .before .before .before .before .before .before .before .before .clear .kept .0)
+    (kept .1 .1 .0 ∙ ran .before .before .before .before .before .before .clear2 .kept .0))
 
 pub collect-spec : {M : Type 1} → statement M
 collect-spec =

@@ -75,7 +75,10 @@ module _ (l : Seq ℕ) (n : ℕ) where
       record {
         tag = lies-line (c .tag) (h .tag);
         bare = h .bare;
+        front = h .front;
+        seven = h .seven;
         reference = lies-line (c .reference) (h .reference);
         patterns = λ k. lies-line (getD (c .patterns) k nowhere) (h .patterns k);
         few = h .few;
+        rest = h .rest;
       }

@@ -78,7 +78,7 @@ module _ (t : List ℕ) where
 
 -- the number of the digits that a bare token holds
 pub digits-number : (s : List ℕ) (at : ℕ) {r : Token} {t : Span} {c : Cursor} → BareIn s at r → r ≡ Found t c → {n : ℕ} {b : List ℕ} → n ≡ min (decimal 0 b) 1025 → b ≡ rawBytes s t → n ≡ min (decimal 0 (spanBytes s t)) 1025
-digits-number s at {t} h q e f = e ∙ ap (λ (x : List ℕ). min (decimal 0 x) 1025) (f ∙ sym (bare-bytes s t (bare-ahead s at h q .0)))
+digits-number s at {t} h q e f = e ∙ ap (λ (x : List ℕ). min (decimal 0 x) 1025) (f ∙ sym (bare-bytes s t (bare-ahead s at h q .bare)))
 
 -- n bytes from a place on, as a token
 pub bytes-token : (s : List ℕ) (i n : ℕ) → tokenIs s (Found (record { start = i; end = i + n; quoted = false }) (record { at = i + n })) ≡ some (got (take n (drop i s)) (drop n (drop i s)))

@@ -76,6 +76,9 @@ pub struct Command {
 
 // The command, or its refusal: the line's shape 3, the tag 4, another word 5, the rest off the grammar 4, an option that is not known 6,
 // RECURSIVEMATCH with neither SUBSCRIBED nor SPECIAL-USE 7, too many or too long patterns 8, in this order.
+//
+// What the kind does not use is empty: a refusal is its number and else the empty command. Left free is which part of the line a span
+// of the reference or of a pattern is; it lies inside, and means the bytes that `meaning` says.
 pub fn read_command(line: &[u8]) -> Command
     ensures { λ r. ⌜ meaning (now (line .entry)) r ≡ parsed (now (line .entry)) ⌝ }
     ensures inside { λ r. ⌜ Inside (now (line .entry)) r ⌝ }

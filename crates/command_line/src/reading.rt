@@ -1,7 +1,7 @@
 // The whole line: its shape, the tag and the word, what stands behind LIST, and the refusals in the server's order.
 
 ghost use mathlib.Core.Path.{_≡_};
-ghost use mathlib.Core.Bool.{_||_, not, false};
+ghost use mathlib.Core.Bool.{_||_, not};
 ghost use Prim.Native.Nat.{_+_, min};
 ghost use lib.Dec.{leb};
 ghost use lib.ListN.{length, drop};
@@ -9,10 +9,10 @@ ghost use Rattle.listing_rules.specs.Bytes.{text as spelled, isEmpty};
 ghost use Rattle.listing_rules.specs.Lists.{every};
 ghost use Rattle.listing_rules.specs.Tokens.{at, after};
 ghost use Rattle.listing_rules.specs.Command.{lineText, isSome, canonical, listArgs, judged, orRefuse, tagged};
-ghost use Rattle.command_line.specs.Spans.{spanBytes, Lies};
-ghost use Rattle.command_line.specs.PatternLists.{nowhere as noSpan, held};
+ghost use Rattle.command_line.specs.Spans.{spanBytes};
+ghost use Rattle.command_line.specs.PatternLists.{held};
 ghost use Rattle.command_line.specs.Shapes.{allowedBy, shapeStep};
-ghost use Rattle.command_line.specs.Commands.{meaning, Inside, bareCommand, short, shapeIs, ShapeIn, argumentsIs, decided, Given};
+ghost use Rattle.command_line.specs.Commands.{meaning, Inside, bareCommand, refusedWith, short, shapeIs, ShapeIn, argumentsIs, decided, TagIn, Given};
 use crate::Behind;
 use crate::Command;
 use crate::Cursor;
@@ -131,7 +131,7 @@ fn bare(kind: Kind, tag: Span) -> Command
 }
 
 pub(crate) fn refused(number: u8) -> Command
-    ensures { λ r. ⌜ r ≡ bareCommand (Kind.Refused number) noSpan ⌝ }
+    ensures { λ r. ⌜ r ≡ refusedWith number ⌝ }
 {
     bare(Kind::Refused(number), nowhere())
 }
@@ -242,7 +242,7 @@ fn is_extended(text: &[u8], first: Cursor, patterns: Cursor, behind: Cursor) -> 
 // list = "LIST" [selection] SP astring SP patterns [return], behind the word
 fn read_list(text: &[u8], tag: Span, first: Cursor) -> Command
     ensures { λ r. ⌜ meaning (now (text .entry)) r ≡ orRefuse 4 (listArgs (drop (first .at) (now (text .entry)))) (judged (spanBytes (now (text .entry)) tag)) ⌝ }
-    ensures { λ r. ⌜ (Lies (now (text .entry)) tag → tag .quoted ≡ false → Inside (now (text .entry)) r) ⌝ }
+    ensures { λ r. ⌜ (TagIn (now (text .entry)) tag → Inside (now (text .entry)) r) ⌝ }
 {
     let Listed::Read(selected, known, second) = first.selection(text) else {
         return refused(4);

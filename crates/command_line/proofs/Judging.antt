@@ -140,3 +140,7 @@ inside-list s t a g h =
 pub refused-whole : (s : Seq ℕ) (c : Command) (k : ℕ) → Inside s c → c .kind ≡ Refused k → c ≡ refusedWith k
 unfolding usedOnly
 refused-whole s c k h e = h .rest ∙ ap (λ (x : Kind). usedOnly x c) e
+
+-- a refusal, where the definition gives its number
+pub refuses : (s : Seq ℕ) (k : ℕ) {r : Command} {p : Parsed} → r ≡ refusedWith k → p ≡ refused k → (meaning s r ≡ p) × Inside s r
+refuses s k e f = (ap (meaning s) e ∙ meaning-refused s k ∙ sym f, rw e (inside-refused s k))

@@ -14,8 +14,6 @@ use Rattle.command_line.specs.declared.Span.{Span}
 use Rattle.command_line.specs.declared.Kind.{Kind}
 use Rattle.command_line.specs.declared.Kind.the-variants.{List, Root, Namespace, Refused}
 use Rattle.command_line.specs.declared.Command.{Command}
-use Rattle.command_line.specs.declared.reading.Shape.{Shape}
-use Rattle.command_line.specs.declared.reading.Shape.the-variants.{Text, Off}
 use Rattle.command_line.specs.declared.reading.Arguments.{Arguments}
 use Rattle.command_line.specs.Spans.{spanBytes, Lies}
 use Rattle.command_line.specs.OptionSets.{optionsIs}
@@ -92,15 +90,6 @@ packedOne p = length p % 256 ∷ p
 -- each of the patterns so: what `packed` of document 01 is for patterns of at most 255 bytes (law `packed-short`)
 unfoldable pub packedBytes : Seq (Seq ℕ) → Seq ℕ
 packedBytes ps = joined (map packedOne ps)
-
--- "It ends with CR LF": the text before it, by its length
-unfoldable pub shapeIs : Seq ℕ → Shape → Option (Seq ℕ)
-shapeIs l (Text n) = some (take n l)
-shapeIs l Off = none
-
-unfoldable pub ShapeIn : Seq ℕ → Shape → Type 0
-ShapeIn l (Text n) = n ≤ length l
-ShapeIn l Off = Unit {0}
 
 -- what is kept of the words behind LIST
 pub record Kept : Type 0 where

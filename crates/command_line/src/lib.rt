@@ -18,9 +18,9 @@ mod spans;
 mod tokens;
 mod values;
 
+use command_shape::is_one_command;
+use octets::refusals::LINE_SHAPE;
 use packing::put_canonical;
-use reading::Shape;
-use reading::line_text;
 use reading::placed;
 use reading::read_text;
 use reading::refused;
@@ -83,9 +83,10 @@ pub fn read_command(line: &[u8]) -> Command
     ensures { λ r. ⌜ meaning (now (line .entry)) r ≡ parsed (now (line .entry)) ⌝ }
     ensures inside { λ r. ⌜ Inside (now (line .entry)) r ⌝ }
 {
-    let Shape::Text(n) = line_text(line) else {
-        return refused(3);
-    };
+    if !is_one_command(line) {
+        return refused(LINE_SHAPE);
+    }
+    let n = line.len() - 2;
     read_text(&line[..n])
 }
 

@@ -13,7 +13,7 @@ use Rattle.command_line.specs.declared.Token.the-variants.{Found, Missin
 use Rattle.command_line.specs.declared.Behind.{Behind}
 use Rattle.command_line.specs.declared.Behind.the-variants.{At, Nothing}
 use Rattle.command_line.specs.Spans.{plain, spanBytes, rawBytes}
-use Rattle.command_line.specs.Tokens.{tokenIs, behindIs, Ahead, TokenIn, BareIn, BehindIn}
+use Rattle.command_line.specs.Tokens.{tokenIs, behindIs, Ahead, TokenIn, Bare, BareIn, BehindIn}
 
 pub none≢some : {A : Type 0} {a : A} → none ≡ some a → ⊥
 none≢some e = subst IsSome (sym e) tt
@@ -71,13 +71,13 @@ pub token-ahead : (s : List ℕ) (at : ℕ) {r : Token} {t : Span} {c : Cursor} 
 unfolding TokenIn
 token-ahead s at h q = subst (TokenIn s at) q h
 
-pub bare-ahead : (s : List ℕ) (at : ℕ) {r : Token} {t : Span} {c : Cursor} → BareIn s at r → r ≡ Found t c → (t .quoted ≡ false) × Ahead s at t c
+pub bare-ahead : (s : List ℕ) (at : ℕ) {r : Token} {t : Span} {c : Cursor} → BareIn s at r → r ≡ Found t c → Bare s at t c
 unfolding BareIn
 bare-ahead s at h q = subst (BareIn s at) q h
 
 pub bare-token : (s : List ℕ) (at : ℕ) (r : Token) → BareIn s at r → TokenIn s at r
 unfolding BareIn TokenIn
-bare-token s at (Found t c) h = h .1
+bare-token s at (Found t c) h = h .ahead
 bare-token s at Missing h = tt
 
 pub bare-bytes : (s : List ℕ) (t : Span) → t .quoted ≡ false → spanBytes s t ≡ rawBytes s t

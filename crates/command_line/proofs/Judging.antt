@@ -1,12 +1,12 @@
 -- Laws of the judgement: which refusal, or which command, what is kept gives; and that a command's parts lie inside the line.
 use mathlib.Core.Path.{_≡_, refl, sym, ap, subst, _∙_}
 use mathlib.Core.Bool.{Bool, true, false, cond, _&&_, not}
-use mathlib.Core.List.{List as Seq, [], _∷_, map}
+use mathlib.Core.List.{List as Seq, [], _∷_, _++_, map}
 use mathlib.Core.Option.{Option, none, some}
-use Prim.Native.Nat.{ℕ, zero, suc, _≤_, _<_}
+use Prim.Native.Nat.{ℕ, zero, suc, _-_, _≤_, _<_}
 use native.Mathlib.Omega.{arith}
 use lib.Dec.{eqb, leb}
-use lib.ListN.{length, take, getD, replicate}
+use lib.ListN.{length, take, drop, getD, replicate, take-append-drop}
 use borrow.Author.Tests.{le-leb, lt-leb}
 use Rattle.listing_rules.specs.Bytes.{isEmpty}
 use Rattle.listing_rules.specs.Lists.{every}
@@ -17,9 +17,10 @@ use Rattle.command_line.specs.declared.Kind.{Kind}
 use Rattle.command_line.specs.declared.Kind.the-variants.{List, Root, Namespace, Refused}
 use Rattle.command_line.specs.declared.Command.{Command}
 use Rattle.command_line.specs.declared.pattern_list.Patterns.{Patterns}
+use Rattle.command_line.specs.declared.reading.Arguments.{Arguments}
 use Rattle.command_line.specs.Spans.{spanBytes, Lies}
 use Rattle.command_line.specs.PatternLists.{nowhere, held, kept, Places}
-use Rattle.command_line.specs.Commands.{meaning, meaningAs, Inside, bareCommand, short, Kept, decided, decidedAs}
+use Rattle.command_line.specs.Commands.{meaning, meaningAs, Inside, bareCommand, refusedWith, usedOnly, short, Kept, decided, decidedAs, TagIn, Given}
 use Rattle.command_line.proofs.Canonical.{none-written}
 use Rattle.command_line.proofs.Places.{lies-nowhere, filled-none}
 
@@ -68,7 +69,7 @@ module _ (tag : Seq ℕ) (k : Kept) where
           decided-list e = asks false e
 
 -- a command of which nothing but its kind and its tag is kept
-pub meaning-refused : (s : Seq ℕ) (k : ℕ) → meaning s (bareCommand (Refused k) nowhere) ≡ refused k
+pub meaning-refused : (s : Seq ℕ) (k : ℕ) → meaning s (refusedWith k) ≡ refused k
 unfolding meaning meaningAs
 meaning-refused s k = refl
 
@@ -86,15 +87,60 @@ places-at s [] h k = lies-nowhere s
 places-at s (t ∷ ts) h zero = h .0
 places-at s (t ∷ ts) h (suc k) = places-at s ts (h .1) k
 
-pub inside-bare : (s : Seq ℕ) (k : Kind) (t : Span) → Lies s t → t .quoted ≡ false → Inside s (bareCommand k t)
-inside-bare s k t l b =
+inside-bare : (s : Seq ℕ) (k : Kind) (t : Span) → TagIn s t → bareCommand k t ≡ usedOnly k (bareCommand k t) → Inside s (bareCommand k t)
+inside-bare s k t h e =
     record {
-      tag = l;
-      bare = b;
+      tag = h .lies;
+      bare = h .bare;
+      front = h .front;
+      seven = omega arith;
       reference = lies-nowhere s;
       patterns = places-at s (replicate 8 nowhere) (filled-none s .places);
       few = omega arith;
+      rest = e;
     }
 
-pub inside-refused : (s : Seq ℕ) (k : ℕ) → Inside s (bareCommand (Refused k) nowhere)
-inside-refused s k = inside-bare s (Refused k) nowhere (lies-nowhere s) refl
+pub inside-root : (s : Seq ℕ) (t : Span) → TagIn s t → Inside s (bareCommand Root t)
+unfolding usedOnly
+inside-root s t h = inside-bare s Root t h refl
+
+pub inside-namespace : (s : Seq ℕ) (t : Span) → TagIn s t → Inside s (bareCommand Namespace t)
+unfolding usedOnly
+inside-namespace s t h = inside-bare s Namespace t h refl
+
+pub inside-refused : (s : Seq ℕ) (k : ℕ) → Inside s (refusedWith k)
+unfolding usedOnly
+inside-refused s k = inside-bare s (Refused k) nowhere (record { lies = lies-nowhere s; bare = refl; front = refl }) refl
+
+-- the command that lists, of the parts that were read
+unfoldable pub listOf : Span → Arguments → Command
+listOf t a = record { kind = List; tag = t; options = a .options; reference = a .reference; patterns = a .patterns .spans; count = a .patterns .count }
+
+pub inside-list : (s : Seq ℕ) (t : Span) (a : Arguments) → Given s t a → a .patterns .count ≤ 8 → Inside s (listOf t a)
+unfolding usedOnly listOf
+inside-list s t a g h =
+    record {
+      tag = g .tagged .lies;
+      bare = g .tagged .bare;
+      front = g .tagged .front;
+      seven = g .seven;
+      reference = g .reference;
+      patterns = places-at s (a .patterns .spans) (g .patterns .places);
+      few = h;
+      rest = λ i. record { kind = List; tag = t; options = a .options; reference = a .reference; patterns = places i; count = n };
+    }
+  where
+    n : ℕ
+    n = a .patterns .count
+
+    places : a .patterns .spans ≡ take n (a .patterns .spans) ++ replicate (8 - n) nowhere
+    places = sym (take-append-drop n (a .patterns .spans)) ∙ ap (λ (x : Seq Span). take n (a .patterns .spans) ++ x) (g .patterns .unused)
+
+-- A refusal is decided whole: its number, and else the empty command.
+pub refused-whole : (s : Seq ℕ) (c : Command) (k : ℕ) → Inside s c → c .kind ≡ Refused k → c ≡ refusedWith k
+unfolding usedOnly
+refused-whole s c k h e = h .rest ∙ ap (λ (x : Kind). usedOnly x c) e
+
+-- a refusal, where the definition gives its number
+pub refuses : (s : Seq ℕ) (k : ℕ) {r : Command} {p : Parsed} → r ≡ refusedWith k → p ≡ refused k → (meaning s r ≡ p) × Inside s r
+refuses s k e f = (ap (meaning s) e ∙ meaning-refused s k ∙ sym f, rw e (inside-refused s k))

@@ -12,7 +12,6 @@ pub mod Cuts
 pub mod Returning
 pub mod Places
 pub mod Plain
-pub mod Shapes
 pub mod Canonical
 pub mod Judging
 pub mod Grammar

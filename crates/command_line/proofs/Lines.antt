@@ -7,31 +7,26 @@ use Prim.Native.Nat.{ℕ, zero, suc, _-_, _≤_, _<_, min}
 use native.Mathlib.Omega.{arith}
 use lib.ListN.{length, take, drop, getD, length-take, length-drop, take-append-drop}
 use lib.Seq.{take-append-le, drop-append-le}
+use Rattle.listing_rules.specs.Feeder.{first, oneCommand}
 use Rattle.listing_rules.specs.Command.{Parsed, refused, namespace, listing, rootOf, canonical, lineText, orRefuse, tagged, parsed}
 use Rattle.command_line.specs.declared.Span.{Span}
 use Rattle.command_line.specs.declared.Kind.{Kind}
 use Rattle.command_line.specs.declared.Kind.the-variants.{List, Root, Namespace, Refused}
 use Rattle.command_line.specs.declared.Command.{Command}
-use Rattle.command_line.specs.declared.reading.Shape.{Shape}
-use Rattle.command_line.specs.declared.reading.Shape.the-variants.{Text, Off}
 use Rattle.command_line.specs.Spans.{plain, rawBytes, spanBytes, Lies}
 use Rattle.command_line.specs.OptionSets.{optionsIs}
 use Rattle.command_line.specs.PatternLists.{nowhere}
-use Rattle.command_line.specs.Commands.{patternsOf, meaning, meaningAs, Inside, shapeIs, ShapeIn}
+use Rattle.command_line.specs.Commands.{patternsOf, meaning, meaningAs, Inside}
 
--- the line has not the shape, or has it
-module _ (l : Seq ℕ) {r : Shape} (e : shapeIs l r ≡ lineText l) where
-  pub line-off : r ≡ Off → parsed l ≡ refused 3
-  unfolding parsed orRefuse shapeIs
-  line-off q = rw (← e, q)
+-- the line is not one command, or is
+module _ (l : Seq ℕ) where
+  pub line-off : oneCommand first l ≡ false → parsed l ≡ refused 3
+  unfolding parsed orRefuse lineText
+  line-off e = rw e
 
-  pub line-read : (n : ℕ) → r ≡ Text n → parsed l ≡ tagged (take n l)
-  unfolding parsed orRefuse shapeIs
-  line-read n q = rw (← e, q)
-
-pub shape-inside : (l : Seq ℕ) {r : Shape} (n : ℕ) → ShapeIn l r → r ≡ Text n → n ≤ length l
-unfolding ShapeIn
-shape-inside l n h q = subst (ShapeIn l) q h
+  pub line-read : oneCommand first l ≡ true → parsed l ≡ tagged (take (length l - 2) l)
+  unfolding parsed orRefuse lineText
+  line-read e = rw e
 
 -- a part of the text is the same part of the line
 module _ (l : Seq ℕ) (n : ℕ) where
@@ -75,7 +70,10 @@ module _ (l : Seq ℕ) (n : ℕ) where
       record {
         tag = lies-line (c .tag) (h .tag);
         bare = h .bare;
+        front = h .front;
+        seven = h .seven;
         reference = lies-line (c .reference) (h .reference);
         patterns = λ k. lies-line (getD (c .patterns) k nowhere) (h .patterns k);
         few = h .few;
+        rest = h .rest;
       }

@@ -2,17 +2,22 @@
 use mathlib.Core.Path.{_≡_, refl, sym, ap, subst, _∙_}
 use mathlib.Core.Bool.{Bool, true, false, cond, _&&_, _||_, not, or-assoc, or-false, and-assoc, and-true}
 use mathlib.Core.List.{List, [], _∷_}
+use mathlib.Core.Option.{Option, some}
 use Prim.Native.Nat.{ℕ, _+_, _-_, _≤_, _<_, _^_}
+use native.Mathlib.Omega.{arith}
 use lib.Dec.{eqb}
+use lib.Bits.{or-lt}
 use Rattle.listing_rules.specs.Bytes.{text, bit, spells, same, raised}
 use Rattle.listing_rules.specs.Lists.{every, anyOf}
+use Rattle.listing_rules.specs.Tokens.{Got, got}
 use Rattle.listing_rules.specs.Command.{Opt, selectionWords, returnWords, ListArgs, knownIn, named, optionsOf}
 use Rattle.listing_rules.proofs.ListLaws.{same-true}
 use Rattle.octets.specs.Sets.{union}
 use Rattle.octets.proofs.Sets.{union-bit}
 use Rattle.command_line.specs.declared.option_list.Place.{Place}
 use Rattle.command_line.specs.declared.option_list.Place.the-variants.{Selection, Return}
-use Rattle.command_line.specs.OptionSets.{optionsIs, selected, returned, memberOf, wordsOf, Marks, noMarks, marking, marked}
+use Rattle.command_line.specs.OptionSets.{optionsIs, selected, returned, memberOf, wordsOf, Marks, noMarks, marking, marked, summed, marksOf}
+use Rattle.command_line.proofs.Binds.{bind-some, got-val}
 
 -- a word that spells one text spells another exactly if the two are the same
 spells-as : (w a b : List ℕ) → spells w a ≡ true → spells w b ≡ same a b
@@ -216,3 +221,35 @@ module _ (os rs : List Opt) where
         retChildren = from-return 5 (text "CHILDREN") refl (λ w. sel-never w 5 refl refl refl refl refl) ret-children i;
         retSpecial = from-return 6 (text "SPECIAL-USE") refl (λ w. sel-never w 6 refl refl refl refl refl) ret-special i;
       }
+
+-- no option sets a bit but the seven
+member-seven : (p : Place) (w : List ℕ) → memberOf p w < 2 ^ 7
+unfolding selected returned
+member-seven Selection w = go (spells w (text "SUBSCRIBED")) (spells w (text "REMOTE")) (spells w (text "RECURSIVEMATCH")) (spells w (text "SPECIAL-USE"))
+  where
+    go : (a b c d : Bool) → cond a 1 (cond b 2 (cond c 4 (cond d 8 0))) < 128
+    go true b c d = omega arith
+    go false true c d = omega arith
+    go false false true d = omega arith
+    go false false false true = omega arith
+    go false false false false = omega arith
+member-seven Return w = go (spells w (text "SUBSCRIBED")) (spells w (text "CHILDREN")) (spells w (text "SPECIAL-USE"))
+  where
+    go : (a b c : Bool) → cond a 16 (cond b 32 (cond c 64 0)) < 128
+    go true b c = omega arith
+    go false true c = omega arith
+    go false false true = omega arith
+    go false false false = omega arith
+
+marked-seven : (p : Place) (m : Marks) (os : List Opt) → m .set < 2 ^ 7 → marked p m os .set < 2 ^ 7
+unfolding marked
+marked-seven p m [] h = h
+marked-seven p m (o ∷ os) h = marked-seven p (marking p m o) os (or-lt 7 (m .set) (memberOf p (o .word)) h (member-seven p (o .word)))
+
+marks-seven : (p : Place) (x : Option (Got (List Opt))) (m : Marks) (u : List ℕ) → marksOf p x ≡ some (got m u) → m .set < 2 ^ 7
+unfolding marksOf summed got
+marks-seven p x m u e = let w = bind-some x (summed p noMarks) (got m u) e in subst (λ (y : Marks). y .set < 2 ^ 7) (got-val (w .2)) (marked-seven p noMarks (w .0 .val) (omega arith))
+
+-- nor do the two lists together
+pub both-seven : (x y : Option (Got (List Opt))) (m m′ : Marks) (u u′ : List ℕ) → marksOf Selection x ≡ some (got m u) → marksOf Return y ≡ some (got m′ u′) → union (m .set) (m′ .set) < 2 ^ 7
+both-seven x y m m′ u u′ e f = or-lt 7 (m .set) (m′ .set) (marks-seven Selection x m u e) (marks-seven Return y m′ u′ f)

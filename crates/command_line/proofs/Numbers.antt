@@ -13,6 +13,7 @@ use lib.Seq.{drop-cons, drop-drop}
 use borrow.Author.Tests.{le-leb, lt-leb}
 use Rattle.listing_rules.specs.Bytes.{text, crlf}
 use Rattle.listing_rules.specs.Tokens.{Got, got, _>>=_, after, run₁, digitByte, decimal, number, literal}
+use Rattle.command_shape.proofs.Tails.{capped-decimal}
 use Rattle.command_line.specs.declared.Span.{Span}
 use Rattle.command_line.specs.declared.Cursor.{Cursor}
 use Rattle.command_line.specs.declared.Token.{Token}
@@ -21,24 +22,11 @@ use Rattle.command_line.specs.Spans.{rawBytes, spanBytes}
 use Rattle.command_line.specs.Tokens.{tokenIs, BareIn}
 use Rattle.command_line.proofs.Binds.{bare-ahead, bare-bytes}
 
--- digits behind a number make it no less
-decimal-grows : (v : ℕ) (l : List ℕ) → v ≤ decimal v l
-unfolding decimal
-decimal-grows v [] = omega arith
-decimal-grows v (d ∷ l) = omega (arith, decimal-grows (10 * v + (d - 48)) l)
-
--- so a number above 1,024 may be taken for 1,025
-capped : (v : ℕ) (l : List ℕ) → min (decimal (min v 1025) l) 1025 ≡ min (decimal v l) 1025
-capped v l = elim (decLe v 1025) [ yes h ↦ same h | no h ↦ omega (arith, decimal-grows (min v 1025) l, decimal-grows v l) ]
-  where
-    same : v ≤ 1025 → min (decimal (min v 1025) l) 1025 ≡ min (decimal v l) 1025
-    same h = let e : min v 1025 ≡ v = omega arith in rw e
-
 module _ (s : List ℕ) (i v : ℕ) where
   -- one digit more
   pub number-step : i < length s → min (decimal v (drop i s)) 1025 ≡ min (decimal (min (10 * v + (getD s i 0 - 48)) 1025) (drop (i + 1) s)) 1025
   unfolding decimal
-  number-step h = rw (drop-cons s i 0 h, add-one) (sym (capped (10 * v + (getD s i 0 - 48)) (drop (suc i) s)))
+  number-step h = rw (drop-cons s i 0 h, add-one) (sym (capped-decimal (10 * v + (getD s i 0 - 48)) (drop (suc i) s)))
 
   pub number-out : length s ≤ i → decimal v (drop i s) ≡ v
   unfolding decimal
@@ -78,7 +66,7 @@ module _ (t : List ℕ) where
 
 -- the number of the digits that a bare token holds
 pub digits-number : (s : List ℕ) (at : ℕ) {r : Token} {t : Span} {c : Cursor} → BareIn s at r → r ≡ Found t c → {n : ℕ} {b : List ℕ} → n ≡ min (decimal 0 b) 1025 → b ≡ rawBytes s t → n ≡ min (decimal 0 (spanBytes s t)) 1025
-digits-number s at {t} h q e f = e ∙ ap (λ (x : List ℕ). min (decimal 0 x) 1025) (f ∙ sym (bare-bytes s t (bare-ahead s at h q .0)))
+digits-number s at {t} h q e f = e ∙ ap (λ (x : List ℕ). min (decimal 0 x) 1025) (f ∙ sym (bare-bytes s t (bare-ahead s at h q .bare)))
 
 -- n bytes from a place on, as a token
 pub bytes-token : (s : List ℕ) (i n : ℕ) → tokenIs s (Found (record { start = i; end = i + n; quoted = false }) (record { at = i + n })) ≡ some (got (take n (drop i s)) (drop n (drop i s)))

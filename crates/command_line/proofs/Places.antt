@@ -4,13 +4,13 @@ use mathlib.Core.Bool.{Bool, true, false, cond}
 use mathlib.Core.List.{List, [], _∷_, _++_, map}
 use mathlib.Core.Option.{Option, none, some}
 use mathlib.Core.Logic.{_⊎_, inl, inr, ⊎-elim}
-use Prim.Native.Nat.{ℕ, zero, suc, _+_, _≤_, _<_, min}
+use Prim.Native.Nat.{ℕ, zero, suc, _+_, _-_, _≤_, _<_, min}
 use native.Mathlib.Numerals.{add-one}
 use native.Mathlib.Decide.{decLe}
 use native.Mathlib.Omega.{arith}
 use lib.Dec.{leb}
-use lib.ListN.{length, take, drop, set, replicate, getD, length-append, length-set}
-use lib.Seq.{take-suc-set, append-snoc}
+use lib.ListN.{length, take, drop, set, replicate, getD, length-append, length-set, drop-of-length-le}
+use lib.Seq.{take-suc-set, append-snoc, drop-drop, drop-set-lt}
 use borrow.Author.Tests.{le-leb, lt-leb}
 use Rattle.listing_rules.specs.Bytes.{text}
 use Rattle.listing_rules.specs.Tokens.{Got, got, _>>=_, after, withFirst, pattern}
@@ -21,9 +21,10 @@ use Rattle.command_line.specs.declared.Behind.the-variants.{At, Nothing}
 use Rattle.command_line.specs.declared.pattern_list.Patterns.{Patterns}
 use Rattle.command_line.specs.declared.pattern_list.PatternList.{PatternList}
 use Rattle.command_line.specs.declared.Cursor.{Cursor}
-use Rattle.command_line.specs.Tokens.{behindIs, Ahead}
+use Rattle.command_line.specs.Tokens.{behindIs, Ahead, Bare}
 use Rattle.command_line.specs.Spans.{spanBytes, Lies}
 use Rattle.command_line.specs.PatternLists.{nowhere, noPatterns, withSpan, held, kept, eight, joinTo, upToEight, patternsIs, Places, Placed}
+use Rattle.command_line.specs.Commands.{TagIn}
 use Rattle.command_line.proofs.Bytes.{after-here, after-other}
 
 -- the places hold what was read
@@ -32,6 +33,7 @@ pub record Filled (s : List ℕ) (p : Patterns) (done : List (List ℕ)) : Type 
   pub size : length (p .spans) ≡ 8
   pub bytes : length done ≤ 8 → held s p ≡ done
   pub places : Places s (p .spans)
+  pub unused : drop (p .count) (p .spans) ≡ replicate (8 - p .count) nowhere
 
 module _ (s : List ℕ) where
   pub lies-nowhere : Lies s nowhere
@@ -45,12 +47,20 @@ module _ (s : List ℕ) where
         size = refl;
         bytes = λ h. refl;
         places = (lies-nowhere, (lies-nowhere, (lies-nowhere, (lies-nowhere, (lies-nowhere, (lies-nowhere, (lies-nowhere, (lies-nowhere, tt))))))));
+        unused = refl;
       }
 
   places-set : (ts : List Span) (i : ℕ) (t : Span) → Places s ts → Lies s t → Places s (set ts i t)
   places-set [] i t h l = tt
   places-set (u ∷ ts) zero t h l = (l, h .1)
   places-set (u ∷ ts) (suc i) t h l = (h .0, places-set ts i t (h .1) l)
+
+  -- the places after the one that was set stay empty
+  unused-set : (ts : List Span) (n : ℕ) (t : Span) → drop n ts ≡ replicate (8 - n) nowhere → n < 8 → drop (n + 1) (set ts n t) ≡ replicate (8 - (n + 1)) nowhere
+  unused-set ts n t e h = drop-set-lt (n + 1) ts n t (omega arith) ∙ one-less (8 - n) (8 - (n + 1)) (omega arith) e
+    where
+      one-less : (k j : ℕ) → k ≡ suc j → drop n ts ≡ replicate k nowhere → drop (n + 1) ts ≡ replicate j nowhere
+      one-less k j q g = sym (drop-drop 1 n ts) ∙ ap (drop 1) (g ∙ ap (λ (x : ℕ). replicate x nowhere) q)
 
   map-snoc : (ts : List Span) (t : Span) → map (spanBytes s) (ts ++ (t ∷ [])) ≡ map (spanBytes s) ts ++ (spanBytes s t ∷ [])
   map-snoc [] t = refl
@@ -68,15 +78,18 @@ module _ (s : List ℕ) where
           size = length-set (p .spans) (p .count) t ∙ f .size;
           bytes = λ k. rw (add-one, take-suc-set (p .spans) (p .count) t (omega (arith, f .size))) (map-snoc (take (p .count) (p .spans)) t ∙ ap (λ (x : List (List ℕ)). x ++ (spanBytes s t ∷ [])) (f .bytes (omega (arith, f .count))));
           places = places-set (p .spans) (p .count) t (f .places) l;
+          unused = unused-set (p .spans) (p .count) t (f .unused) h;
         }
 
     full : 8 ≤ p .count → Filled s (record { spans = p .spans; count = 9 }) (done ++ (spanBytes s t ∷ []))
     full h =
+        let nine : length (p .spans) ≤ 9 = omega (arith, f .size) in
         record {
           count = omega (arith, one-more, f .count);
           size = f .size;
           bytes = λ k. absurd (omega (arith, one-more, f .count));
           places = f .places;
+          unused = drop-of-length-le (p .spans) nine;
         }
 
     pub filled-with : Filled s (withSpan p t) (done ++ (spanBytes s t ∷ []))
@@ -95,7 +108,11 @@ module _ (s : List ℕ) where
       many h = rw (lt-leb (p .count) 8 (omega (arith, f .count)), lt-leb (length done) 8 h)
 
 pub placed-filled : (s : List ℕ) (p : Patterns) (done : List (List ℕ)) → Filled s p done → Placed s p
-placed-filled s p done f = record { size = f .size; places = f .places }
+placed-filled s p done f = record { size = f .size; places = f .places; unused = f .unused }
+
+-- a bare token at the front is a tag
+pub tag-in : (s : List ℕ) (t : Span) (c : Cursor) → Bare s 0 t c → TagIn s t
+tag-in s t c h = record { lies = record { order = h .ahead .order; inside = omega (arith, h .ahead .within, h .ahead .inside) }; bare = h .bare; front = h .front }
 
 -- a token lies inside the line
 pub lies-ahead : (s : List ℕ) (i : ℕ) (t : Span) (c : Cursor) → Ahead s i t c → Lies s t

@@ -1,9 +1,9 @@
 -- What a command that was read means in document 01, and where its spans lie.
 use mathlib.Core.Path.{_≡_}
 use mathlib.Core.Bool.{Bool, true, false, cond, _&&_, not}
-use mathlib.Core.List.{List as Seq, [], _∷_, map}
+use mathlib.Core.List.{List as Seq, [], _∷_, _++_, map}
 use mathlib.Core.Option.{Option, none, some}
-use Prim.Native.Nat.{ℕ, _≤_, _%_}
+use Prim.Native.Nat.{ℕ, _-_, _≤_, _<_, _%_}
 use lib.Dec.{leb}
 use lib.ListN.{length, take, getD, replicate}
 use Rattle.listing_rules.specs.Bytes.{isEmpty}
@@ -14,8 +14,6 @@ use Rattle.command_line.specs.declared.Span.{Span}
 use Rattle.command_line.specs.declared.Kind.{Kind}
 use Rattle.command_line.specs.declared.Kind.the-variants.{List, Root, Namespace, Refused}
 use Rattle.command_line.specs.declared.Command.{Command}
-use Rattle.command_line.specs.declared.reading.Shape.{Shape}
-use Rattle.command_line.specs.declared.reading.Shape.the-variants.{Text, Off}
 use Rattle.command_line.specs.declared.reading.Arguments.{Arguments}
 use Rattle.command_line.specs.Spans.{spanBytes, Lies}
 use Rattle.command_line.specs.OptionSets.{optionsIs}
@@ -36,15 +34,6 @@ meaningAs (Refused k) s c = refused k
 unfoldable pub meaning : Seq ℕ → Command → Parsed
 meaning s c = meaningAs (c .kind) s c
 
--- every part of the command lies inside the line
-pub record Inside (s : Seq ℕ) (c : Command) : Type 0 where
-  pub tag : Lies s (c .tag)
-  -- the tag is never a quoted string
-  pub bare : c .tag .quoted ≡ false
-  pub reference : Lies s (c .reference)
-  pub patterns : (k : ℕ) → Lies s (getD (c .patterns) k nowhere)
-  pub few : c .count ≤ 8
-
 -- a command of which nothing but its kind and its tag is kept
 abbrev pub bareCommand : Kind → Span → Command
 bareCommand k t =
@@ -57,6 +46,39 @@ bareCommand k t =
       count = 0;
     }
 
+-- a refusal: its number, and the empty command
+abbrev pub refusedWith : ℕ → Command
+refusedWith k = bareCommand (Refused k) nowhere
+
+-- The command of which all is empty that its kind does not use: LIST uses every field, and of the eight places as many as it has
+-- patterns; the root line and NAMESPACE use the tag alone, a refusal its number alone.
+unfoldable pub usedOnly : Kind → Command → Command
+usedOnly List c =
+    record {
+      kind = List;
+      tag = c .tag;
+      options = c .options;
+      reference = c .reference;
+      patterns = take (c .count) (c .patterns) ++ replicate (8 - c .count) nowhere;
+      count = c .count;
+    }
+usedOnly Root c = bareCommand Root (c .tag)
+usedOnly Namespace c = bareCommand Namespace (c .tag)
+usedOnly (Refused k) c = refusedWith k
+
+-- What a command holds beside its meaning: every part of it lies inside the line, and what its kind does not use is empty.
+pub record Inside (s : Seq ℕ) (c : Command) : Type 0 where
+  pub tag : Lies s (c .tag)
+  -- the tag is never a quoted string, and stands at the line's front
+  pub bare : c .tag .quoted ≡ false
+  pub front : c .tag .start ≡ 0
+  -- no bit but those of the seven options
+  pub seven : c .options .bits < 128
+  pub reference : Lies s (c .reference)
+  pub patterns : (k : ℕ) → Lies s (getD (c .patterns) k nowhere)
+  pub few : c .count ≤ 8
+  pub rest : c ≡ usedOnly (c .kind) c
+
 -- a canonical pattern is at most 255 bytes long
 abbrev pub short : Seq ℕ → Bool
 short p = leb (length p) 255
@@ -68,15 +90,6 @@ packedOne p = length p % 256 ∷ p
 -- each of the patterns so: what `packed` of document 01 is for patterns of at most 255 bytes (law `packed-short`)
 unfoldable pub packedBytes : Seq (Seq ℕ) → Seq ℕ
 packedBytes ps = joined (map packedOne ps)
-
--- "It ends with CR LF": the text before it, by its length
-unfoldable pub shapeIs : Seq ℕ → Shape → Option (Seq ℕ)
-shapeIs l (Text n) = some (take n l)
-shapeIs l Off = none
-
-unfoldable pub ShapeIn : Seq ℕ → Shape → Type 0
-ShapeIn l (Text n) = n ≤ length l
-ShapeIn l Off = Unit {0}
 
 -- what is kept of the words behind LIST
 pub record Kept : Type 0 where
@@ -112,9 +125,15 @@ decided tag k =
     let e7 = cond (lawfulOptions (k .set)) (decidedAs tag k (k .pats)) (refused 7) in
     cond (k .known) e7 (refused 6)
 
+-- a tag: bare, at the front of the line
+pub record TagIn (s : Seq ℕ) (t : Span) : Type 0 where
+  pub lies : Lies s t
+  pub bare : t .quoted ≡ false
+  pub front : t .start ≡ 0
+
 -- the parts that a command is made of lie inside the line
 pub record Given (s : Seq ℕ) (tag : Span) (a : Arguments) : Type 0 where
-  pub tagged : Lies s tag
-  pub bare : tag .quoted ≡ false
+  pub tagged : TagIn s tag
+  pub seven : a .options .bits < 128
   pub reference : Lies s (a .reference)
   pub patterns : Placed s (a .patterns)

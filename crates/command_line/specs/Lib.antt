@@ -4,5 +4,4 @@ pub mod Tokens
 pub mod Values
 pub mod OptionSets
 pub mod PatternLists
-pub mod Shapes
 pub mod Commands

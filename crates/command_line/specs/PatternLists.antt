@@ -3,9 +3,9 @@ use mathlib.Core.Path.{_≡_}
 use mathlib.Core.Bool.{Bool, false, cond}
 use mathlib.Core.List.{List, [], _∷_, _++_, map}
 use mathlib.Core.Option.{Option, none, some}
-use Prim.Native.Nat.{ℕ, _+_, _≤_}
+use Prim.Native.Nat.{ℕ, _+_, _-_}
 use lib.Dec.{leb}
-use lib.ListN.{length, take, set, replicate}
+use lib.ListN.{length, take, drop, set, replicate}
 use Rattle.listing_rules.specs.Tokens.{Got, got, _>>=_}
 use Rattle.command_line.specs.declared.Span.{Span}
 use Rattle.command_line.specs.declared.pattern_list.Patterns.{Patterns}
@@ -54,3 +54,5 @@ Places s (t ∷ ts) = Lies s t × Places s ts
 pub record Placed (s : List ℕ) (p : Patterns) : Type 0 where
   pub size : length (p .spans) ≡ 8
   pub places : Places s (p .spans)
+  -- and those after the patterns are empty
+  pub unused : drop (p .count) (p .spans) ≡ replicate (8 - p .count) nowhere

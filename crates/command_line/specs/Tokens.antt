@@ -48,9 +48,14 @@ unfoldable pub TokenIn : List ℕ → ℕ → Token → Type 0
 TokenIn s at (Found t c) = Ahead s at t c
 TokenIn s at Missing = Unit {0}
 
--- a token that is not quoted
+-- a token that is not quoted: it begins where it was read
+pub record Bare (s : List ℕ) (at : ℕ) (t : Span) (c : Cursor) : Type 0 where
+  pub bare : t .quoted ≡ false
+  pub front : t .start ≡ at
+  pub ahead : Ahead s at t c
+
 unfoldable pub BareIn : List ℕ → ℕ → Token → Type 0
-BareIn s at (Found t c) = (t .quoted ≡ false) × Ahead s at t c
+BareIn s at (Found t c) = Bare s at t c
 BareIn s at Missing = Unit {0}
 
 unfoldable pub BehindIn : List ℕ → ℕ → Behind → Type 0

@@ -18,9 +18,9 @@ mod spans;
 mod tokens;
 mod values;
 
+use command_shape::is_one_command;
+use octets::refusals::LINE_SHAPE;
 use packing::put_canonical;
-use reading::Shape;
-use reading::line_text;
 use reading::placed;
 use reading::read_text;
 use reading::refused;
@@ -76,13 +76,17 @@ pub struct Command {
 
 // The command, or its refusal: the line's shape 3, the tag 4, another word 5, the rest off the grammar 4, an option that is not known 6,
 // RECURSIVEMATCH with neither SUBSCRIBED nor SPECIAL-USE 7, too many or too long patterns 8, in this order.
+//
+// What the kind does not use is empty: a refusal is its number and else the empty command. Left free is which part of the line a span
+// of the reference or of a pattern is; it lies inside, and means the bytes that `meaning` says.
 pub fn read_command(line: &[u8]) -> Command
     ensures { λ r. ⌜ meaning (now (line .entry)) r ≡ parsed (now (line .entry)) ⌝ }
     ensures inside { λ r. ⌜ Inside (now (line .entry)) r ⌝ }
 {
-    let Shape::Text(n) = line_text(line) else {
-        return refused(3);
-    };
+    if !is_one_command(line) {
+        return refused(LINE_SHAPE);
+    }
+    let n = line.len() - 2;
     read_text(&line[..n])
 }
 

@@ -3,7 +3,7 @@
 
 ghost use mathlib.Core.Path.{_≡_};
 ghost use mathlib.Core.List.{_++_};
-ghost use Prim.Native.Nat.{_+_, _-_, _*_, min};
+ghost use Prim.Native.Nat.{min};
 ghost use lib.ListN.{drop};
 ghost use Rattle.listing_rules.specs.Bytes.{text as spelled, crlf};
 ghost use Rattle.listing_rules.specs.Tokens.{after, decimal, literal};
@@ -13,36 +13,11 @@ use crate::Cursor;
 use crate::Span;
 use crate::Token;
 use crate::spans::raw;
-use crate::tokens::CR;
 use crate::tokens::Class;
-use crate::tokens::LF;
-use octets::wide;
-
-// How many bytes a literal may have.
-const MAX_LITERAL: usize = 1024;
-
-// A number with one digit more; above the largest literal it stays there, so it never overflows.
-fn with_digit(n: usize, digit: u8) -> usize
-    ensures { λ r. ⌜ r ≡ min (10 * n + (digit - 48)) 1025 ⌝ }
-{
-    if MAX_LITERAL < n {
-        return MAX_LITERAL + 1;
-    }
-    if digit < b'0' {
-        return no_more(10 * n);
-    }
-    no_more(10 * n + wide(digit - b'0'))
-}
-
-// A number, or one more than the largest literal for any above that.
-fn no_more(n: usize) -> usize
-    ensures { λ r. ⌜ r ≡ min n 1025 ⌝ }
-{
-    if MAX_LITERAL < n {
-        return MAX_LITERAL + 1;
-    }
-    n
-}
+use command_shape::MAX_LITERAL;
+use command_shape::with_digit;
+use octets::CR;
+use octets::LF;
 
 // The number that the digits spell, however many they are; one more than the largest literal for any number above that.
 fn number(digits: &[u8]) -> usize

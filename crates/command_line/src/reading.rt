@@ -1,18 +1,17 @@
-// The whole line: its shape, the tag and the word, what stands behind LIST, and the refusals in the server's order.
+// The text of a line: the tag and the word, what stands after LIST, and the refusals in the server's order.
 
 ghost use mathlib.Core.Path.{_≡_};
-ghost use mathlib.Core.Bool.{_||_, not, false};
+ghost use mathlib.Core.Bool.{_||_, not};
 ghost use Prim.Native.Nat.{_+_, min};
 ghost use lib.Dec.{leb};
 ghost use lib.ListN.{length, drop};
 ghost use Rattle.listing_rules.specs.Bytes.{text as spelled, isEmpty};
 ghost use Rattle.listing_rules.specs.Lists.{every};
 ghost use Rattle.listing_rules.specs.Tokens.{at, after};
-ghost use Rattle.listing_rules.specs.Command.{lineText, isSome, canonical, listArgs, judged, orRefuse, tagged};
-ghost use Rattle.command_line.specs.Spans.{spanBytes, Lies};
-ghost use Rattle.command_line.specs.PatternLists.{nowhere as noSpan, held};
-ghost use Rattle.command_line.specs.Shapes.{allowedBy, shapeStep};
-ghost use Rattle.command_line.specs.Commands.{meaning, Inside, bareCommand, short, shapeIs, ShapeIn, argumentsIs, decided, Given};
+ghost use Rattle.listing_rules.specs.Command.{isSome, canonical, listArgs, judged, orRefuse, tagged};
+ghost use Rattle.command_line.specs.Spans.{spanBytes};
+ghost use Rattle.command_line.specs.PatternLists.{held};
+ghost use Rattle.command_line.specs.Commands.{meaning, Inside, bareCommand, refusedWith, short, argumentsIs, decided, TagIn, Given};
 use crate::Behind;
 use crate::Command;
 use crate::Cursor;
@@ -27,92 +26,11 @@ use crate::pattern_list::Patterns;
 use crate::pattern_list::nowhere;
 use crate::spans::raw;
 use crate::spans::span_len;
-use crate::tokens::CR;
-use crate::tokens::LF;
-use crate::tokens::is_line_byte;
-use feeder::Machine;
-use feeder::Signal;
 use octets::byte_at;
 use octets::spells_word;
 
 // How long a canonical pattern may be.
 const MAX_CANONICAL: usize = 255;
-
-// The text of a line, by its length, or a line that has not the shape.
-pub(crate) enum Shape {
-    Text(usize),
-    Off,
-}
-
-// What a byte of a line does: it may not stand there; the line ends with it, and a whole command with the line; it goes on.
-pub(crate) enum Shaping {
-    Bad,
-    Last,
-    Further(Machine),
-}
-
-// Whether a byte may stand there: in a literal any, behind CR the LF, and else a line byte or CR.
-fn is_allowed(machine: Machine, b: u8) -> bool
-    ensures { λ r. ⌜ r ≡ allowedBy machine b ⌝ }
-{
-    if !machine.in_text() {
-        return true;
-    }
-    if machine.after_line_cr() {
-        return b == LF;
-    }
-    is_line_byte(b) | (b == CR)
-}
-
-// What the next byte does, by the machine that read those before it.
-fn shape_step(machine: Machine, b: u8) -> Shaping
-    ensures { λ r. ⌜ r ≡ shapeStep machine b ⌝ }
-{
-    if !is_allowed(machine, b) {
-        return Shaping::Bad;
-    }
-    let stepped = machine.step(b);
-    let signal = stepped.signal;
-    let next = stepped.machine;
-    match signal {
-        Signal::Quiet => Shaping::Further(next),
-        Signal::GoOn => Shaping::Further(next),
-        Signal::Whole => Shaping::Last,
-        Signal::Refused => Shaping::Bad,
-    }
-}
-
-// line = *(*line-byte "{" number "}" CR LF *byte) *line-byte CR LF, the bytes behind each number as many as it says
-//
-// The feeder's machine tells the literals apart, in one pass; at most 2,048 bytes and no byte 00 are its refusals.
-pub(crate) fn line_text(line: &[u8]) -> Shape
-    ensures { λ r. ⌜ shapeIs (now (line .entry)) r ≡ lineText (now (line .entry)) ⌝ }
-    ensures { λ r. ⌜ ShapeIn (now (line .entry)) r ⌝ }
-{
-    if line.len() < 2 {
-        return Shape::Off;
-    }
-    let mut machine = Machine::FIRST;
-    let mut i = 0;
-    while i < line.len() {
-        match shape_step(machine, line[i]) {
-            Shaping::Bad => {
-                return Shape::Off;
-            }
-            Shaping::Last => {
-                if i + 1 < line.len() {
-                    return Shape::Off;
-                }
-                return Shape::Text(line.len() - 2);
-            }
-            Shaping::Further(next) => {
-                machine = next;
-            }
-        }
-        i += 1;
-    }
-    Shape::Off
-}
 
 // A command of which nothing but its kind and its tag is kept.
 fn bare(kind: Kind, tag: Span) -> Command
@@ -131,7 +49,7 @@ fn bare(kind: Kind, tag: Span) -> Command
 }
 
 pub(crate) fn refused(number: u8) -> Command
-    ensures { λ r. ⌜ r ≡ bareCommand (Kind.Refused number) noSpan ⌝ }
+    ensures { λ r. ⌜ r ≡ refusedWith number ⌝ }
 {
     bare(Kind::Refused(number), nowhere())
 }
@@ -242,7 +160,7 @@ fn is_extended(text: &[u8], first: Cursor, patterns: Cursor, behind: Cursor) -> 
 // list = "LIST" [selection] SP astring SP patterns [return], behind the word
 fn read_list(text: &[u8], tag: Span, first: Cursor) -> Command
     ensures { λ r. ⌜ meaning (now (text .entry)) r ≡ orRefuse 4 (listArgs (drop (first .at) (now (text .entry)))) (judged (spanBytes (now (text .entry)) tag)) ⌝ }
-    ensures { λ r. ⌜ (Lies (now (text .entry)) tag → tag .quoted ≡ false → Inside (now (text .entry)) r) ⌝ }
+    ensures { λ r. ⌜ (TagIn (now (text .entry)) tag → Inside (now (text .entry)) r) ⌝ }
 {
     let Listed::Read(selected, known, second) = first.selection(text) else {
         return refused(4);

@@ -8,19 +8,17 @@ ghost use mathlib.Core.Bool.{false};
 ghost use mathlib.Core.List.{[], _∷_};
 ghost use lib.ListN.{drop};
 ghost use Rattle.listing_rules.specs.Bytes.{text as spelled};
-ghost use Rattle.listing_rules.specs.Tokens.{after, run₁, atom, lineByte, quotedText, stringOr, astring, pattern, atomByte, tagByte};
+ghost use Rattle.listing_rules.specs.Tokens.{after, run₁, atom, quotedText, stringOr, astring, pattern, atomByte, tagByte};
 ghost use Rattle.command_line.specs.Tokens.{classByte, tokenIs, behindIs, TokenIn, BareIn, BehindIn, quotedStep};
 use crate::Behind;
 use crate::Cursor;
 use crate::Span;
 use crate::Token;
+use command_shape::is_digit;
+use command_shape::is_line_byte;
 use octets::BACKSLASH;
 use octets::QUOTE;
 use octets::byte_at;
-
-pub(crate) const CR: u8 = 13;
-
-pub(crate) const LF: u8 = 10;
 
 // The classes of bytes of which a bare token is a run.
 pub(crate) enum Class {
@@ -29,13 +27,6 @@ pub(crate) enum Class {
     Astring,
     Pattern,
     Digit,
-}
-
-// A byte that may stand before CR LF, and in quotes.
-pub(crate) fn is_line_byte(b: u8) -> bool
-    ensures { λ r. ⌜ r ≡ lineByte b ⌝ }
-{
-    (0x01 <= b) & (b <= 0x7F) & !(b == CR) & !(b == LF)
 }
 
 // An atom byte: printable, and none of ( ) { % * " \ ]
@@ -64,7 +55,7 @@ impl Class {
             Class::Atom => is_atom(b),
             Class::Astring => is_atom(b) | (b == b']'),
             Class::Pattern => is_atom(b) | (b == b']') | (b == b'%') | (b == b'*'),
-            Class::Digit => (b'0' <= b) & (b <= b'9'),
+            Class::Digit => is_digit(b),
         }
     }
 }

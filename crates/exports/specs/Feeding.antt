@@ -4,83 +4,68 @@ use mathlib.Core.Bool.{cond}
 use mathlib.Core.List.{List}
 use lib.Dec.{eqb}
 use Prim.Native.Nat.{ℕ}
-use Rattle.feeder.specs.declared.machine.Place.{Place}
-use Rattle.feeder.specs.declared.machine.Place.the-variants.{Text, AfterCr, Open, Digits, Closed, Ending, Literal, Dropping}
-use Rattle.feeder.specs.declared.machine.Machine.{Machine}
+use Rattle.command_shape.specs.declared.machine.Tail.{Tail}
+use Rattle.command_shape.specs.declared.machine.Tail.the-variants.{Text, Cr, Open, Digits, Closed, Ending}
+use Rattle.command_shape.specs.declared.machine.Place.{Place}
+use Rattle.command_shape.specs.declared.machine.Place.the-variants.{Line, Literal, Dropping}
+use Rattle.command_shape.specs.declared.machine.Machine.{Machine}
 use Rattle.feeder.specs.declared.Event.{Event}
 use Rattle.feeder.specs.declared.Event.the-variants.{Quiet, Command, GoOn, Refused, TooSmall}
 use Rattle.feeder.specs.declared.Fed.{Fed}
 use Rattle.feeder.specs.Feed.{Feeds}
 use Rattle.exports.specs.declared.feeding.FeederState.{FeederState}
 use Rattle.exports.specs.declared.feeding.FedChunk.{FedChunk}
+use Rattle.exports.specs.declared.feeding.PlaceNumbers.{PlaceNumbers}
+use Rattle.exports.specs.declared.feeding.EventNumbers.{EventNumbers}
 
 -- ---- the state
 
 -- the place of a number, with the value beside it; a number that no place has stands for dropping
 unfoldable pub placeOf : ℕ → ℕ → Place
 placeOf k n =
-    cond (eqb k 0) Text
-    (cond (eqb k 1) AfterCr
-    (cond (eqb k 2) Open
-    (cond (eqb k 3) (Digits n) (cond (eqb k 4) (Closed n) (cond (eqb k 5) (Ending n) (cond (eqb k 6) (Literal n) Dropping))))))
+    cond (eqb k 0) (Line Text)
+    (cond (eqb k 1) (Line Cr)
+    (cond (eqb k 2) (Line Open)
+    (cond (eqb k 3) (Line (Digits n))
+    (cond (eqb k 4) (Line (Closed n)) (cond (eqb k 5) (Line (Ending n)) (cond (eqb k 6) (Literal n) Dropping))))))
 
 -- the state that C's stands for
 unfoldable pub machineOf : FeederState → Machine
 machineOf s = record { place = placeOf (s .place) (s .value); size = s .size; cr = s .cr }
 
-unfoldable pub placeNumber : Place → ℕ
-placeNumber Text = 0
-placeNumber AfterCr = 1
-placeNumber Open = 2
-placeNumber (Digits n) = 3
-placeNumber (Closed n) = 4
-placeNumber (Ending n) = 5
-placeNumber (Literal n) = 6
-placeNumber Dropping = 7
+-- the numbers of a place: its own, and the value beside it, 0 where it has none
+abbrev pub tailNumbers : Tail → PlaceNumbers
+tailNumbers Text = record { place = 0; value = 0 }
+tailNumbers Cr = record { place = 1; value = 0 }
+tailNumbers Open = record { place = 2; value = 0 }
+tailNumbers (Digits n) = record { place = 3; value = n }
+tailNumbers (Closed n) = record { place = 4; value = n }
+tailNumbers (Ending n) = record { place = 5; value = n }
 
--- the value beside it, 0 where it has none
-unfoldable pub placeValue : Place → ℕ
-placeValue Text = 0
-placeValue AfterCr = 0
-placeValue Open = 0
-placeValue (Digits n) = n
-placeValue (Closed n) = n
-placeValue (Ending n) = n
-placeValue (Literal n) = n
-placeValue Dropping = 0
+abbrev pub placeNumbers : Place → PlaceNumbers
+placeNumbers (Line t) = tailNumbers t
+placeNumbers (Literal n) = record { place = 6; value = n }
+placeNumbers Dropping = record { place = 7; value = 0 }
 
 -- C's state of a state
-unfoldable pub stateOf : Machine → FeederState
-stateOf m = record { place = placeNumber (m .place); cr = m .cr; value = placeValue (m .place); size = m .size }
+abbrev pub stateOf : Machine → FeederState
+stateOf m = record { place = placeNumbers (m .place) .place; cr = m .cr; value = placeNumbers (m .place) .value; size = m .size }
 
 -- ---- the answer
 
-unfoldable pub eventNumber : Event → ℕ
-eventNumber Quiet = 0
-eventNumber (Command n) = 1
-eventNumber GoOn = 2
-eventNumber (Refused k) = 3
-eventNumber TooSmall = 4
-
--- the number of a refusal, else 0
-unfoldable pub refusalOf : Event → ℕ
-refusalOf Quiet = 0
-refusalOf (Command n) = 0
-refusalOf GoOn = 0
-refusalOf (Refused k) = k
-refusalOf TooSmall = 0
-
--- the length of a whole command, else 0
-unfoldable pub lengthOf : Event → ℕ
-lengthOf Quiet = 0
-lengthOf (Command n) = n
-lengthOf GoOn = 0
-lengthOf (Refused k) = 0
-lengthOf TooSmall = 0
+-- the numbers of an event: its own, that of a refusal or 0, and the length of a whole command or 0
+abbrev pub eventNumbers : Event → EventNumbers
+eventNumbers Quiet = record { event = 0; number = 0; length = 0 }
+eventNumbers (Command n) = record { event = 1; number = 0; length = n }
+eventNumbers GoOn = record { event = 2; number = 0; length = 0 }
+eventNumbers (Refused k) = record { event = 3; number = k; length = 0 }
+eventNumbers TooSmall = record { event = 4; number = 0; length = 0 }
 
 -- C's answer of an answer
-unfoldable pub chunkOf : Fed → FedChunk
-chunkOf r = record { event = eventNumber (r .event); number = refusalOf (r .event); length = lengthOf (r .event); used = r .used; state = stateOf (r .state) }
+abbrev pub chunkOf : Fed → FedChunk
+chunkOf r =
+    let e = eventNumbers (r .event) in
+    record { event = e .event; number = e .number; length = e .length; used = r .used; state = stateOf (r .state) }
 
 -- The chunk was fed to C's state `s` over the memory `d`, which leaves `e`; `r` is C's answer.
 pub record FeedsChunk (s : FeederState) (d e chunk : List ℕ) (r : FedChunk) : Type 0 where

@@ -1,18 +1,19 @@
-// The feeder as C takes it: its state and its answer as structs of numbers, where the crate `feeder` has enums.
+// The feeder as C takes it: its state and its answer as structs of numbers, where the crates below have enums.
 //
 // Both structs have more than 16 bytes, so that they pass in memory. Any numbers in a state are taken: see `place_of`.
+use command_shape::Machine;
+use command_shape::Place;
+use command_shape::Tail;
 use feeder::Event;
 use feeder::Fed;
-use feeder::Machine;
-use feeder::Place;
 ghost use mathlib.Core.Path.{_≡_};
 ghost use Rattle.octets.specs.Put.{Put};
 ghost use Rattle.listing_rules.specs.Feeder.{goOnLine};
-ghost use Rattle.exports.specs.Feeding.{placeOf, machineOf, placeNumber, placeValue, stateOf, eventNumber, refusalOf, lengthOf, chunkOf, FeedsChunk};
+ghost use Rattle.exports.specs.Feeding.{placeOf, machineOf, tailNumbers, placeNumbers, stateOf, eventNumbers, chunkOf, FeedsChunk};
 
-// The state between two chunks: the place's number, in the order of `feeder::Place`, and the value beside it, 0 where it has
-// none; the number of the command's bytes so far, at the front of the lent memory; whether the last byte is CR. All zero before
-// the first byte of a command.
+// The state between two chunks: the number of its place, and the value beside it, 0 where the place has none (`placeNumbers` of
+// specs/); whether the last byte is CR; the number of the command's bytes so far, at the front of the lent memory. All
+// zero before the first byte of a command.
 #[repr(C)]
 pub struct FeederState {
     pub place: u8,
@@ -21,8 +22,8 @@ pub struct FeederState {
     pub size: usize,
 }
 
-// What comes of a chunk: the event's number, in the order of `feeder::Event`; of a refusal its number, else 0; of a whole command
-// its length, else 0; how many bytes of the chunk were taken; and the state then.
+// What comes of a chunk: the event's number (`eventNumbers` of specs/); of a refusal its number, else 0; of a whole command its length, else 0;
+// how many bytes of the chunk were taken; and the state then.
 #[repr(C)]
 pub struct FedChunk {
     pub event: u8,
@@ -30,6 +31,19 @@ pub struct FedChunk {
     pub length: usize,
     pub used: usize,
     pub state: FeederState,
+}
+
+// A place in numbers.
+pub(crate) struct PlaceNumbers {
+    place: u8,
+    value: usize,
+}
+
+// An event in numbers.
+pub(crate) struct EventNumbers {
+    event: u8,
+    number: u8,
+    length: usize,
 }
 
 // The bytes of a chunk, through the first that something comes of, or all.
@@ -40,7 +54,7 @@ pub extern "C" fn luspemaro_feed(state: FeederState, command: &mut [u8], chunk: 
     fed_chunk(feeder::feed(machine_of(state), command, chunk))
 }
 
-// The continuation line, at a place of the buffer; the place behind it.
+// The continuation line, at a place of the buffer; the place after it.
 #[no_mangle]
 pub extern "C" fn luspemaro_put_go_on(out: &mut [u8], at: usize) -> usize
     ensures { λ r. ⌜ Put (now (out .entry)) (now (out .exit)) at goOnLine r ⌝ }
@@ -62,38 +76,27 @@ fn machine_of(state: FeederState) -> Machine
 fn place_of(number: u8, value: usize) -> Place
     ensures { λ r. ⌜ r ≡ placeOf number value ⌝ }
 {
-    if number == 0 {
-        return Place::Text;
+    match number {
+        0 => Place::Line(Tail::Text),
+        1 => Place::Line(Tail::Cr),
+        2 => Place::Line(Tail::Open),
+        3 => Place::Line(Tail::Digits(value)),
+        4 => Place::Line(Tail::Closed(value)),
+        5 => Place::Line(Tail::Ending(value)),
+        6 => Place::Literal(value),
+        _ => Place::Dropping,
     }
-    if number == 1 {
-        return Place::AfterCr;
-    }
-    if number == 2 {
-        return Place::Open;
-    }
-    if number == 3 {
-        return Place::Digits(value);
-    }
-    if number == 4 {
-        return Place::Closed(value);
-    }
-    if number == 5 {
-        return Place::Ending(value);
-    }
-    if number == 6 {
-        return Place::Literal(value);
-    }
-    Place::Dropping
 }
 
 fn fed_chunk(fed: Fed) -> FedChunk
     ensures { λ r. ⌜ r ≡ chunkOf fed ⌝ }
 {
     let event = fed.event;
+    let numbers = event_numbers(event);
     FedChunk {
-        event: event_number(event),
-        number: refusal_of(event),
-        length: length_of(event),
+        event: numbers.event,
+        number: numbers.number,
+        length: numbers.length,
         used: fed.used,
         state: state_of(fed.state),
     }
@@ -103,76 +106,66 @@ fn state_of(machine: Machine) -> FeederState
     ensures { λ r. ⌜ r ≡ stateOf machine ⌝ }
 {
     let place = machine.place;
+    let numbers = place_numbers(place);
     FeederState {
-        place: place_number(place),
+        place: numbers.place,
         cr: machine.cr,
-        value: place_value(place),
+        value: numbers.value,
         size: machine.size,
     }
 }
 
-fn place_number(place: Place) -> u8
-    ensures { λ r. ⌜ r ≡ placeNumber place ⌝ }
+fn place_numbers(place: Place) -> PlaceNumbers
+    ensures { λ r. ⌜ r ≡ placeNumbers place ⌝ }
 {
     match place {
-        Place::Text => 0,
-        Place::AfterCr => 1,
-        Place::Open => 2,
-        Place::Digits(_) => 3,
-        Place::Closed(_) => 4,
-        Place::Ending(_) => 5,
-        Place::Literal(_) => 6,
-        Place::Dropping => 7,
+        Place::Line(tail) => tail_numbers(tail),
+        Place::Literal(value) => PlaceNumbers { place: 6, value },
+        Place::Dropping => PlaceNumbers { place: 7, value: 0 },
     }
 }
 
-fn place_value(place: Place) -> usize
-    ensures { λ r. ⌜ r ≡ placeValue place ⌝ }
+fn tail_numbers(tail: Tail) -> PlaceNumbers
+    ensures { λ r. ⌜ r ≡ tailNumbers tail ⌝ }
 {
-    match place {
-        Place::Text => 0,
-        Place::AfterCr => 0,
-        Place::Open => 0,
-        Place::Digits(value) => value,
-        Place::Closed(value) => value,
-        Place::Ending(value) => value,
-        Place::Literal(value) => value,
-        Place::Dropping => 0,
+    match tail {
+        Tail::Text => PlaceNumbers { place: 0, value: 0 },
+        Tail::Cr => PlaceNumbers { place: 1, value: 0 },
+        Tail::Open => PlaceNumbers { place: 2, value: 0 },
+        Tail::Digits(value) => PlaceNumbers { place: 3, value },
+        Tail::Closed(value) => PlaceNumbers { place: 4, value },
+        Tail::Ending(value) => PlaceNumbers { place: 5, value },
     }
 }
 
-fn event_number(event: Event) -> u8
-    ensures { λ r. ⌜ r ≡ eventNumber event ⌝ }
+fn event_numbers(event: Event) -> EventNumbers
+    ensures { λ r. ⌜ r ≡ eventNumbers event ⌝ }
 {
     match event {
-        Event::Quiet => 0,
-        Event::Command(_) => 1,
-        Event::GoOn => 2,
-        Event::Refused(_) => 3,
-        Event::TooSmall => 4,
-    }
-}
-
-fn refusal_of(event: Event) -> u8
-    ensures { λ r. ⌜ r ≡ refusalOf event ⌝ }
-{
-    match event {
-        Event::Quiet => 0,
-        Event::Command(_) => 0,
-        Event::GoOn => 0,
-        Event::Refused(number) => number,
-        Event::TooSmall => 0,
-    }
-}
-
-fn length_of(event: Event) -> usize
-    ensures { λ r. ⌜ r ≡ lengthOf event ⌝ }
-{
-    match event {
-        Event::Quiet => 0,
-        Event::Command(length) => length,
-        Event::GoOn => 0,
-        Event::Refused(_) => 0,
-        Event::TooSmall => 0,
+        Event::Quiet => EventNumbers {
+            event: 0,
+            number: 0,
+            length: 0,
+        },
+        Event::Command(length) => EventNumbers {
+            event: 1,
+            number: 0,
+            length,
+        },
+        Event::GoOn => EventNumbers {
+            event: 2,
+            number: 0,
+            length: 0,
+        },
+        Event::Refused(number) => EventNumbers {
+            event: 3,
+            number,
+            length: 0,
+        },
+        Event::TooSmall => EventNumbers {
+            event: 4,
+            number: 0,
+            length: 0,
+        },
     }
 }

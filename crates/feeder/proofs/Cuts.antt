@@ -12,11 +12,11 @@ use Rattle.listing_rules.specs.Lists.{joined}
 use Rattle.listing_rules.specs.Feeder.{Feeder, first, Event as Meant, Feeding, feedAll, feedChunks}
 use Rattle.listing_rules.proofs.Bools.{and-r}
 use Rattle.listing_rules.proofs.FeederLaws.{feed-append, then-fed, cut-anywhere}
-use Rattle.feeder.specs.declared.machine.Machine.{Machine}
-use Rattle.feeder.specs.Machine.{firstIs, machineOf}
+use Rattle.command_shape.specs.declared.machine.Machine.{Machine}
+use Rattle.command_shape.specs.Machine.{firstIs, machineOf}
 use Rattle.feeder.specs.Feed.{keptOf, Holds, eventsOf, Means, ready}
 use Rattle.feeder.specs.Calls.{Call, Calls, Through, saidBy, stateAfter}
-use Rattle.feeder.proofs.MachineLaws.{first-is}
+use Rattle.command_shape.proofs.Steps.{first-is}
 
 lent : (d : List ℕ) (size : ℕ) → 2048 ≤ length d → size ≤ 2048 → ready (length d) size ≡ true
 unfolding ready
@@ -37,11 +37,10 @@ unfolding feedAll
 feed-none s m e = (refl, e)
 
 first-small : firstIs .size ≤ 2048
-unfolding firstIs
 first-small = omega arith
 
 first-held : (d : List ℕ) → Holds d firstIs first
-unfolding firstIs first keptOf
+unfolding first keptOf
 first-held d = (first-as, refl)
   where
     first-as : firstIs ≡ machineOf first

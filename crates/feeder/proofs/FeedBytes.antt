@@ -12,17 +12,19 @@ use lib.ListN.{length, take}
 use lib.Seq.{sets, length-sets}
 use borrow.Author.Tests.{le-leb, lt-leb, leb-false}
 use Rattle.listing_rules.specs.Feeder.{Feeder, feedAll}
-use Rattle.feeder.specs.declared.machine.Machine.{Machine}
-use Rattle.feeder.specs.declared.machine.Place.{Place}
-use Rattle.feeder.specs.declared.machine.Place.the-variants.{Text, AfterCr, Open, Digits, Closed, Ending, Literal, Dropping}
-use Rattle.feeder.specs.declared.machine.Stepped.{Stepped}
-use Rattle.feeder.specs.declared.machine.Signal.{Signal}
-use Rattle.feeder.specs.declared.machine.Signal.the-variants.{Quiet as quietly, GoOn as goingOn, Whole, Refused as refusing}
+use Rattle.command_shape.specs.declared.machine.Machine.{Machine}
+use Rattle.command_shape.specs.declared.machine.Place.{Place}
+use Rattle.command_shape.specs.declared.machine.Place.the-variants.{Line, Literal, Dropping}
+use Rattle.command_shape.specs.declared.machine.Tail.{Tail}
+use Rattle.command_shape.specs.declared.machine.Tail.the-variants.{Text, Cr, Open, Digits, Closed, Ending}
+use Rattle.command_shape.specs.declared.machine.Stepped.{Stepped}
+use Rattle.command_shape.specs.declared.machine.Signal.{Signal}
+use Rattle.command_shape.specs.declared.machine.Signal.the-variants.{Quiet as quietly, GoOn as goingOn, Whole, Refused as refusing}
 use Rattle.feeder.specs.declared.Event.the-variants.{TooSmall}
 use Rattle.feeder.specs.declared.Fed.{Fed}
-use Rattle.feeder.specs.Machine.{placeIs, isDropping, offending, takes, firstIs, steps, standing, textIs, awaitingIs, literalIs, announcedIs, takenIs, droppedIs, refusedIs, stepIs}
+use Rattle.command_shape.specs.Machine.{isDropping, offending, takes, firstIs, steps, standing, textIs, awaitingIs, announcedIs, lineIs, droppedIs, stepAt, stepIs}
 use Rattle.feeder.specs.Feed.{storedIs, eventIs, nextPlace, answers, byteIs, Outcome, outcome, isQuiet, feedFrom, startOf, putFrom, keptOf, Holds, throughEvent, Means, ready, Feeds}
-use Rattle.feeder.proofs.MachineLaws.{text-place, text-drops-not}
+use Rattle.command_shape.proofs.Steps.{room-left}
 use Rattle.feeder.proofs.FeedLaws.{Follow, feed-follows, size-is}
 
 -- ---- where a step leaves the state
@@ -31,25 +33,20 @@ use Rattle.feeder.proofs.FeedLaws.{Follow, feed-follows, size-is}
 abbrev Next : ℕ → Stepped → Type 0
 Next n r = (r .machine .size ≤ n) × (isQuiet (eventIs (r .signal) n) ≡ true → startOf (r .machine) ≡ n)
 
-next-text : (p : Place) (n c : ℕ) → Next n (textIs p n c)
-unfolding textIs steps standing startOf
-next-text p n c = (omega arith, λ q. rw (text-drops-not (placeIs p c) (text-place p c .0)))
+next-text : (t : Tail) (n c : ℕ) → Next n (textIs t n c)
+unfolding startOf
+next-text t n c = (omega arith, λ q. refl)
 
-next-awaiting : (k n c : ℕ) → (v : Signal) → Next n (steps (standing (awaitingIs k) n c) v)
-unfolding steps standing startOf awaitingIs isDropping
+next-awaiting : (k n c : ℕ) (v : Signal) → Next n (steps (standing (awaitingIs k) n c) v)
+unfolding startOf awaitingIs
 next-awaiting k n c v = (omega arith, λ q. go (eqb k 0))
   where
-    go : (o : Bool) → cond (isDropping (cond o Text (Literal k))) 0 n ≡ n
+    go : (o : Bool) → cond (isDropping (cond o (Line Text) (Literal k))) 0 n ≡ n
     go true = refl
     go false = refl
 
-next-literal : (k n c : ℕ) → Next n (literalIs k n c)
-unfolding literalIs
-next-literal k n c = next-awaiting (k - 1) n c quietly
-
 -- the first state, and something came
 next-first : (n : ℕ) (v : Signal) → isQuiet (eventIs v n) ≡ false → Next n (steps firstIs v)
-unfolding steps firstIs
 next-first n v e = (omega arith, λ q. absurd (false≢true (sym e ∙ q)))
 
 loud-whole : (n : ℕ) → isQuiet (eventIs Whole n) ≡ false
@@ -68,27 +65,25 @@ next-announced k n = go (leb k 1024)
     go true = next-awaiting k n 10 goingOn
     go false = next-first n refusing (loud-refused n)
 
-next-taken : (p : Place) (n c : ℕ) → Next n (takenIs p n c)
-unfolding takenIs
-next-taken Text n c = next-text Text n c
-next-taken AfterCr n c = go (eqb c 10)
+next-line : (t : Tail) (n c : ℕ) → Next n (lineIs t n c)
+unfolding lineIs
+next-line Text n c = next-text Text n c
+next-line Cr n c = go (eqb c 10)
   where
-    go : (o : Bool) → Next n (cond o (steps firstIs Whole) (textIs AfterCr n c))
+    go : (o : Bool) → Next n (cond o (steps firstIs Whole) (textIs Cr n c))
     go true = next-first n Whole (loud-whole n)
-    go false = next-text AfterCr n c
-next-taken Open n c = next-text Open n c
-next-taken (Digits v) n c = next-text (Digits v) n c
-next-taken (Closed v) n c = next-text (Closed v) n c
-next-taken (Ending v) n c = go (eqb c 10)
+    go false = next-text Cr n c
+next-line Open n c = next-text Open n c
+next-line (Digits v) n c = next-text (Digits v) n c
+next-line (Closed v) n c = next-text (Closed v) n c
+next-line (Ending v) n c = go (eqb c 10)
   where
     go : (o : Bool) → Next n (cond o (announcedIs v n) (textIs (Ending v) n c))
     go true = next-announced v n
     go false = next-text (Ending v) n c
-next-taken (Literal v) n c = next-literal v n c
-next-taken Dropping n c = next-text Dropping n c
 
 dropped-start : (cr : Bool) (c : ℕ) → (droppedIs cr c .size ≡ 0) × (startOf (droppedIs cr c) ≡ 0)
-unfolding droppedIs firstIs startOf isDropping
+unfolding droppedIs startOf
 dropped-start cr c = go (cr && eqb c 10)
   where
     go : (o : Bool) → (cond o firstIs (record { place = Dropping; size = 0; cr = eqb c 13 }) .size ≡ 0) × (startOf (cond o firstIs (record { place = Dropping; size = 0; cr = eqb c 13 })) ≡ 0)
@@ -97,29 +92,26 @@ dropped-start cr c = go (cr && eqb c 10)
 
 -- A byte that the command takes, one that is dropped, one that is refused.
 pub data Way (m : Machine) (c : ℕ) : Type 0 where
-  taken : takes m c ≡ true → startOf m ≡ m .size → m .size < 2048 → stepIs m c ≡ takenIs (m .place) (m .size + 1) c → Way m c
+  taken : takes m c ≡ true → startOf m ≡ m .size → m .size < 2048 → Next (m .size + 1) (stepIs m c) → Way m c
   dropped : takes m c ≡ false → startOf m ≡ 0 → stepIs m c ≡ steps (droppedIs (m .cr) c) quietly → Way m c
   refused : takes m c ≡ false → stepIs m c ≡ steps (droppedIs (m .cr) c) refusing → Way m c
 
-full-or-not : (size c : ℕ) → offending size c ≡ false → size < 2048
-unfolding offending
-full-or-not size c e = go (leb 2048 size) refl e
+way-at : (p : Place) (size : ℕ) (cr : Bool) (c : ℕ) → Way (record { place = p; size = size; cr = cr }) c
+unfolding stepAt startOf
+way-at (Line t) size cr c = go (offending size c) refl
   where
-    go : (o : Bool) → leb 2048 size ≡ o → (o || eqb c 0) ≡ false → size < 2048
-    go true h g = absurd (false≢true (sym g))
-    go false h g = omega (arith, leb-false 2048 size h)
+    go : (o : Bool) → offending size c ≡ o → Way (record { place = Line t; size = size; cr = cr }) c
+    go true e = refused (rw e) (rw e)
+    go false e = taken (rw e) refl (room-left size c e) (rw e (next-line t (size + 1) c))
+way-at (Literal n) size cr c = go (offending size c) refl
+  where
+    go : (o : Bool) → offending size c ≡ o → Way (record { place = Literal n; size = size; cr = cr }) c
+    go true e = refused (rw e) (rw e)
+    go false e = taken (rw e) refl (room-left size c e) (rw e (next-awaiting (n - 1) (size + 1) c quietly))
+way-at Dropping size cr c = dropped refl refl refl
 
 way : (m : Machine) (c : ℕ) → Way m c
-unfolding takes stepIs startOf refusedIs
-way m c = go (isDropping (m .place)) refl
-  where
-    go : (o : Bool) → isDropping (m .place) ≡ o → Way m c
-    go true e = dropped (rw e) (rw e) (rw e)
-    go false e = more (offending (m .size) c) refl
-      where
-        more : (p : Bool) → offending (m .size) c ≡ p → Way m c
-        more true f = refused (rw (e, f)) (rw (e, f))
-        more false f = taken (rw (e, f)) (rw e) (full-or-not (m .size) c f) (rw (e, f))
+way m c = way-at (m .place) (m .size) (m .cr) c
 
 -- whether something comes of a byte does not depend on its number
 quiet-any : (v : Signal) (a b : ℕ) → isQuiet (eventIs v a) ≡ isQuiet (eventIs v b)
@@ -132,11 +124,10 @@ quiet-any refusing a b = refl
 -- ---- the size
 
 step-size : (m : Machine) (c : ℕ) → m .size ≤ 2048 → stepIs m c .machine .size ≤ 2048
-unfolding steps
 step-size m c h = go (way m c)
   where
     go : Way m c → stepIs m c .machine .size ≤ 2048
-    go (taken t s n e) = rw e (omega (arith, next-taken (m .place) (m .size + 1) c .0))
+    go (taken t s n e) = omega (arith, e .0)
     go (dropped t s e) = rw e (omega (arith, dropped-start (m .cr) c .0))
     go (refused t e) = rw e (omega (arith, dropped-start (m .cr) c .0))
 
@@ -150,11 +141,9 @@ feed-size (c ∷ t) used m d h = go (isQuiet (eventIs (stepIs m c .signal) (next
     go false ih = step-size m c h
 
 dropped-next : (cr : Bool) (c : ℕ) (r : Stepped) (v : Signal) → r ≡ steps (droppedIs cr c) v → startOf (r .machine) ≡ 0
-unfolding steps
 dropped-next cr c r v e = ap (λ (x : Stepped). startOf (x .machine)) e ∙ dropped-start cr c .1
 
 refused-loud : (cr : Bool) (c : ℕ) (r : Stepped) (n : ℕ) → r ≡ steps (droppedIs cr c) refusing → isQuiet (eventIs refusing n) ≡ isQuiet (eventIs (r .signal) n)
-unfolding steps
 refused-loud cr c r n e = ap (λ (x : Stepped). isQuiet (eventIs (x .signal) n)) (sym e)
 
 -- ---- how many bytes are taken
@@ -206,7 +195,7 @@ memory-is (c ∷ t) used m d = go (isQuiet (eventIs (stepIs m c .signal) (nextPl
     d′ = storedIs m d c
 
     go : (o : Bool) → isQuiet (eventIs (stepIs m c .signal) (nextPlace (m .size))) ≡ o → feedFrom (used + 1) m′ d′ t .memory ≡ sets d′ (startOf m′) (putFrom m′ t) → Way m c → cond o (feedFrom (used + 1) m′ d′ t) (outcome m′ (used + 1) (eventIs (stepIs m c .signal) (nextPlace (m .size))) d′) .memory ≡ sets d (startOf m) (cond (takes m c) (c ∷ cond o (putFrom m′ t) []) (cond o (putFrom m′ t) []))
-    go true q ih (taken k s n e) = ih ∙ ap (λ (x : ℕ). sets d′ x (putFrom m′ t)) (ap (λ (x : Stepped). startOf (x .machine)) e ∙ next-taken (m .place) (m .size + 1) c .1 (ap (λ (x : Stepped). isQuiet (eventIs (x .signal) (m .size + 1))) (sym e) ∙ quiet-any (stepIs m c .signal) (m .size + 1) (nextPlace (m .size)) ∙ q) ∙ add-one (m .size)) ∙ put-taken m d c (putFrom m′ t) k s
+    go true q ih (taken k s n e) = ih ∙ ap (λ (x : ℕ). sets d′ x (putFrom m′ t)) (e .1 (quiet-any (stepIs m c .signal) (m .size + 1) (nextPlace (m .size)) ∙ q) ∙ add-one (m .size)) ∙ put-taken m d c (putFrom m′ t) k s
     go true q ih (dropped k s e) = ih ∙ ap (λ (x : ℕ). sets d′ x (putFrom m′ t)) (dropped-next (m .cr) c (stepIs m c) quietly e ∙ sym s) ∙ put-left m d c (startOf m) (putFrom m′ t) k
     go true q ih (refused k e) = absurd (false≢true (sym (loud-refused (nextPlace (m .size))) ∙ refused-loud (m .cr) c (stepIs m c) (nextPlace (m .size)) e ∙ q))
     go false q ih (taken k s n e) = put-taken m d c [] k s

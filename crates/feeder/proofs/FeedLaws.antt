@@ -12,14 +12,14 @@ use lib.ListN.{length, take, drop, set, getD, length-append, length-set, drop-of
 use lib.Seq.{drop-cons, take-suc-set}
 use borrow.Author.Tests.{leb-true}
 use Rattle.listing_rules.specs.Feeder.{Feeder, reading, inLiteral, dropping, first, lastIs, endsLine, announced, Event as Meant, quiet, handed, goOn, denied, Step, gives, dropped, offends, refusing, awaiting, lineEnded, textByte, fedByte, Feeding, saying, feedAll}
-use Rattle.feeder.specs.declared.machine.Machine.{Machine}
-use Rattle.feeder.specs.declared.machine.Stepped.{Stepped}
+use Rattle.command_shape.specs.declared.machine.Machine.{Machine}
+use Rattle.command_shape.specs.declared.machine.Stepped.{Stepped}
 use Rattle.feeder.specs.declared.Event.{Event}
 use Rattle.feeder.specs.declared.Event.the-variants.{Quiet, Command, GoOn, Refused, TooSmall}
 use Rattle.feeder.specs.declared.Fed.{Fed}
-use Rattle.feeder.specs.Machine.{isDropping, takes, stepIs, machineOf, signalOf, steppedOf, steps, placeFrom}
+use Rattle.command_shape.specs.Machine.{offending, takes, stepIs, machineOf, signalOf, steppedOf}
 use Rattle.feeder.specs.Feed.{storedIs, eventIs, nextPlace, answers, byteIs, FedByte, Outcome, outcome, isQuiet, feedFrom, keptOf, Holds, eventsOf, nothing, throughEvent}
-use Rattle.feeder.proofs.MachineLaws.{step-is, line-in-text, in-text-first, text-drops-not, offending-is}
+use Rattle.command_shape.proofs.Steps.{step-is, offending-is}
 
 -- ---- the code, byte by byte
 
@@ -164,21 +164,20 @@ unfolding nextPlace
 next-place n h = omega arith
 
 -- a byte is stored exactly where the command takes it
-stored-reading : (kept line d : List ℕ) (c : ℕ) → storedIs (machineOf (reading kept line)) d c ≡ cond (offends kept c) d (set d (length kept) c)
-unfolding storedIs takes machineOf
-stored-reading kept line d c = rw (text-drops-not (placeFrom _ line) (line-in-text _ line in-text-first), offending-is kept c) (go (offends kept c))
+stored-kept : (kept d : List ℕ) (c : ℕ) → cond (not (offending (length kept) c)) (set d (length kept) c) d ≡ cond (offends kept c) d (set d (length kept) c)
+stored-kept kept d c = rw (offending-is kept c) (go (offends kept c))
   where
-    go : (o : Bool) → cond (not (false || o)) (set d (length kept) c) d ≡ cond o d (set d (length kept) c)
+    go : (o : Bool) → cond (not o) (set d (length kept) c) d ≡ cond o d (set d (length kept) c)
     go true = refl
     go false = refl
 
+stored-reading : (kept line d : List ℕ) (c : ℕ) → storedIs (machineOf (reading kept line)) d c ≡ cond (offends kept c) d (set d (length kept) c)
+unfolding storedIs machineOf
+stored-reading kept line d c = stored-kept kept d c
+
 stored-literal : (kept : List ℕ) (n : ℕ) (d : List ℕ) (c : ℕ) → storedIs (machineOf (inLiteral kept n)) d c ≡ cond (offends kept c) d (set d (length kept) c)
-unfolding storedIs takes machineOf isDropping
-stored-literal kept n d c = rw (offending-is kept c) (go (offends kept c))
-  where
-    go : (o : Bool) → cond (not (false || o)) (set d (length kept) c) d ≡ cond o d (set d (length kept) c)
-    go true = refl
-    go false = refl
+unfolding storedIs machineOf
+stored-literal kept n d c = stored-kept kept d c
 
 room-left : (kept : List ℕ) (c : ℕ) → offends kept c ≡ false → length kept < 2048
 unfolding offends
@@ -225,10 +224,6 @@ said-one (handed l) s = refl
 said-one goOn s = refl
 said-one (denied k) s = refl
 
-stepped-parts : (r : Step) → steppedOf r ≡ record { machine = machineOf (r .state); signal = signalOf (r .event) }
-unfolding steppedOf steps
-stepped-parts r = refl
-
 feed-one : (s : Feeder) (c : ℕ) → feedAll s (c ∷ []) ≡ record { state = fedByte s c .state; events = saidOf (fedByte s c .event) }
 unfolding feedAll
 feed-one s c = said-one (fedByte s c .event) (fedByte s c .state)
@@ -256,10 +251,7 @@ stored-length m d c = go (takes m c)
 -- the answer to a byte, told by the feeder's step
 byte-is : (s : Feeder) (c : ℕ) → byteIs (machineOf s) c ≡ answers (machineOf (fedByte s c .state)) 1 (eventIs (signalOf (fedByte s c .event)) (nextPlace (machineOf s .size)))
 unfolding byteIs
-byte-is s c = ap (λ (x : Stepped). answers (x .machine) 1 (eventIs (x .signal) (nextPlace (machineOf s .size)))) (step-is s c ∙ parts (fedByte s c))
-  where
-    parts : (r : Step) → steppedOf r ≡ record { machine = machineOf (r .state); signal = signalOf (r .event) }
-    parts r = stepped-parts r
+byte-is s c = ap (λ (x : Stepped). answers (x .machine) 1 (eventIs (x .signal) (nextPlace (machineOf s .size)))) (step-is s c)
 
 -- What the bytes t behind so many others come to, from the state s: as `Means`.
 pub record Follow (before : ℕ) (s : Feeder) (t : List ℕ) (o : Outcome) : Type 0 where

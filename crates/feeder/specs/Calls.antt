@@ -4,7 +4,7 @@ use mathlib.Core.List.{List, [], _∷_, _++_}
 use lib.ListN.{length, take, drop}
 use Prim.Native.Nat.{ℕ, _≤_}
 use Rattle.listing_rules.specs.Feeder.{Event as Meant}
-use Rattle.feeder.specs.declared.machine.Machine.{Machine}
+use Rattle.command_shape.specs.declared.machine.Machine.{Machine}
 use Rattle.feeder.specs.declared.Fed.{Fed}
 use Rattle.feeder.specs.Feed.{eventsOf, Feeds}
 

@@ -7,13 +7,13 @@ use lib.ListN.{length, take, set}
 use lib.Seq.{sets}
 use Prim.Native.Nat.{ℕ, suc, _+_, _≤_, _<_, _^_, _-_, min}
 use Rattle.listing_rules.specs.Feeder.{Feeder, reading, inLiteral, dropping, Event as Meant, quiet, handed, goOn, denied, fedByte, feedAll}
-use Rattle.feeder.specs.declared.machine.Machine.{Machine}
-use Rattle.feeder.specs.declared.machine.Signal.{Signal}
-use Rattle.feeder.specs.declared.machine.Signal.the-variants.{Quiet as quietly, GoOn as goingOn, Whole, Refused as refusing}
+use Rattle.command_shape.specs.declared.machine.Machine.{Machine}
+use Rattle.command_shape.specs.declared.machine.Signal.{Signal}
+use Rattle.command_shape.specs.declared.machine.Signal.the-variants.{Quiet as quietly, GoOn as goingOn, Whole, Refused as refusing}
 use Rattle.feeder.specs.declared.Event.{Event}
 use Rattle.feeder.specs.declared.Event.the-variants.{Quiet, Command, GoOn, Refused, TooSmall}
 use Rattle.feeder.specs.declared.Fed.{Fed}
-use Rattle.feeder.specs.Machine.{isDropping, takes, stepIs, machineOf}
+use Rattle.command_shape.specs.Machine.{isDropping, takes, stepIs, machineOf}
 
 -- ---- byte by byte
 

@@ -7,15 +7,10 @@ ghost use mathlib.Core.Path.{_≡_};
 ghost use Rattle.octets.specs.Put.{Put};
 ghost use Rattle.listing_rules.specs.Feeder.{goOnLine};
 ghost use Rattle.feeder.specs.Feed.{storedIs, eventIs, FedByte, Feeds};
-
-mod machine;
-
-pub use machine::MAX_COMMAND;
-pub use machine::MAX_LITERAL;
-pub use machine::Machine;
-pub use machine::Place;
-pub use machine::Signal;
-pub use machine::Stepped;
+use command_shape::MAX_COMMAND;
+use command_shape::Machine;
+use command_shape::Signal;
+use octets::refusals::LINE_SHAPE;
 
 // What comes of bytes: nothing yet; a whole command, so many bytes at the front of the lent memory; that the continuation line is
 // due; a refusal's number. Or that the lent memory is too small.
@@ -33,9 +28,6 @@ pub struct Fed {
     pub used: usize,
     pub event: Event,
 }
-
-// "a larger n, a byte 00 anywhere, or a command over 2,048 bytes in all is refused with 3".
-const REFUSAL: u8 = 3;
 
 // The bytes of a chunk, through the first that something comes of, or all. The caller goes on with the rest, and with the state
 // that is given back. The lent memory has 2,048 bytes or more and holds at its front the command's bytes so far, `state.size` of
@@ -105,7 +97,8 @@ fn store(state: Machine, command: &mut [u8], b: u8)
     }
 }
 
-// What comes of a byte, the command's byte of number `size`.
+// What comes of a byte, the command's byte of number `size`: "a larger n, a byte 00 anywhere, or a command over 2,048 bytes in all is
+// refused with 3".
 fn event_of(signal: Signal, size: usize) -> Event
     ensures { λ r. ⌜ r ≡ eventIs signal size ⌝ }
 {
@@ -113,7 +106,7 @@ fn event_of(signal: Signal, size: usize) -> Event
         Signal::Quiet => Event::Quiet,
         Signal::GoOn => Event::GoOn,
         Signal::Whole => Event::Command(size),
-        Signal::Refused => Event::Refused(REFUSAL),
+        Signal::Refused => Event::Refused(LINE_SHAPE),
     }
 }
 

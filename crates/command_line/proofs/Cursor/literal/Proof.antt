@@ -97,7 +97,7 @@ returns-5 c =
     let s = c .before .before .before .before .before .before .before .before .before .before .before .before .before .args .text .now in
     let start = c .before .before .before .first .given .0 .0 .at in
     let n = c .before .before .before .before .before .before .number .result in
-    let digits = bare-ahead s _ (c .before .before .before .before .before .before .before .before .before .before .before .run .ensures .1) (c .before .before .before .before .before .before .before .before .before .digits .given .1) .1 in
+    let digits = bare-ahead s _ (c .before .before .before .before .before .before .before .before .before .before .before .run .ensures .1) (c .before .before .before .before .before .before .before .before .before .digits .given .1) .ahead in
     let header = behind-ahead s _ (c .before .before .before .before .before .header-end .ensures .1) (c .before .before .before .first .given .1) in (
       bytes-token s start n ∙ sym (literal-whole _ _ _ (token-found s (c .before .before .before .before .before .before .before .before .before .before .before .run .ensures .0) (c .before .before .before .before .before .before .before .before .before .digits .given .1)) n (digits-number s _ (c .before .before .before .before .before .before .before .before .before .before .before .run .ensures .1) (c .before .before .before .before .before .before .before .before .before .digits .given .1) (c .before .before .before .before .before .before .number .ensures) (c .before .before .before .before .before .before .before .raw .ensures)) _ (behind-at s (c .before .before .before .before .before .header-end .ensures .0) (c .before .before .before .first .given .1)) (omega arith) (omega (arith, c .if2 .left, header .1, length-drop start s))),
       record { order = omega arith; within = omega arith; past = omega (arith, digits .past, header .0); inside = omega (arith, c .if2 .left, header .1) },

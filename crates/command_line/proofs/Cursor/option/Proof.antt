@@ -46,7 +46,7 @@ returns-2 : tie.Need-returns-2
 unfolding writtenIs WrittenIn
 returns-2 c =
     let w = bare-ahead _ _ (c .before .before .before .before .before .before .atom .ensures .1) (c .before .before .before .before .word .given .1) in
-    (sym (option-bare _ _ _ (token-found _ (c .before .before .before .before .before .before .atom .ensures .0) (c .before .before .before .before .word .given .1)) (behind-nothing _ (c .before .before .opening .ensures .0) (c .enum-told2 .given .1))), (w .0, w .1 .past, w .1 .inside))
+    (sym (option-bare _ _ _ (token-found _ (c .before .before .before .before .before .before .atom .ensures .0) (c .before .before .before .before .word .given .1)) (behind-nothing _ (c .before .before .opening .ensures .0) (c .enum-told2 .given .1))), (w .bare, w .ahead .past, w .ahead .inside))
 
 -- src/option_list.rt:120:34
 value-requires : tie.Need-value-requires
@@ -72,7 +72,7 @@ returns-4 c =
     let w = bare-ahead _ _ (c .before .before .before .before .before .before .before .before .before .before .before .atom .ensures .1) (c .before .before .before .before .before .before .before .before .before .word .given .1) in
     let o = behind-ahead _ _ (c .before .before .before .before .before .before .before .opening .ensures .1) (c .before .before .before .before .before .inside .given .1) in
     let v = behind-ahead _ _ (c .before .before .before .value .ensures .1) (c .before .behind .given .1) in
-    (sym (option-valued _ _ _ (token-found _ (c .before .before .before .before .before .before .before .before .before .before .before .atom .ensures .0) (c .before .before .before .before .before .before .before .before .before .word .given .1)) _ (behind-at _ (c .before .before .before .before .before .before .before .opening .ensures .0) (c .before .before .before .before .before .inside .given .1)) _ (behind-at _ (c .before .before .before .value .ensures .0) (c .before .behind .given .1))), (w .0, omega (arith, w .1 .past), v .1))
+    (sym (option-valued _ _ _ (token-found _ (c .before .before .before .before .before .before .before .before .before .before .before .atom .ensures .0) (c .before .before .before .before .before .before .before .before .before .word .given .1)) _ (behind-at _ (c .before .before .before .before .before .before .before .opening .ensures .0) (c .before .before .before .before .before .inside .given .1)) _ (behind-at _ (c .before .before .before .value .ensures .0) (c .before .behind .given .1))), (w .bare, omega (arith, w .ahead .past), v .1))
 
 pub option-spec : {M : Type 1} → statement M
 option-spec =

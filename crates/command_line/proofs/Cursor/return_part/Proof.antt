@@ -82,7 +82,7 @@ word-is : (c : tie.After-spells-word) → spells (spanBytes (c .before .before .
 unfolding text
 word-is c =
     let w = bare-ahead _ _ (c .before .before .before .before .before .before .atom .ensures .1) (c .before .before .before .before .word .given .1) in
-    sym (c .spells-word .ensures ∙ ap (λ (x : List ℕ). spells x (82 ∷ 69 ∷ 84 ∷ 85 ∷ 82 ∷ 78 ∷ [])) (c .before .before .raw .ensures ∙ sym (bare-bytes _ _ (w .0))))
+    sym (c .spells-word .ensures ∙ ap (λ (x : List ℕ). spells x (82 ∷ 69 ∷ 84 ∷ 85 ∷ 82 ∷ 78 ∷ [])) (c .before .before .raw .ensures ∙ sym (bare-bytes _ _ (w .bare))))
 
 -- src/option_list.rt:180:13
 returns-4 : tie.Need-returns-4

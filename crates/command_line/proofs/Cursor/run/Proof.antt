@@ -61,7 +61,7 @@ returns c = (sym (run-missing _ _ _ (ended (c .before) ∙ c .if2 .taken)), tt)
 -- src/tokens.rt:76:5
 returns-2 : tie.Need-returns-2 Inv-loop μ-loop
 unfolding tokenIs spanBytes BareIn
-returns-2 c = (sym (run-found _ _ _ _ (ended (c .before)) (omega arith)), (refl, record { order = omega arith; within = omega arith; past = omega arith; inside = omega arith }))
+returns-2 c = (sym (run-found _ _ _ _ (ended (c .before)) (omega arith)), record { bare = refl; front = refl; ahead = record { order = omega arith; within = omega arith; past = omega arith; inside = omega arith } })
 
 pub run-spec : {M : Type 1} → statement M
 run-spec =

@@ -9,7 +9,6 @@ use Rattle.command_line.proofs.literals.number.Statement.{statement}
 use Rattle.command_line.proofs.literals.number.Tie as tie
 use Rattle.command_line.proofs.literals.number.Reads as reads
 use Rattle.command_line.proofs.literals.number.Lts as lts
-use Rattle.command_line.proofs.literals.with_digit.Reads as with-digit-reads
 
 abbrev Inv-loop : tie.InvT-loop
 Inv-loop digits n₀ i₀ n i = (n ≤ 1025) × (min (decimal n (drop i digits)) 1025 ≡ min (decimal 0 digits) 1025)

@@ -4,8 +4,8 @@ use Prim.Native.Nat.{ℕ}
 use lib.Dec.{eqb}
 use borrow.Author.Tests.{not-true, not-false}
 use Rattle.command_line.specs.PatternLists.{held}
-use Rattle.command_line.specs.Commands.{meaning, meaningAs, patternsOf, argumentsIs, decided, Inside, Given}
-use Rattle.command_line.proofs.Judging.{kept-few, kept-many, decided-6, decided-7, decided-many, decided-long, decided-root, decided-list, meaning-refused, meaning-root, places-at, inside-bare, inside-refused}
+use Rattle.command_line.specs.Commands.{meaning, meaningAs, patternsOf, argumentsIs, decided, Given}
+use Rattle.command_line.proofs.Judging.{kept-few, kept-many, decided-6, decided-7, decided-many, decided-long, decided-root, decided-list, meaning-refused, meaning-root, inside-root, inside-refused, inside-list, listOf}
 use native.Mathlib.Omega.{arith}
 use borrow.Author.Needs.{needs}
 use Rattle.command_line.proofs.reading.judge.Statement.{statement}
@@ -68,12 +68,12 @@ bare-requires c κs = search needs
 -- src/reading.rt:175:9
 returns-5 : tie.Need-returns-5
 unfolding argumentsIs
-returns-5 c = (ap (meaning (c .before .before .before .before .before .before .before .before .before .before .before .before .before .before .before .before .args .text .now)) (c .bare .ensures) ∙ meaning-root _ _ ∙ sym (decided-root _ (argumentsIs (c .before .before .before .before .before .before .before .before .before .before .before .before .before .before .before .before .args .text .now) (c .before .before .before .before .before .before .before .before .before .before .before .before .before .before .before .before .args .a)) (not-false _ (c .before .before .before .before .before .before .before .before .before .before .before .before .before .if1 .left)) (sym (c .before .before .before .before .before .before .before .before .before .before .before .lawful .ensures) ∙ not-false _ (c .before .before .before .before .before .before .before .before .before .before .if2 .left)) (held (c .before .before .before .before .before .before .before .before .before .before .before .before .before .before .before .before .args .text .now) (c .before .before .before .before .before .before .before .before .before .before .before .before .before .before .before .before .args .a .patterns)) (kept-few _ _ (c .before .before .before .before .before .before .before .before .if3 .left)) (sym (c .before .before .before .before .before .before .measure .ensures .1) ∙ not-false _ (c .before .before .before .before .if4 .left)) (ap (λ (n : ℕ). not (c .before .before .before .before .before .before .before .before .before .before .before .before .before .before .before .before .args .a .extended) && eqb n 0) (sym (c .before .before .before .before .before .before .measure .ensures .0)) ∙ c .before .if5 .taken)), λ g. rw (c .bare .ensures) (inside-bare _ _ _ (g .tagged) (g .bare)))
+returns-5 c = (ap (meaning (c .before .before .before .before .before .before .before .before .before .before .before .before .before .before .before .before .args .text .now)) (c .bare .ensures) ∙ meaning-root _ _ ∙ sym (decided-root _ (argumentsIs (c .before .before .before .before .before .before .before .before .before .before .before .before .before .before .before .before .args .text .now) (c .before .before .before .before .before .before .before .before .before .before .before .before .before .before .before .before .args .a)) (not-false _ (c .before .before .before .before .before .before .before .before .before .before .before .before .before .if1 .left)) (sym (c .before .before .before .before .before .before .before .before .before .before .before .lawful .ensures) ∙ not-false _ (c .before .before .before .before .before .before .before .before .before .before .if2 .left)) (held (c .before .before .before .before .before .before .before .before .before .before .before .before .before .before .before .before .args .text .now) (c .before .before .before .before .before .before .before .before .before .before .before .before .before .before .before .before .args .a .patterns)) (kept-few _ _ (c .before .before .before .before .before .before .before .before .if3 .left)) (sym (c .before .before .before .before .before .before .measure .ensures .1) ∙ not-false _ (c .before .before .before .before .if4 .left)) (ap (λ (n : ℕ). not (c .before .before .before .before .before .before .before .before .before .before .before .before .before .before .before .before .args .a .extended) && eqb n 0) (sym (c .before .before .before .before .before .before .measure .ensures .0)) ∙ c .before .if5 .taken)), λ g. rw (c .bare .ensures) (inside-root _ _ (g .tagged)))
 
 -- src/reading.rt:153:1
 returns-6 : tie.Need-returns-6
-unfolding argumentsIs meaning meaningAs patternsOf held
-returns-6 c = (sym (decided-list _ (argumentsIs (c .before .before .before .before .before .before .before .before .before .before .before .before .before .before .before .before .args .text .now) (c .before .before .before .before .before .before .before .before .before .before .before .before .before .before .before .before .args .a)) (not-false _ (c .before .before .before .before .before .before .before .before .before .before .before .before .before .if1 .left)) (sym (c .before .before .before .before .before .before .before .before .before .before .before .lawful .ensures) ∙ not-false _ (c .before .before .before .before .before .before .before .before .before .before .if2 .left)) (held (c .before .before .before .before .before .before .before .before .before .before .before .before .before .before .before .before .args .text .now) (c .before .before .before .before .before .before .before .before .before .before .before .before .before .before .before .before .args .a .patterns)) (kept-few _ _ (c .before .before .before .before .before .before .before .before .if3 .left)) (sym (c .before .before .before .before .before .before .measure .ensures .1) ∙ not-false _ (c .before .before .before .before .if4 .left)) (ap (λ (n : ℕ). not (c .before .before .before .before .before .before .before .before .before .before .before .before .before .before .before .before .args .a .extended) && eqb n 0) (sym (c .before .before .before .before .before .before .measure .ensures .0)) ∙ c .before .if5 .left)), λ g. record { tag = g .tagged; bare = g .bare; reference = g .reference; patterns = places-at _ (c .before .before .before .before .before .before .before .before .before .before .before .before .before .before .before .before .args .a .patterns .spans) (g .patterns .places); few = c .before .before .before .before .before .before .before .before .if3 .left })
+unfolding argumentsIs meaning meaningAs patternsOf held listOf
+returns-6 c = (sym (decided-list _ (argumentsIs (c .before .before .before .before .before .before .before .before .before .before .before .before .before .before .before .before .args .text .now) (c .before .before .before .before .before .before .before .before .before .before .before .before .before .before .before .before .args .a)) (not-false _ (c .before .before .before .before .before .before .before .before .before .before .before .before .before .if1 .left)) (sym (c .before .before .before .before .before .before .before .before .before .before .before .lawful .ensures) ∙ not-false _ (c .before .before .before .before .before .before .before .before .before .before .if2 .left)) (held (c .before .before .before .before .before .before .before .before .before .before .before .before .before .before .before .before .args .text .now) (c .before .before .before .before .before .before .before .before .before .before .before .before .before .before .before .before .args .a .patterns)) (kept-few _ _ (c .before .before .before .before .before .before .before .before .if3 .left)) (sym (c .before .before .before .before .before .before .measure .ensures .1) ∙ not-false _ (c .before .before .before .before .if4 .left)) (ap (λ (n : ℕ). not (c .before .before .before .before .before .before .before .before .before .before .before .before .before .before .before .before .args .a .extended) && eqb n 0) (sym (c .before .before .before .before .before .before .measure .ensures .0)) ∙ c .before .if5 .left)), λ g. inside-list _ _ _ g (c .before .before .before .before .before .before .before .before .if3 .left))
 
 pub judge-spec : {M : Type 1} → statement M
 judge-spec =

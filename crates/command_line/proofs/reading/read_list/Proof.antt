@@ -1,12 +1,13 @@
 use mathlib.Core.Path.{_≡_, refl, sym, ap, subst, _∙_}
 use mathlib.Core.Bool.{Bool, _&&_}
-use Prim.Native.Nat.{ℕ}
+use Prim.Native.Nat.{ℕ, _<_, _^_}
 use lib.ListN.{drop}
 use Rattle.command_line.specs.Spans.{spanBytes}
 use Rattle.command_line.specs.OptionSets.{optionsIs}
 use Rattle.command_line.specs.PatternLists.{kept}
 use Rattle.command_line.specs.Commands.{meaning, Kept, argumentsIs, decided}
 use Rattle.command_line.proofs.Binds.{token-found, token-missing, token-ahead, behind-at, behind-nothing}
+use Rattle.command_line.proofs.Members.{both-seven}
 use Rattle.command_line.proofs.Listing.{listed-read, listed-broken}
 use Rattle.command_line.proofs.Places.{patterns-behind, patterns-nothing, lies-ahead}
 use Rattle.command_line.proofs.Judging.{meaning-refused, inside-refused}
@@ -47,7 +48,7 @@ refused-requires c κs = search needs
 returns : tie.Need-returns
 returns c = (
   ap (meaning (c .before .before .before .before .before .args .text .now)) (c .refused .ensures) ∙ meaning-refused _ _ ∙ sym (list-off (spanBytes (c .before .before .before .before .before .args .text .now) (c .before .before .before .before .before .args .tag)) (c .before .before .before .before .before .args .text .now) (drop (c .before .before .before .before .before .args .first .at) (c .before .before .before .before .before .args .text .now)) (listed-broken _ (c .before .before .before .selection .ensures) (c .before .enum-told .given .1))),
-  λ l b. rw (c .refused .ensures) (inside-refused _ _),
+  λ h. rw (c .refused .ensures) (inside-refused _ _),
 )
 
 -- src/reading.rt:206:29
@@ -70,7 +71,7 @@ refused-requires-2 c κs = search needs
 returns-2 : tie.Need-returns-2
 returns-2 c = (
   ap (meaning (c .before .before .before .before .before .before .before .before .before .args .text .now)) (c .refused2 .ensures) ∙ meaning-refused _ _ ∙ sym (list-off-2 (spanBytes (c .before .before .before .before .before .before .before .before .before .args .text .now) (c .before .before .before .before .before .before .before .before .before .args .tag)) (c .before .before .before .before .before .before .before .before .before .args .text .now) (drop (c .before .before .before .before .before .before .before .before .before .args .first .at) (c .before .before .before .before .before .before .before .before .before .args .text .now)) (record { set = c .before .before .before .before .before .selected .given .0 .0 .bits; known = c .before .before .before .before .before .selected .given .0 .1 .0 }) (c .before .before .before .before .before .selected .given .0 .1 .1 .0 .at) (listed-read _ (c .before .before .before .before .before .before .before .selection .ensures) (c .before .before .before .before .before .selected .given .1)) (behind-nothing _ (c .before .before .before .space .ensures .0) (c .before .enum-told2 .given .1))),
-  λ l b. rw (c .refused2 .ensures) (inside-refused _ _),
+  λ h. rw (c .refused2 .ensures) (inside-refused _ _),
 )
 
 -- src/reading.rt:209:43
@@ -93,7 +94,7 @@ refused-requires-3 c κs = search needs
 returns-3 : tie.Need-returns-3
 returns-3 c = (
   ap (meaning (c .before .before .before .before .before .before .before .before .before .before .before .before .before .args .text .now)) (c .refused3 .ensures) ∙ meaning-refused _ _ ∙ sym (list-off-3 (spanBytes (c .before .before .before .before .before .before .before .before .before .before .before .before .before .args .text .now) (c .before .before .before .before .before .before .before .before .before .before .before .before .before .args .tag)) (c .before .before .before .before .before .before .before .before .before .before .before .before .before .args .text .now) (drop (c .before .before .before .before .before .before .before .before .before .before .before .before .before .args .first .at) (c .before .before .before .before .before .before .before .before .before .before .before .before .before .args .text .now)) (record { set = c .before .before .before .before .before .before .before .before .before .selected .given .0 .0 .bits; known = c .before .before .before .before .before .before .before .before .before .selected .given .0 .1 .0 }) (c .before .before .before .before .before .before .before .before .before .selected .given .0 .1 .1 .0 .at) (listed-read _ (c .before .before .before .before .before .before .before .before .before .before .before .selection .ensures) (c .before .before .before .before .before .before .before .before .before .selected .given .1)) (c .before .before .before .before .before .third .given .0 .0 .at) (behind-at _ (c .before .before .before .before .before .before .before .space .ensures .0) (c .before .before .before .before .before .third .given .1)) (token-missing _ (c .before .before .before .astring .ensures .0) (c .before .enum-told3 .given .1))),
-  λ l b. rw (c .refused3 .ensures) (inside-refused _ _),
+  λ h. rw (c .refused3 .ensures) (inside-refused _ _),
 )
 
 -- src/reading.rt:212:29
@@ -116,7 +117,7 @@ refused-requires-4 c κs = search needs
 returns-4 : tie.Need-returns-4
 returns-4 c = (
   ap (meaning (c .before .before .before .before .before .before .before .before .before .before .before .before .before .before .before .before .before .args .text .now)) (c .refused4 .ensures) ∙ meaning-refused _ _ ∙ sym (list-off-4 (spanBytes (c .before .before .before .before .before .before .before .before .before .before .before .before .before .before .before .before .before .args .text .now) (c .before .before .before .before .before .before .before .before .before .before .before .before .before .before .before .before .before .args .tag)) (c .before .before .before .before .before .before .before .before .before .before .before .before .before .before .before .before .before .args .text .now) (drop (c .before .before .before .before .before .before .before .before .before .before .before .before .before .before .before .before .before .args .first .at) (c .before .before .before .before .before .before .before .before .before .before .before .before .before .before .before .before .before .args .text .now)) (record { set = c .before .before .before .before .before .before .before .before .before .before .before .before .before .selected .given .0 .0 .bits; known = c .before .before .before .before .before .before .before .before .before .before .before .before .before .selected .given .0 .1 .0 }) (c .before .before .before .before .before .before .before .before .before .before .before .before .before .selected .given .0 .1 .1 .0 .at) (listed-read _ (c .before .before .before .before .before .before .before .before .before .before .before .before .before .before .before .selection .ensures) (c .before .before .before .before .before .before .before .before .before .before .before .before .before .selected .given .1)) (c .before .before .before .before .before .before .before .before .before .third .given .0 .0 .at) (behind-at _ (c .before .before .before .before .before .before .before .before .before .before .before .space .ensures .0) (c .before .before .before .before .before .before .before .before .before .third .given .1)) (spanBytes (c .before .before .before .before .before .before .before .before .before .before .before .before .before .before .before .before .before .args .text .now) (c .before .before .before .before .before .reference .given .0 .0)) (c .before .before .before .before .before .reference .given .0 .1 .0 .at) (token-found _ (c .before .before .before .before .before .before .before .astring .ensures .0) (c .before .before .before .before .before .reference .given .1)) (behind-nothing _ (c .before .before .before .space2 .ensures .0) (c .before .enum-told4 .given .1))),
-  λ l b. rw (c .refused4 .ensures) (inside-refused _ _),
+  λ h. rw (c .refused4 .ensures) (inside-refused _ _),
 )
 
 -- src/reading.rt:215:9
@@ -139,7 +140,7 @@ refused-requires-5 c κs = search needs
 returns-5 : tie.Need-returns-5
 returns-5 c = (
   ap (meaning (c .before .before .before .before .before .before .before .before .before .before .before .before .before .before .before .before .before .before .before .before .before .args .text .now)) (c .refused5 .ensures) ∙ meaning-refused _ _ ∙ sym (list-off-5 (spanBytes (c .before .before .before .before .before .before .before .before .before .before .before .before .before .before .before .before .before .before .before .before .before .args .text .now) (c .before .before .before .before .before .before .before .before .before .before .before .before .before .before .before .before .before .before .before .before .before .args .tag)) (c .before .before .before .before .before .before .before .before .before .before .before .before .before .before .before .before .before .before .before .before .before .args .text .now) (drop (c .before .before .before .before .before .before .before .before .before .before .before .before .before .before .before .before .before .before .before .before .before .args .first .at) (c .before .before .before .before .before .before .before .before .before .before .before .before .before .before .before .before .before .before .before .before .before .args .text .now)) (record { set = c .before .before .before .before .before .before .before .before .before .before .before .before .before .before .before .before .before .selected .given .0 .0 .bits; known = c .before .before .before .before .before .before .before .before .before .before .before .before .before .before .before .before .before .selected .given .0 .1 .0 }) (c .before .before .before .before .before .before .before .before .before .before .before .before .before .before .before .before .before .selected .given .0 .1 .1 .0 .at) (listed-read _ (c .before .before .before .before .before .before .before .before .before .before .before .before .before .before .before .before .before .before .before .selection .ensures) (c .before .before .before .before .before .before .before .before .before .before .before .before .before .before .before .before .before .selected .given .1)) (c .before .before .before .before .before .before .before .before .before .before .before .before .before .third .given .0 .0 .at) (behind-at _ (c .before .before .before .before .before .before .before .before .before .before .before .before .before .before .before .space .ensures .0) (c .before .before .before .before .before .before .before .before .before .before .before .before .before .third .given .1)) (spanBytes (c .before .before .before .before .before .before .before .before .before .before .before .before .before .before .before .before .before .before .before .before .before .args .text .now) (c .before .before .before .before .before .before .before .before .before .reference .given .0 .0)) (c .before .before .before .before .before .before .before .before .before .reference .given .0 .1 .0 .at) (token-found _ (c .before .before .before .before .before .before .before .before .before .before .before .astring .ensures .0) (c .before .before .before .before .before .before .before .before .before .reference .given .1)) (c .before .before .before .before .before .fifth .given .0 .0 .at) (behind-at _ (c .before .before .before .before .before .before .before .space2 .ensures .0) (c .before .before .before .before .before .fifth .given .1)) (patterns-nothing _ _ (c .before .before .before .patterns .ensures .0) (c .before .enum-told5 .given .1))),
-  λ l b. rw (c .refused5 .ensures) (inside-refused _ _),
+  λ h. rw (c .refused5 .ensures) (inside-refused _ _),
 )
 
 -- src/reading.rt:220:48
@@ -162,7 +163,7 @@ refused-requires-6 c κs = search needs
 returns-6 : tie.Need-returns-6
 returns-6 c = (
   ap (meaning (c .before .before .before .before .before .before .before .before .before .before .before .before .before .before .before .before .before .before .before .before .before .before .before .before .before .args .text .now)) (c .refused6 .ensures) ∙ meaning-refused _ _ ∙ sym (list-off-6 (spanBytes (c .before .before .before .before .before .before .before .before .before .before .before .before .before .before .before .before .before .before .before .before .before .before .before .before .before .args .text .now) (c .before .before .before .before .before .before .before .before .before .before .before .before .before .before .before .before .before .before .before .before .before .before .before .before .before .args .tag)) (c .before .before .before .before .before .before .before .before .before .before .before .before .before .before .before .before .before .before .before .before .before .before .before .before .before .args .text .now) (drop (c .before .before .before .before .before .before .before .before .before .before .before .before .before .before .before .before .before .before .before .before .before .before .before .before .before .args .first .at) (c .before .before .before .before .before .before .before .before .before .before .before .before .before .before .before .before .before .before .before .before .before .before .before .before .before .args .text .now)) (record { set = c .before .before .before .before .before .before .before .before .before .before .before .before .before .before .before .before .before .before .before .before .before .selected .given .0 .0 .bits; known = c .before .before .before .before .before .before .before .before .before .before .before .before .before .before .before .before .before .before .before .before .before .selected .given .0 .1 .0 }) (c .before .before .before .before .before .before .before .before .before .before .before .before .before .before .before .before .before .before .before .before .before .selected .given .0 .1 .1 .0 .at) (listed-read _ (c .before .before .before .before .before .before .before .before .before .before .before .before .before .before .before .before .before .before .before .before .before .before .before .selection .ensures) (c .before .before .before .before .before .before .before .before .before .before .before .before .before .before .before .before .before .before .before .before .before .selected .given .1)) (c .before .before .before .before .before .before .before .before .before .before .before .before .before .before .before .before .before .third .given .0 .0 .at) (behind-at _ (c .before .before .before .before .before .before .before .before .before .before .before .before .before .before .before .before .before .before .before .space .ensures .0) (c .before .before .before .before .before .before .before .before .before .before .before .before .before .before .before .before .before .third .given .1)) (spanBytes (c .before .before .before .before .before .before .before .before .before .before .before .before .before .before .before .before .before .before .before .before .before .before .before .before .before .args .text .now) (c .before .before .before .before .before .before .before .before .before .before .before .before .before .reference .given .0 .0)) (c .before .before .before .before .before .before .before .before .before .before .before .before .before .reference .given .0 .1 .0 .at) (token-found _ (c .before .before .before .before .before .before .before .before .before .before .before .before .before .before .before .astring .ensures .0) (c .before .before .before .before .before .before .before .before .before .before .before .before .before .reference .given .1)) (c .before .before .before .before .before .before .before .before .before .fifth .given .0 .0 .at) (behind-at _ (c .before .before .before .before .before .before .before .before .before .before .before .space2 .ensures .0) (c .before .before .before .before .before .before .before .before .before .fifth .given .1)) (kept (c .before .before .before .before .before .before .before .before .before .before .before .before .before .before .before .before .before .before .before .before .before .before .before .before .before .args .text .now) (c .before .before .before .before .before .before .before .patterns .result .patterns)) (c .before .before .before .before .before .behind .given .0 .0 .at) (patterns-behind _ _ (c .before .before .before .before .before .before .before .patterns .ensures .0) (c .before .before .before .before .before .behind .given .1)) (listed-broken _ (c .before .before .before .return-part .ensures) (c .before .enum-told6 .given .1))),
-  λ l b. rw (c .refused6 .ensures) (inside-refused _ _),
+  λ h. rw (c .refused6 .ensures) (inside-refused _ _),
 )
 
 -- src/reading.rt:226:18
@@ -184,7 +185,7 @@ returns-7 c = (
   c .judge .ensures .0
       ∙ ap (decided (spanBytes (c .before .before .before .before .before .before .before .before .before .before .before .before .before .before .before .before .before .before .before .before .before .before .before .before .before .before .before .before .before .args .text .now) (c .before .before .before .before .before .before .before .before .before .before .before .before .before .before .before .before .before .before .before .before .before .before .before .before .before .before .before .before .before .args .tag))) (λ i. record { known = c .before .before .before .before .before .before .before .before .before .before .before .before .before .before .before .before .before .before .before .before .before .before .before .before .before .selected .given .0 .1 .0 && c .before .before .before .before .before .returned .given .0 .1 .0; set = ap (λ (b : ℕ). optionsIs (record { bits = b })) (c .before .before .union .ensures) i; extended = c .before .is-extended .ensures i; reference = spanBytes (c .before .before .before .before .before .before .before .before .before .before .before .before .before .before .before .before .before .before .before .before .before .before .before .before .before .before .before .before .before .args .text .now) (c .before .before .before .before .before .before .before .before .before .before .before .before .before .before .before .before .before .reference .given .0 .0); pats = kept (c .before .before .before .before .before .before .before .before .before .before .before .before .before .before .before .before .before .before .before .before .before .before .before .before .before .before .before .before .before .args .text .now) (c .before .before .before .before .before .before .before .before .before .before .before .patterns .result .patterns) })
       ∙ sym (list-decided (spanBytes (c .before .before .before .before .before .before .before .before .before .before .before .before .before .before .before .before .before .before .before .before .before .before .before .before .before .before .before .before .before .args .text .now) (c .before .before .before .before .before .before .before .before .before .before .before .before .before .before .before .before .before .before .before .before .before .before .before .before .before .before .before .before .before .args .tag)) (c .before .before .before .before .before .before .before .before .before .before .before .before .before .before .before .before .before .before .before .before .before .before .before .before .before .before .before .before .before .args .text .now) (drop (c .before .before .before .before .before .before .before .before .before .before .before .before .before .before .before .before .before .before .before .before .before .before .before .before .before .before .before .before .before .args .first .at) (c .before .before .before .before .before .before .before .before .before .before .before .before .before .before .before .before .before .before .before .before .before .before .before .before .before .before .before .before .before .args .text .now)) (record { set = c .before .before .before .before .before .before .before .before .before .before .before .before .before .before .before .before .before .before .before .before .before .before .before .before .before .selected .given .0 .0 .bits; known = c .before .before .before .before .before .before .before .before .before .before .before .before .before .before .before .before .before .before .before .before .before .before .before .before .before .selected .given .0 .1 .0 }) (c .before .before .before .before .before .before .before .before .before .before .before .before .before .before .before .before .before .before .before .before .before .before .before .before .before .selected .given .0 .1 .1 .0 .at) (listed-read _ (c .before .before .before .before .before .before .before .before .before .before .before .before .before .before .before .before .before .before .before .before .before .before .before .before .before .before .before .selection .ensures) (c .before .before .before .before .before .before .before .before .before .before .before .before .before .before .before .before .before .before .before .before .before .before .before .before .before .selected .given .1)) (c .before .before .before .before .before .before .before .before .before .before .before .before .before .before .before .before .before .before .before .before .before .third .given .0 .0 .at) (behind-at _ (c .before .before .before .before .before .before .before .before .before .before .before .before .before .before .before .before .before .before .before .before .before .before .before .space .ensures .0) (c .before .before .before .before .before .before .before .before .before .before .before .before .before .before .before .before .before .before .before .before .before .third .given .1)) (spanBytes (c .before .before .before .before .before .before .before .before .before .before .before .before .before .before .before .before .before .before .before .before .before .before .before .before .before .before .before .before .before .args .text .now) (c .before .before .before .before .before .before .before .before .before .before .before .before .before .before .before .before .before .reference .given .0 .0)) (c .before .before .before .before .before .before .before .before .before .before .before .before .before .before .before .before .before .reference .given .0 .1 .0 .at) (token-found _ (c .before .before .before .before .before .before .before .before .before .before .before .before .before .before .before .before .before .before .before .astring .ensures .0) (c .before .before .before .before .before .before .before .before .before .before .before .before .before .before .before .before .before .reference .given .1)) (c .before .before .before .before .before .before .before .before .before .before .before .before .before .fifth .given .0 .0 .at) (behind-at _ (c .before .before .before .before .before .before .before .before .before .before .before .before .before .before .before .space2 .ensures .0) (c .before .before .before .before .before .before .before .before .before .before .before .before .before .fifth .given .1)) (kept (c .before .before .before .before .before .before .before .before .before .before .before .before .before .before .before .before .before .before .before .before .before .before .before .before .before .before .before .before .before .args .text .now) (c .before .before .before .before .before .before .before .before .before .before .before .patterns .result .patterns)) (c .before .before .before .before .before .before .before .before .before .behind .given .0 .0 .at) (patterns-behind _ _ (c .before .before .before .before .before .before .before .before .before .before .before .patterns .ensures .0) (c .before .before .before .before .before .before .before .before .before .behind .given .1)) (record { set = c .before .before .before .before .before .returned .given .0 .0 .bits; known = c .before .before .before .before .before .returned .given .0 .1 .0 }) (drop (c .before .before .before .before .before .returned .given .0 .1 .1 .0 .at) (c .before .before .before .before .before .before .before .before .before .before .before .before .before .before .before .before .before .before .before .before .before .before .before .before .before .before .before .before .before .args .text .now)) (listed-read _ (c .before .before .before .before .before .before .before .return-part .ensures) (c .before .before .before .before .before .returned .given .1))),
-  λ l b. c .judge .ensures .1 (record { tagged = l; bare = b; reference = lies-ahead _ _ _ _ (token-ahead _ _ (c .before .before .before .before .before .before .before .before .before .before .before .before .before .before .before .before .before .before .before .astring .ensures .1) (c .before .before .before .before .before .before .before .before .before .before .before .before .before .before .before .before .before .reference .given .1)); patterns = c .before .before .before .before .before .before .before .before .before .before .before .patterns .ensures .1 }),
+  λ h. c .judge .ensures .1 (record { tagged = h; seven = subst (λ (x : ℕ). x < 2 ^ 7) (sym (c .before .before .union .ensures)) (both-seven _ _ _ _ _ _ (listed-read _ (c .before .before .before .before .before .before .before .before .before .before .before .before .before .before .before .before .before .before .before .before .before .before .before .before .before .before .before .selection .ensures) (c .before .before .before .before .before .before .before .before .before .before .before .before .before .before .before .before .before .before .before .before .before .before .before .before .before .selected .given .1)) (listed-read _ (c .before .before .before .before .before .before .before .return-part .ensures) (c .before .before .before .before .before .returned .given .1))); reference = lies-ahead _ _ _ _ (token-ahead _ _ (c .before .before .before .before .before .before .before .before .before .before .before .before .before .before .before .before .before .before .before .astring .ensures .1) (c .before .before .before .before .before .before .before .before .before .before .before .before .before .before .before .before .before .reference .given .1)); patterns = c .before .before .before .before .before .before .before .before .before .before .before .patterns .ensures .1 }),
 )
 
 pub read-list-spec : {M : Type 1} → statement M

@@ -6,8 +6,8 @@ use Rattle.listing_rules.specs.Bytes.{text, spells}
 use Rattle.command_line.specs.Spans.{spanBytes}
 use Rattle.command_line.specs.Commands.{meaning}
 use Rattle.command_line.proofs.Binds.{token-found, token-missing, bare-ahead, bare-bytes, behind-at, behind-nothing}
-use Rattle.command_line.proofs.Places.{lies-ahead}
-use Rattle.command_line.proofs.Judging.{meaning-refused, meaning-namespace, inside-bare, inside-refused}
+use Rattle.command_line.proofs.Places.{tag-in}
+use Rattle.command_line.proofs.Judging.{meaning-refused, meaning-namespace, inside-namespace, inside-refused}
 use Rattle.command_line.proofs.Words.{tag-off, tag-off-2, word-off, word-list, word-other, word-more, word-namespace}
 use native.Mathlib.Omega.{arith}
 use borrow.Author.Needs.{needs}
@@ -102,7 +102,7 @@ read-list-requires c κs = search needs
 
 -- the word's bytes, as the paper reads them
 word-bytes : (c : tie.After-raw) → spanBytes (c .before .before .before .before .before .before .before .before .before .before .before .before .before .before .args .text .now) (c .before .before .word .given .0 .0) ≡ c .raw .result .now
-word-bytes c = bare-bytes _ _ (bare-ahead _ _ (c .before .before .before .before .atom .ensures .1) (c .before .before .word .given .1) .0) ∙ sym (c .raw .ensures)
+word-bytes c = bare-bytes _ _ (bare-ahead _ _ (c .before .before .before .before .atom .ensures .1) (c .before .before .word .given .1) .bare) ∙ sym (c .raw .ensures)
 
 spelled-list : (c : tie.After-spells-word) → spells (spanBytes (c .before .before .before .before .before .before .before .before .before .before .before .before .before .before .before .before .args .text .now) (c .before .before .before .before .word .given .0 .0)) (text "LIST") ≡ c .spells-word .result
 unfolding text
@@ -116,7 +116,7 @@ spelled-namespace c = ap (λ (x : List ℕ). spells x (text "NAMESPACE")) (word-
 returns-4 : tie.Need-returns-4
 returns-4 c =
     let h = bare-ahead _ _ (c .before .before .before .before .before .before .before .before .before .before .before .before .before .before .before .before .tag .ensures .1) (c .before .before .before .before .before .before .before .before .before .before .before .before .before .before .tag2 .given .1) in
-    (c .read-list .ensures .0 ∙ sym (word-list (c .before .before .before .before .before .before .before .before .before .before .before .before .before .before .before .before .before .before .args .text .now) (spanBytes (c .before .before .before .before .before .before .before .before .before .before .before .before .before .before .before .before .before .before .args .text .now) (c .before .before .before .before .before .before .before .before .before .before .before .before .before .before .tag2 .given .0 .0)) (c .before .before .before .before .before .before .before .before .before .before .before .before .before .before .tag2 .given .0 .1 .0 .at) (token-found _ (c .before .before .before .before .before .before .before .before .before .before .before .before .before .before .before .before .tag .ensures .0) (c .before .before .before .before .before .before .before .before .before .before .before .before .before .before .tag2 .given .1)) (c .before .before .before .before .before .before .before .before .before .before .third .given .0 .0 .at) (behind-at _ (c .before .before .before .before .before .before .before .before .before .before .before .before .space .ensures .0) (c .before .before .before .before .before .before .before .before .before .before .third .given .1)) (spanBytes (c .before .before .before .before .before .before .before .before .before .before .before .before .before .before .before .before .before .before .args .text .now) (c .before .before .before .before .before .before .word .given .0 .0)) (c .before .before .before .before .before .before .word .given .0 .1 .0 .at) (token-found _ (c .before .before .before .before .before .before .before .before .atom .ensures .0) (c .before .before .before .before .before .before .word .given .1)) ((spelled-list (c .before .before)) ∙ c .before .if1 .taken)), c .read-list .ensures .1 (lies-ahead _ _ _ _ (h .1)) (h .0))
+    (c .read-list .ensures .0 ∙ sym (word-list (c .before .before .before .before .before .before .before .before .before .before .before .before .before .before .before .before .before .before .args .text .now) (spanBytes (c .before .before .before .before .before .before .before .before .before .before .before .before .before .before .before .before .before .before .args .text .now) (c .before .before .before .before .before .before .before .before .before .before .before .before .before .before .tag2 .given .0 .0)) (c .before .before .before .before .before .before .before .before .before .before .before .before .before .before .tag2 .given .0 .1 .0 .at) (token-found _ (c .before .before .before .before .before .before .before .before .before .before .before .before .before .before .before .before .tag .ensures .0) (c .before .before .before .before .before .before .before .before .before .before .before .before .before .before .tag2 .given .1)) (c .before .before .before .before .before .before .before .before .before .before .third .given .0 .0 .at) (behind-at _ (c .before .before .before .before .before .before .before .before .before .before .before .before .space .ensures .0) (c .before .before .before .before .before .before .before .before .before .before .third .given .1)) (spanBytes (c .before .before .before .before .before .before .before .before .before .before .before .before .before .before .before .before .before .before .args .text .now) (c .before .before .before .before .before .before .word .given .0 .0)) (c .before .before .before .before .before .before .word .given .0 .1 .0 .at) (token-found _ (c .before .before .before .before .before .before .before .before .atom .ensures .0) (c .before .before .before .before .before .before .word .given .1)) ((spelled-list (c .before .before)) ∙ c .before .if1 .taken)), c .read-list .ensures .1 (tag-in _ _ _ h))
 
 -- src/reading.rt:253:27
 slice-aggregate-spells-word-2 : tie.Need-slice-aggregate-spells-word-2
@@ -150,7 +150,7 @@ bare-requires c κs = search needs
 returns-7 : tie.Need-returns-7
 returns-7 c =
     let h = bare-ahead _ _ (c .before .before .before .before .before .before .before .before .before .before .before .before .before .before .before .before .before .before .before .before .before .tag .ensures .1) (c .before .before .before .before .before .before .before .before .before .before .before .before .before .before .before .before .before .before .before .tag2 .given .1) in
-    (ap (meaning (c .before .before .before .before .before .before .before .before .before .before .before .before .before .before .before .before .before .before .before .before .before .before .before .args .text .now)) (c .bare .ensures) ∙ meaning-namespace _ _ ∙ sym (word-namespace (c .before .before .before .before .before .before .before .before .before .before .before .before .before .before .before .before .before .before .before .before .before .before .before .args .text .now) (spanBytes (c .before .before .before .before .before .before .before .before .before .before .before .before .before .before .before .before .before .before .before .before .before .before .before .args .text .now) (c .before .before .before .before .before .before .before .before .before .before .before .before .before .before .before .before .before .before .before .tag2 .given .0 .0)) (c .before .before .before .before .before .before .before .before .before .before .before .before .before .before .before .before .before .before .before .tag2 .given .0 .1 .0 .at) (token-found _ (c .before .before .before .before .before .before .before .before .before .before .before .before .before .before .before .before .before .before .before .before .before .tag .ensures .0) (c .before .before .before .before .before .before .before .before .before .before .before .before .before .before .before .before .before .before .before .tag2 .given .1)) (c .before .before .before .before .before .before .before .before .before .before .before .before .before .before .before .third .given .0 .0 .at) (behind-at _ (c .before .before .before .before .before .before .before .before .before .before .before .before .before .before .before .before .before .space .ensures .0) (c .before .before .before .before .before .before .before .before .before .before .before .before .before .before .before .third .given .1)) (spanBytes (c .before .before .before .before .before .before .before .before .before .before .before .before .before .before .before .before .before .before .before .before .before .before .before .args .text .now) (c .before .before .before .before .before .before .before .before .before .before .before .word .given .0 .0)) (c .before .before .before .before .before .before .before .before .before .before .before .word .given .0 .1 .0 .at) (token-found _ (c .before .before .before .before .before .before .before .before .before .before .before .before .before .atom .ensures .0) (c .before .before .before .before .before .before .before .before .before .before .before .word .given .1)) ((spelled-list (c .before .before .before .before .before .before .before)) ∙ c .before .before .before .before .before .before .if1 .left) ((spelled-namespace (c .before .before .before .before)) ∙ not-false _ (c .before .before .before .if2 .left)) (c .before .if3 .left)), rw (c .bare .ensures) (inside-bare _ _ _ (lies-ahead _ _ _ _ (h .1)) (h .0)))
+    (ap (meaning (c .before .before .before .before .before .before .before .before .before .before .before .before .before .before .before .before .before .before .before .before .before .before .before .args .text .now)) (c .bare .ensures) ∙ meaning-namespace _ _ ∙ sym (word-namespace (c .before .before .before .before .before .before .before .before .before .before .before .before .before .before .before .before .before .before .before .before .before .before .before .args .text .now) (spanBytes (c .before .before .before .before .before .before .before .before .before .before .before .before .before .before .before .before .before .before .before .before .before .before .before .args .text .now) (c .before .before .before .before .before .before .before .before .before .before .before .before .before .before .before .before .before .before .before .tag2 .given .0 .0)) (c .before .before .before .before .before .before .before .before .before .before .before .before .before .before .before .before .before .before .before .tag2 .given .0 .1 .0 .at) (token-found _ (c .before .before .before .before .before .before .before .before .before .before .before .before .before .before .before .before .before .before .before .before .before .tag .ensures .0) (c .before .before .before .before .before .before .before .before .before .before .before .before .before .before .before .before .before .before .before .tag2 .given .1)) (c .before .before .before .before .before .before .before .before .before .before .before .before .before .before .before .third .given .0 .0 .at) (behind-at _ (c .before .before .before .before .before .before .before .before .before .before .before .before .before .before .before .before .before .space .ensures .0) (c .before .before .before .before .before .before .before .before .before .before .before .before .before .before .before .third .given .1)) (spanBytes (c .before .before .before .before .before .before .before .before .before .before .before .before .before .before .before .before .before .before .before .before .before .before .before .args .text .now) (c .before .before .before .before .before .before .before .before .before .before .before .word .given .0 .0)) (c .before .before .before .before .before .before .before .before .before .before .before .word .given .0 .1 .0 .at) (token-found _ (c .before .before .before .before .before .before .before .before .before .before .before .before .before .atom .ensures .0) (c .before .before .before .before .before .before .before .before .before .before .before .word .given .1)) ((spelled-list (c .before .before .before .before .before .before .before)) ∙ c .before .before .before .before .before .before .if1 .left) ((spelled-namespace (c .before .before .before .before)) ∙ not-false _ (c .before .before .before .if2 .left)) (c .before .if3 .left)), rw (c .bare .ensures) (inside-namespace _ _ (tag-in _ _ _ h)))
 
 pub read-text-spec : {M : Type 1} → statement M
 read-text-spec =

@@ -7,7 +7,6 @@ use Rattle.command_line.proofs.tokens.quoted_step.Statement.{statement}
 use Rattle.command_line.proofs.tokens.quoted_step.Tie as tie
 use Rattle.command_line.proofs.tokens.quoted_step.Reads as reads
 use Rattle.command_line.proofs.tokens.quoted_step.Lts as lts
-use Rattle.command_line.proofs.tokens.is_line_byte.Reads as is-line-byte-reads
 
 -- src/tokens.rt:93:16
 is-line-byte-requires : tie.Need-is-line-byte-requires

@@ -1,19 +1,16 @@
--- `state_of` meets its contract.
-use Rattle.exports.specs.Feeding.{stateOf}
+-- `state_of` is the definition, field by field.
 use borrow.Author.Needs.{needs}
 use Rattle.exports.proofs.feeding.state_of.Statement.{statement}
 use Rattle.exports.proofs.feeding.state_of.Tie as tie
 
-place-number-requires : tie.Need-place-number-requires
-place-number-requires c κs = search needs
-
-place-value-requires : tie.Need-place-value-requires
-place-value-requires c κs = search needs
-
 returns : tie.Need-returns
-unfolding stateOf
-returns c = let m = c .before .before .args .machine in λ i. record { place = c .before .place-number .ensures i; cr = m .cr; value = c .place-value .ensures i; size = m .size }
+returns c =
+    let m = c .before .args .machine in
+    λ i. record { place = c .place-numbers .ensures i .place; cr = m .cr; value = c .place-numbers .ensures i .value; size = m .size }
 
 pub state-of-spec : {M : Type 1} → statement M
 state-of-spec =
-    tie.close (tie.spec place-number-requires place-value-requires returns)
+    tie.close
+    (tie.spec
+    (λ c κs. search needs)
+    returns)

@@ -69,8 +69,7 @@ returns-4 c = rw (c .before .enum-told4 .given .1, c .is-atom4 .ensures) (patter
 
 -- src/tokens.rt:39:5
 returns-5 : tie.Need-returns-5
-unfolding digitByte within
-returns-5 c = rw (c .enum-told5 .given .1)
+returns-5 c = rw (c .before .enum-told5 .given .1) (c .is-digit .ensures)
 
 pub holds-spec : {M : Type 1} → statement M
 holds-spec =
@@ -85,6 +84,7 @@ holds-spec =
     enum-told-4
     is-atom-requires-4
     enum-told-5
+    (λ c κs. search needs)
     returns
     returns-2
     returns-3

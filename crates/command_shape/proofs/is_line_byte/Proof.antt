@@ -1,0 +1,13 @@
+-- `is_line_byte` is the definition's test.
+use mathlib.Core.Path.{refl}
+use Rattle.listing_rules.specs.Bytes.{within}
+use Rattle.listing_rules.specs.Tokens.{lineByte}
+use Rattle.command_shape.proofs.is_line_byte.Statement.{statement}
+use Rattle.command_shape.proofs.is_line_byte.Tie as tie
+
+returns : tie.Need-returns
+unfolding lineByte within
+returns c = refl
+
+pub is-line-byte-spec : {M : Type 1} → statement M
+is-line-byte-spec = tie.close (tie.spec returns)

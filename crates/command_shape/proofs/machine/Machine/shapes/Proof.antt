@@ -1,0 +1,45 @@
+-- `Machine::shapes` is the definition: a byte that may not stand there, and else the signal of the step.
+use mathlib.Core.Path.{sym, ap, _∙_}
+use borrow.Author.Tests.{not-true, not-false}
+use Rattle.command_shape.specs.declared.machine.Stepped.{Stepped}
+use Rattle.command_shape.specs.declared.shaping.Shaping.the-variants.{Further}
+use Rattle.command_shape.specs.Shaping.{shapeStep, shapingAs}
+use borrow.Author.Needs.{needs}
+use Rattle.command_shape.proofs.machine.Machine.shapes.Statement.{statement}
+use Rattle.command_shape.proofs.machine.Machine.shapes.Tie as tie
+
+returns : tie.Need-returns
+unfolding shapeStep shapingAs
+returns c = rw (sym (c .before .allows .ensures) ∙ not-true _ (c .if1 .taken))
+
+returns-2 : tie.Need-returns-2
+unfolding shapeStep shapingAs
+returns-2 c = rw (sym (c .before .before .before .before .before .allows .ensures) ∙ not-false _ (c .before .before .before .before .if1 .left), sym (ap (λ (x : Stepped). x .signal) (c .before .before .before .step .ensures)) ∙ c .enum-told .given .1) (ap (λ (x : Stepped). Further (x .machine)) (c .before .before .before .step .ensures))
+
+returns-3 : tie.Need-returns-3
+unfolding shapeStep shapingAs
+returns-3 c = rw (sym (c .before .before .before .before .before .allows .ensures) ∙ not-false _ (c .before .before .before .before .if1 .left), sym (ap (λ (x : Stepped). x .signal) (c .before .before .before .step .ensures)) ∙ c .enum-told2 .given .1) (ap (λ (x : Stepped). Further (x .machine)) (c .before .before .before .step .ensures))
+
+returns-4 : tie.Need-returns-4
+unfolding shapeStep shapingAs
+returns-4 c = rw (sym (c .before .before .before .before .before .allows .ensures) ∙ not-false _ (c .before .before .before .before .if1 .left), sym (ap (λ (x : Stepped). x .signal) (c .before .before .before .step .ensures)) ∙ c .enum-told3 .given .1)
+
+returns-5 : tie.Need-returns-5
+unfolding shapeStep shapingAs
+returns-5 c = rw (sym (c .before .before .before .before .before .allows .ensures) ∙ not-false _ (c .before .before .before .before .if1 .left), sym (ap (λ (x : Stepped). x .signal) (c .before .before .before .step .ensures)) ∙ c .enum-told4 .given .1)
+
+pub shapes-spec : {M : Type 1} → statement M
+shapes-spec =
+    tie.close
+    (tie.spec
+    (λ c κs. search needs)
+    returns
+    (λ c κs. search needs)
+    (λ c. search needs)
+    (λ c. search needs)
+    (λ c. search needs)
+    (λ c. search needs)
+    returns-2
+    returns-3
+    returns-4
+    returns-5)

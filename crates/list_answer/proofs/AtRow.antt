@@ -1,24 +1,23 @@
--- A beginning of row i's name that lies behind all names before row i: what is known of it in the whole table follows from row i on.
+-- A beginning of row i's name that comes after all names before row i: it has the flags of row i or none. And texts of lists of names.
+-- Rests on Prefixes and on listing_rules' Sorted and NameFlags.
 use mathlib.Core.Path.{_≡_, refl, sym, ap, _∙_, subst}
 use mathlib.Core.Logic.{_⊎_, inl, inr, ⊎-elim}
-use mathlib.Core.Bool.{Bool, true, false, cond, _&&_, _||_, not, false≢true, true≢false}
-use mathlib.Core.List.{List, [], _∷_, _++_, map, nil≢cons, append-assoc, List·Memᴰ, List·Memᴰ·head, List·Memᴰ·tail, List·Memᴰ·not-nil, List·Memᴰ·cases-cons, List·Memᴰ·append-cases, List·Memᴰ·eq-of-singleton}
-use Prim.Native.Nat.{ℕ, zero, suc, _≤_, _<_, Ordering, Ordering·lt}
+use mathlib.Core.Bool.{Bool, true, false, cond, false≢true}
+use mathlib.Core.List.{List, [], _∷_, _++_, map, nil≢cons, append-assoc, List·Memᴰ, List·Memᴰ·head, List·Memᴰ·not-nil, List·Memᴰ·cases-cons, List·Memᴰ·append-cases, List·Memᴰ·eq-of-singleton}
+use Prim.Native.Nat.{ℕ, zero, suc, _≤_}
 use native.Mathlib.Omega.{arith}
 use lib.ListN.{length, take, drop, getD, take-append-drop}
 use lib.Seq.{drop-cons, take-suc}
-use Rattle.listing_rules.specs.Bytes.{slash, same}
+use Rattle.listing_rules.specs.Bytes.{same}
 use Rattle.listing_rules.specs.Lists.{anyOf, keep, joined}
-use Rattle.listing_rules.specs.Orders.{byteOrder, ascends}
-use Rattle.listing_rules.specs.Names.{below}
+use Rattle.listing_rules.specs.Orders.{byteOrder}
 use Rattle.listing_rules.specs.Table.{Row, names, hasRow, flagsOf}
 use Rattle.listing_rules.specs.Listing.{implied}
-use Rattle.listing_rules.proofs.ListLaws.{some-mem, map-mem, mem-map, same-true}
+use Rattle.listing_rules.proofs.ListLaws.{some-mem, mem-map, same-true}
 use Rattle.listing_rules.proofs.Order.{bytes-total}
-use Rattle.listing_rules.proofs.Sorted.{Above, Asc, above-mem, ascends-asc, irrefl}
-use Rattle.listing_rules.proofs.LawfulNames.{below-split}
-use Rattle.listing_rules.proofs.NameFlags.{implied-flags, row-flags}
-use Rattle.list_answer.proofs.Prefixes.{Less, prefix-less, mem-right}
+use Rattle.listing_rules.proofs.Sorted.{Above, Asc, above-mem, irrefl}
+use Rattle.listing_rules.proofs.NameFlags.{implied-flags}
+use Rattle.list_answer.proofs.Prefixes.{Less, mem-right}
 
 module _ {A : Type 0} (f : A → Bool) where
   pub any-none : (a : List A) → ((z : A) → List·Memᴰ z a → f z ≡ false) → anyOf f a ≡ false
@@ -56,7 +55,7 @@ names-asc r rs a q m = above-mem byteOrder bytes-total (r .name) (q .name) (name
 pub drop-mem : (i : ℕ) (rs : List Row) (r : Row) → List·Memᴰ r (drop i rs) → List·Memᴰ r rs
 drop-mem i rs r m = subst (λ (l : List Row). List·Memᴰ r l) (take-append-drop i rs) (mem-right (take i rs) m)
 
--- the row at a place comes before every row behind it
+-- the row at a place comes before every row after it
 pub later-less : (rs : List Row) → Asc byteOrder (names rs) → (i : ℕ) (r : Row) (more : List Row) → drop i rs ≡ r ∷ more → (q : Row) → List·Memᴰ q more → Less (r .name) (q .name)
 unfolding names
 later-less rs a zero r more e q m = names-asc r more (subst (λ (l : List Row). Asc byteOrder (names l)) e a .0) q m
@@ -71,11 +70,11 @@ earlier-less [] a (suc i) r more e q m = absurd (List·Memᴰ·not-nil m)
 earlier-less (x ∷ rs) a (suc i) r more e q m =
     ⊎-elim (λ f. rw f (names-asc x rs (a .0) r (drop-mem i rs r (subst (λ (l : List Row). List·Memᴰ r l) (sym e) (List·Memᴰ·head refl))))) (λ k. earlier-less rs (a .1) i r more e q k) (List·Memᴰ·cases-cons m)
 
--- no row: what stands behind the last
+-- no row: what stands after the last
 abbrev pub noRow : Row
 noRow = record { flags = 0; name = [] }
 
--- what lies behind the row before place i lies behind all rows before it
+-- what comes after the row before place i comes after all rows before it
 pub before-less : (rs : List Row) → Asc byteOrder (names rs) → (i : ℕ) (p : List ℕ) → i ≤ length rs → ((j : ℕ) → i ≡ suc j → Less (getD rs j noRow .name) p) → (q : Row) → List·Memᴰ q (take i rs) → Less (q .name) p
 before-less rs a zero p h g q m = absurd (List·Memᴰ·not-nil m)
 before-less rs a (suc j) p h g q m =

@@ -4,7 +4,7 @@ use mathlib.Core.Path.{_≡_, refl, sym, ap, _∙_, subst}
 use mathlib.Core.Logic.{⊎-elim}
 use mathlib.Core.Bool.{Bool, true, false, cond, _&&_, _||_, not, and-true, false≢true}
 use mathlib.Core.List.{List, [], _∷_, _++_, map, List·Memᴰ, List·Memᴰ·head, List·Memᴰ·cases-cons}
-use Prim.Native.Nat.{ℕ, zero, suc, _-_, _≤_, _<_}
+use Prim.Native.Nat.{ℕ, zero, suc, _-_, _<_}
 use native.Mathlib.Decide.{decLe}
 use native.Mathlib.Omega.{arith}
 use lib.Dec.{eqb, leb}
@@ -27,7 +27,7 @@ use Rattle.listing_rules.proofs.Sorted.{Asc, ascends-asc, lt-true}
 use Rattle.listing_rules.proofs.NameFlags.{row-flags, meets-zero, meetsBelow-rows, meetsUnmatchedBelow-rows}
 use Rattle.octets.specs.Sets.{contains}
 use Rattle.mailbox_table.specs.Shared.{sharedLen}
-use Rattle.mailbox_table.specs.Index.{nameAt, nthRow, nthName, rowAtWord, rowsAt, Indexed}
+use Rattle.mailbox_table.specs.Index.{nthRow, nthName, rowAtWord, rowsAt, Indexed}
 use Rattle.mailbox_table.specs.Below.{marksOf, markedBelow, Begins}
 use Rattle.mailbox_table.proofs.IndexLaws.{name-length, names-ascend, shared-at}
 use Rattle.mailbox_table.proofs.ScanLaws.{scan-whole}

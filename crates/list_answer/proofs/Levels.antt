@@ -9,7 +9,7 @@ use Rattle.listing_rules.specs.Flags.{exists, remote}
 use Rattle.listing_rules.specs.Table.{Row, flagsOf}
 use Rattle.listing_rules.specs.Options.{Options}
 use Rattle.listing_rules.specs.Match.{matches, matchesAny}
-use Rattle.listing_rules.specs.Listing.{meetsCriteria, candidateMeets, meetsBelow, meetsUnmatchedBelow, unselective, endsInPercent, levelAbove, listed}
+use Rattle.listing_rules.specs.Listing.{meetsCriteria, candidateMeets, meetsBelow, unselective, endsInPercent, levelAbove, listed}
 use Rattle.listing_rules.proofs.Bools.{and-l, and-r}
 use Rattle.listing_rules.proofs.ListLaws.{some-mem, mem-some, keep-mem}
 use Rattle.listing_rules.proofs.NameFlags.{plain-criteria}

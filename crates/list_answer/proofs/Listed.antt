@@ -1,14 +1,13 @@
 -- What is listed is listed among the beginnings that the server looks at, in their order.
-use mathlib.Core.Path.{_≡_, refl, sym, ap, _∙_, subst}
-use mathlib.Core.Logic.{_⊎_, inl, inr, ⊎-elim}
-use mathlib.Core.Bool.{Bool, true, false, cond, _&&_, _||_, not, false≢true}
+use mathlib.Core.Path.{_≡_, refl, sym, ap, _∙_}
+use mathlib.Core.Logic.{_⊎_, ⊎-elim}
+use mathlib.Core.Bool.{Bool, true, false, _&&_, _||_, not, false≢true}
 use mathlib.Core.List.{List, [], _∷_, _++_, map, append-nil, List·Memᴰ, List·Memᴰ·head, List·Memᴰ·cases-cons}
-use Prim.Native.Nat.{ℕ, _≤_}
+use Prim.Native.Nat.{ℕ}
 use native.Mathlib.Omega.{arith}
-use lib.ListN.{length}
 use Rattle.listing_rules.specs.Bytes.{slash}
-use Rattle.listing_rules.specs.Lists.{every, anyOf, keep, joined}
-use Rattle.listing_rules.specs.Orders.{byteOrder, ascends, sorted}
+use Rattle.listing_rules.specs.Lists.{anyOf, keep, joined}
+use Rattle.listing_rules.specs.Orders.{byteOrder, ascends}
 use Rattle.listing_rules.specs.Names.{lawfulName, below, properAncestors}
 use Rattle.listing_rules.specs.Flags.{exists}
 use Rattle.listing_rules.specs.Table.{Row, names, hasRow, flagsOf}

@@ -18,7 +18,6 @@ use Rattle.listing_rules.specs.Listing.{meetsCriteria}
 use Rattle.listing_rules.specs.Server.{answered, listAnswer}
 use Rattle.listing_rules.proofs.Bools.{or-r}
 use Rattle.octets.specs.Sets.{contains}
-use Rattle.list_line.specs.Members.{setOf}
 use Rattle.list_line.proofs.Members.{setOf-below, contains-setOf}
 use Rattle.command_line.specs.declared.Options.{Options as OptionSet}
 use Rattle.command_line.specs.OptionSets.{optionsIs}

@@ -1,18 +1,18 @@
 -- The beginnings that the server looks at ascend, and every non-empty beginning of a row's name is among them.
 use mathlib.Core.Path.{_≡_, refl, sym, ap, _∙_, subst}
 use mathlib.Core.Logic.{_⊎_, inl, inr, ⊎-elim}
-use mathlib.Core.Bool.{Bool, true, false, cond, false≢true}
+use mathlib.Core.Bool.{Bool, true, false, cond}
 use mathlib.Core.List.{List, [], _∷_, _++_, append-assoc, append-nil, nil≢cons, List·Memᴰ, List·Memᴰ·head, List·Memᴰ·tail, List·Memᴰ·not-nil, List·Memᴰ·cases-cons, List·Memᴰ·append-cases}
-use Prim.Native.Nat.{ℕ, zero, suc, _+_, _-_, _≤_, _<_, compare, Ordering, Ordering·lt, Ordering·eq, Ordering·gt}
+use Prim.Native.Nat.{ℕ, suc, _+_, _-_, _≤_, _<_, compare, Ordering·lt, Ordering·gt}
 use native.Mathlib.Omega.{arith}
 use native.Mathlib.Decide.{decLe}
 use lib.Dec.{eqb}
-use lib.ListN.{length, take, drop, length-append, take-append-drop, getD}
+use lib.ListN.{length, take, drop, take-append-drop, getD}
 use lib.Seq.{split-at, take-append-le, drop-append-le, drop-cons}
-use borrow.Author.Tests.{eqb-true, eqb-false, eq-eqb, ne-eqb}
+use borrow.Author.Tests.{eqb-true, eqb-false}
 use Rattle.listing_rules.specs.Orders.{lexBy, byteOrder, thenBy, ascends}
 use Rattle.listing_rules.specs.Table.{Row, names}
-use Rattle.listing_rules.proofs.Order.{Total, bytes-total, eq-compare, View, view, less, equal, more}
+use Rattle.listing_rules.proofs.Order.{bytes-total, eq-compare, View, view, less, equal, more}
 use Rattle.listing_rules.proofs.Sorted.{Above, Asc, above-all, asc-append, ascends-asc}
 use Rattle.listing_rules.proofs.ListLaws.{map-mem}
 use Rattle.mailbox_table.specs.Shared.{sharedLen}
@@ -22,7 +22,7 @@ use Rattle.list_answer.specs.Prefixes.{growing, longer, prefixesAfter, p
 abbrev pub Less : List ℕ → List ℕ → Type 0
 Less p q = byteOrder p q ≡ Ordering·lt
 
--- members of two lists, one behind the other
+-- members of two lists, one after the other
 pub mem-left : {A : Type 0} {x : A} {l : List A} (m : List A) → List·Memᴰ x l → List·Memᴰ x (l ++ m)
 mem-left m (List·Memᴰ·head e) = List·Memᴰ·head e
 mem-left m (List·Memᴰ·tail k) = List·Memᴰ·tail (mem-left m k)
@@ -69,7 +69,7 @@ growing-asc done (b ∷ rest) = (
 
 -- What a name shares with the one before
 
--- a beginning beyond what is shared comes behind the name before
+-- a beginning beyond what is shared comes after the name before
 pub shared-less : (a n : List ℕ) → Less a n → (b : ℕ) (q r : List ℕ) → drop (sharedLen a n) n ≡ b ∷ (q ++ r) → Less a (take (sharedLen a n) n ++ (b ∷ q))
 unfolding sharedLen byteOrder lexBy thenBy
 shared-less [] n h b q r e = refl
@@ -145,7 +145,7 @@ longer-between prev n p h m = (rw (w .3) (shared-less prev n h (w .0) (w .1) (w 
     upper [] e = inl (sym (append-nil p) ∙ sym (whole [] e))
     upper (c ∷ r) e = inr (rw (whole (c ∷ r) e) (prefix-less p r c))
 
--- the beginnings of one row, before those of the rows behind it
+-- the beginnings of one row, before those of the rows after it
 row-above : (prev n : List ℕ) (there : List (List ℕ)) → Less prev n → Asc byteOrder there × ((z : List ℕ) → List·Memᴰ z there → Less n z) → Asc byteOrder (longer (sharedLen prev n) n ++ there) × ((z : List ℕ) → List·Memᴰ z (longer (sharedLen prev n) n ++ there) → Less prev z)
 row-above prev n there h ih = (asc-append byteOrder here there (unfold longer in growing-asc (take k n) (drop k n)) (ih .0) across, λ z m. ⊎-elim (first z) (λ u. bytes-total .trans prev n z h (ih .1 z u)) (List·Memᴰ·append-cases here m))
   where
@@ -161,7 +161,7 @@ row-above prev n there h ih = (asc-append byteOrder here there (unfold longer in
     across : (x y : List ℕ) → List·Memᴰ x here → List·Memᴰ y there → Less x y
     across x y m u = ⊎-elim (λ e. rw e (ih .1 y u)) (λ l. bytes-total .trans x n y l (ih .1 y u)) (longer-between prev n x h m .1)
 
--- all beginnings to look at lie behind the name before, and ascend
+-- all beginnings to look at lie after the name before, and ascend
 prefixes-above : (prev : List ℕ) (rs : List Row) → Above byteOrder prev (names rs) → Asc byteOrder (names rs) → Asc byteOrder (prefixesAfter prev rs) × ((z : List ℕ) → List·Memᴰ z (prefixesAfter prev rs) → Less prev z)
 unfolding prefixesAfter names
 prefixes-above prev [] a s = (tt, λ z m. absurd (List·Memᴰ·not-nil m))

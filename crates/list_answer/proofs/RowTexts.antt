@@ -16,7 +16,6 @@ use Rattle.mailbox_table.specs.Index.{nthRow, nthName, rowAtWord, rowsAt, Index
 use Rattle.mailbox_table.proofs.IndexLaws.{name-length, shares-less, shared-at}
 use Rattle.list_answer.specs.Prefixes.{growing, longer, prefixesAfter}
 use Rattle.list_answer.specs.Marks.{levelsAsked}
-use Rattle.list_answer.specs.Ready.{At}
 use Rattle.list_answer.specs.Shown.{shownText}
 use Rattle.list_answer.proofs.AtRow.{noRow, joined-append, map-append}
 use Rattle.list_answer.proofs.Deciding.{map-at, flags-proper}

@@ -19,7 +19,6 @@ use Rattle.list_line.proofs.Members.{members-setOf}
 use Rattle.mailbox_table.specs.declared.rows.Row.{Row as Place}
 use Rattle.mailbox_table.specs.Words.{rowOfWord}
 use Rattle.mailbox_table.specs.Index.{nameAt}
-use Rattle.list_answer.specs.declared.decide.Shown.{Shown}
 use Rattle.list_answer.specs.declared.decide.Shown.the-variants.{Line, Nothing}
 use Rattle.list_answer.specs.Marks.{levelsAsked}
 use Rattle.list_answer.specs.Shown.{byRight, asLevel, matchesFor, shownIs, shownText}

@@ -1,6 +1,6 @@
 -- What the server relies on of its inputs: the index of a table that passes, the patterns of a command that lists, and spans of the line.
 use mathlib.Core.Path.{_≡_, refl, sym, ap, subst, _∙_}
-use mathlib.Core.Bool.{Bool, true, false, cond, _&&_, not}
+use mathlib.Core.Bool.{Bool, true, false, cond, _&&_}
 use mathlib.Core.List.{List, [], _∷_, _++_}
 use Prim.Native.Nat.{ℕ, _≤_, suc, _+_, _*_, _<_, _-_}
 use native.Mathlib.Omega.{arith}
@@ -39,7 +39,7 @@ use Rattle.server.specs.Replies.{Few}
 roomy : (t : List ℕ) → passes t ≡ true → leb (length (rows t)) 512 ≡ true
 roomy t e = le-leb (length (rows t)) 512 (passes-parts t e .few)
 
-module _ {t before behind : List ℕ} {r : Indexing} (x : Indexes t before behind r) (h : length before ≡ 512) where
+module _ {t before words : List ℕ} {r : Indexing} (x : Indexes t before words r) (h : length before ≡ 512) where
   answer-is : r ≡ indexingOf t 512
   answer-is = x .answer ∙ ap (indexingOf t) h
 
@@ -61,31 +61,31 @@ module _ {t before behind : List ℕ} {r : Indexing} (x : Indexes t before behin
 
   -- the rows that were found
   pub record Known (n : ℕ) : Type 0 where
-    pub inside : n ≤ length behind
-    pub size : n ≡ length (take n behind)
-    pub same : rowsAt t (take n behind) ≡ rows t
-    pub index : Index t (take n behind)
+    pub inside : n ≤ length words
+    pub size : n ≡ length (take n words)
+    pub same : rowsAt t (take n words) ≡ rows t
+    pub index : Index t (take n words)
 
   pub index-rows : (n : ℕ) → r ≡ Rows n → Known n
   index-rows n e =
       record {
         inside = fits;
-        size = sym (length-take-le n behind fits);
+        size = sym (length-take-le n words fits);
         same = f .1;
         index = record {
           indexed = f .2;
-          few = omega (arith, length-take-le n behind fits, f .0, parts .few);
+          few = omega (arith, length-take-le n words fits, f .0, parts .few);
           lawful = subst Lawful (sym (f .1)) (parts .lawful-names);
         };
       }
     where
-      f : (n ≡ length (rows t)) × (rowsAt t (take n behind) ≡ rows t) × Indexed t (take n behind)
-      f = subst (λ (q : Indexing). Found t behind q) e (x .found)
+      f : (n ≡ length (rows t)) × (rowsAt t (take n words) ≡ rows t) × Indexed t (take n words)
+      f = subst (λ (q : Indexing). Found t words q) e (x .found)
 
       parts : TableParts t
       parts = passes-parts t (index-passes n e)
 
-      fits : n ≤ length behind
+      fits : n ≤ length words
       fits = omega (arith, f .0, parts .few, x .room, h)
 
 -- The canonical patterns of a command that lists are few and short, and so are their packed bytes

@@ -1,5 +1,5 @@
 -- The refusals in document 01's order, and the reply to a command by its kind. Rests on Inputs.
-use mathlib.Core.Path.{_≡_, refl, sym, ap, subst, _∙_}
+use mathlib.Core.Path.{_≡_, refl, sym, ap, _∙_}
 use mathlib.Core.Bool.{true, false}
 use mathlib.Core.List.{List}
 use Prim.Native.Nat.{ℕ}
@@ -7,9 +7,8 @@ use lib.ListN.{length}
 use Rattle.listing_rules.specs.Table.{rows, passes}
 use Rattle.listing_rules.specs.Namespaces.{entries, namespacesPass}
 use Rattle.listing_rules.specs.Command.{parsed}
-use Rattle.listing_rules.specs.Server.{Reply, refusal, answer, answerTo, limited, served, bufferAfter}
+use Rattle.listing_rules.specs.Server.{refusal, answer, answerTo, limited, served, bufferAfter}
 use Rattle.octets.specs.Written.{writtenIs, Gives}
-use Rattle.octets.specs.declared.Written.{Written}
 use Rattle.octets.specs.declared.Written.the-variants.{Refused}
 use Rattle.command_line.specs.declared.Kind.{Kind}
 use Rattle.command_line.specs.declared.Kind.the-variants.{Root, Namespace, List as Listing, Refused as Refusal}

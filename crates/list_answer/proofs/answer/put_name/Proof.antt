@@ -1,5 +1,5 @@
 -- `list_answer::answer::put_name` meets its contract: the text of what `decide` shows. By Showing.
-use mathlib.Core.Path.{_≡_, sym, ap, _∙_}
+use mathlib.Core.Path.{sym, ap, _∙_}
 use mathlib.Core.List.{List}
 use Prim.Native.Nat.{ℕ}
 use lib.ListN.{length, take, getD}
@@ -45,11 +45,13 @@ name-of-requires c κs = search needs
 slice-aggregate-put-line : tie.Need-slice-aggregate-put-line
 slice-aggregate-put-line c =
     let start = c .before .before .before .before .before .before .before .before .before .before .before .before .before in
+    let row = c .before .before .before .of-word in
+    let looked = c .before .before .name-of in
     let area = start .args .area .now in
     let words = start .args .words .now in
     let name = start .args .name in
-    let looked = named area (getD words (name .row) 0) (c .before .before .before .of-word .result) (c .before .before .before .of-word .ensures) (c .before .before .name-of .result .now) (c .before .before .name-of .ensures) in
-    sym (ap (λ (l : List ℕ). length (take (name .len) l)) looked ∙ begun-length area words (start .pre .0 .index .indexed) name (start .pre .1))
+    let bytes = named area (getD words (name .row) 0) (row .result) (row .ensures) (looked .result .now) (looked .ensures) in
+    sym (ap (λ (l : List ℕ). length (take (name .len) l)) bytes ∙ begun-length area words (start .pre .0 .index .indexed) name (start .pre .1))
 
 put-line-requires : tie.Need-put-line-requires
 put-line-requires c κs = search needs
@@ -60,13 +62,15 @@ same-length c = search needs
 returns-2 : tie.Need-returns-2
 returns-2 c =
     let a = c .before .before .before .before .before .before .before .before .before .before .before .before .before .before .before .before .args in
+    let shown = c .before .before .before .before .before .before .before .before .before .before .before .decide in
+    let line = c .before .before .before .before .before .before .before .before .before .attributes .given in
+    let row = c .before .before .before .before .before .before .of-word in
+    let looked = c .before .before .before .before .before .name-of in
     let area = a .area .now in
     let words = a .words .now in
-    let line = c .before .before .before .before .before .before .before .before .before .attributes .given in
-    let looked = named area (getD words (a .name .row) 0) (c .before .before .before .before .before .before .of-word .result) (c .before .before .before .before .before .before .of-word .ensures) (c .before .before .before .before .before .name-of .result .now) (c .before .before .before .before .before .name-of .ensures) in
-    let text =
-    text-line (rowsAt area words) (optionsIs (a .question .options)) (unpacked (a .patterns .now)) (begun area words (a .name)) (line .0 .0) (line .0 .1 .0) (sym (c .before .before .before .before .before .before .before .before .before .before .before .decide .ensures) ∙ line .1) in
-    rw (text, ← looked) (c .before .before .put-line .ensures)
+    let bytes = named area (getD words (a .name .row) 0) (row .result) (row .ensures) (looked .result .now) (looked .ensures) in
+    let text = text-line (rowsAt area words) (optionsIs (a .question .options)) (unpacked (a .patterns .now)) (begun area words (a .name)) (line .0 .0) (line .0 .1 .0) (sym (shown .ensures) ∙ line .1) in
+    rw (text, ← bytes) (c .before .before .put-line .ensures)
 
 pub put-name-spec : {M : Type 1} → statement M
 put-name-spec =

@@ -1,6 +1,6 @@
 -- `list_answer::answer::put_rows` meets its contract: the text of the rows before row i is put. By RowTexts and Putting.
 use mathlib.Core.Path.{refl}
-use Prim.Native.Nat.{ℕ, _+_, _-_, _≤_}
+use Prim.Native.Nat.{_+_, _-_, _≤_}
 use lib.ListN.{length}
 use Rattle.octets.proofs.Puts.{put-length}
 use Rattle.list_answer.specs.Prefixes.{prefixes}

@@ -1,7 +1,6 @@
 -- `list_answer::attributes::attributes_of` meets its contract: the groups make the set of the sixteen, by Sets.
-use mathlib.Core.Path.{ap, _∙_}
+use mathlib.Core.Path.{_≡_, ap, _∙_}
 use mathlib.Core.Bool.{Bool, _&&_, _||_, not}
-use Prim.Native.Nat.{ℕ}
 use Rattle.listing_rules.specs.Listing.{attributesFor, inOrder}
 use Rattle.listing_rules.specs.Flags.{noInferiors}
 use Rattle.octets.proofs.Sets.{contains-bit}
@@ -41,23 +40,23 @@ returns : tie.Need-returns
 unfolding adds ownAttributes useAttributes attributesFor inOrder noInferiors
 returns c =
     let start = c .before .before .before .before .before .before .before .before in
+    let shows = c .before .before .before .before .before .before .before .shows-subscribed in
+    let own = c .before .before .before .before .before .before .own-attributes in
+    let asks = c .before .before .before .before .before .shows-uses in
+    let uses = c .before .before .before .before .with-uses in
+    let asked = c .before .before .before .shows-children in
     let f = start .args .flags .bits in
     let o = optionsIs (start .args .question .options) in
     let h = start .args .children in
     let v = start .args .level in
-    let asked = c .before .before .before .shows-children in
-    let subscribed = o .selSubscribed || o .retSubscribed in
-    let uses = o .selSpecial || o .retSpecial in
-    let own = c .before .before .before .before .before .before .own-attributes .ensures ∙ ap (λ (b : Bool). adds 0 1 (ownAttributes f b)) (c .before .before .before .before .before .before .before .shows-subscribed .ensures) in
-    let both =
-    c .before .before .before .before .with-uses .ensures
-    ∙ ap (λ (s : ℕ). adds s 128 (useAttributes f (c .before .before .before .before .before .shows-uses .result))) own
-    ∙ ap (λ (b : Bool). adds (adds 0 1 (ownAttributes f subscribed)) 128 (useAttributes f b)) (c .before .before .before .before .before .shows-uses .ensures) in
+    let s = o .selSubscribed || o .retSubscribed in
+    let u = o .selSpecial || o .retSpecial in
+    let first : own .result .bits ≡ adds 0 1 (ownAttributes f s) = own .ensures ∙ ap (λ (b : Bool). adds 0 1 (ownAttributes f b)) (shows .ensures) in
+    let both : uses .result .bits ≡ adds (adds 0 1 (ownAttributes f s)) 128 (useAttributes f u) = uses .ensures ∙ (λ i. adds (first i) 128 (useAttributes f (asks .ensures i))) in
     let parent = more 16384 both (ap (λ (b : Bool). (b && h) || v) (asked .ensures)) (c .before .before .with .ensures) in
-    let leaf =
-    ap (λ (b : Bool). (b && not h) && not (c .before .has .result)) (asked .ensures)
-    ∙ ap (λ (b : Bool). (o .retChildren && not h) && not b) (c .before .has .ensures ∙ contains-bit 4 f) in
-    more 32768 parent leaf (c .with2 .ensures) ∙ sixteen-adds f subscribed uses ((o .retChildren && h) || v) ((o .retChildren && not h) && not (noInferiors f))
+    let bare : ((asked .result && not h) && not (c .before .has .result)) ≡ ((o .retChildren && not h) && not (noInferiors f))
+    = λ i. (asked .ensures i && not h) && not ((c .before .has .ensures ∙ contains-bit 4 f) i) in
+    more 32768 parent bare (c .with2 .ensures) ∙ sixteen-adds f s u ((o .retChildren && h) || v) ((o .retChildren && not h) && not (noInferiors f))
 
 pub attributes-of-spec : {M : Type 1} → statement M
 attributes-of-spec =

@@ -1,5 +1,5 @@
 -- `list_answer::decide::is_matched` meets its contract: the row's mark for its whole name, the bytes for a shorter one. By Deciding.
-use mathlib.Core.Path.{_≡_, sym, ap, _∙_}
+use mathlib.Core.Path.{sym, ap, _∙_}
 use mathlib.Core.Bool.{Bool, _&&_}
 use mathlib.Core.List.{List}
 use Prim.Native.Nat.{ℕ}
@@ -38,17 +38,18 @@ has-requires c κs = search needs
 returns : tie.Need-returns
 returns c =
     let start = c .before .before .before .before .before .before .before .before .before in
+    let row = c .before .before .before .before .of-word in
+    let marks = c .before .of-word2 in
     let area = start .args .area .now in
     let words = start .args .words .now in
     let name = start .args .name in
     let ready = start .pre .0 in
     let o = optionsIs (start .args .question .options) in
     let ps = unpacked (start .args .patterns .now) in
-    let size = ap (λ (r : Place). r .len) (c .before .before .before .before .of-word .ensures) in
-    let whole = eq-eqb (nthRow words (name .row) .len) (name .len) (sym size ∙ c .before .before .if1 .taken) in
+    let whole = eq-eqb (nthRow words (name .row) .len) (name .len) (sym (ap (λ (r : Place). r .len) (row .ensures)) ∙ c .before .before .if1 .taken) in
     λ h.
     c .has .ensures
-    ∙ ap (λ (m : ℕ). contains m 8) (c .before .of-word2 .ensures)
+    ∙ ap (λ (m : ℕ). contains m 8) (marks .ensures)
     ∙ matched-whole area words (ready .index .indexed) name (start .pre .1) o ps (ready .marked) whole h
 
 name-of-requires : tie.Need-name-of-requires
@@ -57,11 +58,13 @@ name-of-requires c κs = search needs
 slice-aggregate-matches-any : tie.Need-slice-aggregate-matches-any
 slice-aggregate-matches-any c =
     let start = c .before .before .before .before .before .before .before .before .before in
+    let row = c .before .before .before .before .of-word in
+    let looked = c .before .name-of in
     let area = start .args .area .now in
     let words = start .args .words .now in
     let name = start .args .name in
-    let looked = named area (getD words (name .row) 0) (c .before .before .before .before .of-word .result) (c .before .before .before .before .of-word .ensures) (c .before .name-of .result .now) (c .before .name-of .ensures) in
-    sym (ap (λ (l : List ℕ). length (take (name .len) l)) looked ∙ begun-length area words (start .pre .0 .index .indexed) name (start .pre .1))
+    let bytes = named area (getD words (name .row) 0) (row .result) (row .ensures) (looked .result .now) (looked .ensures) in
+    sym (ap (λ (l : List ℕ). length (take (name .len) l)) bytes ∙ begun-length area words (start .pre .0 .index .indexed) name (start .pre .1))
 
 matches-any-requires : tie.Need-matches-any-requires
 matches-any-requires c κs = search needs
@@ -69,24 +72,24 @@ matches-any-requires c κs = search needs
 returns-2 : tie.Need-returns-2
 returns-2 c =
     let start = c .before .before .before .before .before .before .before .before .before .before in
+    let row = c .before .before .before .before .before .of-word in
+    let looked = c .before .before .name-of in
     let area = start .args .area .now in
     let words = start .args .words .now in
-    let question = start .args .question in
+    let levels = start .args .question .levels in
     let name = start .args .name in
     let ready = start .pre .0 in
     let x = ready .index .indexed in
     let at = start .pre .1 in
-    let o = optionsIs (question .options) in
+    let o = optionsIs (start .args .question .options) in
     let ps = unpacked (start .args .patterns .now) in
     let n = begun area words name in
-    let place = c .before .before .before .before .before .of-word .ensures in
-    let looked = named area (getD words (name .row) 0) (c .before .before .before .before .before .of-word .result) place (c .before .before .name-of .result .now) (c .before .before .name-of .ensures) in
-    let size = ap (λ (r : Place). r .len) place in
-    let proper = ne-eqb (nthRow words (name .row) .len) (name .len) (λ e. c .before .before .before .if1 .left (size ∙ e)) in
+    let bytes = named area (getD words (name .row) 0) (row .result) (row .ensures) (looked .result .now) (looked .ensures) in
+    let proper = ne-eqb (nthRow words (name .row) .len) (name .len) (λ e. c .before .before .before .if1 .left (ap (λ (r : Place). r .len) (row .ensures) ∙ e)) in
     λ h.
     c .matches-any .ensures
-    ∙ ap (λ (l : List ℕ). leb (length (take (name .len) l)) 255 && matchesAny (chosen (question .levels) ps) (take (name .len) l)) looked
-    ∙ ap (λ (b : Bool). b && matchesAny (chosen (question .levels) ps) n) (begun-short area words x name at)
+    ∙ ap (λ (l : List ℕ). leb (length (take (name .len) l)) 255 && matchesAny (chosen levels ps) (take (name .len) l)) bytes
+    ∙ ap (λ (b : Bool). b && matchesAny (chosen levels ps) n) (begun-short area words x name at)
     ∙ ap (λ (b : Bool). matchesAny (chosen b ps) n) (ready .knows)
     ∙ matched-proper area words x name at o ps (ready .marked) proper
 

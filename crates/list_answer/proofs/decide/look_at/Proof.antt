@@ -10,6 +10,7 @@ use Rattle.octets.specs.Sets.{contains}
 use Rattle.command_line.specs.OptionSets.{optionsIs}
 use Rattle.mailbox_table.specs.declared.rows.Row.{Row as Place}
 use Rattle.mailbox_table.specs.Index.{nthRow, rowsAt}
+use Rattle.mailbox_table.specs.Below.{marksOf}
 use Rattle.pattern.specs.Packed.{unpacked}
 use Rattle.list_answer.specs.Marks.{levelOnly}
 use Rattle.list_answer.specs.Shown.{begun, foundBelow}
@@ -51,40 +52,36 @@ asked-below-requires-2 c κs = search needs
 returns : tie.Need-returns
 returns c =
     let start = c .before .before .before .before .before .before .before .before .before .before .before .before .before .before in
+    let row = c .before .before .before .before .before .before .before .before .before .of-word in
+    let flagged = c .before .before .before .before .before .before .flags-of in
+    let marks = c .before .before .before .before .before .of-word2 in
+    let met = c .before .before .before .before .has in
+    let recursive = c .before .before .before .is-recursive in
+    let deep = c .before .before .asked-below in
+    let absent = c .before .asks-level in
+    let level = c .asked-below2 in
     let area = start .args .area .now in
     let words = start .args .words .now in
-    let question = start .args .question in
     let name = start .args .name in
     let ready = start .pre .0 in
     let x = ready .index .indexed in
     let at = start .pre .1 in
-    let o = optionsIs (question .options) in
+    let o = optionsIs (start .args .question .options) in
     let ps = unpacked (start .args .patterns .now) in
-    let table = rowsAt area words in
     let n = begun area words name in
-    let place = c .before .before .before .before .before .before .before .before .before .of-word .ensures in
     let whole = eqb (nthRow words (name .row) .len) (name .len) in
-    let flags : c .before .before .before .before .before .before .flags-of .result .bits ≡ flagsOf table n =
-    c .before .before .before .before .before .before .flags-of .ensures ∙ ap (λ (r : Place). cond (eqb (r .len) (name .len)) (r .flags .bits) 0) place ∙ sym (flags-here area words x name at) in
-    let meeting = c .before .before .before .before .has .ensures ∙ ap (λ (m : ℕ). contains m 1) (c .before .before .before .before .before .of-word2 .ensures) in
-    let own =
-    ap (λ (r : Place). eqb (r .len) (name .len) && c .before .before .before .before .has .result) place
-    ∙ ap (λ (b : Bool). whole && b) meeting in
-    let deep =
-    c .before .before .asked-below .ensures
-    ∙ ap (λ (b : Bool). (b && not (eqb (c .before .before .before .before .before .before .before .before .before .of-word .result .len) (name .len) && c .before .before .before .before .has .result)) && foundBelow area words 2 name) (c .before .before .before .is-recursive .ensures) in
-    let absent =
-    c .before .asks-level .ensures
-    ∙ ap (λ (b : Bool). b && not (exists (c .before .before .before .before .before .before .flags-of .result .bits))) (ready .knows)
-    ∙ ap (levelOnly o ps) flags in
-    let right = right-here area words x name at o ps (ready .marked) _ _ own deep in
+    let flags : flagged .result .bits ≡ flagsOf (rowsAt area words) n
+    = flagged .ensures ∙ ap (λ (r : Place). cond (eqb (r .len) (name .len)) (r .flags .bits) 0) (row .ensures) ∙ sym (flags-here area words x name at) in
+    let own : (eqb (row .result .len) (name .len) && met .result) ≡ (whole && contains (marksOf (getD words (name .row) 0)) 1)
+    = ap (λ (r : Place). eqb (r .len) (name .len) && met .result) (row .ensures) ∙ ap (λ (b : Bool). whole && b) (met .ensures ∙ ap (λ (m : ℕ). contains m 1) (marks .ensures)) in
+    let asked : deep .result ≡ ((o .selRecursive && not (eqb (row .result .len) (name .len) && met .result)) && foundBelow area words 2 name)
+    = deep .ensures ∙ ap (λ (b : Bool). (b && not (eqb (row .result .len) (name .len) && met .result)) && foundBelow area words 2 name) (recursive .ensures) in
+    let only : absent .result ≡ levelOnly o ps (flagsOf (rowsAt area words) n)
+    = absent .ensures ∙ ap (λ (b : Bool). b && not (exists (flagged .result .bits))) (ready .knows) ∙ ap (levelOnly o ps) flags in
     record {
       flags = flags;
-      level =
-          c .asked-below2 .ensures
-          ∙ ap (λ (b : Bool). b && foundBelow area words 1 name) absent
-          ∙ ap (λ (b : Bool). levelOnly o ps (flagsOf table n) && b) (sym (meets-below area words x name at o ps (ready .marked)));
-      counts = ap (λ (b : Bool). b || c .asked-below2 .result) right;
+      level = level .ensures ∙ (λ i. only i && sym (meets-below area words x name at o ps (ready .marked)) i);
+      counts = ap (λ (b : Bool). b || level .result) (right-here area words x name at o ps (ready .marked) _ _ own asked);
     }
 
 pub look-at-spec : {M : Type 1} → statement M

@@ -56,26 +56,27 @@ returns : tie.Need-returns
 unfolding adds rowMarks
 returns c =
     let start = c .before .before .before .before .before .before .before .before .before .before .before .before .before in
+    let place = c .before .before .before .before .before .before .before .before .before .before .of-word in
+    let met = c .before .before .before .before .before .before .before .before .before .is-met in
+    let recursive = c .before .before .before .before .before .before .before .before .is-recursive in
+    let asks = c .before .before .before .before .before .before .before .asks-level in
+    let looked = c .before .before .before .before .before .before .name-of in
+    let match = c .before .before .before .before .before .asked-match in
+    let counts = c .before .before .counts-child in
     let area = start .args .area .now in
     let word = start .args .word in
     let o = optionsIs (start .args .question .options) in
     let ps = unpacked (start .args .patterns .now) in
     let row = rowAtWord area word in
-    let place = c .before .before .before .before .before .before .before .before .before .before .of-word .ensures in
-    let recursive = c .before .before .before .before .before .before .before .before .is-recursive .ensures in
-    let meeting : c .before .before .before .before .before .before .before .before .before .is-met .result ≡ meetsMark o row = c .before .before .before .before .before .before .before .before .before .is-met .ensures ∙ ap (λ (r : Place). meetsCriteria o (r .flags .bits)) place in
-    let level : c .before .before .before .before .before .before .before .asks-level .result ≡ levelOnly o ps (row .flags) =
-    c .before .before .before .before .before .before .before .asks-level .ensures
-    ∙ ap (λ (r : Place). start .args .question .levels && not (exists (r .flags .bits))) place
-    ∙ ap (λ (b : Bool). b && not (exists (row .flags))) (start .pre) in
-    let child : c .before .before .counts-child .result ≡ childMark o row =
-    c .before .before .counts-child .ensures ∙ ap (λ (r : Place). exists (r .flags .bits) && (not (remote (r .flags .bits)) || o .selRemote)) place in
-    let name = named area word (c .before .before .before .before .before .before .before .before .before .before .of-word .result) place (c .before .before .before .before .before .before .name-of .result .now) (c .before .before .before .before .before .before .name-of .ensures) in
-    let matched = matched-is o ps area word _ _ _ _ meeting recursive level name (c .before .before .before .before .before .asked-match .result) (c .before .before .before .before .before .asked-match .ensures) in
-    let unmatched =
-    ap (λ (b : Bool). (b && c .before .before .before .before .before .before .before .before .before .is-met .result) && not (c .before .before .before .before .before .asked-match .result)) recursive
-    ∙ ap (λ (b : Bool). (o .selRecursive && b) && not (c .before .before .before .before .before .asked-match .result)) meeting
-    ∙ unmatched-is o ps row (c .before .before .before .before .before .asked-match .result) matched in
+    let meeting : met .result ≡ meetsMark o row = met .ensures ∙ ap (λ (r : Place). meetsCriteria o (r .flags .bits)) (place .ensures) in
+    let level : asks .result ≡ levelOnly o ps (row .flags)
+    = asks .ensures ∙ ap (λ (r : Place). start .args .question .levels && not (exists (r .flags .bits))) (place .ensures) ∙ ap (λ (b : Bool). b && not (exists (row .flags))) (start .pre) in
+    let child : counts .result ≡ childMark o row
+    = counts .ensures ∙ ap (λ (r : Place). exists (r .flags .bits) && (not (remote (r .flags .bits)) || o .selRemote)) (place .ensures) in
+    let name = named area word (place .result) (place .ensures) (looked .result .now) (looked .ensures) in
+    let matched : match .result ≡ matchedMark o ps row = matched-is o ps area word _ _ _ _ meeting (recursive .ensures) level name (match .result) (match .ensures) in
+    let unmatched : ((recursive .result && met .result) && not (match .result)) ≡ unmatchedMark o ps row
+    = (λ i. (recursive .ensures i && meeting i) && not (match .result)) ∙ unmatched-is o ps row (match .result) matched in
     let none : _≡_ {A = ℕ} 0 0 = refl in
     let s1 = more 1 none meeting (c .before .before .before .before .with .ensures) in
     let s2 = more 2 s1 unmatched (c .before .before .before .with2 .ensures) in

@@ -16,7 +16,9 @@ same-length : tie.Need-same-length
 same-length c = search needs
 
 returns : tie.Need-returns
-returns c = rw (answer-line (entries (c .before .before .before .before .before .before .before .before .before .before .before .args .namespaces .now)) (c .before .before .before .before .before .before .before .before .before .before .before .args .tag .now)) (put-then (c .before .before .before .before .before .before .put-namespaces .ensures) (c .before .before .put-ok-line .ensures))
+returns c =
+    let a = c .before .before .before .before .before .before .before .before .before .before .before .args in
+    rw (answer-line (entries (a .namespaces .now)) (a .tag .now)) (put-then (c .before .before .before .before .before .before .put-namespaces .ensures) (c .before .before .put-ok-line .ensures))
 
 pub put-spaces-spec : {M : Type 1} → statement M
 put-spaces-spec =

@@ -1,6 +1,6 @@
--- The collector's promise: the order of its refusals, what a refused walk and one that came to its end leave, and demand 3, which
--- follows from the equations. Rests on the law of the definitions, `demand-3-holds`.
-use mathlib.Core.Path.{_≡_, sym, ap, _∙_}
+-- The collector's promise: its answer's number, count and length, the order of its refusals, what a refused walk and one that came to
+-- its end leave, and demand 3, which follows from the equations. Rests on the law of the definitions, `demand-3-holds`.
+use mathlib.Core.Path.{_≡_, refl, sym, ap, _∙_}
 use mathlib.Core.Bool.{true, false}
 use mathlib.Core.List.{List, [], _∷_}
 use Prim.Native.Nat.{ℕ, _+_}
@@ -8,13 +8,29 @@ use native.Mathlib.Omega.{arith}
 use lib.ListN.{length, replicate}
 use Rattle.listing_rules.specs.Bytes.{oneOf}
 use Rattle.listing_rules.specs.Table.{rows, passes}
-use Rattle.listing_rules.specs.Walk.{lawfulByte, WalkReply, walkRefused, walked, walk, packed, zeroBehind, foundAfter, pendingAfter, scratchAfter, collected}
+use Rattle.listing_rules.specs.Walk.{lawfulByte, WalkReply, walkRefused, walked, walk, walkNumber, walkCount, foundLength, packed, zeroBehind, foundAfter, pendingAfter, scratchAfter, collected}
 use Rattle.listing_rules.specs.Demand3.{Demand3, meetingNames, meetingAncestors, tooSmall}
 use Rattle.listing_rules.proofs.Demand3.{demand-3-holds}
-use Rattle.collector.specs.Result.{collectedIs, collectedOf, scratchOf, foundOf, pendingOf, WholeWalk, OwesDemand3}
+use Rattle.collector.specs.Result.{collectedIs, numberOfWalk, countOf, lengthOf, collectedOf, scratchOf, foundOf, pendingOf, WholeWalk, OwesDemand3}
 use Rattle.collector.specs.Ends.{Comes}
 use Rattle.collector.specs.declared.Collected.{Collected}
 use Rattle.collector.specs.declared.Collected.the-variants.{Done, Refused}
+
+-- the number, the count and the length of an answer are those of the reply
+pub number-of-walk : (w : WalkReply) → numberOfWalk (collectedIs w) ≡ walkNumber w
+unfolding numberOfWalk collectedIs walkNumber
+number-of-walk (walkRefused k) = refl
+number-of-walk (walked count f p) = refl
+
+pub count-of-walk : (w : WalkReply) → countOf (collectedIs w) ≡ walkCount w
+unfolding countOf collectedIs walkCount
+count-of-walk (walkRefused k) = refl
+count-of-walk (walked count f p) = refl
+
+pub length-of-walk : (w : WalkReply) → lengthOf (collectedIs w) ≡ foundLength w
+unfolding lengthOf collectedIs foundLength
+length-of-walk (walkRefused k) = refl
+length-of-walk (walked count f p) = refl
 
 module _ (table : List ℕ) (o : ℕ) (scratch found pending : List ℕ) where
   -- "1, 6, then the walk"

@@ -15,6 +15,19 @@ unfoldable pub collectedIs : WalkReply → Collected
 collectedIs (walkRefused k) = Refused k
 collectedIs (walked count f p) = Done count (length f)
 
+-- Document 01's number and values for each case: the number of a refusal, 0 for none; "Its refusals give count 0 and length 0"
+unfoldable pub numberOfWalk : Collected → ℕ
+numberOfWalk (Refused k) = k
+numberOfWalk (Done count len) = 0
+
+unfoldable pub countOf : Collected → ℕ
+countOf (Refused k) = 0
+countOf (Done count len) = count
+
+unfoldable pub lengthOf : Collected → ℕ
+lengthOf (Refused k) = 0
+lengthOf (Done count len) = len
+
 -- One collection, by the table, the option byte and the three buffers as they were lent: the answer, and what each buffer holds then.
 module _ (table : List ℕ) (o : ℕ) (scratch found pending : List ℕ) where
   abbrev pub collectedOf : Collected

@@ -94,7 +94,7 @@ impl Feeder {
     /// The command's bytes so far; or, where bytes are dropped, whether the last one is CR.
     pub fn kept(&self) -> Result<&[u8], bool> {
         if self.state.place == DROPPING {
-            Err(self.state.cr)
+            Err(self.state.cr != 0)
         } else {
             Ok(&self.command[..self.state.size])
         }

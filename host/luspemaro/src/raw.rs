@@ -9,7 +9,7 @@ pub const NAME_ROOM: usize = 200;
 /// `Outcome` of the crate `exports`.
 #[repr(C)]
 pub struct Outcome {
-    number: u8,
+    pub number: u8,
     pub length: usize,
     pub count: usize,
 }
@@ -29,7 +29,7 @@ pub struct LineParts {
 #[derive(Clone, Copy, Debug, Default, PartialEq, Eq)]
 pub struct FeederState {
     pub place: u8,
-    pub cr: bool,
+    pub cr: u8,
     pub value: usize,
     /// The command's bytes so far.
     pub size: usize,

@@ -116,7 +116,7 @@ module _ (rs : List Row) (o : Options) (ps : List (List ℕ)) (n : List ℕ) whe
       go false f = refl
 
   sixteen : length (attributes rs o ps n) ≡ 16
-  unfolding attributes
+  unfolding attributes attributesFor inOrder
   sixteen = refl
 
   pub text-line : (a : Attributes) (c : CriteriaBits) → shownIs rs o ps n ≡ Line a c → shownText rs o ps n ≡ listLine (members (a .bits)) n (criteriaOf (c .bits))

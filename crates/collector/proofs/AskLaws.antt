@@ -1,21 +1,24 @@
 -- One command: its line in a local buffer, the server's reply, and what the lines of the answer give. Rests on the laws of writes.
 use mathlib.Core.Path.{_≡_, refl, sym, ap, _∙_}
 use mathlib.Core.Bool.{Bool, true, false, cond, _||_, not}
-use mathlib.Core.List.{List, [], _∷_, _++_}
+use mathlib.Core.List.{List, [], _∷_}
 use Prim.Native.Nat.{ℕ, _+_, _*_, _≤_}
 use native.Mathlib.Omega.{arith}
 use lib.Dec.{eqb}
 use lib.ListN.{length, take, drop, replicate, length-append, length-replicate}
 use lib.Seq.{take-at}
+use Rattle.listing_rules.specs.Bytes.{text, crlf, quote}
 use Rattle.listing_rules.proofs.Keys.{openBytes}
 use Rattle.listing_rules.specs.Lines.{escaped, quoted}
 use Rattle.listing_rules.specs.Server.{Reply, refusal, answered, answer, limited, bufferAfter, served}
 use Rattle.listing_rules.specs.Walk.{Lists, Step, stop, go, _>>=_, when, wantsRemote, wantsSpecial, dropsSubscribed, commandLine, replied, asked}
 use Rattle.octets.specs.Put.{Put}
 use Rattle.octets.specs.Written.{writtenIs}
+use Rattle.octets.specs.declared.Written.{Written}
 use Rattle.octets.specs.declared.Written.the-variants.{Done, Refused}
 use Rattle.octets.proofs.Puts.{front, put-length}
 use Rattle.collector.specs.Options.{byteOf}
+use Rattle.collector.specs.Rooms.{referenceRoom, commandRoom}
 use Rattle.collector.specs.Taking.{Takes, answerStep, commandStep}
 use Rattle.collector.specs.declared.lines.Progress.{Progress}
 use Rattle.collector.specs.declared.lines.Taken.{Taken}
@@ -58,39 +61,34 @@ unfolding when
 when-length true t = omega arith
 when-length false t = omega arith
 
--- a command's length
+-- a command's length: its texts, and twice the reference
+text-lengths :
+    (length (text "w LIST (") ≡ 8)
+    × (length (text "SUBSCRIBED ") ≡ 11)
+    × (length (text "RECURSIVEMATCH") ≡ 14)
+    × (length (text " SPECIAL-USE") ≡ 12)
+    × (length (text " REMOTE") ≡ 7)
+    × (length (text ") ") ≡ 2)
+    × (length (text " \"%\"") ≡ 4)
+    × (length crlf ≡ 2)
+unfolding openBytes
+text-lengths = (refl, refl, refl, refl, refl, refl, refl, refl)
+
 command-length : (o : ℕ) (reference : List ℕ) → length (commandLine o reference) ≤ 62 + 2 * length reference
-unfolding commandLine quoted openBytes
+unfolding commandLine quoted
 command-length o reference =
-    omega (
+    simp length-append
+    (omega (
       arith,
-      length-append (when (not (dropsSubscribed o)) subscribed) (recursive ++ (when (wantsSpecial o) special ++ (when (wantsRemote o) remote ++ (41 ∷ 32 ∷ (34 ∷ (escaped reference ++ (34 ∷ [])) ++ end))))),
-      length-append (when (wantsSpecial o) special) (when (wantsRemote o) remote ++ (41 ∷ 32 ∷ (34 ∷ (escaped reference ++ (34 ∷ [])) ++ end))),
-      length-append (when (wantsRemote o) remote) (41 ∷ 32 ∷ (34 ∷ (escaped reference ++ (34 ∷ [])) ++ end)),
-      length-append (34 ∷ (escaped reference ++ (34 ∷ []))) end,
-      length-append (escaped reference) (34 ∷ []),
-      when-length (not (dropsSubscribed o)) subscribed,
-      when-length (wantsSpecial o) special,
-      when-length (wantsRemote o) remote,
+      text-lengths,
+      length-append (escaped reference) (quote ∷ []),
       escaped-twice reference,
-    )
-  where
-    subscribed : List ℕ
-    subscribed = 83 ∷ 85 ∷ 66 ∷ 83 ∷ 67 ∷ 82 ∷ 73 ∷ 66 ∷ 69 ∷ 68 ∷ 32 ∷ []
+      when-length (not (dropsSubscribed o)) (text "SUBSCRIBED "),
+      when-length (wantsSpecial o) (text " SPECIAL-USE"),
+      when-length (wantsRemote o) (text " REMOTE"),
+    ))
 
-    recursive : List ℕ
-    recursive = 82 ∷ 69 ∷ 67 ∷ 85 ∷ 82 ∷ 83 ∷ 73 ∷ 86 ∷ 69 ∷ 77 ∷ 65 ∷ 84 ∷ 67 ∷ 72 ∷ []
-
-    special : List ℕ
-    special = 32 ∷ 83 ∷ 80 ∷ 69 ∷ 67 ∷ 73 ∷ 65 ∷ 76 ∷ 45 ∷ 85 ∷ 83 ∷ 69 ∷ []
-
-    remote : List ℕ
-    remote = 32 ∷ 82 ∷ 69 ∷ 77 ∷ 79 ∷ 84 ∷ 69 ∷ []
-
-    end : List ℕ
-    end = 32 ∷ 34 ∷ 37 ∷ 34 ∷ 13 ∷ 10 ∷ []
-
-pub command-fits : (o : ℕ) (reference : List ℕ) → length reference ≤ 256 → length (commandLine o reference) ≤ 640
+pub command-fits : (o : ℕ) (reference : List ℕ) → length reference ≤ referenceRoom → length (commandLine o reference) ≤ commandRoom
 command-fits o reference h = omega (arith, command-length o reference)
 
 -- the server's reply to a line, by the code's answer
@@ -98,17 +96,17 @@ abbrev pub reply : List ℕ → List ℕ → List ℕ → Step (List ℕ)
 reply table l scratch = replied (limited (length scratch) (answer table [] l))
 
 module _ (table l scratch : List ℕ) where
-  server-refused : (k : ℕ) → writtenIs (served table [] l scratch) ≡ Refused k → reply table l scratch ≡ stop k
+  server-refused : {r : Written} (k : ℕ) → r ≡ writtenIs (served table [] l scratch) → r ≡ Refused k → reply table l scratch ≡ stop k
   unfolding served writtenIs replied
-  server-refused k e = pick (served table [] l scratch) e
+  server-refused k a e = pick (served table [] l scratch) (sym a ∙ e)
     where
       pick : (x : Reply) → writtenIs x ≡ Refused k → replied x ≡ stop k
       pick (refusal j) z = let y : j ≡ k = cc in ap stop y
       pick (answered a) z = cc
 
-  pub server-done : (scratch′ : List ℕ) (len : ℕ) → writtenIs (served table [] l scratch) ≡ Done len → scratch′ ≡ bufferAfter scratch (served table [] l scratch) → (len ≤ length scratch′) × (reply table l scratch ≡ go (take len scratch′))
+  pub server-done : {r : Written} (scratch′ : List ℕ) (len : ℕ) → r ≡ writtenIs (served table [] l scratch) → r ≡ Done len → scratch′ ≡ bufferAfter scratch (served table [] l scratch) → (len ≤ length scratch′) × (reply table l scratch ≡ go (take len scratch′))
   unfolding served writtenIs replied bufferAfter
-  server-done scratch′ len e g = pick (served table [] l scratch) e g
+  server-done scratch′ len a e g = pick (served table [] l scratch) (sym a ∙ e) g
     where
       pick : (x : Reply) → writtenIs x ≡ Done len → scratch′ ≡ bufferAfter scratch x → (len ≤ length scratch′) × (replied x ≡ go (take len scratch′))
       pick (refusal j) z f = let y : _≡_ {A = ℕ} 0 1 = cc in absurd (omega arith)
@@ -122,9 +120,9 @@ module _ (table : List ℕ) (w : WalkOptions) (reference scratch : List ℕ) {li
   unfolding asked
   asks-as found pending s x e = ap (λ (y : Step (List ℕ)). y >>= λ a. answerStep w a found pending s) (ap (λ (l : List ℕ). reply table l scratch) (sym (F .bytes)) ∙ e)
 
-  pub asked-refused : {k : ℕ} → writtenIs (served table [] (take n line) scratch) ≡ Refused k → (found pending : List ℕ) (s : Lists) → commandStep table w reference scratch found pending s ≡ stop k
+  pub asked-refused : {r : Written} {k : ℕ} → r ≡ writtenIs (served table [] (take n line) scratch) → r ≡ Refused k → (found pending : List ℕ) (s : Lists) → commandStep table w reference scratch found pending s ≡ stop k
   unfolding _>>=_
-  asked-refused {k} e found pending s = asks-as found pending s (stop k) (server-refused table (take n line) scratch k e)
+  asked-refused {k} a e found pending s = asks-as found pending s (stop k) (server-refused table (take n line) scratch k a e)
 
   pub asked-done : {a : List ℕ} → reply table (take n line) scratch ≡ go a → (found pending : List ℕ) (s : Lists) → commandStep table w reference scratch found pending s ≡ answerStep w a found pending s
   unfolding _>>=_

@@ -1,4 +1,4 @@
--- The first line of what is left of an answer, and the lines behind it. Rests on the library alone.
+-- The first line of what is left of an answer, and the lines after it. Rests on the library alone.
 use mathlib.Core.Path.{_≡_, refl, ap, _∙_}
 use mathlib.Core.Bool.{Bool, true, false, cond}
 use mathlib.Core.List.{List, [], _∷_}
@@ -63,7 +63,7 @@ first-line (b ∷ c ∷ t) h = go (eqb b 10) (first-line (c ∷ t) (omega arith)
     go true ih = refl
     go false ih = ap (onFirst b) ih
 
--- the line from a place on, to the place behind it
+-- the line from a place on, to the place after it
 module _ (s : List ℕ) (at end : ℕ) (h : at < length s) (e : end ≡ at + lineLength (drop at s)) where
   pub line-lies : (at < end) × (end ≤ length s)
   line-lies = (omega (arith, line-some (drop at s) (omega (arith, length-drop at s))), omega (arith, line-fits (drop at s), length-drop at s))

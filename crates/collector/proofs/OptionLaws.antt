@@ -97,17 +97,17 @@ unfolding askedBy
 unlawful-asks o h = rw h
 
 -- what is known of a byte by what it asks for
-pub asked-byte : (o : ℕ) (w : WalkOptions) → askedBy o ≡ Of w → byteOf w ≡ o
+pub asked-byte : (o : ℕ) {w : WalkOptions} {r : Asked} → r ≡ askedBy o → r ≡ Of w → byteOf w ≡ o
 unfolding askedBy
-asked-byte o w e = pick (lawfulByte o) refl e
+asked-byte o {w} a e = pick (lawfulByte o) refl (sym a ∙ e)
   where
     pick : (b : Bool) → lawfulByte o ≡ b → cond b (Of (these (criteriaOf o) (wantsRemote o))) Unlawful ≡ Of w → byteOf w ≡ o
     pick true h g = let y : these (criteriaOf o) (wantsRemote o) ≡ w = cc in ap byteOf (sym y) ∙ lawful-back o h
     pick false h g = cc
 
-pub asked-none : (o : ℕ) → askedBy o ≡ Unlawful → lawfulByte o ≡ false
+pub asked-none : (o : ℕ) {r : Asked} → r ≡ askedBy o → r ≡ Unlawful → lawfulByte o ≡ false
 unfolding askedBy
-asked-none o e = pick (lawfulByte o) e
+asked-none o a e = pick (lawfulByte o) (sym a ∙ e)
   where
     pick : (b : Bool) → cond b (Of (these (criteriaOf o) (wantsRemote o))) Unlawful ≡ Unlawful → b ≡ false
     pick true g = cc

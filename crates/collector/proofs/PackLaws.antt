@@ -23,7 +23,7 @@ pub zero-length : (room : ℕ) (bs : List ℕ) → length bs ≤ room → length
 unfolding zeroBehind
 zero-length room bs h = omega (arith, length-append bs (replicate (room - length bs) 0), length-replicate {A = ℕ} (room - length bs) 0)
 
--- a write behind what lies in a buffer that is zero behind it
+-- a write after what lies in a buffer that is zero after it
 pub sets-zeros : (bs vs : List ℕ) (room at : ℕ) → at ≡ length bs → at + length vs ≤ room → sets (zeroBehind room bs) at vs ≡ zeroBehind room (bs ++ vs)
 unfolding zeroBehind
 sets-zeros bs vs room at e h =

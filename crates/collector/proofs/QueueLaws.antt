@@ -51,15 +51,15 @@ module _ {b : List ℕ} {len : ℕ} {ns : List (List ℕ)} (p : Packs b len ns) 
 
   -- one is left
   module _ (n : List ℕ) (others : List (List ℕ)) (w : drop done ns ≡ n ∷ others) where
-    behind : List ℕ
-    behind = packed others ++ replicate (length b - length (packed ns)) 0
+    others-on : List ℕ
+    others-on = packed others ++ replicate (length b - length (packed ns)) 0
 
-    whole : b ≡ packed (take done ns) ++ (length n ∷ (n ++ behind))
-    unfolding zeroBehind behind
+    whole : b ≡ packed (take done ns) ++ (length n ∷ (n ++ others-on))
+    unfolding zeroBehind others-on
     whole = p .bytes ∙ ap (λ (x : List ℕ). x ++ replicate (length b - length (packed ns)) 0) (packed-split done ns ∙ ap (λ (y : List (List ℕ)). packed (take done ns) ++ packed y) w ∙ ap (λ (x : List ℕ). packed (take done ns) ++ x) (packed-cons n others)) ∙ simp append-assoc
 
-    from-next : drop (at + 1) b ≡ n ++ behind
-    from-next = ap (drop (at + 1)) whole ∙ ap (λ (k : ℕ). drop (k + 1) (packed (take done ns) ++ (length n ∷ (n ++ behind)))) e ∙ drop-append-add (packed (take done ns)) (length n ∷ (n ++ behind)) 1
+    from-next : drop (at + 1) b ≡ n ++ others-on
+    from-next = ap (drop (at + 1)) whole ∙ ap (λ (k : ℕ). drop (k + 1) (packed (take done ns) ++ (length n ∷ (n ++ others-on)))) e ∙ drop-append-add (packed (take done ns)) (length n ∷ (n ++ others-on)) 1
 
     taken : take (suc done) ns ≡ take done ns ++ (n ∷ [])
     taken =
@@ -74,9 +74,9 @@ module _ {b : List ℕ} {len : ℕ} {ns : List (List ℕ)} (p : Packs b len ns) 
           name = n;
           others = others;
           queue = w;
-          size = ap (λ (x : List ℕ). getD x at 0) whole ∙ getD-at (packed (take done ns)) (length n) (n ++ behind) 0 at (sym e);
+          size = ap (λ (x : List ℕ). getD x at 0) whole ∙ getD-at (packed (take done ns)) (length n) (n ++ others-on) 0 at (sym e);
           inside = omega (arith, left (n ∷ others) w, ap length (packed-cons n others), length-append n (packed others));
-          bytes = ap (take (length n)) from-next ∙ take-at n behind (length n) refl;
+          bytes = ap (take (length n)) from-next ∙ take-at n others-on (length n) refl;
           place = omega (arith, e, ap (λ (y : List (List ℕ)). length (packed y)) taken, ap length (packed-more (take done ns) n), length-append (packed (take done ns)) (length n ∷ n));
           more = omega (arith, ap length (take-append-drop done ns), length-append (take done ns) (drop done ns), length-take-le done ns h, ap length w);
         }

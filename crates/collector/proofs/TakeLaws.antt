@@ -2,7 +2,7 @@
 -- FindLaws and on the laws of the reader.
 use mathlib.Core.Path.{_≡_, refl, sym, ap, _∙_}
 use mathlib.Core.Logic.{_⊎_, inl, inr}
-use mathlib.Core.Bool.{Bool, true, false, not}
+use mathlib.Core.Bool.{Bool, false, not}
 use mathlib.Core.List.{List}
 use Prim.Native.Nat.{ℕ, _-_, _≤_}
 use native.Mathlib.Omega.{arith}
@@ -19,6 +19,7 @@ use Rattle.list_line.specs.Members.{members, setOf}
 use Rattle.list_line.specs.Lines.{lineIs}
 use Rattle.list_line.specs.declared.attributes.Attributes.{Attributes}
 use Rattle.list_line.specs.declared.criteria.Criteria.{Criteria as Set}
+use Rattle.list_line.specs.declared.read.Line.{Line}
 use Rattle.list_line.specs.declared.read.Line.the-variants.{Parts, Refused}
 use Rattle.list_line.proofs.Members.{members-setOf}
 use Rattle.listing_rules.proofs.RoundTrip.{criteria-number}
@@ -91,10 +92,13 @@ module _ (l : List ℕ) (t : Attributes) (n : ℕ) (k : Set) (name : List ℕ) w
       attributes = cc
 
   -- what the code learns of the reader's answer
-  pub read-as : lineIs (readLine l) ≡ Parts t n k → name ≡ nameBytes (readLine l) → ReadAs l t n (parentOf k) name
+  pub read-as : {r : Line} → r ≡ lineIs (readLine l) → r ≡ Parts t n k → name ≡ nameBytes (readLine l) → ReadAs l t n (parentOf k) name
   unfolding lineIs
-  read-as e g = pick (readLine-only l)
+  read-as a told g = pick (readLine-only l)
     where
+      e : lineIs (readLine l) ≡ Parts t n k
+      e = sym a ∙ told
+
       pick : (readLine l ≡ bad) ⊎ ((l ≡ rootLine) × (readLine l ≡ root)) ⊎ Taken l (readLine l) → ReadAs l t n (parentOf k) name
       pick (inl r) = let z : Refused 12 ≡ Parts t n k = ap lineIs (sym r) ∙ e in let y : _≡_ {A = ℕ} 0 1 = cc in absurd (omega arith)
       pick (inr (inl r)) = as-root (r .1) (ap lineIs (sym (r .1)) ∙ e)
@@ -110,9 +114,9 @@ read-bad l {k} e = pick (readLine l) e
     pick root z = cc
     pick bad z = refl
 
-pub line-skipped : (l : List ℕ) (w : WalkOptions) {k : ℕ} {d b : List ℕ} {p : Progress} → lineIs (readLine l) ≡ Refused k → Inside d b p → Goes (lineStep w l d b) (p .count) d b p d b p
+pub line-skipped : (l : List ℕ) (w : WalkOptions) {r : Line} {k : ℕ} {d b : List ℕ} {p : Progress} → r ≡ lineIs (readLine l) → r ≡ Refused k → Inside d b p → Goes (lineStep w l d b) (p .count) d b p d b p
 unfolding takenIn
-line-skipped l w e h = record { inside = h; counted = refl; lists = λ s g. (s, rw (read-bad l e), g) }
+line-skipped l w a e h = record { inside = h; counted = refl; lists = λ s g. (s, rw (read-bad l (sym a ∙ e)), g) }
 
 -- a line that is read: its name is kept in found, in pending, in both or in neither
 module _ {l : List ℕ} {t : Attributes} {n : ℕ} {c : Bool} {name : List ℕ} (R : ReadAs l t n c name) (w : WalkOptions) {d b : List ℕ} {p : Progress} where

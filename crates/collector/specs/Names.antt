@@ -9,7 +9,7 @@ use Rattle.collector.specs.declared.names.Kept.{Kept}
 use Rattle.collector.specs.declared.names.Kept.the-variants.{To, Full}
 use Rattle.collector.specs.declared.walk.NamePlace.{NamePlace}
 
--- The names lie in the first `len` bytes, and behind them the buffer is zero.
+-- The names lie in the first `len` bytes, and after them the buffer is zero.
 pub record Packs (buf : List ℕ) (len : ℕ) (ns : List (List ℕ)) : Type 0 where
   pub counted : len ≡ length (packed ns)
   pub room : len ≤ length buf

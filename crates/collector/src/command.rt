@@ -11,11 +11,12 @@ ghost use Rattle.listing_rules.specs.Bytes.{slash};
 ghost use Rattle.listing_rules.specs.Walk.{when, commandLine};
 ghost use Rattle.octets.specs.Put.{Put};
 ghost use Rattle.collector.specs.Options.{byteOf};
+ghost use Rattle.collector.specs.Rooms.{referenceRoom, commandRoom};
 
 // Room for a reference, which is a name of at most 255 bytes and "/", and for a command with it, whose quotes may double it.
-pub(crate) const REFERENCE_ROOM: usize = 256;
+const REFERENCE_ROOM: usize = 256;
 
-pub(crate) const COMMAND_ROOM: usize = 640;
+const COMMAND_ROOM: usize = 640;
 
 const START: [u8; 8] = *b"w LIST (";
 
@@ -55,13 +56,13 @@ pub(crate) fn put_below(buf: &mut [u8], name: &[u8]) -> usize
 
 // An empty reference, and an empty command.
 pub(crate) fn no_reference() -> [u8; REFERENCE_ROOM]
-    ensures { λ r. ⌜ r ≡ replicate 256 0 ⌝ }
+    ensures { λ r. ⌜ r ≡ replicate referenceRoom 0 ⌝ }
 {
     [0u8; REFERENCE_ROOM]
 }
 
 pub(crate) fn no_command() -> [u8; COMMAND_ROOM]
-    ensures { λ r. ⌜ r ≡ replicate 640 0 ⌝ }
+    ensures { λ r. ⌜ r ≡ replicate commandRoom 0 ⌝ }
 {
     [0u8; COMMAND_ROOM]
 }

@@ -9,6 +9,7 @@ mod options;
 mod walk;
 
 use octets::clear;
+use octets::refusals;
 use options::Asked;
 use options::WalkOptions;
 use walk::walk_table;
@@ -18,18 +19,13 @@ ghost use Rattle.listing_rules.specs.Walk.{collected};
 ghost use Rattle.collector.specs.Result.{collectedOf, scratchOf, foundOf, pendingOf, OwesDemand3};
 ghost use Rattle.collector.specs.Ends.{Ends};
 
-// Refusals: the table does not pass; an option byte that is not lawful, so above 7, or 4 without 2.
-const BAD_TABLE: u8 = 1;
-
-const BAD_OPTION: u8 = 6;
-
 // What a walk answers: how many commands were sent, and the length of what lies in found; or the number of the refusal.
 pub enum Collected {
     Done(usize, usize),
     Refused(u8),
 }
 
-// The whole walk. Finds lie at the front of `found` and the names that were asked below at the front of `pending`, zero behind
+// The whole walk. Finds lie at the front of `found` and the names that were asked below at the front of `pending`, zero after
 // them; `scratch` takes the answers, and is zero in the end. A refusal zeroes all three.
 pub fn collect(
     table: &[u8],
@@ -71,10 +67,10 @@ fn run(
         (now (found .exit)) (now (pending .exit)) r ⌝ }
 {
     if !mailbox_table::check(table) {
-        return Collected::Refused(BAD_TABLE);
+        return Collected::Refused(refusals::TABLE);
     }
     let Asked::Of(options) = WalkOptions::of_byte(option) else {
-        return Collected::Refused(BAD_OPTION);
+        return Collected::Refused(refusals::OPTION);
     };
     walk_table(table, options, scratch, found, pending)
 }

@@ -5,6 +5,8 @@ use super::options::WalkOptions;
 use list_line::Attributes;
 use list_line::Line;
 use list_line::read_line;
+use octets::LF;
+use octets::refusals;
 ghost use mathlib.Core.Path.{_≡_};
 ghost use Prim.Native.Nat.{_+_};
 ghost use lib.ListN.{drop};
@@ -13,13 +15,6 @@ ghost use Rattle.list_line.specs.Members.{members};
 ghost use Rattle.collector.specs.Lines.{lineLength};
 ghost use Rattle.collector.specs.Options.{byteOf};
 ghost use Rattle.collector.specs.Taking.{Inside, TakesLine, TakesAnswer};
-
-// Refusals: a find does not fit, a pending name does not fit.
-const FOUND_FULL: u8 = 10;
-
-const PENDING_FULL: u8 = 11;
-
-const LF: u8 = 10;
 
 // How far a walk is: the commands sent, and the lengths of what lies in found and in pending.
 pub(crate) struct Progress {
@@ -37,7 +32,7 @@ impl Progress {
     };
 }
 
-// How far it is behind a line, an answer or a command; or the number of the refusal.
+// How far it is after a line, an answer or a command; or the number of the refusal.
 pub(crate) enum Taken {
     All(Progress),
     Refused(u8),
@@ -93,10 +88,10 @@ fn take_line(
     let find = is_find(options, attributes);
     let parent = !child_info.is_none();
     let Kept::To(found_end) = keep(find, found, start.found, &name[..n]) else {
-        return Taken::Refused(FOUND_FULL);
+        return Taken::Refused(refusals::FOUND_FULL);
     };
     let Kept::To(pending_end) = keep(parent, pending, start.pending, &name[..n]) else {
-        return Taken::Refused(PENDING_FULL);
+        return Taken::Refused(refusals::PENDING_FULL);
     };
     Taken::All(Progress {
         count: start.count,
@@ -128,7 +123,7 @@ fn has_use(attributes: Attributes) -> bool
         | attributes.has(Attributes::TRASH)
 }
 
-// The place behind the line that begins at a place: behind its line feed, or the end.
+// The place after the line that begins at a place: after its line feed, or the end.
 fn next_line(answer: &[u8], at: usize) -> usize
     ensures { λ r. ⌜ r ≡ at + lineLength (drop at (now (answer .entry))) ⌝ }
 {

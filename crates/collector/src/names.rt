@@ -1,17 +1,17 @@
-// Names as they lie in found and pending: each behind its length, in one byte.
+// Names as they lie in found and pending: each after its length, in one byte.
 use octets::put;
 use octets::put_all;
 ghost use Prim.Native.Nat.{_≤_};
 ghost use lib.ListN.{length};
 ghost use Rattle.collector.specs.Names.{Keeps};
 
-// The place behind the names, one more among them if it was wanted; or that it does not fit.
+// The place after the names, one more among them if it was wanted; or that it does not fit.
 pub(crate) enum Kept {
     To(usize),
     Full,
 }
 
-// A name behind those that lie in the first `at` bytes, if it is wanted.
+// A name after those that lie in the first `at` bytes, if it is wanted.
 pub(crate) fn keep(wanted: bool, buf: &mut [u8], at: usize, name: &[u8]) -> Kept
     requires { ⌜ at ≤ length (now buf) ⌝ }
     requires { ⌜ length (now name) ≤ 255 ⌝ }

@@ -20,6 +20,7 @@ ghost use Rattle.listing_rules.specs.Table.{passes};
 ghost use Rattle.listing_rules.specs.Walk.{collected};
 ghost use Rattle.collector.specs.Names.{Lies, nameAt};
 ghost use Rattle.collector.specs.Options.{byteOf};
+ghost use Rattle.collector.specs.Rooms.{referenceRoom};
 ghost use Rattle.collector.specs.Taking.{Inside, TakesCommand};
 ghost use Rattle.collector.specs.Walking.{Walking};
 ghost use Rattle.collector.specs.Ends.{Ends};
@@ -134,7 +135,7 @@ fn ask(
     pending: &mut [u8],
     start: Progress,
 ) -> Taken
-    requires { ⌜ length (now reference) ≤ 256 ⌝ }
+    requires { ⌜ length (now reference) ≤ referenceRoom ⌝ }
     requires { ⌜ Inside (now found) (now pending) start ⌝ }
     requires { ⌜ start .count ≤ length (now pending) ⌝ }
     ensures { λ r. ⌜ TakesCommand (now (table .entry)) options (now (reference .entry)) (now (scratch .entry)) start

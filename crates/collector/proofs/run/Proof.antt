@@ -37,7 +37,7 @@ returns-2 c =
     let args = passed .before .before .before .before .before .before .args in
     refuses-option (args .table .now) (args .option) (args .scratch .now) (args .found .now) (args .pending .now)
     (passing passed)
-    (asked-none (args .option) (sym (c .before .before .of-byte .ensures) ∙ c .enum-told .given .1))
+    (asked-none (args .option) (c .before .before .of-byte .ensures) (c .enum-told .given .1))
 
 walk-table-requires : tie.Need-walk-table-requires
 walk-table-requires c κs = let passed = c .before .before .before .before .before .before .before in (passing passed, passed .before .before .before .before .before .before .pre)
@@ -57,7 +57,7 @@ returns-3 c =
     let asked = walked .before .before .before .before .before in
     let passed = asked .before .before .before in
     let args = passed .before .before .before .before .before .before .args in
-    rw (← asked-byte (args .option) (asked .options .given .0 .0) (sym (asked .before .before .of-byte .ensures) ∙ asked .options .given .1)) (walked .walk-table .ensures)
+    rw (← asked-byte (args .option) (asked .before .before .of-byte .ensures) (asked .options .given .1)) (walked .walk-table .ensures)
 
 pub run-spec : {M : Type 1} → statement M
 run-spec =

@@ -1,4 +1,4 @@
--- `put_below` meets its contract: two writes, one behind the other (`put-then`).
+-- `put_below` meets its contract: two writes, one after the other (`put-then`).
 use borrow.Author.Needs.{needs}
 use Rattle.listing_rules.specs.Bytes.{slash}
 use Rattle.octets.proofs.Puts.{put-then}

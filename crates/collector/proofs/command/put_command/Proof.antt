@@ -1,4 +1,4 @@
--- `put_command` meets its contract: eight writes, one behind the other (`put-then`); the options are the definition's (`OptionLaws`).
+-- `put_command` meets its contract: eight writes, one after the other (`put-then`); the options are the definition's (`OptionLaws`).
 use mathlib.Core.Path.{sym, _∙_}
 use borrow.Author.Needs.{needs}
 use Rattle.listing_rules.proofs.Keys.{openBytes}

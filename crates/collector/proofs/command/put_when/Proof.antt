@@ -1,4 +1,4 @@
--- `put_when` meets its contract: the text or nothing.
+-- `put_when` meets its contract: the text, or nothing (`put-none`).
 use native.Mathlib.Omega.{arith}
 use borrow.Author.Needs.{needs}
 use Rattle.listing_rules.specs.Walk.{when}
@@ -18,7 +18,9 @@ returns c = rw (c .before .before .before .before .if1 .taken) (c .before .befor
 
 returns-2 : tie.Need-returns-2
 unfolding when
-returns-2 c = rw (c .if1 .left) (put-none (c .before .before .before .args .buf .now) (c .before .before .before .args .at) (omega arith) (omega arith))
+returns-2 c =
+    let start = c .before .before .before in
+    rw (c .if1 .left) (put-none (start .args .buf .now) (start .args .at) (omega arith) (omega arith))
 
 pub put-when-spec : {M : Type 1} → statement M
 put-when-spec = tie.close (tie.spec put-all-requires same-length returns returns-2)

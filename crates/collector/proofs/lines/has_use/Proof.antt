@@ -31,7 +31,16 @@ has-requires-7 c κs = search needs
 
 returns : tie.Need-returns
 unfolding useAttr
-returns c = λ i. (c .before .before .before .before .before .before .has .ensures ∙ has-attribute 7 (c .before .before .before .before .before .before .before .args .attributes .bits) (omega arith)) i || (c .before .before .before .before .before .has2 .ensures ∙ has-attribute 8 (c .before .before .before .before .before .before .before .args .attributes .bits) (omega arith)) i || (c .before .before .before .before .has3 .ensures ∙ has-attribute 9 (c .before .before .before .before .before .before .before .args .attributes .bits) (omega arith)) i || (c .before .before .before .has4 .ensures ∙ has-attribute 10 (c .before .before .before .before .before .before .before .args .attributes .bits) (omega arith)) i || (c .before .before .has5 .ensures ∙ has-attribute 11 (c .before .before .before .before .before .before .before .args .attributes .bits) (omega arith)) i || (c .before .has6 .ensures ∙ has-attribute 12 (c .before .before .before .before .before .before .before .args .attributes .bits) (omega arith)) i || (c .has7 .ensures ∙ has-attribute 13 (c .before .before .before .before .before .before .before .args .attributes .bits) (omega arith)) i
+returns c =
+    let attributes = c .before .before .before .before .before .before .before .args .attributes .bits in
+    let all = c .before .before .before .before .before .before .has .ensures ∙ has-attribute 7 attributes (omega arith) in
+    let archive = c .before .before .before .before .before .has2 .ensures ∙ has-attribute 8 attributes (omega arith) in
+    let drafts = c .before .before .before .before .has3 .ensures ∙ has-attribute 9 attributes (omega arith) in
+    let flagged = c .before .before .before .has4 .ensures ∙ has-attribute 10 attributes (omega arith) in
+    let junk = c .before .before .has5 .ensures ∙ has-attribute 11 attributes (omega arith) in
+    let sent = c .before .has6 .ensures ∙ has-attribute 12 attributes (omega arith) in
+    let trash = c .has7 .ensures ∙ has-attribute 13 attributes (omega arith) in
+    λ i. all i || archive i || drafts i || flagged i || junk i || sent i || trash i
 
 pub has-use-spec : {M : Type 1} → statement M
 has-use-spec =

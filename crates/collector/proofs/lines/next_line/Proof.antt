@@ -25,7 +25,10 @@ add-result : tie.Need-add-result Inv-loop μ-loop
 add-result c = search needs
 
 returns : tie.Need-returns Inv-loop μ-loop
-returns c = omega (arith, line-end (c .before .before .before .before .args .answer .now) (c .before .before .before .loop .i) (c .before .before .loop-test .taken) (c .if1 .taken))
+returns c =
+    let turn = c .before .before .before in
+    let start = turn .before in
+    omega (arith, line-end (start .args .answer .now) (turn .loop .i) (c .before .before .loop-test .taken) (c .if1 .taken))
 
 add-i : tie.Need-add-i Inv-loop μ-loop
 add-i c = search needs
@@ -34,7 +37,10 @@ loop-less : tie.Need-loop-less Inv-loop μ-loop
 loop-less c = search needs
 
 loop-again : tie.Need-loop-again Inv-loop μ-loop
-loop-again c = omega (arith, line-more (c .before .before .before .before .args .answer .now) (c .before .before .before .loop .i) (c .before .before .loop-test .taken) (c .if1 .left))
+loop-again c =
+    let turn = c .before .before .before in
+    let start = turn .before in
+    omega (arith, line-more (start .args .answer .now) (turn .loop .i) (c .before .before .loop-test .taken) (c .if1 .left))
 
 returns-2 : tie.Need-returns-2 Inv-loop μ-loop
 returns-2 c = omega (arith, line-out (c .before .before .args .answer .now) (c .before .loop .i) (c .loop-test .left))

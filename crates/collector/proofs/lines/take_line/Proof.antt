@@ -1,5 +1,5 @@
 -- `take_line` meets its contract: what the reader's answer tells of the line, and what is kept of it (`TakeLaws`).
-use mathlib.Core.Path.{sym, ap, _∙_}
+use mathlib.Core.Path.{ap}
 use mathlib.Core.Bool.{not}
 use native.Mathlib.Omega.{arith}
 use lib.ListN.{take, length-take}
@@ -26,7 +26,7 @@ returns : tie.Need-returns
 returns c =
     let read = c .before .before in
     let start = read .before .before .before .before in
-    line-skipped (start .args .line .now) (start .args .options) (sym (read .read-line .ensures .0) ∙ c .enum-told .given .1) (start .pre)
+    line-skipped (start .args .line .now) (start .args .options) (read .read-line .ensures .0) (c .enum-told .given .1) (start .pre)
 
 -- what is read of the line
 told : (c : tie.After-known-told) →
@@ -36,7 +36,7 @@ told c =
     let parts = c .before .parts .given in
     let read = c .before .before .before in
     let start = read .before .before .before .before in
-    read-as (start .args .line .now) (parts .0 .0) (parts .0 .1 .0) (parts .0 .1 .1 .0) (read .read-line .result .name) (sym (read .read-line .ensures .0) ∙ parts .1) (read .read-line .ensures .1)
+    read-as (start .args .line .now) (parts .0 .0) (parts .0 .1 .0) (parts .0 .1 .1 .0) (read .read-line .result .name) (read .read-line .ensures .0) (parts .1) (read .read-line .ensures .1)
 
 is-find-requires : tie.Need-is-find-requires
 is-find-requires c κs = search needs
@@ -69,23 +69,27 @@ returns-2 c =
     let start = read .before .before .before .before .before .before .before in
     find-full (told read) (start .args .options) (rw (c .enum-told2 .given .1, kept .before .before .before .before .is-find .ensures) at (kept .keep .ensures))
 
--- the find is kept
+-- a kept find, and the line that it was read from
+abbrev read-before : tie.After-known-told2 → tie.After-known-told
+read-before c = c .before .before .before .before .before .before .before .before .before .before .before
+
 found-kept : (c : tie.After-known-told2) →
-    let kept = c .before .before .before .before .before in
-    let read = kept .before .before .before .before .before .before in
+    let read = read-before c in
     let args = read .before .before .before .before .before .before .before .args in
     let parts = read .before .parts .given .0 in
-    Keeps (isFind (byteOf (args .options)) (members (parts .0 .bits))) (take (parts .1 .0) (read .before .before .before .read-line .result .name)) (args .found .now) (args .start .found) (kept .keep .last .1 .0) (To (c .before .found-end .given .0 .0))
+    Keeps (isFind (byteOf (args .options)) (members (parts .0 .bits))) (take (parts .1 .0) (read .before .before .before .read-line .result .name)) (args .found .now) (args .start .found) (c .before .before .before .before .before .keep .last .1 .0) (To (c .before .found-end .given .0 .0))
 found-kept c = let kept = c .before .before .before .before .before in rw (c .before .found-end .given .1, kept .before .before .before .before .is-find .ensures) at (kept .keep .ensures)
 
 array-share-prefix-name-2 : tie.Need-array-share-prefix-name-2
-array-share-prefix-name-2 c = told (c .before .before .before .before .before .before .before .before .before .before .before .before) .inside
+array-share-prefix-name-2 c = told (read-before (c .before)) .inside
 
 slice-aggregate-keep-2 : tie.Need-slice-aggregate-keep-2
-slice-aggregate-keep-2 c = simp length-take (omega (arith, told (c .before .before .before .before .before .before .before .before .before .before .before .before .before) .inside))
+slice-aggregate-keep-2 c = simp length-take (omega (arith, told (read-before (c .before .before)) .inside))
 
 keep-requires-2 : tie.Need-keep-requires-2
-keep-requires-2 c κs = let read = c .before .before .before .before .before .before .before .before .before .before .before .before .before in (omega (arith, read .before .before .before .before .before .before .before .pre), simp length-take (omega (arith, told read .short)))
+keep-requires-2 c κs =
+    let read = read-before (c .before .before) in
+    (omega (arith, read .before .before .before .before .before .before .before .pre), simp length-take (omega (arith, told read .short)))
 
 enum-known-pending-end : tie.Need-enum-known-pending-end
 enum-known-pending-end c = search needs
@@ -104,9 +108,10 @@ returns-3 c =
     let asked = c .before .before .before .before in
     let found = asked .before .before .before in
     let kept = found .before .before .before .before .before in
-    let read = kept .before .before .before .before .before .before in
+    let read = read-before found in
     let start = read .before .before .before .before .before .before .before in
-    ask-full (told read) (start .args .options) (found-kept found) (kept .keep .kept .1 .0) (rw (c .enum-told3 .given .1, ap not (kept .before .before .before .is-none .ensures)) at (asked .keep2 .ensures))
+    let full = rw (c .enum-told3 .given .1, ap not (kept .before .before .before .is-none .ensures)) at (asked .keep2 .ensures) in
+    ask-full (told read) (start .args .options) (found-kept found) (kept .keep .kept .1 .0) full
 
 same-length-4 : tie.Need-same-length-4
 same-length-4 c = search needs
@@ -119,9 +124,10 @@ returns-4 c =
     let asked = c .before .before .before .before .before in
     let found = asked .before .before .before in
     let kept = found .before .before .before .before .before in
-    let read = kept .before .before .before .before .before .before in
+    let read = read-before found in
     let start = read .before .before .before .before .before .before .before in
-    line-taken (told read) (start .args .options) (found-kept found) (kept .keep .kept .1 .0) (rw (c .before .pending-end .given .1, ap not (kept .before .before .before .is-none .ensures)) at (asked .keep2 .ensures)) (asked .keep2 .kept .1 .0)
+    let ask-kept = rw (c .before .pending-end .given .1, ap not (kept .before .before .before .is-none .ensures)) at (asked .keep2 .ensures) in
+    line-taken (told read) (start .args .options) (found-kept found) (kept .keep .kept .1 .0) ask-kept (asked .keep2 .kept .1 .0)
 
 pub take-line-spec : {M : Type 1} → statement M
 take-line-spec =

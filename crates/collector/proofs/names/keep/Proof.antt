@@ -1,4 +1,4 @@
--- `keep` meets its contract: a name that is wanted is packed behind the others, or there is no room for it (`PackLaws`).
+-- `keep` meets its contract: a name that is wanted is packed after the others, or there is no room for it (`PackLaws`).
 use native.Mathlib.Omega.{arith}
 use borrow.Author.Tests.{not-true, not-false}
 use borrow.Author.Needs.{needs}
@@ -10,14 +10,16 @@ use Rattle.collector.proofs.names.keep.Tie as tie
 
 returns : tie.Need-returns
 unfolding withName
-returns c = rw (not-true (c .before .before .before .args .wanted) (c .if1 .taken)) (c .before .before .before .pre .0, λ ns p. p)
+returns c = let start = c .before .before .before in rw (not-true (start .args .wanted) (c .if1 .taken)) (start .pre .0, λ ns p. p)
 
 sub-if2 : tie.Need-sub-if2
 sub-if2 c = search needs
 
 returns-2 : tie.Need-returns-2
 unfolding withName
-returns-2 c = rw (not-false (c .before .before .before .before .args .wanted) (c .before .if1 .left)) (λ ns p. packs-full (c .before .before .before .before .args .name .now) p (c .if2 .taken))
+returns-2 c =
+    let start = c .before .before .before .before in
+    rw (not-false (start .args .wanted) (c .before .if1 .left)) (λ ns p. packs-full (start .args .name .now) p (c .if2 .taken))
 
 cast-put : tie.Need-cast-put
 cast-put c = search needs
@@ -34,8 +36,11 @@ same-length c = search needs
 returns-3 : tie.Need-returns-3
 unfolding withName
 returns-3 c =
-    let w = put-then (c .before .before .before .before .before .before .put .ensures) (c .before .before .put-all .ensures) in
-    rw (not-false (c .before .before .before .before .before .before .before .before .before .before .before .before .args .wanted) (c .before .before .before .before .before .before .before .before .before .if1 .left)) (omega (arith, w .place, w .fits, put-length w), λ ns p. packs-more (c .before .before .before .before .before .before .before .before .before .before .before .before .args .name .now) p w (c .before .before .before .before .before .before .before .before .if2 .left))
+    let put = c .before .before in
+    let fits = put .before .before .before .before .before .before in
+    let start = fits .before .before .before .before in
+    let both = put-then (put .before .before .before .before .put .ensures) (put .put-all .ensures) in
+    rw (not-false (start .args .wanted) (fits .before .if1 .left)) (omega (arith, both .place, both .fits, put-length both), λ ns p. packs-more (start .args .name .now) p both (fits .if2 .left))
 
 pub keep-spec : {M : Type 1} → statement M
 keep-spec =

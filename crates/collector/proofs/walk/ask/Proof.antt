@@ -1,11 +1,12 @@
 -- `ask` meets its contract: the command stands in the line, the answer in scratch, and its lines are taken in (`AskLaws`).
-use mathlib.Core.Path.{_≡_, sym, _∙_}
+use mathlib.Core.Path.{_≡_}
 use Prim.Native.Nat.{_+_, _≤_}
 use native.Mathlib.Omega.{arith}
 use lib.ListN.{length, take, length-take}
 use borrow.Author.Needs.{needs}
 use Rattle.listing_rules.specs.Walk.{go, commandLine}
 use Rattle.collector.specs.Options.{byteOf}
+use Rattle.collector.specs.Rooms.{commandRoom}
 use Rattle.collector.proofs.AskLaws.{Fronts, put-fronts, command-fits, reply, server-done, asked-done, asked-refused, takes-step}
 use Rattle.collector.proofs.walk.ask.Statement.{statement}
 use Rattle.collector.proofs.walk.ask.Tie as tie
@@ -33,7 +34,7 @@ sent c =
     let start = c .before .before .before .before .before .before .before .before .before .before in
     let byte = byteOf (start .args .options) in
     let reference = start .args .reference .now in
-    put-fronts (made .result) (put .last .0) (commandLine byte reference) (put .result) 640 (made .ensures) (put .ensures) (command-fits byte reference (start .pre .0))
+    put-fronts (made .result) (put .last .0) (commandLine byte reference) (put .result) commandRoom (made .ensures) (put .ensures) (command-fits byte reference (start .pre .0))
 
 array-share-prefix-line : tie.Need-array-share-prefix-line
 array-share-prefix-line c = sent c .inside
@@ -63,7 +64,7 @@ answered-so c =
     let put = answered .before .before .before .before .before .put-command in
     let args = answered .before .before .before .before .before .before .before .before .before .before .before .before .before .args in
     let told = c .before .len .given in
-    server-done (args .table .now) (take (put .result) (put .last .0)) (args .scratch .now) (answered .answer .last .1 .1 .1 .0) (told .0 .0) (sym (answered .answer .ensures .0) ∙ told .1) (answered .answer .ensures .1)
+    server-done (args .table .now) (take (put .result) (put .last .0)) (args .scratch .now) (answered .answer .last .1 .1 .1 .0) (told .0 .0) (answered .answer .ensures .0) (told .1) (answered .answer .ensures .1)
 
 slice-reshare-prefix-take-lines : tie.Need-slice-reshare-prefix-take-lines
 slice-reshare-prefix-take-lines c = answered-so (c .before) .0
@@ -72,7 +73,10 @@ slice-aggregate-take-lines : tie.Need-slice-aggregate-take-lines
 slice-aggregate-take-lines c = simp length-take (omega (arith, answered-so (c .before .before) .0))
 
 take-lines-requires : tie.Need-take-lines-requires
-take-lines-requires c κs = let start = c .before .before .before .before .before .before .before .before .before .before .before .before .before .before .before .before .before .before .before .before .before .before in record { finds = start .pre .1 .0 .finds; asks = start .pre .1 .0 .asks }
+take-lines-requires c κs =
+    let answered = c .before .before .before .before .before .before .before .before .before in
+    let start = answered .before .before .before .before .before .before .before .before .before .before .before .before .before in
+    record { finds = start .pre .1 .0 .finds; asks = start .pre .1 .0 .asks }
 
 enum-known-number : tie.Need-enum-known-number
 enum-known-number c = search needs
@@ -107,7 +111,7 @@ returns-2 c =
     let written = answered .before .before .before in
     let args = written .before .before .before .before .before .before .before .before .before .before .args in
     λ s h.
-    asked-refused (args .table .now) (args .options) (args .reference .now) (args .scratch .now) (sent written) (sym (answered .answer .ensures .0) ∙ c .before .number .given .1) (args .found .now) (args .pending .now) s
+    asked-refused (args .table .now) (args .options) (args .reference .now) (args .scratch .now) (sent written) (answered .answer .ensures .0) (c .before .number .given .1) (args .found .now) (args .pending .now) s
 
 pub ask-spec : {M : Type 1} → statement M
 ask-spec =

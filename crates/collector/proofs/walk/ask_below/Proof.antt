@@ -5,6 +5,7 @@ use lib.ListN.{length-append, length-take}
 use borrow.Author.Needs.{needs}
 use Rattle.listing_rules.specs.Bytes.{slash}
 use Rattle.collector.specs.Names.{nameAt}
+use Rattle.collector.specs.Rooms.{referenceRoom}
 use Rattle.collector.proofs.AskLaws.{Fronts, put-fronts}
 use Rattle.collector.proofs.walk.ask_below.Statement.{statement}
 use Rattle.collector.proofs.walk.ask_below.Tie as tie
@@ -36,7 +37,7 @@ below c =
     let put = c .before .put-below in
     let made = c .before .before .before .before .before .no-reference in
     let start = c .before .before .before .before .before .before .before .before .before .before in
-    put-fronts (made .result) (put .last .0) (nameAt (start .args .name) (start .args .pending .now) ++ (slash ∷ [])) (put .result) 256 (made .ensures) (put .ensures)
+    put-fronts (made .result) (put .last .0) (nameAt (start .args .name) (start .args .pending .now) ++ (slash ∷ [])) (put .result) referenceRoom (made .ensures) (put .ensures)
     (simp (length-append, length-take) (omega (arith, start .pre .0)))
 
 array-share-prefix-reference : tie.Need-array-share-prefix-reference

@@ -113,11 +113,13 @@ def kind(place, text):
 
 
 def in_one_line(place, text):
-    """An error in one line: where it stands, in which declaration, and what differs or does not follow."""
+    """An error in one line: where it stands, in which declaration, and of a fact what differs or does not follow."""
     name = re.match(r'(?:`[^`]*`: )?', text)[0]
-    differs = re.search(r'computed as far as they go, (.*?\(\w+\).*?\(\w+\))', text, re.DOTALL)
-    fact = next((m for m in (re.search(p, text, re.DOTALL) for p in FACTS) if m), None)
-    said = differs[1] if differs else text[fact.start():] if fact else text.removeprefix(name)
+    said = text.removeprefix(name)
+    if kind(place, text) == 'fact':
+        differs = re.search(r'computed as far as they go, (.*?\(\w+\).*?\(\w+\))', text, re.DOTALL)
+        fact = next((m for m in (re.search(p, text, re.DOTALL) for p in FACTS) if m), None)
+        said = differs[1] if differs else text[fact.start():] if fact else said
     said = ' '.join((name + said).split())
     said = said if len(said) <= WIDTH else said[:WIDTH] + ' ..'
     return re.sub(r'^(.*/)?crates/[^/]*/', '', place) + ': ' + said

@@ -82,8 +82,12 @@ module _ (area words : List ℕ) (x : Indexed area words) (b : Beginning) (a : A
   size : length (row .name) ≡ nthRow words (b .row) .len
   size = name-length x (b .row) (a .row)
 
-  pub begun-length : length (begun area words b) ≡ b .len
+  begun-length : length (begun area words b) ≡ b .len
   begun-length = length-take-le (b .len) (row .name) (omega (arith, size, a .within))
+
+  -- as it is taken from the row's name, where that was looked up
+  pub looked-size : (l : List ℕ) → l ≡ nthName area words (b .row) → b .len ≡ length (take (b .len) l)
+  looked-size l e = sym (ap (λ (k : List ℕ). length (take (b .len) k)) e ∙ begun-length)
 
   -- it is short enough for the match
   pub begun-short : leb (length (begun area words b)) 255 ≡ true

@@ -23,6 +23,7 @@ use Rattle.list_answer.specs.declared.decide.Shown.{Shown}
 use Rattle.list_answer.specs.declared.decide.Shown.the-variants.{Line, Nothing}
 use Rattle.list_answer.specs.Prefixes.{longer, prefixes}
 use Rattle.list_answer.specs.Marks.{levelOnly}
+use Rattle.list_answer.specs.Ready.{Ready}
 
 -- A name that matches is listed by its own right, or as a level
 
@@ -64,11 +65,15 @@ foundBelow area words m b = belowFrom area words m (begun area words b) (b .row)
 abbrev pub shownAt : List ℕ → List ℕ → List ℕ → Question → Beginning → Shown
 shownAt area words patterns q b = shownIs (rowsAt area words) (optionsIs (q .options)) (unpacked patterns) (begun area words b)
 
--- what `look_at` promises
+-- what the rows say of a name
 pub record Stands (area words patterns : List ℕ) (q : Question) (b : Beginning) (s : Standing) : Type 0 where
   pub flags : s .flags .bits ≡ flagsOf (rowsAt area words) (begun area words b)
   pub level : s .level ≡ asLevel (rowsAt area words) (optionsIs (q .options)) (unpacked patterns) (begun area words b)
   pub counts : s .counts ≡ (byRight (rowsAt area words) (optionsIs (q .options)) (unpacked patterns) (begun area words b) || s .level)
+
+-- what `look_at` promises: for whatever patterns the rows are marked
+abbrev pub StandsFor : List ℕ → List ℕ → Question → Beginning → Standing → Type 0
+StandsFor area words q b s = (patterns : List ℕ) → Ready area words patterns q → Stands area words patterns q b s
 
 -- what `is_matched` promises: where the name is listed if it matches, whether it does
 abbrev pub Matched : List ℕ → List ℕ → List ℕ → Question → Beginning → Bool → Type 0

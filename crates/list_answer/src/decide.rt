@@ -14,8 +14,9 @@ ghost use mathlib.Core.Path.{_≡_};
 ghost use mathlib.Core.Bool.{cond, _&&_};
 ghost use Rattle.listing_rules.specs.Options.{criteria, noCriteria, criteriaNumber};
 ghost use Rattle.command_line.specs.OptionSets.{optionsIs};
+ghost use Rattle.mailbox_table.specs.Index.{Indexed};
 ghost use Rattle.mailbox_table.specs.Below.{Begins};
-ghost use Rattle.list_answer.specs.Shown.{foundBelow, shownAt, Stands, Matched};
+ghost use Rattle.list_answer.specs.Shown.{foundBelow, shownAt, StandsFor, Matched};
 ghost use Rattle.list_answer.specs.Ready.{Ready, At};
 
 // A name to look at: the first `len` bytes of a row's name.
@@ -49,7 +50,7 @@ pub(crate) fn decide(
     requires { ⌜ At (now words) name ⌝ }
     ensures { λ r. ⌜ r ≡ shownAt (now (area .entry)) (now (words .entry)) (now (patterns .entry)) question name ⌝ }
 {
-    let standing = look_at(area, words, patterns, question, name);
+    let standing = look_at(area, words, question, name);
     if !standing.counts {
         return Shown::Nothing;
     }
@@ -64,17 +65,11 @@ pub(crate) fn decide(
     )
 }
 
-// What the rows say of the name.
-fn look_at(
-    area: &[u8],
-    words: &[u64],
-    patterns: &[u8],
-    question: Question,
-    name: Beginning,
-) -> Standing
-    requires { ⌜ Ready (now area) (now words) (now patterns) question ⌝ }
+// What the rows say of the name. The patterns for which they were marked are not looked at again.
+fn look_at(area: &[u8], words: &[u64], question: Question, name: Beginning) -> Standing
+    requires { ⌜ Indexed (now area) (now words) ⌝ }
     requires { ⌜ At (now words) name ⌝ }
-    ensures { λ r. ⌜ Stands (now (area .entry)) (now (words .entry)) (now (patterns .entry)) question name r ⌝ }
+    ensures { λ r. ⌜ StandsFor (now (area .entry)) (now (words .entry)) question name r ⌝ }
 {
     let i = name.row;
     let word = words[i];

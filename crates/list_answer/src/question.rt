@@ -16,6 +16,7 @@ pub(crate) struct Question {
 }
 
 impl Question {
+    // The question of a command with these options and these packed patterns.
     pub(crate) fn of(options: Options, patterns: &[u8]) -> Question
         ensures { λ r. ⌜ Asks (now (patterns .entry)) options r ⌝ }
     {

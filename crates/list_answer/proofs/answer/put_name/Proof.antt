@@ -1,14 +1,12 @@
 -- `list_answer::answer::put_name` meets its contract: the text of what `decide` shows. By Showing.
-use mathlib.Core.Path.{sym, ap, _∙_}
-use mathlib.Core.List.{List}
-use Prim.Native.Nat.{ℕ}
-use lib.ListN.{length, take, getD}
+use mathlib.Core.Path.{sym, _∙_}
+use lib.ListN.{getD}
 use Rattle.octets.proofs.Puts.{put-none}
 use Rattle.command_line.specs.OptionSets.{optionsIs}
 use Rattle.mailbox_table.specs.Index.{rowsAt}
 use Rattle.pattern.specs.Packed.{unpacked}
 use Rattle.list_answer.specs.Shown.{begun}
-use Rattle.list_answer.proofs.Deciding.{begun-length}
+use Rattle.list_answer.proofs.Deciding.{looked-size}
 use Rattle.list_answer.proofs.Showing.{named, text-none, text-line}
 use borrow.Author.Needs.{needs}
 use Rattle.list_answer.proofs.answer.put_name.Statement.{statement}
@@ -50,8 +48,8 @@ slice-aggregate-put-line c =
     let area = start .args .area .now in
     let words = start .args .words .now in
     let name = start .args .name in
-    let bytes = named area (getD words (name .row) 0) (row .result) (row .ensures) (looked .result .now) (looked .ensures) in
-    sym (ap (λ (l : List ℕ). length (take (name .len) l)) bytes ∙ begun-length area words (start .pre .0 .index .indexed) name (start .pre .1))
+    looked-size area words (start .pre .0 .index .indexed) name (start .pre .1) (looked .result .now)
+    (named area (getD words (name .row) 0) (row .result) (row .ensures) (looked .result .now) (looked .ensures))
 
 put-line-requires : tie.Need-put-line-requires
 put-line-requires c κs = search needs

@@ -18,26 +18,30 @@ look-at-requires c κs = search needs
 
 returns : tie.Need-returns
 returns c =
-    let a = c .before .before .before .before .before .before .args in
+    let start = c .before .before .before .before .before .before in
+    let a = start .args in
     let standing = c .before .before .look-at in
+    let stands = standing .ensures (a .patterns .now) (start .pre .0) in
     let table = rowsAt (a .area .now) (a .words .now) in
     let o = optionsIs (a .question .options) in
     let ps = unpacked (a .patterns .now) in
     let n = begun (a .area .now) (a .words .now) (a .name) in
-    shown-not table o ps n (standing .result .level) (standing .result .counts) (standing .ensures .level) (standing .ensures .counts) (not-true _ (c .if1 .taken))
+    shown-not table o ps n (standing .result .level) (standing .result .counts) (stands .level) (stands .counts) (not-true _ (c .if1 .taken))
 
 is-matched-requires : tie.Need-is-matched-requires
 is-matched-requires c κs = search needs
 
 returns-2 : tie.Need-returns-2
 returns-2 c =
-    let a = c .before .before .before .before .before .before .before .before .args in
+    let start = c .before .before .before .before .before .before .before .before in
+    let a = start .args in
     let standing = c .before .before .before .before .look-at in
+    let stands = standing .ensures (a .patterns .now) (start .pre .0) in
     let table = rowsAt (a .area .now) (a .words .now) in
     let o = optionsIs (a .question .options) in
     let ps = unpacked (a .patterns .now) in
     let n = begun (a .area .now) (a .words .now) (a .name) in
-    shown-unmatched table o ps n (standing .result .level) (standing .result .counts) (standing .ensures .level) (standing .ensures .counts) (not-false _ (c .before .before .if1 .left))
+    shown-unmatched table o ps n (standing .result .level) (standing .result .counts) (stands .level) (stands .counts) (not-false _ (c .before .before .if1 .left))
     (c .before .is-matched .result) (c .before .is-matched .ensures) (not-true _ (c .if2 .taken))
 
 is-recursive-requires : tie.Need-is-recursive-requires
@@ -62,6 +66,7 @@ returns-3 : tie.Need-returns-3
 returns-3 c =
     let start = c .before .before .before .before .before .before .before .before .before .before .before .before .before .before in
     let standing = c .before .before .before .before .before .before .before .before .before .before .look-at in
+    let stands = standing .ensures (start .args .patterns .now) (start .pre .0) in
     let matched = c .before .before .before .before .before .before .before .is-matched in
     let recursive = c .before .before .before .before .before .is-recursive in
     let below = c .before .before .before .before .asked-below in
@@ -81,9 +86,9 @@ returns-3 c =
     = parent .ensures ∙ (λ i. asked .ensures i && sym (children-below area words x name at o ps (ready .marked)) i) in
     let info : below .result ≡ (o .selRecursive && meetsBelow (rowsAt area words) o n)
     = below .ensures ∙ (λ i. recursive .ensures i && sym (meets-below area words x name at o ps (ready .marked)) i) in
-    shown-line (rowsAt area words) o ps n (standing .result .level) (standing .result .counts) (standing .ensures .level) (standing .ensures .counts) (not-false _ (c .before .before .before .before .before .before .before .before .if1 .left))
+    shown-line (rowsAt area words) o ps n (standing .result .level) (standing .result .counts) (stands .level) (stands .counts) (not-false _ (c .before .before .before .before .before .before .before .before .if1 .left))
     (matched .result) (matched .ensures) (not-false _ (c .before .before .before .before .before .before .if2 .left))
-    (standing .result .flags .bits) (standing .ensures .flags)
+    (standing .result .flags .bits) (stands .flags)
     (parent .result) children
     (attributes .result) (attributes .ensures)
     (below .result) info

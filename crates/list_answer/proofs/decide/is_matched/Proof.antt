@@ -14,7 +14,7 @@ use Rattle.mailbox_table.specs.Index.{nthRow}
 use Rattle.pattern.specs.Packed.{unpacked}
 use Rattle.pattern.specs.Chosen.{chosen}
 use Rattle.list_answer.specs.Shown.{begun}
-use Rattle.list_answer.proofs.Deciding.{begun-length, begun-short, matched-whole, matched-proper}
+use Rattle.list_answer.proofs.Deciding.{looked-size, begun-short, matched-whole, matched-proper}
 use Rattle.list_answer.proofs.Showing.{named}
 use borrow.Author.Needs.{needs}
 use Rattle.list_answer.proofs.decide.is_matched.Statement.{statement}
@@ -63,8 +63,8 @@ slice-aggregate-matches-any c =
     let area = start .args .area .now in
     let words = start .args .words .now in
     let name = start .args .name in
-    let bytes = named area (getD words (name .row) 0) (row .result) (row .ensures) (looked .result .now) (looked .ensures) in
-    sym (ap (λ (l : List ℕ). length (take (name .len) l)) bytes ∙ begun-length area words (start .pre .0 .index .indexed) name (start .pre .1))
+    looked-size area words (start .pre .0 .index .indexed) name (start .pre .1) (looked .result .now)
+    (named area (getD words (name .row) 0) (row .result) (row .ensures) (looked .result .now) (looked .ensures))
 
 matches-any-requires : tie.Need-matches-any-requires
 matches-any-requires c κs = search needs

@@ -51,7 +51,8 @@ asked-below-requires-2 c κs = search needs
 
 returns : tie.Need-returns
 returns c =
-    let start = c .before .before .before .before .before .before .before .before .before .before .before .before .before .before in
+    λ patterns ready.
+    let start = c .before .before .before .before .before .before .before .before .before .before .before .before .before in
     let row = c .before .before .before .before .before .before .before .before .before .of-word in
     let flagged = c .before .before .before .before .before .before .flags-of in
     let marks = c .before .before .before .before .before .of-word2 in
@@ -63,11 +64,10 @@ returns c =
     let area = start .args .area .now in
     let words = start .args .words .now in
     let name = start .args .name in
-    let ready = start .pre .0 in
-    let x = ready .index .indexed in
+    let x = start .pre .0 in
     let at = start .pre .1 in
     let o = optionsIs (start .args .question .options) in
-    let ps = unpacked (start .args .patterns .now) in
+    let ps = unpacked patterns in
     let n = begun area words name in
     let whole = eqb (nthRow words (name .row) .len) (name .len) in
     let flags : flagged .result .bits ≡ flagsOf (rowsAt area words) n

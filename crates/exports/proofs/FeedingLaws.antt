@@ -1,6 +1,6 @@
 -- The feeder's state goes through C's form unchanged, and so does the feeder's promise. Rests on nothing.
 use mathlib.Core.Path.{_≡_, refl, ap, _∙_}
-use mathlib.Core.Bool.{false}
+use mathlib.Core.Bool.{Bool, true, false}
 use mathlib.Core.List.{List}
 use Prim.Native.Nat.{ℕ}
 use Rattle.command_shape.specs.declared.machine.Tail.the-variants.{Text, Cr, Open, Digits, Closed, Ending}
@@ -12,7 +12,7 @@ use Rattle.feeder.specs.declared.Fed.{Fed}
 use Rattle.feeder.specs.Feed.{Feeds}
 use Rattle.exports.specs.declared.feeding.FeederState.{FeederState}
 use Rattle.exports.specs.declared.feeding.FedChunk.{FedChunk}
-use Rattle.exports.specs.Feeding.{placeOf, machineOf, placeNumbers, stateOf, chunkOf, FeedsChunk}
+use Rattle.exports.specs.Feeding.{placeOf, machineOf, crOf, crNumber, placeNumbers, stateOf, chunkOf, FeedsChunk}
 
 pub place-back : (p : Place) → placeOf (placeNumbers p .place) (placeNumbers p .value) ≡ p
 unfolding placeOf
@@ -25,13 +25,17 @@ place-back (Line (Ending n)) = refl
 place-back (Literal n) = refl
 place-back Dropping = refl
 
+cr-back : (b : Bool) → crOf (crNumber b) ≡ b
+cr-back true = refl
+cr-back false = refl
+
 -- C's form of a state loses nothing of it
 pub state-back : (m : Machine) → machineOf (stateOf m) ≡ m
 unfolding machineOf
-state-back m = λ i. record { place = place-back (m .place) i; size = m .size; cr = m .cr }
+state-back m = λ i. record { place = place-back (m .place) i; size = m .size; cr = cr-back (m .cr) i }
 
 -- the state before the first byte of a command is all zero
-pub first-zero : machineOf (record { place = 0; cr = false; value = 0; size = 0 }) ≡ firstIs
+pub first-zero : machineOf (record { place = 0; cr = 0; value = 0; size = 0 }) ≡ firstIs
 unfolding machineOf placeOf
 first-zero = refl
 

@@ -1,6 +1,6 @@
 -- The feeder's state and its answer, in the forms that C takes.
 use mathlib.Core.Path.{_≡_}
-use mathlib.Core.Bool.{cond}
+use mathlib.Core.Bool.{Bool, cond, not}
 use mathlib.Core.List.{List}
 use lib.Dec.{eqb}
 use Prim.Native.Nat.{ℕ}
@@ -29,9 +29,16 @@ placeOf k n =
     (cond (eqb k 3) (Line (Digits n))
     (cond (eqb k 4) (Line (Closed n)) (cond (eqb k 5) (Line (Ending n)) (cond (eqb k 6) (Literal n) Dropping))))))
 
+-- whether the last byte is CR: 0 is no, and every other number is yes; it is given back as 0 or 1
+abbrev pub crOf : ℕ → Bool
+crOf k = not (eqb k 0)
+
+abbrev pub crNumber : Bool → ℕ
+crNumber b = cond b 1 0
+
 -- the state that C's stands for
 unfoldable pub machineOf : FeederState → Machine
-machineOf s = record { place = placeOf (s .place) (s .value); size = s .size; cr = s .cr }
+machineOf s = record { place = placeOf (s .place) (s .value); size = s .size; cr = crOf (s .cr) }
 
 -- the numbers of a place: its own, and the value beside it, 0 where it has none
 abbrev pub tailNumbers : Tail → PlaceNumbers
@@ -49,7 +56,7 @@ placeNumbers Dropping = record { place = 7; value = 0 }
 
 -- C's state of a state
 abbrev pub stateOf : Machine → FeederState
-stateOf m = record { place = placeNumbers (m .place) .place; cr = m .cr; value = placeNumbers (m .place) .value; size = m .size }
+stateOf m = record { place = placeNumbers (m .place) .place; cr = crNumber (m .cr); value = placeNumbers (m .place) .value; size = m .size }
 
 -- ---- the answer
 

@@ -9,21 +9,21 @@ use feeder::Fed;
 ghost use mathlib.Core.Path.{_≡_};
 ghost use Rattle.octets.specs.Put.{Put};
 ghost use Rattle.listing_rules.specs.Feeder.{goOnLine};
-ghost use Rattle.exports.specs.Feeding.{placeOf, machineOf, tailNumbers, placeNumbers, stateOf, eventNumbers, chunkOf, FeedsChunk};
+ghost use Rattle.exports.specs.Feeding.{placeOf, machineOf, tailNumbers, placeNumbers, stateOf, crNumber, eventNumbers, chunkOf, FeedsChunk};
 
 // The state between two chunks: the number of its place, and the value beside it, 0 where the place has none (`placeNumbers` of
-// specs/); whether the last byte is CR; the number of the command's bytes so far, at the front of the lent memory. All
-// zero before the first byte of a command.
+// specs/); whether the last byte is CR, 0 for no and any other number for yes; the number of the command's bytes so far, at the front of
+// the lent memory. All zero before the first byte of a command.
 #[repr(C)]
 pub struct FeederState {
     pub place: u8,
-    pub cr: bool,
+    pub cr: u8,
     pub value: usize,
     pub size: usize,
 }
 
-// What comes of a chunk: the event's number (`eventNumbers` of specs/); of a refusal its number, else 0; of a whole command its length, else 0;
-// how many bytes of the chunk were taken; and the state then.
+// What comes of a chunk: the event's number (`eventNumbers` of specs/); of a refusal its number, else 0; of a whole command its length,
+// else 0; how many bytes of the chunk were taken; and the state then.
 #[repr(C)]
 pub struct FedChunk {
     pub event: u8,
@@ -68,7 +68,7 @@ fn machine_of(state: FeederState) -> Machine
     Machine {
         place: place_of(state.place, state.value),
         size: state.size,
-        cr: state.cr,
+        cr: state.cr != 0,
     }
 }
 
@@ -109,10 +109,20 @@ fn state_of(machine: Machine) -> FeederState
     let numbers = place_numbers(place);
     FeederState {
         place: numbers.place,
-        cr: machine.cr,
+        cr: cr_number(machine.cr),
         value: numbers.value,
         size: machine.size,
     }
+}
+
+// Whether the last byte is CR, as it is given back: 1 for yes.
+fn cr_number(cr: bool) -> u8
+    ensures { λ r. ⌜ r ≡ crNumber cr ⌝ }
+{
+    if cr {
+        return 1;
+    }
+    0
 }
 
 fn place_numbers(place: Place) -> PlaceNumbers

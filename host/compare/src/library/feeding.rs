@@ -43,7 +43,7 @@ pub fn not_taken(tally: &mut Tally) {
             (COMMAND_ROOM + random.below(9), COMMAND_ROOM + 1 + random.below(COMMAND_ROOM))
         };
         let place = random.byte() % PLACES;
-        let state = FeederState { place, cr: random.percent(50), value: 0, size };
+        let state = FeederState { place, cr: random.byte(), value: 0, size };
         let chunk = [random.byte(), b'\r', b'\n'];
         let mut command = vec![FILL; room];
         let fed = feed(state, &mut command, &chunk);

@@ -5,12 +5,14 @@ use Rattle.exports.proofs.feeding.state_of.Tie as tie
 
 returns : tie.Need-returns
 returns c =
-    let m = c .before .args .machine in
-    λ i. record { place = c .place-numbers .ensures i .place; cr = m .cr; value = c .place-numbers .ensures i .value; size = m .size }
+    let m = c .before .before .args .machine in
+    let numbers = c .before .place-numbers .ensures in
+    λ i. record { place = numbers i .place; cr = c .cr-number .ensures i; value = numbers i .value; size = m .size }
 
 pub state-of-spec : {M : Type 1} → statement M
 state-of-spec =
     tie.close
     (tie.spec
+    (λ c κs. search needs)
     (λ c κs. search needs)
     returns)

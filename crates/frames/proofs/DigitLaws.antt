@@ -1,4 +1,5 @@
 -- Laws of digits: a character's value, the bytes of a run of characters, and the digits of a run of bytes, each from a place on.
+-- Rests on the library alone.
 use mathlib.Core.Path.{_≡_, refl, sym, _∙_}
 use mathlib.Core.Bool.{Bool, true, false, cond, _&&_, and-false}
 use mathlib.Core.List.{List, [], _∷_, _++_}

@@ -1,5 +1,5 @@
 -- Laws of frames: which characters are bad, what a frame with a first byte answers and holds, and that the answer and the bytes
--- at its side mean the frame.
+-- at its side mean the frame. Rests on DigitLaws.
 use mathlib.Core.Path.{_≡_, refl, sym, ap, _∙_}
 use mathlib.Core.Bool.{Bool, true, false, cond}
 use mathlib.Core.List.{List, [], _∷_}

@@ -1,4 +1,4 @@
--- Laws of gathered characters: one character more, none yet, and the frame of what was gathered.
+-- Laws of gathered characters: one character more, none yet, and the frame of what was gathered. Rests on FrameLaws.
 use mathlib.Core.Path.{_≡_, refl, sym, ap, _∙_}
 use mathlib.Core.Bool.{Bool, true, false, not, cond, _&&_}
 use mathlib.Core.List.{List, [], _∷_, _++_}

@@ -1,4 +1,4 @@
--- A run of bytes that a loop writes piece by piece: what is written, with what is left, is the whole.
+-- A run of bytes that a loop writes piece by piece: what is written, with what is left, is the whole. Rests on octets' Puts.
 use mathlib.Core.Path.{_≡_, refl, sym, ap, subst, _∙_}
 use mathlib.Core.List.{List, [], _++_, append-assoc, append-nil}
 use Prim.Native.Nat.{ℕ, _+_, _<_, _^_}

@@ -1,4 +1,4 @@
--- Laws of stored bytes.
+-- Laws of stored bytes: added after the others, or not for want of room. Rests on the library alone.
 use mathlib.Core.Path.{_≡_, refl, ap, _∙_}
 use mathlib.Core.Bool.{Bool, true, false, cond, and-false}
 use mathlib.Core.List.{List, _++_}

@@ -1,8 +1,8 @@
 -- Laws of frames carried out: lines of output and their lengths, and what each kind of frame leaves. Rests on frames' StoreLaws.
-use mathlib.Core.Path.{_≡_, refl, sym, ap, subst, _∙_}
+use mathlib.Core.Path.{_≡_, refl, sym, ap, _∙_}
 use mathlib.Core.Bool.{Bool, true, false, cond}
 use mathlib.Core.List.{List, [], _∷_, _++_}
-use Prim.Native.Nat.{ℕ, suc, _+_, _*_, _-_, _/_, _%_, _≤_, _<_}
+use Prim.Native.Nat.{ℕ, _+_, _*_, _-_, _/_, _%_, _≤_}
 use native.Mathlib.Omega.{arith}
 use lib.Dec.{leb}
 use lib.ListN.{length, take, drop, replicate, length-append, length-replicate}
@@ -13,6 +13,7 @@ use Rattle.listing_rules.specs.Walk.{WalkReply, walkRefused, walked, walk, coll
 use Rattle.listing_rules.specs.Frames.{Stored, Stepped, hex, answerLine, refusalLine, replyLine, walkLine, answering, addRow, addEntry, framed}
 use Rattle.octets.specs.Put.{Put}
 use Rattle.octets.specs.Written.{writtenIs}
+use Rattle.octets.specs.declared.Written.{Written}
 use Rattle.octets.specs.declared.Written.the-variants.{Done as Wrote, Refused as NotWritten}
 use Rattle.frames.specs.declared.reading.Frame.{Frame}
 use Rattle.frames.specs.declared.reading.Frame.the-variants.{Table, Namespaces, Command, Walk, Bad}
@@ -22,10 +23,11 @@ use Rattle.frames.specs.declared.storing.Stored.the-variants.{Now, NoRoom}
 use Rattle.frames.specs.Storing.{hasPlace, Stores}
 use Rattle.frames.proofs.StoreLaws.{stored-now, stored-full}
 use Rattle.collector.specs.Result.{collectedIs}
+use Rattle.collector.specs.declared.Collected.{Collected}
 use Rattle.collector.specs.declared.Collected.the-variants.{Done, Refused}
-use Rattle.session.specs.declared.carrying.Outcome.{Outcome}
+use Rattle.session.specs.declared.Lengths.{Lengths}
 use Rattle.session.specs.declared.carrying.Kept.{Kept}
-use Rattle.session.specs.Carrying.{Lent, lent, storedIn, Says, Keeps, Carries}
+use Rattle.session.specs.Carrying.{Lent, lent, storedIn, Within, outcomeIs, commandLine, Says, Keeps, Carries, CarriesOut}
 
 -- two digits a byte, and a line feed
 length-hex : (bs : List ℕ) → length (hex bs) ≡ 2 * length bs
@@ -74,27 +76,27 @@ unfolding writtenIs
 known-refused (refusal j) k w = cc
 known-refused (answered a) k w = cc
 
-module _ (t n l b : List ℕ) (h : length b ≡ 16384) where
+-- a command's line, by the server's answer `x` and the buffer `e` that it left
+module _ (t n l b e : List ℕ) (x : Written) (h : length b ≡ 16384) (a : x ≡ writtenIs (served t n l b)) (m : e ≡ bufferAfter b (served t n l b)) where
   served-as : served t n l b ≡ limited 16384 (answer t n l)
   unfolding served
   served-as = ap (λ (room : ℕ). limited room (answer t n l)) h
 
-  -- a command's line, from the buffer that the server left
-  pub reply-fits : (e : List ℕ) (k : ℕ) → writtenIs (served t n l b) ≡ Wrote k → e ≡ bufferAfter b (served t n l b) → (k ≤ 16384) × (length (take k e) ≡ k)
-  reply-fits e k w m =
-      let x = known-answered (served t n l b) b e k w m in
-      (omega (arith, x .1, limited-fits 16384 (answer t n l) (take k e) (sym served-as ∙ x .0)), x .1)
+  pub reply-fits : (k : ℕ) → x ≡ Wrote k → (k ≤ 16384) × (length (take k e) ≡ k)
+  reply-fits k w =
+      let y = known-answered (served t n l b) b e k (sym a ∙ w) m in
+      (omega (arith, y .1, limited-fits 16384 (answer t n l) (take k e) (sym served-as ∙ y .0)), y .1)
 
-  pub reply-says : (e o p : List ℕ) (k r : ℕ) → writtenIs (served t n l b) ≡ Wrote k → e ≡ bufferAfter b (served t n l b) → Put o p 0 (answerLine (0x41 ∷ take k e)) r → Says (replyLine (limited 16384 (answer t n l))) o p r
+  pub reply-says : (o p : List ℕ) (k r : ℕ) → x ≡ Wrote k → Put o p 0 (answerLine (0x41 ∷ take k e)) r → Says (commandLine t n l) o p r
   unfolding replyLine
-  reply-says e o p k r w m put =
-      let x = known-answered (served t n l b) b e k w m in
-      let f = reply-fits e k w m in
-      rw (sym served-as ∙ x .0) (says (omega (arith, length-line (0x41 ∷ take k e), f .0, f .1)) put)
+  reply-says o p k r w put =
+      let y = known-answered (served t n l b) b e k (sym a ∙ w) m in
+      let f = reply-fits k w in
+      rw (sym served-as ∙ y .0) (says (omega (arith, length-line (0x41 ∷ take k e), f .0, f .1)) put)
 
-  pub reply-refuses : (o p : List ℕ) (k r : ℕ) → writtenIs (served t n l b) ≡ NotWritten k → Put o p 0 (refusalLine k) r → Says (replyLine (limited 16384 (answer t n l))) o p r
+  pub reply-refuses : (o p : List ℕ) (k r : ℕ) → x ≡ NotWritten k → Put o p 0 (refusalLine k) r → Says (commandLine t n l) o p r
   unfolding replyLine
-  reply-refuses o p k r w put = rw (sym served-as ∙ known-refused (served t n l b) k w) (says-refusal k put)
+  reply-refuses o p k r w put = rw (sym served-as ∙ known-refused (served t n l b) k (sym a ∙ w)) (says-refusal k put)
 
 -- a walk by the collector's answer: what was found lies at the front of its buffer
 known-walked : (r : WalkReply) (e : List ℕ) (room c k : ℕ) → length e ≡ room → collectedIs r ≡ Done c k → e ≡ foundAfter room r → (k ≤ room) × (length (take k e) ≡ k) × (walkLine r ≡ answerLine (0x57 ∷ c / 256 % 256 ∷ c % 256 ∷ take k e))
@@ -112,26 +114,26 @@ unfolding collectedIs walkLine
 known-stopped (walkRefused j) k w = let z : j ≡ k = cc in ap refusalLine z
 known-stopped (walked c f p) k w = cc
 
-module _ (t : List ℕ) (option : ℕ) (s f p : List ℕ) (hs : length s ≡ 16384) (hf : length f ≡ 8192) (hp : length p ≡ 8192) where
+-- a walk's line, by the collector's answer `x` and the buffer `e` that it left
+module _ (t : List ℕ) (option : ℕ) (s f p e : List ℕ) (x : Collected) (sizes : (length s ≡ 16384) × (length f ≡ 8192) × (length p ≡ 8192)) (a : x ≡ collectedIs (collected t option s f p)) (same : length e ≡ length f) (m : e ≡ foundAfter (length f) (collected t option s f p)) where
   collected-as : collected t option s f p ≡ walk t option 16384 8192 8192
   unfolding collected
-  collected-as = λ i. walk t option (hs i) (hf i) (hp i)
+  collected-as = λ i. walk t option (sizes .0 i) (sizes .1 i) (sizes .2 i)
 
-  -- a walk's line, from the buffer that the collector left
-  pub walk-fits : (e : List ℕ) (c k : ℕ) → length e ≡ length f → collectedIs (collected t option s f p) ≡ Done c k → e ≡ foundAfter (length f) (collected t option s f p) → (k ≤ 8192) × (length (take k e) ≡ k)
-  walk-fits e c k h w m =
-      let x = known-walked (collected t option s f p) e (length f) c k h w m in
-      (omega (arith, x .0, hf), x .1)
+  pub walk-fits : (c k : ℕ) → x ≡ Done c k → (k ≤ length e) × (length (take k e) ≡ k)
+  walk-fits c k w =
+      let y = known-walked (collected t option s f p) e (length f) c k same (sym a ∙ w) m in
+      (omega (arith, y .0, same), y .1)
 
-  pub walk-says : (e o q : List ℕ) (c k r : ℕ) → length e ≡ length f → collectedIs (collected t option s f p) ≡ Done c k → e ≡ foundAfter (length f) (collected t option s f p) → Put o q 0 (answerLine (0x57 ∷ c / 256 % 256 ∷ c % 256 ∷ take k e)) r → Says (walkLine (walk t option 16384 8192 8192)) o q r
-  walk-says e o q c k r h w m put =
-      let x = known-walked (collected t option s f p) e (length f) c k h w m in
-      rw (ap walkLine (sym collected-as) ∙ x .2) (says (omega (arith, length-line (0x57 ∷ c / 256 % 256 ∷ c % 256 ∷ take k e), x .0, x .1, hf)) put)
+  pub walk-says : (o q : List ℕ) (c k r : ℕ) → x ≡ Done c k → Put o q 0 (answerLine (0x57 ∷ c / 256 % 256 ∷ c % 256 ∷ take k e)) r → Says (walkLine (walk t option 16384 8192 8192)) o q r
+  walk-says o q c k r w put =
+      let y = known-walked (collected t option s f p) e (length f) c k same (sym a ∙ w) m in
+      rw (ap walkLine (sym collected-as) ∙ y .2) (says (omega (arith, length-line (0x57 ∷ c / 256 % 256 ∷ c % 256 ∷ take k e), y .0, y .1, sizes .1)) put)
 
-  pub walk-refuses : (o q : List ℕ) (k r : ℕ) → collectedIs (collected t option s f p) ≡ Refused k → Put o q 0 (refusalLine k) r → Says (walkLine (walk t option 16384 8192 8192)) o q r
-  walk-refuses o q k r w put = rw (ap walkLine (sym collected-as) ∙ known-stopped (collected t option s f p) k w) (says-refusal k put)
+  pub walk-refuses : (o q : List ℕ) (k r : ℕ) → x ≡ Refused k → Put o q 0 (refusalLine k) r → Says (walkLine (walk t option 16384 8192 8192)) o q r
+  walk-refuses o q k r w put = rw (ap walkLine (sym collected-as) ∙ known-stopped (collected t option s f p) k (sym a ∙ w)) (says-refusal k put)
 
--- bytes behind those that were added stay
+-- bytes after those that were added stay
 behind-added : (d bs : List ℕ) (used : ℕ) → used + length bs ≤ length d → drop (used + length bs) (sets d used bs) ≡ drop (used + length bs) d
 behind-added d bs used h =
     ap (drop (used + length bs)) (sets-eq bs d used h)
@@ -162,112 +164,97 @@ module _ {d e : List ℕ} {used limit : ℕ} {bs : List ℕ} {r : StoredNow} (in
         says = rw (q .0) (says-refusal number put);
       }
 
--- what each kind of frame leaves
-module _ (d : Lent) (rows entries : ℕ) (few : rows ≤ 16384) (some : entries ≤ 1024) where
-  pub carries-said : (line o : List ℕ) (w : ℕ) → Says line (d .out) o w → Carries (answering (storedIn d rows entries) line) d (lent (d .table) (d .namespaces) o) (record { table = rows; namespaces = entries; written = w })
+-- What adding bytes comes to, of an area that holds `area`: they are stored after the others, or there is no room.
+abbrev added : ℕ → ℕ → List ℕ → List ℕ → (List ℕ → Stored) → Stepped
+added limit number area bs stored =
+    let room = leb (length area + length bs) limit in
+    record { stored = stored (cond room (area ++ bs) area); output = cond room [] (refusalLine number) }
+
+-- with room for them or without
+adding : (b : Bool) (number : ℕ) (area bs : List ℕ) (stored : List ℕ → Stored) → _≡_ {A = Stepped} (cond b (answering (stored (area ++ bs)) []) (answering (stored area) (refusalLine number))) (record { stored = stored (cond b (area ++ bs) area); output = cond b [] (refusalLine number) })
+unfolding answering
+adding true number area bs stored = refl
+adding false number area bs stored = refl
+
+row-added : (s : Stored) (bs : List ℕ) → addRow s bs ≡ added 16384 1 (s .table) bs (λ (t : List ℕ). record { table = t; namespaces = s .namespaces })
+unfolding addRow
+row-added s bs = adding (leb (length (s .table) + length bs) 16384) 1 (s .table) bs (λ (t : List ℕ). record { table = t; namespaces = s .namespaces })
+
+entry-added : (s : Stored) (bs : List ℕ) → addEntry s bs ≡ added 1024 2 (s .namespaces) bs (λ (n : List ℕ). record { table = s .table; namespaces = n })
+unfolding addEntry
+entry-added s bs = adding (leb (length (s .namespaces) + length bs) 1024) 2 (s .namespaces) bs (λ (n : List ℕ). record { table = s .table; namespaces = n })
+
+-- a frame by the code's answer to its characters, over the bytes at its side
+module _ (d : Lent) (n : Lengths) (w : Within n (d .table) (d .namespaces)) (f : Frame) (bytes : List ℕ) where
+  carries-said : (line o : List ℕ) (k : ℕ) → Says line (d .out) o k → Carries (answering (storedIn d n) line) d (lent (d .table) (d .namespaces) o) (outcomeIs (n .table) (n .namespaces) k)
   unfolding answering
-  carries-said line o w x =
+  carries-said line o k x =
       record {
         table = refl;
         namespaces = refl;
-        table-room = few;
-        namespaces-room = some;
+        table-room = w .0;
+        namespaces-room = w .1;
         table-behind = refl;
         namespaces-behind = refl;
         says = x;
       }
 
-  pub carries-row : (bs t o : List ℕ) (k : Kept) → 16384 ≤ length (d .table) → Keeps 16384 1 rows bs (d .table) t (d .out) o k → Carries (addRow (storedIn d rows entries) bs) d (lent t (d .namespaces) o) (record { table = k .len; namespaces = entries; written = k .written })
-  unfolding addRow answering
-  carries-row bs t o k h x = rw (length-take-le rows (d .table) (omega arith)) (go (leb (rows + length bs) 16384) (x .front) (x .says))
-    where
-      go : (b : Bool) → take (k .len) t ≡ cond b (take rows (d .table) ++ bs) (take rows (d .table)) → Says (cond b [] (refusalLine 1)) (d .out) o (k .written) → Carries (cond b (record { stored = record { table = take rows (d .table) ++ bs; namespaces = take entries (d .namespaces) }; output = [] }) (record { stored = storedIn d rows entries; output = refusalLine 1 })) d (lent t (d .namespaces) o) (record { table = k .len; namespaces = entries; written = k .written })
-      go true f y =
-          record {
-            table = f;
-            namespaces = refl;
-            table-room = x .room;
-            namespaces-room = some;
-            table-behind = x .behind;
-            namespaces-behind = refl;
-            says = y;
-          }
-      go false f y =
-          record {
-            table = f;
-            namespaces = refl;
-            table-room = x .room;
-            namespaces-room = some;
-            table-behind = x .behind;
-            namespaces-behind = refl;
-            says = y;
-          }
+  pub kind-row : (size : ℕ) (t o : List ℕ) (k : Kept) → f ≡ Table size → Keeps 16384 1 (n .table) (take size bytes) (d .table) t (d .out) o k → CarriesOut n bytes f d (lent t (d .namespaces) o) (outcomeIs (k .len) (n .namespaces) (k .written))
+  unfolding framed frameIs
+  kind-row size t o k e x =
+      rw (e, row-added (storedIn d n) (take size bytes), length-take-le (n .table) (d .table) (omega (arith, w .0, w .2))) (record {
+        table = x .front;
+        namespaces = refl;
+        table-room = x .room;
+        namespaces-room = w .1;
+        table-behind = x .behind;
+        namespaces-behind = refl;
+        says = x .says;
+      })
 
-  pub carries-entry : (bs n o : List ℕ) (k : Kept) → 1024 ≤ length (d .namespaces) → Keeps 1024 2 entries bs (d .namespaces) n (d .out) o k → Carries (addEntry (storedIn d rows entries) bs) d (lent (d .table) n o) (record { table = rows; namespaces = k .len; written = k .written })
-  unfolding addEntry answering
-  carries-entry bs n o k h x = rw (length-take-le entries (d .namespaces) (omega arith)) (go (leb (entries + length bs) 1024) (x .front) (x .says))
-    where
-      go : (b : Bool) → take (k .len) n ≡ cond b (take entries (d .namespaces) ++ bs) (take entries (d .namespaces)) → Says (cond b [] (refusalLine 2)) (d .out) o (k .written) → Carries (cond b (record { stored = record { table = take rows (d .table); namespaces = take entries (d .namespaces) ++ bs }; output = [] }) (record { stored = storedIn d rows entries; output = refusalLine 2 })) d (lent (d .table) n o) (record { table = rows; namespaces = k .len; written = k .written })
-      go true f y =
-          record {
-            table = refl;
-            namespaces = f;
-            table-room = few;
-            namespaces-room = x .room;
-            table-behind = refl;
-            namespaces-behind = x .behind;
-            says = y;
-          }
-      go false f y =
-          record {
-            table = refl;
-            namespaces = f;
-            table-room = few;
-            namespaces-room = x .room;
-            table-behind = refl;
-            namespaces-behind = x .behind;
-            says = y;
-          }
+  pub kind-entry : (size : ℕ) (m o : List ℕ) (k : Kept) → f ≡ Namespaces size → Keeps 1024 2 (n .namespaces) (take size bytes) (d .namespaces) m (d .out) o k → CarriesOut n bytes f d (lent (d .table) m o) (outcomeIs (n .table) (k .len) (k .written))
+  unfolding framed frameIs
+  kind-entry size m o k e x =
+      rw (e, entry-added (storedIn d n) (take size bytes), length-take-le (n .namespaces) (d .namespaces) (omega (arith, w .1, w .3))) (record {
+        table = refl;
+        namespaces = x .front;
+        table-room = w .0;
+        namespaces-room = x .room;
+        table-behind = refl;
+        namespaces-behind = x .behind;
+        says = x .says;
+      })
+
+  pub kind-command : (size : ℕ) (o : List ℕ) (k : ℕ) → f ≡ Command size → Says (commandLine (take (n .table) (d .table)) (take (n .namespaces) (d .namespaces)) (take size bytes)) (d .out) o k → CarriesOut n bytes f d (lent (d .table) (d .namespaces) o) (outcomeIs (n .table) (n .namespaces) k)
+  unfolding framed frameIs
+  kind-command size o k e x = rw e (carries-said (commandLine (take (n .table) (d .table)) (take (n .namespaces) (d .namespaces)) (take size bytes)) o k x)
+
+  pub kind-walk : (option : ℕ) (o : List ℕ) (k : ℕ) → f ≡ Walk option → Says (walkLine (walk (take (n .table) (d .table)) option 16384 8192 8192)) (d .out) o k → CarriesOut n bytes f d (lent (d .table) (d .namespaces) o) (outcomeIs (n .table) (n .namespaces) k)
+  unfolding framed frameIs
+  kind-walk option o k e x = rw e (carries-said (walkLine (walk (take (n .table) (d .table)) option 16384 8192 8192)) o k x)
+
+  pub kind-bad : (o : List ℕ) (k : ℕ) → f ≡ Bad → Put (d .out) o 0 (refusalLine 13) k → CarriesOut n bytes f d (lent (d .table) (d .namespaces) o) (outcomeIs (n .table) (n .namespaces) k)
+  unfolding framed frameIs
+  kind-bad o k e x = rw e (carries-said (refusalLine 13) o k (says-refusal 13 x))
 
 -- the bytes that a frame speaks of are there
-prefix-whole : (n : ℕ) (s : List ℕ) → n ≤ length s → n ≡ length (take n s)
-prefix-whole n s h = sym (length-take-le n s h)
-
 module _ {f : Frame} {n : ℕ} (s : List ℕ) (h : sizeOf f ≤ length s) where
   pub whole-row : f ≡ Table n → n ≡ length (take n s)
   unfolding sizeOf
-  whole-row e = prefix-whole n s (rw e at h)
+  whole-row e = sym (length-take-le n s (rw e at h))
 
   pub whole-entry : f ≡ Namespaces n → n ≡ length (take n s)
   unfolding sizeOf
-  whole-entry e = prefix-whole n s (rw e at h)
+  whole-entry e = sym (length-take-le n s (rw e at h))
 
   pub whole-command : f ≡ Command n → n ≡ length (take n s)
   unfolding sizeOf
-  whole-command e = prefix-whole n s (rw e at h)
+  whole-command e = sym (length-take-le n s (rw e at h))
 
 -- the stored bytes are there
-pub whole-stored : (n room : ℕ) (s : List ℕ) → n ≤ room → room ≤ length s → n ≡ length (take n s)
-whole-stored n room s h g = prefix-whole n s (omega arith)
+module _ (n : Lengths) (table namespaces : List ℕ) (w : Within n table namespaces) where
+  pub whole-table : n .table ≡ length (take (n .table) table)
+  whole-table = sym (length-take-le (n .table) table (omega (arith, w .0, w .2)))
 
--- a frame by the code's answer to its characters, over the bytes at its side
-module _ (d : Lent) (rows entries : ℕ) (few : rows ≤ 16384) (some : entries ≤ 1024) {f : Frame} (bytes : List ℕ) where
-  pub kind-row : (n : ℕ) (t o : List ℕ) (k : Kept) → 16384 ≤ length (d .table) → f ≡ Table n → Keeps 16384 1 rows (take n bytes) (d .table) t (d .out) o k → Carries (framed (storedIn d rows entries) (frameIs bytes f)) d (lent t (d .namespaces) o) (record { table = k .len; namespaces = entries; written = k .written })
-  unfolding framed frameIs
-  kind-row n t o k h e x = rw e (carries-row d rows entries few some (take n bytes) t o k h x)
-
-  pub kind-entry : (n : ℕ) (m o : List ℕ) (k : Kept) → 1024 ≤ length (d .namespaces) → f ≡ Namespaces n → Keeps 1024 2 entries (take n bytes) (d .namespaces) m (d .out) o k → Carries (framed (storedIn d rows entries) (frameIs bytes f)) d (lent (d .table) m o) (record { table = rows; namespaces = k .len; written = k .written })
-  unfolding framed frameIs
-  kind-entry n m o k h e x = rw e (carries-entry d rows entries few some (take n bytes) m o k h x)
-
-  pub kind-command : (n : ℕ) (o : List ℕ) (w : ℕ) → f ≡ Command n → Says (replyLine (limited 16384 (answer (take rows (d .table)) (take entries (d .namespaces)) (take n bytes)))) (d .out) o w → Carries (framed (storedIn d rows entries) (frameIs bytes f)) d (lent (d .table) (d .namespaces) o) (record { table = rows; namespaces = entries; written = w })
-  unfolding framed frameIs
-  kind-command n o w e x = rw e (carries-said d rows entries few some (replyLine (limited 16384 (answer (take rows (d .table)) (take entries (d .namespaces)) (take n bytes)))) o w x)
-
-  pub kind-walk : (option : ℕ) (o : List ℕ) (w : ℕ) → f ≡ Walk option → Says (walkLine (walk (take rows (d .table)) option 16384 8192 8192)) (d .out) o w → Carries (framed (storedIn d rows entries) (frameIs bytes f)) d (lent (d .table) (d .namespaces) o) (record { table = rows; namespaces = entries; written = w })
-  unfolding framed frameIs
-  kind-walk option o w e x = rw e (carries-said d rows entries few some (walkLine (walk (take rows (d .table)) option 16384 8192 8192)) o w x)
-
-  pub kind-bad : (o : List ℕ) (w : ℕ) → f ≡ Bad → Put (d .out) o 0 (refusalLine 13) w → Carries (framed (storedIn d rows entries) (frameIs bytes f)) d (lent (d .table) (d .namespaces) o) (record { table = rows; namespaces = entries; written = w })
-  unfolding framed frameIs
-  kind-bad o w e x = rw e (carries-said d rows entries few some (refusalLine 13) o w (says-refusal 13 x))
+  pub whole-namespaces : n .namespaces ≡ length (take (n .namespaces) namespaces)
+  whole-namespaces = sym (length-take-le (n .namespaces) namespaces (omega (arith, w .1, w .3)))

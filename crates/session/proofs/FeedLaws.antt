@@ -1,28 +1,28 @@
 -- Laws of feeding: what a ready memory is, that it holds a session always, and what a piece without a line feed and one with it
 -- come to. Rests on LineLaws and CarryLaws.
 use mathlib.Core.Path.{_≡_, refl, sym, ap, subst, _∙_}
-use mathlib.Core.Bool.{Bool, true, false, not, cond, _&&_, _||_}
-use mathlib.Core.List.{List, [], _∷_, _++_}
+use mathlib.Core.Bool.{Bool, true, false, cond, _&&_, _||_}
+use mathlib.Core.List.{List, [], _++_}
 use Prim.Native.Nat.{ℕ, _+_, _≤_, _<_}
 use native.Mathlib.Omega.{arith}
-use lib.Dec.{eqb, leb, ltb}
-use lib.ListN.{length, take, drop, replicate, length-replicate}
+use lib.Dec.{leb}
+use lib.ListN.{length, take, replicate, length-replicate}
 use lib.Seq.{take-all}
 use borrow.Author.Tests.{leb-true, le-leb, lt-ltb, le-ltb}
-use Rattle.listing_rules.specs.Bytes.{isEmpty}
-use Rattle.listing_rules.specs.Frames.{Frame as Meant, Stored, Stepped, Session, Fed as Came, refusalLine, readFrame, framed, step, fedAll, atEnd, start}
-use Rattle.listing_rules.proofs.Bools.{and-l, and-r, and-i}
-use Rattle.octets.specs.Put.{Put}
+use Rattle.listing_rules.specs.Frames.{Stepped, Session, Fed as Came, refusalLine, framed, step, fedAll, atEnd, start}
+use Rattle.listing_rules.proofs.Bools.{and-l, and-r}
 use Rattle.frames.specs.declared.gathering.Gathered.{Gathered}
 use Rattle.frames.specs.Gathering.{HoldsIf, Holds as HoldsFrame, gatheredNone, IsEmpty}
 use Rattle.frames.proofs.GatherLaws.{holds-none}
 use Rattle.session.specs.declared.State.{State}
 use Rattle.session.specs.declared.Taken.{Taken as Took}
+use Rattle.session.specs.declared.Fed.{Fed}
+use Rattle.session.specs.declared.Fed.the-variants.{Taken}
 use Rattle.session.specs.declared.carrying.Outcome.{Outcome}
-use Rattle.session.specs.Carrying.{Lent, lent, storedIn, Says, Carries, Ended}
-use Rattle.session.specs.Feeding.{ready, readyIn, Holds, throughLine, beforeLine, hasLine, gatheredAll, lineAfter, Comes, Feeds, Finishes}
+use Rattle.session.specs.Carrying.{Lent, storedIn, Within, Says, Ended}
+use Rattle.session.specs.Feeding.{startIs, ready, readyIn, Holds, throughLine, beforeLine, gatheredAll, lineAfter, Comes, Feeds, FeedIs, Finishes}
 use Rattle.session.proofs.LineLaws.{before-all, through-line, holds-all, fed-before, fed-line}
-use Rattle.session.proofs.CarryLaws.{says-none, says-refusal}
+use Rattle.session.proofs.CarryLaws.{says-none}
 
 -- what a ready memory is
 pub record Sizes (t n l o : ℕ) (st : State) : Type 0 where
@@ -30,15 +30,15 @@ pub record Sizes (t n l o : ℕ) (st : State) : Type 0 where
   pub namespaces : 1024 ≤ n
   pub line : 4100 ≤ l
   pub out : 32771 ≤ o
-  pub rows : st .table ≤ 16384
-  pub entries : st .namespaces ≤ 1024
+  pub rows : st .stored .table ≤ 16384
+  pub entries : st .stored .namespaces ≤ 1024
   pub digits : (st .gathered .over || leb (st .gathered .len) 4100) ≡ true
 
 pub sizes : (t n l o : ℕ) (st : State) → ready t n l o st ≡ true → Sizes t n l o st
 sizes t n l o st h =
     let d = st .gathered .over || leb (st .gathered .len) 4100 in
-    let e = leb (st .namespaces) 1024 && d in
-    let r = leb (st .table) 16384 && e in
+    let e = leb (st .stored .namespaces) 1024 && d in
+    let r = leb (st .stored .table) 16384 && e in
     let u = leb 32771 o && r in
     let v = leb 4100 l && u in
     let w = leb 1024 n && v in
@@ -46,23 +46,28 @@ sizes t n l o st h =
     let hv = and-r (leb 1024 n) v hw in
     let hu = and-r (leb 4100 l) u hv in
     let hr = and-r (leb 32771 o) r hu in
-    let he = and-r (leb (st .table) 16384) e hr in
+    let he = and-r (leb (st .stored .table) 16384) e hr in
     record {
       table = leb-true 16384 t (and-l (leb 16384 t) w h);
       namespaces = leb-true 1024 n (and-l (leb 1024 n) v hw);
       line = leb-true 4100 l (and-l (leb 4100 l) u hv);
       out = leb-true 32771 o (and-l (leb 32771 o) r hu);
-      rows = leb-true (st .table) 16384 (and-l (leb (st .table) 16384) e hr);
-      entries = leb-true (st .namespaces) 1024 (and-l (leb (st .namespaces) 1024) d he);
-      digits = and-r (leb (st .namespaces) 1024) d he;
+      rows = leb-true (st .stored .table) 16384 (and-l (leb (st .stored .table) 16384) e hr);
+      entries = leb-true (st .stored .namespaces) 1024 (and-l (leb (st .stored .namespaces) 1024) d he);
+      digits = and-r (leb (st .stored .namespaces) 1024) d he;
     }
+
+pub within : (d : Lent) (line : List ℕ) (st : State) → readyIn d line st ≡ true → Within (st .stored) (d .table) (d .namespaces)
+within d line st h =
+    let z = sizes (length (d .table)) (length (d .namespaces)) (length line) (length (d .out)) st h in
+    (z .rows, z .entries, z .table, z .namespaces)
 
 ready-again : (t n l o : ℕ) (st : State) → Sizes t n l o st → ready t n l o st ≡ true
 ready-again t n l o st z =
-    rw (le-leb 16384 t (z .table), le-leb 1024 n (z .namespaces), le-leb 4100 l (z .line), le-leb 32771 o (z .out), le-leb (st .table) 16384 (z .rows), le-leb (st .namespaces) 1024 (z .entries)) (z .digits)
+    rw (le-leb 16384 t (z .table), le-leb 1024 n (z .namespaces), le-leb 4100 l (z .line), le-leb 32771 o (z .out), le-leb (st .stored .table) 16384 (z .rows), le-leb (st .stored .namespaces) 1024 (z .entries)) (z .digits)
 
 -- at the start any memory holds the session at its start
-pub holds-start : (d : Lent) (line : List ℕ) → Holds d line (record { table = 0; namespaces = 0; gathered = gatheredNone }) start
+pub holds-start : (d : Lent) (line : List ℕ) → Holds d line (startIs) start
 unfolding start
 holds-start d line = record { table = refl; namespaces = refl; frame = holds-none line }
 
@@ -75,14 +80,14 @@ pub holds-some : (d : Lent) (line : List ℕ) (st : State) → readyIn d line st
 holds-some d line st h =
     let z = sizes (length (d .table)) (length (d .namespaces)) (length line) (length (d .out)) st h in
     let f = frame-some (st .gathered .over) (st .gathered .len) line (z .line) (z .digits) in
-    (record { stored = storedIn d (st .table) (st .namespaces); partial = f .0 }, record { table = refl; namespaces = refl; frame = f .1 })
+    (record { stored = storedIn d (st .stored); partial = f .0 }, record { table = refl; namespaces = refl; frame = f .1 })
 
 frame-bounded : (over : Bool) (len : ℕ) (line p : List ℕ) → HoldsIf over len line p → (over || leb len 4100) ≡ true
 frame-bounded true len line p h = refl
 frame-bounded false len line p h = le-leb len 4100 (h .2)
 
 -- the stored bytes of a session that the memory holds
-stored-is : {d : Lent} {line : List ℕ} {st : State} {s : Session} → Holds d line st s → storedIn d (st .table) (st .namespaces) ≡ s .stored
+stored-is : {d : Lent} {line : List ℕ} {st : State} {s : Session} → Holds d line st s → storedIn d (st .stored) ≡ s .stored
 stored-is h = λ i. record { table = h .table i; namespaces = h .namespaces i }
 
 module _ (chunk : List ℕ) (d : Lent) (line line′ : List ℕ) (st : State) (g : Gathered) (h : readyIn d line st ≡ true) (run : g ≡ gatheredAll (length line) (st .gathered) (beforeLine chunk)) (bytes : line′ ≡ lineAfter line (st .gathered) (beforeLine chunk)) where
@@ -94,7 +99,7 @@ module _ (chunk : List ℕ) (d : Lent) (line line′ : List ℕ) (st : State) (g
   goes-on p x = rw (run, bytes) (holds-all (beforeLine chunk) line (st .gathered) p (is-sized .line) x)
 
   -- a piece without a line feed
-  pub feeds-part : (used : ℕ) → used ≡ length (beforeLine chunk) → length chunk ≤ used → Feeds chunk d d line line′ st (record { state = record { table = st .table; namespaces = st .namespaces; gathered = g }; used = used; written = 0 })
+  pub feeds-part : (used : ℕ) → used ≡ length (beforeLine chunk) → length chunk ≤ used → Feeds chunk d d line line′ st (record { state = record { stored = st .stored; gathered = g }; used = used; written = 0 })
   feeds-part used u all =
       let w = before-all chunk (omega arith) in
       let whole : take (throughLine chunk) chunk ≡ beforeLine chunk = take-all (throughLine chunk) chunk (omega (arith, w .1)) ∙ sym (w .0) in
@@ -104,7 +109,7 @@ module _ (chunk : List ℕ) (d : Lent) (line line′ : List ℕ) (st : State) (g
         used = omega (arith, u, w .1, ap length (w .0));
         comes =
             λ s x.
-            subst (λ (f : Came). Comes f d d line′ (record { state = record { table = st .table; namespaces = st .namespaces; gathered = g }; used = used; written = 0 })) (sym (ap (fedAll s) whole ∙ fed-before chunk s))
+            subst (λ (f : Came). Comes f d d line′ (record { state = record { stored = st .stored; gathered = g }; used = used; written = 0 })) (sym (ap (fedAll s) whole ∙ fed-before chunk s))
             (record {
               holds = record { table = x .table; namespaces = x .namespaces; frame = goes-on (s .partial) (x .frame) };
               says = says-none (d .out);
@@ -114,7 +119,7 @@ module _ (chunk : List ℕ) (d : Lent) (line line′ : List ℕ) (st : State) (g
         line-bytes = bytes;
         gathered = run ∙ rw (le-ltb (length (beforeLine chunk)) (length chunk) (omega arith));
         ready-on =
-            ready-again (length (d .table)) (length (d .namespaces)) (length line) (length (d .out)) (record { table = st .table; namespaces = st .namespaces; gathered = g })
+            ready-again (length (d .table)) (length (d .namespaces)) (length line) (length (d .out)) (record { stored = st .stored; gathered = g })
             (record {
               table = z .table;
               namespaces = z .namespaces;
@@ -127,7 +132,7 @@ module _ (chunk : List ℕ) (d : Lent) (line line′ : List ℕ) (st : State) (g
       }
 
   -- a piece with a line feed, at which the frame was carried out
-  pub feeds-line : (e : Lent) (used : ℕ) (r : Outcome) → used ≡ length (beforeLine chunk) → used < length chunk → Ended line′ g (st .table) (st .namespaces) d e r → Feeds chunk d e line line′ st (record { state = record { table = r .table; namespaces = r .namespaces; gathered = gatheredNone }; used = used + 1; written = r .written })
+  pub feeds-line : (e : Lent) (used : ℕ) (r : Outcome) → used ≡ length (beforeLine chunk) → used < length chunk → Ended line′ g (st .stored) d e r → Feeds chunk d e line line′ st (record { state = record { stored = r .stored; gathered = gatheredNone }; used = used + 1; written = r .written })
   unfolding step
   feeds-line e used r u less x =
       let w = through-line chunk (omega arith) in
@@ -137,15 +142,15 @@ module _ (chunk : List ℕ) (d : Lent) (line line′ : List ℕ) (st : State) (g
         used = omega (arith, u, w .0);
         comes =
             λ s y.
-            let same : framed (storedIn d (st .table) (st .namespaces)) (x .frame) ≡ step (s .stored) (s .partial ++ beforeLine chunk) = λ i. framed (stored-is y i) (x .read (s .partial ++ beforeLine chunk) (goes-on (s .partial) (y .frame)) i) in
-            subst (λ (f : Came). Comes f d e line′ (record { state = record { table = r .table; namespaces = r .namespaces; gathered = gatheredNone }; used = used + 1; written = r .written })) (sym (ap (fedAll s) (w .1) ∙ fed-line chunk s ∙ sym (ap (λ (f : Stepped). record { session = record { stored = f .stored; partial = [] }; output = f .output }) same)))
+            let same : framed (storedIn d (st .stored)) (x .frame) ≡ step (s .stored) (s .partial ++ beforeLine chunk) = λ i. framed (stored-is y i) (x .read (s .partial ++ beforeLine chunk) (goes-on (s .partial) (y .frame)) i) in
+            subst (λ (f : Came). Comes f d e line′ (record { state = record { stored = r .stored; gathered = gatheredNone }; used = used + 1; written = r .written })) (sym (ap (fedAll s) (w .1) ∙ fed-line chunk s ∙ sym (ap (λ (f : Stepped). record { session = record { stored = f .stored; partial = [] }; output = f .output }) same)))
             (record { holds = record { table = c .table; namespaces = c .namespaces; frame = holds-none line′ }; says = c .says });
         table-behind = c .table-behind;
         namespaces-behind = c .namespaces-behind;
         line-bytes = bytes;
         gathered = rw (lt-ltb (length (beforeLine chunk)) (length chunk) (omega arith));
         ready-on =
-            ready-again (length (d .table)) (length (d .namespaces)) (length line) (length (d .out)) (record { table = r .table; namespaces = r .namespaces; gathered = gatheredNone })
+            ready-again (length (d .table)) (length (d .namespaces)) (length line) (length (d .out)) (record { stored = r .stored; gathered = gatheredNone })
             (record {
               table = z .table;
               namespaces = z .namespaces;
@@ -156,6 +161,10 @@ module _ (chunk : List ℕ) (d : Lent) (line line′ : List ℕ) (st : State) (g
               digits = refl;
             });
       }
+
+-- an answer by the piece that was taken
+pub feed-taken : {chunk : List ℕ} {d e : Lent} {line line′ : List ℕ} {st : State} {r : Fed} (t : Took) → r ≡ Taken t → readyIn d line st ≡ true → Feeds chunk d e line line′ st t → FeedIs chunk d e line line′ st r
+feed-taken {chunk} {d} {e} {line} {line′} {st} t q so f = subst (λ (x : Fed). FeedIs chunk d e line line′ st x) (sym q) (so, f)
 
 -- the end of the input: nothing was gathered, or a frame without its line feed
 pub finishes : (o p : List ℕ) (st : State) (r : ℕ) (empty : Bool) → IsEmpty (st .gathered) empty → Says (cond empty [] (refusalLine 13)) o p r → Finishes o p st r

@@ -3,15 +3,15 @@
 use mathlib.Core.Path.{_≡_, refl, sym, ap, _∙_}
 use mathlib.Core.Bool.{Bool, true, false, cond}
 use mathlib.Core.List.{List, [], _∷_, _++_, append-assoc, append-nil}
-use Prim.Native.Nat.{ℕ, zero, suc, _+_, _-_, _≤_, _<_}
+use Prim.Native.Nat.{ℕ, suc, _+_, _-_, _≤_, _<_}
 use native.Mathlib.Numerals.{add-one}
 use native.Mathlib.Omega.{arith}
 use lib.Dec.{eqb}
 use lib.ListN.{length, take, drop, getD, drop-of-length-le}
 use lib.Seq.{drop-cons}
 use borrow.Author.Tests.{eq-eqb, ne-eqb, eqb-true}
-use Rattle.listing_rules.specs.Frames.{Session, Fed, Stepped, step, fed, behind, fedAll}
-use Rattle.listing_rules.proofs.InputCut.{fedAll-append, behind-none}
+use Rattle.listing_rules.specs.Frames.{Session, step, fed, behind, fedAll}
+use Rattle.listing_rules.proofs.InputCut.{fedAll-append}
 use Rattle.frames.specs.declared.gathering.Gathered.{Gathered}
 use Rattle.frames.specs.Gathering.{Holds, Gathers, gatheredIs, gatheredLine}
 use Rattle.frames.proofs.GatherLaws.{gathers}

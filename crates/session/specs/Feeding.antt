@@ -1,20 +1,24 @@
 -- The session that the lent memory holds between two pieces of input, and what feeding a piece comes to.
 use mathlib.Core.Path.{_≡_}
-use mathlib.Core.List.{List, [], _∷_, _++_}
+use mathlib.Core.List.{List, [], _∷_}
 use mathlib.Core.Bool.{Bool, true, false, not, cond, _&&_, _||_}
 use lib.Dec.{eqb, leb, ltb}
 use lib.ListN.{length, take, drop}
-use Prim.Native.Nat.{ℕ, suc, _+_, _≤_}
+use Prim.Native.Nat.{ℕ, suc}
 use Rattle.listing_rules.specs.Frames.{Session, Fed as Meant, refusalLine, fedAll, atEnd}
-use Rattle.octets.specs.Put.{Put}
 use Rattle.frames.specs.declared.gathering.Gathered.{Gathered}
 use Rattle.frames.specs.Gathering.{Holds as HoldsFrame, gatheredNone, gatheredIs, gatheredLine}
+use Rattle.session.specs.declared.Lengths.{Lengths}
 use Rattle.session.specs.declared.State.{State}
 use Rattle.session.specs.declared.Taken.{Taken as Took}
 use Rattle.session.specs.declared.Fed.{Fed}
 use Rattle.session.specs.declared.Fed.the-variants.{Taken, Refused}
 use Rattle.session.specs.declared.gathering.Run.{Run}
 use Rattle.session.specs.Carrying.{Lent, Says}
+
+-- nothing stored and no frame begun
+abbrev pub startIs : State
+startIs = record { stored = record { table = 0; namespaces = 0 }; gathered = gatheredNone }
 
 -- The memory is lent in document 01's sizes, and the state lies within them: stored bytes 16,384 and 1,024, digits 4,100; a line
 -- of output has at most 2 digits for each of 1 + 16,384 bytes and a line feed.
@@ -23,7 +27,9 @@ ready table namespaces line out st =
     leb 16384 table
     && (leb 1024 namespaces
     && (leb 4100 line
-    && (leb 32771 out && (leb (st .table) 16384 && (leb (st .namespaces) 1024 && (st .gathered .over || leb (st .gathered .len) 4100))))))
+    && (leb 32771 out
+    && (leb (st .stored .table) 16384
+    && (leb (st .stored .namespaces) 1024 && (st .gathered .over || leb (st .gathered .len) 4100))))))
 
 abbrev pub readyIn : Lent → List ℕ → State → Bool
 readyIn d line st = ready (length (d .table)) (length (d .namespaces)) (length line) (length (d .out)) st
@@ -31,8 +37,8 @@ readyIn d line st = ready (length (d .table)) (length (d .namespaces)) (length l
 -- The memory holds the session s: its stored bytes at the front of their areas, and the characters of its frame so far in the
 -- line. At the start any memory holds `start`, and a ready memory holds some session always (law holds-some).
 pub record Holds (d : Lent) (line : List ℕ) (st : State) (s : Session) : Type 0 where
-  pub table : take (st .table) (d .table) ≡ s .stored .table
-  pub namespaces : take (st .namespaces) (d .namespaces) ≡ s .stored .namespaces
+  pub table : take (st .stored .table) (d .table) ≡ s .stored .table
+  pub namespaces : take (st .stored .namespaces) (d .namespaces) ≡ s .stored .namespaces
   pub frame : HoldsFrame line (st .gathered) (s .partial)
 
 -- how many bytes of a piece are taken at a time: those through the first line feed, or all
@@ -54,7 +60,7 @@ unfoldable pub gatheredAll : ℕ → Gathered → List ℕ → Gathered
 gatheredAll room g [] = g
 gatheredAll room g (c ∷ t) = gatheredAll room (gatheredIs room g) t
 
--- the line's bytes then: the characters behind the others as far as they are kept, and no other byte changes
+-- the line's bytes then: the characters after the others as far as they are kept, and no other byte changes
 unfoldable pub lineAfter : List ℕ → Gathered → List ℕ → List ℕ
 lineAfter d g [] = d
 lineAfter d g (c ∷ t) = lineAfter (gatheredLine d g c) (gatheredIs (length d) g) t
@@ -65,7 +71,7 @@ pub record Runs (chunk d e : List ℕ) (g : Gathered) (r : Run) : Type 0 where
   pub gathered : r .gathered ≡ gatheredAll (length d) g (beforeLine chunk)
   pub line : e ≡ lineAfter d g (beforeLine chunk)
 
--- what the session's bytes came to is what the memory came to: it holds the session behind them, and says their output
+-- what the session's bytes came to is what the memory came to: it holds the session after them, and says their output
 pub record Comes (f : Meant) (d e : Lent) (line : List ℕ) (r : Took) : Type 0 where
   pub holds : Holds e line (r .state) (f .session)
   pub says : Says (f .output) (d .out) (e .out) (r .written)
@@ -75,18 +81,17 @@ pub record Feeds (chunk : List ℕ) (d e : Lent) (line line′ : List ℕ) (st :
   pub used : r .used ≡ throughLine chunk
   -- whatever session the memory held, it came to what document 01 says of these bytes
   pub comes : (s : Session) → Holds d line st s → Comes (fedAll s (take (throughLine chunk) chunk)) d e line′ r
-  -- bytes behind what is stored stay; every byte of the line, and what is gathered in it, are given by a definition
-  pub table-behind : drop (r .state .table) (e .table) ≡ drop (r .state .table) (d .table)
-  pub namespaces-behind : drop (r .state .namespaces) (e .namespaces) ≡ drop (r .state .namespaces) (d .namespaces)
+  -- bytes after what is stored stay; every byte of the line, and what is gathered in it, are given by a definition
+  pub table-behind : drop (r .state .stored .table) (e .table) ≡ drop (r .state .stored .table) (d .table)
+  pub namespaces-behind : drop (r .state .stored .namespaces) (e .namespaces) ≡ drop (r .state .stored .namespaces) (d .namespaces)
   pub line-bytes : line′ ≡ lineAfter line (st .gathered) (beforeLine chunk)
   pub gathered : r .state .gathered ≡ cond (hasLine chunk) gatheredNone (gatheredAll (length line) (st .gathered) (beforeLine chunk))
   -- so the next piece is never refused
   pub ready-on : readyIn d line (r .state) ≡ true
 
 -- the answer of a piece that was taken
-abbrev pub takenIs : ℕ → ℕ → Gathered → ℕ → ℕ → Fed
-takenIs table namespaces g used written =
-    Taken (record { state = record { table = table; namespaces = namespaces; gathered = g }; used = used; written = written })
+abbrev pub takenIs : Lengths → Gathered → ℕ → ℕ → Fed
+takenIs stored g used written = Taken (record { state = record { stored = stored; gathered = g }; used = used; written = written })
 
 -- What `feed` promises: it is refused exactly if the memory and the state are not ready, and then every byte stays.
 abbrev pub FeedIs : List ℕ → Lent → Lent → List ℕ → List ℕ → State → Fed → Type 0

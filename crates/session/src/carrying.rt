@@ -3,11 +3,11 @@
 ghost use mathlib.Core.Path.{_≡_};
 ghost use Prim.Native.Nat.{_≤_};
 ghost use lib.ListN.{length, replicate};
-ghost use Rattle.listing_rules.specs.Server.{limited, answer};
 ghost use Rattle.listing_rules.specs.Walk.{walk};
-ghost use Rattle.listing_rules.specs.Frames.{replyLine, walkLine, framed};
-ghost use Rattle.frames.specs.Reading.{frameIs, sizeOf};
-ghost use Rattle.session.specs.Carrying.{lent, storedIn, outcomeIs, Says, Keeps, Carries, Ended};
+ghost use Rattle.listing_rules.specs.Frames.{walkLine};
+ghost use Rattle.frames.specs.Reading.{sizeOf};
+ghost use Rattle.session.specs.Carrying.{lent, Within, outcomeIs, commandLine, Says, Keeps, CarriesOut, Ended};
+use crate::Lengths;
 use collector::Collected;
 use collector::collect;
 use frames::ANSWER;
@@ -20,22 +20,18 @@ use frames::put_walk;
 use frames::read_gathered;
 use frames::store;
 use octets::Written;
+use octets::refusals::BAD_FRAME;
+use octets::refusals::NAMESPACES;
+use octets::refusals::TABLE;
 
 // "added behind the stored bytes (16,384 and 1,024; no room: 1 or 2, nothing added)".
 pub(crate) const MAX_TABLE: usize = 16384;
 
 pub(crate) const MAX_NAMESPACES: usize = 1024;
 
-const FULL_TABLE: u8 = 1;
-
-const FULL_LIST: u8 = 2;
-
-pub(crate) const BAD_FRAME: u8 = 13;
-
-// How many bytes are stored behind a frame, and how many bytes of output lie at the front of `out`.
+// How many bytes are stored after a frame, and how many bytes of output lie at the front of `out`.
 pub(crate) struct Outcome {
-    pub table: usize,
-    pub namespaces: usize,
+    pub stored: Lengths,
     pub written: usize,
 }
 
@@ -65,7 +61,7 @@ fn frame_buffer() -> [u8; 2050]
     [0; 2050]
 }
 
-// Bytes added behind the first `used` ones of an area; without room nothing is added, and the refusal is written.
+// Bytes added after the first `used` ones of an area; without room nothing is added, and the refusal is written.
 fn keep(
     area: &mut [u8],
     used: usize,
@@ -89,7 +85,7 @@ fn keep(
 
 // A command's line: the server's answer, or the number of its refusal.
 fn reply(table: &[u8], namespaces: &[u8], command: &[u8], out: &mut [u8]) -> usize
-    ensures { λ r. ⌜ Says (replyLine (limited 16384 (answer (now (table .entry)) (now (namespaces .entry)) (now (command .entry))))) (now (out .entry)) (now (out .exit)) r ⌝ }
+    ensures { λ r. ⌜ Says (commandLine (now (table .entry)) (now (namespaces .entry)) (now (command .entry))) (now (out .entry)) (now (out .exit)) r ⌝ }
 {
     let mut answer = answer_buffer();
     match server::answer(table, namespaces, command, &mut answer) {
@@ -115,77 +111,86 @@ fn walk_line(table: &[u8], option: u8, out: &mut [u8]) -> usize
 fn carry_out(
     frame: Frame,
     bytes: &[u8],
-    rows: usize,
-    entries: usize,
+    stored: Lengths,
     table: &mut [u8],
     namespaces: &mut [u8],
     out: &mut [u8],
 ) -> Outcome
     requires { ⌜ sizeOf frame ≤ length (now bytes) ⌝ }
-    requires { ⌜ rows ≤ 16384 ⌝ }
-    requires { ⌜ entries ≤ 1024 ⌝ }
-    requires { ⌜ 16384 ≤ length (now table) ⌝ }
-    requires { ⌜ 1024 ≤ length (now namespaces) ⌝ }
-    ensures { λ r. ⌜ Carries (framed (storedIn (lent (now (table .entry)) (now (namespaces .entry)) (now (out .entry))) rows entries) (frameIs (now (bytes .entry)) frame)) (lent (now (table .entry)) (now (namespaces .entry)) (now (out .entry))) (lent (now (table .exit)) (now (namespaces .exit)) (now (out .exit))) r ⌝ }
+    requires { ⌜ Within stored (now table) (now namespaces) ⌝ }
+    ensures { λ r. ⌜ CarriesOut stored (now (bytes .entry)) frame
+        (lent (now (table .entry)) (now (namespaces .entry)) (now (out .entry)))
+        (lent (now (table .exit)) (now (namespaces .exit)) (now (out .exit))) r ⌝ }
 {
+    let rows = stored.table;
+    let entries = stored.namespaces;
     match frame {
         Frame::Table(n) => {
-            let kept = keep(table, rows, MAX_TABLE, FULL_TABLE, &bytes[..n], out);
-            outcome_of(kept.len, entries, kept.written)
+            let kept = keep(table, rows, MAX_TABLE, TABLE, &bytes[..n], out);
+            with_rows(stored, kept)
         },
         Frame::Namespaces(n) => {
-            let kept = keep(
-                namespaces,
-                entries,
-                MAX_NAMESPACES,
-                FULL_LIST,
-                &bytes[..n],
-                out,
-            );
-            outcome_of(rows, kept.len, kept.written)
+            let part = &bytes[..n];
+            let kept = keep(namespaces, entries, MAX_NAMESPACES, NAMESPACES, part, out);
+            with_entries(stored, kept)
         },
-        Frame::Command(n) => {
-            let written = reply(&table[..rows], &namespaces[..entries], &bytes[..n], out);
-            outcome_of(rows, entries, written)
-        },
-        Frame::Walk(option) => {
-            let written = walk_line(&table[..rows], option, out);
-            outcome_of(rows, entries, written)
-        },
-        Frame::Bad => {
-            let written = put_refusal(out, 0, BAD_FRAME);
-            outcome_of(rows, entries, written)
-        },
+        Frame::Command(n) => said(
+            stored,
+            reply(&table[..rows], &namespaces[..entries], &bytes[..n], out),
+        ),
+        Frame::Walk(option) => said(stored, walk_line(&table[..rows], option, out)),
+        Frame::Bad => said(stored, put_refusal(out, 0, BAD_FRAME)),
     }
 }
 
-fn outcome_of(table: usize, namespaces: usize, written: usize) -> Outcome
-    ensures { λ r. ⌜ r ≡ outcomeIs table namespaces written ⌝ }
+// The outcome of rows added, of entries added, and of a line written.
+fn with_rows(stored: Lengths, kept: Kept) -> Outcome
+    ensures { λ r. ⌜ r ≡ outcomeIs (kept .len) (stored .namespaces) (kept .written) ⌝ }
 {
+    let stored = Lengths {
+        table: kept.len,
+        namespaces: stored.namespaces,
+    };
     Outcome {
-        table,
-        namespaces,
-        written,
+        stored,
+        written: kept.written,
     }
+}
+
+fn with_entries(stored: Lengths, kept: Kept) -> Outcome
+    ensures { λ r. ⌜ r ≡ outcomeIs (stored .table) (kept .len) (kept .written) ⌝ }
+{
+    let stored = Lengths {
+        table: stored.table,
+        namespaces: kept.len,
+    };
+    Outcome {
+        stored,
+        written: kept.written,
+    }
+}
+
+fn said(stored: Lengths, written: usize) -> Outcome
+    ensures { λ r. ⌜ r ≡ outcomeIs (stored .table) (stored .namespaces) written ⌝ }
+{
+    Outcome { stored, written }
 }
 
 // The frame of the characters gathered, when its line feed has come.
 pub(crate) fn end_frame(
-    rows: usize,
-    entries: usize,
+    stored: Lengths,
     gathered: Gathered,
     line: &[u8],
     table: &mut [u8],
     namespaces: &mut [u8],
     out: &mut [u8],
 ) -> Outcome
-    requires { ⌜ rows ≤ 16384 ⌝ }
-    requires { ⌜ entries ≤ 1024 ⌝ }
-    requires { ⌜ 16384 ≤ length (now table) ⌝ }
-    requires { ⌜ 1024 ≤ length (now namespaces) ⌝ }
-    ensures { λ r. ⌜ Ended (now (line .entry)) gathered rows entries (lent (now (table .entry)) (now (namespaces .entry)) (now (out .entry))) (lent (now (table .exit)) (now (namespaces .exit)) (now (out .exit))) r ⌝ }
+    requires { ⌜ Within stored (now table) (now namespaces) ⌝ }
+    ensures { λ r. ⌜ Ended (now (line .entry)) gathered stored
+        (lent (now (table .entry)) (now (namespaces .entry)) (now (out .entry)))
+        (lent (now (table .exit)) (now (namespaces .exit)) (now (out .exit))) r ⌝ }
 {
     let mut bytes = frame_buffer();
     let frame = read_gathered(line, gathered, &mut bytes);
-    carry_out(frame, &bytes, rows, entries, table, namespaces, out)
+    carry_out(frame, &bytes, stored, table, namespaces, out)
 }

@@ -3,10 +3,9 @@
 ghost use Rattle.session.specs.Feeding.{Runs};
 use frames::Gathered;
 use frames::gather;
+use octets::LF;
 
-const LINE_FEED: u8 = 10;
-
-// What is gathered behind the characters of a piece before its first line feed, and how many they were.
+// What is gathered after the characters of a piece before its first line feed, and how many they were.
 pub struct Run {
     pub gathered: Gathered,
     pub used: usize,
@@ -20,7 +19,7 @@ pub fn gather_line(line: &mut [u8], g: Gathered, chunk: &[u8]) -> Run
     let mut i = 0;
     while i < chunk.len() {
         let c = chunk[i];
-        if c == LINE_FEED {
+        if c == LF {
             return Run { gathered, used: i };
         }
         gathered = gather(line, gathered, c);

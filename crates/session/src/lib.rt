@@ -7,10 +7,8 @@ mod carrying;
 mod gathering;
 
 ghost use mathlib.Core.Path.{_≡_};
-ghost use lib.ListN.{length};
 ghost use Rattle.session.specs.Carrying.{lent};
 ghost use Rattle.session.specs.Feeding.{ready, takenIs, FeedIs, Finishes};
-use carrying::BAD_FRAME;
 use carrying::MAX_NAMESPACES;
 use carrying::MAX_TABLE;
 use carrying::end_frame;
@@ -18,27 +16,35 @@ use frames::Gathered;
 use frames::MAX_DIGITS;
 use frames::put_refusal;
 use gathering::gather_line;
+use octets::refusals::BAD_FRAME;
 
 // The longest line of output: two digits for each of 1 + 16,384 bytes, and a line feed.
 pub const MAX_LINE: usize = 32771;
 
-// How many bytes are stored of the table and of the namespace list, and what is gathered of the frame so far.
-pub struct State {
+// How many bytes are stored of the table and of the namespace list.
+pub struct Lengths {
     pub table: usize,
     pub namespaces: usize,
+}
+
+// What is stored between two pieces of input, and what is gathered of the frame so far.
+pub struct State {
+    pub stored: Lengths,
     pub gathered: Gathered,
 }
 
 impl State {
     // Nothing stored and no frame begun: what any memory holds at first.
     pub const START: State = State {
-        table: 0,
-        namespaces: 0,
+        stored: Lengths {
+            table: 0,
+            namespaces: 0,
+        },
         gathered: Gathered::NONE,
     };
 }
 
-// The state behind the bytes that were taken, how many they were, and how many bytes of output lie at the front of `out`.
+// The state after the bytes that were taken, how many they were, and how many bytes of output lie at the front of `out`.
 pub struct Taken {
     pub state: State,
     pub used: usize,
@@ -55,13 +61,14 @@ pub enum Fed {
 fn is_ready(state: State, table: usize, namespaces: usize, line: usize, out: usize) -> bool
     ensures { λ r. ⌜ r ≡ ready table namespaces line out state ⌝ }
 {
+    let stored = state.stored;
     let g = state.gathered;
     (MAX_TABLE <= table)
         & ((MAX_NAMESPACES <= namespaces)
             & ((MAX_DIGITS <= line)
                 & ((MAX_LINE <= out)
-                    & ((state.table <= MAX_TABLE)
-                        & ((state.namespaces <= MAX_NAMESPACES)
+                    & ((stored.table <= MAX_TABLE)
+                        & ((stored.namespaces <= MAX_NAMESPACES)
                             & (g.over | (g.len <= MAX_DIGITS)))))))
 }
 
@@ -75,51 +82,32 @@ pub fn feed(
     line: &mut [u8],
     out: &mut [u8],
 ) -> Fed
-    ensures { λ r. ⌜ FeedIs (now (chunk .entry)) (lent (now (table .entry)) (now (namespaces .entry)) (now (out .entry))) (lent (now (table .exit)) (now (namespaces .exit)) (now (out .exit))) (now (line .entry)) (now (line .exit)) state r ⌝ }
+    ensures { λ r. ⌜ FeedIs (now (chunk .entry))
+        (lent (now (table .entry)) (now (namespaces .entry)) (now (out .entry)))
+        (lent (now (table .exit)) (now (namespaces .exit)) (now (out .exit)))
+        (now (line .entry)) (now (line .exit)) state r ⌝ }
 {
     if !is_ready(state, table.len(), namespaces.len(), line.len(), out.len()) {
         return Fed::Refused;
     }
     let so_far = state.gathered;
+    let stored = state.stored;
     let run = gather_line(line, so_far, chunk);
     let gathered = run.gathered;
     let used = run.used;
     if chunk.len() <= used {
-        return answer_taken(state.table, state.namespaces, gathered, used, 0);
+        return answer_taken(stored, gathered, used, 0);
     }
-    let done = end_frame(
-        state.table,
-        state.namespaces,
-        gathered,
-        line,
-        table,
-        namespaces,
-        out,
-    );
-    answer_taken(
-        done.table,
-        done.namespaces,
-        Gathered::NONE,
-        used + 1,
-        done.written,
-    )
+    let done = end_frame(stored, gathered, line, table, namespaces, out);
+    let now_stored = done.stored;
+    answer_taken(now_stored, Gathered::NONE, used + 1, done.written)
 }
 
 // The answer of a piece that was taken.
-fn answer_taken(
-    table: usize,
-    namespaces: usize,
-    gathered: Gathered,
-    used: usize,
-    written: usize,
-) -> Fed
-    ensures { λ r. ⌜ r ≡ takenIs table namespaces gathered used written ⌝ }
+fn answer_taken(stored: Lengths, gathered: Gathered, used: usize, written: usize) -> Fed
+    ensures { λ r. ⌜ r ≡ takenIs stored gathered used written ⌝ }
 {
-    let state = State {
-        table,
-        namespaces,
-        gathered,
-    };
+    let state = State { stored, gathered };
     let taken = Taken {
         state,
         used,

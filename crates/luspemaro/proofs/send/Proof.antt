@@ -8,23 +8,18 @@ use Rattle.luspemaro.proofs.send.Reads as reads
 use Rattle.luspemaro.proofs.send.Lts as lts
 use Rattle.io.proofs.write_all.Reads as write-all-reads
 
--- src/main.rt:25:9
 returns : tie.Need-returns
 returns c = search needs
 
--- src/main.rt:28:9
 returns-2 : tie.Need-returns-2
 returns-2 c = search needs
 
--- src/main.rt:30:34
 slice-aggregate-write-all : tie.Need-slice-aggregate-write-all
 slice-aggregate-write-all c = simp length-take (omega arith)
 
--- src/main.rt:30:5
 write-all-requires : tie.Need-write-all-requires
 write-all-requires c κs = search needs
 
--- src/main.rt:23:1
 returns-3 : tie.Need-returns-3
 returns-3 c = search needs
 

@@ -1,8 +1,6 @@
 -- `session::finish` meets its contract: nothing was gathered, or 13. Rests on FeedLaws.
-use mathlib.Core.Path.{sym, _∙_}
 use Rattle.session.proofs.CarryLaws.{says-none, says-refusal}
 use Rattle.session.proofs.FeedLaws.{finishes}
-use native.Mathlib.Omega.{arith}
 use borrow.Author.Needs.{needs}
 use Rattle.session.proofs.finish.Statement.{statement}
 use Rattle.session.proofs.finish.Tie as tie
@@ -11,25 +9,24 @@ use Rattle.session.proofs.finish.Lts as lts
 use Rattle.frames.proofs.put_refusal.Reads as put-refusal-reads
 use Rattle.frames.proofs.gathering.Gathered.is_empty.Reads as is-empty-reads
 
--- src/lib.rt:121:8
 is-empty-requires : tie.Need-is-empty-requires
 is-empty-requires c κs = search needs
 
--- src/lib.rt:122:9
 returns : tie.Need-returns
-returns c = finishes _ _ _ _ _ (c .before .is-empty .ensures) (rw (c .if1 .taken) (says-none (c .before .before .before .before .args .out .now)))
+returns c =
+    let start = c .before .before .before .before in
+    finishes _ _ _ _ _ (c .before .is-empty .ensures) (rw (c .if1 .taken) (says-none (start .args .out .now)))
 
--- src/lib.rt:124:5
 put-refusal-requires : tie.Need-put-refusal-requires
 put-refusal-requires c κs = search needs
 
--- src/lib.rt:117:1
 same-length : tie.Need-same-length
 same-length c = search needs
 
--- src/lib.rt:117:1
 returns-2 : tie.Need-returns-2
-returns-2 c = finishes _ _ _ _ _ (c .before .before .before .before .before .is-empty .ensures) (rw (c .before .before .before .before .if1 .left) (says-refusal 13 (c .before .before .put-refusal .ensures)))
+returns-2 c =
+    let empty = c .before .before .before .before .before .is-empty in
+    finishes _ _ _ _ _ (empty .ensures) (rw (c .before .before .before .before .if1 .left) (says-refusal 13 (c .before .before .put-refusal .ensures)))
 
 pub finish-spec : {M : Type 1} → statement M
 finish-spec =

@@ -1,4 +1,4 @@
--- `frames::answers::put_refusal` meets its contract: writes, one behind the other.
+-- `frames::answers::put_refusal` meets its contract: writes, one after the other. Rests on octets' Puts.
 use Rattle.listing_rules.specs.Frames.{hex, answerLine, refusalLine}
 use Rattle.octets.proofs.Puts.{put-then}
 use borrow.Author.Needs.{needs}
@@ -19,7 +19,10 @@ same-length c = search needs
 
 returns : tie.Need-returns
 unfolding hex answerLine refusalLine
-returns c = put-then (put-then (c .before .before .before .before .before .before .before .before .before .before .put-pair .ensures) (c .before .before .before .before .before .before .put-pair2 .ensures)) (c .before .before .put .ensures)
+returns c =
+    let first = c .before .before .before .before .before .before .before .before .before .before .put-pair in
+    let second = c .before .before .before .before .before .before .put-pair2 in
+    put-then (put-then (first .ensures) (second .ensures)) (c .before .before .put .ensures)
 
 pub put-refusal-spec : {M : Type 1} → statement M
 put-refusal-spec =

@@ -1,4 +1,4 @@
--- `frames::answers::put_walk` meets its contract: writes, one behind the other.
+-- `frames::answers::put_walk` meets its contract: writes, one after the other. Rests on octets' Puts.
 use Rattle.listing_rules.specs.Frames.{hex, answerLine}
 use Rattle.octets.proofs.Puts.{put-then}
 use borrow.Author.Needs.{needs}
@@ -31,7 +31,12 @@ same-length c = search needs
 
 returns : tie.Need-returns
 unfolding hex answerLine
-returns c = put-then (put-then (put-then (put-then (c .before .before .before .before .before .before .before .before .before .before .before .before .before .before .before .before .before .before .put-pair .ensures) (c .before .before .before .before .before .before .before .before .before .before .before .before .before .before .put-pair2 .ensures)) (c .before .before .before .before .before .before .before .before .before .before .put-pair3 .ensures)) (c .before .before .before .before .before .before .put-hex .ensures)) (c .before .before .put .ensures)
+returns c =
+    let first = c .before .before .before .before .before .before .before .before .before .before .before .before .before .before .before .before .before .before .put-pair in
+    let second = c .before .before .before .before .before .before .before .before .before .before .before .before .before .before .put-pair2 in
+    let third = c .before .before .before .before .before .before .before .before .before .before .put-pair3 in
+    let digits = c .before .before .before .before .before .before .put-hex in
+    put-then (put-then (put-then (put-then (first .ensures) (second .ensures)) (third .ensures)) (digits .ensures)) (c .before .before .put .ensures)
 
 pub put-walk-spec : {M : Type 1} → statement M
 put-walk-spec =

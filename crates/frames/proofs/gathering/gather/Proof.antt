@@ -22,15 +22,31 @@ same-length c = search needs
 
 returns-2 : tie.Need-returns-2
 unfolding gatheredIs gatheredLine hasRoom
-returns-2 c = let n = c .before .before .before .args .g .len in let d = c .before .before .before .args .line .now in gathers _ _ _ _ _ (rw (c .before .before .if1 .left, lt-ltb n 4100 (c .before .if2 .taken), lt-ltb n (length d) (c .if3 .taken))) (rw (c .before .before .if1 .left, lt-ltb n 4100 (c .before .if2 .taken), lt-ltb n (length d) (c .if3 .taken)))
+returns-2 c =
+    let start = c .before .before .before in
+    let if1 = c .before .before .if1 in
+    let if2 = c .before .if2 in
+    let n = start .args .g .len in
+    let d = start .args .line .now in
+    gathers _ _ _ _ _ (rw (if1 .left, lt-ltb n 4100 (if2 .taken), lt-ltb n (length d) (c .if3 .taken))) (rw (if1 .left, lt-ltb n 4100 (if2 .taken), lt-ltb n (length d) (c .if3 .taken)))
 
 returns-3 : tie.Need-returns-3
 unfolding gatheredIs gatheredLine hasRoom
-returns-3 c = let n = c .before .before .before .args .g .len in let d = c .before .before .before .args .line .now in gathers _ _ _ _ _ (rw (c .before .before .if1 .left, lt-ltb n 4100 (c .before .if2 .taken), le-ltb n (length d) (c .if3 .left))) (rw (c .before .before .if1 .left, lt-ltb n 4100 (c .before .if2 .taken), le-ltb n (length d) (c .if3 .left)))
+returns-3 c =
+    let start = c .before .before .before in
+    let if1 = c .before .before .if1 in
+    let if2 = c .before .if2 in
+    let n = start .args .g .len in
+    let d = start .args .line .now in
+    gathers _ _ _ _ _ (rw (if1 .left, lt-ltb n 4100 (if2 .taken), le-ltb n (length d) (c .if3 .left))) (rw (if1 .left, lt-ltb n 4100 (if2 .taken), le-ltb n (length d) (c .if3 .left)))
 
 returns-4 : tie.Need-returns-4
 unfolding gatheredIs gatheredLine hasRoom
-returns-4 c = let n = c .before .before .args .g .len in gathers _ _ _ _ _ (rw (c .before .if1 .left, le-ltb n 4100 (c .if2 .left))) (rw (c .before .if1 .left, le-ltb n 4100 (c .if2 .left)))
+returns-4 c =
+    let start = c .before .before in
+    let if1 = c .before .if1 in
+    let n = start .args .g .len in
+    gathers _ _ _ _ _ (rw (if1 .left, le-ltb n 4100 (c .if2 .left))) (rw (if1 .left, le-ltb n 4100 (c .if2 .left)))
 
 pub gather-spec : {M : Type 1} → statement M
 gather-spec =

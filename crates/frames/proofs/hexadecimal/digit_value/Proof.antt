@@ -16,10 +16,16 @@ enum-told : tie.Need-enum-told
 enum-told c = search needs
 
 returns : tie.Need-returns
-returns c = let e = value-known (c .before .before .before .before .args .c) (c .before .v .given .0 .0) (sym (c .before .before .before .read-digit .ensures) ∙ c .before .v .given .1) in (sym e, omega (arith, e, value-small (c .before .before .before .before .args .c)))
+returns c =
+    let start = c .before .before .before .before in
+    let v = c .before .v in
+    let e = value-known (start .args .c) (v .given .0 .0) (sym (c .before .before .before .read-digit .ensures) ∙ v .given .1) in
+    (sym e, omega (arith, e, value-small (start .args .c)))
 
 returns-2 : tie.Need-returns-2
-returns-2 c = (sym (value-none (c .before .before .before .args .c) (sym (c .before .before .read-digit .ensures) ∙ c .enum-told .given .1)), omega arith)
+returns-2 c =
+    let start = c .before .before .before in
+    (sym (value-none (start .args .c) (sym (c .before .before .read-digit .ensures) ∙ c .enum-told .given .1)), omega arith)
 
 pub digit-value-spec : {M : Type 1} → statement M
 digit-value-spec =

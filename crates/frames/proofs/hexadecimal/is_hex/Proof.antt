@@ -36,7 +36,9 @@ enum-told-2 : tie.Need-enum-told-2 Inv-loop μ-loop
 enum-told-2 c = search needs
 
 returns-2 : tie.Need-returns-2 Inv-loop μ-loop
-returns-2 c = sym (digits-stop _ _ (c .before .before .before .before .loop-test .taken) (sym (c .before .before .read-digit .ensures) ∙ c .enum-told2 .given .1)) ∙ c .before .before .before .before .before .loop .inv
+returns-2 c =
+    let turn = c .before .before .before .before .before .loop in
+    sym (digits-stop _ _ (c .before .before .before .before .loop-test .taken) (sym (c .before .before .read-digit .ensures) ∙ c .enum-told2 .given .1)) ∙ turn .inv
 
 add-i : tie.Need-add-i Inv-loop μ-loop
 add-i c = search needs
@@ -45,7 +47,9 @@ loop-less : tie.Need-loop-less Inv-loop μ-loop
 loop-less c = search needs
 
 loop-again : tie.Need-loop-again Inv-loop μ-loop
-loop-again c = sym (digits-more _ _ _ (c .before .before .before .before .loop-test .taken) (sym (c .before .before .read-digit .ensures) ∙ c .enum-told .given .1)) ∙ c .before .before .before .before .before .loop .inv
+loop-again c =
+    let turn = c .before .before .before .before .before .loop in
+    sym (digits-more _ _ _ (c .before .before .before .before .loop-test .taken) (sym (c .before .before .read-digit .ensures) ∙ c .enum-told .given .1)) ∙ turn .inv
 
 returns-3 : tie.Need-returns-3 Inv-loop μ-loop
 returns-3 c = sym (digits-end _ _ (c .loop-test .left)) ∙ c .before .loop .inv

@@ -48,15 +48,21 @@ loop-less c = search needs
 
 loop-again : tie.Need-loop-again Inv-loop μ-loop
 loop-again c =
-    let s = c .before .before .before .before .before .before .before .before .before .before .before .args .line .now in
-    let i = c .before .before .before .before .before .before .before .before .loop .i in
-    (omega arith, pieces-more (pairOf (getD s i 0) (getD s (i + 1) 0) ∷ []) (decoded (drop (i + 2) s)) (c .before .before .before .before .before .before .before .before .loop .inv .1) (decoded-at s i (c .before .before .before .before .before .before .before .loop-test .taken)) (rw (sym (c .before .before .before .pair-value .ensures)) (c .before .before .put .ensures)))
+    let start = c .before .before .before .before .before .before .before .before .before .before .before in
+    let turn = c .before .before .before .before .before .before .before .before .loop in
+    let test = c .before .before .before .before .before .before .before .loop-test in
+    let s = start .args .line .now in
+    let i = turn .i in
+    (omega arith, pieces-more (pairOf (getD s i 0) (getD s (i + 1) 0) ∷ []) (decoded (drop (i + 2) s)) (turn .inv .1) (decoded-at s i (test .taken)) (rw (sym (c .before .before .before .pair-value .ensures)) (c .before .before .put .ensures)))
 
 same-length : tie.Need-same-length Inv-loop μ-loop
 same-length c = put-length (c .before .loop .inv .1 .put)
 
 returns : tie.Need-returns Inv-loop μ-loop
-returns c = pieces-all (c .before .loop .inv .1) (decoded-end (c .before .before .before .before .args .line .now) (c .before .loop .i) (c .loop-test .left))
+returns c =
+    let start = c .before .before .before .before in
+    let turn = c .before .loop in
+    pieces-all (turn .inv .1) (decoded-end (start .args .line .now) (turn .i) (c .loop-test .left))
 
 pub put-decoded-spec : {M : Type 1} → statement M
 put-decoded-spec =

@@ -35,15 +35,20 @@ loop-less c = search needs
 
 loop-again : tie.Need-loop-again Inv-loop μ-loop
 loop-again c =
-    let s = c .before .before .before .before .before .before .before .before .before .args .bytes .now in
-    let i = c .before .before .before .before .before .before .loop .i in
-    (omega arith, pieces-more (hex (getD s i 0 ∷ [])) (hex (drop (i + 1) s)) (c .before .before .before .before .before .before .loop .inv .1) (hex-at s i (c .before .before .before .before .before .loop-test .taken)) (c .before .before .put-pair .ensures))
+    let start = c .before .before .before .before .before .before .before .before .before in
+    let turn = c .before .before .before .before .before .before .loop in
+    let s = start .args .bytes .now in
+    let i = turn .i in
+    (omega arith, pieces-more (hex (getD s i 0 ∷ [])) (hex (drop (i + 1) s)) (turn .inv .1) (hex-at s i (c .before .before .before .before .before .loop-test .taken)) (c .before .before .put-pair .ensures))
 
 same-length : tie.Need-same-length Inv-loop μ-loop
 same-length c = put-length (c .before .loop .inv .1 .put)
 
 returns : tie.Need-returns Inv-loop μ-loop
-returns c = pieces-all (c .before .loop .inv .1) (hex-end (c .before .before .before .before .args .bytes .now) (c .before .loop .i) (c .loop-test .left))
+returns c =
+    let start = c .before .before .before .before in
+    let turn = c .before .loop in
+    pieces-all (turn .inv .1) (hex-end (start .args .bytes .now) (turn .i) (c .loop-test .left))
 
 pub put-hex-spec : {M : Type 1} → statement M
 put-hex-spec =

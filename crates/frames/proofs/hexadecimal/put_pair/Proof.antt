@@ -1,4 +1,4 @@
--- `frames::hexadecimal::put_pair` meets its contract: two writes, one behind the other.
+-- `frames::hexadecimal::put_pair` meets its contract: two writes, one after the other. Rests on octets' Puts.
 use Rattle.listing_rules.specs.Frames.{hex}
 use Rattle.octets.proofs.Puts.{put-then}
 use borrow.Author.Needs.{needs}
@@ -22,7 +22,10 @@ same-length c = search needs
 
 returns : tie.Need-returns
 unfolding hex
-returns c = rw (← c .before .before .before .before .before .before .before .before .hex-digit .ensures, ← c .before .before .before .hex-digit2 .ensures) (put-then (c .before .before .before .before .before .before .before .put .ensures) (c .before .before .put2 .ensures))
+returns c =
+    let high = c .before .before .before .before .before .before .before .before .hex-digit in
+    let wrote = c .before .before .before .before .before .before .before .put in
+    rw (← high .ensures, ← c .before .before .before .hex-digit2 .ensures) (put-then (wrote .ensures) (c .before .before .put2 .ensures))
 
 pub put-pair-spec : {M : Type 1} → statement M
 put-pair-spec =

@@ -17,14 +17,20 @@ unfolding digitIs digit within
 returns c = rw (c .if1 .taken)
 
 sub-t6 : tie.Need-sub-t6
-sub-t6 c = let b = c .before .before .args .c in omega (arith, leb-true 65 b (and-l (leb 65 b) _ (c .if2 .taken)))
+sub-t6 c =
+    let start = c .before .before in
+    let b = start .args .c in
+    omega (arith, leb-true 65 b (and-l (leb 65 b) _ (c .if2 .taken)))
 
 returns-2 : tie.Need-returns-2
 unfolding digitIs digit within
 returns-2 c = rw (c .before .if1 .left, c .if2 .taken)
 
 sub-t7 : tie.Need-sub-t7
-sub-t7 c = let b = c .before .before .before .args .c in omega (arith, leb-true 97 b (and-l (leb 97 b) _ (c .if3 .taken)))
+sub-t7 c =
+    let start = c .before .before .before in
+    let b = start .args .c in
+    omega (arith, leb-true 97 b (and-l (leb 97 b) _ (c .if3 .taken)))
 
 returns-3 : tie.Need-returns-3
 unfolding digitIs digit within

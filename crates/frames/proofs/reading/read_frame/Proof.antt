@@ -21,16 +21,22 @@ hexed c = sym (c .before .is-hex .ensures) ∙ not-false _ (c .if3 .left)
 
 -- the answer by the first byte
 kinded : (c : tie.After-kind-of) → c .kind-of .result ≡ kindAnswer (c .before .before .before .before .before .before .before .before .before .before .before .before .before .before .args .line .now)
-kinded c = c .kind-of .ensures ∙ rw (c .before .pair-value2 .ensures, c .before .before .before .before .pair-value .ensures, c .before .before .before .before .before .byte-at2 .ensures, c .before .before .before .before .before .before .byte-at .ensures)
+kinded c =
+    let byte = c .before .before .before .before .before .before .byte-at in
+    let byte2 = c .before .before .before .before .before .byte-at2 in
+    let pair = c .before .before .before .before .pair-value in
+    c .kind-of .ensures ∙ rw (c .before .pair-value2 .ensures, pair .ensures, byte2 .ensures, byte .ensures)
 
 returns : tie.Need-returns
 returns c =
-    let a = c .before .before .before .args in
+    let start = c .before .before .before in
+    let a = start .args in
     frame-bad (a .line .now) (a .bytes .now) (within-bad (length (a .bytes .now)) (a .line .now) (bad-long (a .line .now) (c .if1 .taken)))
 
 returns-2 : tie.Need-returns-2
 returns-2 c =
-    let a = c .before .before .before .before .args in
+    let start = c .before .before .before .before in
+    let a = start .args in
     frame-bad (a .line .now) (a .bytes .now) (within-bad (length (a .bytes .now)) (a .line .now) (bad-short (a .line .now) (c .if2 .taken)))
 
 is-hex-requires : tie.Need-is-hex-requires
@@ -38,7 +44,8 @@ is-hex-requires c κs = search needs
 
 returns-3 : tie.Need-returns-3
 returns-3 c =
-    let a = c .before .before .before .before .before .before .args in
+    let start = c .before .before .before .before .before .before in
+    let a = start .args in
     frame-bad (a .line .now) (a .bytes .now) (within-bad (length (a .bytes .now)) (a .line .now) (bad-text (a .line .now) (sym (c .before .is-hex .ensures) ∙ not-true _ (c .if3 .taken))))
 
 sub-n : tie.Need-sub-n
@@ -46,7 +53,8 @@ sub-n c = search needs
 
 returns-4 : tie.Need-returns-4
 returns-4 c =
-    let a = c .before .before .before .before .before .before .before .args in
+    let start = c .before .before .before .before .before .before .before in
+    let a = start .args in
     frame-short (a .line .now) (c .before .before .before .before .if1 .left) (c .before .before .before .if2 .left) (hexed (c .before)) (a .bytes .now) (c .if4 .taken)
 
 byte-at-requires : tie.Need-byte-at-requires
@@ -75,8 +83,13 @@ enum-told c = search needs
 
 returns-5 : tie.Need-returns-5
 returns-5 c =
-    let a = c .before .before .before .before .before .before .before .before .before .before .before .before .before .before .before .before .args in
-    frame-other (a .line .now) (c .before .before .before .before .before .before .before .before .before .before .before .before .before .if1 .left) (c .before .before .before .before .before .before .before .before .before .before .before .before .if2 .left) (hexed (c .before .before .before .before .before .before .before .before .before .before)) (a .bytes .now) (c .before .before .before .before .before .before .before .before .before .if4 .left) (sym (kinded (c .before .before)) ∙ c .enum-told .given .1)
+    let start = c .before .before .before .before .before .before .before .before .before .before .before .before .before .before .before .before in
+    let if1 = c .before .before .before .before .before .before .before .before .before .before .before .before .before .if1 in
+    let if2 = c .before .before .before .before .before .before .before .before .before .before .before .before .if2 in
+    let made = c .before .before .before .before .before .before .before .before .before .before in
+    let if4 = c .before .before .before .before .before .before .before .before .before .if4 in
+    let a = start .args in
+    frame-other (a .line .now) (if1 .left) (if2 .left) (hexed made) (a .bytes .now) (if4 .left) (sym (kinded (c .before .before)) ∙ c .enum-told .given .1)
 
 sub-put-decoded : tie.Need-sub-put-decoded
 sub-put-decoded c = search needs
@@ -95,9 +108,16 @@ same-length c = search needs
 
 returns-6 : tie.Need-returns-6
 returns-6 c =
-    let a = c .before .before .before .before .before .before .before .before .before .before .before .before .before .before .before .before .before .before .before .before .args in
+    let start = c .before .before .before .before .before .before .before .before .before .before .before .before .before .before .before .before .before .before .before .before in
+    let if1 = c .before .before .before .before .before .before .before .before .before .before .before .before .before .before .before .before .before .if1 in
+    let if2 = c .before .before .before .before .before .before .before .before .before .before .before .before .before .before .before .before .if2 in
+    let made = c .before .before .before .before .before .before .before .before .before .before .before .before .before .before in
+    let if4 = c .before .before .before .before .before .before .before .before .before .before .before .before .before .if4 in
+    let made-2 = c .before .before .before .before .before .before in
+    let match = c .before .before .before .before .before .match in
+    let a = start .args in
     let whole = take-all (length (a .line .now) - 2) (drop 2 (a .line .now)) (omega (arith, length-drop 2 (a .line .now))) in
-    frame-good (a .line .now) (c .before .before .before .before .before .before .before .before .before .before .before .before .before .before .before .before .before .if1 .left) (c .before .before .before .before .before .before .before .before .before .before .before .before .before .before .before .before .if2 .left) (hexed (c .before .before .before .before .before .before .before .before .before .before .before .before .before .before)) (a .bytes .now) (c .before .before .before .before .before .before .before .before .before .before .before .before .before .if4 .left) _ _ (kinded (c .before .before .before .before .before .before)) (λ e. miss (0 ∷ 1 ∷ 2 ∷ 3 ∷ []) 4 tt (rw e at (c .before .before .before .before .before .match .keys2))) (c .before .before .put-decoded .ensures .bytes ∙ ap (λ (x : List ℕ). sets (a .bytes .now) 0 (decoded x)) whole)
+    frame-good (a .line .now) (if1 .left) (if2 .left) (hexed made) (a .bytes .now) (if4 .left) _ _ (kinded made-2) (λ e. miss (0 ∷ 1 ∷ 2 ∷ 3 ∷ []) 4 tt (rw e at (match .keys2))) (c .before .before .put-decoded .ensures .bytes ∙ ap (λ (x : List ℕ). sets (a .bytes .now) 0 (decoded x)) whole)
 
 pub read-frame-spec : {M : Type 1} → statement M
 read-frame-spec =

@@ -8,13 +8,22 @@ use Rattle.frames.proofs.storing.store.Statement.{statement}
 use Rattle.frames.proofs.storing.store.Tie as tie
 
 returns : tie.Need-returns
-returns c = let a = c .before .before .before .args in stores-outside (a .area .now) (a .used) (a .limit) (a .bytes .now) (c .if1 .taken)
+returns c =
+    let start = c .before .before .before in
+    let a = start .args in
+    stores-outside (a .area .now) (a .used) (a .limit) (a .bytes .now) (c .if1 .taken)
 
 returns-2 : tie.Need-returns-2
-returns-2 c = let a = c .before .before .before .before .args in stores-over (a .area .now) (a .used) (a .limit) (a .bytes .now) (omega arith)
+returns-2 c =
+    let start = c .before .before .before .before in
+    let a = start .args in
+    stores-over (a .area .now) (a .used) (a .limit) (a .bytes .now) (omega arith)
 
 returns-3 : tie.Need-returns-3
-returns-3 c = let a = c .before .before .before .before .before .args in stores-over (a .area .now) (a .used) (a .limit) (a .bytes .now) (omega arith)
+returns-3 c =
+    let start = c .before .before .before .before .before in
+    let a = start .args in
+    stores-over (a .area .now) (a .used) (a .limit) (a .bytes .now) (omega arith)
 
 put-all-requires : tie.Need-put-all-requires
 put-all-requires c κs = search needs
@@ -23,7 +32,11 @@ same-length : tie.Need-same-length
 same-length c = search needs
 
 returns-4 : tie.Need-returns-4
-returns-4 c = let a = c .before .before .before .before .before .before .before .before .before .args in let p = c .before .before .put-all .ensures in stores-now (a .area .now) _ (a .used) (a .limit) (a .bytes .now) _ (omega arith) (omega arith) (ap Now (omega arith)) (p .bytes)
+returns-4 c =
+    let start = c .before .before .before .before .before .before .before .before .before in
+    let a = start .args in
+    let p = c .before .before .put-all .ensures in
+    stores-now (a .area .now) _ (a .used) (a .limit) (a .bytes .now) _ (omega arith) (omega arith) (ap Now (omega arith)) (p .bytes)
 
 pub store-spec : {M : Type 1} → statement M
 store-spec =

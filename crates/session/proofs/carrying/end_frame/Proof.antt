@@ -12,35 +12,27 @@ use Rattle.frames.proofs.read_gathered.Reads as read-gathered-reads
 use Rattle.session.proofs.carrying.carry_out.Reads as carry-out-reads
 use Rattle.session.proofs.carrying.frame_buffer.Reads as frame-buffer-reads
 
--- src/carrying.rt:198:21
 frame-buffer-requires : tie.Need-frame-buffer-requires
 frame-buffer-requires c κs = search needs
 
--- src/carrying.rt:199:47
 slice-aggregate-read-gathered : tie.Need-slice-aggregate-read-gathered
 slice-aggregate-read-gathered c = search needs
 
--- src/carrying.rt:199:9
 read-gathered-requires : tie.Need-read-gathered-requires
 read-gathered-requires c κs = search needs
 
--- src/carrying.rt:200:22
 slice-aggregate-carry-out : tie.Need-slice-aggregate-carry-out
 slice-aggregate-carry-out c = search needs
 
--- src/carrying.rt:200:5
 carry-out-requires : tie.Need-carry-out-requires
 carry-out-requires c κs = search needs
 
--- src/carrying.rt:183:1
 same-length : tie.Need-same-length
 same-length c = search needs
 
--- src/carrying.rt:183:1
 same-length-2 : tie.Need-same-length-2
 same-length-2 c = search needs
 
--- src/carrying.rt:183:1
 same-length-3 : tie.Need-same-length-3
 same-length-3 c = search needs
 
@@ -48,9 +40,12 @@ same-length-3 c = search needs
 sized : (c : tie.After-frame-buffer) → length (c .frame-buffer .result) ≡ 2050
 sized c = ap length (c .frame-buffer .ensures) ∙ length-replicate {A = ℕ} 2050 0
 
--- src/carrying.rt:183:1
 returns : tie.Need-returns
-returns c = record { frame = _; read = λ p h. c .before .before .before .before .before .before .before .before .before .before .before .before .read-gathered .ensures .means (omega (arith, sized (c .before .before .before .before .before .before .before .before .before .before .before .before .before .before))) p h; carried = c .before .before .before .before .before .before .carry-out .ensures }
+returns c =
+    let made = c .before .before .before .before .before .before .before .before .before .before .before .before .before .before in
+    let read = c .before .before .before .before .before .before .before .before .before .before .before .before .read-gathered in
+    let carried = c .before .before .before .before .before .before .carry-out in
+    record { frame = _; read = λ p h. read .ensures .means (omega (arith, sized made)) p h; carried = carried .ensures }
 
 pub end-frame-spec : {M : Type 1} → statement M
 end-frame-spec =

@@ -1,6 +1,5 @@
 -- `session::carrying::keep` meets its contract: room, or none. Rests on CarryLaws.
 use Rattle.session.proofs.CarryLaws.{keeps-now, keeps-full}
-use native.Mathlib.Omega.{arith}
 use borrow.Author.Needs.{needs}
 use Rattle.session.proofs.carrying.keep.Statement.{statement}
 use Rattle.session.proofs.carrying.keep.Tie as tie
@@ -9,41 +8,38 @@ use Rattle.session.proofs.carrying.keep.Lts as lts
 use Rattle.frames.proofs.put_refusal.Reads as put-refusal-reads
 use Rattle.frames.proofs.store.Reads as store-reads
 
--- src/carrying.rt:81:11
 store-requires : tie.Need-store-requires
 store-requires c κs = search needs
 
--- src/carrying.rt:82:21
 enum-known-len : tie.Need-enum-known-len
 enum-known-len c = search needs
 
--- src/carrying.rt:84:39
 enum-told : tie.Need-enum-told
 enum-told c = search needs
 
--- src/carrying.rt:84:17
 put-refusal-requires : tie.Need-put-refusal-requires
 put-refusal-requires c κs = search needs
 
--- src/carrying.rt:69:1
 same-length : tie.Need-same-length
 same-length c = search needs
 
--- src/carrying.rt:69:1
 returns : tie.Need-returns
-returns c = keeps-now (c .before .before .before .before .before .before .before .before .before .before .pre .1) (c .before .before .before .before .before .store .ensures) (c .before .before .before .before .before .before .before .before .before .before .args .number) _ (c .before .before .before .before .before .before .before .before .before .before .args .out .now) (c .before .len .given .1)
+returns c =
+    let start = c .before .before .before .before .before .before .before .before .before .before in
+    let stored = c .before .before .before .before .before .store in
+    keeps-now (start .pre .1) (stored .ensures) (start .args .number) _ (start .args .out .now) (c .before .len .given .1)
 
--- src/carrying.rt:69:1
 same-length-2 : tie.Need-same-length-2
 same-length-2 c = search needs
 
--- src/carrying.rt:69:1
 same-length-3 : tie.Need-same-length-3
 same-length-3 c = search needs
 
--- src/carrying.rt:69:1
 returns-2 : tie.Need-returns-2
-returns-2 c = keeps-full (c .before .before .before .before .before .before .before .before .before .before .before .before .before .pre .1) (c .before .before .before .before .before .before .before .before .store .ensures) (c .before .before .before .before .before .before .before .before .before .before .before .before .before .args .number) _ (c .before .before .before .before .before .before .before .before .before .before .before .before .before .args .out .now) _ (c .before .before .before .before .before .before .before .before .before .before .before .before .before .pre .0) (c .before .before .before .before .enum-told .given .1) (c .before .before .put-refusal .ensures)
+returns-2 c =
+    let start = c .before .before .before .before .before .before .before .before .before .before .before .before .before in
+    let stored = c .before .before .before .before .before .before .before .before .store in
+    keeps-full (start .pre .1) (stored .ensures) (start .args .number) _ (start .args .out .now) _ (start .pre .0) (c .before .before .before .before .enum-told .given .1) (c .before .before .put-refusal .ensures)
 
 pub keep-spec : {M : Type 1} → statement M
 keep-spec =

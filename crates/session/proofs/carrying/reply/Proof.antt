@@ -14,19 +14,15 @@ use Rattle.frames.proofs.put_refusal.Reads as put-refusal-reads
 use Rattle.server.proofs.answer.Reads as answer-reads
 use Rattle.session.proofs.carrying.answer_buffer.Reads as answer-buffer-reads
 
--- src/carrying.rt:94:22
 answer-buffer-requires : tie.Need-answer-buffer-requires
 answer-buffer-requires c κs = search needs
 
--- src/carrying.rt:95:54
 slice-aggregate-answer : tie.Need-slice-aggregate-answer
 slice-aggregate-answer c = search needs
 
--- src/carrying.rt:95:11
 answer-requires : tie.Need-answer-requires
 answer-requires c κs = search needs
 
--- src/carrying.rt:96:23
 enum-known-n : tie.Need-enum-known-n
 enum-known-n c = search needs
 
@@ -34,41 +30,46 @@ enum-known-n c = search needs
 sized : (c : tie.After-answer-buffer) → length (c .answer-buffer .result) ≡ 16384
 sized c = ap length (c .answer-buffer .ensures) ∙ length-replicate {A = ℕ} 16384 0
 
--- src/carrying.rt:96:54
 array-share-prefix-answer : tie.Need-array-share-prefix-answer
-array-share-prefix-answer c = omega (arith, reply-fits _ _ _ _ (sized (c .before .before .before .before .before .before .before)) _ _ (sym (c .before .before .before .before .before .answer2 .ensures .0) ∙ c .before .before .n .given .1) (c .before .before .before .before .before .answer2 .ensures .1) .0, c .before .before .before .before .before .answer2 .kept .1 .1 .1 .0, sized (c .before .before .before .before .before .before .before))
+array-share-prefix-answer c =
+    let made = c .before .before .before .before .before .before .before in
+    let served = c .before .before .before .before .before .answer2 in
+    omega (arith, reply-fits _ _ _ _ _ _ (sized made) (served .ensures .0) (served .ensures .1) _ (c .before .before .n .given .1) .0, served .kept .1 .1 .1 .0, sized made)
 
--- src/carrying.rt:96:54
 slice-aggregate-put-line : tie.Need-slice-aggregate-put-line
-slice-aggregate-put-line c = sym (reply-fits _ _ _ _ (sized (c .before .before .before .before .before .before .before .before)) _ _ (sym (c .before .before .before .before .before .before .answer2 .ensures .0) ∙ c .before .before .before .n .given .1) (c .before .before .before .before .before .before .answer2 .ensures .1) .1)
+slice-aggregate-put-line c =
+    let made = c .before .before .before .before .before .before .before .before in
+    let served = c .before .before .before .before .before .before .answer2 in
+    sym (reply-fits _ _ _ _ _ _ (sized made) (served .ensures .0) (served .ensures .1) _ (c .before .before .before .n .given .1) .1)
 
--- src/carrying.rt:96:29
 put-line-requires : tie.Need-put-line-requires
 put-line-requires c κs = search needs
 
--- src/carrying.rt:97:26
 enum-known-number : tie.Need-enum-known-number
 enum-known-number c = search needs
 
--- src/carrying.rt:97:37
 put-refusal-requires : tie.Need-put-refusal-requires
 put-refusal-requires c κs = search needs
 
--- src/carrying.rt:91:1
 same-length : tie.Need-same-length
 same-length c = search needs
 
--- src/carrying.rt:91:1
 returns : tie.Need-returns
-returns c = reply-says _ _ _ _ (sized (c .before .before .before .before .before .before .before .before .before .before .before)) _ _ _ _ _ (sym (c .before .before .before .before .before .before .before .before .before .answer2 .ensures .0) ∙ c .before .before .before .before .before .before .n .given .1) (c .before .before .before .before .before .before .before .before .before .answer2 .ensures .1) (c .before .before .put-line .ensures)
+returns c =
+    let made = c .before .before .before .before .before .before .before .before .before .before .before in
+    let served = c .before .before .before .before .before .before .before .before .before .answer2 in
+    let n = c .before .before .before .before .before .before .n in
+    reply-says _ _ _ _ _ _ (sized made) (served .ensures .0) (served .ensures .1) _ _ _ _ (n .given .1) (c .before .before .put-line .ensures)
 
--- src/carrying.rt:91:1
 same-length-2 : tie.Need-same-length-2
 same-length-2 c = search needs
 
--- src/carrying.rt:91:1
 returns-2 : tie.Need-returns-2
-returns-2 c = reply-refuses _ _ _ _ (sized (c .before .before .before .before .before .before .before .before .before .before)) _ _ _ _ (sym (c .before .before .before .before .before .before .before .before .answer2 .ensures .0) ∙ c .before .before .before .before .before .number .given .1) (c .before .before .put-refusal .ensures)
+returns-2 c =
+    let made = c .before .before .before .before .before .before .before .before .before .before in
+    let served = c .before .before .before .before .before .before .before .before .answer2 in
+    let number = c .before .before .before .before .before .number in
+    reply-refuses _ _ _ _ _ _ (sized made) (served .ensures .0) (served .ensures .1) _ _ _ _ (number .given .1) (c .before .before .put-refusal .ensures)
 
 pub reply-spec : {M : Type 1} → statement M
 reply-spec =

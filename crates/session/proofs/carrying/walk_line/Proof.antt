@@ -3,7 +3,6 @@ use mathlib.Core.Path.{_≡_, sym, ap, _∙_}
 use Prim.Native.Nat.{ℕ}
 use lib.ListN.{length, length-replicate}
 use Rattle.session.proofs.CarryLaws.{walk-fits, walk-says, walk-refuses}
-use native.Mathlib.Omega.{arith}
 use borrow.Author.Needs.{needs}
 use Rattle.session.proofs.carrying.walk_line.Statement.{statement}
 use Rattle.session.proofs.carrying.walk_line.Tie as tie
@@ -15,83 +14,75 @@ use Rattle.frames.proofs.put_walk.Reads as put-walk-reads
 use Rattle.session.proofs.carrying.answer_buffer.Reads as answer-buffer-reads
 use Rattle.session.proofs.carrying.names_buffer.Reads as names-buffer-reads
 
--- src/carrying.rt:105:23
 answer-buffer-requires : tie.Need-answer-buffer-requires
 answer-buffer-requires c κs = search needs
 
--- src/carrying.rt:106:21
 names-buffer-requires : tie.Need-names-buffer-requires
 names-buffer-requires c κs = search needs
 
--- src/carrying.rt:107:23
 names-buffer-requires-2 : tie.Need-names-buffer-requires-2
 names-buffer-requires-2 c κs = search needs
 
--- src/carrying.rt:108:34
 slice-aggregate-collect : tie.Need-slice-aggregate-collect
 slice-aggregate-collect c = search needs
 
--- src/carrying.rt:108:48
 slice-aggregate-collect-2 : tie.Need-slice-aggregate-collect-2
 slice-aggregate-collect-2 c = search needs
 
--- src/carrying.rt:108:60
 slice-aggregate-collect-3 : tie.Need-slice-aggregate-collect-3
 slice-aggregate-collect-3 c = search needs
 
--- src/carrying.rt:108:11
 collect-requires : tie.Need-collect-requires
 collect-requires c κs = search needs
 
--- src/carrying.rt:109:25
 enum-known-count : tie.Need-enum-known-count
 enum-known-count c = search needs
 
 -- the sizes of the three buffers
-scratch-sized : (c : tie.After-answer-buffer) → length (c .answer-buffer .result) ≡ 16384
-scratch-sized c = ap length (c .answer-buffer .ensures) ∙ length-replicate {A = ℕ} 16384 0
+sizes : (c : tie.After-names-buffer2) → (length (c .before .before .answer-buffer .result) ≡ 16384) × (length (c .before .names-buffer .result) ≡ 8192) × (length (c .names-buffer2 .result) ≡ 8192)
+sizes c =
+    (ap length (c .before .before .answer-buffer .ensures) ∙ length-replicate {A = ℕ} 16384 0, ap length (c .before .names-buffer .ensures) ∙ length-replicate {A = ℕ} 8192 0, ap length (c .names-buffer2 .ensures) ∙ length-replicate {A = ℕ} 8192 0)
 
-found-sized : (c : tie.After-names-buffer) → length (c .names-buffer .result) ≡ 8192
-found-sized c = ap length (c .names-buffer .ensures) ∙ length-replicate {A = ℕ} 8192 0
-
-pending-sized : (c : tie.After-names-buffer2) → length (c .names-buffer2 .result) ≡ 8192
-pending-sized c = ap length (c .names-buffer2 .ensures) ∙ length-replicate {A = ℕ} 8192 0
-
--- src/carrying.rt:109:62
 array-share-prefix-found : tie.Need-array-share-prefix-found
-array-share-prefix-found c = omega (arith, walk-fits _ _ _ _ _ (scratch-sized (c .before .before .before .before .before .before .before .before .before .before .before .before .before)) (found-sized (c .before .before .before .before .before .before .before .before .before .before .before .before)) (pending-sized (c .before .before .before .before .before .before .before .before .before .before .before)) _ _ _ (c .before .before .before .before .before .before .before .collect .kept .1 .1 .1 .0) (sym (c .before .before .before .before .before .before .before .collect .ensures .0) ∙ c .before .before .count .given .1) (c .before .before .before .before .before .before .before .collect .ensures .1 .1 .0) .0, c .before .before .before .before .before .before .before .collect .kept .1 .1 .1 .0, found-sized (c .before .before .before .before .before .before .before .before .before .before .before .before))
+array-share-prefix-found c =
+    let made = c .before .before .before .before .before .before .before .before .before .before .before in
+    let walked = c .before .before .before .before .before .before .before .collect in
+    walk-fits _ _ _ _ _ _ _ (sizes made) (walked .ensures .0) (walked .kept .1 .1 .1 .0) (walked .ensures .1 .1 .0) _ _ (c .before .before .count .given .1) .0
 
--- src/carrying.rt:109:62
 slice-aggregate-put-walk : tie.Need-slice-aggregate-put-walk
-slice-aggregate-put-walk c = sym (walk-fits _ _ _ _ _ (scratch-sized (c .before .before .before .before .before .before .before .before .before .before .before .before .before .before)) (found-sized (c .before .before .before .before .before .before .before .before .before .before .before .before .before)) (pending-sized (c .before .before .before .before .before .before .before .before .before .before .before .before)) _ _ _ (c .before .before .before .before .before .before .before .before .collect .kept .1 .1 .1 .0) (sym (c .before .before .before .before .before .before .before .before .collect .ensures .0) ∙ c .before .before .before .count .given .1) (c .before .before .before .before .before .before .before .before .collect .ensures .1 .1 .0) .1)
+slice-aggregate-put-walk c =
+    let made = c .before .before .before .before .before .before .before .before .before .before .before .before in
+    let walked = c .before .before .before .before .before .before .before .before .collect in
+    sym (walk-fits _ _ _ _ _ _ _ (sizes made) (walked .ensures .0) (walked .kept .1 .1 .1 .0) (walked .ensures .1 .1 .0) _ _ (c .before .before .before .count .given .1) .1)
 
--- src/carrying.rt:109:38
 put-walk-requires : tie.Need-put-walk-requires
 put-walk-requires c κs = search needs
 
--- src/carrying.rt:110:28
 enum-known-number : tie.Need-enum-known-number
 enum-known-number c = search needs
 
--- src/carrying.rt:110:39
 put-refusal-requires : tie.Need-put-refusal-requires
 put-refusal-requires c κs = search needs
 
--- src/carrying.rt:102:1
 same-length : tie.Need-same-length
 same-length c = search needs
 
--- src/carrying.rt:102:1
 returns : tie.Need-returns
-returns c = walk-says _ _ _ _ _ (scratch-sized (c .before .before .before .before .before .before .before .before .before .before .before .before .before .before .before .before .before)) (found-sized (c .before .before .before .before .before .before .before .before .before .before .before .before .before .before .before .before)) (pending-sized (c .before .before .before .before .before .before .before .before .before .before .before .before .before .before .before)) _ _ _ _ _ _ (c .before .before .before .before .before .before .before .before .before .before .before .collect .kept .1 .1 .1 .0) (sym (c .before .before .before .before .before .before .before .before .before .before .before .collect .ensures .0) ∙ c .before .before .before .before .before .before .count .given .1) (c .before .before .before .before .before .before .before .before .before .before .before .collect .ensures .1 .1 .0) (c .before .before .put-walk .ensures)
+returns c =
+    let made = c .before .before .before .before .before .before .before .before .before .before .before .before .before .before .before in
+    let walked = c .before .before .before .before .before .before .before .before .before .before .before .collect in
+    let count = c .before .before .before .before .before .before .count in
+    walk-says _ _ _ _ _ _ _ (sizes made) (walked .ensures .0) (walked .kept .1 .1 .1 .0) (walked .ensures .1 .1 .0) _ _ _ _ _ (count .given .1) (c .before .before .put-walk .ensures)
 
--- src/carrying.rt:102:1
 same-length-2 : tie.Need-same-length-2
 same-length-2 c = search needs
 
--- src/carrying.rt:102:1
 returns-2 : tie.Need-returns-2
-returns-2 c = walk-refuses _ _ _ _ _ (scratch-sized (c .before .before .before .before .before .before .before .before .before .before .before .before .before .before .before .before)) (found-sized (c .before .before .before .before .before .before .before .before .before .before .before .before .before .before .before)) (pending-sized (c .before .before .before .before .before .before .before .before .before .before .before .before .before .before)) _ _ _ _ (sym (c .before .before .before .before .before .before .before .before .before .before .collect .ensures .0) ∙ c .before .before .before .before .before .number .given .1) (c .before .before .put-refusal .ensures)
+returns-2 c =
+    let made = c .before .before .before .before .before .before .before .before .before .before .before .before .before .before in
+    let walked = c .before .before .before .before .before .before .before .before .before .before .collect in
+    let number = c .before .before .before .before .before .number in
+    walk-refuses _ _ _ _ _ _ _ (sizes made) (walked .ensures .0) (walked .kept .1 .1 .1 .0) (walked .ensures .1 .1 .0) _ _ _ _ (number .given .1) (c .before .before .put-refusal .ensures)
 
 pub walk-line-spec : {M : Type 1} → statement M
 walk-line-spec =

@@ -16,43 +16,36 @@ Inv-loop line₀ chunk gathered₀ i₀ line gathered i = Part chunk line₀ gat
 abbrev μ-loop : tie.MeasureT-loop
 μ-loop line₀ chunk gathered₀ i₀ line gathered i = length chunk - i
 
--- src/gathering.rt:21:5
 loop-holds : tie.Need-loop-holds Inv-loop μ-loop
 loop-holds c = part-start _ _ _
 
--- src/gathering.rt:22:17
 shared-slice-read-c : tie.Need-shared-slice-read-c Inv-loop μ-loop
 shared-slice-read-c c = search needs
 
--- src/gathering.rt:24:13
 same-length : tie.Need-same-length Inv-loop μ-loop
 same-length c = search needs
 
--- src/gathering.rt:24:13
 returns : tie.Need-returns Inv-loop μ-loop
 returns c = part-feed (c .before .before .before .loop .inv) (c .before .before .loop-test .taken) (c .if1 .taken)
 
--- src/gathering.rt:26:9
 gather-requires : tie.Need-gather-requires Inv-loop μ-loop
 gather-requires c κs = search needs
 
--- src/gathering.rt:27:9
 add-i : tie.Need-add-i Inv-loop μ-loop
 add-i c = search needs
 
--- src/gathering.rt:21:5
 loop-less : tie.Need-loop-less Inv-loop μ-loop
 loop-less c = search needs
 
--- src/gathering.rt:21:5
 loop-again : tie.Need-loop-again Inv-loop μ-loop
-loop-again c = part-more (c .before .before .before .before .before .before .before .loop .inv) _ _ (c .before .before .before .before .before .before .loop-test .taken) (c .before .before .before .before .if1 .left) (c .before .before .gather .ensures)
+loop-again c =
+    let turn = c .before .before .before .before .before .before .before .loop in
+    let test = c .before .before .before .before .before .before .loop-test in
+    part-more (turn .inv) _ _ (test .taken) (c .before .before .before .before .if1 .left) (c .before .before .gather .ensures)
 
--- src/gathering.rt:16:1
 same-length-2 : tie.Need-same-length-2 Inv-loop μ-loop
 same-length-2 c = search needs
 
--- src/gathering.rt:16:1
 returns-2 : tie.Need-returns-2 Inv-loop μ-loop
 returns-2 c = part-end (c .before .loop .inv) (omega (arith, c .loop-test .left))
 

@@ -5,7 +5,10 @@ use Rattle.frames.proofs.gathering.Gathered.is_empty.Statement.{stateme
 use Rattle.frames.proofs.gathering.Gathered.is_empty.Tie as tie
 
 returns : tie.Need-returns
-returns c = let g = c .before .before .args .self in record { holds = λ line p h. empty-is (g .over) (g .len) line p h; answer = refl }
+returns c =
+    let start = c .before .before in
+    let g = start .args .self in
+    record { holds = λ line p h. empty-is (g .over) (g .len) line p h; answer = refl }
 
 pub is-empty-spec : {M : Type 1} → statement M
 is-empty-spec = tie.close (tie.spec returns)

@@ -31,7 +31,7 @@ pub(crate) enum Asked {
 
 impl WalkOptions {
     // The options of a lawful byte.
-    pub fn of_byte(byte: u8) -> Asked
+    pub(crate) fn of_byte(byte: u8) -> Asked
         ensures { λ r. ⌜ r ≡ askedBy byte ⌝ }
     {
         let set = OptionByte { bits: byte };
@@ -56,7 +56,7 @@ impl WalkOptions {
     }
 
     // Whether SPECIAL-USE is selected.
-    pub fn special_use(self) -> bool
+    pub(crate) fn special_use(self) -> bool
         ensures { λ r. ⌜ r ≡ withSpecialUse (self .criteria) ⌝ }
     {
         let criteria = self.criteria;
@@ -73,7 +73,7 @@ impl OptionByte {
 
     pub const SPECIAL_USE: OptionByte = OptionByte { bits: 2 };
 
-    pub const WITHOUT_SUBSCRIBED: OptionByte = OptionByte { bits: 4 };
+    pub(crate) const WITHOUT_SUBSCRIBED: OptionByte = OptionByte { bits: 4 };
 
     pub const ALL: OptionByte = OptionByte { bits: 7 };
 

@@ -14,7 +14,7 @@ pub enum Digit {
 }
 
 // "either case": 0 to 9, A to F and a to f, which stand for 10 to 15.
-pub fn read_digit(c: u8) -> Digit
+pub(crate) fn read_digit(c: u8) -> Digit
     ensures { λ r. ⌜ r ≡ digitIs (digit c) ⌝ }
 {
     if (b'0' <= c) & (c <= b'9') {
@@ -40,14 +40,14 @@ fn digit_value(c: u8) -> u8
 }
 
 // The byte of two digits, the high one first.
-pub fn pair_value(high: u8, low: u8) -> u8
+pub(crate) fn pair_value(high: u8, low: u8) -> u8
     ensures { λ r. ⌜ r ≡ pairOf high low ⌝ }
 {
     16 * digit_value(high) + digit_value(low)
 }
 
 // Whether the characters are digits, and an even number of them.
-pub fn is_hex(line: &[u8]) -> bool
+pub(crate) fn is_hex(line: &[u8]) -> bool
     ensures { λ r. ⌜ r ≡ isSome (bytesOf (now (line .entry))) ⌝ }
 {
     if line.len() % 2 != 0 {
@@ -64,7 +64,7 @@ pub fn is_hex(line: &[u8]) -> bool
 }
 
 // The bytes of the pairs of digits, from a place on. A last digit with none beside it gives no byte.
-pub fn put_decoded(buf: &mut [u8], at: usize, line: &[u8]) -> usize
+pub(crate) fn put_decoded(buf: &mut [u8], at: usize, line: &[u8]) -> usize
     ensures { λ r. ⌜ Put (now (buf .entry)) (now (buf .exit)) at (decoded (now (line .entry))) r ⌝ }
 {
     let mut to = at;
@@ -88,7 +88,7 @@ fn hex_digit(d: u8) -> u8
 }
 
 // One byte's two digits, the high one first.
-pub fn put_pair(buf: &mut [u8], at: usize, b: u8) -> usize
+pub(crate) fn put_pair(buf: &mut [u8], at: usize, b: u8) -> usize
     ensures { λ r. ⌜ Put (now (buf .entry)) (now (buf .exit)) at (hex (b ∷ [])) r ⌝ }
 {
     let to = octets::put(buf, at, hex_digit(b / 16));
@@ -96,7 +96,7 @@ pub fn put_pair(buf: &mut [u8], at: usize, b: u8) -> usize
 }
 
 // The digits of bytes.
-pub fn put_hex(buf: &mut [u8], at: usize, bytes: &[u8]) -> usize
+pub(crate) fn put_hex(buf: &mut [u8], at: usize, bytes: &[u8]) -> usize
     ensures { λ r. ⌜ Put (now (buf .entry)) (now (buf .exit)) at (hex (now (bytes .entry))) r ⌝ }
 {
     let mut to = at;

@@ -5,11 +5,11 @@ pub const TABLE: u8 = 0x4D;
 
 pub const NAMESPACES: u8 = 0x4E;
 
-pub const COMMAND: u8 = 0x43;
+pub(crate) const COMMAND: u8 = 0x43;
 
-pub const WALK: u8 = 0x57;
+pub(crate) const WALK: u8 = 0x57;
 
 // "41 and the bytes", "52 and the number in one byte"; a walk's answer begins as its frame does.
 pub const ANSWER: u8 = 0x41;
 
-pub const REFUSAL: u8 = 0x52;
+pub(crate) const REFUSAL: u8 = 0x52;

@@ -44,7 +44,7 @@ fn kind_of(kind: u8, n: usize, option: u8) -> Frame
 
 // The frame of the characters before a line feed. A frame whose bytes do not fit the lent bytes is bad as well; 2,050 are
 // enough for any frame. A bad frame changes no byte, any other only the bytes that it holds.
-pub fn read_frame(line: &[u8], bytes: &mut [u8]) -> Frame
+pub(crate) fn read_frame(line: &[u8], bytes: &mut [u8]) -> Frame
     ensures { λ r. ⌜ FrameRead (now (line .entry)) (now (bytes .entry)) (now (bytes .exit)) r ⌝ }
 {
     if MAX_DIGITS < line.len() {

@@ -17,9 +17,9 @@ ghost use Rattle.listing_rules.specs.Table.{passes};
 ghost use Rattle.mailbox_table.specs.Index.{indexingOf, Indexes};
 ghost use Rattle.mailbox_table.specs.Collect.{Collects};
 
-pub const MAX_ROWS: usize = 512;
+pub(crate) const MAX_ROWS: usize = 512;
 
-pub const MAX_BYTES: usize = 32768;
+pub(crate) const MAX_BYTES: usize = 32768;
 
 // What an index of a table answers: the number of its rows, or that the table does not pass (or has more rows than there is
 // room for).

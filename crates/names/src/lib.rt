@@ -14,7 +14,7 @@ ghost use Rattle.names.specs.Slashes.{slashCount, noPair};
 
 pub const MAX_NAME: usize = 200;
 
-pub const MAX_LEVELS: u8 = 16;
+pub(crate) const MAX_LEVELS: u8 = 16;
 
 // Whether the bytes are a lawful mailbox name: 1 to 200 of them, the right bytes, 1 to 16 levels, none empty, and a first level
 // INBOX in no other spelling.

@@ -6,13 +6,13 @@ use frames::gather;
 use octets::LF;
 
 // What is gathered after the characters of a piece before its first line feed, and how many they were.
-pub struct Run {
+pub(crate) struct Run {
     pub gathered: Gathered,
     pub used: usize,
 }
 
 // The characters before the first line feed, or all if there is none, gathered one by one.
-pub fn gather_line(line: &mut [u8], g: Gathered, chunk: &[u8]) -> Run
+pub(crate) fn gather_line(line: &mut [u8], g: Gathered, chunk: &[u8]) -> Run
     ensures { λ r. ⌜ Runs (now (chunk .entry)) (now (line .entry)) (now (line .exit)) g r ⌝ }
 {
     let mut gathered = g;

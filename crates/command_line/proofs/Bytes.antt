@@ -1,13 +1,13 @@
 -- Laws of single bytes: what stands behind one, which class holds one, and where a string begins.
-use mathlib.Core.Path.{_≡_, refl, sym, ap, _∙_}
-use mathlib.Core.Bool.{Bool, true, false, cond, _||_, _&&_, not, or-assoc, or-false}
+use mathlib.Core.Path.{_≡_, refl, sym}
+use mathlib.Core.Bool.{Bool, true, false, cond, _||_, not, or-assoc, or-false}
 use mathlib.Core.List.{List, [], _∷_}
-use mathlib.Core.Option.{Option, none, some}
-use Prim.Native.Nat.{ℕ, zero, suc, _+_, _-_, _≤_, _<_}
+use mathlib.Core.Option.{none, some}
+use Prim.Native.Nat.{ℕ, _+_, _≤_, _<_}
 use native.Mathlib.Numerals.{add-one}
 use native.Mathlib.Decide.{decLe}
 use native.Mathlib.Omega.{arith}
-use lib.ListN.{length, take, drop, getD, drop-of-length-le, List·getD-eq-default}
+use lib.ListN.{length, drop, getD, drop-of-length-le, List·getD-eq-default}
 use lib.Seq.{drop-cons}
 use lib.Dec.{eqb}
 use borrow.Author.Tests.{eq-eqb, ne-eqb, eqb-true}
@@ -17,7 +17,7 @@ use Rattle.command_line.specs.declared.Behind.{Behind}
 use Rattle.command_line.specs.declared.Behind.the-variants.{At, Nothing}
 use Rattle.command_line.specs.Tokens.{TokenIn, BehindIn}
 use Rattle.listing_rules.specs.Bytes.{text, oneOf, quote, isEmpty}
-use Rattle.listing_rules.specs.Tokens.{Got, got, _>>=_, at, after, run, run₁, unlessEmpty, quotedText, literal, stringOr, atomByte, tagByte, astringByte, patternByte}
+use Rattle.listing_rules.specs.Tokens.{got, _>>=_, at, after, run, run₁, unlessEmpty, quotedText, literal, stringOr}
 
 -- a byte that is not 0 lies inside
 pub inside : (s : List ℕ) (i : ℕ) → 0 < getD s i 0 → i < length s

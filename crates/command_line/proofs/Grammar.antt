@@ -1,9 +1,9 @@
 -- Laws of what stands behind the word LIST: step by step off the grammar, or what is kept of it, judged.
-use mathlib.Core.Path.{_≡_, refl, sym, ap, subst, _∙_}
+use mathlib.Core.Path.{_≡_, refl, sym, ap, _∙_}
 use mathlib.Core.Bool.{Bool, true, false, cond, _&&_, _||_, not}
-use mathlib.Core.List.{List, [], _∷_, _++_}
+use mathlib.Core.List.{List, [], _++_}
 use mathlib.Core.Option.{Option, none, some}
-use Prim.Native.Nat.{ℕ, _<_, _≤_}
+use Prim.Native.Nat.{ℕ}
 use native.Mathlib.Decide.{decLe}
 use native.Mathlib.Omega.{arith}
 use lib.Dec.{eqb, leb, ltb}
@@ -12,7 +12,7 @@ use borrow.Author.Tests.{eqb-true, eqb-false, lt-ltb, le-ltb}
 use Rattle.listing_rules.specs.Bytes.{text, isEmpty}
 use Rattle.listing_rules.specs.Lists.{every}
 use Rattle.listing_rules.specs.Tokens.{Got, got, _>>=_, at, after, astring}
-use Rattle.listing_rules.specs.Options.{Options as Named, lawfulOptions}
+use Rattle.listing_rules.specs.Options.{lawfulOptions}
 use Rattle.listing_rules.specs.Command.{Opt, ListArgs, Parsed, refused, listing, rootOf, selectionPart, patterns, returnPart, isSome, listArgs, extended, knownIn, selectionWords, returnWords, optionsOf, canonical, fewPatterns, asksRoot, judged, orRefuse}
 use Rattle.octets.specs.Sets.{union}
 use Rattle.command_line.specs.declared.option_list.Place.the-variants.{Selection, Return}
@@ -20,7 +20,7 @@ use Rattle.command_line.specs.OptionSets.{optionsIs, Marks, noMarks, mar
 use Rattle.command_line.specs.PatternLists.{eight, joinTo, upToEight}
 use Rattle.command_line.specs.Commands.{short, Kept, decided, decidedAs}
 use Rattle.command_line.proofs.Binds.{bind-none, bind-go, bind-some, bind-off, got-val, got-rest}
-use Rattle.command_line.proofs.Bytes.{inside, at-here, at-other}
+use Rattle.command_line.proofs.Bytes.{at-here, at-other}
 use Rattle.command_line.proofs.Returning.{empty-out, empty-not}
 use Rattle.command_line.proofs.Members.{marked-known, options-named}
 

@@ -1,7 +1,7 @@
 -- Laws of options as they are written: one option, and a list of them in parentheses.
 use mathlib.Core.Path.{_≡_, refl, sym, ap, _∙_}
-use mathlib.Core.Bool.{Bool, true, false, cond, _&&_, not, and-assoc}
-use mathlib.Core.List.{List, [], _∷_}
+use mathlib.Core.Bool.{Bool, true, false, _&&_, not, and-assoc}
+use mathlib.Core.List.{List, []}
 use mathlib.Core.Option.{Option, none, some}
 use Prim.Native.Nat.{ℕ, _+_, _≤_, _<_}
 use native.Mathlib.Omega.{arith}
@@ -20,7 +20,7 @@ use Rattle.command_line.specs.declared.option_list.Listed.{Listed}
 use Rattle.command_line.specs.declared.option_list.Listed.the-variants.{Read, Broken}
 use Rattle.command_line.specs.Spans.{spanBytes}
 use Rattle.command_line.specs.Values.{valueOf}
-use Rattle.command_line.specs.OptionSets.{memberOf, wordsOf, writtenIs, WrittenIn, Marks, noMarks, marksOf, summed, listedIs}
+use Rattle.command_line.specs.OptionSets.{memberOf, wordsOf, writtenIs, WrittenIn, Marks, listedIs}
 use Rattle.command_line.proofs.Binds.{bind-none, bind-go}
 use Rattle.command_line.proofs.Bytes.{after-here, after-other}
 use Rattle.command_line.proofs.Members.{member-known}

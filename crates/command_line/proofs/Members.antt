@@ -3,14 +3,14 @@ use mathlib.Core.Path.{_≡_, refl, sym, ap, subst, _∙_}
 use mathlib.Core.Bool.{Bool, true, false, cond, _&&_, _||_, not, or-assoc, or-false, and-assoc, and-true}
 use mathlib.Core.List.{List, [], _∷_}
 use mathlib.Core.Option.{Option, some}
-use Prim.Native.Nat.{ℕ, _+_, _-_, _≤_, _<_, _^_}
+use Prim.Native.Nat.{ℕ, _<_, _^_}
 use native.Mathlib.Omega.{arith}
 use lib.Dec.{eqb}
 use lib.Bits.{or-lt}
 use Rattle.listing_rules.specs.Bytes.{text, bit, spells, same, raised}
 use Rattle.listing_rules.specs.Lists.{every, anyOf}
 use Rattle.listing_rules.specs.Tokens.{Got, got}
-use Rattle.listing_rules.specs.Command.{Opt, selectionWords, returnWords, ListArgs, knownIn, named, optionsOf}
+use Rattle.listing_rules.specs.Command.{Opt, selectionWords, returnWords, knownIn, named, optionsOf}
 use Rattle.listing_rules.proofs.ListLaws.{same-true}
 use Rattle.octets.specs.Sets.{union}
 use Rattle.octets.proofs.Sets.{union-bit}

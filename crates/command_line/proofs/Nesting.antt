@@ -1,5 +1,5 @@
 -- Laws of option values: one item at a time, with no bound on the steps.
-use mathlib.Core.Path.{_≡_, refl, sym, ap, _∙_}
+use mathlib.Core.Path.{_≡_, refl, ap, _∙_}
 use mathlib.Core.Bool.{Bool, true, false, cond}
 use mathlib.Core.List.{List, [], _∷_}
 use mathlib.Core.Option.{Option, none, some}
@@ -7,12 +7,12 @@ use Prim.Native.Nat.{ℕ, zero, suc, _+_, _≤_, _<_}
 use native.Mathlib.Omega.{arith}
 use lib.ListN.{length, drop, getD}
 use Rattle.listing_rules.specs.Bytes.{text}
-use Rattle.listing_rules.specs.Tokens.{Got, _>>=_, at, after, astring, stringOr}
+use Rattle.listing_rules.specs.Tokens.{_>>=_, at, after, astring, stringOr}
 use Rattle.listing_rules.specs.Command.{valueRest}
 use Rattle.listing_rules.proofs.TokenLaws.{bind-cong, after-shorter, astring-shorter}
 use Rattle.listing_rules.proofs.Value.{value-shorter, value-fuel}
 use Rattle.command_line.specs.Values.{valueOf, stringItem, firstItem, behindItem}
-use Rattle.command_line.proofs.Binds.{none≢some, bind-some}
+use Rattle.command_line.proofs.Binds.{bind-some}
 use Rattle.command_line.proofs.Bytes.{at-here, at-other, after-here, after-other}
 
 -- two readers of values that agree on what is shorter

@@ -1,18 +1,17 @@
 -- Laws of a literal: the number in its header, one digit at a time, and the bytes behind it as a token.
 use mathlib.Core.Path.{_≡_, refl, sym, ap, _∙_}
 use mathlib.Core.Bool.{Bool, true, false, cond, _&&_}
-use mathlib.Core.List.{List, [], _∷_, _++_}
-use mathlib.Core.Option.{Option, none, some}
+use mathlib.Core.List.{List, _++_}
+use mathlib.Core.Option.{none, some}
 use Prim.Native.Nat.{ℕ, suc, _+_, _-_, _*_, _≤_, _<_, min}
 use native.Mathlib.Numerals.{add-one}
-use native.Mathlib.Decide.{decLe}
 use native.Mathlib.Omega.{arith}
 use lib.Dec.{leb}
-use lib.ListN.{length, take, drop, getD, length-drop, drop-of-length-le}
+use lib.ListN.{length, take, drop, getD, drop-of-length-le}
 use lib.Seq.{drop-cons, drop-drop}
 use borrow.Author.Tests.{le-leb, lt-leb}
 use Rattle.listing_rules.specs.Bytes.{text, crlf}
-use Rattle.listing_rules.specs.Tokens.{Got, got, _>>=_, after, run₁, digitByte, decimal, number, literal}
+use Rattle.listing_rules.specs.Tokens.{got, _>>=_, after, run₁, digitByte, decimal, number, literal}
 use Rattle.command_shape.proofs.Tails.{capped-decimal}
 use Rattle.command_line.specs.declared.Span.{Span}
 use Rattle.command_line.specs.declared.Cursor.{Cursor}

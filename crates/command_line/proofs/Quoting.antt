@@ -3,7 +3,7 @@ use mathlib.Core.Path.{_≡_, refl, sym, ap, _∙_}
 use mathlib.Core.Bool.{Bool, true, false, cond, _||_, _&&_, not, false≢true}
 use mathlib.Core.List.{List, [], _∷_}
 use mathlib.Core.Option.{Option, none, some}
-use Prim.Native.Nat.{ℕ, zero, suc, _+_, _-_, _≤_, _<_}
+use Prim.Native.Nat.{ℕ, suc, _+_, _-_, _≤_, _<_}
 use native.Mathlib.Numerals.{add-one}
 use native.Mathlib.Nat.{add-zero}
 use native.Mathlib.Omega.{arith}
@@ -14,11 +14,9 @@ use borrow.Author.Tests.{eqb-true}
 use Rattle.listing_rules.specs.Bytes.{quote, backslash, within, all}
 use Rattle.listing_rules.specs.Tokens.{Got, got, _>>=_, withFirst, unquoted, lineByte, quotedText}
 use Rattle.command_line.specs.declared.tokens.Quote.the-variants.{More, End, Bad}
-use Rattle.command_line.specs.declared.tokens.Quote.{Quote}
 use Rattle.command_line.specs.declared.Token.the-variants.{Found, Missing}
 use Rattle.command_line.specs.Spans.{plain, rawBytes, spanBytes}
 use Rattle.command_line.specs.Tokens.{tokenIs, quotedStep, closing, closedAt}
-use Rattle.command_line.proofs.Binds.{bind-none, bind-go}
 
 module _ (s : List ℕ) (b i : ℕ) (esc : Bool) where
   -- the line ends before the string does

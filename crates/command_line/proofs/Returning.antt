@@ -1,18 +1,16 @@
 -- Laws of the selection part and the return part: what each leaves in the set, step by step.
-use mathlib.Core.Path.{_≡_, refl, sym, ap, _∙_}
+use mathlib.Core.Path.{_≡_, refl, _∙_}
 use mathlib.Core.Bool.{Bool, true, false, cond}
 use mathlib.Core.List.{List, [], _∷_}
 use mathlib.Core.Option.{Option, none, some}
 use Prim.Native.Nat.{ℕ, suc, _≤_, _<_}
-use native.Mathlib.Omega.{arith}
 use lib.ListN.{length, drop, getD, drop-of-length-le}
 use lib.Seq.{drop-cons}
 use Rattle.listing_rules.specs.Bytes.{text, spells, isEmpty}
 use Rattle.listing_rules.specs.Tokens.{Got, got, _>>=_, after, atom}
 use Rattle.listing_rules.specs.Command.{Opt, options, selectionPart, returnPart}
 use Rattle.listing_rules.proofs.TokenLaws.{bind-cong}
-use Rattle.command_line.specs.declared.option_list.Place.{Place}
-use Rattle.command_line.specs.declared.option_list.Place.the-variants.{Selection, Return}
+use Rattle.command_line.specs.declared.option_list.Place.the-variants.{Return}
 use Rattle.command_line.specs.OptionSets.{Marks, noMarks, marked, summed, marksOf, ended}
 
 -- the end of the line, or not

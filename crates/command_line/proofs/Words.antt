@@ -1,13 +1,13 @@
 -- Laws of the tag and the word: what the line gives, step by step.
-use mathlib.Core.Path.{_≡_, refl, sym, ap, subst, _∙_}
+use mathlib.Core.Path.{_≡_, refl, sym, ap, _∙_}
 use mathlib.Core.Bool.{Bool, true, false, cond}
 use mathlib.Core.List.{List, [], _∷_}
-use mathlib.Core.Option.{Option, none, some}
+use mathlib.Core.Option.{none, some}
 use Prim.Native.Nat.{ℕ, _≤_, _<_}
 use lib.ListN.{length, drop}
 use Rattle.listing_rules.specs.Bytes.{text, spells, same, raised, isEmpty}
 use Rattle.listing_rules.specs.Tokens.{Got, got, after, tagByte, atomByte, run, run₁, unlessEmpty, atom}
-use Rattle.listing_rules.specs.Command.{Parsed, refused, namespace, listArgs, judged, orRefuse, worded, tagged}
+use Rattle.listing_rules.specs.Command.{refused, namespace, listArgs, judged, orRefuse, worded, tagged}
 use Rattle.command_line.proofs.Binds.{none≢some}
 use Rattle.command_line.proofs.Returning.{empty-out, empty-not}
 

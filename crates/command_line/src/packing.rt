@@ -1,7 +1,7 @@
 // A canonical pattern in a buffer: a length byte, the reference and the pattern, without escapes.
 
 ghost use mathlib.Core.Path.{_≡_};
-ghost use mathlib.Core.List.{_∷_, _++_};
+ghost use mathlib.Core.List.{_++_};
 ghost use Prim.Native.Nat.{_+_, _%_};
 ghost use lib.ListN.{length};
 ghost use Rattle.octets.specs.Put.{Put};

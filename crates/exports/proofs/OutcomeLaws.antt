@@ -19,8 +19,6 @@ use Rattle.list_line.specs.Members.{setOf}
 use Rattle.list_line.specs.Lines.{lineIs}
 use Rattle.collector.specs.Result.{collectedIs}
 use Rattle.exports.specs.Outcomes.{outcomeOf, walkOutcome, partsOf, writtenCase, collectedCase, lineCase}
-use Rattle.exports.specs.declared.outcomes.Outcome.{Outcome}
-use Rattle.exports.specs.declared.outcomes.LineParts.{LineParts}
 
 pub written-done : (w : Written) (n : ℕ) → w ≡ Done n → record { number = 0; length = n; count = 0 } ≡ writtenCase w
 unfolding writtenCase

@@ -17,7 +17,7 @@ use Rattle.command_shape.specs.declared.machine.Stepped.{Stepped}
 use Rattle.feeder.specs.declared.Event.{Event}
 use Rattle.feeder.specs.declared.Event.the-variants.{Quiet, Command, GoOn, Refused, TooSmall}
 use Rattle.feeder.specs.declared.Fed.{Fed}
-use Rattle.command_shape.specs.Machine.{offending, takes, stepIs, machineOf, signalOf, steppedOf}
+use Rattle.command_shape.specs.Machine.{offending, takes, stepIs, machineOf, signalOf}
 use Rattle.feeder.specs.Feed.{storedIs, eventIs, nextPlace, answers, byteIs, FedByte, Outcome, outcome, isQuiet, feedFrom, keptOf, Holds, eventsOf, nothing, throughEvent}
 use Rattle.command_shape.proofs.Steps.{step-is, offending-is}
 

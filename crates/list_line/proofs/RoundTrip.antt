@@ -2,13 +2,12 @@
 -- set of criteria. Rests on the definitions' RoundTrip and on Members.
 use mathlib.Core.Path.{_≡_, refl, sym, ap, _∙_}
 use mathlib.Core.Logic.{_⊎_, inl, inr}
-use mathlib.Core.Bool.{Bool}
-use mathlib.Core.List.{List, [], _++_}
+use mathlib.Core.List.{List, _++_}
 use Prim.Native.Nat.{ℕ, _-_, _<_}
 use native.Mathlib.Omega.{arith}
 use lib.ListN.{length, take, replicate}
 use lib.Seq.{take-append-seam}
-use Rattle.listing_rules.specs.Options.{Criteria, criteriaNumber}
+use Rattle.listing_rules.specs.Options.{criteriaNumber}
 use Rattle.listing_rules.specs.Lines.{rootLine}
 use Rattle.listing_rules.specs.Server.{answered}
 use Rattle.listing_rules.specs.Reader.{Read, line, root, bad, readLine, attributesRead, nameRead, childInfoOf, readNumber, nameBytes, lineFrom}
@@ -20,7 +19,7 @@ use Rattle.list_line.specs.Lines.{lineIs}
 use Rattle.list_line.specs.declared.attributes.Attributes.{Attributes}
 use Rattle.list_line.specs.declared.criteria.Criteria.{Criteria as CriteriaSet}
 use Rattle.list_line.specs.declared.read.Line.{Line}
-use Rattle.list_line.specs.declared.read.Line.the-variants.{Parts, Refused}
+use Rattle.list_line.specs.declared.read.Line.the-variants.{Parts}
 use Rattle.list_line.proofs.Members.{members-setOf, setOf-members, length-members}
 
 -- the code's case of the parts

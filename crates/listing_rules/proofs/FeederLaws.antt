@@ -1,6 +1,6 @@
 -- The feeder: how its bytes are cut into chunks does not matter; and a line that announces no literal has document 01's shape. Rests on
 -- TokenLaws.
-use mathlib.Core.Path.{_≡_, refl, sym, ap, _∙_, subst}
+use mathlib.Core.Path.{_≡_, refl, sym, ap, _∙_}
 use mathlib.Core.Bool.{Bool, true, false, cond, _&&_, _||_, not, or-false, false≢true}
 use mathlib.Core.List.{List, [], _∷_, _++_, append-assoc, append-nil}
 use mathlib.Core.Option.{Option, none, some}
@@ -13,8 +13,8 @@ use borrow.Author.Tests.{not-true, le-leb, leb-true, eq-eqb, ne-eqb, eqb-true}
 use Rattle.listing_rules.specs.Bytes.{text, crlf, same, all, within, isEmpty}
 use Rattle.listing_rules.proofs.Keys.{openBytes}
 use Rattle.listing_rules.specs.Lists.{joined}
-use Rattle.listing_rules.specs.Tokens.{Got, got, _>>=_, run₁, digitByte, decimal, number, lineByte}
-use Rattle.listing_rules.specs.Feeder.{Step, stillOne, gives, offends, refusing, lineEnded, textByte, endsLine, lastIs, announcedAt, orElse, announced, Event, quiet, handed, goOn, denied, Feeder, reading, inLiteral, dropping, first, fedByte, Feeding, saying, feedAll, feedChunks, allowed, oneCommand}
+use Rattle.listing_rules.specs.Tokens.{got, run₁, digitByte, decimal, number, lineByte}
+use Rattle.listing_rules.specs.Feeder.{Step, stillOne, gives, offends, refusing, lineEnded, textByte, endsLine, lastIs, announcedAt, orElse, announced, Event, quiet, handed, goOn, denied, Feeder, reading, first, fedByte, Feeding, saying, feedAll, feedChunks, allowed, oneCommand}
 use Rattle.listing_rules.specs.Command.{lineText}
 use Rattle.listing_rules.proofs.Bools.{and-l, and-r}
 use Rattle.listing_rules.proofs.ListLaws.{same-true}

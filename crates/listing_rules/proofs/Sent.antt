@@ -2,13 +2,13 @@
 use mathlib.Core.Path.{_≡_, refl, sym, ap, _∙_}
 use mathlib.Core.Bool.{Bool, true, false, _||_, not, false≢true}
 use mathlib.Core.List.{List, [], _∷_, _++_, append-assoc}
-use mathlib.Core.Option.{none, some}
+use mathlib.Core.Option.{none}
 use Prim.Native.Nat.{ℕ, _≤_}
 use native.Mathlib.Omega.{arith}
-use lib.Dec.{eqb, leb}
+use lib.Dec.{leb}
 use lib.ListN.{length, length-append}
-use borrow.Author.Tests.{ne-eqb, not-true, le-leb}
-use Rattle.listing_rules.specs.Bytes.{text, crlf, same, all, within}
+use borrow.Author.Tests.{ne-eqb, le-leb}
+use Rattle.listing_rules.specs.Bytes.{text, crlf, all, within}
 use Rattle.listing_rules.specs.Names.{nameByte}
 use Rattle.listing_rules.specs.Tokens.{lineByte}
 use Rattle.listing_rules.specs.Feeder.{announced}
@@ -18,7 +18,7 @@ use Rattle.listing_rules.specs.Lines.{escaped, quoted}
 use Rattle.listing_rules.proofs.Keys.{openBytes, openLists, openTokens, openOptions, openCommand, openLines}
 use Rattle.listing_rules.specs.Walk.{commandLine, dropsSubscribed, lawfulByte, wantsSpecial, wantsRemote, when}
 use Rattle.listing_rules.specs.Demand3.{walkOptions}
-use Rattle.listing_rules.proofs.Bools.{and-l, and-r}
+use Rattle.listing_rules.proofs.Bools.{and-r}
 use Rattle.listing_rules.proofs.ListLaws.{all-append}
 use Rattle.listing_rules.proofs.TokenLaws.{quotedText-escaped, length-escaped, all-escaped}
 use Rattle.listing_rules.proofs.FeederLaws.{plain-line, quote-announces-none}

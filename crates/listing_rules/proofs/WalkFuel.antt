@@ -1,12 +1,11 @@
 -- The bound on the walk's steps does not matter where it is at least two more than the candidates. Rests on WalkWhole.
 use mathlib.Core.Path.{_≡_, refl, ap, _∙_}
-use mathlib.Core.Bool.{true}
 use mathlib.Core.List.{List, [], _∷_, _++_}
 use Prim.Native.Nat.{ℕ, zero, suc, _≤_}
 use native.Mathlib.Omega.{arith}
 use lib.ListN.{length, drop}
 use Rattle.listing_rules.specs.Bytes.{slash}
-use Rattle.listing_rules.specs.Table.{rows, passes}
+use Rattle.listing_rules.specs.Table.{rows}
 use Rattle.listing_rules.specs.Listing.{candidates}
 use Rattle.listing_rules.specs.Walk.{Lists, Step, stop, go, _>>=_, Walked, asked, walkFrom, walkAll}
 use Rattle.listing_rules.proofs.Order.{View, view, less, equal, more}

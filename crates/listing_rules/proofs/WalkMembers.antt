@@ -13,7 +13,7 @@ use Rattle.listing_rules.specs.Names.{nameByte, below, levelOrder, walkO
 use Rattle.listing_rules.specs.Table.{rows, flagsOf}
 use Rattle.listing_rules.specs.Match.{matchesAny}
 use Rattle.listing_rules.specs.Options.{isNone}
-use Rattle.listing_rules.specs.Listing.{candidates, meetsCriteria, candidateMeets, meetsBelow, meetsUnmatchedBelow, childInfo, listed, listedNames}
+use Rattle.listing_rules.specs.Listing.{candidates, meetsCriteria, candidateMeets, meetsBelow, meetsUnmatchedBelow, listed, listedNames}
 use Rattle.listing_rules.specs.Walk.{isFind}
 use Rattle.listing_rules.specs.Demand3.{walkOptions}
 use Rattle.listing_rules.proofs.Bools.{and-l, and-r, and-i, or-l, or-r}

@@ -1,6 +1,6 @@
 -- Bytes as numbers, the document's texts as bytes, and tests on them.
-use mathlib.Core.List.{List, [], _∷_, _++_}
-use mathlib.Core.Bool.{Bool, true, false, cond, _&&_, _||_, not}
+use mathlib.Core.List.{List, [], _∷_}
+use mathlib.Core.Bool.{Bool, true, false, cond, _&&_, _||_}
 use lib.Dec.{eqb, leb}
 use Prim.Native.Nat.{ℕ, _-_, _^_, _/_, _%_}
 use Prim.Native.String.{String, [] as end, _∷_ as _then_}

@@ -1,7 +1,7 @@
 -- Cases that the definitions are computed on, for the expert's sheet and the table of limits: a case holds or it does not.
 use mathlib.Core.List.{List, [], _∷_, _++_}
 use mathlib.Core.Bool.{Bool, true, false, cond, _&&_, _||_, not}
-use lib.Dec.{eqb, leb}
+use lib.Dec.{eqb}
 use lib.ListN.{length, take, replicate}
 use Prim.Native.Nat.{ℕ, suc, _+_, _/_, _%_}
 use Prim.Native.String.{String}

@@ -2,10 +2,9 @@
 -- (`sheet-holds` of proofs/Tables).
 use mathlib.Core.List.{List, [], _∷_, _++_}
 use Prim.Native.Nat.{ℕ}
-use Prim.Native.String.{String}
 use Rattle.listing_rules.specs.Bytes.{text, crlf}
 use Rattle.listing_rules.specs.Server.{Reply, refusal, answered}
-use Rattle.listing_rules.specs.Walk.{WalkReply, walkRefused, walked, packed}
+use Rattle.listing_rules.specs.Walk.{walkRefused, walked, packed}
 use Rattle.listing_rules.specs.Cases.{row, mailbox, times, sends, lines, Case, replies, walks}
 
 -- "Table E: Foo-x 0001, Foo/Bar 0001, Foo/Baz 0003, INBOX 0031, Moo 0001."

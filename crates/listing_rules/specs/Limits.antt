@@ -7,11 +7,11 @@ use Prim.Native.Nat.{ℕ, zero, suc, _+_, _/_, _%_}
 use Prim.Native.String.{String}
 use Rattle.listing_rules.specs.Bytes.{text, crlf}
 use Rattle.listing_rules.specs.Lists.{joined}
-use Rattle.listing_rules.specs.Feeder.{Event, handed, goOn, denied}
+use Rattle.listing_rules.specs.Feeder.{handed, goOn, denied}
 use Rattle.listing_rules.specs.Options.{Criteria, noCriteria}
-use Rattle.listing_rules.specs.Server.{Reply, refusal, answered}
-use Rattle.listing_rules.specs.Reader.{Read, line, root, bad}
-use Rattle.listing_rules.specs.Walk.{WalkReply, walkRefused, walked, packed}
+use Rattle.listing_rules.specs.Server.{refusal, answered}
+use Rattle.listing_rules.specs.Reader.{line, root}
+use Rattle.listing_rules.specs.Walk.{walkRefused, walked, packed}
 use Rattle.listing_rules.specs.Cases.{row, mailbox, entry, times, sends, lines, Case, replies, refuses, walks, tables, spaces, answersInto}
 use Rattle.listing_rules.specs.Cases.{walksInto, writes, writesInto, gives, reads, program, steps, answersFrame, counts, feeds, continues}
 use Rattle.listing_rules.specs.Cases.{}

@@ -1,6 +1,6 @@
 -- The text of an answer's lines.
 use mathlib.Core.List.{List, [], _∷_, _++_}
-use mathlib.Core.Bool.{Bool, true, false, cond, _||_}
+use mathlib.Core.Bool.{Bool, cond, _||_}
 use lib.Dec.{eqb}
 use Prim.Native.Nat.{ℕ}
 use Rattle.listing_rules.specs.Bytes.{text, quote, backslash, space, crlf}

@@ -1,6 +1,6 @@
 -- Which names a canonical pattern matches.
 use mathlib.Core.List.{List, [], _∷_}
-use mathlib.Core.Bool.{Bool, true, false, cond, _&&_, _||_, not}
+use mathlib.Core.Bool.{Bool, false, cond, _&&_, _||_, not}
 use lib.Dec.{eqb}
 use Prim.Native.Nat.{ℕ}
 use Rattle.listing_rules.specs.Bytes.{slash, same, raised, isEmpty, star, percent}

@@ -2,7 +2,6 @@
 use mathlib.Core.List.{List, [], _∷_, _++_}
 use mathlib.Core.Bool.{Bool, true, false, cond, _&&_}
 use mathlib.Core.Option.{Option, none, some}
-use lib.Dec.{eqb}
 use lib.ListN.{length, replicate}
 use Prim.Native.Nat.{ℕ, _-_}
 use Rattle.listing_rules.specs.Bytes.{text, space, crlf, same, isEmpty}

@@ -1,6 +1,6 @@
 -- The server's answer, its refusals in order, and what they leave in the answer buffer.
 use mathlib.Core.List.{List, [], _∷_, _++_, map}
-use mathlib.Core.Bool.{Bool, cond}
+use mathlib.Core.Bool.{cond}
 use lib.Dec.{eqb, leb}
 use lib.ListN.{length, drop}
 use Prim.Native.Nat.{ℕ}

@@ -1,5 +1,5 @@
 -- A call of `feed` that is taken goes on in its piece, and stays in it. Rests on session's LineLaws.
-use mathlib.Core.Path.{_≡_, sym, subst}
+use mathlib.Core.Path.{_≡_, subst}
 use mathlib.Core.List.{List}
 use Prim.Native.Nat.{ℕ, _-_, _≤_}
 use native.Mathlib.Omega.{arith}
@@ -9,7 +9,7 @@ use Rattle.session.specs.declared.Taken.{Taken as Took}
 use Rattle.session.specs.declared.Fed.{Fed}
 use Rattle.session.specs.declared.Fed.the-variants.{Taken}
 use Rattle.session.specs.Carrying.{Lent}
-use Rattle.session.specs.Feeding.{FeedIs, Feeds, throughLine}
+use Rattle.session.specs.Feeding.{FeedIs}
 use Rattle.session.proofs.LineLaws.{through-inside, through-less}
 
 pub goes-on : (s : List ℕ) (d e : Lent) (l l′ : List ℕ) (st : State) (r : Fed) (t : Took) → FeedIs s d e l l′ st r → r ≡ Taken t → (t .used ≤ length s) × (length s - t .used ≤ length s - 1)

@@ -5,8 +5,8 @@
 pub mod refusals;
 
 ghost use mathlib.Core.Path.{_≡_};
-ghost use mathlib.Core.List.{List, [], _∷_, _++_};
-ghost use Prim.Native.Nat.{ℕ, _+_, _-_, _^_, min};
+ghost use mathlib.Core.List.{[], _∷_};
+ghost use Prim.Native.Nat.{_+_, _-_, _^_, min};
 ghost use lib.ListN.{length, getD, replicate};
 ghost use Rattle.listing_rules.specs.Bytes.{same, spells, raise};
 ghost use Rattle.listing_rules.specs.Lines.{escaped, quoted};

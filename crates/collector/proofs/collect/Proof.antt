@@ -10,39 +10,13 @@ use Rattle.collector.proofs.WholeLaws.{Promise, promise-refused, promis
 use Rattle.collector.proofs.collect.Statement.{statement}
 use Rattle.collector.proofs.collect.Tie as tie
 
-clear-requires : tie.Need-clear-requires
-clear-requires c κs = search needs
-
-clear-requires-2 : tie.Need-clear-requires-2
-clear-requires-2 c κs = search needs
-
 run-requires : tie.Need-run-requires
 run-requires c κs =
-    let pending = c .before .before .before .before .before in
+    let stage = c .before .before .before .before .before in
+    let pending = stage in
     let found = pending .before .before .before .before in
     let args = found .before .before .before .before .before .before .args in
     (cleared (args .found .now) (sym (found .clear .kept .0)) (found .clear .ensures), cleared (args .pending .now) (sym (pending .clear2 .kept .0)) (pending .clear2 .ensures))
-
-clear-requires-3 : tie.Need-clear-requires-3
-clear-requires-3 c κs = search needs
-
-enum-known-result : tie.Need-enum-known-result
-enum-known-result c = search needs
-
-clear-requires-4 : tie.Need-clear-requires-4
-clear-requires-4 c κs = search needs
-
-clear-requires-5 : tie.Need-clear-requires-5
-clear-requires-5 c κs = search needs
-
-same-length : tie.Need-same-length
-same-length c = search needs
-
-same-length-2 : tie.Need-same-length-2
-same-length-2 c = search needs
-
-same-length-3 : tie.Need-same-length-3
-same-length-3 c = search needs
 
 -- what the walk gives, by the buffers as they were lent
 same-reply : (c : tie.After-run) →
@@ -51,14 +25,17 @@ same-reply : (c : tie.After-run) →
     let args = found .before .before .before .before .before .before .args in
     collected (args .table .now) (args .option) (args .scratch .now) (found .clear .last .0) (pending .clear2 .last .0) ≡ collected (args .table .now) (args .option) (args .scratch .now) (args .found .now) (args .pending .now)
 same-reply c =
-    let pending = c .before .before .before .before .before .before in
+    let stage = c .before .before .before .before .before .before in
+    let pending = stage in
     let found = pending .before .before .before .before in
     let args = found .before .before .before .before .before .before .args in
     collected-long (args .table .now) (args .option) (args .scratch .now) (args .found .now) (args .pending .now) (args .scratch .now) (found .clear .last .0) (pending .clear2 .last .0) refl (found .clear .kept .0) (pending .clear2 .kept .0)
 
 returns : tie.Need-returns
 returns c =
-    let told = c .before .before .before .before .before .before .before .before .before in
+    let after-clear4 = c .before .before .before .before .before .before in
+    let stage = after-clear4 .before .before .before in
+    let told = stage in
     let scratch = told .before .before .before .before in
     let ran = scratch .before .before .before .before .before .before .before .before in
     let args = ran .before .before .before .before .before .before .before .before .before .before .before .before .before .before .before .before .args in
@@ -67,25 +44,14 @@ returns c =
     promise-refused (args .table .now) (args .option) (args .scratch .now) (args .found .now) (args .pending .now)
     (cleared (last .0) (kept .0) (scratch .clear3 .ensures))
     (sym (same-reply ran) ∙ (rw (told .result .given .1) at (ran .run .ensures)))
-    (cleared (last .1 .0) (kept .1 .0 ∙ ran .before .before .before .before .before .before .before .before .before .before .clear .kept .0) (c .before .before .before .before .before .before .clear4 .ensures))
+    (cleared (last .1 .0) (kept .1 .0 ∙ ran .before .before .before .before .before .before .before .before .before .before .clear .kept .0) (after-clear4 .clear4 .ensures))
     (cleared (last .1 .1 .0) (kept .1 .1 .0 ∙ ran .before .before .before .before .before .before .clear2 .kept .0) (c .before .before .clear5 .ensures))
-
-enum-told : tie.Need-enum-told
-enum-told c = search needs
-
-same-length-4 : tie.Need-same-length-4
-same-length-4 c = search needs
-
-same-length-5 : tie.Need-same-length-5
-same-length-5 c = search needs
-
-same-length-6 : tie.Need-same-length-6
-same-length-6 c = search needs
 
 returns-2 : tie.Need-returns-2
 returns-2 c =
+    let stage = c .before .before .before .before in
     let told = c .enum-told .given in
-    let scratch = c .before .before .before .before in
+    let scratch = stage in
     let ran = scratch .before .before .before .before .before .before .before .before in
     let args = ran .before .before .before .before .before .before .before .before .before .before .before .before .before .before .before .before .args in
     let last = ran .run .last .1 .1 in
@@ -103,19 +69,19 @@ pub collect-spec : {M : Type 1} → statement M
 collect-spec =
     tie.close
     (tie.spec
-    clear-requires
-    clear-requires-2
+    (λ c κs. search needs)
+    (λ c κs. search needs)
     run-requires
-    clear-requires-3
-    enum-known-result
-    clear-requires-4
-    clear-requires-5
-    same-length
-    same-length-2
-    same-length-3
+    (λ c κs. search needs)
+    (λ c. search needs)
+    (λ c κs. search needs)
+    (λ c κs. search needs)
+    (λ c. search needs)
+    (λ c. search needs)
+    (λ c. search needs)
     returns
-    enum-told
-    same-length-4
-    same-length-5
-    same-length-6
+    (λ c. search needs)
+    (λ c. search needs)
+    (λ c. search needs)
+    (λ c. search needs)
     returns-2)

@@ -9,23 +9,12 @@ use Rattle.collector.proofs.WholeLaws.{refuses-table, refuses-option}
 use Rattle.collector.proofs.run.Statement.{statement}
 use Rattle.collector.proofs.run.Tie as tie
 
-check-requires : tie.Need-check-requires
-check-requires c κs = search needs
-
 returns : tie.Need-returns
 returns c =
-    let args = c .before .before .before .before .before .before .args in
+    let start = c .before .before .before .before .before .before in
+    let args = start .args in
     refuses-table (args .table .now) (args .option) (args .scratch .now) (args .found .now) (args .pending .now)
     (sym (c .before .check .ensures) ∙ not-true _ (c .if1 .taken))
-
-of-byte-requires : tie.Need-of-byte-requires
-of-byte-requires c κs = search needs
-
-enum-known-options : tie.Need-enum-known-options
-enum-known-options c = search needs
-
-enum-told : tie.Need-enum-told
-enum-told c = search needs
 
 -- the table passes
 passing : (c : tie.Else1) → passes (c .before .before .before .before .before .before .args .table .now) ≡ true
@@ -40,20 +29,14 @@ returns-2 c =
     (asked-none (args .option) (c .before .before .of-byte .ensures) (c .enum-told .given .1))
 
 walk-table-requires : tie.Need-walk-table-requires
-walk-table-requires c κs = let passed = c .before .before .before .before .before .before .before in (passing passed, passed .before .before .before .before .before .before .pre)
-
-same-length : tie.Need-same-length
-same-length c = search needs
-
-same-length-2 : tie.Need-same-length-2
-same-length-2 c = search needs
-
-same-length-3 : tie.Need-same-length-3
-same-length-3 c = search needs
+walk-table-requires c κs =
+    let stage = c .before .before .before .before .before .before .before in
+    let passed = stage in (passing passed, passed .before .before .before .before .before .before .pre)
 
 returns-3 : tie.Need-returns-3
 returns-3 c =
-    let walked = c .before .before .before .before .before .before in
+    let stage = c .before .before .before .before .before .before in
+    let walked = stage in
     let asked = walked .before .before .before .before .before in
     let passed = asked .before .before .before in
     let args = passed .before .before .before .before .before .before .args in
@@ -63,14 +46,14 @@ pub run-spec : {M : Type 1} → statement M
 run-spec =
     tie.close
     (tie.spec
-    check-requires
+    (λ c κs. search needs)
     returns
-    of-byte-requires
-    enum-known-options
-    enum-told
+    (λ c κs. search needs)
+    (λ c. search needs)
+    (λ c. search needs)
     returns-2
     walk-table-requires
-    same-length
-    same-length-2
-    same-length-3
+    (λ c. search needs)
+    (λ c. search needs)
+    (λ c. search needs)
     returns-3)

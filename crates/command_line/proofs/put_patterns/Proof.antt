@@ -1,7 +1,7 @@
 use mathlib.Core.Path.{_≡_, refl, sym, ap, subst, _∙_}
-use mathlib.Core.List.{List, [], _∷_, _++_, append-assoc, append-nil}
-use Prim.Native.Nat.{ℕ, _+_, _-_, _≤_, _<_, min}
-use lib.ListN.{length, take, drop, getD, length-map}
+use mathlib.Core.List.{List, [], _++_, append-assoc, append-nil}
+use Prim.Native.Nat.{ℕ, _+_, _-_, _≤_}
+use lib.ListN.{length, drop, getD, length-map}
 use Rattle.listing_rules.specs.Command.{canonical}
 use Rattle.octets.specs.Put.{Put}
 use Rattle.octets.proofs.Puts.{put-none, put-then, put-length}
@@ -14,11 +14,6 @@ use borrow.Author.Needs.{needs}
 use native.Mathlib.Omega.{arith}
 use Rattle.command_line.proofs.put_patterns.Statement.{statement}
 use Rattle.command_line.proofs.put_patterns.Tie as tie
-use Rattle.command_line.proofs.put_patterns.Reads as reads
-use Rattle.command_line.proofs.put_patterns.Lts as lts
-use Rattle.command_line.proofs.packing.put_canonical.Reads as put-canonical-reads
-use Rattle.command_line.proofs.reading.placed.Reads as placed-reads
-use Rattle.command_line.proofs.spans.span_len.Reads as span-len-reads
 
 abbrev Inv-loop : tie.InvT-loop
 Inv-loop line buf₀ command reference n to₀ i₀ buf to i = (i ≤ n) × (acc : List ℕ) × Put buf₀ buf 0 acc to × (acc ++ packedBytes (canonical (spanBytes line reference) (drop i (inPlaces line (command .count) (command .patterns)))) ≡ packedBytes (canonical (spanBytes line reference) (inPlaces line (command .count) (command .patterns))))
@@ -27,29 +22,14 @@ abbrev μ-loop : tie.MeasureT-loop
 μ-loop line buf₀ command reference n to₀ i₀ buf to i = n - i
 
 -- src/lib.rt:99:9
-placed-requires : tie.Need-placed-requires Inv-loop μ-loop
-placed-requires c κs = search needs
-
 -- src/lib.rt:102:5
 loop-holds : tie.Need-loop-holds Inv-loop μ-loop
 loop-holds c = (omega arith, [], put-none _ _ (search needs) (search needs), refl)
 
 -- src/lib.rt:103:23
-mul-pattern : tie.Need-mul-pattern Inv-loop μ-loop
-mul-pattern c = search needs
-
 -- src/lib.rt:103:23
-element-copy-out-pattern : tie.Need-element-copy-out-pattern Inv-loop μ-loop
-element-copy-out-pattern c = search needs
-
 -- src/lib.rt:104:12
-span-len-requires : tie.Need-span-len-requires Inv-loop μ-loop
-span-len-requires c κs = search needs
-
 -- src/lib.rt:105:13
-add-i : tie.Need-add-i Inv-loop μ-loop
-add-i c = search needs
-
 -- src/lib.rt:102:5
 loop-less : tie.Need-loop-less Inv-loop μ-loop
 loop-less c = omega arith
@@ -61,17 +41,13 @@ size c = simp length-map at (c .good .1 .0 .1 .1 .1 .1 .1 .1 .0 .1 .0 .1)
 -- src/lib.rt:102:5
 loop-again : tie.Need-loop-again Inv-loop μ-loop
 loop-again c =
-    let at = place-at (c .before .before .before .before .before .before .before .before .before .args .line .now) ((c .before .before .before .before .before .before .before .before .before .args .t2) .count) ((c .before .before .before .before .before .before .before .before .before .args .t2) .patterns) (size (c .before .before .before .before .before .before .before .before .before)) (c .before .before .before .before .loop .i) nowhere (omega arith) in
-    (omega arith, c .before .before .before .before .loop .inv .1, c .before .before .before .before .loop .inv .2, ap (λ (x : List (List ℕ)). c .before .before .before .before .loop .inv .1 ++ packedBytes x) (sym (ap (canonical (spanBytes (c .before .before .before .before .before .before .before .before .before .args .line .now) (c .before .before .before .before .before .before .before .before .before .args .t2 .reference))) at ∙ canonical-skip (spanBytes (c .before .before .before .before .before .before .before .before .before .args .line .now) (c .before .before .before .before .before .before .before .before .before .args .t2 .reference)) _ _ (sym (c .before .span-len .ensures) ∙ c .if1 .taken))) ∙ c .before .before .before .before .loop .inv .3)
+    let turn = c .before .before .before .before in
+    let start = turn .before .before .before .before .before in
+    let at = place-at (start .args .line .now) ((start .args .t2) .count) ((start .args .t2) .patterns) (size (start)) (turn .loop .i) nowhere (omega arith) in
+    (omega arith, turn .loop .inv .1, turn .loop .inv .2, ap (λ (x : List (List ℕ)). turn .loop .inv .1 ++ packedBytes x) (sym (ap (canonical (spanBytes (start .args .line .now) (start .args .t2 .reference))) at ∙ canonical-skip (spanBytes (start .args .line .now) (start .args .t2 .reference)) _ _ (sym (c .before .span-len .ensures) ∙ c .if1 .taken))) ∙ turn .loop .inv .3)
 
 -- src/lib.rt:107:13
-put-canonical-requires : tie.Need-put-canonical-requires Inv-loop μ-loop
-put-canonical-requires c κs = search needs
-
 -- src/lib.rt:108:13
-add-i-2 : tie.Need-add-i-2 Inv-loop μ-loop
-add-i-2 c = search needs
-
 -- src/lib.rt:102:5
 loop-less-2 : tie.Need-loop-less-2 Inv-loop μ-loop
 loop-less-2 c = omega arith
@@ -79,15 +55,19 @@ loop-less-2 c = omega arith
 -- src/lib.rt:102:5
 loop-again-2 : tie.Need-loop-again-2 Inv-loop μ-loop
 loop-again-2 c =
-    let at = place-at (c .before .before .before .before .before .before .before .before .before .before .before .before .before .args .line .now) ((c .before .before .before .before .before .before .before .before .before .before .before .before .before .args .t2) .count) ((c .before .before .before .before .before .before .before .before .before .before .before .before .before .args .t2) .patterns) (size (c .before .before .before .before .before .before .before .before .before .before .before .before .before)) (c .before .before .before .before .before .before .before .before .loop .i) nowhere (omega arith) in
-    let one = packedOne ((spanBytes (c .before .before .before .before .before .before .before .before .before .before .before .before .before .args .line .now) (c .before .before .before .before .before .before .before .before .before .before .before .before .before .args .t2 .reference)) ++ spanBytes (c .before .before .before .before .before .before .before .before .before .before .before .before .before .args .line .now) (getD ((c .before .before .before .before .before .before .before .before .before .before .before .before .before .args .t2) .patterns) (c .before .before .before .before .before .before .before .before .loop .i) nowhere)) in
-    let rest = canonical (spanBytes (c .before .before .before .before .before .before .before .before .before .before .before .before .before .args .line .now) (c .before .before .before .before .before .before .before .before .before .before .before .before .before .args .t2 .reference)) (drop ((c .before .before .before .before .before .before .before .before .loop .i) + 1) (inPlaces (c .before .before .before .before .before .before .before .before .before .before .before .before .before .args .line .now) ((c .before .before .before .before .before .before .before .before .before .before .before .before .before .args .t2) .count) ((c .before .before .before .before .before .before .before .before .before .before .before .before .before .args .t2) .patterns))) in (
+    let at-if1 = c .before .before .before .before in
+    let after-span-len = at-if1 .before in
+    let turn = after-span-len .before .before .before in
+    let start = turn .before .before .before .before .before in
+    let at = place-at (start .args .line .now) ((start .args .t2) .count) ((start .args .t2) .patterns) (size (start)) (turn .loop .i) nowhere (omega arith) in
+    let one = packedOne ((spanBytes (start .args .line .now) (start .args .t2 .reference)) ++ spanBytes (start .args .line .now) (getD ((start .args .t2) .patterns) (turn .loop .i) nowhere)) in
+    let rest = canonical (spanBytes (start .args .line .now) (start .args .t2 .reference)) (drop ((turn .loop .i) + 1) (inPlaces (start .args .line .now) ((start .args .t2) .count) ((start .args .t2) .patterns))) in (
       omega arith,
-      c .before .before .before .before .before .before .before .before .loop .inv .1 ++ one,
-      put-then (c .before .before .before .before .before .before .before .before .loop .inv .2) (c .before .before .put-canonical .ensures),
-      append-assoc (c .before .before .before .before .before .before .before .before .loop .inv .1) one (packedBytes rest)
-          ∙ ap (λ (x : List ℕ). c .before .before .before .before .before .before .before .before .loop .inv .1 ++ x) (sym (ap packedBytes (ap (canonical (spanBytes (c .before .before .before .before .before .before .before .before .before .before .before .before .before .args .line .now) (c .before .before .before .before .before .before .before .before .before .before .before .before .before .args .t2 .reference))) at ∙ canonical-keep (spanBytes (c .before .before .before .before .before .before .before .before .before .before .before .before .before .args .line .now) (c .before .before .before .before .before .before .before .before .before .before .before .before .before .args .t2 .reference)) _ _ (λ e. c .before .before .before .before .if1 .left (c .before .before .before .before .before .span-len .ensures ∙ e))) ∙ packed-more _ rest))
-          ∙ c .before .before .before .before .before .before .before .before .loop .inv .3,
+      turn .loop .inv .1 ++ one,
+      put-then (turn .loop .inv .2) (c .before .before .put-canonical .ensures),
+      append-assoc (turn .loop .inv .1) one (packedBytes rest)
+          ∙ ap (λ (x : List ℕ). turn .loop .inv .1 ++ x) (sym (ap packedBytes (ap (canonical (spanBytes (start .args .line .now) (start .args .t2 .reference))) at ∙ canonical-keep (spanBytes (start .args .line .now) (start .args .t2 .reference)) _ _ (λ e. at-if1 .if1 .left (after-span-len .span-len .ensures ∙ e))) ∙ packed-more _ rest))
+          ∙ turn .loop .inv .3,
     )
 
 -- src/lib.rt:95:1
@@ -98,9 +78,11 @@ same-length c = put-length (c .before .loop .inv .2)
 returns : tie.Need-returns Inv-loop μ-loop
 unfolding canonical patternsOf
 returns c =
-    subst (λ (x : List ℕ). Put (c .before .before .before .before .before .before .args .buf .now) (c .before .loop .buf) 0 x (c .before .loop .to))
-    (sym (append-nil (c .before .loop .inv .1)) ∙ ap (λ (x : List ℕ). c .before .loop .inv .1 ++ x) (sym (ap (λ (x : List (List ℕ)). packedBytes (canonical (spanBytes (c .before .before .before .before .before .before .args .line .now) (c .before .before .before .before .before .before .args .t2 .reference)) x)) (place-out (c .before .before .before .before .before .before .args .line .now) ((c .before .before .before .before .before .before .args .t2) .count) ((c .before .before .before .before .before .before .args .t2) .patterns) (size (c .before .before .before .before .before .before)) (c .before .loop .i) (omega arith)) ∙ packed-none)) ∙ c .before .loop .inv .3)
-    (c .before .loop .inv .2)
+    let turn = c .before in
+    let start = turn .before .before .before .before .before in
+    subst (λ (x : List ℕ). Put (start .args .buf .now) (turn .loop .buf) 0 x (turn .loop .to))
+    (sym (append-nil (turn .loop .inv .1)) ∙ ap (λ (x : List ℕ). turn .loop .inv .1 ++ x) (sym (ap (λ (x : List (List ℕ)). packedBytes (canonical (spanBytes (start .args .line .now) (start .args .t2 .reference)) x)) (place-out (start .args .line .now) ((start .args .t2) .count) ((start .args .t2) .patterns) (size (start)) (turn .loop .i) (omega arith)) ∙ packed-none)) ∙ turn .loop .inv .3)
+    (turn .loop .inv .2)
 
 pub put-patterns-spec : {M : Type 1} → statement M
 put-patterns-spec =
@@ -108,16 +90,16 @@ put-patterns-spec =
     (tie.spec
     Inv-loop
     μ-loop
-    placed-requires
+    (λ c κs. search needs)
     loop-holds
-    mul-pattern
-    element-copy-out-pattern
-    span-len-requires
-    add-i
+    (λ c. search needs)
+    (λ c. search needs)
+    (λ c κs. search needs)
+    (λ c. search needs)
     loop-less
     loop-again
-    put-canonical-requires
-    add-i-2
+    (λ c κs. search needs)
+    (λ c. search needs)
     loop-less-2
     loop-again-2
     same-length

@@ -19,7 +19,8 @@ one c = sym (c .before .is-one-command .ensures) ∙ not-false _ (c .if1 .left)
 
 returns : tie.Need-returns
 returns c =
-    let start = c .before .before .before .before in
+    let stage = c .before .before .before .before in
+    let start = stage in
     refuses _ 3 (c .refused .ensures) (line-off (start .args .line .now) (sym (c .before .before .is-one-command .ensures) ∙ not-true _ (c .before .if1 .taken)))
 
 sub-n : tie.Need-sub-n
@@ -27,12 +28,14 @@ sub-n c = omega (arith, one-long (c .before .before .before .args .line .now) (o
 
 slice-aggregate-read-text : tie.Need-slice-aggregate-read-text
 slice-aggregate-read-text c =
-    let line = c .before .before .before .before .args .line .now in
+    let start = c .before .before .before .before in
+    let line = start .args .line .now in
     omega (arith, length-take (length line - 2) line, one-long line (one (c .before)))
 
 returns-2 : tie.Need-returns-2
 returns-2 c =
-    let line = c .before .before .before .before .before .args .line .now in
+    let start = c .before .before .before .before .before in
+    let line = start .args .line .now in
     let read = c .read-text .ensures in
     let n = length line - 2 in
     (sym (meaning-line line n _ (read .1)) ∙ read .0 ∙ sym (line-read line (one (c .before .before))), inside-line line n _ (read .1))

@@ -17,13 +17,22 @@ loop-holds : tie.Need-loop-holds Inv-loop μ-loop
 loop-holds c = shaped-first (c .before .args .line .now)
 
 returns : tie.Need-returns Inv-loop μ-loop
-returns c = shaped-bad _ _ _ (c .before .before .before .before .before .loop .inv) (c .before .before .before .before .loop-test .taken) (sym (c .before .before .shapes .ensures) ∙ c .enum-told .given .1)
+returns c =
+    let at-loop-test = c .before .before .before .before in
+    let turn = at-loop-test .before in
+    shaped-bad _ _ _ (turn .loop .inv) (at-loop-test .loop-test .taken) (sym (c .before .before .shapes .ensures) ∙ c .enum-told .given .1)
 
 returns-2 : tie.Need-returns-2 Inv-loop μ-loop
-returns-2 c = shaped-last _ _ _ (c .before .before .before .before .before .loop .inv) (c .before .before .before .before .loop-test .taken) (sym (c .before .before .shapes .ensures) ∙ c .enum-told2 .given .1)
+returns-2 c =
+    let at-loop-test = c .before .before .before .before in
+    let turn = at-loop-test .before in
+    shaped-last _ _ _ (turn .loop .inv) (at-loop-test .loop-test .taken) (sym (c .before .before .shapes .ensures) ∙ c .enum-told2 .given .1)
 
 loop-again : tie.Need-loop-again Inv-loop μ-loop
-loop-again c = shaped-on _ _ _ (c .before .before .before .before .before .before .loop .inv) (c .before .before .before .before .before .loop-test .taken) _ (sym (c .before .before .before .shapes .ensures) ∙ c .before .next .given .1)
+loop-again c =
+    let at-loop-test = c .before .before .before .before .before in
+    let turn = at-loop-test .before in
+    shaped-on _ _ _ (turn .loop .inv) (at-loop-test .loop-test .taken) _ (sym (c .before .before .before .shapes .ensures) ∙ c .before .next .given .1)
 
 returns-3 : tie.Need-returns-3 Inv-loop μ-loop
 returns-3 c = shaped-out _ _ _ (c .before .loop .inv) (c .loop-test .left)

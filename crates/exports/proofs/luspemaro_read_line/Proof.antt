@@ -6,14 +6,8 @@ use Rattle.exports.proofs.OutcomeLaws.{line-case}
 use Rattle.exports.proofs.luspemaro_read_line.Statement.{statement}
 use Rattle.exports.proofs.luspemaro_read_line.Tie as tie
 
-read-line-requires : tie.Need-read-line-requires
-read-line-requires c κs = search needs
-
-line-parts-requires : tie.Need-line-parts-requires
-line-parts-requires c κs = search needs
-
 returns : tie.Need-returns
 returns c = let e = c .before .read-line .ensures in c .line-parts .ensures ∙ (λ i. lineCase (e .0 i) (e .1 i)) ∙ line-case _
 
 pub luspemaro-read-line-spec : {M : Type 1} → statement M
-luspemaro-read-line-spec = tie.close (tie.spec read-line-requires line-parts-requires returns)
+luspemaro-read-line-spec = tie.close (tie.spec (λ c κs. search needs) (λ c κs. search needs) returns)

@@ -7,15 +7,6 @@ use Rattle.exports.proofs.OutcomeLaws.{written-case}
 use Rattle.exports.proofs.luspemaro_write_line.Statement.{statement}
 use Rattle.exports.proofs.luspemaro_write_line.Tie as tie
 
-write-line-requires : tie.Need-write-line-requires
-write-line-requires c κs = search needs
-
-written-outcome-requires : tie.Need-written-outcome-requires
-written-outcome-requires c κs = search needs
-
-same-length : tie.Need-same-length
-same-length c = search needs
-
 returns : tie.Need-returns
 unfolding written
 returns c =
@@ -24,4 +15,4 @@ returns c =
 
 pub luspemaro-write-line-spec : {M : Type 1} → statement M
 luspemaro-write-line-spec =
-    tie.close (tie.spec write-line-requires written-outcome-requires same-length returns)
+    tie.close (tie.spec (λ c κs. search needs) (λ c κs. search needs) (λ c. search needs) returns)

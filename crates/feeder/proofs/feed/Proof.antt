@@ -23,42 +23,39 @@ returns : tie.Need-returns Inv-loop μ-loop
 returns c = let a = c .before .before .before .args in feeds-not (a .state) (a .command .now) (a .chunk .now) (small-memory (a .command .now) (a .state .size) (c .if1 .taken))
 
 returns-2 : tie.Need-returns-2 Inv-loop μ-loop
-returns-2 c = let a = c .before .before .before .before .before .args in feeds-not (a .state) (a .command .now) (a .chunk .now) (large-state (a .command .now) (a .state .size) (c .if2 .taken))
+returns-2 c =
+    let start = c .before .before .before .before .before in
+    let a = start .args in feeds-not (a .state) (a .command .now) (a .chunk .now) (large-state (a .command .now) (a .state .size) (c .if2 .taken))
 
 loop-holds : tie.Need-loop-holds Inv-loop μ-loop
 loop-holds c = (refl, refl)
 
-shared-slice-read-feed-byte : tie.Need-shared-slice-read-feed-byte Inv-loop μ-loop
-shared-slice-read-feed-byte c = search needs
-
-feed-byte-requires : tie.Need-feed-byte-requires Inv-loop μ-loop
-feed-byte-requires c κs = search needs
-
-add-i : tie.Need-add-i Inv-loop μ-loop
-add-i c = search needs
-
-enum-told : tie.Need-enum-told Inv-loop μ-loop
-enum-told c = search needs
-
-loop-less : tie.Need-loop-less Inv-loop μ-loop
-loop-less c = search needs
-
 loop-again : tie.Need-loop-again Inv-loop μ-loop
-loop-again c = (c .before .before .before .before .before .feed-byte .kept .1 .0 ∙ c .before .before .before .before .before .before .before .before .before .loop .inv .0, sym (feed-on (c .before .before .before .before .before .before .before .before .before .before .before .before .before .before .before .args .chunk .now) (c .before .before .before .before .before .before .before .before .before .loop .i) (c .before .before .before .before .before .before .before .before .before .loop .current) (c .before .before .before .before .before .before .before .before .before .loop .command) _ (c .before .before .before .before .before .feed-byte .result) (c .before .before .before .before .before .before .before .before .loop-test .taken) (c .before .before .before .before .before .feed-byte .ensures) (c .enum-told .given .1)) ∙ c .before .before .before .before .before .before .before .before .before .loop .inv .1)
-
-same-length : tie.Need-same-length Inv-loop μ-loop
-same-length c = search needs
+loop-again c =
+    let after-feed-byte = c .before .before .before .before .before in
+    let at-loop-test = after-feed-byte .before .before .before in
+    let turn = at-loop-test .before in
+    let start = turn .before .before .before .before .before .before in
+    (after-feed-byte .feed-byte .kept .1 .0 ∙ turn .loop .inv .0, sym (feed-on (start .args .chunk .now) (turn .loop .i) (turn .loop .current) (turn .loop .command) _ (after-feed-byte .feed-byte .result) (at-loop-test .loop-test .taken) (after-feed-byte .feed-byte .ensures) (c .enum-told .given .1)) ∙ turn .loop .inv .1)
 
 returns-3 : tie.Need-returns-3 Inv-loop μ-loop
 unfolding outcome answers
-returns-3 c = let a = c .before .before .before .before .before .before .before .before .before .before .before .before .before .before .args in feeds (a .state) (a .command .now) _ (a .chunk .now) _ (c .before .before .before .before .before .before .before .before .before .before .before .if1 .left) (c .before .before .before .before .before .before .before .before .before .if2 .left) (sym (c .before .before .before .before .before .before .before .before .loop .inv .1) ∙ feed-stop (a .chunk .now) (c .before .before .before .before .before .before .before .before .loop .i) (c .before .before .before .before .before .before .before .before .loop .current) (c .before .before .before .before .before .before .before .before .loop .command) _ (c .before .before .before .before .feed-byte .result) (c .before .before .before .before .before .before .before .loop-test .taken) (c .before .before .before .before .feed-byte .ensures) (λ e. miss (1 ∷ 2 ∷ 3 ∷ 4 ∷ []) 0 tt (rw e at (c .match .keys2))))
-
-same-length-2 : tie.Need-same-length-2 Inv-loop μ-loop
-same-length-2 c = search needs
+returns-3 c =
+    let after-feed-byte = c .before .before .before .before in
+    let at-loop-test = after-feed-byte .before .before .before in
+    let turn = at-loop-test .before in
+    let at-if2 = turn .before in
+    let at-if1 = at-if2 .before .before in
+    let start = at-if1 .before .before .before in
+    let a = start .args in feeds (a .state) (a .command .now) _ (a .chunk .now) _ (at-if1 .if1 .left) (at-if2 .if2 .left) (sym (turn .loop .inv .1) ∙ feed-stop (a .chunk .now) (turn .loop .i) (turn .loop .current) (turn .loop .command) _ (after-feed-byte .feed-byte .result) (at-loop-test .loop-test .taken) (after-feed-byte .feed-byte .ensures) (λ e. miss (1 ∷ 2 ∷ 3 ∷ 4 ∷ []) 0 tt (rw e at (c .match .keys2))))
 
 returns-4 : tie.Need-returns-4 Inv-loop μ-loop
 unfolding outcome answers
-returns-4 c = let a = c .before .before .before .before .before .before .before .args in feeds (a .state) (a .command .now) _ (a .chunk .now) _ (c .before .before .before .before .if1 .left) (c .before .before .if2 .left) (sym (c .before .loop .inv .1) ∙ feed-end (a .chunk .now) (c .before .loop .i) (c .before .loop .current) (c .before .loop .command) (c .before .loop .command) (record { state = c .before .loop .current; used = 0; event = Quiet }) (c .loop-test .left))
+returns-4 c =
+    let turn = c .before in
+    let at-if1 = turn .before .before .before in
+    let start = at-if1 .before .before .before in
+    let a = start .args in feeds (a .state) (a .command .now) _ (a .chunk .now) _ (at-if1 .if1 .left) (c .before .before .if2 .left) (sym (turn .loop .inv .1) ∙ feed-end (a .chunk .now) (turn .loop .i) (turn .loop .current) (turn .loop .command) (turn .loop .command) (record { state = turn .loop .current; used = 0; event = Quiet }) (c .loop-test .left))
 
 pub feed-spec : {M : Type 1} → statement M
 feed-spec =
@@ -69,13 +66,13 @@ feed-spec =
     returns
     returns-2
     loop-holds
-    shared-slice-read-feed-byte
-    feed-byte-requires
-    add-i
-    enum-told
-    loop-less
+    (λ c. search needs)
+    (λ c κs. search needs)
+    (λ c. search needs)
+    (λ c. search needs)
+    (λ c. search needs)
     loop-again
-    same-length
+    (λ c. search needs)
     returns-3
-    same-length-2
+    (λ c. search needs)
     returns-4)

@@ -4,25 +4,14 @@ use borrow.Author.Needs.{needs}
 use Rattle.feeder.proofs.feed_byte.Statement.{statement}
 use Rattle.feeder.proofs.feed_byte.Tie as tie
 
-store-requires : tie.Need-store-requires
-store-requires c κs = search needs
-
-step-requires : tie.Need-step-requires
-step-requires c κs = search needs
-
-advance-requires : tie.Need-advance-requires
-advance-requires c κs = search needs
-
-event-of-requires : tie.Need-event-of-requires
-event-of-requires c κs = search needs
-
-same-length : tie.Need-same-length
-same-length c = search needs
-
 returns : tie.Need-returns
-returns c = let a = c .before .before .before .before .before .before .before .before .before .args in fed-byte (a .state) (a .command .now) _ (a .b) (c .before .before .before .step .result) _ (c .before .advance .result) (c .before .before .before .step .ensures) (c .before .before .before .before .before .before .store .ensures) (c .before .advance .ensures) (c .event-of .ensures)
+returns c =
+    let after-step = c .before .before .before in
+    let after-store = after-step .before .before .before in
+    let start = after-store .before .before .before in
+    let a = start .args in fed-byte (a .state) (a .command .now) _ (a .b) (after-step .step .result) _ (c .before .advance .result) (after-step .step .ensures) (after-store .store .ensures) (c .before .advance .ensures) (c .event-of .ensures)
 
 pub feed-byte-spec : {M : Type 1} → statement M
 feed-byte-spec =
     tie.close
-    (tie.spec store-requires step-requires advance-requires event-of-requires same-length returns)
+    (tie.spec (λ c κs. search needs) (λ c κs. search needs) (λ c κs. search needs) (λ c κs. search needs) (λ c. search needs) returns)

@@ -10,32 +10,21 @@ use borrow.Author.Needs.{needs}
 use Rattle.mailbox_table.proofs.check.Statement.{statement}
 use Rattle.mailbox_table.proofs.check.Tie as tie
 
-no-words-requires : tie.Need-no-words-requires
-no-words-requires c κs = search needs
-
-slice-aggregate-index : tie.Need-slice-aggregate-index
-slice-aggregate-index c = search needs
-
-index-requires : tie.Need-index-requires
-index-requires c κs = search needs
-
-enum-told : tie.Need-enum-told
-enum-told c = search needs
-
-enum-told-2 : tie.Need-enum-told-2
-enum-told-2 c = search needs
-
 returns : tie.Need-returns
 returns c =
-    let start = c .before .before .before .before .before .before .before in
-    let no-words = c .before .before .before .before .before .no-words in
+    let after-no-words = c .before .before .before .before .before in
+    let stage = after-no-words .before .before in
+    let start = stage in
+    let no-words = after-no-words .no-words in
     let index = c .before .before .before .index in
     sym (index-held (subst (λ (r : Indexing). Indexes (start .args .table .now) (no-words .result) (index .last .1 .0) r) (c .enum-told .given .1) (index .ensures)) .table-passes)
 
 returns-2 : tie.Need-returns-2
 returns-2 c =
-    let start = c .before .before .before .before .before .before .before in
-    let no-words = c .before .before .before .before .before .no-words in
+    let after-no-words = c .before .before .before .before .before in
+    let stage = after-no-words .before .before in
+    let start = stage in
+    let no-words = after-no-words .no-words in
     let index = c .before .before .before .index in
     sym
     (index-refused (omega (arith, ap length (no-words .ensures), length-replicate {A = ℕ} 512 0))
@@ -45,10 +34,10 @@ pub check-spec : {M : Type 1} → statement M
 check-spec =
     tie.close
     (tie.spec
-    no-words-requires
-    slice-aggregate-index
-    index-requires
-    enum-told
-    enum-told-2
+    (λ c κs. search needs)
+    (λ c. search needs)
+    (λ c κs. search needs)
+    (λ c. search needs)
+    (λ c. search needs)
     returns
     returns-2)

@@ -25,23 +25,14 @@ returns c =
       stays = tt;
     }
 
-collect-rows-requires : tie.Need-collect-rows-requires
-collect-rows-requires c κs = search needs
-
-enum-known-n : tie.Need-enum-known-n
-enum-known-n c = search needs
-
-enum-told : tie.Need-enum-told
-enum-told c = search needs
-
-same-length : tie.Need-same-length
-same-length c = search needs
-
 returns-2 : tie.Need-returns-2
 returns-2 c =
-    let start = c .before .before .before .before .before .before .before .before .before in
-    let if1 = c .before .before .before .before .before .before .if1 in
-    let collect-rows = c .before .before .before .before .collect-rows in
+    let after-collect-rows = c .before .before .before .before in
+    let at-if1 = after-collect-rows .before .before in
+    let stage = at-if1 .before .before .before in
+    let start = stage in
+    let if1 = at-if1 .if1 in
+    let collect-rows = after-collect-rows .collect-rows in
     let passed = collect-rows .ensures in
     let bad = fails-decided _ _ (sym (c .enum-told .given .1) ∙ passed .answer) in
     record {
@@ -56,10 +47,12 @@ collected : (c : tie.After-known-told) →
     let start = c .before .before .before .before .before .before .before .before .before .before in
     Gathered (start .args .table .now) (start .args .words .now) (c .before .before .before .before .before .collect-rows .last .1 .0) (c .before .n .given .0 .0)
 collected c =
-    let start = c .before .before .before .before .before .before .before .before .before .before in
+    let after-collect-rows = c .before .before .before .before .before in
+    let stage = after-collect-rows .before .before .before .before .before in
+    let start = stage in
     let t = start .args .table .now in
     let before = start .args .words .now in
-    let pass = c .before .before .before .before .before .collect-rows in
+    let pass = after-collect-rows .collect-rows in
     gathered (subst (λ (r : Indexing). Collects t before (pass .last .1 .0) (collectedOf t (length before)) r) (c .before .n .given .1) (pass .ensures))
 
 -- the second pass, of the rows as document 01 has them
@@ -77,14 +70,14 @@ slice-aggregate-inferiors-pass c = simp length-take (omega (arith, collected (c 
 inferiors-pass-requires : tie.Need-inferiors-pass-requires
 inferiors-pass-requires c κs = (collected (c .before) .indexed, simp length-take (omega (arith, collected (c .before) .few)))
 
-same-length-2 : tie.Need-same-length-2
-same-length-2 c = search needs
-
 returns-3 : tie.Need-returns-3
 returns-3 c =
-    let start = c .before .before .before .before .before .before .before .before .before .before .before .before .before in
-    let if1 = c .before .before .before .before .before .before .before .before .before .before .if1 in
-    let collect-rows = c .before .before .before .before .before .before .before .before .collect-rows in
+    let after-collect-rows = c .before .before .before .before .before .before .before .before in
+    let at-if1 = after-collect-rows .before .before in
+    let stage = at-if1 .before .before .before in
+    let start = stage in
+    let if1 = at-if1 .if1 in
+    let collect-rows = after-collect-rows .collect-rows in
     let size = if1 .left in
     let fails = sym (rested (c .before)) ∙ not-true _ (c .if2 .taken) in
     record {
@@ -94,14 +87,14 @@ returns-3 c =
       stays = tt;
     }
 
-same-length-3 : tie.Need-same-length-3
-same-length-3 c = search needs
-
 returns-4 : tie.Need-returns-4
 returns-4 c =
-    let start = c .before .before .before .before .before .before .before .before .before .before .before .before .before in
-    let if1 = c .before .before .before .before .before .before .before .before .before .before .if1 in
-    let collect-rows = c .before .before .before .before .before .before .before .before .collect-rows in
+    let after-collect-rows = c .before .before .before .before .before .before .before .before in
+    let at-if1 = after-collect-rows .before .before in
+    let stage = at-if1 .before .before .before in
+    let start = stage in
+    let if1 = at-if1 .if1 in
+    let collect-rows = after-collect-rows .collect-rows in
     let size = if1 .left in
     let pass = collected (c .before .before .before) in
     let passes = sym (rested (c .before)) ∙ not-false _ (c .if2 .left) in
@@ -117,15 +110,15 @@ find-rows-spec =
     tie.close
     (tie.spec
     returns
-    collect-rows-requires
-    enum-known-n
-    enum-told
-    same-length
+    (λ c κs. search needs)
+    (λ c. search needs)
+    (λ c. search needs)
+    (λ c. search needs)
     returns-2
     slice-reshare-prefix-inferiors-pass
     slice-aggregate-inferiors-pass
     inferiors-pass-requires
-    same-length-2
+    (λ c. search needs)
     returns-3
-    same-length-3
+    (λ c. search needs)
     returns-4)

@@ -9,51 +9,41 @@ use borrow.Author.Needs.{needs}
 use Rattle.mailbox_table.proofs.index.Statement.{statement}
 use Rattle.mailbox_table.proofs.index.Tie as tie
 
-find-rows-requires : tie.Need-find-rows-requires
-find-rows-requires c κs = search needs
-
-enum-known-n : tie.Need-enum-known-n
-enum-known-n c = search needs
-
 enum-told : tie.Need-enum-told
 enum-told c = search needs
 
-clear-words-requires : tie.Need-clear-words-requires
-clear-words-requires c κs = search needs
-
-same-length : tie.Need-same-length
-same-length c = search needs
-
 returns : tie.Need-returns
 returns c =
-    let start = c .before .before .before .before .before .before .before .before .before .before .before .before in
-    let enum-told′ = c .before .before .before .before .enum-told in
+    let after-enum-told = c .before .before .before .before in
+    let after-find-rows = after-enum-told .before .before .before .before in
+    let stage = after-find-rows .before .before .before .before in
+    let start = stage in
+    let enum-told′ = after-enum-told .enum-told in
     let t = start .args .table .now in
     let before = start .args .words .now in
-    let found = c .before .before .before .before .before .before .before .before .find-rows in
+    let found = after-find-rows .find-rows in
     let fails = subst (λ (r : Indexing). Collects t before (found .last .1 .0) (indexingOf t (length before)) r) (enum-told′ .given .1) (found .ensures) in
     indexes-fails fails (c .before .before .clear-words .ensures)
 
-same-length-2 : tie.Need-same-length-2
-same-length-2 c = search needs
-
 returns-2 : tie.Need-returns-2
 returns-2 c =
-    let start = c .before .before .before .before .before .before .before .before .before in
+    let after-find-rows = c .before .before .before .before .before in
+    let stage = after-find-rows .before .before .before .before in
+    let start = stage in
     let t = start .args .table .now in
     let before = start .args .words .now in
-    let found = c .before .before .before .before .before .find-rows in
+    let found = after-find-rows .find-rows in
     indexes-rows (subst (λ (r : Indexing). Collects t before (found .last .1 .0) (indexingOf t (length before)) r) (c .before .n .given .1) (found .ensures))
 
 pub index-spec : {M : Type 1} → statement M
 index-spec =
     tie.close
     (tie.spec
-    find-rows-requires
-    enum-known-n
+    (λ c κs. search needs)
+    (λ c. search needs)
     enum-told
-    clear-words-requires
-    same-length
+    (λ c κs. search needs)
+    (λ c. search needs)
     returns
-    same-length-2
+    (λ c. search needs)
     returns-2)

@@ -17,28 +17,18 @@ returns c = let s = c .before .before .args .name .now in sym (inbox-other s (in
 slice-aggregate-first : tie.Need-slice-aggregate-first
 slice-aggregate-first c = simp length-take (omega arith)
 
-slice-aggregate-spells-word : tie.Need-slice-aggregate-spells-word
-slice-aggregate-spells-word c = search needs
-
-spells-word-requires : tie.Need-spells-word-requires
-spells-word-requires c κs = search needs
-
 returns-2 : tie.Need-returns-2
 unfolding openBytes inbox
 returns-2 c =
-    let start = c .before .before .before .before .before .before in
+    let stage = c .before .before .before .before .before .before in
+    let start = stage in
     let s = start .args .name .now in sym (inbox-other s (sym (c .before .spells-word .ensures) ∙ not-true _ (c .if2 .taken)))
-
-slice-aggregate-same-bytes : tie.Need-slice-aggregate-same-bytes
-slice-aggregate-same-bytes c = search needs
-
-same-bytes-requires : tie.Need-same-bytes-requires
-same-bytes-requires c κs = search needs
 
 returns-3 : tie.Need-returns-3
 unfolding openBytes inbox
 returns-3 c =
-    let start = c .before .before .before .before .before .before .before .before .before in
+    let stage = c .before .before .before .before .before .before .before .before .before in
+    let start = stage in
     let s = start .args .name .now in sym (inbox-same s (sym (c .before .same-bytes .ensures) ∙ c .if3 .taken))
 
 -- where the first five bytes are another spelling of INBOX
@@ -47,21 +37,22 @@ misspelled : (c : tie.Else3) →
     inboxSpelled (levels s) ≡ not (endsHere (drop 5 s))
 unfolding openBytes inbox
 misspelled c =
-    let start = c .before .before .before .before .before .before .before .before .before in
-    let spells-word = c .before .before .before .before .spells-word in
+    let after-spells-word = c .before .before .before .before in
+    let stage = after-spells-word .before .before .before .before .before in
+    let start = stage in
+    let spells-word = after-spells-word .spells-word in
     inbox-misspelled (start .args .name .now) (sym (spells-word .ensures) ∙ not-false _ (c .before .before .before .if2 .left)) (sym (c .before .same-bytes .ensures) ∙ c .if3 .left)
 
 returns-4 : tie.Need-returns-4
 returns-4 c =
-    let start = c .before .before .before .before .before .before .before .before .before .before in
+    let stage = c .before .before .before .before .before .before .before .before .before .before in
+    let start = stage in
     sym (misspelled (c .before) ∙ rw (ends-behind (start .args .name .now) 5 (omega arith)))
-
-shared-slice-read-result : tie.Need-shared-slice-read-result
-shared-slice-read-result c = search needs
 
 returns-5 : tie.Need-returns-5
 returns-5 c =
-    let start = c .before .before .before .before .before .before .before .before .before .before .before in
+    let stage = c .before .before .before .before .before .before .before .before .before .before .before in
+    let start = stage in
     sym (misspelled (c .before .before) ∙ rw (ends-at (start .args .name .now) 5 (omega arith)))
 
 pub inbox-spelled-spec : {M : Type 1} → statement M
@@ -70,12 +61,12 @@ inbox-spelled-spec =
     (tie.spec
     returns
     slice-aggregate-first
-    slice-aggregate-spells-word
-    spells-word-requires
+    (λ c. search needs)
+    (λ c κs. search needs)
     returns-2
-    slice-aggregate-same-bytes
-    same-bytes-requires
+    (λ c. search needs)
+    (λ c κs. search needs)
     returns-3
     returns-4
-    shared-slice-read-result
+    (λ c. search needs)
     returns-5)

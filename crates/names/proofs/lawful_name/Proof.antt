@@ -13,59 +13,48 @@ returns c = sym (not-none (c .before .before .args .name .now) (c .if1 .taken))
 returns-2 : tie.Need-returns-2
 returns-2 c = sym (not-long (c .before .before .before .args .name .now) (c .if2 .taken))
 
-name-bytes-requires : tie.Need-name-bytes-requires
-name-bytes-requires c κs = search needs
-
 returns-3 : tie.Need-returns-3
 returns-3 c =
-    let start = c .before .before .before .before .before in
+    let stage = c .before .before .before .before .before in
+    let start = stage in
     sym (not-bytes (start .args .name .now) (sym (c .before .name-bytes .ensures) ∙ not-true _ (c .if3 .taken)))
-
-slashes-requires : tie.Need-slashes-requires
-slashes-requires c κs = search needs
 
 returns-4 : tie.Need-returns-4
 returns-4 c =
-    let start = c .before .before .before .before .before .before .before in
+    let stage = c .before .before .before .before .before .before .before in
+    let start = stage in
     sym (not-few (start .args .name .now) (omega (arith, c .before .slashes .ensures)))
-
-shared-slice-read-if5 : tie.Need-shared-slice-read-if5
-shared-slice-read-if5 c = search needs
 
 returns-5 : tie.Need-returns-5
 returns-5 c =
-    let start = c .before .before .before .before .before .before .before .before .before in
+    let stage = c .before .before .before .before .before .before .before .before .before in
+    let start = stage in
     sym (not-first (start .args .name .now) (omega arith) (c .if5 .taken))
-
-sub-if6 : tie.Need-sub-if6
-sub-if6 c = search needs
-
-shared-slice-read-if6 : tie.Need-shared-slice-read-if6
-shared-slice-read-if6 c = search needs
 
 returns-6 : tie.Need-returns-6
 returns-6 c =
-    let start = c .before .before .before .before .before .before .before .before .before .before .before in
+    let stage = c .before .before .before .before .before .before .before .before .before .before .before in
+    let start = stage in
     sym (not-last (start .args .name .now) (omega arith) (c .if6 .taken))
-
-no-pair-requires : tie.Need-no-pair-requires
-no-pair-requires c κs = search needs
 
 returns-7 : tie.Need-returns-7
 returns-7 c =
-    let start = c .before .before .before .before .before .before .before .before .before .before .before .before .before in
+    let stage = c .before .before .before .before .before .before .before .before .before .before .before .before .before in
+    let start = stage in
     sym (not-pair (start .args .name .now) (omega arith) (sym (c .before .no-pair .ensures) ∙ not-true _ (c .if7 .taken)))
-
-inbox-spelled-requires : tie.Need-inbox-spelled-requires
-inbox-spelled-requires c κs = search needs
 
 returns-8 : tie.Need-returns-8
 returns-8 c =
-    let start = c .before .before .before .before .before .before .before .before .before .before .before .before .before .before in
-    let name-bytes = c .before .before .before .before .before .before .before .before .before .before .name-bytes in
-    let if3 = c .before .before .before .before .before .before .before .before .before .if3 in
-    let slashes = c .before .before .before .before .before .before .before .before .slashes in
-    let if5 = c .before .before .before .before .before .if5 in
+    let at-if5 = c .before .before .before .before .before in
+    let after-slashes = at-if5 .before .before .before in
+    let at-if3 = after-slashes .before in
+    let after-name-bytes = at-if3 .before in
+    let stage = after-name-bytes .before .before .before .before in
+    let start = stage in
+    let name-bytes = after-name-bytes .name-bytes in
+    let if3 = at-if3 .if3 in
+    let slashes = after-slashes .slashes in
+    let if5 = at-if5 .if5 in
     c .inbox-spelled .ensures
     ∙ sym
     (all-but-inbox
@@ -84,16 +73,16 @@ lawful-name-spec =
     (tie.spec
     returns
     returns-2
-    name-bytes-requires
+    (λ c κs. search needs)
     returns-3
-    slashes-requires
+    (λ c κs. search needs)
     returns-4
-    shared-slice-read-if5
+    (λ c. search needs)
     returns-5
-    sub-if6
-    shared-slice-read-if6
+    (λ c. search needs)
+    (λ c. search needs)
     returns-6
-    no-pair-requires
+    (λ c κs. search needs)
     returns-7
-    inbox-spelled-requires
+    (λ c κs. search needs)
     returns-8)

@@ -19,24 +19,10 @@ abbrev μ-loop : tie.MeasureT-loop
 loop-holds : tie.Need-loop-holds Inv-loop μ-loop
 loop-holds c = (omega arith, refl)
 
-sub-ok : tie.Need-sub-ok Inv-loop μ-loop
-sub-ok c = search needs
-
-shared-slice-read-ok : tie.Need-shared-slice-read-ok Inv-loop μ-loop
-shared-slice-read-ok c = search needs
-
-shared-slice-read-ok-2 : tie.Need-shared-slice-read-ok-2 Inv-loop μ-loop
-shared-slice-read-ok-2 c = search needs
-
-add-i : tie.Need-add-i Inv-loop μ-loop
-add-i c = search needs
-
-loop-less : tie.Need-loop-less Inv-loop μ-loop
-loop-less c = search needs
-
 loop-again : tie.Need-loop-again Inv-loop μ-loop
 loop-again c =
-    let start = c .before .before .before .before in
+    let stage = c .before .before .before .before in
+    let start = stage in
     let turn = c .before .before .before .loop in
     let s = start .args .name .now in
     (omega arith, pair-more s (turn .ok) (turn .i) (turn .inv .0) (c .before .before .loop-test .taken) ∙ turn .inv .1)
@@ -53,10 +39,10 @@ no-pair-spec =
     Inv-loop
     μ-loop
     loop-holds
-    sub-ok
-    shared-slice-read-ok
-    shared-slice-read-ok-2
-    add-i
-    loop-less
+    (λ c. search needs)
+    (λ c. search needs)
+    (λ c. search needs)
+    (λ c. search needs)
+    (λ c. search needs)
     loop-again
     returns)

@@ -21,31 +21,20 @@ abbrev μ-loop : tie.MeasureT-loop
 loop-holds : tie.Need-loop-holds Inv-loop μ-loop
 loop-holds c = (omega arith, rest-whole (c .before .args .list .now))
 
-entry-at-requires : tie.Need-entry-at-requires Inv-loop μ-loop
-entry-at-requires c κs = search needs
-
 returns : tie.Need-returns Inv-loop μ-loop
 returns c =
-    let turn = c .before .before .before .before .loop in
+    let turn-2 = c .before .before .before .before in
+    let turn = turn-2 .loop in
     sym (rest-past (turn .class) (turn .count) (c .before .before .before .loop-test .taken) (c .before .before .entry-at .ensures) (c .if1 .taken)) ∙ turn .inv .1
-
-sub-is-lawful : tie.Need-sub-is-lawful Inv-loop μ-loop
-sub-is-lawful c = search needs
-
-part-is-lawful-start : tie.Need-part-is-lawful-start Inv-loop μ-loop
-part-is-lawful-start c = search needs
-
-part-is-lawful-end : tie.Need-part-is-lawful-end Inv-loop μ-loop
-part-is-lawful-end c = search needs
-
-is-lawful-requires : tie.Need-is-lawful-requires Inv-loop μ-loop
-is-lawful-requires c κs = search needs
 
 returns-2 : tie.Need-returns-2 Inv-loop μ-loop
 returns-2 c =
-    let turn = c .before .before .before .before .before .before .before .loop in
-    let inside = c .before .before .before .before .before .before .loop-test .taken in
-    let entry = c .before .before .before .before .before .entry-at .ensures in
+    let after-entry-at = c .before .before .before .before .before in
+    let at-loop-test = after-entry-at .before in
+    let turn-2 = at-loop-test .before in
+    let turn = turn-2 .loop in
+    let inside = at-loop-test .loop-test .taken in
+    let entry = after-entry-at .entry-at .ensures in
     sym (rest-unlawful (turn .class) (turn .count) inside entry (sym (c .before .is-lawful .ensures) ∙ not-true _ (c .if2 .taken))) ∙ turn .inv .1
 
 -- after the test for a lawful entry
@@ -56,44 +45,54 @@ lawful c = sym (c .before .is-lawful .ensures) ∙ not-false _ (c .if2 .left)
 
 returns-3 : tie.Need-returns-3 Inv-loop μ-loop
 returns-3 c =
-    let turn = c .before .before .before .before .before .before .before .before .before .loop in
-    let inside = c .before .before .before .before .before .before .before .before .loop-test .taken in
-    let entry = c .before .before .before .before .before .before .before .entry-at .ensures in
-    let whole = c .before .before .before .before .before .if1 .left in
+    let at-if1 = c .before .before .before .before .before in
+    let after-entry-at = at-if1 .before .before in
+    let at-loop-test = after-entry-at .before in
+    let turn-2 = at-loop-test .before in
+    let turn = turn-2 .loop in
+    let inside = at-loop-test .loop-test .taken in
+    let entry = after-entry-at .entry-at .ensures in
+    let whole = at-if1 .if1 .left in
     sym (rest-fall (turn .class) (turn .count) inside entry whole (lawful (c .before .before)) (c .if3 .taken)) ∙ turn .inv .1
 
 returns-4 : tie.Need-returns-4 Inv-loop μ-loop
 returns-4 c =
-    let turn = c .before .before .before .before .before .before .before .before .before .before .before .before .loop in
-    let inside = c .before .before .before .before .before .before .before .before .before .before .before .loop-test .taken in
-    let entry = c .before .before .before .before .before .before .before .before .before .before .entry-at .ensures in
-    let whole = c .before .before .before .before .before .before .before .before .if1 .left in
-    sym (rest-full (turn .class) (turn .count) inside entry whole (lawful (c .before .before .before .before .before)) (c .before .if4 .taken) (omega arith)) ∙ turn .inv .1
-
-add-count : tie.Need-add-count Inv-loop μ-loop
-add-count c = search needs
-
-loop-less : tie.Need-loop-less Inv-loop μ-loop
-loop-less c = search needs
+    let stage = c .before .before .before .before .before in
+    let at-if1 = stage .before .before .before in
+    let after-entry-at = at-if1 .before .before in
+    let at-loop-test = after-entry-at .before in
+    let turn-2 = at-loop-test .before in
+    let turn = turn-2 .loop in
+    let inside = at-loop-test .loop-test .taken in
+    let entry = after-entry-at .entry-at .ensures in
+    let whole = at-if1 .if1 .left in
+    sym (rest-full (turn .class) (turn .count) inside entry whole (lawful (stage)) (c .before .if4 .taken) (omega arith)) ∙ turn .inv .1
 
 loop-again : tie.Need-loop-again Inv-loop μ-loop
 loop-again c =
-    let turn = c .before .before .before .before .before .before .before .before .before .before .before .before .loop in
-    let inside = c .before .before .before .before .before .before .before .before .before .before .before .loop-test .taken in
-    let entry = c .before .before .before .before .before .before .before .before .before .before .entry-at .ensures in
-    let whole = c .before .before .before .before .before .before .before .before .if1 .left in
-    (omega arith, sym (rest-same (turn .class) (turn .count) inside entry whole (lawful (c .before .before .before .before .before)) (c .before .if4 .taken)) ∙ turn .inv .1)
-
-loop-less-2 : tie.Need-loop-less-2 Inv-loop μ-loop
-loop-less-2 c = search needs
+    let stage = c .before .before .before .before .before in
+    let at-if1 = stage .before .before .before in
+    let after-entry-at = at-if1 .before .before in
+    let at-loop-test = after-entry-at .before in
+    let turn-2 = at-loop-test .before in
+    let turn = turn-2 .loop in
+    let inside = at-loop-test .loop-test .taken in
+    let entry = after-entry-at .entry-at .ensures in
+    let whole = at-if1 .if1 .left in
+    (omega arith, sym (rest-same (turn .class) (turn .count) inside entry whole (lawful (stage)) (c .before .if4 .taken)) ∙ turn .inv .1)
 
 loop-again-2 : tie.Need-loop-again-2 Inv-loop μ-loop
 loop-again-2 c =
-    let turn = c .before .before .before .before .before .before .before .before .before .before .before .loop in
-    let inside = c .before .before .before .before .before .before .before .before .before .before .loop-test .taken in
-    let entry = c .before .before .before .before .before .before .before .before .before .entry-at .ensures in
-    let whole = c .before .before .before .before .before .before .before .if1 .left in
-    (omega arith, sym (rest-rise (turn .class) (turn .count) inside entry whole (lawful (c .before .before .before .before)) (omega arith) (omega arith)) ∙ turn .inv .1)
+    let stage = c .before .before .before .before in
+    let at-if1 = stage .before .before .before in
+    let after-entry-at = at-if1 .before .before in
+    let at-loop-test = after-entry-at .before in
+    let turn-2 = at-loop-test .before in
+    let turn = turn-2 .loop in
+    let inside = at-loop-test .loop-test .taken in
+    let entry = after-entry-at .entry-at .ensures in
+    let whole = at-if1 .if1 .left in
+    (omega arith, sym (rest-rise (turn .class) (turn .count) inside entry whole (lawful (stage)) (omega arith) (omega arith)) ∙ turn .inv .1)
 
 returns-5 : tie.Need-returns-5 Inv-loop μ-loop
 returns-5 c =
@@ -107,18 +106,18 @@ check-spec =
     Inv-loop
     μ-loop
     loop-holds
-    entry-at-requires
+    (λ c κs. search needs)
     returns
-    sub-is-lawful
-    part-is-lawful-start
-    part-is-lawful-end
-    is-lawful-requires
+    (λ c. search needs)
+    (λ c. search needs)
+    (λ c. search needs)
+    (λ c κs. search needs)
     returns-2
     returns-3
     returns-4
-    add-count
-    loop-less
+    (λ c. search needs)
+    (λ c. search needs)
     loop-again
-    loop-less-2
+    (λ c. search needs)
     loop-again-2
     returns-5)

@@ -18,30 +18,22 @@ abbrev μ-loop : tie.MeasureT-loop
 loop-holds : tie.Need-loop-holds Inv-loop μ-loop
 loop-holds c = (omega arith, omega arith)
 
-entry-at-requires : tie.Need-entry-at-requires Inv-loop μ-loop
-entry-at-requires c κs = search needs
-
-add-count : tie.Need-add-count Inv-loop μ-loop
-add-count c = search needs
-
-loop-less : tie.Need-loop-less Inv-loop μ-loop
-loop-less c = search needs
-
 loop-again : tie.Need-loop-again Inv-loop μ-loop
 loop-again c =
-    let start = c .before .before .before .before .before .before in
+    let stage = c .before .before .before .before .before .before in
+    let start = stage in
     (omega arith, omega (arith, ap length (class-here (c .before .before .entry-at .ensures) (start .args .class) (c .if1 .taken))))
-
-loop-less-2 : tie.Need-loop-less-2 Inv-loop μ-loop
-loop-less-2 c = search needs
 
 loop-again-2 : tie.Need-loop-again-2 Inv-loop μ-loop
 loop-again-2 c =
-    let start = c .before .before .before .before .before .before in
+    let stage = c .before .before .before .before .before .before in
+    let start = stage in
     (omega arith, omega (arith, ap length (class-other (c .before .before .entry-at .ensures) (start .args .class) (c .if1 .left))))
 
 returns : tie.Need-returns Inv-loop μ-loop
-returns c = omega (arith, ap length (class-end (c .before .before .before .args .list .now) (c .before .loop .at) (c .before .before .before .args .class) (c .loop-test .left)))
+returns c =
+    let start = c .before .before .before in
+    omega (arith, ap length (class-end (start .args .list .now) (c .before .loop .at) (start .args .class) (c .loop-test .left)))
 
 pub count-of-spec : {M : Type 1} → statement M
 count-of-spec =
@@ -50,10 +42,10 @@ count-of-spec =
     Inv-loop
     μ-loop
     loop-holds
-    entry-at-requires
-    add-count
-    loop-less
+    (λ c κs. search needs)
+    (λ c. search needs)
+    (λ c. search needs)
     loop-again
-    loop-less-2
+    (λ c. search needs)
     loop-again-2
     returns)

@@ -8,41 +8,14 @@ use borrow.Author.Needs.{needs}
 use Rattle.namespace_list.proofs.entry_at.Statement.{statement}
 use Rattle.namespace_list.proofs.entry_at.Tie as tie
 
-add-start : tie.Need-add-start
-add-start c = search needs
-
-add-byte-at : tie.Need-add-byte-at
-add-byte-at c = search needs
-
-byte-at-requires : tie.Need-byte-at-requires
-byte-at-requires c κs = search needs
-
-wide-requires : tie.Need-wide-requires
-wide-requires c κs = search needs
-
-add-end : tie.Need-add-end
-add-end c = search needs
-
-shared-slice-read-t6 : tie.Need-shared-slice-read-t6
-shared-slice-read-t6 c = search needs
-
-least-requires : tie.Need-least-requires
-least-requires c κs = search needs
-
-least-requires-2 : tie.Need-least-requires-2
-least-requires-2 c κs = search needs
-
-byte-at-requires-2 : tie.Need-byte-at-requires-2
-byte-at-requires-2 c κs = search needs
-
-add-t12 : tie.Need-add-t12
-add-t12 c = search needs
-
 returns : tie.Need-returns
 returns c =
-    let start = c .before .before .before .before .before .before .before in
-    let byte-at = c .before .before .before .before .before .byte-at in
-    let wide = c .before .before .before .before .wide in
+    let after-wide = c .before .before .before .before in
+    let after-byte-at = after-wide .before in
+    let stage = after-byte-at .before .before in
+    let start = stage in
+    let byte-at = after-byte-at .byte-at in
+    let wide = after-wide .wide in
     let l = start .args .list .now in
     let at = start .args .at in
     let n : wide .result ≡ getD l (at + 1) 0 = wide .ensures ∙ byte-at .ensures in
@@ -52,14 +25,14 @@ pub entry-at-spec : {M : Type 1} → statement M
 entry-at-spec =
     tie.close
     (tie.spec
-    add-start
-    add-byte-at
-    byte-at-requires
-    wide-requires
-    add-end
-    shared-slice-read-t6
-    least-requires
-    least-requires-2
-    byte-at-requires-2
-    add-t12
+    (λ c. search needs)
+    (λ c. search needs)
+    (λ c κs. search needs)
+    (λ c κs. search needs)
+    (λ c. search needs)
+    (λ c. search needs)
+    (λ c κs. search needs)
+    (λ c κs. search needs)
+    (λ c κs. search needs)
+    (λ c. search needs)
     returns)

@@ -5,12 +5,9 @@ use borrow.Author.Needs.{needs}
 use Rattle.namespace_list.proofs.is_lawful.Statement.{statement}
 use Rattle.namespace_list.proofs.is_lawful.Tie as tie
 
-is-printable-requires : tie.Need-is-printable-requires
-is-printable-requires c κs = search needs
-
 returns : tie.Need-returns
 unfolding within lawfulEntry
 returns c = rw (c .is-printable .ensures)
 
 pub is-lawful-spec : {M : Type 1} → statement M
-is-lawful-spec = tie.close (tie.spec is-printable-requires returns)
+is-lawful-spec = tie.close (tie.spec (λ c κs. search needs) returns)

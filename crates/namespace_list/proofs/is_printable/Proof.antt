@@ -18,26 +18,19 @@ abbrev μ-loop : tie.MeasureT-loop
 loop-holds : tie.Need-loop-holds Inv-loop μ-loop
 loop-holds c = refl
 
-shared-slice-read-b : tie.Need-shared-slice-read-b Inv-loop μ-loop
-shared-slice-read-b c = search needs
-
 returns : tie.Need-returns Inv-loop μ-loop
 unfolding within
 returns c =
-    let start = c .before .before .before .before in
+    let stage = c .before .before .before .before in
+    let start = stage in
     let turn = c .before .before .before .loop in
     sym (all-stop (within 32 126) (start .args .s .now) (turn .i) (c .before .before .loop-test .taken) (not-true _ (c .if1 .taken))) ∙ turn .inv
-
-add-i : tie.Need-add-i Inv-loop μ-loop
-add-i c = search needs
-
-loop-less : tie.Need-loop-less Inv-loop μ-loop
-loop-less c = search needs
 
 loop-again : tie.Need-loop-again Inv-loop μ-loop
 unfolding within
 loop-again c =
-    let start = c .before .before .before .before in
+    let stage = c .before .before .before .before in
+    let start = stage in
     let turn = c .before .before .before .loop in
     sym (all-step (within 32 126) (start .args .s .now) (turn .i) (c .before .before .loop-test .taken) (not-false _ (c .if1 .left))) ∙ turn .inv
 
@@ -53,9 +46,9 @@ is-printable-spec =
     Inv-loop
     μ-loop
     loop-holds
-    shared-slice-read-b
+    (λ c. search needs)
     returns
-    add-i
-    loop-less
+    (λ c. search needs)
+    (λ c. search needs)
     loop-again
     returns-2)

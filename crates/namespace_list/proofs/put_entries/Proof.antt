@@ -24,40 +24,25 @@ abbrev μ-loop : tie.MeasureT-loop
 loop-holds : tie.Need-loop-holds Inv-loop μ-loop
 loop-holds c = putting-none _ _ _ (search needs) (search needs)
 
-entry-at-requires : tie.Need-entry-at-requires Inv-loop μ-loop
-entry-at-requires c κs = search needs
-
-sub-put-entry : tie.Need-sub-put-entry Inv-loop μ-loop
-sub-put-entry c = search needs
-
-part-put-entry-start : tie.Need-part-put-entry-start Inv-loop μ-loop
-part-put-entry-start c = search needs
-
-part-put-entry-end : tie.Need-part-put-entry-end Inv-loop μ-loop
-part-put-entry-end c = search needs
-
-put-entry-requires : tie.Need-put-entry-requires Inv-loop μ-loop
-put-entry-requires c κs = search needs
-
-loop-less : tie.Need-loop-less Inv-loop μ-loop
-loop-less c = search needs
-
 loop-again : tie.Need-loop-again Inv-loop μ-loop
 unfolding entryText
 loop-again c =
-    let start = c .before .before .before .before .before .before .before .before .before .before .before .before in
-    let turn = c .before .before .before .before .before .before .before .before .before .loop in
-    let entry = c .before .before .before .before .before .before .before .entry-at .ensures in
-    let here = c .before .before .before .before .before .if1 .taken in
+    let at-if1 = c .before .before .before .before .before in
+    let after-entry-at = at-if1 .before .before in
+    let turn-2 = after-entry-at .before .before in
+    let stage = turn-2 .before .before .before in
+    let start = stage in
+    let turn = turn-2 .loop in
+    let entry = after-entry-at .entry-at .ensures in
+    let here = at-if1 .if1 .taken in
     putting-more (turn .inv) (text-here entry (start .args .class) here) (c .before .before .put-entry .ensures)
-
-loop-less-2 : tie.Need-loop-less-2 Inv-loop μ-loop
-loop-less-2 c = search needs
 
 loop-again-2 : tie.Need-loop-again-2 Inv-loop μ-loop
 loop-again-2 c =
-    let start = c .before .before .before .before .before .before .before in
-    let turn = c .before .before .before .before .loop in
+    let turn-2 = c .before .before .before .before in
+    let stage = turn-2 .before .before .before in
+    let start = stage in
+    let turn = turn-2 .loop in
     let entry = c .before .before .entry-at .ensures in
     putting-on (turn .inv) (ap (λ (x : List Entry). entriesText x) (class-other entry (start .args .class) (c .if1 .left)))
 
@@ -66,7 +51,8 @@ same-length c = put-length (c .before .loop .inv .put)
 
 returns : tie.Need-returns Inv-loop μ-loop
 returns c =
-    let start = c .before .before .before .before in
+    let stage = c .before .before .before .before in
+    let start = stage in
     putting-all (c .before .loop .inv) (text-end (start .args .list .now) (c .before .loop .i) (start .args .class) (c .loop-test .left))
 
 pub put-entries-spec : {M : Type 1} → statement M
@@ -76,14 +62,14 @@ put-entries-spec =
     Inv-loop
     μ-loop
     loop-holds
-    entry-at-requires
-    sub-put-entry
-    part-put-entry-start
-    part-put-entry-end
-    put-entry-requires
-    loop-less
+    (λ c κs. search needs)
+    (λ c. search needs)
+    (λ c. search needs)
+    (λ c. search needs)
+    (λ c κs. search needs)
+    (λ c. search needs)
     loop-again
-    loop-less-2
+    (λ c. search needs)
     loop-again-2
     same-length
     returns)

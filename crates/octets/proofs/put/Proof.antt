@@ -7,12 +7,6 @@ use borrow.Author.Needs.{needs}
 use Rattle.octets.proofs.put.Statement.{statement}
 use Rattle.octets.proofs.put.Tie as tie
 
-slice-write-buf : tie.Need-slice-write-buf
-slice-write-buf c = search needs
-
-advance-requires : tie.Need-advance-requires
-advance-requires c κs = search needs
-
 -- the buffer behind the test: the byte is stored, or lies behind the end
 stored : (c : tie.Joined1) → c .if1 .buf ≡ set (c .before .before .args .buf .now) (c .before .before .args .at) (c .before .before .args .b)
 stored c = ⊎-elim (λ w. w .1) (λ w. w .1 ∙ sym (set-out _ _ _ (w .0 .left))) (c .if1 .came)
@@ -24,4 +18,4 @@ returns : tie.Need-returns
 returns c = record { fits = search needs; place = c .advance .ensures; bytes = stored (c .before) }
 
 pub put-spec : {M : Type 1} → statement M
-put-spec = tie.close (tie.spec slice-write-buf advance-requires same-length returns)
+put-spec = tie.close (tie.spec (λ c. search needs) (λ c κs. search needs) same-length returns)

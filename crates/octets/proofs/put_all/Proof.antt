@@ -15,48 +15,33 @@ Inv-loop buf₀ at s n i₀ buf i = (i ≤ n) × (n ≡ min (length s) (length b
 abbrev μ-loop : tie.MeasureT-loop
 μ-loop buf₀ at s n i₀ buf i = n - i
 
-room-for-requires : tie.Need-room-for-requires Inv-loop μ-loop
-room-for-requires c κs = search needs
-
 -- the stores keep the length
 written : (c : tie.At-loop Inv-loop μ-loop) → length (c .loop .buf) ≡ length (c .before .before .before .before .args .buf .now)
 written c =
-    let start = c .before .before .before .before in
+    let stage = c .before .before .before .before in
+    let start = stage in
     ap length (c .loop .inv .2) ∙ length-sets (start .args .buf .now) (start .args .at) (take (c .loop .i) (start .args .s .now))
 
 loop-holds : tie.Need-loop-holds Inv-loop μ-loop
 loop-holds c = (omega arith, c .room-for .ensures, refl)
 
-shared-slice-read-buf : tie.Need-shared-slice-read-buf Inv-loop μ-loop
-shared-slice-read-buf c = search needs
-
-add-buf : tie.Need-add-buf Inv-loop μ-loop
-add-buf c = search needs
-
 slice-write-buf : tie.Need-slice-write-buf Inv-loop μ-loop
 slice-write-buf c = omega (arith, written (c .before .before))
 
-add-i : tie.Need-add-i Inv-loop μ-loop
-add-i c = search needs
-
-loop-less : tie.Need-loop-less Inv-loop μ-loop
-loop-less c = search needs
-
 loop-again : tie.Need-loop-again Inv-loop μ-loop
 loop-again c =
-    let start = c .before .before .before .before .before .before in
+    let stage = c .before .before .before .before .before .before in
+    let start = stage in
     let turn = c .before .before .loop in
     (omega arith, turn .inv .1, rw (turn .inv .2) (sets-more (start .args .buf .now) (start .args .s .now) (start .args .at) (turn .i) (omega arith)))
-
-advance-requires : tie.Need-advance-requires Inv-loop μ-loop
-advance-requires c κs = search needs
 
 same-length : tie.Need-same-length Inv-loop μ-loop
 same-length c = written (c .before .before)
 
 returns : tie.Need-returns Inv-loop μ-loop
 returns c =
-    let start = c .before .before .before .before .before .before in
+    let stage = c .before .before .before .before .before .before in
+    let start = stage in
     let turn = c .before .before .loop in
     let w : turn .i ≡ c .before .before .before .room-for .result = omega arith in
     record {
@@ -71,14 +56,14 @@ put-all-spec =
     (tie.spec
     Inv-loop
     μ-loop
-    room-for-requires
+    (λ c κs. search needs)
     loop-holds
-    shared-slice-read-buf
-    add-buf
+    (λ c. search needs)
+    (λ c. search needs)
     slice-write-buf
-    add-i
-    loop-less
+    (λ c. search needs)
+    (λ c. search needs)
     loop-again
-    advance-requires
+    (λ c κs. search needs)
     same-length
     returns)

@@ -17,23 +17,14 @@ abbrev μ-loop : tie.MeasureT-loop
 loop-holds : tie.Need-loop-holds Inv-loop μ-loop
 loop-holds c = putting-none _ _ _ (search needs) (search needs)
 
-shared-slice-read-put-escape : tie.Need-shared-slice-read-put-escape Inv-loop μ-loop
-shared-slice-read-put-escape c = search needs
-
-put-escape-requires : tie.Need-put-escape-requires Inv-loop μ-loop
-put-escape-requires c κs = search needs
-
-add-i : tie.Need-add-i Inv-loop μ-loop
-add-i c = search needs
-
-loop-less : tie.Need-loop-less Inv-loop μ-loop
-loop-less c = search needs
-
 loop-again : tie.Need-loop-again Inv-loop μ-loop
 loop-again c =
-    let start = c .before .before .before .before .before .before .before .before .before in
-    let turn = c .before .before .before .before .before .before .loop in
-    let inside = c .before .before .before .before .before .loop-test .taken in
+    let at-loop-test = c .before .before .before .before .before in
+    let turn-2 = at-loop-test .before in
+    let stage = turn-2 .before .before .before in
+    let start = stage in
+    let turn = turn-2 .loop in
+    let inside = at-loop-test .loop-test .taken in
     putting-more (turn .inv) (escaped-at (start .args .s .now) (turn .i) inside) (c .before .before .put-escape .ensures)
 
 same-length : tie.Need-same-length Inv-loop μ-loop
@@ -41,7 +32,8 @@ same-length c = put-length (c .before .loop .inv .put)
 
 returns : tie.Need-returns Inv-loop μ-loop
 returns c =
-    let start = c .before .before .before .before in
+    let stage = c .before .before .before .before in
+    let start = stage in
     putting-all (c .before .loop .inv) (escaped-end (start .args .s .now) (c .before .loop .i) (c .loop-test .left))
 
 pub put-escapes-spec : {M : Type 1} → statement M
@@ -51,10 +43,10 @@ put-escapes-spec =
     Inv-loop
     μ-loop
     loop-holds
-    shared-slice-read-put-escape
-    put-escape-requires
-    add-i
-    loop-less
+    (λ c. search needs)
+    (λ c κs. search needs)
+    (λ c. search needs)
+    (λ c. search needs)
     loop-again
     same-length
     returns)

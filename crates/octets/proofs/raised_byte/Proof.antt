@@ -6,9 +6,6 @@ use borrow.Author.Needs.{needs}
 use Rattle.octets.proofs.raised_byte.Statement.{statement}
 use Rattle.octets.proofs.raised_byte.Tie as tie
 
-sub-result : tie.Need-sub-result
-sub-result c = search needs
-
 returns : tie.Need-returns
 unfolding raise within
 returns c = rw (le-leb _ _ (c .before .if1 .taken), le-leb _ _ (c .if2 .taken))
@@ -22,4 +19,4 @@ unfolding raise within
 returns-3 c = rw (lt-leb 97 (c .before .args .b) (omega arith))
 
 pub raised-byte-spec : {M : Type 1} → statement M
-raised-byte-spec = tie.close (tie.spec sub-result returns returns-2 returns-3)
+raised-byte-spec = tie.close (tie.spec (λ c. search needs) returns returns-2 returns-3)

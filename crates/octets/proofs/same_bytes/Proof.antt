@@ -21,32 +21,26 @@ returns c = sym (same-lengths (c .before .args .a .now) (c .before .args .b .now
 loop-holds : tie.Need-loop-holds Inv-loop μ-loop
 loop-holds c = (c .if1 .left, omega arith, refl)
 
-shared-slice-read-if2 : tie.Need-shared-slice-read-if2 Inv-loop μ-loop
-shared-slice-read-if2 c = search needs
-
-shared-slice-read-if2-2 : tie.Need-shared-slice-read-if2-2 Inv-loop μ-loop
-shared-slice-read-if2-2 c = search needs
-
 returns-2 : tie.Need-returns-2 Inv-loop μ-loop
 returns-2 c =
-    let start = c .before .before .before .before .before .before in
-    let turn = c .before .before .before .before .loop in
+    let turn-2 = c .before .before .before .before in
+    let stage = turn-2 .before .before in
+    let start = stage in
+    let turn = turn-2 .loop in
     sym (same-differ (start .args .a .now) (start .args .b .now) (turn .i) (omega arith) (omega arith) (c .if2 .taken)) ∙ turn .inv .2
-
-add-i : tie.Need-add-i Inv-loop μ-loop
-add-i c = search needs
-
-loop-less : tie.Need-loop-less Inv-loop μ-loop
-loop-less c = search needs
 
 loop-again : tie.Need-loop-again Inv-loop μ-loop
 loop-again c =
-    let start = c .before .before .before .before .before .before in
-    let turn = c .before .before .before .before .loop in
+    let turn-2 = c .before .before .before .before in
+    let stage = turn-2 .before .before in
+    let start = stage in
+    let turn = turn-2 .loop in
     (turn .inv .0, omega arith, sym (same-step (start .args .a .now) (start .args .b .now) (turn .i) (omega arith) (omega arith) (c .if2 .left)) ∙ turn .inv .2)
 
 returns-3 : tie.Need-returns-3 Inv-loop μ-loop
-returns-3 c = sym (same-end (c .before .before .before .args .a .now) (c .before .before .before .args .b .now) (c .before .loop .i) (omega arith) (omega arith)) ∙ c .before .loop .inv .2
+returns-3 c =
+    let start = c .before .before .before in
+    sym (same-end (start .args .a .now) (start .args .b .now) (c .before .loop .i) (omega arith) (omega arith)) ∙ c .before .loop .inv .2
 
 pub same-bytes-spec : {M : Type 1} → statement M
 same-bytes-spec =
@@ -56,10 +50,10 @@ same-bytes-spec =
     μ-loop
     returns
     loop-holds
-    shared-slice-read-if2
-    shared-slice-read-if2-2
+    (λ c. search needs)
+    (λ c. search needs)
     returns-2
-    add-i
-    loop-less
+    (λ c. search needs)
+    (λ c. search needs)
     loop-again
     returns-3)

@@ -16,41 +16,33 @@ abbrev μ-loop : tie.MeasureT-loop
 μ-loop s word i₀ i = length s - i
 
 returns : tie.Need-returns Inv-loop μ-loop
-returns c = sym (spells-lengths (c .before .before .before .args .s .now) (c .before .before .before .args .word .now) (c .if1 .taken))
+returns c =
+    let start = c .before .before .before in
+    sym (spells-lengths (start .args .s .now) (start .args .word .now) (c .if1 .taken))
 
 loop-holds : tie.Need-loop-holds Inv-loop μ-loop
 loop-holds c = (c .if1 .left, omega arith, refl)
 
-shared-slice-read-raised-byte : tie.Need-shared-slice-read-raised-byte Inv-loop μ-loop
-shared-slice-read-raised-byte c = search needs
-
-raised-byte-requires : tie.Need-raised-byte-requires Inv-loop μ-loop
-raised-byte-requires c κs = search needs
-
-shared-slice-read-if2 : tie.Need-shared-slice-read-if2 Inv-loop μ-loop
-shared-slice-read-if2 c = search needs
-
 returns-2 : tie.Need-returns-2 Inv-loop μ-loop
 returns-2 c =
-    let start = c .before .before .before .before .before .before .before .before .before in
-    let turn = c .before .before .before .before .before .loop in
+    let turn-2 = c .before .before .before .before .before in
+    let stage = turn-2 .before .before .before .before in
+    let start = stage in
+    let turn = turn-2 .loop in
     sym (spells-differ (start .args .s .now) (start .args .word .now) (turn .i) (omega arith) (omega arith) (λ e. c .if2 .taken (c .before .before .raised-byte .ensures ∙ e))) ∙ turn .inv .2
-
-add-i : tie.Need-add-i Inv-loop μ-loop
-add-i c = search needs
-
-loop-less : tie.Need-loop-less Inv-loop μ-loop
-loop-less c = search needs
 
 loop-again : tie.Need-loop-again Inv-loop μ-loop
 loop-again c =
-    let start = c .before .before .before .before .before .before .before .before .before in
-    let turn = c .before .before .before .before .before .loop in
+    let turn-2 = c .before .before .before .before .before in
+    let stage = turn-2 .before .before .before .before in
+    let start = stage in
+    let turn = turn-2 .loop in
     (turn .inv .0, omega arith, sym (spells-step (start .args .s .now) (start .args .word .now) (turn .i) (omega arith) (omega arith) (sym (c .before .before .raised-byte .ensures) ∙ c .if2 .left)) ∙ turn .inv .2)
 
 returns-3 : tie.Need-returns-3 Inv-loop μ-loop
 returns-3 c =
-    let start = c .before .before .before .before .before in
+    let stage = c .before .before .before .before .before in
+    let start = stage in
     sym (spells-end (start .args .s .now) (start .args .word .now) (c .before .loop .i) (omega arith) (omega arith)) ∙ c .before .loop .inv .2
 
 pub spells-word-spec : {M : Type 1} → statement M
@@ -61,11 +53,11 @@ spells-word-spec =
     μ-loop
     returns
     loop-holds
-    shared-slice-read-raised-byte
-    raised-byte-requires
-    shared-slice-read-if2
+    (λ c. search needs)
+    (λ c κs. search needs)
+    (λ c. search needs)
     returns-2
-    add-i
-    loop-less
+    (λ c. search needs)
+    (λ c. search needs)
     loop-again
     returns-3)

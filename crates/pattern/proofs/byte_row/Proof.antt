@@ -21,29 +21,8 @@ abbrev μ-loop : tie.MeasureT-loop
 loop-holds : tie.Need-loop-holds Inv-loop μ-loop
 loop-holds c = (omega arith, λ f m. row-none m)
 
-shared-slice-read-row : tie.Need-shared-slice-read-row Inv-loop μ-loop
-shared-slice-read-row c = search needs
-
-add-row : tie.Need-add-row Inv-loop μ-loop
-add-row c = search needs
-
-element-copy-out-row : tie.Need-element-copy-out-row Inv-loop μ-loop
-element-copy-out-row c = search needs
-
-element-write-row : tie.Need-element-write-row Inv-loop μ-loop
-element-write-row c = search needs
-
-add-j : tie.Need-add-j Inv-loop μ-loop
-add-j c = search needs
-
-loop-less : tie.Need-loop-less Inv-loop μ-loop
-loop-less c = search needs
-
 loop-again : tie.Need-loop-again Inv-loop μ-loop
 loop-again c = (omega arith, λ f m. byte-up f _ _ _ (omega arith) _ (c .before .before .before .loop .inv .1 f m))
-
-element-write-row-2 : tie.Need-element-write-row-2 Inv-loop μ-loop
-element-write-row-2 c = search needs
 
 returns : tie.Need-returns Inv-loop μ-loop
 returns c = λ f m.
@@ -57,12 +36,12 @@ byte-row-spec =
     Inv-loop
     μ-loop
     loop-holds
-    shared-slice-read-row
-    add-row
-    element-copy-out-row
-    element-write-row
-    add-j
-    loop-less
+    (λ c. search needs)
+    (λ c. search needs)
+    (λ c. search needs)
+    (λ c. search needs)
+    (λ c. search needs)
+    (λ c. search needs)
     loop-again
-    element-write-row-2
+    (λ c. search needs)
     returns)

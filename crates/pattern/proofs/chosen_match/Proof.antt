@@ -5,22 +5,18 @@ use borrow.Author.Needs.{needs}
 use Rattle.pattern.proofs.chosen_match.Statement.{statement}
 use Rattle.pattern.proofs.chosen_match.Tie as tie
 
-ends-in-percent-requires : tie.Need-ends-in-percent-requires
-ends-in-percent-requires c κs = search needs
-
 returns : tie.Need-returns
 returns c =
-    let start = c .before .before .before .before in
+    let stage = c .before .before .before .before in
+    let start = stage in
     chosen-out (start .args .levels) _ _ _ (c .before .ends-in-percent .ensures) (c .if1 .taken)
-
-wild-match-requires : tie.Need-wild-match-requires
-wild-match-requires c κs = search needs
 
 returns-2 : tie.Need-returns-2
 returns-2 c =
-    let start = c .before .before .before .before .before in
+    let stage = c .before .before .before .before .before in
+    let start = stage in
     c .wild-match .ensures ∙ chosen-in (start .args .levels) _ _ _ (c .before .before .ends-in-percent .ensures) (c .before .if1 .left)
 
 pub chosen-match-spec : {M : Type 1} → statement M
 chosen-match-spec =
-    tie.close (tie.spec ends-in-percent-requires returns wild-match-requires returns-2)
+    tie.close (tie.spec (λ c κs. search needs) returns (λ c κs. search needs) returns-2)

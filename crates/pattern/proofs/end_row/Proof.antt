@@ -5,14 +5,8 @@ use borrow.Author.Needs.{needs}
 use Rattle.pattern.proofs.end_row.Statement.{statement}
 use Rattle.pattern.proofs.end_row.Tie as tie
 
-blank-row-requires : tie.Need-blank-row-requires
-blank-row-requires c κs = search needs
-
-array-write-row : tie.Need-array-write-row
-array-write-row c = search needs
-
 returns : tie.Need-returns
 returns c = λ name e. rw (← e) (row-end name (c .blank-row .result) (c .blank-row .ensures) (omega arith))
 
 pub end-row-spec : {M : Type 1} → statement M
-end-row-spec = tie.close (tie.spec blank-row-requires array-write-row returns)
+end-row-spec = tie.close (tie.spec (λ c κs. search needs) (λ c. search needs) returns)

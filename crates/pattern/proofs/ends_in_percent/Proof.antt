@@ -9,14 +9,8 @@ use Rattle.pattern.proofs.ends_in_percent.Tie as tie
 returns : tie.Need-returns
 returns c = sym (percent-none _ (c .if1 .taken))
 
-sub-result : tie.Need-sub-result
-sub-result c = search needs
-
-shared-slice-read-result : tie.Need-shared-slice-read-result
-shared-slice-read-result c = search needs
-
 returns-2 : tie.Need-returns-2
 returns-2 c = percent-last _ (omega (arith, c .before .if1 .left))
 
 pub ends-in-percent-spec : {M : Type 1} → statement M
-ends-in-percent-spec = tie.close (tie.spec returns sub-result shared-slice-read-result returns-2)
+ends-in-percent-spec = tie.close (tie.spec returns (λ c. search needs) (λ c. search needs) returns-2)

@@ -25,27 +25,20 @@ other b = not (eqb b 47)
 loop-holds : tie.Need-loop-holds Inv-loop μ-loop
 loop-holds c = refl
 
-shared-slice-read-if1 : tie.Need-shared-slice-read-if1 Inv-loop μ-loop
-shared-slice-read-if1 c = search needs
-
 returns : tie.Need-returns Inv-loop μ-loop
 unfolding noSlash slash
 returns c =
-    let start = c .before .before .before .before in
+    let stage = c .before .before .before .before in
+    let start = stage in
     let turn = c .before .before .before .loop in
     let name = start .args .name .now in
     sym (all-stop other name (turn .i) (c .before .before .loop-test .taken) (ap not (eq-eqb (getD name (turn .i) 0) 47 (c .if1 .taken)))) ∙ turn .inv
 
-add-i : tie.Need-add-i Inv-loop μ-loop
-add-i c = search needs
-
-loop-less : tie.Need-loop-less Inv-loop μ-loop
-loop-less c = search needs
-
 loop-again : tie.Need-loop-again Inv-loop μ-loop
 unfolding noSlash slash
 loop-again c =
-    let start = c .before .before .before .before in
+    let stage = c .before .before .before .before in
+    let start = stage in
     let turn = c .before .before .before .loop in
     let name = start .args .name .now in
     sym (all-step other name (turn .i) (c .before .before .loop-test .taken) (ap not (ne-eqb (getD name (turn .i) 0) 47 (c .if1 .left)))) ∙ turn .inv
@@ -61,9 +54,9 @@ is-one-level-spec =
     Inv-loop
     μ-loop
     loop-holds
-    shared-slice-read-if1
+    (λ c. search needs)
     returns
-    add-i
-    loop-less
+    (λ c. search needs)
+    (λ c. search needs)
     loop-again
     returns-2)

@@ -9,11 +9,8 @@ use Rattle.pattern.proofs.letter.Tie as tie
 returns : tie.Need-returns
 returns c = sym (letter-plain _ _ (not-true _ (c .if1 .taken)))
 
-raised-byte-requires : tie.Need-raised-byte-requires
-raised-byte-requires c κs = search needs
-
 returns-2 : tie.Need-returns-2
 returns-2 c = c .raised-byte .ensures ∙ sym (letter-raised _ _ (not-false _ (c .before .if1 .left)))
 
 pub letter-spec : {M : Type 1} → statement M
-letter-spec = tie.close (tie.spec returns raised-byte-requires returns-2)
+letter-spec = tie.close (tie.spec returns (λ c κs. search needs) returns-2)

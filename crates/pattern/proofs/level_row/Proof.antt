@@ -21,30 +21,10 @@ abbrev μ-loop : tie.MeasureT-loop
 loop-holds : tie.Need-loop-holds Inv-loop μ-loop
 loop-holds c = (omega arith, λ f m. level-last m)
 
-sub-j : tie.Need-sub-j Inv-loop μ-loop
-sub-j c = search needs
-
-element-copy-out-row : tie.Need-element-copy-out-row Inv-loop μ-loop
-element-copy-out-row c = search needs
-
-shared-slice-read-row : tie.Need-shared-slice-read-row Inv-loop μ-loop
-shared-slice-read-row c = search needs
-
-add-row : tie.Need-add-row Inv-loop μ-loop
-add-row c = search needs
-
-element-copy-out-row-2 : tie.Need-element-copy-out-row-2 Inv-loop μ-loop
-element-copy-out-row-2 c = search needs
-
-element-write-row : tie.Need-element-write-row Inv-loop μ-loop
-element-write-row c = search needs
-
-loop-less : tie.Need-loop-less Inv-loop μ-loop
-loop-less c = search needs
-
 loop-again : tie.Need-loop-again Inv-loop μ-loop
 loop-again c =
-    let turn = c .before .before .before .before .loop in (
+    let turn-2 = c .before .before .before .before in
+    let turn = turn-2 .loop in (
       omega arith,
       λ f m.
           let w : turn .j ≡ turn .j - 1 + 1 = omega arith in
@@ -63,12 +43,12 @@ level-row-spec =
     Inv-loop
     μ-loop
     loop-holds
-    sub-j
-    element-copy-out-row
-    shared-slice-read-row
-    add-row
-    element-copy-out-row-2
-    element-write-row
-    loop-less
+    (λ c. search needs)
+    (λ c. search needs)
+    (λ c. search needs)
+    (λ c. search needs)
+    (λ c. search needs)
+    (λ c. search needs)
+    (λ c. search needs)
     loop-again
     returns)

@@ -8,16 +8,11 @@ use Rattle.pattern.proofs.matches.Tie as tie
 returns : tie.Need-returns
 returns c = long-name (c .before .before .before .args .name .now) _ (c .if1 .taken)
 
-is-inbox-requires : tie.Need-is-inbox-requires
-is-inbox-requires c κs = search needs
-
-wild-match-requires : tie.Need-wild-match-requires
-wild-match-requires c κs = search needs
-
 returns-2 : tie.Need-returns-2
 returns-2 c =
-    let start = c .before .before .before .before .before in
+    let stage = c .before .before .before .before .before in
+    let start = stage in
     short-name (start .args .name .now) _ _ (c .before .before .if1 .left) (c .wild-match .ensures ∙ matches-folded _ _ _ (c .before .is-inbox .ensures))
 
 pub matches-spec : {M : Type 1} → statement M
-matches-spec = tie.close (tie.spec returns is-inbox-requires wild-match-requires returns-2)
+matches-spec = tie.close (tie.spec returns (λ c κs. search needs) (λ c κs. search needs) returns-2)

@@ -21,57 +21,43 @@ abbrev μ-loop : tie.MeasureT-loop
 returns : tie.Need-returns Inv-loop μ-loop
 returns c = long-name (c .before .before .before .args .name .now) _ (c .if1 .taken)
 
-is-inbox-requires : tie.Need-is-inbox-requires Inv-loop μ-loop
-is-inbox-requires c κs = search needs
-
 loop-holds : tie.Need-loop-holds Inv-loop μ-loop
 loop-holds c = (omega arith, refl)
 
-add-start : tie.Need-add-start Inv-loop μ-loop
-add-start c = search needs
-
-item-end-requires : tie.Need-item-end-requires Inv-loop μ-loop
-item-end-requires c κs = search needs
-
-sub-chosen-match : tie.Need-sub-chosen-match Inv-loop μ-loop
-sub-chosen-match c = search needs
-
-part-chosen-match-start : tie.Need-part-chosen-match-start Inv-loop μ-loop
-part-chosen-match-start c = search needs
-
-part-chosen-match-end : tie.Need-part-chosen-match-end Inv-loop μ-loop
-part-chosen-match-end c = search needs
-
-chosen-match-requires : tie.Need-chosen-match-requires Inv-loop μ-loop
-chosen-match-requires c κs = search needs
-
 returns-2 : tie.Need-returns-2 Inv-loop μ-loop
 returns-2 c =
-    let start = c .before .before .before .before .before .before .before .before .before .before in
-    let short = c .before .before .before .before .before .before .before .if1 .left in
-    let folds = c .before .before .before .before .before .before .is-inbox .ensures in
-    let turn = c .before .before .before .before .before .loop in
-    let more = c .before .before .before .before .loop-test .taken in
+    let at-loop-test = c .before .before .before .before in
+    let turn-2 = at-loop-test .before in
+    let after-is-inbox = turn-2 .before in
+    let at-if1 = after-is-inbox .before in
+    let stage = at-if1 .before .before .before in
+    let start = stage in
+    let short = at-if1 .if1 .left in
+    let folds = after-is-inbox .is-inbox .ensures in
+    let turn = turn-2 .loop in
+    let more = at-loop-test .loop-test .taken in
     let item = c .before .before .before .item-end .ensures in
     let found = match-here (start .args .patterns .now) _ _ more item (start .args .levels) _ _ folds _ (c .before .chosen-match .ensures) (c .if2 .taken) in
     short-name (start .args .name .now) _ _ short (sym found ∙ turn .inv .1)
 
-loop-less : tie.Need-loop-less Inv-loop μ-loop
-loop-less c = search needs
-
 loop-again : tie.Need-loop-again Inv-loop μ-loop
 loop-again c =
-    let start = c .before .before .before .before .before .before .before .before .before .before in
-    let folds = c .before .before .before .before .before .before .is-inbox .ensures in
-    let turn = c .before .before .before .before .before .loop in
-    let more = c .before .before .before .before .loop-test .taken in
+    let at-loop-test = c .before .before .before .before in
+    let turn-2 = at-loop-test .before in
+    let after-is-inbox = turn-2 .before in
+    let stage = after-is-inbox .before .before .before .before in
+    let start = stage in
+    let folds = after-is-inbox .is-inbox .ensures in
+    let turn = turn-2 .loop in
+    let more = at-loop-test .loop-test .taken in
     let item = c .before .before .before .item-end .ensures in
     let onward = match-later (start .args .patterns .now) _ _ more item (start .args .levels) _ _ folds _ (c .before .chosen-match .ensures) (c .if2 .left) in
     (omega arith, sym onward ∙ turn .inv .1)
 
 returns-3 : tie.Need-returns-3 Inv-loop μ-loop
 returns-3 c =
-    let start = c .before .before .before .before .before .before in
+    let stage = c .before .before .before .before .before .before in
+    let start = stage in
     short-name (start .args .name .now) _ _ (c .before .before .before .if1 .left) (sym (match-end _ _ (c .loop-test .left) (start .args .levels) _) ∙ c .before .loop .inv .1)
 
 pub matches-any-spec : {M : Type 1} → statement M
@@ -81,15 +67,15 @@ matches-any-spec =
     Inv-loop
     μ-loop
     returns
-    is-inbox-requires
+    (λ c κs. search needs)
     loop-holds
-    add-start
-    item-end-requires
-    sub-chosen-match
-    part-chosen-match-start
-    part-chosen-match-end
-    chosen-match-requires
+    (λ c. search needs)
+    (λ c κs. search needs)
+    (λ c. search needs)
+    (λ c. search needs)
+    (λ c. search needs)
+    (λ c κs. search needs)
     returns-2
-    loop-less
+    (λ c. search needs)
     loop-again
     returns-3)

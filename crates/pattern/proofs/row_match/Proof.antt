@@ -18,52 +18,32 @@ Inv-loop pattern name fold row₀ i₀ row i = (i ≤ length pattern) × RowOf (
 abbrev μ-loop : tie.MeasureT-loop
 μ-loop pattern name fold row₀ i₀ row i = i
 
-end-row-requires : tie.Need-end-row-requires Inv-loop μ-loop
-end-row-requires c κs = search needs
-
 loop-holds : tie.Need-loop-holds Inv-loop μ-loop
 loop-holds c =
     let args = c .before .before .before .args in
     (omega arith, row-begin _ (args .pattern .now) (args .name .now) _ (c .end-row .ensures (args .name .now) refl))
-
-sub-i : tie.Need-sub-i Inv-loop μ-loop
-sub-i c = search needs
-
-shared-slice-read-letter : tie.Need-shared-slice-read-letter Inv-loop μ-loop
-shared-slice-read-letter c = search needs
-
-letter-requires : tie.Need-letter-requires Inv-loop μ-loop
-letter-requires c κs = search needs
-
-step-row-requires : tie.Need-step-row-requires Inv-loop μ-loop
-step-row-requires c κs = search needs
-
-is-blank-requires : tie.Need-is-blank-requires Inv-loop μ-loop
-is-blank-requires c κs = search needs
 
 -- the row of one byte more of the pattern
 stepped : (c : tie.After-step-row Inv-loop μ-loop) →
     let args = c .before .before .before .before .before .before .before .before .before .args in
     RowOf (wildMatch (folded (args .fold) (drop (c .before .before .before .before .before .loop .i - 1) (args .pattern .now)))) (args .name .now) (c .step-row .last .0)
 stepped c =
-    let args = c .before .before .before .before .before .before .before .before .before .args in
-    let turn = c .before .before .before .before .before .loop in
+    let turn-2 = c .before .before .before .before .before in
+    let start = turn-2 .before .before .before .before in
+    let args = start .args in
+    let turn = turn-2 .loop in
     row-before (args .fold) (args .pattern .now) (args .name .now) (turn .i) _ _ (omega arith) (turn .inv .0) (c .before .letter .ensures) (c .step-row .ensures _ (turn .inv .1))
 
 returns : tie.Need-returns Inv-loop μ-loop
 returns c =
-    let args = c .before .before .before .before .before .before .before .before .before .before .before .before .args in
-    let turn = c .before .before .before .before .before .before .before .before .loop in
+    let turn-2 = c .before .before .before .before .before .before .before .before in
+    let start = turn-2 .before .before .before .before in
+    let args = start .args in
+    let turn = turn-2 .loop in
     blank-whole (args .fold) (args .pattern .now) (args .name .now) (turn .i - 1) _ (omega arith) (stepped (c .before .before .before)) (c .before .is-blank .ensures (c .if1 .taken))
-
-loop-less : tie.Need-loop-less Inv-loop μ-loop
-loop-less c = search needs
 
 loop-again : tie.Need-loop-again Inv-loop μ-loop
 loop-again c = (omega arith, stepped (c .before .before .before))
-
-array-read-result : tie.Need-array-read-result Inv-loop μ-loop
-array-read-result c = search needs
 
 returns-2 : tie.Need-returns-2 Inv-loop μ-loop
 returns-2 c = let w : c .before .loop .i ≡ 0 = omega arith in row-whole _ _ _ _ (rw w at (c .before .loop .inv .1))
@@ -74,15 +54,15 @@ row-match-spec =
     (tie.spec
     Inv-loop
     μ-loop
-    end-row-requires
+    (λ c κs. search needs)
     loop-holds
-    sub-i
-    shared-slice-read-letter
-    letter-requires
-    step-row-requires
-    is-blank-requires
+    (λ c. search needs)
+    (λ c. search needs)
+    (λ c κs. search needs)
+    (λ c κs. search needs)
+    (λ c κs. search needs)
     returns
-    loop-less
+    (λ c. search needs)
     loop-again
-    array-read-result
+    (λ c. search needs)
     returns-2)

@@ -20,40 +20,25 @@ abbrev μ-loop : tie.MeasureT-loop
 loop-holds : tie.Need-loop-holds Inv-loop μ-loop
 loop-holds c = (omega arith, refl)
 
-add-start : tie.Need-add-start Inv-loop μ-loop
-add-start c = search needs
-
-item-end-requires : tie.Need-item-end-requires Inv-loop μ-loop
-item-end-requires c κs = search needs
-
-sub-ends-in-percent : tie.Need-sub-ends-in-percent Inv-loop μ-loop
-sub-ends-in-percent c = search needs
-
-part-ends-in-percent-start : tie.Need-part-ends-in-percent-start Inv-loop μ-loop
-part-ends-in-percent-start c = search needs
-
-part-ends-in-percent-end : tie.Need-part-ends-in-percent-end Inv-loop μ-loop
-part-ends-in-percent-end c = search needs
-
-ends-in-percent-requires : tie.Need-ends-in-percent-requires Inv-loop μ-loop
-ends-in-percent-requires c κs = search needs
-
 returns : tie.Need-returns Inv-loop μ-loop
 returns c =
-    let start = c .before .before .before .before .before .before .before in
-    let turn = c .before .before .before .before .before .loop in
-    let more = c .before .before .before .before .loop-test .taken in
+    let at-loop-test = c .before .before .before .before in
+    let turn-2 = at-loop-test .before in
+    let stage = turn-2 .before .before in
+    let start = stage in
+    let turn = turn-2 .loop in
+    let more = at-loop-test .loop-test .taken in
     let item = c .before .before .before .item-end .ensures in
     sym (percent-here (start .args .patterns .now) _ _ more item _ (c .before .ends-in-percent .ensures) (c .if1 .taken)) ∙ turn .inv .1
 
-loop-less : tie.Need-loop-less Inv-loop μ-loop
-loop-less c = search needs
-
 loop-again : tie.Need-loop-again Inv-loop μ-loop
 loop-again c =
-    let start = c .before .before .before .before .before .before .before in
-    let turn = c .before .before .before .before .before .loop in
-    let more = c .before .before .before .before .loop-test .taken in
+    let at-loop-test = c .before .before .before .before in
+    let turn-2 = at-loop-test .before in
+    let stage = turn-2 .before .before in
+    let start = stage in
+    let turn = turn-2 .loop in
+    let more = at-loop-test .loop-test .taken in
     let item = c .before .before .before .item-end .ensures in
     (omega arith, sym (percent-later (start .args .patterns .now) _ _ more item _ (c .before .ends-in-percent .ensures) (c .if1 .left)) ∙ turn .inv .1)
 
@@ -67,13 +52,13 @@ some-level-spec =
     Inv-loop
     μ-loop
     loop-holds
-    add-start
-    item-end-requires
-    sub-ends-in-percent
-    part-ends-in-percent-start
-    part-ends-in-percent-end
-    ends-in-percent-requires
+    (λ c. search needs)
+    (λ c κs. search needs)
+    (λ c. search needs)
+    (λ c. search needs)
+    (λ c. search needs)
+    (λ c κs. search needs)
     returns
-    loop-less
+    (λ c. search needs)
     loop-again
     returns-2)

@@ -6,20 +6,11 @@ use borrow.Author.Needs.{needs}
 use Rattle.pattern.proofs.step_row.Statement.{statement}
 use Rattle.pattern.proofs.step_row.Tie as tie
 
-star-row-requires : tie.Need-star-row-requires
-star-row-requires c κs = search needs
-
 returns : tie.Need-returns
 returns c = λ f m. row-star _ f (eq-eqb _ _ (c .before .before .if1 .taken)) (c .star-row .ensures _ f refl m)
 
-level-row-requires : tie.Need-level-row-requires
-level-row-requires c κs = search needs
-
 returns-2 : tie.Need-returns-2
 returns-2 c = λ f m. row-level _ f (ne-eqb _ _ (c .before .before .before .if1 .left)) (eq-eqb _ _ (c .before .before .if2 .taken)) (c .level-row .ensures f m)
-
-byte-row-requires : tie.Need-byte-row-requires
-byte-row-requires c κs = search needs
 
 returns-3 : tie.Need-returns-3
 returns-3 c = λ f m. row-byte _ f (ne-eqb _ _ (c .before .before .before .if1 .left)) (ne-eqb _ _ (c .before .before .if2 .left)) (c .byte-row .ensures f m)
@@ -27,4 +18,4 @@ returns-3 c = λ f m. row-byte _ f (ne-eqb _ _ (c .before .before .before .if1 .
 pub step-row-spec : {M : Type 1} → statement M
 step-row-spec =
     tie.close
-    (tie.spec star-row-requires returns level-row-requires returns-2 byte-row-requires returns-3)
+    (tie.spec (λ c κs. search needs) returns (λ c κs. search needs) returns-2 (λ c κs. search needs) returns-3)

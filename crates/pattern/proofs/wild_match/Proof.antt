@@ -19,79 +19,59 @@ abbrev μ-loop : tie.MeasureT-loop
 loop-holds : tie.Need-loop-holds Inv-loop μ-loop
 loop-holds c = (omega arith, refl)
 
-shared-slice-read-letter : tie.Need-shared-slice-read-letter Inv-loop μ-loop
-shared-slice-read-letter c = search needs
-
-letter-requires : tie.Need-letter-requires Inv-loop μ-loop
-letter-requires c κs = search needs
-
-is-wildcard-requires : tie.Need-is-wildcard-requires Inv-loop μ-loop
-is-wildcard-requires c κs = search needs
-
-sub-wild-rest : tie.Need-sub-wild-rest Inv-loop μ-loop
-sub-wild-rest c = search needs
-
-part-wild-rest-start : tie.Need-part-wild-rest-start Inv-loop μ-loop
-part-wild-rest-start c = search needs
-
-part-wild-rest-end : tie.Need-part-wild-rest-end Inv-loop μ-loop
-part-wild-rest-end c = search needs
-
-sub-wild-rest-2 : tie.Need-sub-wild-rest-2 Inv-loop μ-loop
-sub-wild-rest-2 c = search needs
-
-part-wild-rest-start-2 : tie.Need-part-wild-rest-start-2 Inv-loop μ-loop
-part-wild-rest-start-2 c = search needs
-
-part-wild-rest-end-2 : tie.Need-part-wild-rest-end-2 Inv-loop μ-loop
-part-wild-rest-end-2 c = search needs
-
 wild-rest-requires : tie.Need-wild-rest-requires Inv-loop μ-loop
 wild-rest-requires c κs =
-    let start = c .before .before .before .before .before .before .before .before .before .before in
-    let turn = c .before .before .before .before .before .before .before .loop in
-    let loop-test = c .before .before .before .before .before .before .loop-test in
-    let letter = c .before .before .before .before .letter in
+    let after-letter = c .before .before .before .before in
+    let at-loop-test = after-letter .before .before in
+    let turn-2 = at-loop-test .before in
+    let stage = turn-2 .before .before .before in
+    let start = stage in
+    let turn = turn-2 .loop in
+    let loop-test = at-loop-test .loop-test in
+    let letter = after-letter .letter in
     let w = wildcard-is (letter .ensures) (c .before .before .before .is-wildcard .ensures) (c .before .before .if1 .taken) in
     (rw rest-is (simp length-drop (omega arith)), (rw rest-is (simp length-drop (omega arith)), rw (rest-first (start .args .pattern .now) (turn .i) (loop-test .taken)) w))
 
 returns : tie.Need-returns Inv-loop μ-loop
 returns c =
-    let start = c .before .before .before .before .before .before .before .before .before .before .before in
-    let turn = c .before .before .before .before .before .before .before .before .loop in
+    let turn-2 = c .before .before .before .before .before .before .before .before in
+    let stage = turn-2 .before .before .before in
+    let start = stage in
+    let turn = turn-2 .loop in
     c .wild-rest .ensures ∙ rw (rest-is (start .args .pattern .now), rest-is (start .args .name .now)) (turn .inv .1)
 
 returns-2 : tie.Need-returns-2 Inv-loop μ-loop
 returns-2 c =
-    let turn = c .before .before .before .before .before .before .loop in
-    let loop-test = c .before .before .before .before .before .loop-test in
+    let at-loop-test = c .before .before .before .before .before in
+    let turn-2 = at-loop-test .before in
+    let turn = turn-2 .loop in
+    let loop-test = at-loop-test .loop-test in
     let plain = wildcard-is (c .before .before .before .letter .ensures) (c .before .before .is-wildcard .ensures) (c .before .if1 .left) in
     sym (wild-short _ _ _ _ (loop-test .taken) (c .if2 .taken) plain) ∙ turn .inv .1
 
-shared-slice-read-if3 : tie.Need-shared-slice-read-if3 Inv-loop μ-loop
-shared-slice-read-if3 c = search needs
-
 returns-3 : tie.Need-returns-3 Inv-loop μ-loop
 returns-3 c =
-    let turn = c .before .before .before .before .before .before .before .before .loop in
-    let loop-test = c .before .before .before .before .before .before .before .loop-test in
-    let letter = c .before .before .before .before .before .letter in
-    let is-wildcard = c .before .before .before .before .is-wildcard in
+    let after-is-wildcard = c .before .before .before .before in
+    let after-letter = after-is-wildcard .before in
+    let at-loop-test = after-letter .before .before in
+    let turn-2 = at-loop-test .before in
+    let turn = turn-2 .loop in
+    let loop-test = at-loop-test .loop-test in
+    let letter = after-letter .letter in
+    let is-wildcard = after-is-wildcard .is-wildcard in
     let plain = wildcard-is (letter .ensures) (is-wildcard .ensures) (c .before .before .before .if1 .left) in
     sym (wild-differs _ _ _ _ (loop-test .taken) (c .before .before .if2 .left) plain (λ e. c .if3 .taken (letter .ensures ∙ e))) ∙ turn .inv .1
 
-add-i : tie.Need-add-i Inv-loop μ-loop
-add-i c = search needs
-
-loop-less : tie.Need-loop-less Inv-loop μ-loop
-loop-less c = search needs
-
 loop-again : tie.Need-loop-again Inv-loop μ-loop
 loop-again c =
-    let turn = c .before .before .before .before .before .before .before .before .loop in
-    let loop-test = c .before .before .before .before .before .before .before .loop-test in
-    let letter = c .before .before .before .before .before .letter in
-    let is-wildcard = c .before .before .before .before .is-wildcard in
+    let after-is-wildcard = c .before .before .before .before in
+    let after-letter = after-is-wildcard .before in
+    let at-loop-test = after-letter .before .before in
+    let turn-2 = at-loop-test .before in
+    let turn = turn-2 .loop in
+    let loop-test = at-loop-test .loop-test in
+    let letter = after-letter .letter in
+    let is-wildcard = after-is-wildcard .is-wildcard in
     let plain = wildcard-is (letter .ensures) (is-wildcard .ensures) (c .before .before .before .if1 .left) in
     (omega arith, sym (wild-step _ _ _ _ (loop-test .taken) (c .before .before .if2 .left) plain (sym (letter .ensures) ∙ c .if3 .left)) ∙ turn .inv .1)
 
@@ -105,21 +85,21 @@ wild-match-spec =
     Inv-loop
     μ-loop
     loop-holds
-    shared-slice-read-letter
-    letter-requires
-    is-wildcard-requires
-    sub-wild-rest
-    part-wild-rest-start
-    part-wild-rest-end
-    sub-wild-rest-2
-    part-wild-rest-start-2
-    part-wild-rest-end-2
+    (λ c. search needs)
+    (λ c κs. search needs)
+    (λ c κs. search needs)
+    (λ c. search needs)
+    (λ c. search needs)
+    (λ c. search needs)
+    (λ c. search needs)
+    (λ c. search needs)
+    (λ c. search needs)
     wild-rest-requires
     returns
     returns-2
-    shared-slice-read-if3
+    (λ c. search needs)
     returns-3
-    add-i
-    loop-less
+    (λ c. search needs)
+    (λ c. search needs)
     loop-again
     returns-4)

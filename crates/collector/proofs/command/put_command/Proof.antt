@@ -8,57 +8,6 @@ use Rattle.collector.proofs.OptionLaws.{byte-remote, byte-special, byte
 use Rattle.collector.proofs.command.put_command.Statement.{statement}
 use Rattle.collector.proofs.command.put_command.Tie as tie
 
-slice-aggregate-put-all : tie.Need-slice-aggregate-put-all
-slice-aggregate-put-all c = search needs
-
-put-all-requires : tie.Need-put-all-requires
-put-all-requires c κs = search needs
-
-subscribed-requires : tie.Need-subscribed-requires
-subscribed-requires c κs = search needs
-
-slice-aggregate-put-when : tie.Need-slice-aggregate-put-when
-slice-aggregate-put-when c = search needs
-
-put-when-requires : tie.Need-put-when-requires
-put-when-requires c κs = search needs
-
-slice-aggregate-put-all-2 : tie.Need-slice-aggregate-put-all-2
-slice-aggregate-put-all-2 c = search needs
-
-put-all-requires-2 : tie.Need-put-all-requires-2
-put-all-requires-2 c κs = search needs
-
-special-use-requires : tie.Need-special-use-requires
-special-use-requires c κs = search needs
-
-slice-aggregate-put-when-2 : tie.Need-slice-aggregate-put-when-2
-slice-aggregate-put-when-2 c = search needs
-
-put-when-requires-2 : tie.Need-put-when-requires-2
-put-when-requires-2 c κs = search needs
-
-slice-aggregate-put-when-3 : tie.Need-slice-aggregate-put-when-3
-slice-aggregate-put-when-3 c = search needs
-
-put-when-requires-3 : tie.Need-put-when-requires-3
-put-when-requires-3 c κs = search needs
-
-slice-aggregate-put-all-3 : tie.Need-slice-aggregate-put-all-3
-slice-aggregate-put-all-3 c = search needs
-
-put-all-requires-3 : tie.Need-put-all-requires-3
-put-all-requires-3 c κs = search needs
-
-put-quoted-requires : tie.Need-put-quoted-requires
-put-quoted-requires c κs = search needs
-
-slice-aggregate-put-all-4 : tie.Need-slice-aggregate-put-all-4
-slice-aggregate-put-all-4 c = search needs
-
-put-all-requires-4 : tie.Need-put-all-requires-4
-put-all-requires-4 c κs = search needs
-
 returns : tie.Need-returns
 unfolding openBytes commandLine
 returns c =
@@ -87,22 +36,22 @@ pub put-command-spec : {M : Type 1} → statement M
 put-command-spec =
     tie.close
     (tie.spec
-    slice-aggregate-put-all
-    put-all-requires
-    subscribed-requires
-    slice-aggregate-put-when
-    put-when-requires
-    slice-aggregate-put-all-2
-    put-all-requires-2
-    special-use-requires
-    slice-aggregate-put-when-2
-    put-when-requires-2
-    slice-aggregate-put-when-3
-    put-when-requires-3
-    slice-aggregate-put-all-3
-    put-all-requires-3
-    put-quoted-requires
-    slice-aggregate-put-all-4
-    put-all-requires-4
+    (λ c. search needs)
+    (λ c κs. search needs)
+    (λ c κs. search needs)
+    (λ c. search needs)
+    (λ c κs. search needs)
+    (λ c. search needs)
+    (λ c κs. search needs)
+    (λ c κs. search needs)
+    (λ c. search needs)
+    (λ c κs. search needs)
+    (λ c. search needs)
+    (λ c κs. search needs)
+    (λ c. search needs)
+    (λ c κs. search needs)
+    (λ c κs. search needs)
+    (λ c. search needs)
+    (λ c κs. search needs)
     same-length
     returns)

@@ -6,15 +6,11 @@ use Rattle.octets.proofs.Puts.{put-none}
 use Rattle.collector.proofs.command.put_when.Statement.{statement}
 use Rattle.collector.proofs.command.put_when.Tie as tie
 
-put-all-requires : tie.Need-put-all-requires
-put-all-requires c κs = search needs
-
-same-length : tie.Need-same-length
-same-length c = search needs
-
 returns : tie.Need-returns
 unfolding when
-returns c = rw (c .before .before .before .before .if1 .taken) (c .before .before .put-all .ensures)
+returns c =
+    let at-if1 = c .before .before .before .before in
+    rw (at-if1 .if1 .taken) (c .before .before .put-all .ensures)
 
 returns-2 : tie.Need-returns-2
 unfolding when
@@ -23,4 +19,4 @@ returns-2 c =
     rw (c .if1 .left) (put-none (start .args .buf .now) (start .args .at) (omega arith) (omega arith))
 
 pub put-when-spec : {M : Type 1} → statement M
-put-when-spec = tie.close (tie.spec put-all-requires same-length returns returns-2)
+put-when-spec = tie.close (tie.spec (λ c κs. search needs) (λ c. search needs) returns returns-2)

@@ -9,29 +9,17 @@ use Rattle.collector.proofs.FindLaws.{has-attribute}
 use Rattle.collector.proofs.lines.is_find.Statement.{statement}
 use Rattle.collector.proofs.lines.is_find.Tie as tie
 
-subscribed-requires : tie.Need-subscribed-requires
-subscribed-requires c κs = search needs
-
-has-requires : tie.Need-has-requires
-has-requires c κs = search needs
-
-has-requires-2 : tie.Need-has-requires-2
-has-requires-2 c κs = search needs
-
-special-use-requires : tie.Need-special-use-requires
-special-use-requires c κs = search needs
-
-has-use-requires : tie.Need-has-use-requires
-has-use-requires c κs = search needs
-
 returns : tie.Need-returns
 unfolding isFind
 returns c =
-    let start = c .before .before .before .before .before .before in
+    let after-has = c .before .before .before .before in
+    let after-subscribed = after-has .before in
+    let stage = after-subscribed .before in
+    let start = stage in
     let options = start .args .options in
     let attributes = start .args .attributes .bits in
-    let dropped = ap not (c .before .before .before .before .before .subscribed .ensures) ∙ sym (byte-drops options) in
-    let subscribed = c .before .before .before .before .has .ensures ∙ has-attribute 5 attributes (omega arith) in
+    let dropped = ap not (after-subscribed .subscribed .ensures) ∙ sym (byte-drops options) in
+    let subscribed = after-has .has .ensures ∙ has-attribute 5 attributes (omega arith) in
     let remote = c .before .before .before .has2 .ensures ∙ has-attribute 4 attributes (omega arith) in
     let special = c .before .special-use .ensures ∙ sym (byte-special options) in
     λ i. (dropped i || subscribed i) && (not (remote i) || sym (byte-remote options) i) && (not (special i) || c .has-use .ensures i)
@@ -39,4 +27,4 @@ returns c =
 pub is-find-spec : {M : Type 1} → statement M
 is-find-spec =
     tie.close
-    (tie.spec subscribed-requires has-requires has-requires-2 special-use-requires has-use-requires returns)
+    (tie.spec (λ c κs. search needs) (λ c κs. search needs) (λ c κs. search needs) (λ c κs. search needs) (λ c κs. search needs) returns)

@@ -18,12 +18,11 @@ abbrev μ-loop : tie.MeasureT-loop
 loop-holds : tie.Need-loop-holds Inv-loop μ-loop
 loop-holds c = taking-none (c .before .before .before .pre)
 
-next-line-requires : tie.Need-next-line-requires Inv-loop μ-loop
-next-line-requires c κs = search needs
-
 -- the line lies in the answer
 lies : (c : tie.After-next-line Inv-loop μ-loop) → (c .before .before .loop .at < c .next-line .result) × (c .next-line .result ≤ length (c .before .before .before .before .before .before .args .answer .now))
-lies c = line-lies (c .before .before .before .before .before .before .args .answer .now) (c .before .before .loop .at) (c .next-line .result) (c .before .loop-test .taken) (c .next-line .ensures)
+lies c =
+    let start = c .before .before .before .before .before .before in
+    line-lies (start .args .answer .now) (c .before .before .loop .at) (c .next-line .result) (c .before .loop-test .taken) (c .next-line .ensures)
 
 sub-take-line : tie.Need-sub-take-line Inv-loop μ-loop
 sub-take-line c = omega (arith, lies c)
@@ -35,34 +34,38 @@ part-take-line-end : tie.Need-part-take-line-end Inv-loop μ-loop
 part-take-line-end c = lies c .1
 
 take-line-requires : tie.Need-take-line-requires Inv-loop μ-loop
-take-line-requires c κs = c .before .before .before .before .before .loop .inv .inside
-
-enum-known-next : tie.Need-enum-known-next Inv-loop μ-loop
-enum-known-next c = search needs
+take-line-requires c κs =
+    let turn = c .before .before .before .before .before in
+    turn .loop .inv .inside
 
 loop-less : tie.Need-loop-less Inv-loop μ-loop
-loop-less c = omega (arith, lies (c .before .before .before .before .before .before .before .before .before .before .before))
+loop-less c =
+    let stage = c .before .before .before .before .before .before .before .before .before .before .before in
+    omega (arith, lies (stage))
 
 loop-again : tie.Need-loop-again Inv-loop μ-loop
 loop-again c =
-    let taken = c .before .before .before .before .before .before .before in
+    let stage = c .before .before .before .before .before .before .before in
+    let taken = stage in
     let found = taken .before .before .before .before in
     let turn = found .before .before in
     let kept = taken .take-line .kept .1 .1 in
     taking-line (turn .loop .inv) (found .before .loop-test .taken) (found .next-line .ensures) (rw (c .before .next .given .1) at (taken .take-line .ensures)) (kept .0) (kept .1 .0)
 
-enum-known-number : tie.Need-enum-known-number Inv-loop μ-loop
-enum-known-number c = search needs
-
 same-length : tie.Need-same-length Inv-loop μ-loop
-same-length c = let taken = c .before .before .before .before .before .before .before in taken .take-line .kept .1 .1 .0 ∙ taken .before .before .before .before .before .before .loop .inv .found-long
+same-length c =
+    let stage = c .before .before .before .before .before .before .before in
+    let taken = stage in taken .take-line .kept .1 .1 .0 ∙ taken .before .before .before .before .before .before .loop .inv .found-long
 
 same-length-2 : tie.Need-same-length-2 Inv-loop μ-loop
-same-length-2 c = let taken = c .before .before .before .before .before .before .before in taken .take-line .kept .1 .1 .1 .0 ∙ taken .before .before .before .before .before .before .loop .inv .pending-long
+same-length-2 c =
+    let stage = c .before .before .before .before .before .before .before in
+    let taken = stage in taken .take-line .kept .1 .1 .1 .0 ∙ taken .before .before .before .before .before .before .loop .inv .pending-long
 
 returns : tie.Need-returns Inv-loop μ-loop
 returns c =
-    let taken = c .before .before .before .before .before .before .before in
+    let stage = c .before .before .before .before .before .before .before in
+    let taken = stage in
     let found = taken .before .before .before .before in
     let turn = found .before .before in
     taking-refused (turn .loop .inv) (found .before .loop-test .taken) (found .next-line .ensures) (rw (c .before .number .given .1) at (taken .take-line .ensures))
@@ -83,15 +86,15 @@ take-lines-spec =
     Inv-loop
     μ-loop
     loop-holds
-    next-line-requires
+    (λ c κs. search needs)
     sub-take-line
     part-take-line-start
     part-take-line-end
     take-line-requires
-    enum-known-next
+    (λ c. search needs)
     loop-less
     loop-again
-    enum-known-number
+    (λ c. search needs)
     same-length
     same-length-2
     returns

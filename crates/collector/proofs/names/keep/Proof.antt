@@ -12,26 +12,12 @@ returns : tie.Need-returns
 unfolding withName
 returns c = let start = c .before .before .before in rw (not-true (start .args .wanted) (c .if1 .taken)) (start .pre .0, λ ns p. p)
 
-sub-if2 : tie.Need-sub-if2
-sub-if2 c = search needs
-
 returns-2 : tie.Need-returns-2
 unfolding withName
 returns-2 c =
-    let start = c .before .before .before .before in
+    let stage = c .before .before .before .before in
+    let start = stage in
     rw (not-false (start .args .wanted) (c .before .if1 .left)) (λ ns p. packs-full (start .args .name .now) p (c .if2 .taken))
-
-cast-put : tie.Need-cast-put
-cast-put c = search needs
-
-put-requires : tie.Need-put-requires
-put-requires c κs = search needs
-
-put-all-requires : tie.Need-put-all-requires
-put-all-requires c κs = search needs
-
-same-length : tie.Need-same-length
-same-length c = search needs
 
 returns-3 : tie.Need-returns-3
 unfolding withName
@@ -47,10 +33,10 @@ keep-spec =
     tie.close
     (tie.spec
     returns
-    sub-if2
+    (λ c. search needs)
     returns-2
-    cast-put
-    put-requires
-    put-all-requires
-    same-length
+    (λ c. search needs)
+    (λ c κs. search needs)
+    (λ c κs. search needs)
+    (λ c. search needs)
     returns-3)

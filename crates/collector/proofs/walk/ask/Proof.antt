@@ -11,27 +11,17 @@ use Rattle.collector.proofs.AskLaws.{Fronts, put-fronts, command-fits, 
 use Rattle.collector.proofs.walk.ask.Statement.{statement}
 use Rattle.collector.proofs.walk.ask.Tie as tie
 
-no-command-requires : tie.Need-no-command-requires
-no-command-requires c κs = search needs
-
-slice-aggregate-put-command : tie.Need-slice-aggregate-put-command
-slice-aggregate-put-command c = search needs
-
-put-command-requires : tie.Need-put-command-requires
-put-command-requires c κs = search needs
-
-slice-aggregate-answer : tie.Need-slice-aggregate-answer
-slice-aggregate-answer c = search needs
-
 -- the command stands at the front of the line
 sent : (c : tie.After-namespaces) →
     let put = c .before .before .put-command in
     let args = c .before .before .before .before .before .before .before .before .before .before .args in
     Fronts (put .last .0) (put .result) (commandLine (byteOf (args .options)) (args .reference .now))
 sent c =
+    let after-no-command = c .before .before .before .before in
+    let stage = after-no-command .before .before .before .before .before .before in
     let put = c .before .before .put-command in
-    let made = c .before .before .before .before .no-command in
-    let start = c .before .before .before .before .before .before .before .before .before .before in
+    let made = after-no-command .no-command in
+    let start = stage in
     let byte = byteOf (start .args .options) in
     let reference = start .args .reference .now in
     put-fronts (made .result) (put .last .0) (commandLine byte reference) (put .result) commandRoom (made .ensures) (put .ensures) (command-fits byte reference (start .pre .0))
@@ -42,15 +32,6 @@ array-share-prefix-line c = sent c .inside
 slice-aggregate-answer-2 : tie.Need-slice-aggregate-answer-2
 slice-aggregate-answer-2 c = simp length-take (omega (arith, sent (c .before) .inside))
 
-answer-requires : tie.Need-answer-requires
-answer-requires c κs = search needs
-
-enum-known-len : tie.Need-enum-known-len
-enum-known-len c = search needs
-
-add-count : tie.Need-add-count
-add-count c = search needs
-
 -- the answer stands at the front of scratch
 answered-so : (c : tie.After-known-told) →
     let answered = c .before .before .before .before .before in
@@ -60,7 +41,8 @@ answered-so : (c : tie.After-known-told) →
     let scratch = answered .answer .last .1 .1 .1 .0 in
     (len ≤ length scratch) × (reply (args .table .now) (take (put .result) (put .last .0)) (args .scratch .now) ≡ go (take len scratch))
 answered-so c =
-    let answered = c .before .before .before .before .before in
+    let stage = c .before .before .before .before .before in
+    let answered = stage in
     let put = answered .before .before .before .before .before .put-command in
     let args = answered .before .before .before .before .before .before .before .before .before .before .before .before .before .args in
     let told = c .before .len .given in
@@ -74,25 +56,15 @@ slice-aggregate-take-lines c = simp length-take (omega (arith, answered-so (c .b
 
 take-lines-requires : tie.Need-take-lines-requires
 take-lines-requires c κs =
-    let answered = c .before .before .before .before .before .before .before .before .before in
+    let stage = c .before .before .before .before .before .before .before .before .before in
+    let answered = stage in
     let start = answered .before .before .before .before .before .before .before .before .before .before .before .before .before in
     record { finds = start .pre .1 .0 .finds; asks = start .pre .1 .0 .asks }
 
-enum-known-number : tie.Need-enum-known-number
-enum-known-number c = search needs
-
-same-length : tie.Need-same-length
-same-length c = search needs
-
-same-length-2 : tie.Need-same-length-2
-same-length-2 c = search needs
-
-same-length-3 : tie.Need-same-length-3
-same-length-3 c = search needs
-
 returns : tie.Need-returns
 returns c =
-    let taken = c .before .before .before .before in
+    let stage = c .before .before .before .before in
+    let taken = stage in
     let answered = taken .before .before .before .before .before in
     let written = answered .before .before .before .before .before .before .before .before in
     let start = written .before .before .before .before .before .before .before .before .before .before in
@@ -102,12 +74,10 @@ returns c =
     (asked-done (args .table .now) (args .options) (args .reference .now) (args .scratch .now) (sent written) (answered-so answered .1) (args .found .now) (args .pending .now))
     (taken .take-lines .ensures)
 
-same-length-4 : tie.Need-same-length-4
-same-length-4 c = search needs
-
 returns-2 : tie.Need-returns-2
 returns-2 c =
-    let answered = c .before .before .before .before .before in
+    let stage = c .before .before .before .before .before in
+    let answered = stage in
     let written = answered .before .before .before in
     let args = written .before .before .before .before .before .before .before .before .before .before .args in
     λ s h.
@@ -117,22 +87,22 @@ pub ask-spec : {M : Type 1} → statement M
 ask-spec =
     tie.close
     (tie.spec
-    no-command-requires
-    slice-aggregate-put-command
-    put-command-requires
-    slice-aggregate-answer
+    (λ c κs. search needs)
+    (λ c. search needs)
+    (λ c κs. search needs)
+    (λ c. search needs)
     array-share-prefix-line
     slice-aggregate-answer-2
-    answer-requires
-    enum-known-len
-    add-count
+    (λ c κs. search needs)
+    (λ c. search needs)
+    (λ c. search needs)
     slice-reshare-prefix-take-lines
     slice-aggregate-take-lines
     take-lines-requires
-    enum-known-number
-    same-length
-    same-length-2
-    same-length-3
+    (λ c. search needs)
+    (λ c. search needs)
+    (λ c. search needs)
+    (λ c. search needs)
     returns
-    same-length-4
+    (λ c. search needs)
     returns-2)

@@ -17,7 +17,9 @@ abbrev μ-loop : tie.MeasureT-loop
 μ-loop table options scratch₀ found₀ pending₀ progress₀ at₀ scratch found pending progress at = length pending - at
 
 loop-holds : tie.Need-loop-holds Inv-loop μ-loop
-loop-holds c = c .before .before .before .before .pre
+loop-holds c =
+    let after-pre = c .before .before .before .before in
+    after-pre .pre
 
 add-from : tie.Need-add-from Inv-loop μ-loop
 add-from c = let turn = c .before .before in omega (arith, turn .loop .inv .holds .asks .room, turn .loop .inv .pending-long, turn .before .before .before .before .before .good)
@@ -25,15 +27,16 @@ add-from c = let turn = c .before .before in omega (arith, turn .loop .inv .hold
 slice-read-wide : tie.Need-slice-read-wide Inv-loop μ-loop
 slice-read-wide c = omega (arith, c .before .if1 .taken, c .before .before .before .loop .inv .holds .asks .room)
 
-wide-requires : tie.Need-wide-requires Inv-loop μ-loop
-wide-requires c κs = search needs
-
 -- where the next name ends
 end-is : (c : tie.After-wide Inv-loop μ-loop) → let at = c .before .before .before .before .loop .at in at + 1 + c .wide .result ≡ at + 1 + getD (c .before .before .before .before .loop .pending) at 0
-end-is c = ap (λ (n : ℕ). c .before .before .before .before .loop .at + 1 + n) (c .wide .ensures)
+end-is c =
+    let turn = c .before .before .before .before in
+    ap (λ (n : ℕ). turn .loop .at + 1 + n) (c .wide .ensures)
 
 add-end : tie.Need-add-end Inv-loop μ-loop
-add-end c = let turn = c .before .before .before .before in omega (arith, name-inside (turn .loop .inv) (c .before .before .if1 .taken) (end-is c), turn .loop .inv .holds .asks .room, turn .loop .inv .pending-long, turn .before .before .before .before .before .good)
+add-end c =
+    let stage = c .before .before .before .before in
+    let turn = stage in omega (arith, name-inside (turn .loop .inv) (c .before .before .if1 .taken) (end-is c), turn .loop .inv .holds .asks .room, turn .loop .inv .pending-long, turn .before .before .before .before .before .good)
 
 ask-below-requires : tie.Need-ask-below-requires Inv-loop μ-loop
 ask-below-requires c κs =
@@ -45,19 +48,18 @@ ask-below-requires c κs =
       (record { finds = inv .holds .finds .room; asks = inv .holds .asks .room }, count-fits inv more (end-is read)),
     )
 
-enum-known-next : tie.Need-enum-known-next Inv-loop μ-loop
-enum-known-next c = search needs
-
 loop-less : tie.Need-loop-less Inv-loop μ-loop
 loop-less c =
-    let asked = c .before .before .before .before .before .before .before .before .before in
+    let stage = c .before .before .before .before .before .before .before .before .before in
+    let asked = stage in
     let read = asked .before .before .before .before in
     let turn = read .before .before .before .before in
     omega (arith, read .before .before .if1 .taken, turn .loop .inv .holds .asks .room, asked .ask-below .kept .1 .1 .1 .1 .1 .0)
 
 loop-again : tie.Need-loop-again Inv-loop μ-loop
 loop-again c =
-    let asked = c .before .before .before .before .before .before .before .before .before in
+    let stage = c .before .before .before .before .before .before .before .before .before in
+    let asked = stage in
     let read = asked .before .before .before .before in
     let turn = read .before .before .before .before in
     let kept = asked .ask-below .kept .1 .1 .1 in
@@ -68,22 +70,26 @@ loop-again c =
     (kept .1 .0)
     (kept .1 .1 .0)
 
-enum-known-number : tie.Need-enum-known-number Inv-loop μ-loop
-enum-known-number c = search needs
-
 same-length : tie.Need-same-length Inv-loop μ-loop
-same-length c = let asked = c .before .before .before .before .before .before .before .before .before in asked .ask-below .kept .1 .1 .1 .0 ∙ asked .before .before .before .before .before .before .before .before .loop .inv .scratch-long
+same-length c =
+    let stage = c .before .before .before .before .before .before .before .before .before in
+    let asked = stage in asked .ask-below .kept .1 .1 .1 .0 ∙ asked .before .before .before .before .before .before .before .before .loop .inv .scratch-long
 
 same-length-2 : tie.Need-same-length-2 Inv-loop μ-loop
-same-length-2 c = let asked = c .before .before .before .before .before .before .before .before .before in asked .ask-below .kept .1 .1 .1 .1 .0 ∙ asked .before .before .before .before .before .before .before .before .loop .inv .found-long
+same-length-2 c =
+    let stage = c .before .before .before .before .before .before .before .before .before in
+    let asked = stage in asked .ask-below .kept .1 .1 .1 .1 .0 ∙ asked .before .before .before .before .before .before .before .before .loop .inv .found-long
 
 same-length-3 : tie.Need-same-length-3 Inv-loop μ-loop
-same-length-3 c = let asked = c .before .before .before .before .before .before .before .before .before in asked .ask-below .kept .1 .1 .1 .1 .1 .0 ∙ asked .before .before .before .before .before .before .before .before .loop .inv .pending-long
+same-length-3 c =
+    let stage = c .before .before .before .before .before .before .before .before .before in
+    let asked = stage in asked .ask-below .kept .1 .1 .1 .1 .1 .0 ∙ asked .before .before .before .before .before .before .before .before .loop .inv .pending-long
 
 returns : tie.Need-returns Inv-loop μ-loop
 unfolding collected
 returns c =
-    let asked = c .before .before .before .before .before .before .before .before .before in
+    let stage = c .before .before .before .before .before .before .before .before .before in
+    let asked = stage in
     let read = asked .before .before .before .before in
     let turn = read .before .before .before .before in
     walking-refused (turn .loop .inv) (read .before .before .if1 .taken) (end-is read) (rw (c .before .number .given .1) at (asked .ask-below .ensures))
@@ -110,13 +116,13 @@ ask-pending-spec =
     loop-holds
     add-from
     slice-read-wide
-    wide-requires
+    (λ c κs. search needs)
     add-end
     ask-below-requires
-    enum-known-next
+    (λ c. search needs)
     loop-less
     loop-again
-    enum-known-number
+    (λ c. search needs)
     same-length
     same-length-2
     same-length-3

@@ -11,14 +11,8 @@ use Rattle.collector.proofs.WalkLaws.{collected-long, walk-refused, wal
 use Rattle.collector.proofs.walk.walk_table.Statement.{statement}
 use Rattle.collector.proofs.walk.walk_table.Tie as tie
 
-slice-aggregate-ask : tie.Need-slice-aggregate-ask
-slice-aggregate-ask c = search needs
-
 ask-requires : tie.Need-ask-requires
 ask-requires c κs = (omega arith, (record { finds = omega arith; asks = omega arith }, omega arith))
-
-enum-known-first : tie.Need-enum-known-first
-enum-known-first c = search needs
 
 -- the first command was taken
 begins : (c : tie.After-known-told) →
@@ -29,7 +23,8 @@ begins : (c : tie.After-known-told) →
     let pending = asked .ask .last .1 .1 .1 .1 .1 .0 in
     Walking (start .args .table .now) (start .args .options) (length scratch) (length found) (length pending) scratch found pending (c .before .first .given .0 .0) 0
 begins c =
-    let asked = c .before .before .before .before .before .before .before .before .before in
+    let stage = c .before .before .before .before .before .before .before .before .before in
+    let asked = stage in
     let start = asked .before .before .before .before .before .before .before .before .before in
     let kept = asked .ask .kept .1 .1 .1 in
     walking-begins (start .args .table .now) (start .args .options) (start .args .scratch .now) (start .pre .0) (start .pre .1 .0) (start .pre .1 .1)
@@ -42,21 +37,10 @@ begins c =
 ask-pending-requires : tie.Need-ask-pending-requires
 ask-pending-requires c κs = begins (c .before .before .before)
 
-enum-known-number : tie.Need-enum-known-number
-enum-known-number c = search needs
-
-same-length : tie.Need-same-length
-same-length c = search needs
-
-same-length-2 : tie.Need-same-length-2
-same-length-2 c = search needs
-
-same-length-3 : tie.Need-same-length-3
-same-length-3 c = search needs
-
 returns : tie.Need-returns
 returns c =
-    let ended = c .before .before .before .before .before .before in
+    let stage = c .before .before .before .before .before .before in
+    let ended = stage in
     let asked = ended .before .before .before .before .before .before .before .before .before .before .before .before .before in
     let start = asked .before .before .before .before .before .before .before .before .before in
     let kept = asked .ask .kept .1 .1 .1 in
@@ -66,18 +50,10 @@ returns c =
     (collected-long (start .args .table .now) (byteOf (start .args .options)) (start .args .scratch .now) (start .args .found .now) (start .args .pending .now) (first .0) (first .1 .0) (first .1 .1 .0) (kept .0) (kept .1 .0) (kept .1 .1 .0))
     (ended .ask-pending .ensures)
 
-same-length-4 : tie.Need-same-length-4
-same-length-4 c = search needs
-
-same-length-5 : tie.Need-same-length-5
-same-length-5 c = search needs
-
-same-length-6 : tie.Need-same-length-6
-same-length-6 c = search needs
-
 returns-2 : tie.Need-returns-2
 returns-2 c =
-    let asked = c .before .before .before .before .before .before .before .before .before in
+    let stage = c .before .before .before .before .before .before .before .before .before in
+    let asked = stage in
     let start = asked .before .before .before .before .before .before .before .before .before in
     walk-refused (start .args .table .now) (start .args .options) (start .args .scratch .now) (start .pre .0) (start .pre .1 .0) (start .pre .1 .1)
     (rw (c .before .number .given .1) at (asked .ask .ensures))
@@ -86,16 +62,16 @@ pub walk-table-spec : {M : Type 1} → statement M
 walk-table-spec =
     tie.close
     (tie.spec
-    slice-aggregate-ask
+    (λ c. search needs)
     ask-requires
-    enum-known-first
+    (λ c. search needs)
     ask-pending-requires
-    enum-known-number
-    same-length
-    same-length-2
-    same-length-3
+    (λ c. search needs)
+    (λ c. search needs)
+    (λ c. search needs)
+    (λ c. search needs)
     returns
-    same-length-4
-    same-length-5
-    same-length-6
+    (λ c. search needs)
+    (λ c. search needs)
+    (λ c. search needs)
     returns-2)

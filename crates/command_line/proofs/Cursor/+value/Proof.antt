@@ -1,6 +1,5 @@
-use mathlib.Core.Path.{_≡_, refl, sym, ap, subst, _∙_}
+use mathlib.Core.Path.{_≡_, refl, sym, _∙_}
 use mathlib.Core.Logic.{⊎-elim}
-use mathlib.Core.List.{List}
 use Prim.Native.Nat.{_+_, _≤_, _-_}
 use lib.ListN.{length, drop, getD}
 use Rattle.command_line.specs.Tokens.{behindIs, BehindIn}
@@ -67,7 +66,9 @@ value-add-t13 : (t : ℕ) → value-lts.Need-add-t13 (
   item-reads.Asked,
   item-reads.Learnt,
 ) (value-at t) value.Post value-Inv-loop value-μ-loop
-value-add-t13 t c = omega (arith, inside (c .before .before .before .before .args .text .now) (c .before .before .loop .at) (omega arith))
+value-add-t13 t c =
+    let start = c .before .before .before .before in
+    omega (arith, inside (start .args .text .now) (c .before .before .loop .at) (omega arith))
 
 -- src/values.rt:35:17
 value-value-requires : (t : ℕ) → value-lts.Need-value-requires (
@@ -78,7 +79,9 @@ value-value-requires : (t : ℕ) → value-lts.Need-value-requires (
   item-reads.Asked,
   item-reads.Learnt,
 ) (value-at t) value.Post value-Inv-loop value-μ-loop
-value-value-requires t c κs = (omega (arith, c .before .before .before .before .pre .0, inside (c .before .before .before .before .args .text .now) (c .before .before .loop .at) (omega arith)), tt)
+value-value-requires t c κs =
+    let start = c .before .before .before .before in
+    (omega (arith, start .pre .0, inside (start .args .text .now) (c .before .before .loop .at) (omega arith)), tt)
 
 -- src/values.rt:38:17
 value-item-requires : (t : ℕ) → value-lts.Need-item-requires (
@@ -101,9 +104,10 @@ first-read : (t : ℕ) (c : value-lts.Joined1 (
   item-reads.Learnt,
 ) (value-at t) value.Post value-Inv-loop value-μ-loop) → (behindIs (c .before .before .before .before .args .text .now) (c .if1 .first) ≡ firstItem valueOf (drop (c .before .before .loop .at) (c .before .before .before .before .args .text .now))) × BehindIn (c .before .before .before .before .args .text .now) (c .before .before .loop .at) (c .if1 .first)
 first-read t c =
+    let start = c .before .before .before .before in
     ⊎-elim
-    (λ w. rw (w .2) (w .1 .ensures .0 ∙ sym (item-value (c .before .before .before .before .args .text .now) (c .before .before .loop .at) (sym (c .before .byte-at .ensures) ∙ w .0 .taken)), behind-later _ _ _ _ (omega arith) (w .1 .ensures .1)))
-    (λ w. rw (w .2) (w .1 .ensures .0 ∙ sym (item-string (c .before .before .before .before .args .text .now) (c .before .before .loop .at) (λ e. w .0 .left (c .before .byte-at .ensures ∙ e))), w .1 .ensures .1))
+    (λ w. rw (w .2) (w .1 .ensures .0 ∙ sym (item-value (start .args .text .now) (c .before .before .loop .at) (sym (c .before .byte-at .ensures) ∙ w .0 .taken)), behind-later _ _ _ _ (omega arith) (w .1 .ensures .1)))
+    (λ w. rw (w .2) (w .1 .ensures .0 ∙ sym (item-string (start .args .text .now) (c .before .before .loop .at) (λ e. w .0 .left (c .before .byte-at .ensures ∙ e))), w .1 .ensures .1))
     (c .if1 .came)
 
 -- src/values.rt:40:28
@@ -138,7 +142,9 @@ value-returns : (t : ℕ) → value-lts.Need-returns (
   item-reads.Learnt,
 ) (value-at t) value.Post value-Inv-loop value-μ-loop
 unfolding behindIs BehindIn
-value-returns t c = (sym (sym (c .before .before .before .before .loop .inv .1) ∙ value-step _ ∙ bind-none _ (behind-nothing _ (first-read t (c .before .before) .0) (c .enum-told .given .1))), tt)
+value-returns t c =
+    let turn = c .before .before .before .before in
+    (sym (sym (turn .loop .inv .1) ∙ value-step _ ∙ bind-none _ (behind-nothing _ (first-read t (c .before .before) .0) (c .enum-told .given .1))), tt)
 
 -- what the value gives from behind the first item on, which lies further in the line
 onward : (t : ℕ) (c : value-lts.After-known-told (
@@ -150,10 +156,11 @@ onward : (t : ℕ) (c : value-lts.After-known-told (
   item-reads.Learnt,
 ) (value-at t) value.Post value-Inv-loop value-μ-loop) → (valueOf (drop (c .before .before .before .before .before .before .before .args .self .at) (c .before .before .before .before .before .before .before .args .text .now)) ≡ behindItem valueOf (drop (c .before .first .given .0 .0 .at) (c .before .before .before .before .before .before .before .args .text .now))) × ((c .before .before .before .before .before .before .before .args .self .at < c .before .first .given .0 .0 .at) × (c .before .before .before .before .before .loop .at < c .before .first .given .0 .0 .at) × (c .before .first .given .0 .0 .at ≤ length (c .before .before .before .before .before .before .before .args .text .now)))
 onward t c =
+    let turn = c .before .before .before .before .before in
     let f = first-read t (c .before .before .before) in
     let q = c .before .first .given .1 in
     let a = behind-ahead _ _ (f .1) q in
-    (sym (c .before .before .before .before .before .loop .inv .1) ∙ value-step _ ∙ bind-go _ (behind-at _ (f .0) q), (omega arith, a .0, a .1))
+    (sym (turn .loop .inv .1) ∙ value-step _ ∙ bind-go _ (behind-at _ (f .0) q), (omega arith, a .0, a .1))
 
 -- src/values.rt:44:17
 value-byte-at-requires-2 : (t : ℕ) → value-lts.Need-byte-at-requires-2 (
@@ -175,7 +182,9 @@ value-add-t14 : (t : ℕ) → value-lts.Need-add-t14 (
   item-reads.Asked,
   item-reads.Learnt,
 ) (value-at t) value.Post value-Inv-loop value-μ-loop
-value-add-t14 t c = omega (arith, inside (c .before .before .before .before .before .before .before .before .before .args .text .now) (c .before .before .before .first .given .0 .0 .at) (omega arith))
+value-add-t14 t c =
+    let start = c .before .before .before .before .before .before .before .before .before in
+    omega (arith, inside (start .args .text .now) (c .before .before .before .first .given .0 .0 .at) (omega arith))
 
 -- src/values.rt:46:17
 value-returns-2 : (t : ℕ) → value-lts.Need-returns-2 (
@@ -188,10 +197,12 @@ value-returns-2 : (t : ℕ) → value-lts.Need-returns-2 (
 ) (value-at t) value.Post value-Inv-loop value-μ-loop
 unfolding behindIs BehindIn
 value-returns-2 t c =
-    let e : getD (c .before .before .before .before .before .before .before .before .before .args .text .now) (c .before .before .before .first .given .0 .0 .at) 0 ≡ 41 = sym (c .before .byte-at2 .ensures) ∙ c .if2 .taken in
+    let after-first = c .before .before .before in
+    let start = after-first .before .before .before .before .before .before in
+    let e : getD (start .args .text .now) (after-first .first .given .0 .0 .at) 0 ≡ 41 = sym (c .before .byte-at2 .ensures) ∙ c .if2 .taken in
     let k = onward t (c .before .before) in
-    let l = inside (c .before .before .before .before .before .before .before .before .before .args .text .now) (c .before .before .before .first .given .0 .0 .at) (omega arith) in
-    (sym (k .0 ∙ behind-close (c .before .before .before .before .before .before .before .before .before .args .text .now) (c .before .before .before .first .given .0 .0 .at) e), (omega arith, omega arith))
+    let l = inside (start .args .text .now) (after-first .first .given .0 .0 .at) (omega arith) in
+    (sym (k .0 ∙ behind-close (start .args .text .now) (after-first .first .given .0 .0 .at) e), (omega arith, omega arith))
 
 -- src/values.rt:49:17
 value-returns-3 : (t : ℕ) → value-lts.Need-returns-3 (
@@ -203,7 +214,10 @@ value-returns-3 : (t : ℕ) → value-lts.Need-returns-3 (
   item-reads.Learnt,
 ) (value-at t) value.Post value-Inv-loop value-μ-loop
 unfolding behindIs BehindIn
-value-returns-3 t c = (sym (onward t (c .before .before .before) .0 ∙ behind-off (c .before .before .before .before .before .before .before .before .before .before .args .text .now) (c .before .before .before .before .first .given .0 .0 .at) (λ e. c .before .if2 .left (c .before .before .byte-at2 .ensures ∙ e)) (λ e. c .if3 .taken (c .before .before .byte-at2 .ensures ∙ e))), tt)
+value-returns-3 t c =
+    let after-first = c .before .before .before .before in
+    let start = after-first .before .before .before .before .before .before in
+    (sym (onward t (c .before .before .before) .0 ∙ behind-off (start .args .text .now) (after-first .first .given .0 .0 .at) (λ e. c .before .if2 .left (c .before .before .byte-at2 .ensures ∙ e)) (λ e. c .if3 .taken (c .before .before .byte-at2 .ensures ∙ e))), tt)
 
 -- src/values.rt:51:18
 value-add-at : (t : ℕ) → value-lts.Need-add-at (
@@ -214,7 +228,10 @@ value-add-at : (t : ℕ) → value-lts.Need-add-at (
   item-reads.Asked,
   item-reads.Learnt,
 ) (value-at t) value.Post value-Inv-loop value-μ-loop
-value-add-at t c = omega (arith, inside (c .before .before .before .before .before .before .before .before .before .before .args .text .now) (c .before .before .before .before .first .given .0 .0 .at) (omega arith))
+value-add-at t c =
+    let after-first = c .before .before .before .before in
+    let start = after-first .before .before .before .before .before .before in
+    omega (arith, inside (start .args .text .now) (after-first .first .given .0 .0 .at) (omega arith))
 
 -- src/values.rt:32:9
 value-loop-less : (t : ℕ) → value-lts.Need-loop-less (
@@ -226,8 +243,10 @@ value-loop-less : (t : ℕ) → value-lts.Need-loop-less (
   item-reads.Learnt,
 ) (value-at t) value.Post value-Inv-loop value-μ-loop
 value-loop-less t c =
+    let after-first = c .before .before .before .before in
+    let start = after-first .before .before .before .before .before .before in
     let k = onward t (c .before .before .before) in
-    omega (arith, inside (c .before .before .before .before .before .before .before .before .before .before .args .text .now) (c .before .before .before .before .first .given .0 .0 .at) (omega arith))
+    omega (arith, inside (start .args .text .now) (after-first .first .given .0 .0 .at) (omega arith))
 
 -- src/values.rt:32:9
 value-loop-again : (t : ℕ) → value-lts.Need-loop-again (
@@ -239,8 +258,10 @@ value-loop-again : (t : ℕ) → value-lts.Need-loop-again (
   item-reads.Learnt,
 ) (value-at t) value.Post value-Inv-loop value-μ-loop
 value-loop-again t c =
+    let after-first = c .before .before .before .before in
+    let start = after-first .before .before .before .before .before .before in
     let k = onward t (c .before .before .before) in
-    (omega arith, sym (k .0 ∙ behind-space (c .before .before .before .before .before .before .before .before .before .before .args .text .now) (c .before .before .before .before .first .given .0 .0 .at) (sym (c .before .before .byte-at2 .ensures) ∙ c .if3 .left)))
+    (omega arith, sym (k .0 ∙ behind-space (start .args .text .now) (after-first .first .given .0 .0 .at) (sym (c .before .before .byte-at2 .ensures) ∙ c .if3 .left)))
 
 pub +value-spec : {M : Type 1} → statement M
 +value-spec = close μ-value λ t. value-lts.spec (

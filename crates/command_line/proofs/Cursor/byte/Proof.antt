@@ -1,13 +1,11 @@
 use Rattle.command_line.specs.Tokens.{behindIs, BehindIn}
-use mathlib.Core.Path.{_≡_, refl, sym, ap, subst, _∙_}
+use mathlib.Core.Path.{sym}
 use Rattle.command_line.specs.Tokens.{behindIs}
 use Rattle.command_line.proofs.Bytes.{after-out, after-yes, after-no}
 use native.Mathlib.Omega.{arith}
 use borrow.Author.Needs.{needs}
 use Rattle.command_line.proofs.Cursor.byte.Statement.{statement}
 use Rattle.command_line.proofs.Cursor.byte.Tie as tie
-use Rattle.command_line.proofs.Cursor.byte.Reads as reads
-use Rattle.command_line.proofs.Cursor.byte.Lts as lts
 
 -- src/tokens.rt:178:13
 returns : tie.Need-returns
@@ -15,13 +13,7 @@ unfolding behindIs BehindIn
 returns c = (sym (after-out _ _ _ (c .if1 .taken)), tt)
 
 -- src/tokens.rt:180:12
-shared-slice-read-if2 : tie.Need-shared-slice-read-if2
-shared-slice-read-if2 c = search needs
-
 -- src/tokens.rt:181:44
-add-t9 : tie.Need-add-t9
-add-t9 c = search needs
-
 -- src/tokens.rt:181:13
 returns-2 : tie.Need-returns-2
 unfolding behindIs BehindIn
@@ -33,4 +25,4 @@ unfolding behindIs BehindIn
 returns-3 c = (sym (after-no _ _ _ (c .before .before .if1 .left) (c .if2 .left)), tt)
 
 pub byte-spec : {M : Type 1} → statement M
-byte-spec = tie.close (tie.spec returns shared-slice-read-if2 add-t9 returns-2 returns-3)
+byte-spec = tie.close (tie.spec returns (λ c. search needs) (λ c. search needs) returns-2 returns-3)

@@ -1,44 +1,30 @@
-use mathlib.Core.Path.{_≡_, refl, sym, ap, subst, _∙_}
+use mathlib.Core.Path.{sym, _∙_}
 use mathlib.Core.List.{[], _∷_}
 use Rattle.command_line.specs.Tokens.{behindIs, BehindIn}
 use Rattle.command_line.proofs.Bytes.{after-then}
 use Rattle.command_line.proofs.Binds.{bind-none, bind-go, behind-at, behind-nothing, behind-ahead}
 use Rattle.listing_rules.specs.Bytes.{text}
 use Rattle.command_line.proofs.Bytes.{behind-later}
-use native.Mathlib.Omega.{arith}
 use borrow.Author.Needs.{needs}
 use Rattle.command_line.proofs.Cursor.opening.Statement.{statement}
 use Rattle.command_line.proofs.Cursor.opening.Tie as tie
-use Rattle.command_line.proofs.Cursor.opening.Reads as reads
-use Rattle.command_line.proofs.Cursor.opening.Lts as lts
-use Rattle.command_line.proofs.Cursor.byte.Reads as byte-reads
 
 -- src/tokens.rt:197:32
-byte-requires : tie.Need-byte-requires
-byte-requires c κs = search needs
-
 -- src/tokens.rt:197:24
-enum-known-next : tie.Need-enum-known-next
-enum-known-next c = search needs
-
 -- src/tokens.rt:198:13
-enum-told : tie.Need-enum-told
-enum-told c = search needs
-
 -- src/tokens.rt:198:13
 returns : tie.Need-returns
 unfolding text behindIs BehindIn
 returns c = (sym (after-then 32 (40 ∷ []) _ ∙ bind-none _ (behind-nothing _ (c .before .before .byte .ensures .0) (c .enum-told .given .1))), tt)
 
 -- src/tokens.rt:200:9
-byte-requires-2 : tie.Need-byte-requires-2
-byte-requires-2 c κs = search needs
-
 -- src/tokens.rt:193:5
 returns-2 : tie.Need-returns-2
 unfolding text
-returns-2 c = (c .byte2 .ensures .0 ∙ sym (after-then 32 (40 ∷ []) _ ∙ bind-go _ (behind-at _ (c .before .before .before .before .byte .ensures .0) (c .before .before .next .given .1))), behind-later _ _ _ _ (behind-ahead _ _ (c .before .before .before .before .byte .ensures .1) (c .before .before .next .given .1) .0) (c .byte2 .ensures .1))
+returns-2 c =
+    let after-byte = c .before .before .before .before in
+    (c .byte2 .ensures .0 ∙ sym (after-then 32 (40 ∷ []) _ ∙ bind-go _ (behind-at _ (after-byte .byte .ensures .0) (c .before .before .next .given .1))), behind-later _ _ _ _ (behind-ahead _ _ (after-byte .byte .ensures .1) (c .before .before .next .given .1) .0) (c .byte2 .ensures .1))
 
 pub opening-spec : {M : Type 1} → statement M
 opening-spec =
-    tie.close (tie.spec byte-requires enum-known-next enum-told returns byte-requires-2 returns-2)
+    tie.close (tie.spec (λ c κs. search needs) (λ c. search needs) (λ c. search needs) returns (λ c κs. search needs) returns-2)

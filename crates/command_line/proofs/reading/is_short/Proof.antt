@@ -1,13 +1,10 @@
 use Prim.Native.Nat.{_+_}
-use mathlib.Core.Path.{_≡_, refl, sym, ap, subst, _∙_}
-use borrow.Author.Tests.{le-leb, lt-leb}
+use mathlib.Core.Path.{sym}
+use borrow.Author.Tests.{lt-leb}
 use Rattle.command_line.proofs.Canonical.{leb-moved}
-use borrow.Author.Needs.{needs}
 use native.Mathlib.Omega.{arith}
 use Rattle.command_line.proofs.reading.is_short.Statement.{statement}
 use Rattle.command_line.proofs.reading.is_short.Tie as tie
-use Rattle.command_line.proofs.reading.is_short.Reads as reads
-use Rattle.command_line.proofs.reading.is_short.Lts as lts
 
 -- src/reading.rt:104:9
 returns : tie.Need-returns

@@ -1,6 +1,6 @@
-use mathlib.Core.Path.{_≡_, refl, sym, ap, subst, _∙_}
+use mathlib.Core.Path.{_≡_, refl, sym, ap, _∙_}
 use mathlib.Core.Bool.{false}
-use mathlib.Core.List.{List, [], _∷_, _++_, append-assoc, append-nil}
+use mathlib.Core.List.{List, [], _++_, append-assoc, append-nil}
 use Prim.Native.Nat.{ℕ, _-_}
 use lib.ListN.{length, drop}
 use Rattle.octets.specs.Put.{Put}
@@ -11,9 +11,6 @@ use borrow.Author.Needs.{needs}
 use native.Mathlib.Omega.{arith}
 use Rattle.command_line.proofs.spans.put_plain.Statement.{statement}
 use Rattle.command_line.proofs.spans.put_plain.Tie as tie
-use Rattle.command_line.proofs.spans.put_plain.Reads as reads
-use Rattle.command_line.proofs.spans.put_plain.Lts as lts
-use Rattle.octets.proofs.put.Reads as put-reads
 
 abbrev Inv-loop : tie.InvT-loop
 Inv-loop buf₀ at s to₀ i₀ escaped₀ buf to i escaped = (acc : List ℕ) × Put buf₀ buf at acc to × (acc ++ plain escaped (drop i s) ≡ plain false s)
@@ -26,40 +23,25 @@ loop-holds : tie.Need-loop-holds Inv-loop μ-loop
 loop-holds c = ([], put-none _ _ (omega arith) (omega arith), refl)
 
 -- src/spans.rt:72:24
-shared-slice-read-if1 : tie.Need-shared-slice-read-if1 Inv-loop μ-loop
-shared-slice-read-if1 c = search needs
-
 -- src/spans.rt:74:13
-add-i : tie.Need-add-i Inv-loop μ-loop
-add-i c = search needs
-
 -- src/spans.rt:71:5
-loop-less : tie.Need-loop-less Inv-loop μ-loop
-loop-less c = search needs
-
 -- src/spans.rt:71:5
 loop-again : tie.Need-loop-again Inv-loop μ-loop
-loop-again c = (c .before .before .before .loop .inv .0, c .before .before .before .loop .inv .1, ap (_++_ (c .before .before .before .loop .inv .0)) (sym (plain-skip _ _ _ (c .before .before .loop-test .taken) (c .if1 .taken))) ∙ c .before .before .before .loop .inv .2)
+loop-again c =
+    let turn = c .before .before .before in
+    (turn .loop .inv .0, turn .loop .inv .1, ap (_++_ (turn .loop .inv .0)) (sym (plain-skip _ _ _ (c .before .before .loop-test .taken) (c .if1 .taken))) ∙ turn .loop .inv .2)
 
 -- src/spans.rt:76:31
-shared-slice-read-put : tie.Need-shared-slice-read-put Inv-loop μ-loop
-shared-slice-read-put c = search needs
-
 -- src/spans.rt:76:13
-put-requires : tie.Need-put-requires Inv-loop μ-loop
-put-requires c κs = search needs
-
 -- src/spans.rt:78:13
-add-i-2 : tie.Need-add-i-2 Inv-loop μ-loop
-add-i-2 c = search needs
-
 -- src/spans.rt:71:5
-loop-less-2 : tie.Need-loop-less-2 Inv-loop μ-loop
-loop-less-2 c = search needs
-
 -- src/spans.rt:71:5
 loop-again-2 : tie.Need-loop-again-2 Inv-loop μ-loop
-loop-again-2 c = (_, put-then (c .before .before .before .before .before .before .before .before .loop .inv .1) (c .before .before .put .ensures), append-assoc (c .before .before .before .before .before .before .before .before .loop .inv .0) _ _ ∙ ap (_++_ (c .before .before .before .before .before .before .before .before .loop .inv .0)) (sym (plain-keep _ _ _ (c .before .before .before .before .before .before .before .loop-test .taken) (c .before .before .before .before .before .if1 .left))) ∙ c .before .before .before .before .before .before .before .before .loop .inv .2)
+loop-again-2 c =
+    let at-if1 = c .before .before .before .before .before in
+    let at-loop-test = at-if1 .before .before in
+    let turn = at-loop-test .before in
+    (_, put-then (turn .loop .inv .1) (c .before .before .put .ensures), append-assoc (turn .loop .inv .0) _ _ ∙ ap (_++_ (turn .loop .inv .0)) (sym (plain-keep _ _ _ (at-loop-test .loop-test .taken) (at-if1 .if1 .left))) ∙ turn .loop .inv .2)
 
 -- src/spans.rt:65:1
 same-length : tie.Need-same-length Inv-loop μ-loop
@@ -76,14 +58,14 @@ put-plain-spec =
     Inv-loop
     μ-loop
     loop-holds
-    shared-slice-read-if1
-    add-i
-    loop-less
+    (λ c. search needs)
+    (λ c. search needs)
+    (λ c. search needs)
     loop-again
-    shared-slice-read-put
-    put-requires
-    add-i-2
-    loop-less-2
+    (λ c. search needs)
+    (λ c κs. search needs)
+    (λ c. search needs)
+    (λ c. search needs)
     loop-again-2
     same-length
     returns)

@@ -1,15 +1,11 @@
 use mathlib.Core.Bool.{Bool, _&&_, not}
 use lib.Dec.{leb}
-use mathlib.Core.Path.{_≡_, refl, sym, ap, subst, _∙_}
+use mathlib.Core.Path.{ap}
 use Rattle.listing_rules.specs.Tokens.{atomByte}
 use Rattle.listing_rules.specs.Bytes.{within}
 use Rattle.command_line.proofs.Bytes.{special-is}
-use borrow.Author.Needs.{needs}
-use native.Mathlib.Omega.{arith}
 use Rattle.command_line.proofs.tokens.is_atom.Statement.{statement}
 use Rattle.command_line.proofs.tokens.is_atom.Tie as tie
-use Rattle.command_line.proofs.tokens.is_atom.Reads as reads
-use Rattle.command_line.proofs.tokens.is_atom.Lts as lts
 
 -- src/tokens.rt:24:1
 returns : tie.Need-returns

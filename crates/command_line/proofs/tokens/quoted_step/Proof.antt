@@ -1,17 +1,11 @@
-use mathlib.Core.Path.{_≡_, sym, _∙_}
+use mathlib.Core.Path.{sym, _∙_}
 use borrow.Author.Tests.{eq-eqb, ne-eqb}
 use Rattle.command_line.specs.Tokens.{quotedStep}
-use native.Mathlib.Omega.{arith}
 use borrow.Author.Needs.{needs}
 use Rattle.command_line.proofs.tokens.quoted_step.Statement.{statement}
 use Rattle.command_line.proofs.tokens.quoted_step.Tie as tie
-use Rattle.command_line.proofs.tokens.quoted_step.Reads as reads
-use Rattle.command_line.proofs.tokens.quoted_step.Lts as lts
 
 -- src/tokens.rt:93:16
-is-line-byte-requires : tie.Need-is-line-byte-requires
-is-line-byte-requires c κs = search needs
-
 -- src/tokens.rt:80:1
 returns : tie.Need-returns
 unfolding quotedStep
@@ -39,4 +33,4 @@ returns-5 c = rw (c .before .before .before .if1 .left, ne-eqb _ _ (c .before .b
 
 pub quoted-step-spec : {M : Type 1} → statement M
 quoted-step-spec =
-    tie.close (tie.spec is-line-byte-requires returns returns-2 returns-3 returns-4 returns-5)
+    tie.close (tie.spec (λ c κs. search needs) returns returns-2 returns-3 returns-4 returns-5)

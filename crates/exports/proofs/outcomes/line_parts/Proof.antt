@@ -4,12 +4,6 @@ use Rattle.exports.proofs.OutcomeLaws.{parts-read, parts-refused}
 use Rattle.exports.proofs.outcomes.line_parts.Statement.{statement}
 use Rattle.exports.proofs.outcomes.line_parts.Tie as tie
 
-enum-known-line : tie.Need-enum-known-line
-enum-known-line c = search needs
-
-enum-known-line-2 : tie.Need-enum-known-line-2
-enum-known-line-2 c = search needs
-
 returns : tie.Need-returns
 returns c = let g = c .before .line .given in parts-read _ _ (g .0 .0) (g .0 .1 .0) (g .0 .1 .1 .0) (g .1)
 
@@ -17,4 +11,4 @@ returns-2 : tie.Need-returns-2
 returns-2 c = let g = c .before .line2 .given in parts-refused _ _ (g .0 .0) (g .1)
 
 pub line-parts-spec : {M : Type 1} → statement M
-line-parts-spec = tie.close (tie.spec enum-known-line enum-known-line-2 returns returns-2)
+line-parts-spec = tie.close (tie.spec (λ c. search needs) (λ c. search needs) returns returns-2)

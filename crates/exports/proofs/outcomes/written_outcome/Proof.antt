@@ -4,12 +4,6 @@ use Rattle.exports.proofs.OutcomeLaws.{written-done, written-refused}
 use Rattle.exports.proofs.outcomes.written_outcome.Statement.{statement}
 use Rattle.exports.proofs.outcomes.written_outcome.Tie as tie
 
-enum-known-written : tie.Need-enum-known-written
-enum-known-written c = search needs
-
-enum-known-written-2 : tie.Need-enum-known-written-2
-enum-known-written-2 c = search needs
-
 returns : tie.Need-returns
 returns c = written-done (c .before .before .before .args .written) (c .before .written .given .0 .0) (c .before .written .given .1)
 
@@ -18,4 +12,4 @@ returns-2 c = written-refused (c .before .before .before .args .written) (c .bef
 
 pub written-outcome-spec : {M : Type 1} → statement M
 written-outcome-spec =
-    tie.close (tie.spec enum-known-written enum-known-written-2 returns returns-2)
+    tie.close (tie.spec (λ c. search needs) (λ c. search needs) returns returns-2)

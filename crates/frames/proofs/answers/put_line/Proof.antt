@@ -5,25 +5,15 @@ use borrow.Author.Needs.{needs}
 use Rattle.frames.proofs.answers.put_line.Statement.{statement}
 use Rattle.frames.proofs.answers.put_line.Tie as tie
 
-put-pair-requires : tie.Need-put-pair-requires
-put-pair-requires c κs = search needs
-
-put-hex-requires : tie.Need-put-hex-requires
-put-hex-requires c κs = search needs
-
-put-requires : tie.Need-put-requires
-put-requires c κs = search needs
-
-same-length : tie.Need-same-length
-same-length c = search needs
-
 returns : tie.Need-returns
 unfolding hex answerLine
 returns c =
-    let first = c .before .before .before .before .before .before .before .before .before .before .put-pair in
-    let digits = c .before .before .before .before .before .before .put-hex in
+    let after-put-hex = c .before .before .before .before .before .before in
+    let after-put-pair = after-put-hex .before .before .before .before in
+    let first = after-put-pair .put-pair in
+    let digits = after-put-hex .put-hex in
     put-then (put-then (first .ensures) (digits .ensures)) (c .before .before .put .ensures)
 
 pub put-line-spec : {M : Type 1} → statement M
 put-line-spec =
-    tie.close (tie.spec put-pair-requires put-hex-requires put-requires same-length returns)
+    tie.close (tie.spec (λ c κs. search needs) (λ c κs. search needs) (λ c κs. search needs) (λ c. search needs) returns)

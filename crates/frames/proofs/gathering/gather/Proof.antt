@@ -11,15 +11,6 @@ returns : tie.Need-returns
 unfolding gatheredIs gatheredLine hasRoom
 returns c = gathers _ _ _ _ _ (rw (c .if1 .taken)) (rw (c .if1 .taken))
 
-slice-write-line : tie.Need-slice-write-line
-slice-write-line c = search needs
-
-add-t9 : tie.Need-add-t9
-add-t9 c = search needs
-
-same-length : tie.Need-same-length
-same-length c = search needs
-
 returns-2 : tie.Need-returns-2
 unfolding gatheredIs gatheredLine hasRoom
 returns-2 c =
@@ -50,4 +41,4 @@ returns-4 c =
 
 pub gather-spec : {M : Type 1} → statement M
 gather-spec =
-    tie.close (tie.spec returns slice-write-line add-t9 same-length returns-2 returns-3 returns-4)
+    tie.close (tie.spec returns (λ c. search needs) (λ c. search needs) (λ c. search needs) returns-2 returns-3 returns-4)

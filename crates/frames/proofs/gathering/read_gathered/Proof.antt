@@ -22,26 +22,24 @@ returns c =
 returns-2 : tie.Need-returns-2
 unfolding gatheredText
 returns-2 c =
-    let start = c .before .before .before .before in
+    let stage = c .before .before .before .before in
+    let start = stage in
     let a = start .args in
     gathered-read _ _ _ _ _ (rw (lt-ltb (length (a .line .now)) (a .g .len) (c .if2 .taken), or-true (a .g .over)) (frame-bad [] (a .bytes .now) (within-bad (length (a .bytes .now)) [] (bad-short [] (omega arith)))))
 
 slice-aggregate-read-frame : tie.Need-slice-aggregate-read-frame
 slice-aggregate-read-frame c = simp length-take (omega arith)
 
-read-frame-requires : tie.Need-read-frame-requires
-read-frame-requires c κs = search needs
-
-same-length : tie.Need-same-length
-same-length c = search needs
-
 returns-3 : tie.Need-returns-3
 unfolding gatheredText
 returns-3 c =
-    let start = c .before .before .before .before .before .before .before .before .before in
-    let if1 = c .before .before .before .before .before .before .if1 in
+    let at-if2 = c .before .before .before .before .before in
+    let at-if1 = at-if2 .before in
+    let stage = at-if1 .before .before .before in
+    let start = stage in
+    let if1 = at-if1 .if1 in
     let a = start .args in
-    gathered-read _ _ _ _ _ (rw (if1 .left, le-ltb (length (a .line .now)) (a .g .len) (c .before .before .before .before .before .if2 .left)) (c .before .before .read-frame .ensures))
+    gathered-read _ _ _ _ _ (rw (if1 .left, le-ltb (length (a .line .now)) (a .g .len) (at-if2 .if2 .left)) (c .before .before .read-frame .ensures))
 
 pub read-gathered-spec : {M : Type 1} → statement M
 read-gathered-spec =
@@ -50,6 +48,6 @@ read-gathered-spec =
     returns
     returns-2
     slice-aggregate-read-frame
-    read-frame-requires
-    same-length
+    (λ c κs. search needs)
+    (λ c. search needs)
     returns-3)

@@ -6,18 +6,10 @@ use borrow.Author.Needs.{needs}
 use Rattle.frames.proofs.hexadecimal.digit_value.Statement.{statement}
 use Rattle.frames.proofs.hexadecimal.digit_value.Tie as tie
 
-read-digit-requires : tie.Need-read-digit-requires
-read-digit-requires c κs = search needs
-
-enum-known-v : tie.Need-enum-known-v
-enum-known-v c = search needs
-
-enum-told : tie.Need-enum-told
-enum-told c = search needs
-
 returns : tie.Need-returns
 returns c =
-    let start = c .before .before .before .before in
+    let stage = c .before .before .before .before in
+    let start = stage in
     let v = c .before .v in
     let e = value-known (start .args .c) (v .given .0 .0) (sym (c .before .before .before .read-digit .ensures) ∙ v .given .1) in
     (sym e, omega (arith, e, value-small (start .args .c)))
@@ -29,4 +21,4 @@ returns-2 c =
 
 pub digit-value-spec : {M : Type 1} → statement M
 digit-value-spec =
-    tie.close (tie.spec read-digit-requires enum-known-v enum-told returns returns-2)
+    tie.close (tie.spec (λ c κs. search needs) (λ c. search needs) (λ c. search needs) returns returns-2)

@@ -23,33 +23,19 @@ returns c = sym (hex-odd _ (c .if1 .taken))
 loop-holds : tie.Need-loop-holds Inv-loop μ-loop
 loop-holds c = hex-even _ (c .if1 .left)
 
-shared-slice-read-read-digit : tie.Need-shared-slice-read-read-digit Inv-loop μ-loop
-shared-slice-read-read-digit c = search needs
-
-read-digit-requires : tie.Need-read-digit-requires Inv-loop μ-loop
-read-digit-requires c κs = search needs
-
-enum-told : tie.Need-enum-told Inv-loop μ-loop
-enum-told c = search needs
-
-enum-told-2 : tie.Need-enum-told-2 Inv-loop μ-loop
-enum-told-2 c = search needs
-
 returns-2 : tie.Need-returns-2 Inv-loop μ-loop
 returns-2 c =
-    let turn = c .before .before .before .before .before .loop in
-    sym (digits-stop _ _ (c .before .before .before .before .loop-test .taken) (sym (c .before .before .read-digit .ensures) ∙ c .enum-told2 .given .1)) ∙ turn .inv
-
-add-i : tie.Need-add-i Inv-loop μ-loop
-add-i c = search needs
-
-loop-less : tie.Need-loop-less Inv-loop μ-loop
-loop-less c = search needs
+    let at-loop-test = c .before .before .before .before in
+    let turn-2 = at-loop-test .before in
+    let turn = turn-2 .loop in
+    sym (digits-stop _ _ (at-loop-test .loop-test .taken) (sym (c .before .before .read-digit .ensures) ∙ c .enum-told2 .given .1)) ∙ turn .inv
 
 loop-again : tie.Need-loop-again Inv-loop μ-loop
 loop-again c =
-    let turn = c .before .before .before .before .before .loop in
-    sym (digits-more _ _ _ (c .before .before .before .before .loop-test .taken) (sym (c .before .before .read-digit .ensures) ∙ c .enum-told .given .1)) ∙ turn .inv
+    let at-loop-test = c .before .before .before .before in
+    let turn-2 = at-loop-test .before in
+    let turn = turn-2 .loop in
+    sym (digits-more _ _ _ (at-loop-test .loop-test .taken) (sym (c .before .before .read-digit .ensures) ∙ c .enum-told .given .1)) ∙ turn .inv
 
 returns-3 : tie.Need-returns-3 Inv-loop μ-loop
 returns-3 c = sym (digits-end _ _ (c .loop-test .left)) ∙ c .before .loop .inv
@@ -62,12 +48,12 @@ is-hex-spec =
     μ-loop
     returns
     loop-holds
-    shared-slice-read-read-digit
-    read-digit-requires
-    enum-told
-    enum-told-2
+    (λ c. search needs)
+    (λ c κs. search needs)
+    (λ c. search needs)
+    (λ c. search needs)
     returns-2
-    add-i
-    loop-less
+    (λ c. search needs)
+    (λ c. search needs)
     loop-again
     returns-3)

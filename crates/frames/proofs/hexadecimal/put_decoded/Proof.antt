@@ -22,35 +22,14 @@ abbrev μ-loop : tie.MeasureT-loop
 loop-holds : tie.Need-loop-holds Inv-loop μ-loop
 loop-holds c = (omega arith, pieces-none _ _ _ (search needs) (search needs))
 
-add-loop : tie.Need-add-loop Inv-loop μ-loop
-add-loop c = search needs
-
-shared-slice-read-pair-value : tie.Need-shared-slice-read-pair-value Inv-loop μ-loop
-shared-slice-read-pair-value c = search needs
-
-add-pair-value : tie.Need-add-pair-value Inv-loop μ-loop
-add-pair-value c = search needs
-
-shared-slice-read-pair-value-2 : tie.Need-shared-slice-read-pair-value-2 Inv-loop μ-loop
-shared-slice-read-pair-value-2 c = search needs
-
-pair-value-requires : tie.Need-pair-value-requires Inv-loop μ-loop
-pair-value-requires c κs = search needs
-
-put-requires : tie.Need-put-requires Inv-loop μ-loop
-put-requires c κs = search needs
-
-add-i : tie.Need-add-i Inv-loop μ-loop
-add-i c = search needs
-
-loop-less : tie.Need-loop-less Inv-loop μ-loop
-loop-less c = search needs
-
 loop-again : tie.Need-loop-again Inv-loop μ-loop
 loop-again c =
-    let start = c .before .before .before .before .before .before .before .before .before .before .before in
-    let turn = c .before .before .before .before .before .before .before .before .loop in
-    let test = c .before .before .before .before .before .before .before .loop-test in
+    let at-loop-test = c .before .before .before .before .before .before .before in
+    let turn-2 = at-loop-test .before in
+    let stage = turn-2 .before .before .before in
+    let start = stage in
+    let turn = turn-2 .loop in
+    let test = at-loop-test .loop-test in
     let s = start .args .line .now in
     let i = turn .i in
     (omega arith, pieces-more (pairOf (getD s i 0) (getD s (i + 1) 0) ∷ []) (decoded (drop (i + 2) s)) (turn .inv .1) (decoded-at s i (test .taken)) (rw (sym (c .before .before .before .pair-value .ensures)) (c .before .before .put .ensures)))
@@ -60,7 +39,8 @@ same-length c = put-length (c .before .loop .inv .1 .put)
 
 returns : tie.Need-returns Inv-loop μ-loop
 returns c =
-    let start = c .before .before .before .before in
+    let stage = c .before .before .before .before in
+    let start = stage in
     let turn = c .before .loop in
     pieces-all (turn .inv .1) (decoded-end (start .args .line .now) (turn .i) (c .loop-test .left))
 
@@ -71,14 +51,14 @@ put-decoded-spec =
     Inv-loop
     μ-loop
     loop-holds
-    add-loop
-    shared-slice-read-pair-value
-    add-pair-value
-    shared-slice-read-pair-value-2
-    pair-value-requires
-    put-requires
-    add-i
-    loop-less
+    (λ c. search needs)
+    (λ c. search needs)
+    (λ c. search needs)
+    (λ c. search needs)
+    (λ c κs. search needs)
+    (λ c κs. search needs)
+    (λ c. search needs)
+    (λ c. search needs)
     loop-again
     same-length
     returns)

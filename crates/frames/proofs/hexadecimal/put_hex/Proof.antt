@@ -21,32 +21,24 @@ abbrev μ-loop : tie.MeasureT-loop
 loop-holds : tie.Need-loop-holds Inv-loop μ-loop
 loop-holds c = (omega arith, pieces-none _ _ _ (search needs) (search needs))
 
-shared-slice-read-put-pair : tie.Need-shared-slice-read-put-pair Inv-loop μ-loop
-shared-slice-read-put-pair c = search needs
-
-put-pair-requires : tie.Need-put-pair-requires Inv-loop μ-loop
-put-pair-requires c κs = search needs
-
-add-i : tie.Need-add-i Inv-loop μ-loop
-add-i c = search needs
-
-loop-less : tie.Need-loop-less Inv-loop μ-loop
-loop-less c = search needs
-
 loop-again : tie.Need-loop-again Inv-loop μ-loop
 loop-again c =
-    let start = c .before .before .before .before .before .before .before .before .before in
-    let turn = c .before .before .before .before .before .before .loop in
+    let at-loop-test = c .before .before .before .before .before in
+    let turn-2 = at-loop-test .before in
+    let stage = turn-2 .before .before .before in
+    let start = stage in
+    let turn = turn-2 .loop in
     let s = start .args .bytes .now in
     let i = turn .i in
-    (omega arith, pieces-more (hex (getD s i 0 ∷ [])) (hex (drop (i + 1) s)) (turn .inv .1) (hex-at s i (c .before .before .before .before .before .loop-test .taken)) (c .before .before .put-pair .ensures))
+    (omega arith, pieces-more (hex (getD s i 0 ∷ [])) (hex (drop (i + 1) s)) (turn .inv .1) (hex-at s i (at-loop-test .loop-test .taken)) (c .before .before .put-pair .ensures))
 
 same-length : tie.Need-same-length Inv-loop μ-loop
 same-length c = put-length (c .before .loop .inv .1 .put)
 
 returns : tie.Need-returns Inv-loop μ-loop
 returns c =
-    let start = c .before .before .before .before in
+    let stage = c .before .before .before .before in
+    let start = stage in
     let turn = c .before .loop in
     pieces-all (turn .inv .1) (hex-end (start .args .bytes .now) (turn .i) (c .loop-test .left))
 
@@ -57,10 +49,10 @@ put-hex-spec =
     Inv-loop
     μ-loop
     loop-holds
-    shared-slice-read-put-pair
-    put-pair-requires
-    add-i
-    loop-less
+    (λ c. search needs)
+    (λ c κs. search needs)
+    (λ c. search needs)
+    (λ c. search needs)
     loop-again
     same-length
     returns)

@@ -5,35 +5,22 @@ use borrow.Author.Needs.{needs}
 use Rattle.frames.proofs.hexadecimal.put_pair.Statement.{statement}
 use Rattle.frames.proofs.hexadecimal.put_pair.Tie as tie
 
-hex-digit-requires : tie.Need-hex-digit-requires
-hex-digit-requires c κs = search needs
-
-put-requires : tie.Need-put-requires
-put-requires c κs = search needs
-
-hex-digit-requires-2 : tie.Need-hex-digit-requires-2
-hex-digit-requires-2 c κs = search needs
-
-put-requires-2 : tie.Need-put-requires-2
-put-requires-2 c κs = search needs
-
-same-length : tie.Need-same-length
-same-length c = search needs
-
 returns : tie.Need-returns
 unfolding hex
 returns c =
-    let high = c .before .before .before .before .before .before .before .before .hex-digit in
-    let wrote = c .before .before .before .before .before .before .before .put in
+    let after-put = c .before .before .before .before .before .before .before in
+    let after-hex-digit = after-put .before in
+    let high = after-hex-digit .hex-digit in
+    let wrote = after-put .put in
     rw (← high .ensures, ← c .before .before .before .hex-digit2 .ensures) (put-then (wrote .ensures) (c .before .before .put2 .ensures))
 
 pub put-pair-spec : {M : Type 1} → statement M
 put-pair-spec =
     tie.close
     (tie.spec
-    hex-digit-requires
-    put-requires
-    hex-digit-requires-2
-    put-requires-2
-    same-length
+    (λ c κs. search needs)
+    (λ c κs. search needs)
+    (λ c κs. search needs)
+    (λ c κs. search needs)
+    (λ c. search needs)
     returns)

@@ -15,29 +15,26 @@ returns c =
 
 returns-2 : tie.Need-returns-2
 returns-2 c =
-    let start = c .before .before .before .before in
+    let stage = c .before .before .before .before in
+    let start = stage in
     let a = start .args in
     stores-over (a .area .now) (a .used) (a .limit) (a .bytes .now) (omega arith)
 
 returns-3 : tie.Need-returns-3
 returns-3 c =
-    let start = c .before .before .before .before .before in
+    let stage = c .before .before .before .before .before in
+    let start = stage in
     let a = start .args in
     stores-over (a .area .now) (a .used) (a .limit) (a .bytes .now) (omega arith)
 
-put-all-requires : tie.Need-put-all-requires
-put-all-requires c κs = search needs
-
-same-length : tie.Need-same-length
-same-length c = search needs
-
 returns-4 : tie.Need-returns-4
 returns-4 c =
-    let start = c .before .before .before .before .before .before .before .before .before in
+    let stage = c .before .before .before .before .before .before .before .before .before in
+    let start = stage in
     let a = start .args in
     let p = c .before .before .put-all .ensures in
     stores-now (a .area .now) _ (a .used) (a .limit) (a .bytes .now) _ (omega arith) (omega arith) (ap Now (omega arith)) (p .bytes)
 
 pub store-spec : {M : Type 1} → statement M
 store-spec =
-    tie.close (tie.spec returns returns-2 returns-3 put-all-requires same-length returns-4)
+    tie.close (tie.spec returns returns-2 returns-3 (λ c κs. search needs) (λ c. search needs) returns-4)

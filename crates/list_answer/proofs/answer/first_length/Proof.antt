@@ -4,17 +4,11 @@ use borrow.Author.Needs.{needs}
 use Rattle.list_answer.proofs.answer.first_length.Statement.{statement}
 use Rattle.list_answer.proofs.answer.first_length.Tie as tie
 
-returns : tie.Need-returns
-returns c = search needs
-
 returns-2 : tie.Need-returns-2
 returns-2 c = rw (c .before .before .if1 .left) (omega arith)
-
-sub-result : tie.Need-sub-result
-sub-result c = search needs
 
 returns-3 : tie.Need-returns-3
 returns-3 c = rw (c .before .before .before .if1 .left)
 
 pub first-length-spec : {M : Type 1} → statement M
-first-length-spec = tie.close (tie.spec returns returns-2 sub-result returns-3)
+first-length-spec = tie.close (tie.spec (λ c. search needs) returns-2 (λ c. search needs) returns-3)

@@ -9,24 +9,17 @@ use borrow.Author.Needs.{needs}
 use Rattle.list_answer.proofs.answer.put_answer.Statement.{statement}
 use Rattle.list_answer.proofs.answer.put_answer.Tie as tie
 
-put-rows-requires : tie.Need-put-rows-requires
-put-rows-requires c κs = search needs
-
-put-ok-line-requires : tie.Need-put-ok-line-requires
-put-ok-line-requires c κs = search needs
-
-same-length : tie.Need-same-length
-same-length c = search needs
-
 returns : tie.Need-returns
 unfolding listAnswer
 returns c =
-    let start = c .before .before .before .before .before .before .before .before .before .before .before .before .before in
+    let after-put-rows = c .before .before .before .before .before .before in
+    let stage = after-put-rows .before .before .before .before .before .before .before in
+    let start = stage in
     let a = start .args in
     let index = start .pre .index in
     let table = rowsAt (a .area .now) (a .words .now) in
     rw (← answer-text table (optionsIs (a .question .options)) (unpacked (a .patterns .now)) (index .lawful) (index .indexed .ascend))
-    (put-then (c .before .before .before .before .before .before .put-rows .ensures) (c .before .before .put-ok-line .ensures))
+    (put-then (after-put-rows .put-rows .ensures) (c .before .before .put-ok-line .ensures))
 
 pub put-answer-spec : {M : Type 1} → statement M
-put-answer-spec = tie.close (tie.spec put-rows-requires put-ok-line-requires same-length returns)
+put-answer-spec = tie.close (tie.spec (λ c κs. search needs) (λ c κs. search needs) (λ c. search needs) returns)

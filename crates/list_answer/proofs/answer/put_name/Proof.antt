@@ -12,37 +12,18 @@ use borrow.Author.Needs.{needs}
 use Rattle.list_answer.proofs.answer.put_name.Statement.{statement}
 use Rattle.list_answer.proofs.answer.put_name.Tie as tie
 
-decide-requires : tie.Need-decide-requires
-decide-requires c κs = search needs
-
-enum-known-attributes : tie.Need-enum-known-attributes
-enum-known-attributes c = search needs
-
-enum-told : tie.Need-enum-told
-enum-told c = search needs
-
 returns : tie.Need-returns
 returns c =
-    let a = c .before .before .before .before .before .before .before .args in
+    let start = c .before .before .before .before .before .before .before in
+    let a = start .args in
     let table = rowsAt (a .area .now) (a .words .now) in
     rw (text-none table (optionsIs (a .question .options)) (unpacked (a .patterns .now)) (begun (a .area .now) (a .words .now) (a .name)) (sym (c .before .before .decide .ensures) ∙ c .enum-told .given .1))
     (put-none _ _ (search needs) (search needs))
 
-mul-of-word : tie.Need-mul-of-word
-mul-of-word c = search needs
-
-shared-slice-read-of-word : tie.Need-shared-slice-read-of-word
-shared-slice-read-of-word c = search needs
-
-of-word-requires : tie.Need-of-word-requires
-of-word-requires c κs = search needs
-
-name-of-requires : tie.Need-name-of-requires
-name-of-requires c κs = search needs
-
 slice-aggregate-put-line : tie.Need-slice-aggregate-put-line
 slice-aggregate-put-line c =
-    let start = c .before .before .before .before .before .before .before .before .before .before .before .before .before in
+    let stage = c .before .before .before .before .before .before .before .before .before .before .before .before .before in
+    let start = stage in
     let row = c .before .before .before .of-word in
     let looked = c .before .before .name-of in
     let area = start .args .area .now in
@@ -51,19 +32,18 @@ slice-aggregate-put-line c =
     looked-size area words (start .pre .0 .index .indexed) name (start .pre .1) (looked .result .now)
     (named area (getD words (name .row) 0) (row .result) (row .ensures) (looked .result .now) (looked .ensures))
 
-put-line-requires : tie.Need-put-line-requires
-put-line-requires c κs = search needs
-
-same-length : tie.Need-same-length
-same-length c = search needs
-
 returns-2 : tie.Need-returns-2
 returns-2 c =
-    let a = c .before .before .before .before .before .before .before .before .before .before .before .before .before .before .before .before .args in
-    let shown = c .before .before .before .before .before .before .before .before .before .before .before .decide in
-    let line = c .before .before .before .before .before .before .before .before .before .attributes .given in
-    let row = c .before .before .before .before .before .before .of-word in
-    let looked = c .before .before .before .before .before .name-of in
+    let after-name-of = c .before .before .before .before .before in
+    let after-of-word = after-name-of .before in
+    let after-attributes = after-of-word .before .before .before in
+    let after-decide = after-attributes .before .before in
+    let start = after-decide .before .before .before .before .before in
+    let a = start .args in
+    let shown = after-decide .decide in
+    let line = after-attributes .attributes .given in
+    let row = after-of-word .of-word in
+    let looked = after-name-of .name-of in
     let area = a .area .now in
     let words = a .words .now in
     let bytes = named area (getD words (a .name .row) 0) (row .result) (row .ensures) (looked .result .now) (looked .ensures) in
@@ -74,15 +54,15 @@ pub put-name-spec : {M : Type 1} → statement M
 put-name-spec =
     tie.close
     (tie.spec
-    decide-requires
-    enum-known-attributes
-    enum-told
+    (λ c κs. search needs)
+    (λ c. search needs)
+    (λ c. search needs)
     returns
-    mul-of-word
-    shared-slice-read-of-word
-    of-word-requires
-    name-of-requires
+    (λ c. search needs)
+    (λ c. search needs)
+    (λ c κs. search needs)
+    (λ c κs. search needs)
     slice-aggregate-put-line
-    put-line-requires
-    same-length
+    (λ c κs. search needs)
+    (λ c. search needs)
     returns-2)

@@ -27,24 +27,10 @@ Inv-loop buf₀ at area words patterns question i n len₀ to₀ buf len to =
 abbrev μ-loop : tie.MeasureT-loop
 μ-loop buf₀ at area words patterns question i n len₀ to₀ buf len to = n - len
 
-mul-of-word : tie.Need-mul-of-word Inv-loop μ-loop
-mul-of-word c = search needs
-
-shared-slice-read-of-word : tie.Need-shared-slice-read-of-word Inv-loop μ-loop
-shared-slice-read-of-word c = search needs
-
-of-word-requires : tie.Need-of-word-requires Inv-loop μ-loop
-of-word-requires c κs = search needs
-
-is-recursive-requires : tie.Need-is-recursive-requires Inv-loop μ-loop
-is-recursive-requires c κs = search needs
-
-first-length-requires : tie.Need-first-length-requires Inv-loop μ-loop
-first-length-requires c κs = search needs
-
 loop-holds : tie.Need-loop-holds Inv-loop μ-loop
 loop-holds c =
-    let start = c .before .before .before .before .before .before .before .before .before in
+    let stage = c .before .before .before .before .before .before .before .before .before in
+    let start = stage in
     let area = start .args .area .now in
     let words = start .args .words .now in
     let question = start .args .question in
@@ -65,30 +51,28 @@ loop-holds c =
       putting-none _ _ (search needs) (search needs) (ap (beyond (textOf area words (start .args .patterns .now) question) (nthName area words i)) first ∙ first-shown area words x o ps i (start .pre .1) deep asked),
     )
 
-add-len : tie.Need-add-len Inv-loop μ-loop
-add-len c = search needs
-
 put-name-requires : tie.Need-put-name-requires Inv-loop μ-loop
 put-name-requires c κs =
-    let start = c .before .before .before .before .before .before .before .before .before .before .before .before in
+    let stage = c .before .before .before .before .before .before .before .before .before .before .before .before in
+    let start = stage in
     let inv = c .before .before .loop .inv in
     (start .pre .0, record { row = start .pre .1; beyond = omega (arith, inv .1); within = omega (arith, inv .0, c .before .loop-test .taken) })
 
-loop-less : tie.Need-loop-less Inv-loop μ-loop
-loop-less c = search needs
-
 loop-again : tie.Need-loop-again Inv-loop μ-loop
 loop-again c =
-    let start = c .before .before .before .before .before .before .before .before .before .before .before .before .before .before .before in
+    let at-loop-test = c .before .before .before .before in
+    let turn-2 = at-loop-test .before in
+    let stage = turn-2 .before .before .before .before .before .before .before .before .before .before in
+    let start = stage in
     let a = start .args in
-    let turn = c .before .before .before .before .before .loop in
+    let turn = turn-2 .loop in
     let inv = turn .inv in
     let text = textOf (a .area .now) (a .words .now) (a .patterns .now) (a .question) in
     let name = nthName (a .area .now) (a .words .now) (a .i) in
-    let inside : turn .len < length name = omega (arith, name-length (start .pre .0 .index .indexed) (a .i) (start .pre .1), inv .0, c .before .before .before .before .loop-test .taken) in (
+    let inside : turn .len < length name = omega (arith, name-length (start .pre .0 .index .indexed) (a .i) (start .pre .1), inv .0, at-loop-test .loop-test .taken) in (
       inv .0,
       omega (arith, inv .1),
-      omega (arith, c .before .before .before .before .loop-test .taken),
+      omega (arith, at-loop-test .loop-test .taken),
       putting-more (inv .3) (text (take (turn .len + 1) name)) (beyond text name (turn .len + 1)) (beyond-step text name (turn .len) inside) (c .before .before .put-name .ensures),
     )
 
@@ -97,7 +81,8 @@ same-length c = put-length (c .before .loop .inv .3 .put)
 
 returns : tie.Need-returns Inv-loop μ-loop
 returns c =
-    let start = c .before .before .before .before .before .before .before .before .before .before .before in
+    let stage = c .before .before .before .before .before .before .before .before .before .before .before in
+    let start = stage in
     let a = start .args in
     let done = c .before .loop in
     let text = textOf (a .area .now) (a .words .now) (a .patterns .now) (a .question) in
@@ -110,15 +95,15 @@ put-row-spec =
     (tie.spec
     Inv-loop
     μ-loop
-    mul-of-word
-    shared-slice-read-of-word
-    of-word-requires
-    is-recursive-requires
-    first-length-requires
+    (λ c. search needs)
+    (λ c. search needs)
+    (λ c κs. search needs)
+    (λ c κs. search needs)
+    (λ c κs. search needs)
     loop-holds
-    add-len
+    (λ c. search needs)
     put-name-requires
-    loop-less
+    (λ c. search needs)
     loop-again
     same-length
     returns)

@@ -23,25 +23,19 @@ loop-holds : tie.Need-loop-holds Inv-loop μ-loop
 unfolding prefixes
 loop-holds c = (omega arith, putting-none _ _ (search needs) (search needs) refl)
 
-put-row-requires : tie.Need-put-row-requires Inv-loop μ-loop
-put-row-requires c κs = search needs
-
-add-i : tie.Need-add-i Inv-loop μ-loop
-add-i c = search needs
-
-loop-less : tie.Need-loop-less Inv-loop μ-loop
-loop-less c = search needs
-
 loop-again : tie.Need-loop-again Inv-loop μ-loop
 loop-again c =
-    let start = c .before .before .before .before .before .before .before .before .before .before in
+    let at-loop-test = c .before .before .before .before in
+    let turn-2 = at-loop-test .before in
+    let stage = turn-2 .before .before .before .before .before in
+    let start = stage in
     let area = start .args .area .now in
     let words = start .args .words .now in
     let patterns = start .args .patterns .now in
     let question = start .args .question in
-    let turn = c .before .before .before .before .before .loop in
+    let turn = turn-2 .loop in
     let text = textOf area words patterns question in
-    let step = rows-step area words (start .pre .index .indexed) text (turn .i) (c .before .before .before .before .loop-test .taken) in
+    let step = rows-step area words (start .pre .index .indexed) text (turn .i) (at-loop-test .loop-test .taken) in
     (omega arith, putting-more (turn .inv .1) (rowText area words patterns question (turn .i)) (textFrom text area words (turn .i + 1)) step (c .before .before .put-row .ensures))
 
 same-length : tie.Need-same-length Inv-loop μ-loop
@@ -49,7 +43,8 @@ same-length c = put-length (c .before .loop .inv .1 .put)
 
 returns : tie.Need-returns Inv-loop μ-loop
 returns c =
-    let start = c .before .before .before .before .before .before in
+    let stage = c .before .before .before .before .before .before in
+    let start = stage in
     let a = start .args in
     let done = c .before .loop in
     let text = textOf (a .area .now) (a .words .now) (a .patterns .now) (a .question) in
@@ -62,9 +57,9 @@ put-rows-spec =
     Inv-loop
     μ-loop
     loop-holds
-    put-row-requires
-    add-i
-    loop-less
+    (λ c κs. search needs)
+    (λ c. search needs)
+    (λ c. search needs)
     loop-again
     same-length
     returns)

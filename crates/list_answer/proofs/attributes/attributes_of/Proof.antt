@@ -12,38 +12,19 @@ use borrow.Author.Needs.{needs}
 use Rattle.list_answer.proofs.attributes.attributes_of.Statement.{statement}
 use Rattle.list_answer.proofs.attributes.attributes_of.Tie as tie
 
-shows-subscribed-requires : tie.Need-shows-subscribed-requires
-shows-subscribed-requires c κs = search needs
-
-own-attributes-requires : tie.Need-own-attributes-requires
-own-attributes-requires c κs = search needs
-
-shows-uses-requires : tie.Need-shows-uses-requires
-shows-uses-requires c κs = search needs
-
-with-uses-requires : tie.Need-with-uses-requires
-with-uses-requires c κs = search needs
-
-shows-children-requires : tie.Need-shows-children-requires
-shows-children-requires c κs = search needs
-
-with-requires : tie.Need-with-requires
-with-requires c κs = search needs
-
-has-requires : tie.Need-has-requires
-has-requires c κs = search needs
-
-with-requires-2 : tie.Need-with-requires-2
-with-requires-2 c κs = search needs
-
 returns : tie.Need-returns
 unfolding adds ownAttributes useAttributes attributesFor inOrder noInferiors
 returns c =
-    let start = c .before .before .before .before .before .before .before .before in
-    let shows = c .before .before .before .before .before .before .before .shows-subscribed in
-    let own = c .before .before .before .before .before .before .own-attributes in
-    let asks = c .before .before .before .before .before .shows-uses in
-    let uses = c .before .before .before .before .with-uses in
+    let after-with-uses = c .before .before .before .before in
+    let after-shows-uses = after-with-uses .before in
+    let after-own-attributes = after-shows-uses .before in
+    let after-shows-subscribed = after-own-attributes .before in
+    let stage = after-shows-subscribed .before in
+    let start = stage in
+    let shows = after-shows-subscribed .shows-subscribed in
+    let own = after-own-attributes .own-attributes in
+    let asks = after-shows-uses .shows-uses in
+    let uses = after-with-uses .with-uses in
     let asked = c .before .before .before .shows-children in
     let f = start .args .flags .bits in
     let o = optionsIs (start .args .question .options) in
@@ -62,12 +43,12 @@ pub attributes-of-spec : {M : Type 1} → statement M
 attributes-of-spec =
     tie.close
     (tie.spec
-    shows-subscribed-requires
-    own-attributes-requires
-    shows-uses-requires
-    with-uses-requires
-    shows-children-requires
-    with-requires
-    has-requires
-    with-requires-2
+    (λ c κs. search needs)
+    (λ c κs. search needs)
+    (λ c κs. search needs)
+    (λ c κs. search needs)
+    (λ c κs. search needs)
+    (λ c κs. search needs)
+    (λ c κs. search needs)
+    (λ c κs. search needs)
     returns)

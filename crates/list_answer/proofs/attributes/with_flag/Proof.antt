@@ -1,16 +1,10 @@
 -- `list_answer::attributes::with_flag` meets its contract, by those of `has` and `with`.
-use mathlib.Core.Path.{_≡_, refl}
+use mathlib.Core.Path.{refl}
 use Prim.Native.Nat.{ℕ}
 use Rattle.list_answer.proofs.Sets.{more}
 use borrow.Author.Needs.{needs}
 use Rattle.list_answer.proofs.attributes.with_flag.Statement.{statement}
 use Rattle.list_answer.proofs.attributes.with_flag.Tie as tie
-
-has-requires : tie.Need-has-requires
-has-requires c κs = search needs
-
-with-requires : tie.Need-with-requires
-with-requires c κs = search needs
 
 returns : tie.Need-returns
 returns c =
@@ -19,4 +13,4 @@ returns c =
     more (a .attribute .bits) set (c .before .has .ensures) (c .with .ensures)
 
 pub with-flag-spec : {M : Type 1} → statement M
-with-flag-spec = tie.close (tie.spec has-requires with-requires returns)
+with-flag-spec = tie.close (tie.spec (λ c κs. search needs) (λ c κs. search needs) returns)

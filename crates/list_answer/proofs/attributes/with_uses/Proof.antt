@@ -23,50 +23,34 @@ returns c =
     let f = c .before .args .flags .bits in
     rw (not-true (c .before .args .asked) (c .if1 .taken), and-false (bit 8 f), and-false (bit 9 f), and-false (bit 10 f), and-false (bit 11 f), and-false (bit 12 f), and-false (bit 13 f), and-false (bit 14 f))
 
-with-flag-requires : tie.Need-with-flag-requires
-with-flag-requires c κs = search needs
-
-with-flag-requires-2 : tie.Need-with-flag-requires-2
-with-flag-requires-2 c κs = search needs
-
-with-flag-requires-3 : tie.Need-with-flag-requires-3
-with-flag-requires-3 c κs = search needs
-
-with-flag-requires-4 : tie.Need-with-flag-requires-4
-with-flag-requires-4 c κs = search needs
-
-with-flag-requires-5 : tie.Need-with-flag-requires-5
-with-flag-requires-5 c κs = search needs
-
-with-flag-requires-6 : tie.Need-with-flag-requires-6
-with-flag-requires-6 c κs = search needs
-
-with-flag-requires-7 : tie.Need-with-flag-requires-7
-with-flag-requires-7 c κs = search needs
-
 returns-2 : tie.Need-returns-2
 unfolding adds useAttributes
 returns-2 c =
-    let f = c .before .before .before .before .before .before .before .before .args .flags .bits in
-    let own : _≡_ {A = ℕ} (c .before .before .before .before .before .before .before .before .args .own .bits) (c .before .before .before .before .before .before .before .before .args .own .bits) = refl in
-    let s1 = more 128 own (shown 8 f) (c .before .before .before .before .before .before .with-flag .ensures) in
-    let s2 = more 256 s1 (shown 9 f) (c .before .before .before .before .before .with-flag2 .ensures) in
-    let s3 = more 512 s2 (shown 10 f) (c .before .before .before .before .with-flag3 .ensures) in
+    let after-with-flag3 = c .before .before .before .before in
+    let after-with-flag2 = after-with-flag3 .before in
+    let after-with-flag = after-with-flag2 .before in
+    let at-if1 = after-with-flag .before in
+    let start = at-if1 .before in
+    let f = start .args .flags .bits in
+    let own : _≡_ {A = ℕ} (start .args .own .bits) (start .args .own .bits) = refl in
+    let s1 = more 128 own (shown 8 f) (after-with-flag .with-flag .ensures) in
+    let s2 = more 256 s1 (shown 9 f) (after-with-flag2 .with-flag2 .ensures) in
+    let s3 = more 512 s2 (shown 10 f) (after-with-flag3 .with-flag3 .ensures) in
     let s4 = more 1024 s3 (shown 11 f) (c .before .before .before .with-flag4 .ensures) in
     let s5 = more 2048 s4 (shown 12 f) (c .before .before .with-flag5 .ensures) in
     let s6 = more 4096 s5 (shown 13 f) (c .before .with-flag6 .ensures) in
-    rw (not-false (c .before .before .before .before .before .before .before .before .args .asked) (c .before .before .before .before .before .before .before .if1 .left)) (more 8192 s6 (shown 14 f) (c .with-flag7 .ensures))
+    rw (not-false (start .args .asked) (at-if1 .if1 .left)) (more 8192 s6 (shown 14 f) (c .with-flag7 .ensures))
 
 pub with-uses-spec : {M : Type 1} → statement M
 with-uses-spec =
     tie.close
     (tie.spec
     returns
-    with-flag-requires
-    with-flag-requires-2
-    with-flag-requires-3
-    with-flag-requires-4
-    with-flag-requires-5
-    with-flag-requires-6
-    with-flag-requires-7
+    (λ c κs. search needs)
+    (λ c κs. search needs)
+    (λ c κs. search needs)
+    (λ c κs. search needs)
+    (λ c κs. search needs)
+    (λ c κs. search needs)
+    (λ c κs. search needs)
     returns-2)

@@ -7,11 +7,10 @@ use Rattle.list_answer.proofs.decide.asked_below.Tie as tie
 returns : tie.Need-returns
 returns c = rw (not-true (c .before .before .before .args .asked) (c .if1 .taken))
 
-some-below-requires : tie.Need-some-below-requires
-some-below-requires c κs = search needs
-
 returns-2 : tie.Need-returns-2
-returns-2 c = rw (not-false (c .before .before .before .before .args .asked) (c .before .if1 .left)) (c .some-below .ensures)
+returns-2 c =
+    let start = c .before .before .before .before in
+    rw (not-false (start .args .asked) (c .before .if1 .left)) (c .some-below .ensures)
 
 pub asked-below-spec : {M : Type 1} → statement M
-asked-below-spec = tie.close (tie.spec returns some-below-requires returns-2)
+asked-below-spec = tie.close (tie.spec returns (λ c κs. search needs) returns-2)

@@ -9,19 +9,11 @@ use borrow.Author.Needs.{needs}
 use Rattle.list_answer.proofs.decide.child_info.Statement.{statement}
 use Rattle.list_answer.proofs.decide.child_info.Tie as tie
 
-has-requires : tie.Need-has-requires
-has-requires c κs = search needs
-
-has-requires-2 : tie.Need-has-requires-2
-has-requires-2 c κs = search needs
-
-of-requires : tie.Need-of-requires
-of-requires c κs = search needs
-
 returns : tie.Need-returns
 unfolding criteria optionsIs
 returns c =
-    let o = c .before .before .before .before .args .options .bits in
+    let start = c .before .before .before .before in
+    let o = start .args .options .bits in
     let h1 : c .before .before .has .result ≡ bit 0 o = c .before .before .has .ensures ∙ contains-bit 0 o in
     let h2 : c .before .has2 .result ≡ bit 3 o = c .before .has2 .ensures ∙ contains-bit 3 o in
     rw (c .before .before .before .if1 .taken) (c .of .ensures ∙ (λ i. criteriaNumber (these (h1 i) (h2 i))))
@@ -31,4 +23,4 @@ unfolding criteriaNumber noCriteria
 returns-2 c = rw (c .if1 .left)
 
 pub child-info-spec : {M : Type 1} → statement M
-child-info-spec = tie.close (tie.spec has-requires has-requires-2 of-requires returns returns-2)
+child-info-spec = tie.close (tie.spec (λ c κs. search needs) (λ c κs. search needs) (λ c κs. search needs) returns returns-2)

@@ -13,12 +13,10 @@ use borrow.Author.Needs.{needs}
 use Rattle.list_answer.proofs.decide.decide.Statement.{statement}
 use Rattle.list_answer.proofs.decide.decide.Tie as tie
 
-look-at-requires : tie.Need-look-at-requires
-look-at-requires c κs = search needs
-
 returns : tie.Need-returns
 returns c =
-    let start = c .before .before .before .before .before .before in
+    let stage = c .before .before .before .before .before .before in
+    let start = stage in
     let a = start .args in
     let standing = c .before .before .look-at in
     let stands = standing .ensures (a .patterns .now) (start .pre .0) in
@@ -28,14 +26,13 @@ returns c =
     let n = begun (a .area .now) (a .words .now) (a .name) in
     shown-not table o ps n (standing .result .level) (standing .result .counts) (stands .level) (stands .counts) (not-true _ (c .if1 .taken))
 
-is-matched-requires : tie.Need-is-matched-requires
-is-matched-requires c κs = search needs
-
 returns-2 : tie.Need-returns-2
 returns-2 c =
-    let start = c .before .before .before .before .before .before .before .before in
+    let after-look-at = c .before .before .before .before in
+    let stage = after-look-at .before .before .before .before in
+    let start = stage in
     let a = start .args in
-    let standing = c .before .before .before .before .look-at in
+    let standing = after-look-at .look-at in
     let stands = standing .ensures (a .patterns .now) (start .pre .0) in
     let table = rowsAt (a .area .now) (a .words .now) in
     let o = optionsIs (a .question .options) in
@@ -44,32 +41,21 @@ returns-2 c =
     shown-unmatched table o ps n (standing .result .level) (standing .result .counts) (stands .level) (stands .counts) (not-false _ (c .before .before .if1 .left))
     (c .before .is-matched .result) (c .before .is-matched .ensures) (not-true _ (c .if2 .taken))
 
-is-recursive-requires : tie.Need-is-recursive-requires
-is-recursive-requires c κs = search needs
-
-asked-below-requires : tie.Need-asked-below-requires
-asked-below-requires c κs = search needs
-
-shows-children-requires : tie.Need-shows-children-requires
-shows-children-requires c κs = search needs
-
-asked-below-requires-2 : tie.Need-asked-below-requires-2
-asked-below-requires-2 c κs = search needs
-
-attributes-of-requires : tie.Need-attributes-of-requires
-attributes-of-requires c κs = search needs
-
-child-info-requires : tie.Need-child-info-requires
-child-info-requires c κs = search needs
-
 returns-3 : tie.Need-returns-3
 returns-3 c =
-    let start = c .before .before .before .before .before .before .before .before .before .before .before .before .before .before in
-    let standing = c .before .before .before .before .before .before .before .before .before .before .look-at in
+    let after-asked-below = c .before .before .before .before in
+    let after-is-recursive = after-asked-below .before in
+    let at-if2 = after-is-recursive .before in
+    let after-is-matched = at-if2 .before in
+    let at-if1 = after-is-matched .before in
+    let after-look-at = at-if1 .before .before in
+    let stage = after-look-at .before .before .before .before in
+    let start = stage in
+    let standing = after-look-at .look-at in
     let stands = standing .ensures (start .args .patterns .now) (start .pre .0) in
-    let matched = c .before .before .before .before .before .before .before .is-matched in
-    let recursive = c .before .before .before .before .before .is-recursive in
-    let below = c .before .before .before .before .asked-below in
+    let matched = after-is-matched .is-matched in
+    let recursive = after-is-recursive .is-recursive in
+    let below = after-asked-below .asked-below in
     let asked = c .before .before .before .shows-children in
     let parent = c .before .before .asked-below2 in
     let attributes = c .before .attributes-of in
@@ -86,8 +72,8 @@ returns-3 c =
     = parent .ensures ∙ (λ i. asked .ensures i && sym (children-below area words x name at o ps (ready .marked)) i) in
     let info : below .result ≡ (o .selRecursive && meetsBelow (rowsAt area words) o n)
     = below .ensures ∙ (λ i. recursive .ensures i && sym (meets-below area words x name at o ps (ready .marked)) i) in
-    shown-line (rowsAt area words) o ps n (standing .result .level) (standing .result .counts) (stands .level) (stands .counts) (not-false _ (c .before .before .before .before .before .before .before .before .if1 .left))
-    (matched .result) (matched .ensures) (not-false _ (c .before .before .before .before .before .before .if2 .left))
+    shown-line (rowsAt area words) o ps n (standing .result .level) (standing .result .counts) (stands .level) (stands .counts) (not-false _ (at-if1 .if1 .left))
+    (matched .result) (matched .ensures) (not-false _ (at-if2 .if2 .left))
     (standing .result .flags .bits) (stands .flags)
     (parent .result) children
     (attributes .result) (attributes .ensures)
@@ -98,14 +84,14 @@ pub decide-spec : {M : Type 1} → statement M
 decide-spec =
     tie.close
     (tie.spec
-    look-at-requires
+    (λ c κs. search needs)
     returns
-    is-matched-requires
+    (λ c κs. search needs)
     returns-2
-    is-recursive-requires
-    asked-below-requires
-    shows-children-requires
-    asked-below-requires-2
-    attributes-of-requires
-    child-info-requires
+    (λ c κs. search needs)
+    (λ c κs. search needs)
+    (λ c κs. search needs)
+    (λ c κs. search needs)
+    (λ c κs. search needs)
+    (λ c κs. search needs)
     returns-3)

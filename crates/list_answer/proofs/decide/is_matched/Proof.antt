@@ -20,25 +20,12 @@ use borrow.Author.Needs.{needs}
 use Rattle.list_answer.proofs.decide.is_matched.Statement.{statement}
 use Rattle.list_answer.proofs.decide.is_matched.Tie as tie
 
-mul-word : tie.Need-mul-word
-mul-word c = search needs
-
-shared-slice-read-word : tie.Need-shared-slice-read-word
-shared-slice-read-word c = search needs
-
-of-word-requires : tie.Need-of-word-requires
-of-word-requires c κs = search needs
-
-of-word-requires-2 : tie.Need-of-word-requires-2
-of-word-requires-2 c κs = search needs
-
-has-requires : tie.Need-has-requires
-has-requires c κs = search needs
-
 returns : tie.Need-returns
 returns c =
-    let start = c .before .before .before .before .before .before .before .before .before in
-    let row = c .before .before .before .before .of-word in
+    let after-of-word = c .before .before .before .before in
+    let stage = after-of-word .before .before .before .before .before in
+    let start = stage in
+    let row = after-of-word .of-word in
     let marks = c .before .of-word2 in
     let area = start .args .area .now in
     let words = start .args .words .now in
@@ -52,13 +39,12 @@ returns c =
     ∙ ap (λ (m : ℕ). contains m 8) (marks .ensures)
     ∙ matched-whole area words (ready .index .indexed) name (start .pre .1) o ps (ready .marked) whole h
 
-name-of-requires : tie.Need-name-of-requires
-name-of-requires c κs = search needs
-
 slice-aggregate-matches-any : tie.Need-slice-aggregate-matches-any
 slice-aggregate-matches-any c =
-    let start = c .before .before .before .before .before .before .before .before .before in
-    let row = c .before .before .before .before .of-word in
+    let after-of-word = c .before .before .before .before in
+    let stage = after-of-word .before .before .before .before .before in
+    let start = stage in
+    let row = after-of-word .of-word in
     let looked = c .before .name-of in
     let area = start .args .area .now in
     let words = start .args .words .now in
@@ -66,13 +52,12 @@ slice-aggregate-matches-any c =
     looked-size area words (start .pre .0 .index .indexed) name (start .pre .1) (looked .result .now)
     (named area (getD words (name .row) 0) (row .result) (row .ensures) (looked .result .now) (looked .ensures))
 
-matches-any-requires : tie.Need-matches-any-requires
-matches-any-requires c κs = search needs
-
 returns-2 : tie.Need-returns-2
 returns-2 c =
-    let start = c .before .before .before .before .before .before .before .before .before .before in
-    let row = c .before .before .before .before .before .of-word in
+    let after-of-word = c .before .before .before .before .before in
+    let stage = after-of-word .before .before .before .before .before in
+    let start = stage in
+    let row = after-of-word .of-word in
     let looked = c .before .before .name-of in
     let area = start .args .area .now in
     let words = start .args .words .now in
@@ -97,13 +82,13 @@ pub is-matched-spec : {M : Type 1} → statement M
 is-matched-spec =
     tie.close
     (tie.spec
-    mul-word
-    shared-slice-read-word
-    of-word-requires
-    of-word-requires-2
-    has-requires
+    (λ c. search needs)
+    (λ c. search needs)
+    (λ c κs. search needs)
+    (λ c κs. search needs)
+    (λ c κs. search needs)
     returns
-    name-of-requires
+    (λ c κs. search needs)
     slice-aggregate-matches-any
-    matches-any-requires
+    (λ c κs. search needs)
     returns-2)

@@ -19,44 +19,19 @@ use borrow.Author.Needs.{needs}
 use Rattle.list_answer.proofs.decide.look_at.Statement.{statement}
 use Rattle.list_answer.proofs.decide.look_at.Tie as tie
 
-mul-word : tie.Need-mul-word
-mul-word c = search needs
-
-shared-slice-read-word : tie.Need-shared-slice-read-word
-shared-slice-read-word c = search needs
-
-of-word-requires : tie.Need-of-word-requires
-of-word-requires c κs = search needs
-
-flags-of-requires : tie.Need-flags-of-requires
-flags-of-requires c κs = search needs
-
-of-word-requires-2 : tie.Need-of-word-requires-2
-of-word-requires-2 c κs = search needs
-
-has-requires : tie.Need-has-requires
-has-requires c κs = search needs
-
-is-recursive-requires : tie.Need-is-recursive-requires
-is-recursive-requires c κs = search needs
-
-asked-below-requires : tie.Need-asked-below-requires
-asked-below-requires c κs = search needs
-
-asks-level-requires : tie.Need-asks-level-requires
-asks-level-requires c κs = search needs
-
-asked-below-requires-2 : tie.Need-asked-below-requires-2
-asked-below-requires-2 c κs = search needs
-
 returns : tie.Need-returns
 returns c =
+    let after-has = c .before .before .before .before in
+    let after-of-word2 = after-has .before in
+    let after-flags-of = after-of-word2 .before in
+    let after-of-word = after-flags-of .before .before .before in
+    let stage = after-of-word .before .before .before .before in
     λ patterns ready.
-    let start = c .before .before .before .before .before .before .before .before .before .before .before .before .before in
-    let row = c .before .before .before .before .before .before .before .before .before .of-word in
-    let flagged = c .before .before .before .before .before .before .flags-of in
-    let marks = c .before .before .before .before .before .of-word2 in
-    let met = c .before .before .before .before .has in
+    let start = stage in
+    let row = after-of-word .of-word in
+    let flagged = after-flags-of .flags-of in
+    let marks = after-of-word2 .of-word2 in
+    let met = after-has .has in
     let recursive = c .before .before .before .is-recursive in
     let deep = c .before .before .asked-below in
     let absent = c .before .asks-level in
@@ -88,14 +63,14 @@ pub look-at-spec : {M : Type 1} → statement M
 look-at-spec =
     tie.close
     (tie.spec
-    mul-word
-    shared-slice-read-word
-    of-word-requires
-    flags-of-requires
-    of-word-requires-2
-    has-requires
-    is-recursive-requires
-    asked-below-requires
-    asks-level-requires
-    asked-below-requires-2
+    (λ c. search needs)
+    (λ c. search needs)
+    (λ c κs. search needs)
+    (λ c κs. search needs)
+    (λ c κs. search needs)
+    (λ c κs. search needs)
+    (λ c κs. search needs)
+    (λ c κs. search needs)
+    (λ c κs. search needs)
+    (λ c κs. search needs)
     returns)

@@ -7,11 +7,10 @@ use Rattle.list_answer.proofs.marks.asked_match.Tie as tie
 returns : tie.Need-returns
 returns c = rw (not-true (c .before .before .before .args .asked) (c .if1 .taken))
 
-matches-any-requires : tie.Need-matches-any-requires
-matches-any-requires c κs = search needs
-
 returns-2 : tie.Need-returns-2
-returns-2 c = rw (not-false (c .before .before .before .before .args .asked) (c .before .if1 .left)) (c .matches-any .ensures)
+returns-2 c =
+    let start = c .before .before .before .before in
+    rw (not-false (start .args .asked) (c .before .if1 .left)) (c .matches-any .ensures)
 
 pub asked-match-spec : {M : Type 1} → statement M
-asked-match-spec = tie.close (tie.spec returns matches-any-requires returns-2)
+asked-match-spec = tie.close (tie.spec returns (λ c κs. search needs) returns-2)

@@ -19,43 +19,17 @@ abbrev μ-loop : tie.MeasureT-loop
 μ-loop area words patterns question marked₀ i₀ marked i = length words - i
 
 loop-holds : tie.Need-loop-holds Inv-loop μ-loop
-loop-holds c = (omega arith, refl, c .before .before .before .before .pre .1, refl)
-
-mul-marks-for : tie.Need-mul-marks-for Inv-loop μ-loop
-mul-marks-for c = search needs
-
-shared-slice-read-marks-for : tie.Need-shared-slice-read-marks-for Inv-loop μ-loop
-shared-slice-read-marks-for c = search needs
-
-marks-for-requires : tie.Need-marks-for-requires Inv-loop μ-loop
-marks-for-requires c κs = search needs
-
-mul-with-marks : tie.Need-mul-with-marks Inv-loop μ-loop
-mul-with-marks c = search needs
-
-shared-slice-read-with-marks : tie.Need-shared-slice-read-with-marks Inv-loop μ-loop
-shared-slice-read-with-marks c = search needs
-
-with-marks-requires : tie.Need-with-marks-requires Inv-loop μ-loop
-with-marks-requires c κs = search needs
-
-mul-marked : tie.Need-mul-marked Inv-loop μ-loop
-mul-marked c = search needs
-
-slice-write-marked : tie.Need-slice-write-marked Inv-loop μ-loop
-slice-write-marked c = search needs
-
-add-i : tie.Need-add-i Inv-loop μ-loop
-add-i c = search needs
-
-loop-less : tie.Need-loop-less Inv-loop μ-loop
-loop-less c = search needs
+loop-holds c =
+    let after-pre = c .before .before .before .before in
+    (omega arith, refl, after-pre .pre .1, refl)
 
 loop-again : tie.Need-loop-again Inv-loop μ-loop
 unfolding markedWord
 loop-again c =
-    let start = c .before .before .before .before .before .before .before .before .before .before in
-    let turn = c .before .before .before .before .before .loop in
+    let turn-2 = c .before .before .before .before .before in
+    let stage = turn-2 .before .before .before .before .before in
+    let start = stage in
+    let turn = turn-2 .loop in
     let a = start .args in
     let mark = markedWord (a .area .now) (a .patterns .now) (a .question) in
     let w = getD (a .words .now) (turn .i) 0 in
@@ -67,12 +41,10 @@ loop-again c =
           (words-more mark (a .words .now) (turn .marked) (turn .i) (omega arith) (omega arith) (turn .inv .3)),
     )
 
-same-length : tie.Need-same-length Inv-loop μ-loop
-same-length c = search needs
-
 returns : tie.Need-returns Inv-loop μ-loop
 returns c =
-    let a = c .before .before .before .before .before .before .args in
+    let start = c .before .before .before .before .before .before in
+    let a = start .args in
     let done = c .before .loop in
     words-all (markedWord (a .area .now) (a .patterns .now) (a .question)) (a .words .now) (done .marked) (done .i) (omega arith) (done .inv .3)
 
@@ -83,16 +55,16 @@ mark-rows-spec =
     Inv-loop
     μ-loop
     loop-holds
-    mul-marks-for
-    shared-slice-read-marks-for
-    marks-for-requires
-    mul-with-marks
-    shared-slice-read-with-marks
-    with-marks-requires
-    mul-marked
-    slice-write-marked
-    add-i
-    loop-less
+    (λ c. search needs)
+    (λ c. search needs)
+    (λ c κs. search needs)
+    (λ c. search needs)
+    (λ c. search needs)
+    (λ c κs. search needs)
+    (λ c. search needs)
+    (λ c. search needs)
+    (λ c. search needs)
+    (λ c. search needs)
     loop-again
-    same-length
+    (λ c. search needs)
     returns)

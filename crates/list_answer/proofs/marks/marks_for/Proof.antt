@@ -19,49 +19,24 @@ use borrow.Author.Needs.{needs}
 use Rattle.list_answer.proofs.marks.marks_for.Statement.{statement}
 use Rattle.list_answer.proofs.marks.marks_for.Tie as tie
 
-of-word-requires : tie.Need-of-word-requires
-of-word-requires c κs = search needs
-
-is-met-requires : tie.Need-is-met-requires
-is-met-requires c κs = search needs
-
-is-recursive-requires : tie.Need-is-recursive-requires
-is-recursive-requires c κs = search needs
-
-asks-level-requires : tie.Need-asks-level-requires
-asks-level-requires c κs = search needs
-
-name-of-requires : tie.Need-name-of-requires
-name-of-requires c κs = search needs
-
-asked-match-requires : tie.Need-asked-match-requires
-asked-match-requires c κs = search needs
-
-with-requires : tie.Need-with-requires
-with-requires c κs = search needs
-
-with-requires-2 : tie.Need-with-requires-2
-with-requires-2 c κs = search needs
-
-counts-child-requires : tie.Need-counts-child-requires
-counts-child-requires c κs = search needs
-
-with-requires-3 : tie.Need-with-requires-3
-with-requires-3 c κs = search needs
-
-with-requires-4 : tie.Need-with-requires-4
-with-requires-4 c κs = search needs
-
 returns : tie.Need-returns
 unfolding adds rowMarks
 returns c =
-    let start = c .before .before .before .before .before .before .before .before .before .before .before .before .before in
-    let place = c .before .before .before .before .before .before .before .before .before .before .of-word in
-    let met = c .before .before .before .before .before .before .before .before .before .is-met in
-    let recursive = c .before .before .before .before .before .before .before .before .is-recursive in
-    let asks = c .before .before .before .before .before .before .before .asks-level in
-    let looked = c .before .before .before .before .before .before .name-of in
-    let match = c .before .before .before .before .before .asked-match in
+    let after-with = c .before .before .before .before in
+    let after-asked-match = after-with .before in
+    let after-name-of = after-asked-match .before in
+    let after-asks-level = after-name-of .before in
+    let after-is-recursive = after-asks-level .before in
+    let after-is-met = after-is-recursive .before in
+    let after-of-word = after-is-met .before in
+    let stage = after-of-word .before .before .before in
+    let start = stage in
+    let place = after-of-word .of-word in
+    let met = after-is-met .is-met in
+    let recursive = after-is-recursive .is-recursive in
+    let asks = after-asks-level .asks-level in
+    let looked = after-name-of .name-of in
+    let match = after-asked-match .asked-match in
     let counts = c .before .before .counts-child in
     let area = start .args .area .now in
     let word = start .args .word in
@@ -78,7 +53,7 @@ returns c =
     let unmatched : ((recursive .result && met .result) && not (match .result)) ≡ unmatchedMark o ps row
     = (λ i. (recursive .ensures i && meeting i) && not (match .result)) ∙ unmatched-is o ps row (match .result) matched in
     let none : _≡_ {A = ℕ} 0 0 = refl in
-    let s1 = more 1 none meeting (c .before .before .before .before .with .ensures) in
+    let s1 = more 1 none meeting (after-with .with .ensures) in
     let s2 = more 2 s1 unmatched (c .before .before .before .with2 .ensures) in
     let s3 = more 4 s2 child (c .before .with3 .ensures) in
     more 8 s3 matched (c .with4 .ensures) ∙ adds-all (meetsMark o row ∷ unmatchedMark o ps row ∷ childMark o row ∷ matchedMark o ps row ∷ [])
@@ -87,15 +62,15 @@ pub marks-for-spec : {M : Type 1} → statement M
 marks-for-spec =
     tie.close
     (tie.spec
-    of-word-requires
-    is-met-requires
-    is-recursive-requires
-    asks-level-requires
-    name-of-requires
-    asked-match-requires
-    with-requires
-    with-requires-2
-    counts-child-requires
-    with-requires-3
-    with-requires-4
+    (λ c κs. search needs)
+    (λ c κs. search needs)
+    (λ c κs. search needs)
+    (λ c κs. search needs)
+    (λ c κs. search needs)
+    (λ c κs. search needs)
+    (λ c κs. search needs)
+    (λ c κs. search needs)
+    (λ c κs. search needs)
+    (λ c κs. search needs)
+    (λ c κs. search needs)
     returns)

@@ -6,18 +6,9 @@ use borrow.Author.Needs.{needs}
 use Rattle.list_answer.proofs.question.is_unselective.Statement.{statement}
 use Rattle.list_answer.proofs.question.is_unselective.Tie as tie
 
-has-requires : tie.Need-has-requires
-has-requires c κs = search needs
-
-has-requires-2 : tie.Need-has-requires-2
-has-requires-2 c κs = search needs
-
-has-requires-3 : tie.Need-has-requires-3
-has-requires-3 c κs = search needs
-
 returns : tie.Need-returns
 unfolding unselective optionsIs
 returns c = let o = c .before .before .before .args .options .bits in cc (contains-bit 0 o, contains-bit 2 o, contains-bit 3 o)
 
 pub is-unselective-spec : {M : Type 1} → statement M
-is-unselective-spec = tie.close (tie.spec has-requires has-requires-2 has-requires-3 returns)
+is-unselective-spec = tie.close (tie.spec (λ c κs. search needs) (λ c κs. search needs) (λ c κs. search needs) returns)

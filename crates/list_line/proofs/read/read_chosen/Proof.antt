@@ -24,7 +24,9 @@ loop-holds : tie.Need-loop-holds Inv-loop μ-loop
 loop-holds c = choosing-none _ _ (c .before .before .before .pre .0)
 
 name-span-requires : tie.Need-name-span-requires Inv-loop μ-loop
-name-span-requires c κs = (c .before .before .before .before .before .pre .1 .1, c .loop-test .taken)
+name-span-requires c κs =
+    let after-pre = c .before .before .before .before .before in
+    (after-pre .pre .1 .1, c .loop-test .taken)
 
 sub-skip : tie.Need-sub-skip Inv-loop μ-loop
 sub-skip c = c .name-span .ensures .order
@@ -33,7 +35,9 @@ part-skip-start : tie.Need-part-skip-start Inv-loop μ-loop
 part-skip-start c = c .name-span .ensures .order
 
 part-skip-end : tie.Need-part-skip-end Inv-loop μ-loop
-part-skip-end c = omega (arith, c .name-span .ensures .inside, ap length (c .before .before .before .before .before .before .pre .1 .0))
+part-skip-end c =
+    let after-pre = c .before .before .before .before .before .before in
+    omega (arith, c .name-span .ensures .inside, ap length (after-pre .pre .1 .0))
 
 skip-requires : tie.Need-skip-requires Inv-loop μ-loop
 skip-requires c κs = c .before .before .before .loop .inv .inside
@@ -48,19 +52,22 @@ skipped c =
 
 add-bits : tie.Need-add-bits Inv-loop μ-loop
 add-bits c =
-    let at-loop-test = c .before .before .before .before .before .before in
+    let stage = c .before .before .before .before .before .before in
+    let at-loop-test = stage in
     let turn = at-loop-test .before in
     omega (arith, choosing-bits (turn .loop .inv), choosing-member (turn .loop .inv) (at-loop-test .loop-test .taken))
 
 mul-member : tie.Need-mul-member Inv-loop μ-loop
 mul-member c =
-    let at-loop-test = c .before .before .before .before in
+    let stage = c .before .before .before .before in
+    let at-loop-test = stage in
     let turn = at-loop-test .before in
     omega (arith, choosing-member (turn .loop .inv) (at-loop-test .loop-test .taken))
 
 loop-again : tie.Need-loop-again Inv-loop μ-loop
 loop-again c =
-    let at-loop-test = c .before .before .before .before in
+    let stage = c .before .before .before .before in
+    let at-loop-test = stage in
     let turn = at-loop-test .before in
     let start = turn .before .before .before .before in
     let inv = turn .loop .inv in

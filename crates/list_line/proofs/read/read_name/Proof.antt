@@ -27,19 +27,27 @@ told c =
     subst (Next (start .args .line .now) (turn .loop .i)) (c .before .b .given .1) (after-next-piece .next-piece .ensures)
 
 same-length : tie.Need-same-length Inv-loop μ-loop
-same-length c = c .before .before .before .before .before .loop .inv .long
+same-length c =
+    let turn = c .before .before .before .before .before in
+    turn .loop .inv .long
 
 returns : tie.Need-returns Inv-loop μ-loop
-returns c = naming-full (c .before .before .before .before .before .loop .inv) _ _ (told (c .before)) (c .if1 .taken)
+returns c =
+    let turn = c .before .before .before .before .before in
+    naming-full (turn .loop .inv) _ _ (told (c .before)) (c .if1 .taken)
 
 loop-less : tie.Need-loop-less Inv-loop μ-loop
 loop-less c = omega (arith, told (c .before))
 
 loop-again : tie.Need-loop-again Inv-loop μ-loop
-loop-again c = naming-byte (c .before .before .before .before .before .loop .inv) _ _ (told (c .before)) (c .if1 .left)
+loop-again c =
+    let turn = c .before .before .before .before .before in
+    naming-byte (turn .loop .inv) _ _ (told (c .before)) (c .if1 .left)
 
 same-length-2 : tie.Need-same-length-2 Inv-loop μ-loop
-same-length-2 c = c .before .before .before .before .loop .inv .long
+same-length-2 c =
+    let turn = c .before .before .before .before in
+    turn .loop .inv .long
 
 returns-2 : tie.Need-returns-2 Inv-loop μ-loop
 returns-2 c =

@@ -63,7 +63,8 @@ delimited c =
 
 returns-3 : tie.Need-returns-3
 returns-3 c =
-    let after-read-name = c .before .before .before .before in
+    let stage-2 = c .before .before .before .before in
+    let after-read-name = stage-2 in
     let after-no-name = after-read-name .before .before in
     let stage = after-no-name .before in
     let after-b = stage .before in
@@ -73,7 +74,8 @@ returns-3 c =
 -- the name, and what is left behind it
 name : (c : tie.After-known-told3) → Names (c .before .before .before .before .before .before .before .before .before .before .before .before .before .before .before .before .before .before .before .args .line .now) (c .before .before .before .before .before .before .before .before .b .given .0 .0) (c .before .before .before .before .before .before .no-name .result) (c .before .before .before .before .read-name .last .1 .1 .0) (Of (c .before .len .given .0 .0) (c .before .len .given .0 .1 .0))
 name c =
-    let after-read-name = c .before .before .before .before in
+    let stage = c .before .before .before .before in
+    let after-read-name = stage in
     let after-no-name = after-read-name .before .before in
     let after-b = after-no-name .before .before in
     let start = after-b .before .before .before .before .before .before .before .before .before .before .before in
@@ -81,11 +83,14 @@ name c =
 
 room : (c : tie.After-known-told3) → c .before .len .given .0 .0 ≤ 200
 room c =
-    let after-no-name = c .before .before .before .before .before .before in
+    let stage = c .before .before .before .before .before .before in
+    let after-no-name = stage in
     omega (arith, name c .4, ap length (after-no-name .no-name .ensures), length-replicate {A = ℕ} 200 0)
 
 named : (c : tie.After-known-told3) → readParts (c .before .before .before .before .before .before .before .before .before .before .before .before .before .before .before .before .before .before .before .args .line .now) ≡ fromEnd (chosenAt (c .before .before .before .before .before .before .before .before .before .before .before .before .before .before .before .before .before .before .before .args .line .now) (c .before .before .before .before .before .before .before .before .before .before .before .before .before .before .a .given .0 .0)) (name c .0) (drop (c .before .len .given .0 .1 .0) (c .before .before .before .before .before .before .before .before .before .before .before .before .before .before .before .before .before .before .before .args .line .now))
-named c = delimited (c .before .before .before .before .before .before .before) ∙ name-read _ _ _ _ (name c .1)
+named c =
+    let stage = c .before .before .before .before .before .before .before in
+    delimited (stage) ∙ name-read _ _ _ _ (name c .1)
 
 sub-read-tail : tie.Need-sub-read-tail
 sub-read-tail c = name c .2
@@ -115,14 +120,19 @@ whole : (c : tie.After-known-told4) → criteriaNumber (criteriaOf (c .before .c
 whole c = tail-whole _ _ (sym (c .before .before .before .read-tail .ensures) ∙ c .before .criteria .given .1)
 
 array-share-prefix-name : tie.Need-array-share-prefix-name
-array-share-prefix-name c = omega (arith, name (c .before .before .before .before .before) .4)
+array-share-prefix-name c =
+    let stage = c .before .before .before .before .before in
+    omega (arith, name (stage) .4)
 
 slice-aggregate-lawful-name : tie.Need-slice-aggregate-lawful-name
-slice-aggregate-lawful-name c = simp length-take (omega (arith, name (c .before .before .before .before .before .before) .4))
+slice-aggregate-lawful-name c =
+    let stage = c .before .before .before .before .before .before in
+    simp length-take (omega (arith, name (stage) .4))
 
 lawful : (c : tie.After-lawful-name) → c .lawful-name .result ≡ lawfulName (name (c .before .before .before .before .before .before .before) .0)
 lawful c =
-    let stage = c .before .before .before .before .before .before .before in
+    let stage-2 = c .before .before .before .before .before .before .before in
+    let stage = stage-2 in
     let after-len = stage .before in
     let after-read-name = after-len .before .before .before in
     let after-no-name = after-read-name .before .before in

@@ -17,7 +17,8 @@ shared-slice-read-wide c =
 
 shared-slice-read-wide-2 : tie.Need-shared-slice-read-wide-2
 shared-slice-read-wide-2 c =
-    let after-pre = c .before .before .before .before in
+    let stage = c .before .before .before .before in
+    let after-pre = stage in
     omega (arith, ap length (after-pre .pre .0), length-places, after-pre .pre .1)
 
 -- the two places, from the table
@@ -28,7 +29,8 @@ start c =
 
 end : (c : tie.After-wide2) → c .wide2 .result ≡ getD namePlaces (c .before .before .before .before .before .args .k + 1) 0
 end c =
-    let start = c .before .before .before .before .before in
+    let stage = c .before .before .before .before .before in
+    let start = stage in
     c .wide2 .ensures ∙ ap (λ (x : List ℕ). getD x (start .args .k + 1) 0) (start .pre .0)
 
 add-t11 : tie.Need-add-t11

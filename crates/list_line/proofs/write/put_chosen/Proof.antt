@@ -23,7 +23,9 @@ loop-holds : tie.Need-loop-holds Inv-loop μ-loop
 loop-holds c = spelled-none _ _ _ (search needs) (search needs)
 
 name-span-requires : tie.Need-name-span-requires Inv-loop μ-loop
-name-span-requires c κs = (c .before .before .before .before .before .before .pre .1, c .before .loop-test .taken)
+name-span-requires c κs =
+    let after-pre = c .before .before .before .before .before .before in
+    (after-pre .pre .1, c .before .loop-test .taken)
 
 sub-put-all : tie.Need-sub-put-all Inv-loop μ-loop
 sub-put-all c = c .before .name-span .ensures .order
@@ -33,7 +35,8 @@ part-put-all-start c = c .before .name-span .ensures .order
 
 part-put-all-end : tie.Need-part-put-all-end Inv-loop μ-loop
 part-put-all-end c =
-    let after-pre = c .before .before .before .before .before .before .before .before in
+    let stage = c .before .before .before .before .before .before .before .before in
+    let after-pre = stage in
     omega (arith, c .before .name-span .ensures .inside, ap length (after-pre .pre .0))
 
 loop-again : tie.Need-loop-again Inv-loop μ-loop

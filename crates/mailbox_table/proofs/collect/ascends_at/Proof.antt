@@ -13,17 +13,14 @@ returns : tie.Need-returns
 returns c = sym (order-ends (c .before .args .a .now) (c .before .args .b .now) (omega (arith, c .before .pre)))
 
 returns-2 : tie.Need-returns-2
-returns-2 c = sym (order-begins (c .before .before .args .a .now) (c .before .before .args .b .now) (omega (arith, c .before .before .pre)) (omega (arith, c .before .before .pre)))
-
-shared-slice-read-result : tie.Need-shared-slice-read-result
-shared-slice-read-result c = search needs
-
-shared-slice-read-result-2 : tie.Need-shared-slice-read-result-2
-shared-slice-read-result-2 c = search needs
+returns-2 c =
+    let start = c .before .before in
+    sym (order-begins (start .args .a .now) (start .args .b .now) (omega (arith, start .pre)) (omega (arith, start .pre)))
 
 returns-3 : tie.Need-returns-3
 returns-3 c =
-    let start = c .before .before .before .before in
+    let stage = c .before .before .before .before in
+    let start = stage in
     let a = start .args .a .now in
     let b = start .args .b .now in
     ap (λ (s : ℕ). ltb (getD a s 0) (getD b s 0)) (start .pre) ∙ sym (order-differs a b (omega (arith, start .pre)) (omega (arith, start .pre)))
@@ -31,4 +28,4 @@ returns-3 c =
 pub ascends-at-spec : {M : Type 1} → statement M
 ascends-at-spec =
     tie.close
-    (tie.spec returns returns-2 shared-slice-read-result shared-slice-read-result-2 returns-3)
+    (tie.spec returns returns-2 (λ c. search needs) (λ c. search needs) returns-3)

@@ -17,11 +17,10 @@ Inv-loop table words₀ limit n₀ from₀ at₀ words n from at = Collecting ta
 abbrev μ-loop : tie.MeasureT-loop
 μ-loop table words₀ limit n₀ from₀ at₀ words n from at = length table - at
 
-least-requires : tie.Need-least-requires Inv-loop μ-loop
-least-requires c κs = search needs
-
 loop-holds : tie.Need-loop-holds Inv-loop μ-loop
-loop-holds c = collecting-none (c .before .before .before .args .table .now) (c .before .before .before .args .words .now) (c .least .result)
+loop-holds c =
+    let start = c .before .before .before in
+    collecting-none (start .args .table .now) (start .args .words .now) (c .least .result)
 
 same-length : tie.Need-same-length Inv-loop μ-loop
 same-length c = c .before .before .loop .inv .size
@@ -34,23 +33,23 @@ returns c =
 
 next-row-requires : tie.Need-next-row-requires Inv-loop μ-loop
 next-row-requires c κs =
-    let start = c .before .before .before .before .before .before in
+    let stage = c .before .before .before .before .before .before in
+    let start = stage in
     record { order = c .before .before .loop .inv .order; inside = c .before .loop-test .taken; bound = start .pre }
 
-enum-known-row : tie.Need-enum-known-row Inv-loop μ-loop
-enum-known-row c = search needs
-
-enum-told : tie.Need-enum-told Inv-loop μ-loop
-enum-told c = search needs
-
 same-length-2 : tie.Need-same-length-2 Inv-loop μ-loop
-same-length-2 c = c .before .before .before .before .before .loop .inv .size
+same-length-2 c =
+    let turn = c .before .before .before .before .before in
+    turn .loop .inv .size
 
 returns-2 : tie.Need-returns-2 Inv-loop μ-loop
 returns-2 c =
-    let limit = c .before .before .before .before .before .before .least in
-    let turn = c .before .before .before .before .before .loop in
-    let loop-test = c .before .before .before .before .loop-test in
+    let at-loop-test = c .before .before .before .before in
+    let turn-2 = at-loop-test .before in
+    let after-least = turn-2 .before in
+    let limit = after-least .least in
+    let turn = turn-2 .loop in
+    let loop-test = at-loop-test .loop-test in
     collects-fails (limit .result) (limit .ensures)
     (collecting-bad (turn .inv) (loop-test .taken) (sym (c .before .before .next-row .ensures) ∙ c .enum-told .given .1))
     (turn .inv .size)
@@ -65,45 +64,59 @@ stepped c = sym (c .before .before .before .next-row .ensures) ∙ c .before .ro
 byte : (c : tie.After-struct-known Inv-loop μ-loop) (k : ℕ) →
     let start = c .before .before .before .before .before .before .before .before .before .before .before .before in
     getD (start .args .table .now) k 0 < 256
-byte c k = c .before .before .before .before .before .before .before .before .before .before .before .shared-slice-known .given k .fits
+byte c k =
+    let after-shared-slice-known = c .before .before .before .before .before .before .before .before .before .before .before in
+    after-shared-slice-known .shared-slice-known .given k .fits
 
 word-requires : tie.Need-word-requires Inv-loop μ-loop
 word-requires c κs =
-    let start = c .before .before .before .before .before .before .before .before .before .before in
-    let turn = c .before .before .before .before .before .before .loop in
+    let turn-2 = c .before .before .before .before .before .before in
+    let stage = turn-2 .before .before .before .before in
+    let start = stage in
+    let turn = turn-2 .loop in
     step-packs (start .args .table .now) (turn .from) (turn .at) (c .before .row .given .0 .0) (stepped c) (start .pre)
 
 mul-words : tie.Need-mul-words Inv-loop μ-loop
-mul-words c = omega (arith, c .before .before .before .before .before .before .before .before .least .ensures)
+mul-words c =
+    let after-least = c .before .before .before .before .before .before .before .before in
+    omega (arith, after-least .least .ensures)
 
 slice-write-words : tie.Need-slice-write-words Inv-loop μ-loop
 slice-write-words c =
-    let limit = c .before .before .before .before .before .before .before .before .least in
-    let turn = c .before .before .before .before .before .before .before .loop in
+    let turn-2 = c .before .before .before .before .before .before .before in
+    let after-least = turn-2 .before in
+    let limit = after-least .least in
+    let turn = turn-2 .loop in
     omega (arith, turn .inv .size, limit .ensures)
-
-add-n : tie.Need-add-n Inv-loop μ-loop
-add-n c = search needs
 
 add-at : tie.Need-add-at Inv-loop μ-loop
 add-at c =
-    let start = c .before .before .before .before .before .before .before .before .before .before .before .before in
-    let turn = c .before .before .before .before .before .before .before .before .loop in
+    let turn-2 = c .before .before .before .before .before .before .before .before in
+    let stage = turn-2 .before .before .before .before in
+    let start = stage in
+    let turn = turn-2 .loop in
     omega (arith, step-inside (start .args .table .now) (turn .from) (turn .at) (c .before .before .before .row .given .0 .0) (stepped (c .before .before)))
 
 loop-less : tie.Need-loop-less Inv-loop μ-loop
 loop-less c =
-    let start = c .before .before .before .before .before .before .before .before .before .before .before .before in
-    let turn = c .before .before .before .before .before .before .before .before .loop in
+    let turn-2 = c .before .before .before .before .before .before .before .before in
+    let stage = turn-2 .before .before .before .before in
+    let start = stage in
+    let turn = turn-2 .loop in
     omega (arith, step-start (start .args .table .now) (turn .from) (turn .at) (c .before .before .before .row .given .0 .0) (stepped (c .before .before)))
 
 loop-again : tie.Need-loop-again Inv-loop μ-loop
 loop-again c =
-    let start = c .before .before .before .before .before .before .before .before .before .before .before .before in
-    let limit = c .before .before .before .before .before .before .before .before .before .least in
-    let turn = c .before .before .before .before .before .before .before .before .loop in
-    let loop-test = c .before .before .before .before .before .before .before .loop-test in
-    let if1 = c .before .before .before .before .before .before .if1 in
+    let at-if1 = c .before .before .before .before .before .before in
+    let at-loop-test = at-if1 .before in
+    let turn-2 = at-loop-test .before in
+    let after-least = turn-2 .before in
+    let stage = after-least .before .before .before in
+    let start = stage in
+    let limit = after-least .least in
+    let turn = turn-2 .loop in
+    let loop-test = at-loop-test .loop-test in
+    let if1 = at-if1 .if1 in
     let row = c .before .before .before .row .given .0 .0 in
     rw (c .before .word .ensures)
     (collecting-more (turn .inv) (loop-test .taken) (start .pre) (λ k. byte c k) (if1 .left) (omega (arith, limit .ensures)) row (stepped (c .before .before)))
@@ -122,19 +135,19 @@ collect-rows-spec =
     (tie.spec
     Inv-loop
     μ-loop
-    least-requires
+    (λ c κs. search needs)
     loop-holds
     same-length
     returns
     next-row-requires
-    enum-known-row
-    enum-told
+    (λ c. search needs)
+    (λ c. search needs)
     same-length-2
     returns-2
     word-requires
     mul-words
     slice-write-words
-    add-n
+    (λ c. search needs)
     add-at
     loop-less
     loop-again

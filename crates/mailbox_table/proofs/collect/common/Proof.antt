@@ -16,45 +16,37 @@ Inv-loop a b n i₀ i = (i ≤ n) × (i + sharedLen (drop i a) (drop i b) ≡ sh
 abbrev μ-loop : tie.MeasureT-loop
 μ-loop a b n i₀ i = n - i
 
-least-requires : tie.Need-least-requires Inv-loop μ-loop
-least-requires c κs = search needs
-
 loop-holds : tie.Need-loop-holds Inv-loop μ-loop
 loop-holds c = (omega arith, zero-add _)
 
-shared-slice-read-if1 : tie.Need-shared-slice-read-if1 Inv-loop μ-loop
-shared-slice-read-if1 c = search needs
-
-shared-slice-read-if1-2 : tie.Need-shared-slice-read-if1-2 Inv-loop μ-loop
-shared-slice-read-if1-2 c = search needs
-
 returns : tie.Need-returns Inv-loop μ-loop
 returns c =
-    let start = c .before .before .before .before .before .before .before .before in
-    let least′ = c .before .before .before .before .before .least in
-    let turn = c .before .before .before .before .loop in
+    let turn-2 = c .before .before .before .before in
+    let after-least = turn-2 .before in
+    let stage = after-least .before .before .before in
+    let start = stage in
+    let least′ = after-least .least in
+    let turn = turn-2 .loop in
     let a = start .args .a .now in
     let b = start .args .b .now in
     sym (shared-stop a b (turn .i) (omega (arith, least′ .ensures)) (omega (arith, least′ .ensures)) (c .if1 .taken)) ∙ turn .inv .1
 
-add-i : tie.Need-add-i Inv-loop μ-loop
-add-i c = search needs
-
-loop-less : tie.Need-loop-less Inv-loop μ-loop
-loop-less c = search needs
-
 loop-again : tie.Need-loop-again Inv-loop μ-loop
 loop-again c =
-    let start = c .before .before .before .before .before .before .before .before in
-    let least′ = c .before .before .before .before .before .least in
-    let turn = c .before .before .before .before .loop in
+    let turn-2 = c .before .before .before .before in
+    let after-least = turn-2 .before in
+    let stage = after-least .before .before .before in
+    let start = stage in
+    let least′ = after-least .least in
+    let turn = turn-2 .loop in
     let a = start .args .a .now in
     let b = start .args .b .now in
     (omega arith, sym (shared-more a b (turn .i) (omega (arith, least′ .ensures)) (omega (arith, least′ .ensures)) (c .if1 .left)) ∙ turn .inv .1)
 
 returns-2 : tie.Need-returns-2 Inv-loop μ-loop
 returns-2 c =
-    let start = c .before .before .before .before .before in
+    let stage = c .before .before .before .before .before in
+    let start = stage in
     let a = start .args .a .now in
     let b = start .args .b .now in
     sym (shared-out a b (c .before .loop .i) (least a b (c .before .loop .i) (omega (arith, c .before .before .least .ensures)))) ∙ c .before .loop .inv .1
@@ -65,12 +57,12 @@ common-spec =
     (tie.spec
     Inv-loop
     μ-loop
-    least-requires
+    (λ c κs. search needs)
     loop-holds
-    shared-slice-read-if1
-    shared-slice-read-if1-2
+    (λ c. search needs)
+    (λ c. search needs)
     returns
-    add-i
-    loop-less
+    (λ c. search needs)
+    (λ c. search needs)
     loop-again
     returns-2)

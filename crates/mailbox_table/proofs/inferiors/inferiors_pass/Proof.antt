@@ -22,31 +22,32 @@ loop-holds : tie.Need-loop-holds Inv-loop μ-loop
 loop-holds c = refl
 
 row-passes-requires : tie.Need-row-passes-requires Inv-loop μ-loop
-row-passes-requires c κs = (c .before .before .before .before .pre .0, c .loop-test .taken)
+row-passes-requires c κs =
+    let after-pre = c .before .before .before .before in
+    (after-pre .pre .0, c .loop-test .taken)
 
 returns : tie.Need-returns Inv-loop μ-loop
 returns c =
-    let a = c .before .before .before .before .before .before .args in
+    let turn = c .before .before .before in
+    let start = turn .before .before .before in
+    let a = start .args in
     let table = rowsAt (a .area .now) (a .words .now) in
-    sym (every-stop (λ q. noneBelow table q) (a .area .now) (a .words .now) (c .before .before .before .loop .i) (c .before .before .loop-test .taken) (sym (c .before .row-passes .ensures) ∙ not-true _ (c .if1 .taken)))
-    ∙ c .before .before .before .loop .inv
-
-add-i : tie.Need-add-i Inv-loop μ-loop
-add-i c = search needs
-
-loop-less : tie.Need-loop-less Inv-loop μ-loop
-loop-less c = search needs
+    sym (every-stop (λ q. noneBelow table q) (a .area .now) (a .words .now) (turn .loop .i) (c .before .before .loop-test .taken) (sym (c .before .row-passes .ensures) ∙ not-true _ (c .if1 .taken)))
+    ∙ turn .loop .inv
 
 loop-again : tie.Need-loop-again Inv-loop μ-loop
 loop-again c =
-    let a = c .before .before .before .before .before .before .args in
+    let turn = c .before .before .before in
+    let start = turn .before .before .before in
+    let a = start .args in
     let table = rowsAt (a .area .now) (a .words .now) in
-    sym (every-more (λ q. noneBelow table q) (a .area .now) (a .words .now) (c .before .before .before .loop .i) (c .before .before .loop-test .taken) (sym (c .before .row-passes .ensures) ∙ not-false _ (c .if1 .left)))
-    ∙ c .before .before .before .loop .inv
+    sym (every-more (λ q. noneBelow table q) (a .area .now) (a .words .now) (turn .loop .i) (c .before .before .loop-test .taken) (sym (c .before .row-passes .ensures) ∙ not-false _ (c .if1 .left)))
+    ∙ turn .loop .inv
 
 returns-2 : tie.Need-returns-2 Inv-loop μ-loop
 returns-2 c =
-    let a = c .before .before .before .before .args in
+    let start = c .before .before .before .before in
+    let a = start .args in
     let table = rowsAt (a .area .now) (a .words .now) in
     sym (every-end (λ q. noneBelow table q) (a .area .now) (a .words .now) (c .before .loop .i) (c .loop-test .left)) ∙ c .before .loop .inv
 
@@ -59,7 +60,7 @@ inferiors-pass-spec =
     loop-holds
     row-passes-requires
     returns
-    add-i
-    loop-less
+    (λ c. search needs)
+    (λ c. search needs)
     loop-again
     returns-2)

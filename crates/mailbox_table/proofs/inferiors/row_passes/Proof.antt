@@ -17,18 +17,6 @@ use borrow.Author.Needs.{needs}
 use Rattle.mailbox_table.proofs.inferiors.row_passes.Statement.{statement}
 use Rattle.mailbox_table.proofs.inferiors.row_passes.Tie as tie
 
-mul-of-word : tie.Need-mul-of-word
-mul-of-word c = search needs
-
-shared-slice-read-of-word : tie.Need-shared-slice-read-of-word
-shared-slice-read-of-word c = search needs
-
-of-word-requires : tie.Need-of-word-requires
-of-word-requires c κs = search needs
-
-has-requires : tie.Need-has-requires
-has-requires c κs = search needs
-
 -- the flag, of the row as document 01 has it
 flag : (c : tie.After-has) → let a = c .before .before .before .before .before .args in c .has .result ≡ noInferiors (rowOfWord (getD (a .words .now) (a .i) 0) .flags .bits)
 unfolding noInferiors
@@ -36,18 +24,21 @@ flag c = c .has .ensures ∙ contains-bit 4 _ ∙ ap (λ (r : Row). bit 4 (r .fl
 
 returns : tie.Need-returns
 returns c =
-    let a = c .before .before .before .before .before .before .args in
+    let start = c .before .before .before .before .before .before in
+    let a = start .args in
     let table = rowsAt (a .area .now) (a .words .now) in
     sym (none-any table (rowAtWord (a .area .now) (getD (a .words .now) (a .i) 0)) (sym (flag (c .before)) ∙ not-true _ (c .if1 .taken)))
 
 some-below-requires : tie.Need-some-below-requires
 some-below-requires c κs =
-    let start = c .before .before .before .before .before .before in
+    let stage = c .before .before .before .before .before .before in
+    let start = stage in
     record { indexed = start .pre .0; row = start .pre .1; within = rw (c .before .before .of-word .ensures) (le-refl _) }
 
 returns-2 : tie.Need-returns-2
 returns-2 c =
-    let start = c .before .before .before .before .before .before .before in
+    let stage = c .before .before .before .before .before .before .before in
+    let start = stage in
     let area = start .args .area .now in
     let words = start .args .words .now in
     let i = start .args .i in
@@ -60,10 +51,10 @@ pub row-passes-spec : {M : Type 1} → statement M
 row-passes-spec =
     tie.close
     (tie.spec
-    mul-of-word
-    shared-slice-read-of-word
-    of-word-requires
-    has-requires
+    (λ c. search needs)
+    (λ c. search needs)
+    (λ c κs. search needs)
+    (λ c κs. search needs)
     returns
     some-below-requires
     returns-2)

@@ -6,11 +6,8 @@ use borrow.Author.Needs.{needs}
 use Rattle.mailbox_table.proofs.scan.is_marked.Statement.{statement}
 use Rattle.mailbox_table.proofs.scan.is_marked.Tie as tie
 
-marks-of-requires : tie.Need-marks-of-requires
-marks-of-requires c κs = search needs
-
 returns : tie.Need-returns
 returns c = ap (λ (m : ℕ). contains m (c .before .args .marks)) (c .marks-of .ensures)
 
 pub is-marked-spec : {M : Type 1} → statement M
-is-marked-spec = tie.close (tie.spec marks-of-requires returns)
+is-marked-spec = tie.close (tie.spec (λ c κs. search needs) returns)

@@ -5,12 +5,9 @@ use borrow.Author.Needs.{needs}
 use Rattle.mailbox_table.proofs.scan.marks_of.Statement.{statement}
 use Rattle.mailbox_table.proofs.scan.marks_of.Tie as tie
 
-cast-result : tie.Need-cast-result
-cast-result c = search needs
-
 returns : tie.Need-returns
 unfolding marksOf
 returns c = refl
 
 pub marks-of-spec : {M : Type 1} → statement M
-marks-of-spec = tie.close (tie.spec cast-result returns)
+marks-of-spec = tie.close (tie.spec (λ c. search needs) returns)

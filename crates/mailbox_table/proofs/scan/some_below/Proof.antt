@@ -23,48 +23,24 @@ byte c = c .byte-at .ensures ∙ rw (c .before .name-of .ensures, c .before .bef
 test : (c : tie.After-is-marked) → let a = c .before .before .before .before .before .before .before .before .before .args in (eqb (c .before .before .before .byte-at .result) 47 && c .is-marked .result) ≡ (eqb (getD (nthName (a .area .now) (a .words .now) (a .i)) (a .len) 0) 47 && contains (marksOf (getD (a .words .now) (a .i) 0)) (a .marks))
 test c = λ j. eqb (byte (c .before .before .before) j) 47 && c .is-marked .ensures j
 
-mul-of-word : tie.Need-mul-of-word
-mul-of-word c = search needs
-
-shared-slice-read-of-word : tie.Need-shared-slice-read-of-word
-shared-slice-read-of-word c = search needs
-
-of-word-requires : tie.Need-of-word-requires
-of-word-requires c κs = search needs
-
-name-of-requires : tie.Need-name-of-requires
-name-of-requires c κs = search needs
-
-byte-at-requires : tie.Need-byte-at-requires
-byte-at-requires c κs = search needs
-
 returns : tie.Need-returns
 returns c =
-    let start = c .before .before .before .before .before .before .before in
+    let stage = c .before .before .before .before .before .before .before in
+    let start = stage in
     let a = start .args in
     sym (scan-byte (start .pre) (a .marks) (a .i) (start .pre .row) (starts-take (a .len) _) (omega (arith, byte (c .before))))
 
-mul-is-marked : tie.Need-mul-is-marked
-mul-is-marked c = search needs
-
-shared-slice-read-is-marked : tie.Need-shared-slice-read-is-marked
-shared-slice-read-is-marked c = search needs
-
-is-marked-requires : tie.Need-is-marked-requires
-is-marked-requires c κs = search needs
-
 returns-2 : tie.Need-returns-2
 returns-2 c =
-    let start = c .before .before .before .before .before .before .before .before .before .before in
+    let stage = c .before .before .before .before .before .before .before .before .before .before in
+    let start = stage in
     let a = start .args in
     sym (scan-found (start .pre) (a .marks) (a .i) (start .pre .row) (starts-take (a .len) _) (sym (test (c .before)) ∙ c .if2 .taken))
 
-some-after-requires : tie.Need-some-after-requires
-some-after-requires c κs = search needs
-
 returns-3 : tie.Need-returns-3
 returns-3 c =
-    let start = c .before .before .before .before .before .before .before .before .before .before .before in
+    let stage = c .before .before .before .before .before .before .before .before .before .before .before in
+    let start = stage in
     let a = start .args in
     c .some-after .ensures
     ∙ sym (scan-on (start .pre) (a .marks) (a .i) (start .pre .row) (starts-take (a .len) _) (sym (test (c .before .before)) ∙ c .before .if2 .left))
@@ -73,15 +49,15 @@ pub some-below-spec : {M : Type 1} → statement M
 some-below-spec =
     tie.close
     (tie.spec
-    mul-of-word
-    shared-slice-read-of-word
-    of-word-requires
-    name-of-requires
-    byte-at-requires
+    (λ c. search needs)
+    (λ c. search needs)
+    (λ c κs. search needs)
+    (λ c κs. search needs)
+    (λ c κs. search needs)
     returns
-    mul-is-marked
-    shared-slice-read-is-marked
-    is-marked-requires
+    (λ c. search needs)
+    (λ c. search needs)
+    (λ c κs. search needs)
     returns-2
-    some-after-requires
+    (λ c κs. search needs)
     returns-3)

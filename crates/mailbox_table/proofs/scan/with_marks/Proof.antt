@@ -5,15 +5,9 @@ use borrow.Author.Needs.{needs}
 use Rattle.mailbox_table.proofs.scan.with_marks.Statement.{statement}
 use Rattle.mailbox_table.proofs.scan.with_marks.Tie as tie
 
-mul-result : tie.Need-mul-result
-mul-result c = search needs
-
-add-result : tie.Need-add-result
-add-result c = search needs
-
 returns : tie.Need-returns
 unfolding withMarks
 returns c = refl
 
 pub with-marks-spec : {M : Type 1} → statement M
-with-marks-spec = tie.close (tie.spec mul-result add-result returns)
+with-marks-spec = tie.close (tie.spec (λ c. search needs) (λ c. search needs) returns)

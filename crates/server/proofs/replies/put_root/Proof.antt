@@ -4,18 +4,11 @@ use borrow.Author.Needs.{needs}
 use Rattle.server.proofs.replies.put_root.Statement.{statement}
 use Rattle.server.proofs.replies.put_root.Tie as tie
 
-put-root-line-requires : tie.Need-put-root-line-requires
-put-root-line-requires c κs = search needs
-
-put-ok-line-requires : tie.Need-put-ok-line-requires
-put-ok-line-requires c κs = search needs
-
-same-length : tie.Need-same-length
-same-length c = search needs
-
 returns : tie.Need-returns
-returns c = put-then (c .before .before .before .before .before .before .put-root-line .ensures) (c .before .before .put-ok-line .ensures)
+returns c =
+    let after-put-root-line = c .before .before .before .before .before .before in
+    put-then (after-put-root-line .put-root-line .ensures) (c .before .before .put-ok-line .ensures)
 
 pub put-root-spec : {M : Type 1} → statement M
 put-root-spec =
-    tie.close (tie.spec put-root-line-requires put-ok-line-requires same-length returns)
+    tie.close (tie.spec (λ c κs. search needs) (λ c κs. search needs) (λ c. search needs) returns)

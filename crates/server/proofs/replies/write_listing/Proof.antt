@@ -11,17 +11,9 @@ use Rattle.server.proofs.replies.write_listing.Tie as tie
 -- the packed patterns, where they are put
 packed-here : (c : tie.After-put-patterns) → Lying (patternsOf (c .before .before .before .before .before .before .before .before .args .line .now) (c .before .before .before .before .before .before .before .before .args .command)) (c .put-patterns .last .1 .1 .0) (c .put-patterns .result)
 packed-here c =
-    let start = c .before .before .before .before .before .before .before .before in
+    let stage = c .before .before .before .before .before .before .before .before in
+    let start = stage in
     lying (c .before .before .no-patterns .result) (c .put-patterns .last .1 .1 .0) (patternsOf (start .args .line .now) (start .args .command)) (c .put-patterns .result) (c .put-patterns .ensures) (ap length (c .before .before .no-patterns .ensures)) (start .pre .1)
-
-no-patterns-requires : tie.Need-no-patterns-requires
-no-patterns-requires c κs = search needs
-
-slice-aggregate-put-patterns : tie.Need-slice-aggregate-put-patterns
-slice-aggregate-put-patterns c = search needs
-
-put-patterns-requires : tie.Need-put-patterns-requires
-put-patterns-requires c κs = search needs
 
 array-share-prefix-patterns : tie.Need-array-share-prefix-patterns
 array-share-prefix-patterns c = packed-here (c .before .before) .within
@@ -29,24 +21,20 @@ array-share-prefix-patterns c = packed-here (c .before .before) .within
 slice-aggregate-write-list : tie.Need-slice-aggregate-write-list
 slice-aggregate-write-list c = packed-here (c .before .before .before) .size
 
-write-list-requires : tie.Need-write-list-requires
-write-list-requires c κs = search needs
-
-same-length : tie.Need-same-length
-same-length c = search needs
-
 returns : tie.Need-returns
-returns c = rw (← packed-here (c .before .before .before .before .before .before .before) .patterns) (c .before .before .write-list .ensures)
+returns c =
+    let stage = c .before .before .before .before .before .before .before in
+    rw (← packed-here (stage) .patterns) (c .before .before .write-list .ensures)
 
 pub write-listing-spec : {M : Type 1} → statement M
 write-listing-spec =
     tie.close
     (tie.spec
-    no-patterns-requires
-    slice-aggregate-put-patterns
-    put-patterns-requires
+    (λ c κs. search needs)
+    (λ c. search needs)
+    (λ c κs. search needs)
     array-share-prefix-patterns
     slice-aggregate-write-list
-    write-list-requires
-    same-length
+    (λ c κs. search needs)
+    (λ c. search needs)
     returns)

@@ -6,34 +6,26 @@ use borrow.Author.Needs.{needs}
 use Rattle.server.proofs.replies.write_root.Statement.{statement}
 use Rattle.server.proofs.replies.write_root.Tie as tie
 
-slice-aggregate-put-root : tie.Need-slice-aggregate-put-root
-slice-aggregate-put-root c = search needs
-
-put-root-requires : tie.Need-put-root-requires
-put-root-requires c κs = search needs
-
 returns : tie.Need-returns
-returns c = let a = c .before .before .before .before .before .before .args in written-short (a .out .now) (rootText (a .tag .now)) (omega (arith, c .before .before .put-root .ensures .place))
-
-put-root-requires-2 : tie.Need-put-root-requires-2
-put-root-requires-2 c κs = search needs
-
-same-length : tie.Need-same-length
-same-length c = search needs
+returns c =
+    let start = c .before .before .before .before .before .before in
+    let a = start .args in written-short (a .out .now) (rootText (a .tag .now)) (omega (arith, c .before .before .put-root .ensures .place))
 
 returns-2 : tie.Need-returns-2
 returns-2 c =
-    let a = c .before .before .before .before .before .before .before .before .before .before .args in
+    let after-put-root = c .before .before .before .before .before .before in
+    let start = after-put-root .before .before .before .before in
+    let a = start .args in
     let written = c .before .before .put-root2 .ensures in
-    written-fits (a .out .now) (rootText (a .tag .now)) written (omega (arith, c .before .before .before .before .before .before .put-root .ensures .place, written .fits))
+    written-fits (a .out .now) (rootText (a .tag .now)) written (omega (arith, after-put-root .put-root .ensures .place, written .fits))
 
 pub write-root-spec : {M : Type 1} → statement M
 write-root-spec =
     tie.close
     (tie.spec
-    slice-aggregate-put-root
-    put-root-requires
+    (λ c. search needs)
+    (λ c κs. search needs)
     returns
-    put-root-requires-2
-    same-length
+    (λ c κs. search needs)
+    (λ c. search needs)
     returns-2)

@@ -6,9 +6,6 @@ use borrow.Author.Needs.{needs}
 use native.Mathlib.Omega.{arith}
 use Rattle.session.proofs.gathering.gather_line.Statement.{statement}
 use Rattle.session.proofs.gathering.gather_line.Tie as tie
-use Rattle.session.proofs.gathering.gather_line.Reads as reads
-use Rattle.session.proofs.gathering.gather_line.Lts as lts
-use Rattle.frames.proofs.gather.Reads as gather-reads
 
 abbrev Inv-loop : tie.InvT-loop
 Inv-loop line₀ chunk gathered₀ i₀ line gathered i = Part chunk line₀ gathered₀ line gathered i
@@ -19,32 +16,17 @@ abbrev μ-loop : tie.MeasureT-loop
 loop-holds : tie.Need-loop-holds Inv-loop μ-loop
 loop-holds c = part-start _ _ _
 
-shared-slice-read-c : tie.Need-shared-slice-read-c Inv-loop μ-loop
-shared-slice-read-c c = search needs
-
-same-length : tie.Need-same-length Inv-loop μ-loop
-same-length c = search needs
-
 returns : tie.Need-returns Inv-loop μ-loop
 returns c = part-feed (c .before .before .before .loop .inv) (c .before .before .loop-test .taken) (c .if1 .taken)
 
-gather-requires : tie.Need-gather-requires Inv-loop μ-loop
-gather-requires c κs = search needs
-
-add-i : tie.Need-add-i Inv-loop μ-loop
-add-i c = search needs
-
-loop-less : tie.Need-loop-less Inv-loop μ-loop
-loop-less c = search needs
-
 loop-again : tie.Need-loop-again Inv-loop μ-loop
 loop-again c =
-    let turn = c .before .before .before .before .before .before .before .loop in
-    let test = c .before .before .before .before .before .before .loop-test in
-    part-more (turn .inv) _ _ (test .taken) (c .before .before .before .before .if1 .left) (c .before .before .gather .ensures)
-
-same-length-2 : tie.Need-same-length-2 Inv-loop μ-loop
-same-length-2 c = search needs
+    let at-if1 = c .before .before .before .before in
+    let at-loop-test = at-if1 .before .before in
+    let turn-2 = at-loop-test .before in
+    let turn = turn-2 .loop in
+    let test = at-loop-test .loop-test in
+    part-more (turn .inv) _ _ (test .taken) (at-if1 .if1 .left) (c .before .before .gather .ensures)
 
 returns-2 : tie.Need-returns-2 Inv-loop μ-loop
 returns-2 c = part-end (c .before .loop .inv) (omega (arith, c .loop-test .left))
@@ -56,12 +38,12 @@ gather-line-spec =
     Inv-loop
     μ-loop
     loop-holds
-    shared-slice-read-c
-    same-length
+    (λ c. search needs)
+    (λ c. search needs)
     returns
-    gather-requires
-    add-i
-    loop-less
+    (λ c κs. search needs)
+    (λ c. search needs)
+    (λ c. search needs)
     loop-again
-    same-length-2
+    (λ c. search needs)
     returns-2)

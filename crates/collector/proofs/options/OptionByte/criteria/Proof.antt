@@ -6,17 +6,11 @@ use Rattle.collector.proofs.OptionLaws.{has-special, has-dropped}
 use Rattle.collector.proofs.options.OptionByte.criteria.Statement.{statement}
 use Rattle.collector.proofs.options.OptionByte.criteria.Tie as tie
 
-has-requires : tie.Need-has-requires
-has-requires c κs = search needs
-
 returns : tie.Need-returns
 unfolding criteriaOf
 returns c =
     let start = c .before .before in
     rw (sym (has-dropped (start .args .self .bits)) ∙ sym (c .before .has .ensures) ∙ c .if1 .taken)
-
-has-requires-2 : tie.Need-has-requires-2
-has-requires-2 c κs = search needs
 
 returns-2 : tie.Need-returns-2
 unfolding criteriaOf
@@ -35,4 +29,4 @@ returns-3 c =
     rw (sym (has-dropped byte) ∙ sym (left .before .has .ensures) ∙ left .if1 .left, sym (has-special byte) ∙ sym (c .before .has2 .ensures) ∙ c .if2 .left)
 
 pub criteria-spec : {M : Type 1} → statement M
-criteria-spec = tie.close (tie.spec has-requires returns has-requires-2 returns-2 returns-3)
+criteria-spec = tie.close (tie.spec (λ c κs. search needs) returns (λ c κs. search needs) returns-2 returns-3)

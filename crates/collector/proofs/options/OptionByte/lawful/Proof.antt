@@ -8,17 +8,12 @@ use Rattle.collector.proofs.OptionLaws.{has-special, has-dropped}
 use Rattle.collector.proofs.options.OptionByte.lawful.Statement.{statement}
 use Rattle.collector.proofs.options.OptionByte.lawful.Tie as tie
 
-has-requires : tie.Need-has-requires
-has-requires c κs = search needs
-
-has-requires-2 : tie.Need-has-requires-2
-has-requires-2 c κs = search needs
-
 returns : tie.Need-returns
 unfolding lawfulByte
 returns c =
-    let byte = c .before .before .before .before .args .self .bits in
+    let start = c .before .before .before .before in
+    let byte = start .args .self .bits in
     λ i. leb byte 7 && (not ((c .before .has .ensures ∙ has-dropped byte) i) || (c .has2 .ensures ∙ has-special byte) i)
 
 pub lawful-spec : {M : Type 1} → statement M
-lawful-spec = tie.close (tie.spec has-requires has-requires-2 returns)
+lawful-spec = tie.close (tie.spec (λ c κs. search needs) (λ c κs. search needs) returns)

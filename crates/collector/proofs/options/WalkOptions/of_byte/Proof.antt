@@ -8,19 +8,10 @@ use Rattle.collector.proofs.OptionLaws.{has-remote, unlawful-asks}
 use Rattle.collector.proofs.options.WalkOptions.of_byte.Statement.{statement}
 use Rattle.collector.proofs.options.WalkOptions.of_byte.Tie as tie
 
-lawful-requires : tie.Need-lawful-requires
-lawful-requires c κs = search needs
-
 returns : tie.Need-returns
 returns c =
     let start = c .before .before in
     sym (unlawful-asks (start .args .byte) (sym (c .before .lawful .ensures) ∙ not-true _ (c .if1 .taken)))
-
-criteria-requires : tie.Need-criteria-requires
-criteria-requires c κs = search needs
-
-has-requires : tie.Need-has-requires
-has-requires c κs = search needs
 
 returns-2 : tie.Need-returns-2
 unfolding askedBy
@@ -32,4 +23,4 @@ returns-2 c =
 
 pub of-byte-spec : {M : Type 1} → statement M
 of-byte-spec =
-    tie.close (tie.spec lawful-requires returns criteria-requires has-requires returns-2)
+    tie.close (tie.spec (λ c κs. search needs) returns (λ c κs. search needs) (λ c κs. search needs) returns-2)

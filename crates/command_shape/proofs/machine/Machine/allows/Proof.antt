@@ -11,7 +11,9 @@ returns c = rw (c .before .before .before .place .given .1, sym (c .before .at-c
 
 returns-2 : tie.Need-returns-2
 unfolding allowedAt allowedBy
-returns-2 c = rw (c .before .before .before .before .place .given .1, sym (c .before .before .at-cr .ensures) ∙ c .before .if1 .left, c .is-line-byte .ensures)
+returns-2 c =
+    let after-place = c .before .before .before .before in
+    rw (after-place .place .given .1, sym (c .before .before .at-cr .ensures) ∙ c .before .if1 .left, c .is-line-byte .ensures)
 
 returns-3 : tie.Need-returns-3
 unfolding allowedAt allowedBy

@@ -14,19 +14,33 @@ returns c = rw (sym (c .before .allows .ensures) ∙ not-true _ (c .if1 .taken))
 
 returns-2 : tie.Need-returns-2
 unfolding shapeStep shapingAs
-returns-2 c = rw (sym (c .before .before .before .before .before .allows .ensures) ∙ not-false _ (c .before .before .before .before .if1 .left), sym (ap (λ (x : Stepped). x .signal) (c .before .before .before .step .ensures)) ∙ c .enum-told .given .1) (ap (λ (x : Stepped). Further (x .machine)) (c .before .before .before .step .ensures))
+returns-2 c =
+    let after-step = c .before .before .before in
+    let at-if1 = after-step .before in
+    let after-allows = at-if1 .before in
+    rw (sym (after-allows .allows .ensures) ∙ not-false _ (at-if1 .if1 .left), sym (ap (λ (x : Stepped). x .signal) (after-step .step .ensures)) ∙ c .enum-told .given .1) (ap (λ (x : Stepped). Further (x .machine)) (after-step .step .ensures))
 
 returns-3 : tie.Need-returns-3
 unfolding shapeStep shapingAs
-returns-3 c = rw (sym (c .before .before .before .before .before .allows .ensures) ∙ not-false _ (c .before .before .before .before .if1 .left), sym (ap (λ (x : Stepped). x .signal) (c .before .before .before .step .ensures)) ∙ c .enum-told2 .given .1) (ap (λ (x : Stepped). Further (x .machine)) (c .before .before .before .step .ensures))
+returns-3 c =
+    let after-step = c .before .before .before in
+    let at-if1 = after-step .before in
+    let after-allows = at-if1 .before in
+    rw (sym (after-allows .allows .ensures) ∙ not-false _ (at-if1 .if1 .left), sym (ap (λ (x : Stepped). x .signal) (after-step .step .ensures)) ∙ c .enum-told2 .given .1) (ap (λ (x : Stepped). Further (x .machine)) (after-step .step .ensures))
 
 returns-4 : tie.Need-returns-4
 unfolding shapeStep shapingAs
-returns-4 c = rw (sym (c .before .before .before .before .before .allows .ensures) ∙ not-false _ (c .before .before .before .before .if1 .left), sym (ap (λ (x : Stepped). x .signal) (c .before .before .before .step .ensures)) ∙ c .enum-told3 .given .1)
+returns-4 c =
+    let at-if1 = c .before .before .before .before in
+    let after-allows = at-if1 .before in
+    rw (sym (after-allows .allows .ensures) ∙ not-false _ (at-if1 .if1 .left), sym (ap (λ (x : Stepped). x .signal) (c .before .before .before .step .ensures)) ∙ c .enum-told3 .given .1)
 
 returns-5 : tie.Need-returns-5
 unfolding shapeStep shapingAs
-returns-5 c = rw (sym (c .before .before .before .before .before .allows .ensures) ∙ not-false _ (c .before .before .before .before .if1 .left), sym (ap (λ (x : Stepped). x .signal) (c .before .before .before .step .ensures)) ∙ c .enum-told4 .given .1)
+returns-5 c =
+    let at-if1 = c .before .before .before .before in
+    let after-allows = at-if1 .before in
+    rw (sym (after-allows .allows .ensures) ∙ not-false _ (at-if1 .if1 .left), sym (ap (λ (x : Stepped). x .signal) (c .before .before .before .step .ensures)) ∙ c .enum-told4 .given .1)
 
 pub shapes-spec : {M : Type 1} → statement M
 shapes-spec =

@@ -3,14 +3,8 @@ use borrow.Author.Needs.{needs}
 use Rattle.list_answer.proofs.marks.Marks.with.Statement.{statement}
 use Rattle.list_answer.proofs.marks.Marks.with.Tie as tie
 
-union-requires : tie.Need-union-requires
-union-requires c κs = search needs
-
 returns : tie.Need-returns
 returns c = rw (c .before .if1 .taken) (c .union .ensures)
 
-returns-2 : tie.Need-returns-2
-returns-2 c = search needs
-
 pub with-spec : {M : Type 1} → statement M
-with-spec = tie.close (tie.spec union-requires returns returns-2)
+with-spec = tie.close (tie.spec (λ c κs. search needs) returns (λ c. search needs))

@@ -7,9 +7,6 @@ use borrow.Author.Needs.{needs}
 use Rattle.list_answer.proofs.question.Question.asks_level.Statement.{statement}
 use Rattle.list_answer.proofs.question.Question.asks_level.Tie as tie
 
-has-requires : tie.Need-has-requires
-has-requires c κs = search needs
-
 returns : tie.Need-returns
 unfolding exists
 returns c =
@@ -17,4 +14,4 @@ returns c =
     ap (λ (b : Bool). start .args .self .levels && not b) (c .before .has .ensures ∙ contains-bit 0 (start .args .flags .bits))
 
 pub asks-level-spec : {M : Type 1} → statement M
-asks-level-spec = tie.close (tie.spec has-requires returns)
+asks-level-spec = tie.close (tie.spec (λ c κs. search needs) returns)

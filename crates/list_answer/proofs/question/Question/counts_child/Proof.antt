@@ -6,21 +6,13 @@ use borrow.Author.Needs.{needs}
 use Rattle.list_answer.proofs.question.Question.counts_child.Statement.{statement}
 use Rattle.list_answer.proofs.question.Question.counts_child.Tie as tie
 
-has-requires : tie.Need-has-requires
-has-requires c κs = search needs
-
-has-requires-2 : tie.Need-has-requires-2
-has-requires-2 c κs = search needs
-
-has-requires-3 : tie.Need-has-requires-3
-has-requires-3 c κs = search needs
-
 returns : tie.Need-returns
 unfolding optionsIs exists remote
 returns c =
-    let o = c .before .before .before .args .self .options .bits in
-    let f = c .before .before .before .args .flags .bits in
+    let start = c .before .before .before in
+    let o = start .args .self .options .bits in
+    let f = start .args .flags .bits in
     cc (contains-bit 1 o, contains-bit 0 f, contains-bit 2 f)
 
 pub counts-child-spec : {M : Type 1} → statement M
-counts-child-spec = tie.close (tie.spec has-requires has-requires-2 has-requires-3 returns)
+counts-child-spec = tie.close (tie.spec (λ c κs. search needs) (λ c κs. search needs) (λ c κs. search needs) returns)

@@ -6,12 +6,9 @@ use borrow.Author.Needs.{needs}
 use Rattle.list_answer.proofs.question.Question.is_recursive.Statement.{statement}
 use Rattle.list_answer.proofs.question.Question.is_recursive.Tie as tie
 
-has-requires : tie.Need-has-requires
-has-requires c κs = search needs
-
 returns : tie.Need-returns
 unfolding optionsIs
 returns c = c .has .ensures ∙ contains-bit 2 (c .before .args .self .options .bits)
 
 pub is-recursive-spec : {M : Type 1} → statement M
-is-recursive-spec = tie.close (tie.spec has-requires returns)
+is-recursive-spec = tie.close (tie.spec (λ c κs. search needs) returns)

@@ -5,14 +5,8 @@ use borrow.Author.Needs.{needs}
 use Rattle.list_answer.proofs.question.Question.of.Statement.{statement}
 use Rattle.list_answer.proofs.question.Question.of.Tie as tie
 
-is-unselective-requires : tie.Need-is-unselective-requires
-is-unselective-requires c κs = search needs
-
-some-level-requires : tie.Need-some-level-requires
-some-level-requires c κs = search needs
-
 returns : tie.Need-returns
 returns c = (refl, λ i. c .before .is-unselective .ensures i && c .some-level .ensures i)
 
 pub of-spec : {M : Type 1} → statement M
-of-spec = tie.close (tie.spec is-unselective-requires some-level-requires returns)
+of-spec = tie.close (tie.spec (λ c κs. search needs) (λ c κs. search needs) returns)

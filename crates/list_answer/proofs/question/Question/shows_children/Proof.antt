@@ -6,12 +6,9 @@ use borrow.Author.Needs.{needs}
 use Rattle.list_answer.proofs.question.Question.shows_children.Statement.{statement}
 use Rattle.list_answer.proofs.question.Question.shows_children.Tie as tie
 
-has-requires : tie.Need-has-requires
-has-requires c κs = search needs
-
 returns : tie.Need-returns
 unfolding optionsIs
 returns c = c .has .ensures ∙ contains-bit 5 (c .before .args .self .options .bits)
 
 pub shows-children-spec : {M : Type 1} → statement M
-shows-children-spec = tie.close (tie.spec has-requires returns)
+shows-children-spec = tie.close (tie.spec (λ c κs. search needs) returns)

@@ -5,15 +5,9 @@ use borrow.Author.Needs.{needs}
 use Rattle.list_answer.proofs.question.Question.shows_subscribed.Statement.{statement}
 use Rattle.list_answer.proofs.question.Question.shows_subscribed.Tie as tie
 
-has-requires : tie.Need-has-requires
-has-requires c κs = search needs
-
-has-requires-2 : tie.Need-has-requires-2
-has-requires-2 c κs = search needs
-
 returns : tie.Need-returns
 unfolding optionsIs
 returns c = let o = c .before .before .args .self .options .bits in cc (contains-bit 0 o, contains-bit 4 o)
 
 pub shows-subscribed-spec : {M : Type 1} → statement M
-shows-subscribed-spec = tie.close (tie.spec has-requires has-requires-2 returns)
+shows-subscribed-spec = tie.close (tie.spec (λ c κs. search needs) (λ c κs. search needs) returns)

@@ -5,15 +5,9 @@ use borrow.Author.Needs.{needs}
 use Rattle.list_answer.proofs.question.Question.shows_uses.Statement.{statement}
 use Rattle.list_answer.proofs.question.Question.shows_uses.Tie as tie
 
-has-requires : tie.Need-has-requires
-has-requires c κs = search needs
-
-has-requires-2 : tie.Need-has-requires-2
-has-requires-2 c κs = search needs
-
 returns : tie.Need-returns
 unfolding optionsIs
 returns c = let o = c .before .before .args .self .options .bits in cc (contains-bit 3 o, contains-bit 6 o)
 
 pub shows-uses-spec : {M : Type 1} → statement M
-shows-uses-spec = tie.close (tie.spec has-requires has-requires-2 returns)
+shows-uses-spec = tie.close (tie.spec (λ c κs. search needs) (λ c κs. search needs) returns)

@@ -1,4 +1,4 @@
-use mathlib.Core.Path.{_≡_, refl, sym, ap, _∙_}
+use mathlib.Core.Path.{_≡_, sym, ap, _∙_}
 use Prim.Native.Nat.{ℕ, _≤_, _+_, _-_}
 use lib.ListN.{length, drop}
 use Rattle.list_line.specs.Members.{setOf}
@@ -7,8 +7,6 @@ use borrow.Author.Needs.{needs}
 use native.Mathlib.Omega.{arith}
 use Rattle.list_line.proofs.attributes.Attributes.of.Statement.{statement}
 use Rattle.list_line.proofs.attributes.Attributes.of.Tie as tie
-use Rattle.list_line.proofs.attributes.Attributes.of.Reads as reads
-use Rattle.list_line.proofs.attributes.Attributes.of.Lts as lts
 
 abbrev Inv-loop : tie.InvT-loop
 Inv-loop shown bits₀ k₀ bits k = (length shown ≡ 16) × (k ≤ 16) × (bits ≡ setOf (drop k shown))

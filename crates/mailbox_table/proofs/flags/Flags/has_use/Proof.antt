@@ -5,11 +5,8 @@ use borrow.Author.Needs.{needs}
 use Rattle.mailbox_table.proofs.flags.Flags.has_use.Statement.{statement}
 use Rattle.mailbox_table.proofs.flags.Flags.has_use.Tie as tie
 
-has-some-requires : tie.Need-has-some-requires
-has-some-requires c κs = search needs
-
 returns : tie.Need-returns
 returns c = c .has-some .ensures ∙ some-use (c .before .args .self .bits)
 
 pub has-use-spec : {M : Type 1} → statement M
-has-use-spec = tie.close (tie.spec has-some-requires returns)
+has-use-spec = tie.close (tie.spec (λ c κs. search needs) returns)

@@ -8,23 +8,13 @@ use borrow.Author.Needs.{needs}
 use Rattle.mailbox_table.proofs.flags.Flags.lawful.Statement.{statement}
 use Rattle.mailbox_table.proofs.flags.Flags.lawful.Tie as tie
 
-has-requires : tie.Need-has-requires
-has-requires c κs = search needs
-
-has-requires-2 : tie.Need-has-requires-2
-has-requires-2 c κs = search needs
-
-has-requires-3 : tie.Need-has-requires-3
-has-requires-3 c κs = search needs
-
-has-some-requires : tie.Need-has-some-requires
-has-some-requires c κs = search needs
-
 returns : tie.Need-returns
 unfolding lawfulFlags exists marked unmarked
 returns c =
-    let start = c .before .before .before .before .before .before in
-    let has = c .before .before .before .before .before .has in
+    let after-has = c .before .before .before .before .before in
+    let stage = after-has .before in
+    let start = stage in
+    let has = after-has .has in
     let f = start .args .self .bits in
     rw (
       ap not (c .has-some .ensures) ∙ none-unnamed f,
@@ -35,4 +25,4 @@ returns c =
 
 pub lawful-spec : {M : Type 1} → statement M
 lawful-spec =
-    tie.close (tie.spec has-requires has-requires-2 has-requires-3 has-some-requires returns)
+    tie.close (tie.spec (λ c κs. search needs) (λ c κs. search needs) (λ c κs. search needs) (λ c κs. search needs) returns)

@@ -5,12 +5,9 @@ use borrow.Author.Needs.{needs}
 use Rattle.mailbox_table.proofs.rows.Row.of_word.Statement.{statement}
 use Rattle.mailbox_table.proofs.rows.Row.of_word.Tie as tie
 
-cast-t3 : tie.Need-cast-t3
-cast-t3 c = search needs
-
 returns : tie.Need-returns
 unfolding rowOfWord
 returns c = refl
 
 pub of-word-spec : {M : Type 1} → statement M
-of-word-spec = tie.close (tie.spec cast-t3 returns)
+of-word-spec = tie.close (tie.spec (λ c. search needs) returns)

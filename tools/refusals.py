@@ -103,9 +103,10 @@ def kind(place, text):
         return {relation(m[1]) for m in (re.search(p, text, re.DOTALL) for p in patterns) if m} - {None}
     if fits(FOLLOWS):
         return 'follows'
-    if text.startswith('[') or '/src/' in place or fits(TEXTS):
+    part = re.match(r'(?:.*/)?crates/[^/]*/(src|specs)/', place)
+    if text.startswith('[') or part and part[1] == 'src' or fits(TEXTS):
         return 'text'  # [..] is the compiler's
-    if '/specs/' in place and '=' not in about(WANTED):
+    if part and '=' not in about(WANTED):
         return 'text'
     if fits(FACTS) or about(WANTED) & about(SHOWN):
         return 'fact'

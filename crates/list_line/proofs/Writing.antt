@@ -1,4 +1,4 @@
--- The attributes' names one by one, what is written and what is left to write; and an answer at the front of a buffer.
+-- The attributes' names one by one, what is written and what is left to write; the line writer's cases.
 use mathlib.Core.Path.{_≡_, refl, sym, ap, _∙_}
 use mathlib.Core.Bool.{Bool, true, false}
 use mathlib.Core.List.{List, [], _∷_, _++_, append-assoc, append-nil}
@@ -7,7 +7,7 @@ use native.Mathlib.Numerals.{add-one}
 use native.Mathlib.Omega.{arith}
 use lib.ListN.{length, drop}
 use lib.Seq.{drop-cons}
-use borrow.Author.Tests.{eq-eqb, ne-eqb, le-leb, lt-leb}
+use borrow.Author.Tests.{eq-eqb, ne-eqb}
 use Rattle.listing_rules.proofs.Keys.{openBytes}
 use Rattle.listing_rules.specs.Options.{lawfulCriteria, criteriaOf}
 use Rattle.listing_rules.specs.Lines.{attributeNames, chosen, spaced, spacedTail, listLine, rootLine}
@@ -16,8 +16,8 @@ use Rattle.listing_rules.specs.Reader.{separated, rootParts, lineFrom}
 use Rattle.listing_rules.specs.Server.{refusal, answered, limited, bufferAfter}
 use Rattle.octets.specs.Put.{Put}
 use Rattle.octets.specs.Written.{writtenIs, Gives}
-use Rattle.octets.specs.declared.Written.the-variants.{Done, Refused}
-use Rattle.octets.proofs.Puts.{put-none, put-then, front}
+use Rattle.octets.specs.declared.Written.the-variants.{Refused}
+use Rattle.octets.proofs.Puts.{put-none, put-then}
 use Rattle.list_line.specs.Members.{members}
 use Rattle.list_line.specs.Names.{nameOf}
 use Rattle.list_line.proofs.Members.{digits, members-digits}
@@ -97,16 +97,6 @@ module _ {d e : List ℕ} {at to bits left : ℕ} {first : Bool} {k : ℕ} (s : 
     where
       none-left : s .count ≡ 0
       none-left = omega (arith, s .turns)
-
--- an answer at the front of a buffer: its length and the bytes where it fits, else refusal 9 and no byte
-module _ (d a : List ℕ) where
-  pub written-fits : {e : List ℕ} {r : ℕ} → Put d e 0 a r → length a ≤ length d → (Done r ≡ writtenIs (limited (length d) (answered a))) × (e ≡ bufferAfter d (limited (length d) (answered a)))
-  unfolding limited writtenIs bufferAfter
-  written-fits p h = rw (le-leb (length a) (length d) h) (ap Done (omega (arith, p .place, p .fits)), p .bytes ∙ front d a h)
-
-  pub written-short : length d < length a → (Refused 9 ≡ writtenIs (limited (length d) (answered a))) × (d ≡ bufferAfter d (limited (length d) (answered a)))
-  unfolding limited writtenIs bufferAfter
-  written-short h = rw (lt-leb (length a) (length d) h) (refl, refl)
 
 pub root-length : length rootLine ≡ 27
 unfolding openBytes rootLine

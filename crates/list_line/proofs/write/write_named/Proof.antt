@@ -1,7 +1,7 @@
 -- `write_named` meets its contract: the first pass measures the line, and the second writes it (`written-fits`, `written-short`).
 use native.Mathlib.Omega.{arith}
 use borrow.Author.Needs.{needs}
-use Rattle.list_line.proofs.Writing.{written-fits, written-short}
+use Rattle.octets.proofs.Writing.{written-fits, written-short}
 use Rattle.list_line.proofs.write.write_named.Statement.{statement}
 use Rattle.list_line.proofs.write.write_named.Tie as tie
 

@@ -2,7 +2,8 @@
 use native.Mathlib.Omega.{arith}
 use borrow.Author.Needs.{needs}
 use Rattle.listing_rules.specs.Lines.{rootLine}
-use Rattle.list_line.proofs.Writing.{written-fits, written-short, root-length}
+use Rattle.list_line.proofs.Writing.{root-length}
+use Rattle.octets.proofs.Writing.{written-fits, written-short}
 use Rattle.list_line.proofs.write.write_root.Statement.{statement}
 use Rattle.list_line.proofs.write.write_root.Tie as tie
 

@@ -1,5 +1,5 @@
 -- `server::replies::write_namespaces` meets its contract: an answer that is too long is refused, and one that fits is written.
-use Rattle.list_line.proofs.Writing.{written-short, written-fits}
+use Rattle.octets.proofs.Writing.{written-short, written-fits}
 use Rattle.server.specs.Replies.{spacesText}
 use native.Mathlib.Omega.{arith}
 use borrow.Author.Needs.{needs}

@@ -1,5 +1,5 @@
 use Rattle.command_line.specs.Tokens.{behindIs, BehindIn}
-use mathlib.Core.Path.{sym}
+use mathlib.Core.Path.{_≡_, sym}
 use Rattle.command_line.specs.Tokens.{behindIs}
 use Rattle.command_line.proofs.Bytes.{after-out, after-yes, after-no}
 use native.Mathlib.Omega.{arith}

@@ -1,4 +1,4 @@
-use mathlib.Core.Path.{sym, _∙_}
+use mathlib.Core.Path.{_≡_, sym, _∙_}
 use mathlib.Core.List.{[], _∷_}
 use Rattle.listing_rules.specs.Bytes.{text, crlf}
 use Rattle.command_line.specs.Tokens.{behindIs, BehindIn}

@@ -1,5 +1,5 @@
 use Rattle.listing_rules.specs.Tokens.{got}
-use mathlib.Core.Path.{sym}
+use mathlib.Core.Path.{_≡_, sym}
 use Rattle.command_line.specs.Tokens.{behindIs, BehindIn}
 use Rattle.command_line.specs.Values.{stringItem}
 use Rattle.command_line.proofs.Binds.{bind-none, bind-go, token-found, token-missing, token-ahead}

@@ -1,4 +1,4 @@
-use mathlib.Core.Path.{sym, _∙_}
+use mathlib.Core.Path.{_≡_, sym, _∙_}
 use lib.ListN.{length-drop}
 use Rattle.command_line.specs.Tokens.{tokenIs, TokenIn}
 use Rattle.command_line.proofs.Binds.{token-found, token-missing, bare-ahead, behind-at, behind-nothing, behind-ahead}

@@ -1,4 +1,4 @@
-use mathlib.Core.Path.{sym, _∙_}
+use mathlib.Core.Path.{_≡_, sym, _∙_}
 use mathlib.Core.List.{[], _∷_}
 use Rattle.command_line.specs.Tokens.{behindIs, BehindIn}
 use Rattle.command_line.proofs.Bytes.{after-then}

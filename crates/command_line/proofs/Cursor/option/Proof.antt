@@ -1,4 +1,4 @@
-use mathlib.Core.Path.{sym}
+use mathlib.Core.Path.{_≡_, sym}
 use Rattle.command_line.specs.OptionSets.{writtenIs, WrittenIn}
 use Rattle.command_line.proofs.Binds.{token-found, token-missing, bare-ahead, behind-at, behind-nothing, behind-ahead}
 use Rattle.command_line.proofs.Listing.{option-off, option-bare, option-broken, option-valued}

@@ -1,4 +1,4 @@
-use mathlib.Core.Path.{sym, ap, _∙_}
+use mathlib.Core.Path.{_≡_, sym, ap, _∙_}
 use Rattle.listing_rules.specs.Tokens.{got, _>>=_}
 use Rattle.command_line.specs.declared.option_list.Place.the-variants.{Selection}
 use Rattle.command_line.specs.OptionSets.{listedIs, marksOf, summed, marked}

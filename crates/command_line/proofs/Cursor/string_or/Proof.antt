@@ -1,4 +1,4 @@
-use mathlib.Core.Path.{sym, _∙_}
+use mathlib.Core.Path.{_≡_, sym, _∙_}
 use Rattle.command_line.proofs.Binds.{bare-token}
 use Rattle.command_line.proofs.Bytes.{inside, string-quoted, string-literal, string-bare, token-later}
 use native.Mathlib.Omega.{arith}

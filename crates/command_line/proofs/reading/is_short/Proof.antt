@@ -1,5 +1,5 @@
 use Prim.Native.Nat.{_+_}
-use mathlib.Core.Path.{sym}
+use mathlib.Core.Path.{_≡_, sym}
 use borrow.Author.Tests.{lt-leb}
 use Rattle.command_line.proofs.Canonical.{leb-moved}
 use native.Mathlib.Omega.{arith}

@@ -1,4 +1,4 @@
-use mathlib.Core.Path.{ap, _∙_}
+use mathlib.Core.Path.{_≡_, ap, _∙_}
 use Rattle.command_line.specs.declared.Span.{Span}
 use Rattle.command_line.specs.Commands.{bareCommand}
 use Rattle.command_line.specs.declared.Kind.the-variants.{Refused}

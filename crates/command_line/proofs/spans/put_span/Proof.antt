@@ -1,5 +1,5 @@
 use Rattle.command_line.proofs.Binds.{bare-bytes, quoted-bytes}
-use mathlib.Core.Path.{sym, ap, subst, _∙_}
+use mathlib.Core.Path.{_≡_, sym, ap, subst, _∙_}
 use mathlib.Core.Bool.{false}
 use mathlib.Core.List.{List}
 use Prim.Native.Nat.{ℕ}

@@ -1,4 +1,4 @@
-use mathlib.Core.Path.{refl, sym, _∙_}
+use mathlib.Core.Path.{_≡_, refl, sym, _∙_}
 use Rattle.command_line.specs.Spans.{rawBytes}
 use Rattle.command_line.proofs.Cuts.{cut-none, cut-out, cut-rest, cut-back}
 use native.Mathlib.Omega.{arith}

@@ -1,6 +1,6 @@
 use mathlib.Core.Bool.{Bool, _&&_, not}
 use lib.Dec.{leb}
-use mathlib.Core.Path.{ap}
+use mathlib.Core.Path.{_≡_, ap}
 use Rattle.listing_rules.specs.Tokens.{atomByte}
 use Rattle.listing_rules.specs.Bytes.{within}
 use Rattle.command_line.proofs.Bytes.{special-is}

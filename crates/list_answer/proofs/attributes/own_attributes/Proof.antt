@@ -1,5 +1,5 @@
 -- `list_answer::attributes::own_attributes` meets its contract: a member more with each line.
-use mathlib.Core.Path.{refl, ap, _∙_}
+use mathlib.Core.Path.{_≡_, refl, ap, _∙_}
 use mathlib.Core.Bool.{Bool, _&&_, not}
 use Prim.Native.Nat.{ℕ}
 use Rattle.listing_rules.specs.Flags.{exists, subscribed, remote, noSelect, noInferiors, marked, unmarked}

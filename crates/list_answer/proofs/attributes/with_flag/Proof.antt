@@ -1,5 +1,5 @@
 -- `list_answer::attributes::with_flag` meets its contract, by those of `has` and `with`.
-use mathlib.Core.Path.{refl}
+use mathlib.Core.Path.{_≡_, refl}
 use Prim.Native.Nat.{ℕ}
 use Rattle.list_answer.proofs.Sets.{more}
 use borrow.Author.Needs.{needs}

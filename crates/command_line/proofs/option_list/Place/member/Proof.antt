@@ -1,3 +1,4 @@
+use mathlib.Core.Path.{_≡_}
 use borrow.Author.Needs.{needs}
 use Rattle.command_line.proofs.option_list.Place.member.Statement.{statement}
 use Rattle.command_line.proofs.option_list.Place.member.Tie as tie

@@ -1,3 +1,4 @@
+use mathlib.Core.Path.{_≡_}
 use borrow.Author.Needs.{needs}
 use Rattle.command_line.proofs.pattern_list.Patterns.new.Statement.{statement}
 use Rattle.command_line.proofs.pattern_list.Patterns.new.Tie as tie

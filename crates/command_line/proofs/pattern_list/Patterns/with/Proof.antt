@@ -1,3 +1,4 @@
+use mathlib.Core.Path.{_≡_}
 use borrow.Author.Tests.{le-leb, lt-leb}
 use Rattle.command_line.specs.PatternLists.{withSpan}
 use borrow.Author.Needs.{needs}

@@ -1,3 +1,4 @@
+use mathlib.Core.Path.{_≡_}
 use Rattle.listing_rules.specs.Tokens.{atomByte}
 use Rattle.command_line.proofs.Bytes.{pattern-is}
 use Rattle.listing_rules.specs.Tokens.{tagByte, astringByte, patternByte}

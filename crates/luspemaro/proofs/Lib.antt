@@ -1,2 +1,3 @@
--- What a call of `feed` takes of a piece.
-pub mod Steps
+-- Laws of the program: bytes that are fed turn by turn, and what a read and a whole input come to.
+pub mod TurnLaws
+pub mod ServeLaws

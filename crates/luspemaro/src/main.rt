@@ -1,99 +1,73 @@
-// The program: frames from standard input, their answers to standard output. All that it does is proved in `session`; here are
-// the buffers and the calls of read and write.
+// The program: frames from standard input, their answers to standard output.
+//
+// What the answers are is proved in `session`. Here are the buffers and the calls of the system: the bytes of a read are fed as long
+// as the output has room for a line more, so that the answers of many frames go out in one write.
+//
+// A call that a signal interrupts is made again, and so is one that would block, after a pause. Any other failure is told on standard
+// error in one line, with the number of the frame, and ends the program: nothing more goes to standard output, no 13 either for the
+// bytes before it. A frame number is that of the frame being read, or of the first one whose answer may be missing.
+//
+// Assumed are the contracts of what is called of C: `read`, `write` and `nanosleep` of the kit's libc, and, of its `os`, what reads
+// errno and puts it into words. None of them says which bytes it moves, so no promise here does.
+mod calls;
+mod feeding;
+mod serving;
 
-use libc::STDIN_FILENO;
-use libc::STDOUT_FILENO;
-use session::Fed;
-use session::State;
-use session::feed;
-use session::finish;
+ghost use Prim.Native.Nat.{_≤_};
+ghost use mathlib.Core.Path.{_≡_};
+ghost use lib.ListN.{length};
+ghost use Rattle.session.specs.Carrying.{lent};
+ghost use Rattle.luspemaro.specs.Serving.{Reached, Sized};
+use serving::Place;
+use serving::read_on;
 
-// The state behind a piece of input, and whether the output still takes bytes.
-struct Turn {
-    state: State,
-    open: bool,
+// The areas in document 01's sizes: stored bytes 16,384 and 1,024, digits 4,100.
+fn table_area() -> [u8; 16384]
+    ensures { λ r. ⌜ 16384 ≡ length r ⌝ }
+{
+    [0; 16384]
 }
 
-const CLOSED: Turn = Turn {
-    state: State::START,
-    open: false,
-};
-
-// Output to the end of what lies in `out`: false where it does not take it.
-fn send(out: &[u8], written: usize) -> bool {
-    if written == 0 {
-        return true;
-    }
-    if out.len() < written {
-        return false;
-    }
-    io::write_all(STDOUT_FILENO, &out[..written])
+fn namespaces_area() -> [u8; 1024]
+    ensures { λ r. ⌜ 1024 ≡ length r ⌝ }
+{
+    [0; 1024]
 }
 
-// The bytes of one read, a frame at a time. Where the output is closed nothing is left to be said at the end.
-fn feed_all(
-    state: State,
-    chunk: &[u8],
-    table: &mut [u8],
-    namespaces: &mut [u8],
-    line: &mut [u8],
-    out: &mut [u8],
-) -> Turn {
-    let mut state = state;
-    let mut at = 0;
-    while at < chunk.len() {
-        let Fed::Taken(taken) = feed(state, &chunk[at..], table, namespaces, line, out) else {
-            return CLOSED;
-        };
-        state = taken.state;
-        let open = send(out, taken.written);
-        if !open {
-            return CLOSED;
-        }
-        at += taken.used;
-    }
-    Turn { state, open: true }
+fn digits_area() -> [u8; 4100]
+    ensures { λ r. ⌜ 4100 ≡ length r ⌝ }
+{
+    [0; 4100]
 }
 
-// One read: open is false at the end of the input, and where the output is closed.
-fn read_some(
-    state: State,
-    table: &mut [u8],
-    namespaces: &mut [u8],
-    line: &mut [u8],
-    out: &mut [u8],
-) -> Turn {
-    let mut chunk = io::large_buffer();
-    let got = libc::read(STDIN_FILENO, &mut chunk);
-    if got <= 0 {
-        return Turn { state, open: false };
-    }
-    let n = io::count(got, &chunk);
-    feed_all(state, &chunk[..n], table, namespaces, line, out)
+// Room for the longest line four times, so that a read's answers mostly go out together.
+fn output_area() -> [u8; 131084]
+    ensures { λ r. ⌜ 131084 ≡ length r ⌝ }
+{
+    [0; 131084]
 }
 
 // The whole input. A loop has to end: the turns are more than any input has bytes.
-fn run(table: &mut [u8], namespaces: &mut [u8], line: &mut [u8], out: &mut [u8]) {
-    let mut turn = Turn {
-        state: State::START,
-        open: true,
-    };
+fn run(table: &mut [u8], namespaces: &mut [u8], line: &mut [u8], out: &mut [u8]) -> Place
+    requires { ⌜ Sized (lent (now table) (now namespaces) (now out)) (now line) ⌝ }
+    ensures { λ r. ⌜ Reached (lent (now (table .exit)) (now (namespaces .exit)) (now (out .exit))) (now (line .exit)) r ⌝ }
+{
+    let mut place = Place::START;
     let mut turns = u64::MAX;
     while 0 < turns {
-        if !turn.open {
+        if !place.more {
             break;
         }
-        turn = read_some(turn.state, table, namespaces, line, out);
+        place = read_on(place, table, namespaces, line, out);
         turns -= 1;
     }
-    let written = finish(turn.state, out);
-    send(out, written);
+    place
 }
 
 fn main() {
-    let mut table = [0u8; 16384];
-    let mut namespaces = [0u8; 1024];
-    let mut line = [0u8; 4100];
-    let mut out = [0u8; 32771];
+    let mut table = table_area();
+    let mut namespaces = namespaces_area();
+    let mut line = digits_area();
+    let mut out = output_area();
     run(&mut table, &mut namespaces, &mut line, &mut out);
 }

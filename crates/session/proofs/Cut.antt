@@ -4,7 +4,7 @@ use mathlib.Core.Path.{_≡_, refl, sym, ap, _∙_}
 use mathlib.Core.Bool.{Bool, true, false}
 use mathlib.Core.List.{List, [], _∷_, _++_}
 use lib.ListN.{length, take, drop, take-append-drop}
-use lib.Seq.{sets-eq, take-at}
+use lib.Seq.{sets-eq, take-at, take-append-le}
 use native.Mathlib.Omega.{arith}
 use Prim.Native.Nat.{ℕ, zero, suc, _+_, _≤_}
 use Rattle.listing_rules.specs.Lists.{joined}
@@ -60,12 +60,6 @@ holds-again {d} {e} {line} {line′} {st} {s} a r h =
       frame = lent-frame (st .gathered .over) (st .gathered .len) line line′ (s .partial) (z .line) (a .frame) (h .frame);
     }
 
--- a piece of the input that lies in the chunk
-piece : (n : ℕ) (a b : List ℕ) → n ≤ length a → take n (a ++ b) ≡ take n a
-piece zero a b h = refl
-piece (suc n) [] b h = absurd (omega arith)
-piece (suc n) (x ∷ a) b h = ap (λ (l : List ℕ). x ∷ l) (piece n a b (omega arith))
-
 -- what calls come to: what they said, and a memory that holds the session
 abbrev Come : Came → List ℕ → State → Type 0
 Come f said st = (said ≡ f .output) × ((e : Lent) × ((line : List ℕ) × Holds e line st (f .session)))
@@ -98,7 +92,7 @@ calls-come (x ∷ xs) st d line s input h c t =
     taken : take (x .answer .used) input ≡ front
     taken =
         ap (take (x .answer .used)) (t .0 .1)
-        ∙ piece (x .answer .used) (x .chunk) (t .0 .0) (omega (arith, c .1 .1 .used, through-inside (x .chunk)))
+        ∙ take-append-le (x .answer .used) (x .chunk) (t .0 .0) (omega (arith, c .1 .1 .used, through-inside (x .chunk)))
         ∙ ap (λ (n : ℕ). take n (x .chunk)) (c .1 .1 .used)
 
     cut : input ≡ front ++ drop (x .answer .used) input

@@ -62,7 +62,7 @@ within d line st h =
     let z = sizes (length (d .table)) (length (d .namespaces)) (length line) (length (d .out)) st h in
     (z .rows, z .entries, z .table, z .namespaces)
 
-ready-again : (t n l o : ℕ) (st : State) → Sizes t n l o st → ready t n l o st ≡ true
+pub ready-again : (t n l o : ℕ) (st : State) → Sizes t n l o st → ready t n l o st ≡ true
 ready-again t n l o st z =
     rw (le-leb 16384 t (z .table), le-leb 1024 n (z .namespaces), le-leb 4100 l (z .line), le-leb 32771 o (z .out), le-leb (st .stored .table) 16384 (z .rows), le-leb (st .stored .namespaces) 1024 (z .entries)) (z .digits)
 

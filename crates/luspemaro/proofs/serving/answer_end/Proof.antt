@@ -1,0 +1,25 @@
+-- `luspemaro::serving::answer_end` meets its contract: what is said is sent. Rests on ServeLaws.
+use Rattle.luspemaro.proofs.ServeLaws.{ends}
+use native.Mathlib.Omega.{arith}
+use borrow.Author.Needs.{needs}
+use Rattle.luspemaro.proofs.serving.answer_end.Statement.{statement}
+use Rattle.luspemaro.proofs.serving.answer_end.Tie as tie
+use Rattle.luspemaro.proofs.serving.answer_end.Reads as reads
+use Rattle.luspemaro.proofs.serving.answer_end.Lts as lts
+use Rattle.luspemaro.proofs.calls.send.Reads as send-reads
+use Rattle.session.proofs.finish.Reads as finish-reads
+
+finish-requires : tie.Need-finish-requires
+finish-requires c κs = search needs
+
+send-requires : tie.Need-send-requires
+send-requires c κs = search needs
+
+same-length : tie.Need-same-length
+same-length c = search needs
+
+returns : tie.Need-returns
+returns c = ends (c .before .before .before .before .before .before .before .pre) (c .before .before .before .before .finish .ensures) (c .send .ensures)
+
+pub answer-end-spec : {M : Type 1} → statement M
+answer-end-spec = tie.close (tie.spec finish-requires send-requires same-length returns)

@@ -1,0 +1,173 @@
+// The bytes of a read answered: fed, and the answers written; and the end of the input.
+
+ghost use Prim.Native.Nat.{_≤_};
+ghost use mathlib.Core.Path.{_≡_};
+ghost use mathlib.Core.Bool.{true, false};
+ghost use lib.ListN.{length, take};
+ghost use Rattle.session.specs.Carrying.{lent};
+ghost use Rattle.session.specs.Feeding.{readyIn};
+ghost use Rattle.luspemaro.specs.Serving.{placeIs, Rounds, Serves, Ends, ReadsOn};
+use crate::calls::Got;
+use crate::calls::Sent;
+use crate::calls::read_some;
+use crate::calls::send;
+use crate::calls::tell;
+use crate::feeding::feed_all;
+use session::State;
+use session::finish;
+
+// Where the program stands: the session's state, how many frames have ended, whether there is more to read, and whether a call
+// failed.
+pub(crate) struct Place {
+    pub state: State,
+    pub frames: usize,
+    pub more: bool,
+    pub failed: bool,
+}
+
+impl Place {
+    pub const START: Place = Place {
+        state: State::START,
+        frames: 0,
+        more: true,
+        failed: false,
+    };
+}
+
+// What came of some bytes of a read: the state after them, how many were fed, how many frames ended in them, and what was sent.
+struct Round {
+    state: State,
+    used: usize,
+    frames: usize,
+    sent: Sent,
+}
+
+// As many bytes as one output has room for, fed and answered.
+fn answer_some(
+    state: State,
+    bytes: &[u8],
+    table: &mut [u8],
+    namespaces: &mut [u8],
+    line: &mut [u8],
+    out: &mut [u8],
+) -> Round
+    requires { ⌜ readyIn (lent (now table) (now namespaces) (now out)) (now line) state ≡ true ⌝ }
+    ensures { λ r. ⌜ Rounds (now (bytes .entry))
+        (lent (now (table .entry)) (now (namespaces .entry)) (now (out .entry)))
+        (lent (now (table .exit)) (now (namespaces .exit)) (now (out .exit)))
+        (now (line .entry)) (now (line .exit)) state r ⌝ }
+{
+    let turn = feed_all(state, bytes, table, namespaces, line, out);
+    let sent = send(out, turn.written);
+    let state = turn.state;
+    Round {
+        state,
+        used: turn.used,
+        frames: turn.frames,
+        sent,
+    }
+}
+
+// The first n bytes of `chunk`, answered in as many writes as it takes.
+fn serve(
+    place: Place,
+    chunk: &[u8],
+    n: usize,
+    table: &mut [u8],
+    namespaces: &mut [u8],
+    line: &mut [u8],
+    out: &mut [u8],
+) -> Place
+    requires { ⌜ n ≤ length (now chunk) ⌝ }
+    requires { ⌜ readyIn (lent (now table) (now namespaces) (now out)) (now line) (place .state) ≡ true ⌝ }
+    ensures { λ r. ⌜ Serves (take n (now (chunk .entry)))
+        (lent (now (table .entry)) (now (namespaces .entry)) (now (out .entry)))
+        (lent (now (table .exit)) (now (namespaces .exit)) (now (out .exit)))
+        (now (line .entry)) (now (line .exit)) place r ⌝ }
+{
+    let mut state = place.state;
+    let mut frames = place.frames;
+    let mut at = 0;
+    while at < n {
+        let round = answer_some(state, &chunk[at..n], table, namespaces, line, out);
+        state = round.state;
+        let sent = round.sent;
+        if !sent.whole {
+            return write_failed(state, frames);
+        }
+        at += round.used;
+        frames = octets::advance(frames, round.frames);
+    }
+    place_at(state, frames, true, false)
+}
+
+// The end of the input: what document 01 has it say goes out.
+fn answer_end(state: State, out: &mut [u8]) -> Sent
+    requires { ⌜ 32771 ≤ length (now out) ⌝ }
+    ensures { λ r. ⌜ Ends (now (out .exit)) state r ⌝ }
+{
+    let written = finish(state, out);
+    send(out, written)
+}
+
+fn place_at(state: State, frames: usize, more: bool, failed: bool) -> Place
+    ensures { λ r. ⌜ r ≡ placeIs state frames more failed ⌝ }
+{
+    Place {
+        state,
+        frames,
+        more,
+        failed,
+    }
+}
+
+// A call failed at the frame after those that have ended, which is told.
+fn write_failed(state: State, frames: usize) -> Place
+    ensures { λ r. ⌜ r ≡ placeIs state frames false true ⌝ }
+{
+    tell(
+        b"luspemaro: write failed at frame ",
+        octets::advance(frames, 1),
+    );
+    place_at(state, frames, false, true)
+}
+
+fn read_failed(state: State, frames: usize) -> Place
+    ensures { λ r. ⌜ r ≡ placeIs state frames false true ⌝ }
+{
+    tell(
+        b"luspemaro: read failed at frame ",
+        octets::advance(frames, 1),
+    );
+    place_at(state, frames, false, true)
+}
+
+// One read, and what is owed for it.
+pub(crate) fn read_on(
+    place: Place,
+    table: &mut [u8],
+    namespaces: &mut [u8],
+    line: &mut [u8],
+    out: &mut [u8],
+) -> Place
+    requires { ⌜ readyIn (lent (now table) (now namespaces) (now out)) (now line) (place .state) ≡ true ⌝ }
+    ensures { λ r. ⌜ ReadsOn
+        (lent (now (table .entry)) (now (namespaces .entry)) (now (out .entry)))
+        (lent (now (table .exit)) (now (namespaces .exit)) (now (out .exit)))
+        (now (line .entry)) (now (line .exit)) place r ⌝ }
+{
+    let state = place.state;
+    let frames = place.frames;
+    let mut chunk = io::large_buffer();
+    match read_some(&mut chunk) {
+        Got::Bytes(n) => serve(place, &chunk, n, table, namespaces, line, out),
+        Got::End => {
+            let sent = answer_end(state, out);
+            if !sent.whole {
+                return write_failed(state, frames);
+            }
+            place_at(state, frames, false, false)
+        },
+        Got::Failed => read_failed(state, frames),
+    }
+}

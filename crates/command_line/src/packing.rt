@@ -26,7 +26,8 @@ pub(crate) fn put_canonical(
     reference: Span,
     pattern: Span,
 ) -> usize
-    ensures { λ r. ⌜ Put (now (buf .entry)) (now (buf .exit)) at (packedOne (spanBytes (now (line .entry)) reference ++ spanBytes (now (line .entry)) pattern)) r ⌝ }
+    ensures { λ r. ⌜ Put (now (buf .entry)) (now (buf .exit)) at (packedOne (spanBytes (now (line .entry)) reference ++ spanBytes (now
+        (line .entry)) pattern)) r ⌝ }
 {
     let head = span_len(line, reference);
     let tail = span_len(line, pattern);

@@ -66,7 +66,8 @@ impl Patterns {
 impl Cursor {
     // pattern *(SP pattern) ")", behind the opening parenthesis
     fn pattern_list(self, text: &[u8]) -> PatternList
-        ensures { λ r. ⌜ patternsIs (now (text .entry)) r ≡ upToEight (parted pattern (length (drop (self .at) (now (text .entry)))) (drop (self .at) (now (text .entry)))) ⌝ }
+        ensures { λ r. ⌜ patternsIs (now (text .entry)) r ≡ upToEight (parted pattern (length (drop (self .at) (now (text .entry)))) (drop
+            (self .at) (now (text .entry)))) ⌝ }
         ensures { λ r. ⌜ Placed (now (text .entry)) (r .patterns) ⌝ }
     {
         let mut found = Patterns::new();

@@ -82,7 +82,8 @@ struct Canonical {
 }
 
 fn measure(text: &[u8], reference: Span, patterns: Patterns) -> Canonical
-    ensures { λ r. ⌜ (r .count ≡ length (canonical (spanBytes (now (text .entry)) reference) (held (now (text .entry)) patterns))) × (r .fit ≡ every short (canonical (spanBytes (now (text .entry)) reference) (held (now (text .entry)) patterns))) ⌝ }
+    ensures { λ r. ⌜ (r .count ≡ length (canonical (spanBytes (now (text .entry)) reference) (held (now (text .entry)) patterns))) ×
+        (r .fit ≡ every short (canonical (spanBytes (now (text .entry)) reference) (held (now (text .entry)) patterns))) ⌝ }
 {
     let head = span_len(text, reference);
     let n = placed(patterns.count);
@@ -149,7 +150,8 @@ fn judge(text: &[u8], tag: Span, a: Arguments) -> Command
 
 // Whether the command is extended: a selection list at first, parentheses around the patterns, or RETURN behind them.
 fn is_extended(text: &[u8], first: Cursor, patterns: Cursor, behind: Cursor) -> bool
-    ensures { λ r. ⌜ r ≡ (isSome (after (spelled " (") (drop (first .at) (now (text .entry)))) || at 40 (drop (patterns .at) (now (text .entry))) || not (isEmpty (drop (behind .at) (now (text .entry))))) ⌝ }
+    ensures { λ r. ⌜ r ≡ (isSome (after (spelled " (") (drop (first .at) (now (text .entry)))) || at 40 (drop (patterns .at) (now
+        (text .entry))) || not (isEmpty (drop (behind .at) (now (text .entry))))) ⌝ }
 {
     if let Behind::At(_) = first.opening(text) {
         return true;
@@ -159,7 +161,8 @@ fn is_extended(text: &[u8], first: Cursor, patterns: Cursor, behind: Cursor) -> 
 
 // list = "LIST" [selection] SP astring SP patterns [return], behind the word
 fn read_list(text: &[u8], tag: Span, first: Cursor) -> Command
-    ensures { λ r. ⌜ meaning (now (text .entry)) r ≡ orRefuse 4 (listArgs (drop (first .at) (now (text .entry)))) (judged (spanBytes (now (text .entry)) tag)) ⌝ }
+    ensures { λ r. ⌜ meaning (now (text .entry)) r ≡ orRefuse 4 (listArgs (drop (first .at) (now (text .entry)))) (judged (spanBytes (now
+        (text .entry)) tag)) ⌝ }
     ensures { λ r. ⌜ (TagIn (now (text .entry)) tag → Inside (now (text .entry)) r) ⌝ }
 {
     let Listed::Read(selected, known, second) = first.selection(text) else {

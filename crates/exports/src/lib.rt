@@ -13,7 +13,7 @@ use outcomes::collected_outcome;
 use outcomes::line_parts;
 use outcomes::written_outcome;
 ghost use mathlib.Core.Path.{_≡_};
-ghost use mathlib.Core.Bool.{true, _&&_};
+ghost use mathlib.Core.Bool.{_&&_};
 ghost use lib.Dec.{leb};
 ghost use lib.ListN.{length};
 ghost use Rattle.listing_rules.specs.Table.{passes};
@@ -21,9 +21,9 @@ ghost use Rattle.listing_rules.specs.Namespaces.{namespacesPass};
 ghost use Rattle.listing_rules.specs.Match.{matches};
 ghost use Rattle.listing_rules.specs.Reader.{written, readLine};
 ghost use Rattle.listing_rules.specs.Server.{served};
-ghost use Rattle.listing_rules.specs.Walk.{lawfulByte, collected, foundAfter, pendingAfter, scratchAfter};
+ghost use Rattle.listing_rules.specs.Walk.{collected};
 ghost use Rattle.list_line.specs.Members.{members};
-ghost use Rattle.collector.specs.Result.{collectedIs, WholeWalk};
+ghost use Rattle.collector.specs.Result.{collectedOf, scratchOf, foundOf, pendingOf, OwesDemand3};
 ghost use Rattle.exports.specs.Outcomes.{Into, walkOutcome, partsOf};
 
 // Check 1: whether the table passes.
@@ -58,7 +58,8 @@ pub extern "C" fn luspemaro_answer(
     line: &[u8],
     out: &mut [u8],
 ) -> Outcome
-    ensures { λ r. ⌜ Into (served (now (table .entry)) (now (namespaces .entry)) (now (line .entry)) (now (out .entry))) (now (out .entry)) (now (out .exit)) r ⌝ }
+    ensures { λ r. ⌜ Into (served (now (table .entry)) (now (namespaces .entry)) (now (line .entry)) (now (out .entry)))
+        (now (out .entry)) (now (out .exit)) r ⌝ }
 {
     written_outcome(server::answer(table, namespaces, line, out))
 }
@@ -73,10 +74,12 @@ pub extern "C" fn luspemaro_collect(
     pending: &mut [u8],
 ) -> Outcome
     ensures result { λ r. ⌜ r ≡ walkOutcome (collected (now (table .entry)) option (now (scratch .entry)) (now (found .entry)) (now (pending .entry))) ⌝ }
-    ensures scratch { λ _. ⌜ now (scratch .exit) ≡ scratchAfter (length (now (scratch .entry))) (collected (now (table .entry)) option (now (scratch .entry)) (now (found .entry)) (now (pending .entry))) ⌝ }
-    ensures found { λ _. ⌜ now (found .exit) ≡ foundAfter (length (now (found .entry))) (collected (now (table .entry)) option (now (scratch .entry)) (now (found .entry)) (now (pending .entry))) ⌝ }
-    ensures pending { λ _. ⌜ now (pending .exit) ≡ pendingAfter (length (now (pending .entry))) (collected (now (table .entry)) option (now (scratch .entry)) (now (found .entry)) (now (pending .entry))) ⌝ }
-    ensures demand3 { λ _. ⌜ (passes (now (table .entry)) ≡ true → lawfulByte option ≡ true → WholeWalk (now (table .entry)) option (length (now (scratch .entry))) (length (now (found .entry))) (length (now (pending .entry))) (collectedIs (collected (now (table .entry)) option (now (scratch .entry)) (now (found .entry)) (now (pending .entry)))) (now (found .exit)) (now (pending .exit))) ⌝ }
+    ensures scratch { λ _. ⌜ now (scratch .exit) ≡ scratchOf (now (table .entry)) option (now (scratch .entry)) (now (found .entry)) (now (pending .entry)) ⌝ }
+    ensures found { λ _. ⌜ now (found .exit) ≡ foundOf (now (table .entry)) option (now (scratch .entry)) (now (found .entry)) (now (pending .entry)) ⌝ }
+    ensures pending { λ _. ⌜ now (pending .exit) ≡ pendingOf (now (table .entry)) option (now (scratch .entry)) (now (found .entry)) (now (pending .entry)) ⌝ }
+    ensures demand3 { λ _. ⌜ OwesDemand3 (now (table .entry)) option (now (scratch .entry)) (now (found .entry)) (now (pending .entry))
+        (collectedOf (now (table .entry)) option (now (scratch .entry)) (now (found .entry)) (now (pending .entry)))
+        (now (found .exit)) (now (pending .exit)) ⌝ }
 {
     collected_outcome(collector::collect(table, option, scratch, found, pending))
 }

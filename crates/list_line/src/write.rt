@@ -132,7 +132,8 @@ fn root_parts(attributes: Attributes, name: &[u8], criteria: Criteria) -> bool
 
 // A line of a lawful name at the front, if there is room.
 fn write_named(attributes: Attributes, name: &[u8], criteria: Criteria, buf: &mut [u8]) -> Written
-    ensures { λ r. ⌜ Gives (answered (listLine (members (attributes .bits)) (now (name .entry)) (criteriaOf (criteria .bits)))) (now (buf .entry)) (now (buf .exit)) r ⌝ }
+    ensures { λ r. ⌜ Gives (answered (listLine (members (attributes .bits)) (now (name .entry)) (criteriaOf (criteria .bits)))) (now
+        (buf .entry)) (now (buf .exit)) r ⌝ }
 {
     let mut none = [0u8; 0];
     let need = put_line(&mut none, 0, attributes, name, criteria);

@@ -2,13 +2,8 @@
 use mathlib.Core.Path.{ap}
 use mathlib.Core.Bool.{not}
 use native.Mathlib.Omega.{arith}
-use lib.ListN.{take, length-take}
+use lib.ListN.{length-take}
 use borrow.Author.Needs.{needs}
-use Rattle.listing_rules.specs.Walk.{isFind}
-use Rattle.list_line.specs.Members.{members}
-use Rattle.collector.specs.Options.{byteOf}
-use Rattle.collector.specs.Names.{Keeps}
-use Rattle.collector.specs.declared.names.Kept.the-variants.{To}
 use Rattle.collector.proofs.TakeLaws.{parentOf, ReadAs, read-as, line-skipped, find-full, ask-full, line-taken}
 use Rattle.collector.proofs.lines.take_line.Statement.{statement}
 use Rattle.collector.proofs.lines.take_line.Tie as tie
@@ -66,19 +61,11 @@ returns-2 : tie.Need-returns-2
 returns-2 c =
     let kept = c .before .before .before .before in
     let read = kept .before .before .before .before .before .before in
-    let start = read .before .before .before .before .before .before .before in
-    find-full (told read) (start .args .options) (rw (c .enum-told2 .given .1, kept .before .before .before .before .is-find .ensures) at (kept .keep .ensures))
+    find-full (told read) (read .before .before .before .before .before .before .before .args .options) (kept .keep .last .1 .0) (kept .before .before .before .before .is-find .ensures) (c .enum-told2 .given .1) (kept .keep .ensures)
 
--- a kept find, and the line that it was read from
+-- the stage at which the line was read, from the one at which its find was kept
 abbrev read-before : tie.After-known-told2 → tie.After-known-told
 read-before c = c .before .before .before .before .before .before .before .before .before .before .before
-
-found-kept : (c : tie.After-known-told2) →
-    let read = read-before c in
-    let args = read .before .before .before .before .before .before .before .args in
-    let parts = read .before .parts .given .0 in
-    Keeps (isFind (byteOf (args .options)) (members (parts .0 .bits))) (take (parts .1 .0) (read .before .before .before .read-line .result .name)) (args .found .now) (args .start .found) (c .before .before .before .before .before .keep .last .1 .0) (To (c .before .found-end .given .0 .0))
-found-kept c = let kept = c .before .before .before .before .before in rw (c .before .found-end .given .1, kept .before .before .before .before .is-find .ensures) at (kept .keep .ensures)
 
 array-share-prefix-name-2 : tie.Need-array-share-prefix-name-2
 array-share-prefix-name-2 c = told (read-before (c .before)) .inside
@@ -109,9 +96,16 @@ returns-3 c =
     let found = asked .before .before .before in
     let kept = found .before .before .before .before .before in
     let read = read-before found in
-    let start = read .before .before .before .before .before .before .before in
-    let full = rw (c .enum-told3 .given .1, ap not (kept .before .before .before .is-none .ensures)) at (asked .keep2 .ensures) in
-    ask-full (told read) (start .args .options) (found-kept found) (kept .keep .kept .1 .0) full
+    ask-full (told read) (read .before .before .before .before .before .before .before .args .options)
+    (kept .keep .last .1 .0)
+    (kept .before .before .before .before .is-find .ensures)
+    (found .before .found-end .given .1)
+    (kept .keep .ensures)
+    (kept .keep .kept .1 .0)
+    (asked .keep2 .last .1 .0)
+    (ap not (kept .before .before .before .is-none .ensures))
+    (c .enum-told3 .given .1)
+    (asked .keep2 .ensures)
 
 same-length-4 : tie.Need-same-length-4
 same-length-4 c = search needs
@@ -125,9 +119,17 @@ returns-4 c =
     let found = asked .before .before .before in
     let kept = found .before .before .before .before .before in
     let read = read-before found in
-    let start = read .before .before .before .before .before .before .before in
-    let ask-kept = rw (c .before .pending-end .given .1, ap not (kept .before .before .before .is-none .ensures)) at (asked .keep2 .ensures) in
-    line-taken (told read) (start .args .options) (found-kept found) (kept .keep .kept .1 .0) ask-kept (asked .keep2 .kept .1 .0)
+    line-taken (told read) (read .before .before .before .before .before .before .before .args .options)
+    (kept .keep .last .1 .0)
+    (kept .before .before .before .before .is-find .ensures)
+    (found .before .found-end .given .1)
+    (kept .keep .ensures)
+    (kept .keep .kept .1 .0)
+    (asked .keep2 .last .1 .0)
+    (ap not (kept .before .before .before .is-none .ensures))
+    (c .before .pending-end .given .1)
+    (asked .keep2 .ensures)
+    (asked .keep2 .kept .1 .0)
 
 pub take-line-spec : {M : Type 1} → statement M
 take-line-spec =

@@ -1,5 +1,5 @@
 -- One command: its line in a local buffer, the server's reply, and what the lines of the answer give. Rests on the laws of writes.
-use mathlib.Core.Path.{_≡_, refl, sym, ap, _∙_}
+use mathlib.Core.Path.{_≡_, refl, sym, ap, subst, _∙_}
 use mathlib.Core.Bool.{Bool, true, false, cond, _||_, not}
 use mathlib.Core.List.{List, [], _∷_}
 use Prim.Native.Nat.{ℕ, _+_, _*_, _≤_}
@@ -60,6 +60,10 @@ when-length : (o : Bool) (t : List ℕ) → length (when o t) ≤ length t
 unfolding when
 when-length true t = omega arith
 when-length false t = omega arith
+
+-- a text that was put, or not, where it is known whether it was asked for
+pub put-when-as : {v v′ : Bool} {d e : List ℕ} {at r : ℕ} (t : List ℕ) → v ≡ v′ → Put d e at (when v t) r → Put d e at (when v′ t) r
+put-when-as {v} {v′} {d} {e} {at} {r} t a p = subst (λ (x : Bool). Put d e at (when x t) r) a p
 
 -- a command's length: its texts, and twice the reference
 text-lengths :

@@ -1,6 +1,6 @@
 -- One line of an answer taken in: what the reader's answer tells of the line, and what is kept of it. Rests on PackLaws and
 -- FindLaws and on the laws of the reader.
-use mathlib.Core.Path.{_≡_, refl, sym, ap, _∙_}
+use mathlib.Core.Path.{_≡_, refl, sym, ap, subst, _∙_}
 use mathlib.Core.Logic.{_⊎_, inl, inr}
 use mathlib.Core.Bool.{Bool, false, not}
 use mathlib.Core.List.{List}
@@ -26,6 +26,7 @@ use Rattle.listing_rules.proofs.RoundTrip.{criteria-number}
 use Rattle.collector.specs.Names.{Keeps}
 use Rattle.collector.specs.Options.{byteOf}
 use Rattle.collector.specs.Taking.{Inside, Holds, Goes, lineStep}
+use Rattle.collector.specs.declared.names.Kept.{Kept}
 use Rattle.collector.specs.declared.names.Kept.the-variants.{To, Full}
 use Rattle.collector.specs.declared.lines.Progress.{Progress}
 use Rattle.collector.specs.declared.options.WalkOptions.{WalkOptions}
@@ -118,35 +119,44 @@ pub line-skipped : (l : List ℕ) (w : WalkOptions) {r : Line} {k : ℕ} {d b : 
 unfolding takenIn
 line-skipped l w a e h = record { inside = h; counted = refl; lists = λ s g. (s, rw (read-bad l (sym a ∙ e)), g) }
 
+-- the promise of `keep` where its question and its answer are known
+keeps-as : {v v′ : Bool} {r r′ : Kept} (n d : List ℕ) (at : ℕ) (e : List ℕ) → v ≡ v′ → r ≡ r′ → Keeps v n d at e r → Keeps v′ n d at e r′
+keeps-as {v} {v′} {r} {r′} n d at e p q k = subst (λ (x : Bool). Keeps x n d at e r′) p (subst (λ (y : Kept). Keeps v n d at e y) q k)
+
 -- a line that is read: its name is kept in found, in pending, in both or in neither
 module _ {l : List ℕ} {t : Attributes} {n : ℕ} {c : Bool} {name : List ℕ} (R : ReadAs l t n c name) (w : WalkOptions) {d b : List ℕ} {p : Progress} where
   parts-step : {s : Lists} → Holds s d b p → lineStep w l d b s ≡ bothFit (length d) (length b) (findsWith w t (take n name) s) (asksWith c (take n name) s)
   parts-step {s} h = R .taken w (length d) (length b) s (omega (arith, h .finds .counted, h .finds .room)) (omega (arith, h .asks .counted, h .asks .room))
 
-  pub find-full : Keeps (isFind (byteOf w) (members (t .bits))) (take n name) d (p .found) d Full → (s : Lists) → Holds s d b p → lineStep w l d b s ≡ stop 10
+  pub find-full : {v : Bool} {r : Kept} (d′ : List ℕ) → v ≡ isFind (byteOf w) (members (t .bits)) → r ≡ Full → Keeps v (take n name) d (p .found) d′ r → (s : Lists) → Holds s d b p → lineStep w l d b s ≡ stop 10
   unfolding _>>=_
-  find-full k s h = parts-step h ∙ rw (fits-stop 10 (length d) (findsWith w t (take n name) s) (k (s .finds) (h .finds)))
+  find-full d′ a e k s h =
+      let full = keeps-as (take n name) d (p .found) d′ a e k in
+      parts-step h ∙ rw (fits-stop 10 (length d) (findsWith w t (take n name) s) (full (s .finds) (h .finds)))
 
-  module _ {d′ : List ℕ} {f : ℕ} (kf : Keeps (isFind (byteOf w) (members (t .bits))) (take n name) d (p .found) d′ (To f)) (same : length d′ ≡ length d) where
+  module _ {v : Bool} {r : Kept} {f : ℕ} (d′ : List ℕ) (a : v ≡ isFind (byteOf w) (members (t .bits))) (e : r ≡ To f) (k : Keeps v (take n name) d (p .found) d′ r) (same : length d′ ≡ length d) where
     found-fits : {s : Lists} → Holds s d b p → fits 10 (length d) (findsWith w t (take n name) s) ≡ go (findsWith w t (take n name) s)
-    found-fits {s} h = let k = kf .1 (s .finds) (h .finds) in fits-go 10 (length d) (findsWith w t (take n name) s) (omega (arith, k .counted, k .room))
+    found-fits {s} h =
+        let x = keeps-as (take n name) d (p .found) d′ a e k .1 (s .finds) (h .finds) in
+        fits-go 10 (length d) (findsWith w t (take n name) s) (omega (arith, x .counted, x .room))
 
-    pub ask-full : Keeps c (take n name) b (p .pending) b Full → (s : Lists) → Holds s d b p → lineStep w l d b s ≡ stop 11
+    pub ask-full : {u : Bool} {q : Kept} (b′ : List ℕ) → u ≡ c → q ≡ Full → Keeps u (take n name) b (p .pending) b′ q → (s : Lists) → Holds s d b p → lineStep w l d b s ≡ stop 11
     unfolding _>>=_
-    ask-full k s h = parts-step h ∙ rw (found-fits h, fits-stop 11 (length b) (asksWith c (take n name) s) (k (s .asks) (h .asks)))
+    ask-full b′ a′ e′ k′ s h =
+        let full = keeps-as (take n name) b (p .pending) b′ a′ e′ k′ in
+        parts-step h ∙ rw (found-fits h, fits-stop 11 (length b) (asksWith c (take n name) s) (full (s .asks) (h .asks)))
 
-    pub line-taken : {b′ : List ℕ} {q : ℕ} → Keeps c (take n name) b (p .pending) b′ (To q) → length b′ ≡ length b → Goes (lineStep w l d b) (p .count) d b p d′ b′ (record { count = p .count; found = f; pending = q })
+    pub line-taken : {u : Bool} {q : Kept} {g : ℕ} (b′ : List ℕ) → u ≡ c → q ≡ To g → Keeps u (take n name) b (p .pending) b′ q → length b′ ≡ length b → Goes (lineStep w l d b) (p .count) d b p d′ b′ (record { count = p .count; found = f; pending = g })
     unfolding _>>=_
-    line-taken kq same′ =
+    line-taken b′ a′ e′ k′ same′ =
+        let finds = keeps-as (take n name) d (p .found) d′ a e k in
+        let asks = keeps-as (take n name) b (p .pending) b′ a′ e′ k′ in
         record {
-          inside = record { finds = kf .0; asks = kq .0 };
+          inside = record { finds = finds .0; asks = asks .0 };
           counted = refl;
-          lists = λ s h. (
+          lists = λ s h. let x = asks .1 (s .asks) (h .asks) in (
             record { finds = findsWith w t (take n name) s; asks = asksWith c (take n name) s },
-            parts-step h ∙ rw (found-fits h, asks-fit s h),
-            record { finds = kf .1 (s .finds) (h .finds); asks = kq .1 (s .asks) (h .asks) },
+            parts-step h ∙ rw (found-fits h, fits-go 11 (length b) (asksWith c (take n name) s) (omega (arith, x .counted, x .room))),
+            record { finds = finds .1 (s .finds) (h .finds); asks = x },
           );
         }
-      where
-        asks-fit : (s : Lists) → Holds s d b p → fits 11 (length b) (asksWith c (take n name) s) ≡ go (asksWith c (take n name) s)
-        asks-fit s h = let k = kq .1 (s .asks) (h .asks) in fits-go 11 (length b) (asksWith c (take n name) s) (omega (arith, k .counted, k .room))

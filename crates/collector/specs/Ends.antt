@@ -7,15 +7,16 @@ use Rattle.listing_rules.specs.Walk.{WalkReply, walkRefused, walked, zeroBehind
 use Rattle.collector.specs.declared.Collected.{Collected}
 use Rattle.collector.specs.declared.Collected.the-variants.{Done, Refused}
 
--- a walk that came to its end: its names lie in the buffers d and b
-pub record Comes (w : WalkReply) (d b : List ℕ) (count len : ℕ) : Type 0 where
+-- a walk that came to its end: its names lie in found and in pending
+pub record Comes (w : WalkReply) (inFound inPending : List ℕ) (count len : ℕ) : Type 0 where
   pub finds : List ℕ
   pub asks : List ℕ
   pub is : w ≡ walked count finds asks
   pub counted : len ≡ length finds
-  pub found : d ≡ zeroBehind (length d) finds
-  pub pending : b ≡ zeroBehind (length b) asks
+  pub found : inFound ≡ zeroBehind (length inFound) finds
+  pub pending : inPending ≡ zeroBehind (length inPending) asks
 
+-- a walk that came to its end, or was refused, with the collector's answer; a refusal leaves found and pending anyhow
 abbrev pub Ends : WalkReply → List ℕ → List ℕ → Collected → Type 0
-Ends w d b (Done count len) = Comes w d b count len
-Ends w d b (Refused k) = w ≡ walkRefused k
+Ends w inFound inPending (Done count len) = Comes w inFound inPending count len
+Ends w inFound inPending (Refused k) = w ≡ walkRefused k

@@ -15,10 +15,10 @@ pub record Packs (buf : List ℕ) (len : ℕ) (ns : List (List ℕ)) : Type 0 wh
   pub room : len ≤ length buf
   pub bytes : buf ≡ zeroBehind (length buf) (packed ns)
 
--- whatever names lay in the buffer d, one more lies in e if it was wanted; or there is no room for it
+-- whatever names lay in the buffer, one more lies in it after the call if it was wanted; or there is no room for it
 abbrev pub Keeps : Bool → List ℕ → List ℕ → ℕ → List ℕ → Kept → Type 0
-Keeps wanted n d at e (To r) = (r ≤ length e) × ((ns : List (List ℕ)) → Packs d at ns → Packs e r (withName wanted n ns))
-Keeps wanted n d at e Full = (ns : List (List ℕ)) → Packs d at ns → length d < length (packed (withName wanted n ns))
+Keeps wanted n buf at buf′ (To r) = (r ≤ length buf′) × ((ns : List (List ℕ)) → Packs buf at ns → Packs buf′ r (withName wanted n ns))
+Keeps wanted n buf at buf′ Full = (ns : List (List ℕ)) → Packs buf at ns → length buf < length (packed (withName wanted n ns))
 
 -- where a name lies in pending, and the name
 pub record Lies (place : NamePlace) (pending : List ℕ) : Type 0 where

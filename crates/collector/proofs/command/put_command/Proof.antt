@@ -5,6 +5,7 @@ use Rattle.listing_rules.proofs.Keys.{openBytes}
 use Rattle.listing_rules.specs.Walk.{commandLine}
 use Rattle.octets.proofs.Puts.{put-then, put-length}
 use Rattle.collector.proofs.OptionLaws.{byte-remote, byte-special, byte-subscribed}
+use Rattle.collector.proofs.AskLaws.{put-when-as}
 use Rattle.collector.proofs.command.put_command.Statement.{statement}
 use Rattle.collector.proofs.command.put_command.Tie as tie
 
@@ -22,10 +23,10 @@ returns c =
     let start = begun .before .before .before .before .before in
     let options = start .args .options in
     put-then (begun .put-all .ensures)
-    (put-then (rw (subscribed .before .before .subscribed .ensures ∙ sym (byte-subscribed options)) at (subscribed .put-when .ensures))
+    (put-then (put-when-as _ (subscribed .before .before .subscribed .ensures ∙ sym (byte-subscribed options)) (subscribed .put-when .ensures))
     (put-then (recursive .put-all2 .ensures)
-    (put-then (rw (special .before .before .special-use .ensures ∙ sym (byte-special options)) at (special .put-when2 .ensures))
-    (put-then (rw (sym (byte-remote options)) at (remote .put-when3 .ensures))
+    (put-then (put-when-as _ (special .before .before .special-use .ensures ∙ sym (byte-special options)) (special .put-when2 .ensures))
+    (put-then (put-when-as _ (sym (byte-remote options)) (remote .put-when3 .ensures))
     (put-then (closed .put-all3 .ensures) (put-then (quoted .put-quoted .ensures) (ended .put-all4 .ensures)))))))
 
 -- each write keeps the length, so the whole does

@@ -3,21 +3,21 @@ use mathlib.Core.Path.{_≡_, refl, sym, ap, subst, _∙_}
 use mathlib.Core.Bool.{Bool, true, false, cond, _&&_, _||_, not, or-assoc, or-false, and-assoc, and-true}
 use mathlib.Core.List.{List, [], _∷_}
 use mathlib.Core.Option.{Option, some}
-use Prim.Native.Nat.{ℕ, _+_, _-_, _≤_, _<_, _^_}
+use Prim.Native.Nat.{ℕ, _<_, _^_}
 use native.Mathlib.Omega.{arith}
 use lib.Dec.{eqb}
 use lib.Bits.{or-lt}
 use Rattle.listing_rules.specs.Bytes.{text, bit, spells, same, raised}
 use Rattle.listing_rules.specs.Lists.{every, anyOf}
 use Rattle.listing_rules.specs.Tokens.{Got, got}
-use Rattle.listing_rules.specs.Command.{Opt, selectionWords, returnWords, ListArgs, knownIn, named, optionsOf}
+use Rattle.listing_rules.specs.Command.{Opt, selectionWords, returnWords, knownIn, named, optionsOf}
 use Rattle.listing_rules.proofs.ListLaws.{same-true}
 use Rattle.octets.specs.Sets.{union}
 use Rattle.octets.proofs.Sets.{union-bit}
 use Rattle.command_line.specs.declared.option_list.Place.{Place}
 use Rattle.command_line.specs.declared.option_list.Place.the-variants.{Selection, Return}
 use Rattle.command_line.specs.OptionSets.{optionsIs, selected, returned, memberOf, wordsOf, Marks, noMarks, marking, marked, summed, marksOf}
-use Rattle.command_line.proofs.Binds.{bind-some, got-val}
+use Rattle.command_tokens.proofs.Binds.{bind-some, got-val}
 
 -- a word that spells one text spells another exactly if the two are the same
 spells-as : (w a b : List ℕ) → spells w a ≡ true → spells w b ≡ same a b

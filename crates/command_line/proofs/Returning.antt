@@ -1,18 +1,16 @@
--- Laws of the selection part and the return part: what each leaves in the set, step by step.
-use mathlib.Core.Path.{_≡_, refl, sym, ap, _∙_}
+-- The selection part and the return part: what each leaves in the set, step by step. Rests on listing_rules' TokenLaws.
+use mathlib.Core.Path.{_≡_, refl, _∙_}
 use mathlib.Core.Bool.{Bool, true, false, cond}
 use mathlib.Core.List.{List, [], _∷_}
 use mathlib.Core.Option.{Option, none, some}
 use Prim.Native.Nat.{ℕ, suc, _≤_, _<_}
-use native.Mathlib.Omega.{arith}
 use lib.ListN.{length, drop, getD, drop-of-length-le}
 use lib.Seq.{drop-cons}
 use Rattle.listing_rules.specs.Bytes.{text, spells, isEmpty}
 use Rattle.listing_rules.specs.Tokens.{Got, got, _>>=_, after, atom}
 use Rattle.listing_rules.specs.Command.{Opt, options, selectionPart, returnPart}
 use Rattle.listing_rules.proofs.TokenLaws.{bind-cong}
-use Rattle.command_line.specs.declared.option_list.Place.{Place}
-use Rattle.command_line.specs.declared.option_list.Place.the-variants.{Selection, Return}
+use Rattle.command_line.specs.declared.option_list.Place.the-variants.{Return}
 use Rattle.command_line.specs.OptionSets.{Marks, noMarks, marked, summed, marksOf, ended}
 
 -- the end of the line, or not
@@ -44,7 +42,7 @@ unfolding returnMarks marksOf ended _>>=_
 pass none f = refl
 pass (some a) f = refl
 
--- a list behind which the line ends
+-- a list after which the line ends
 unfoldable pub atEnd : Option (Got Marks) → Option (Got Marks)
 atEnd x = x >>= λ g. cond (isEmpty (g .rest)) (some (got (g .val) [])) none
 
@@ -72,9 +70,17 @@ pub word-other : (w u : List ℕ) → spells w (text "RETURN") ≡ false → beh
 unfolding got
 word-other w u e = rw e
 
+-- after the word: a list of options, and the end of the line
+unfoldable pub afterReturn : Got (List ℕ) → Option (Got Marks)
+afterReturn w = behindReturn w >>= λ v. atEnd (marksOf Return (options v))
+
+-- after the space
+unfoldable pub afterSpace : List ℕ → Option (Got Marks)
+afterSpace u = atom u >>= afterReturn
+
 -- the return part of a line that has one
-return-chain : (b : ℕ) (t : List ℕ) → returnMarks (returnPart (b ∷ t)) ≡ (after (text " ") (b ∷ t) >>= λ u. atom u >>= λ w. behindReturn w >>= λ v. atEnd (marksOf Return (options v)))
-unfolding returnPart lineEnd
+return-chain : (b : ℕ) (t : List ℕ) → returnMarks (returnPart (b ∷ t)) ≡ (after (text " ") (b ∷ t) >>= afterSpace)
+unfolding returnPart lineEnd afterSpace afterReturn
 return-chain b t =
     pass (after (text " ") (b ∷ t)) (λ u. atom u >>= λ w. behindReturn w >>= λ v. options v >>= lineEnd)
     ∙ bind-cong (after (text " ") (b ∷ t)) _ _ (λ u e.
@@ -83,7 +89,7 @@ return-chain b t =
     pass (behindReturn w) (λ v. options v >>= lineEnd)
     ∙ bind-cong (behindReturn w) _ _ (λ v o. last (options v))))
 
-pub return-is : (s : List ℕ) (i : ℕ) → i < length s → marksOf Return (ended (returnPart (drop i s))) ≡ (after (text " ") (drop i s) >>= λ u. atom u >>= λ w. behindReturn w >>= λ v. atEnd (marksOf Return (options v)))
+pub return-is : (s : List ℕ) (i : ℕ) → i < length s → marksOf Return (ended (returnPart (drop i s))) ≡ (after (text " ") (drop i s) >>= afterSpace)
 unfolding returnMarks
 return-is s i h = rw (drop-cons s i 0 h) (return-chain (getD s i 0) (drop (suc i) s))
 

@@ -7,15 +7,6 @@ use Rattle.command_line.specs.OptionSets.{optionsIs}
 use Rattle.command_line.proofs.Options.lawful.Statement.{statement}
 use Rattle.command_line.proofs.Options.lawful.Tie as tie
 
-has-requires : tie.Need-has-requires
-has-requires c κs = search needs
-
-has-requires-2 : tie.Need-has-requires-2
-has-requires-2 c κs = search needs
-
-has-requires-3 : tie.Need-has-requires-3
-has-requires-3 c κs = search needs
-
 returns : tie.Need-returns
 unfolding lawfulOptions optionsIs
 returns c =
@@ -23,4 +14,4 @@ returns c =
     rw (c .before .before .has .ensures ∙ contains-bit 0 o, c .before .has2 .ensures ∙ contains-bit 3 o, c .has3 .ensures ∙ contains-bit 2 o)
 
 pub lawful-spec : {M : Type 1} → statement M
-lawful-spec = tie.close (tie.spec has-requires has-requires-2 has-requires-3 returns)
+lawful-spec = tie.close (tie.spec (λ c κs. search needs) (λ c κs. search needs) (λ c κs. search needs) returns)

@@ -1,7 +1,8 @@
--- Laws of what stands behind the word LIST: step by step off the grammar, or what is kept of it, judged.
+-- What stands after the word LIST, as the code reads it: part by part, and what is kept of the parts is judged. Rests on Members,
+-- Returning and Wording.
 use mathlib.Core.Path.{_≡_, refl, sym, ap, _∙_}
 use mathlib.Core.Bool.{Bool, true, false, cond, _&&_, _||_, not}
-use mathlib.Core.List.{List, [], _++_}
+use mathlib.Core.List.{List, []}
 use mathlib.Core.Option.{Option, none, some}
 use Prim.Native.Nat.{ℕ}
 use native.Mathlib.Decide.{decLe}
@@ -15,33 +16,36 @@ use Rattle.listing_rules.specs.Tokens.{Got, got, _>>=_, at, after, astring}
 use Rattle.listing_rules.specs.Options.{lawfulOptions}
 use Rattle.listing_rules.specs.Command.{Opt, ListArgs, Parsed, refused, listing, rootOf, selectionPart, patterns, returnPart, isSome, listArgs, extended, knownIn, selectionWords, returnWords, optionsOf, canonical, fewPatterns, asksRoot, judged, orRefuse}
 use Rattle.octets.specs.Sets.{union}
+use Rattle.command_tokens.specs.declared.Cursor.{Cursor}
+use Rattle.command_tokens.specs.declared.Behind.{Behind}
+use Rattle.command_tokens.specs.declared.Behind.the-variants.{At}
+use Rattle.command_tokens.specs.Tokens.{behindIs, argument}
+use Rattle.command_tokens.proofs.Bytes.{at-here, at-other}
+use Rattle.command_patterns.specs.Places.{eight, joinTo, upToEight}
 use Rattle.command_line.specs.declared.option_list.Place.the-variants.{Selection, Return}
 use Rattle.command_line.specs.OptionSets.{optionsIs, Marks, noMarks, marked, summed, marksOf, ended}
-use Rattle.command_line.specs.PatternLists.{eight, joinTo, upToEight}
-use Rattle.command_line.specs.Commands.{short, Kept, decided, decidedAs}
-use Rattle.command_line.proofs.Binds.{bind-none, bind-go, bind-some, bind-off, got-val, got-rest}
-use Rattle.command_line.proofs.Bytes.{at-here, at-other}
+use Rattle.command_line.specs.Commands.{short, Kept, decided, decidedAs, extendedAt}
 use Rattle.command_line.proofs.Returning.{empty-out, empty-not}
 use Rattle.command_line.proofs.Members.{marked-known, options-named}
 
--- a command is extended: by its selection list, by parentheses, by what stands behind the patterns
-pub extended-list : (x : Option (List ℕ)) {u : List ℕ} (a b : Bool) → x ≡ some u → true ≡ (isSome x || a || b)
-unfolding isSome
-extended-list x a b e = rw e
+-- a command is extended: by its selection list, by parentheses, by what stands after the patterns
+pub extended-list : (x : Option (List ℕ)) (s : List ℕ) {r : Behind} {c : Cursor} (a b : Bool) → behindIs s r ≡ x → r ≡ At c → true ≡ (isSome x || a || b)
+unfolding isSome behindIs
+extended-list x s a b e q = rw (← e, q)
 
-pub extended-else : (x : Option (List ℕ)) (a b : Bool) → x ≡ none → (a || b) ≡ (isSome x || a || b)
-unfolding isSome
-extended-else x a b e = rw e
-
-pub opens-is : (s : List ℕ) (i : ℕ) → eqb (getD s i 0) 40 ≡ at 40 (drop i s)
+opens-is : (s : List ℕ) (i : ℕ) → eqb (getD s i 0) 40 ≡ at 40 (drop i s)
 opens-is s i = go (eqb (getD s i 0) 40) refl
   where
     go : (o : Bool) → eqb (getD s i 0) 40 ≡ o → o ≡ at 40 (drop i s)
     go true e = sym (at-here s i 40 (omega arith) (eqb-true (getD s i 0) 40 e))
     go false e = sym (at-other s i 40 (eqb-false (getD s i 0) 40 e))
 
-pub more-is : (s : List ℕ) (i : ℕ) → ltb i (length s) ≡ not (isEmpty (drop i s))
+more-is : (s : List ℕ) (i : ℕ) → ltb i (length s) ≡ not (isEmpty (drop i s))
 more-is s i = elim (decLe (length s) i) [ yes h ↦ le-ltb i (length s) h ∙ sym (ap not (empty-out s i h)) | no h ↦ lt-ltb i (length s) (omega arith) ∙ sym (ap not (empty-not s i (omega arith))) ]
+
+pub extended-else : (s : List ℕ) (first patterns rest : ℕ) → after (text " (") (drop first s) ≡ none → (eqb (getD s patterns 0) 40 || ltb rest (length s)) ≡ extendedAt s first patterns rest
+unfolding isSome
+extended-else s first patterns rest e = rw (e, opens-is s patterns, more-is s rest)
 
 -- what is kept of a LIST command that is on the grammar
 keptOf : ListArgs → Kept
@@ -66,112 +70,129 @@ judged-decided tag a = ap (λ (x : Parsed). cond (every (knownIn selectionWords)
     go true = refl
     go false = refl
 
--- what was kept was read
-module _ (x : Option (Got (List Opt))) (m : Marks) (u : List ℕ) (e : marksOf Selection x ≡ some (got m u)) where
-  selection-read : (g : Got (List Opt)) × (x ≡ some g) × (g .rest ≡ u) × (marked Selection noMarks (g .val) ≡ m)
-  unfolding marksOf summed got
-  selection-read = let w = bind-some x (summed Selection noMarks) (got m u) e in (w .0, w .1, got-rest (w .2), got-val (w .2))
+-- ---- reading on, or the refusal 4
 
-module _ (x : Option (List Opt)) (m : Marks) (u : List ℕ) (e : marksOf Return (ended x) ≡ some (got m u)) where
-  return-read : (os : List Opt) × (x ≡ some os) × (marked Return noMarks os ≡ m)
-  unfolding marksOf summed ended got
-  return-read =
-      let w = bind-some (ended x) (summed Return noMarks) (got m u) e in
-      let v = bind-some x (λ os. some (got os [])) (w .0) (w .1) in
-      (v .0, v .1, ap (marked Return noMarks) (got-val (v .2)) ∙ got-val (w .2))
+module _ {A B : Type 0} (x : Option A) where
+  -- two readings, one after the other
+  refuse-bind : (f : A → Option B) (go : B → Parsed) → orRefuse 4 (x >>= f) go ≡ orRefuse 4 x (λ a. orRefuse 4 (f a) go)
+  refuse-bind f go = each x
+    where
+      each : (y : Option A) → orRefuse 4 (y >>= f) go ≡ orRefuse 4 y (λ a. orRefuse 4 (f a) go)
+      each none = unfold orRefuse _>>=_ in refl
+      each (some a) = unfold orRefuse _>>=_ in refl
 
-module _ (x : Option (Got (List (List ℕ)))) (k : Option (List (List ℕ))) (u : List ℕ) (e : upToEight x ≡ some (got k u)) where
-  patterns-read : (g : Got (List (List ℕ))) × (x ≡ some g) × (g .rest ≡ u) × (eight (g .val) ≡ k)
-  unfolding upToEight joinTo got
-  patterns-read = let w = bind-some x (joinTo []) (got k u) e in (w .0, w .1, got-rest (w .2), got-val (w .2))
+  -- what was read, as something else
+  refuse-map : (f : A → B) (go : B → Parsed) → orRefuse 4 (x >>= λ a. some (f a)) go ≡ orRefuse 4 x (λ a. go (f a))
+  refuse-map f go = each x
+    where
+      each : (y : Option A) → orRefuse 4 (y >>= λ a. some (f a)) go ≡ orRefuse 4 y (λ a. go (f a))
+      each none = unfold orRefuse _>>=_ in refl
+      each (some a) = unfold orRefuse _>>=_ in refl
 
--- what was not kept was not read
-selection-off : (x : Option (Got (List Opt))) → marksOf Selection x ≡ none → x ≡ none
-unfolding marksOf summed
-selection-off x e = bind-off x (λ g. got (marked Selection noMarks (g .val)) (g .rest)) e
-
-return-off : (x : Option (List Opt)) → marksOf Return (ended x) ≡ none → x ≡ none
-unfolding marksOf summed ended
-return-off x e = bind-off x (λ os. got os []) (bind-off (x >>= λ os. some (got os [])) (λ g. got (marked Return noMarks (g .val)) (g .rest)) e)
-
-patterns-off : (x : Option (Got (List (List ℕ)))) → upToEight x ≡ none → x ≡ none
-unfolding upToEight joinTo
-patterns-off x e = bind-off x (λ g. got (eight ([] ++ g .val)) (g .rest)) e
-
-off : (tag : List ℕ) (x : Option ListArgs) → x ≡ none → orRefuse 4 x (judged tag) ≡ refused 4
+refuse-cong : {A : Type 0} (x : Option A) (f g : A → Parsed) → ((a : A) → f a ≡ g a) → orRefuse 4 x f ≡ orRefuse 4 x g
 unfolding orRefuse
-off tag x e = rw e
+refuse-cong none f g h = refl
+refuse-cong (some a) f g h = h a
 
-module _ (tag s t : List ℕ) where
-  pub list-off : marksOf Selection (selectionPart t) ≡ none → orRefuse 4 (listArgs t) (judged tag) ≡ refused 4
-  unfolding listArgs
-  list-off e = off tag (listArgs t) (bind-none _ (selection-off (selectionPart t) e))
+-- ---- the parts, one after the other
 
-  module _ (m : Marks) (i₂ : ℕ) (e₁ : marksOf Selection (selectionPart t) ≡ some (got m (drop i₂ s))) where
-    first : (g : Got (List Opt)) × (selectionPart t ≡ some g) × (g .rest ≡ drop i₂ s) × (marked Selection noMarks (g .val) ≡ m)
-    first = selection-read (selectionPart t) m (drop i₂ s) e₁
+-- after the patterns: RETURN or nothing, and the judgement of what is kept
+unfoldable pub afterPatterns : List ℕ → Bool → Marks → List ℕ → List ℕ → Got (Option (List (List ℕ))) → Parsed
+afterPatterns tag has m ref v p =
+    orRefuse 4 (marksOf Return (ended (returnPart (p .rest)))) (λ e.
+    decided tag
+    (record {
+      known = m .known && e .val .known;
+      set = optionsIs (record { bits = union (m .set) (e .val .set) });
+      extended = has || at 40 v || not (isEmpty (p .rest));
+      reference = ref;
+      pats = p .val;
+    }))
 
-    pub list-off-2 : after (text " ") (drop i₂ s) ≡ none → orRefuse 4 (listArgs t) (judged tag) ≡ refused 4
-    unfolding listArgs
-    list-off-2 e = off tag (listArgs t) (bind-go _ (first .1) ∙ bind-none _ (ap (after (text " ")) (first .2) ∙ e))
+-- after the space before the patterns
+unfoldable pub afterSpace : List ℕ → Bool → Marks → List ℕ → List ℕ → Parsed
+afterSpace tag has m ref v = orRefuse 4 (upToEight (patterns v)) (afterPatterns tag has m ref v)
 
-    module _ (i₃ : ℕ) (e₂ : after (text " ") (drop i₂ s) ≡ some (drop i₃ s)) where
-      pub list-off-3 : astring (drop i₃ s) ≡ none → orRefuse 4 (listArgs t) (judged tag) ≡ refused 4
-      unfolding listArgs
-      list-off-3 e = off tag (listArgs t) (bind-go _ (first .1) ∙ bind-go _ (ap (after (text " ")) (first .2) ∙ e₂) ∙ bind-none _ e)
+-- after the reference
+unfoldable pub afterReference : List ℕ → Bool → Marks → Got (List ℕ) → Parsed
+afterReference tag has m r = orRefuse 4 (after (text " ") (r .rest)) (afterSpace tag has m (r .val))
 
-      module _ (ref : List ℕ) (i₄ : ℕ) (e₃ : astring (drop i₃ s) ≡ some (got ref (drop i₄ s))) where
-        pub list-off-4 : after (text " ") (drop i₄ s) ≡ none → orRefuse 4 (listArgs t) (judged tag) ≡ refused 4
-        unfolding listArgs got
-        list-off-4 e = off tag (listArgs t) (bind-go _ (first .1) ∙ bind-go _ (ap (after (text " ")) (first .2) ∙ e₂) ∙ bind-go _ e₃ ∙ bind-none _ e)
+-- after the selection part
+unfoldable pub afterSelection : List ℕ → Bool → Got Marks → Parsed
+afterSelection tag has m = orRefuse 4 (argument (m .rest)) (afterReference tag has (m .val))
 
-        module _ (i₅ : ℕ) (e₄ : after (text " ") (drop i₄ s) ≡ some (drop i₅ s)) where
-          pub list-off-5 : upToEight (patterns (drop i₅ s)) ≡ none → orRefuse 4 (listArgs t) (judged tag) ≡ refused 4
-          unfolding listArgs got
-          list-off-5 e = off tag (listArgs t) (bind-go _ (first .1) ∙ bind-go _ (ap (after (text " ")) (first .2) ∙ e₂) ∙ bind-go _ e₃ ∙ bind-go _ e₄ ∙ bind-none _ (patterns-off (patterns (drop i₅ s)) e))
+-- ---- and so it is in document 01
 
-          module _ (k : Option (List (List ℕ))) (i₆ : ℕ) (e₅ : upToEight (patterns (drop i₅ s)) ≡ some (got k (drop i₆ s))) where
-            pats : (g : Got (List (List ℕ))) × (patterns (drop i₅ s) ≡ some g) × (g .rest ≡ drop i₆ s) × (eight (g .val) ≡ k)
-            pats = patterns-read (patterns (drop i₅ s)) k (drop i₆ s) e₅
+-- the options that are selected
+sel : Got (List Opt) → Marks
+sel s = marked Selection noMarks (s .val)
 
-            pub list-off-6 : marksOf Return (ended (returnPart (drop i₆ s))) ≡ none → orRefuse 4 (listArgs t) (judged tag) ≡ refused 4
-            unfolding listArgs got
-            list-off-6 e = off tag (listArgs t) (bind-go _ (first .1) ∙ bind-go _ (ap (after (text " ")) (first .2) ∙ e₂) ∙ bind-go _ e₃ ∙ bind-go _ e₄ ∙ bind-go _ (pats .1) ∙ bind-none _ (ap returnPart (pats .2) ∙ return-off (returnPart (drop i₆ s)) e))
+module _ (tag t : List ℕ) where
+  -- the arguments, once they are read
+  args : Got (List Opt) → Got (List ℕ) → List ℕ → Got (List (List ℕ)) → List Opt → ListArgs
+  args s r v p e =
+      record {
+        selection = s .val;
+        hasSelection = isSome (after (text " (") t);
+        reference = r .val;
+        pats = p .val;
+        inParens = at 40 v;
+        returns = e;
+        hasReturn = not (isEmpty (p .rest));
+      }
 
-            module _ (m′ : Marks) (u : List ℕ) (e₆ : marksOf Return (ended (returnPart (drop i₆ s))) ≡ some (got m′ u)) where
-              back : (os : List Opt) × (returnPart (drop i₆ s) ≡ some os) × (marked Return noMarks os ≡ m′)
-              back = return-read (returnPart (drop i₆ s)) m′ u e₆
+  module _ (s : Got (List Opt)) (r : Got (List ℕ)) (v : List ℕ) (p : Got (List (List ℕ))) where
+    judged-is : (e : List Opt) → judged tag (args s r v p e) ≡ decided tag (record { known = sel s .known && marked Return noMarks e .known; set = optionsIs (record { bits = union (sel s .set) (marked Return noMarks e .set) }); extended = isSome (after (text " (") t) || at 40 v || not (isEmpty (p .rest)); reference = r .val; pats = eight (p .val) })
+    unfolding keptOf args extended sel
+    judged-is e = judged-decided tag (args s r v p e) ∙ ap (decided tag) (λ i. record { known = known-is i; set = set-is i; extended = isSome (after (text " (") t) || at 40 v || not (isEmpty (p .rest)); reference = r .val; pats = eight (p .val) })
+      where
+        known-is : (every (knownIn selectionWords) (s .val) && every (knownIn returnWords) e) ≡ (marked Selection noMarks (s .val) .known && marked Return noMarks e .known)
+        known-is = rw (marked-known Selection noMarks (s .val), marked-known Return noMarks e)
 
-              args : ListArgs
-              args =
-                  record {
-                    selection = first .0 .val;
-                    hasSelection = isSome (after (text " (") t);
-                    reference = ref;
-                    pats = pats .0 .val;
-                    inParens = at 40 (drop i₅ s);
-                    returns = back .0;
-                    hasReturn = not (isEmpty (pats .0 .rest));
-                  }
+        set-is : optionsOf (args s r v p e) ≡ optionsIs (record { bits = union (marked Selection noMarks (s .val) .set) (marked Return noMarks e .set) })
+        set-is = options-named (s .val) e (isSome (after (text " (") t)) (at 40 v) (not (isEmpty (p .rest))) (r .val) (p .val)
 
-              list-args : listArgs t ≡ some args
-              unfolding listArgs got args
-              list-args = bind-go _ (first .1) ∙ bind-go _ (ap (after (text " ")) (first .2) ∙ e₂) ∙ bind-go _ e₃ ∙ bind-go _ e₄ ∙ bind-go _ (pats .1) ∙ bind-go _ (ap returnPart (pats .2) ∙ back .1)
+    patterns-are : orRefuse 4 (returnPart (p .rest) >>= λ e. some (args s r v p e)) (judged tag) ≡ afterPatterns tag (isSome (after (text " (") t)) (sel s) (r .val) v (got (eight (p .val)) (p .rest))
+    unfolding afterPatterns got sel
+    patterns-are =
+        refuse-map (returnPart (p .rest)) (args s r v p) (judged tag)
+        ∙ refuse-cong (returnPart (p .rest)) _ _ judged-is
+        ∙ sym (returned (returnPart (p .rest)) _)
+      where
+        returned : (x : Option (List Opt)) (go : Got Marks → Parsed) → orRefuse 4 (marksOf Return (ended x)) go ≡ orRefuse 4 x (λ e. go (got (marked Return noMarks e) []))
+        returned none go = unfold marksOf ended summed orRefuse _>>=_ in refl
+        returned (some e) go = unfold marksOf ended summed orRefuse _>>=_ in refl
 
-              pub list-decided : orRefuse 4 (listArgs t) (judged tag) ≡ decided tag (record { known = m .known && m′ .known; set = optionsIs (record { bits = union (m .set) (m′ .set) }); extended = isSome (after (text " (") t) || at 40 (drop i₅ s) || not (isEmpty (drop i₆ s)); reference = ref; pats = k })
-              unfolding orRefuse keptOf args extended
-              list-decided = ap (λ (x : Option ListArgs). orRefuse 4 x (judged tag)) list-args ∙ judged-decided tag args ∙ ap (decided tag) (λ i. record { known = known-is i; set = set-is i; extended = extended-is i; reference = ref; pats = pats .3 i })
-                where
-                  known-is : (every (knownIn selectionWords) (first .0 .val) && every (knownIn returnWords) (back .0)) ≡ (m .known && m′ .known)
-                  known-is =
-                      ap (λ (x : Bool). x && every (knownIn returnWords) (back .0)) (sym (marked-known Selection noMarks (first .0 .val)) ∙ ap (λ (x : Marks). x .known) (first .3))
-                      ∙ ap (λ (x : Bool). m .known && x) (sym (marked-known Return noMarks (back .0)) ∙ ap (λ (x : Marks). x .known) (back .2))
+  module _ (s : Got (List Opt)) (r : Got (List ℕ)) where
+    space-is : (v : List ℕ) → orRefuse 4 (patterns v >>= λ p. returnPart (p .rest) >>= λ e. some (args s r v p e)) (judged tag) ≡ afterSpace tag (isSome (after (text " (") t)) (sel s) (r .val) v
+    unfolding afterSpace sel
+    space-is v =
+        refuse-bind (patterns v) _ (judged tag)
+        ∙ refuse-cong (patterns v) _ _ (λ p. patterns-are s r v p)
+        ∙ sym (joined (patterns v) (afterPatterns tag (isSome (after (text " (") t)) (marked Selection noMarks (s .val)) (r .val) v))
+      where
+        joined : (x : Option (Got (List (List ℕ)))) (go : Got (Option (List (List ℕ))) → Parsed) → orRefuse 4 (upToEight x) go ≡ orRefuse 4 x (λ p. go (got (eight (p .val)) (p .rest)))
+        joined none go = unfold upToEight joinTo orRefuse _>>=_ in refl
+        joined (some p) go = unfold upToEight joinTo orRefuse _>>=_ in refl
 
-                  set-is : optionsOf args ≡ optionsIs (record { bits = union (m .set) (m′ .set) })
-                  set-is =
-                      options-named (first .0 .val) (back .0) (isSome (after (text " (") t)) (at 40 (drop i₅ s)) (not (isEmpty (pats .0 .rest))) ref (pats .0 .val)
-                      ∙ ap (λ (x : Marks). optionsIs (record { bits = union (x .set) (marked Return noMarks (back .0) .set) })) (first .3)
-                      ∙ ap (λ (x : Marks). optionsIs (record { bits = union (m .set) (x .set) })) (back .2)
+  -- LIST, part by part
+  pub list-is : orRefuse 4 (listArgs t) (judged tag) ≡ orRefuse 4 (marksOf Selection (selectionPart t)) (afterSelection tag (isSome (after (text " (") t)))
+  unfolding listArgs afterSelection argument afterReference got args sel
+  list-is =
+      refuse-bind (selectionPart t) _ (judged tag)
+      ∙ refuse-cong (selectionPart t) _ (λ s. orRefuse 4 (argument (s .rest)) (afterReference tag has (sel s))) (λ s.
+      refuse-bind (after (text " ") (s .rest)) _ (judged tag)
+      ∙ refuse-cong (after (text " ") (s .rest)) _ (λ u. orRefuse 4 (astring u) (afterReference tag has (sel s))) (λ u.
+      refuse-bind (astring u) _ (judged tag)
+      ∙ refuse-cong (astring u) _ (afterReference tag has (sel s)) (λ r.
+      refuse-bind (after (text " ") (r .rest)) _ (judged tag)
+      ∙ refuse-cong (after (text " ") (r .rest)) _ (afterSpace tag has (sel s) (r .val)) (space-is s r)))
+      ∙ sym (refuse-bind (after (text " ") (s .rest)) (λ u. astring u) (afterReference tag has (sel s))))
+      ∙ sym (selected (selectionPart t) (afterSelection tag has))
+    where
+      has : Bool
+      has = isSome (after (text " (") t)
 
-                  extended-is : (isSome (after (text " (") t) || at 40 (drop i₅ s) || not (isEmpty (pats .0 .rest))) ≡ (isSome (after (text " (") t) || at 40 (drop i₅ s) || not (isEmpty (drop i₆ s)))
-                  extended-is = ap (λ (x : List ℕ). isSome (after (text " (") t) || at 40 (drop i₅ s) || not (isEmpty x)) (pats .2)
+      selected : (x : Option (Got (List Opt))) (go : Got Marks → Parsed) → orRefuse 4 (marksOf Selection x) go ≡ orRefuse 4 x (λ s. go (got (sel s) (s .rest)))
+      selected none go = unfold marksOf summed orRefuse _>>=_ in refl
+      selected (some s) go = unfold marksOf summed orRefuse _>>=_ sel in refl

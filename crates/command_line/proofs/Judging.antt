@@ -1,4 +1,5 @@
--- Laws of the judgement: which refusal, or which command, what is kept gives; and that a command's parts lie inside the line.
+-- The judgement: which refusal, or which command, what is kept gives; and that a command's parts lie inside the line. Rests on Counting
+-- and Filling of command_patterns.
 use mathlib.Core.Path.{_≡_, refl, sym, ap, _∙_}
 use mathlib.Core.Bool.{Bool, true, false, cond, _&&_, not}
 use mathlib.Core.List.{List as Seq, [], _∷_, _++_}
@@ -11,17 +12,18 @@ use borrow.Author.Tests.{le-leb, lt-leb}
 use Rattle.listing_rules.specs.Lists.{every}
 use Rattle.listing_rules.specs.Options.{lawfulOptions}
 use Rattle.listing_rules.specs.Command.{Parsed, refused, namespace, listing, rootOf, canonical}
-use Rattle.command_line.specs.declared.Span.{Span}
+use Rattle.command_tokens.specs.declared.Span.{Span}
 use Rattle.command_line.specs.declared.Kind.{Kind}
 use Rattle.command_line.specs.declared.Kind.the-variants.{List, Root, Namespace, Refused}
 use Rattle.command_line.specs.declared.Command.{Command}
-use Rattle.command_line.specs.declared.pattern_list.Patterns.{Patterns}
-use Rattle.command_line.specs.declared.reading.Arguments.{Arguments}
-use Rattle.command_line.specs.Spans.{spanBytes, Lies}
-use Rattle.command_line.specs.PatternLists.{nowhere, held, kept, Places}
-use Rattle.command_line.specs.Commands.{meaning, meaningAs, Inside, bareCommand, refusedWith, usedOnly, short, Kept, decided, decidedAs, TagIn, Given}
-use Rattle.command_line.proofs.Canonical.{none-written}
-use Rattle.command_line.proofs.Places.{lies-nowhere, filled-none}
+use Rattle.command_patterns.specs.declared.Patterns.{Patterns}
+use Rattle.command_line.specs.declared.list_command.Arguments.{Arguments}
+use Rattle.command_tokens.specs.Spans.{spanBytes, Lies, nowhere}
+use Rattle.command_patterns.specs.Places.{held, kept, Places}
+use Rattle.command_line.specs.Commands.{meaning, meaningAs, Inside, bareCommand, refusedWith, usedOnly, short, Kept, decided, decidedAs, TagIn, Given, Answers}
+use Rattle.command_patterns.proofs.Counting.{none-written}
+use Rattle.command_tokens.proofs.Cuts.{lies-nowhere}
+use Rattle.command_patterns.proofs.Filling.{filled-none}
 
 -- eight patterns or fewer are kept, more are not
 pub kept-few : (s : Seq ℕ) (p : Patterns) → p .count ≤ 8 → kept s p ≡ some (held s p)
@@ -141,5 +143,16 @@ unfolding usedOnly
 refused-whole s c k h e = h .rest ∙ ap (λ (x : Kind). usedOnly x c) e
 
 -- a refusal, where the definition gives its number
-pub refuses : (s : Seq ℕ) (k : ℕ) {r : Command} {p : Parsed} → r ≡ refusedWith k → p ≡ refused k → (meaning s r ≡ p) × Inside s r
-refuses s k e f = (ap (meaning s) e ∙ meaning-refused s k ∙ sym f, rw e (inside-refused s k))
+pub refuses : (s : Seq ℕ) (k : ℕ) {r : Command} {p : Parsed} {g : Type 0} → r ≡ refusedWith k → p ≡ refused k → Answers s p g r
+refuses s k e f = record { means = ap (meaning s) e ∙ meaning-refused s k ∙ sym f; inside = λ h. rw e (inside-refused s k) }
+
+-- NAMESPACE, and the root line
+pub asks-namespace : (s : Seq ℕ) (t : Span) {r : Command} {p : Parsed} {g : Type 0} → r ≡ bareCommand Namespace t → p ≡ namespace (spanBytes s t) → (g → TagIn s t) → Answers s p g r
+asks-namespace s t e f h = record { means = ap (meaning s) e ∙ meaning-namespace s t ∙ sym f; inside = λ x. rw e (inside-namespace s t (h x)) }
+
+pub asks-root : (s : Seq ℕ) (t : Span) {r : Command} {p : Parsed} {g : Type 0} → r ≡ bareCommand Root t → p ≡ rootOf (spanBytes s t) → (g → TagIn s t) → Answers s p g r
+asks-root s t e f h = record { means = ap (meaning s) e ∙ meaning-root s t ∙ sym f; inside = λ x. rw e (inside-root s t (h x)) }
+
+-- an answer to the same, given as much
+pub answers-as : {s : Seq ℕ} {p q : Parsed} {g h : Type 0} {r : Command} → Answers s p g r → q ≡ p → (h → g) → Answers s q h r
+answers-as w e f = record { means = w .means ∙ sym e; inside = λ x. w .inside (f x) }

@@ -1,20 +1,9 @@
--- Laws of the reader.
-pub mod Binds
-pub mod Runs
-pub mod Quoting
-pub mod Bytes
-pub mod Numbers
-pub mod Nesting
-pub mod Parted
+-- Laws of the reader of commands.
 pub mod Members
 pub mod Listing
-pub mod Cuts
 pub mod Returning
-pub mod Places
-pub mod Plain
-pub mod Canonical
 pub mod Judging
 pub mod Grammar
-pub mod Words
+pub mod Wording
 pub mod Lines
 pub mod Packed

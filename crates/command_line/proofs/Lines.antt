@@ -1,4 +1,4 @@
--- Laws of the line against its text: what stands before CR LF, and what a command of the text is in the line.
+-- The line against its text, which stands before CR LF: what a command of the text is in the line. Rests on nothing.
 use mathlib.Core.Path.{_≡_, refl, sym, ap, _∙_}
 use mathlib.Core.Bool.{true, false, cond}
 use mathlib.Core.List.{List as Seq, [], _∷_, map}
@@ -8,12 +8,12 @@ use lib.ListN.{length, take, drop, getD, length-take, length-drop, take-append-d
 use lib.Seq.{take-append-le, drop-append-le}
 use Rattle.listing_rules.specs.Feeder.{first, oneCommand}
 use Rattle.listing_rules.specs.Command.{refused, lineText, orRefuse, tagged, parsed}
-use Rattle.command_line.specs.declared.Span.{Span}
+use Rattle.command_tokens.specs.declared.Span.{Span}
 use Rattle.command_line.specs.declared.Kind.{Kind}
 use Rattle.command_line.specs.declared.Kind.the-variants.{List, Root, Namespace, Refused}
 use Rattle.command_line.specs.declared.Command.{Command}
-use Rattle.command_line.specs.Spans.{plain, rawBytes, spanBytes, Lies}
-use Rattle.command_line.specs.PatternLists.{nowhere}
+use Rattle.command_tokens.specs.Spans.{plain, rawBytes, spanBytes, Lies, nowhere}
+use Rattle.command_patterns.specs.Places.{held}
 use Rattle.command_line.specs.Commands.{patternsOf, meaning, meaningAs, Inside}
 
 -- the line is not one command, or is
@@ -51,7 +51,7 @@ module _ (l : Seq ℕ) (n : ℕ) where
       cc
 
   pub meaning-line : (c : Command) → Inside (take n l) c → meaning (take n l) c ≡ meaning l c
-  unfolding meaning meaningAs patternsOf
+  unfolding meaning meaningAs patternsOf held
   meaning-line c h = go (c .kind)
     where
       tag : spanBytes (take n l) (c .tag) ≡ spanBytes l (c .tag)

@@ -1,5 +1,5 @@
--- Laws of options as they are written: one option, and a list of them in parentheses.
-use mathlib.Core.Path.{_≡_, refl, sym, ap, _∙_}
+-- Options as they are written: one option, and a list of them in parentheses. Rests on Members, and on Bytes of command_tokens.
+use mathlib.Core.Path.{_≡_, refl, sym, ap, subst, _∙_}
 use mathlib.Core.Bool.{Bool, true, false, _&&_, not, and-assoc}
 use mathlib.Core.List.{List, []}
 use mathlib.Core.Option.{Option, none, some}
@@ -8,21 +8,22 @@ use native.Mathlib.Omega.{arith}
 use lib.Dec.{eqb}
 use lib.ListN.{length, drop, getD}
 use Rattle.listing_rules.specs.Bytes.{text}
-use Rattle.listing_rules.specs.Tokens.{Got, got, _>>=_, after, atom}
+use Rattle.listing_rules.specs.Tokens.{Got, got, _>>=_, after, atom, withFirst}
+use Rattle.octets.specs.Sets.{union}
 use Rattle.listing_rules.specs.Command.{Opt, option, options, parted, knownIn}
-use Rattle.command_line.specs.declared.Span.{Span}
-use Rattle.command_line.specs.declared.Cursor.{Cursor}
+use Rattle.command_tokens.specs.declared.Span.{Span}
+use Rattle.command_tokens.specs.declared.Cursor.{Cursor}
 use Rattle.command_line.specs.declared.Options.{Options}
 use Rattle.command_line.specs.declared.option_list.Place.{Place}
 use Rattle.command_line.specs.declared.option_list.Written.{Written}
 use Rattle.command_line.specs.declared.option_list.Written.the-variants.{Word, Absent}
 use Rattle.command_line.specs.declared.option_list.Listed.{Listed}
 use Rattle.command_line.specs.declared.option_list.Listed.the-variants.{Read, Broken}
-use Rattle.command_line.specs.Spans.{spanBytes}
-use Rattle.command_line.specs.Values.{valueOf}
-use Rattle.command_line.specs.OptionSets.{memberOf, wordsOf, writtenIs, WrittenIn, Marks, listedIs}
-use Rattle.command_line.proofs.Binds.{bind-none, bind-go}
-use Rattle.command_line.proofs.Bytes.{after-here, after-other}
+use Rattle.command_tokens.specs.Spans.{spanBytes}
+use Rattle.command_tokens.specs.Values.{valueOf}
+use Rattle.command_line.specs.OptionSets.{memberOf, wordsOf, writtenIs, WrittenIn, Marks, marking, marked, summed, listedIs}
+use Rattle.command_tokens.proofs.Binds.{bind-none, bind-go}
+use Rattle.command_tokens.proofs.Bytes.{after-here, after-other}
 use Rattle.command_line.proofs.Members.{member-known}
 
 -- behind the atom: a value, or nothing more
@@ -75,7 +76,7 @@ module _ (s : List ℕ) {r : Written} {x : Option (Got Opt)} (e : writtenIs s r 
 
 pub written-ahead : (s : List ℕ) (i : ℕ) {r : Written} {t : Span} {v : Bool} {c : Cursor} → WrittenIn s i r → r ≡ Word t v c → (t .quoted ≡ false) × (i < c .at) × (c .at ≤ length s)
 unfolding WrittenIn
-written-ahead s i h q = mathlib.Core.Path.subst (WrittenIn s i) q h
+written-ahead s i h q = subst (WrittenIn s i) q h
 
 -- a list that was read, or was not
 module _ (s : List ℕ) {r : Listed} {x : Option (Got Marks)} (e : listedIs s r ≡ x) where
@@ -88,6 +89,15 @@ module _ (s : List ℕ) {r : Listed} {x : Option (Got Marks)} (e : listedIs s r 
   listed-broken q = sym e ∙ ap (listedIs s) q
 
 -- an option is known if its word names a member and it has no value
-pub known-is : (p : Place) (k v : Bool) (w : List ℕ) → (k && not v && not (eqb (memberOf p w) 0)) ≡ (k && knownIn (wordsOf p) (record { word = w; valued = v }))
+known-is : (p : Place) (k v : Bool) (w : List ℕ) → (k && not v && not (eqb (memberOf p w) 0)) ≡ (k && knownIn (wordsOf p) (record { word = w; valued = v }))
 unfolding knownIn
 known-is p k v w = rw (member-known p w) (and-assoc k (not v) (not (eqb (memberOf p w) 0)))
+
+-- what the code keeps with one option more
+pub marking-is : (p : Place) (m : Marks) (v : Bool) (w : List ℕ) (member set : ℕ) → member ≡ memberOf p w → set ≡ union (m .set) member → record { set = set; known = m .known && not v && not (eqb member 0) } ≡ marking p m (record { word = w; valued = v })
+marking-is p m v w member set e f = λ i. record { set = (f ∙ ap (union (m .set)) e) i; known = (ap (λ (x : ℕ). m .known && not v && not (eqb x 0)) e ∙ known-is p (m .known) v w) i }
+
+-- one option goes from the list to what is kept
+pub summed-more : (p : Place) (m : Marks) (o : Opt) (r : Got (List Opt)) → summed p m (withFirst o r) ≡ summed p (marking p m o) r
+unfolding summed marked withFirst got
+summed-more p m o r = refl

@@ -17,7 +17,7 @@ use Rattle.octets.proofs.Sets.{union-bit}
 use Rattle.command_line.specs.declared.option_list.Place.{Place}
 use Rattle.command_line.specs.declared.option_list.Place.the-variants.{Selection, Return}
 use Rattle.command_line.specs.OptionSets.{optionsIs, selected, returned, memberOf, wordsOf, Marks, noMarks, marking, marked, summed, marksOf}
-use Rattle.command_line.proofs.Binds.{bind-some, got-val}
+use Rattle.command_tokens.proofs.Binds.{bind-some, got-val}
 
 -- a word that spells one text spells another exactly if the two are the same
 spells-as : (w a b : List ℕ) → spells w a ≡ true → spells w b ≡ same a b

@@ -1,4 +1,4 @@
--- Laws of the selection part and the return part: what each leaves in the set, step by step.
+-- The selection part and the return part: what each leaves in the set, step by step. Rests on listing_rules' TokenLaws.
 use mathlib.Core.Path.{_≡_, refl, _∙_}
 use mathlib.Core.Bool.{Bool, true, false, cond}
 use mathlib.Core.List.{List, [], _∷_}
@@ -42,7 +42,7 @@ unfolding returnMarks marksOf ended _>>=_
 pass none f = refl
 pass (some a) f = refl
 
--- a list behind which the line ends
+-- a list after which the line ends
 unfoldable pub atEnd : Option (Got Marks) → Option (Got Marks)
 atEnd x = x >>= λ g. cond (isEmpty (g .rest)) (some (got (g .val) [])) none
 
@@ -70,9 +70,17 @@ pub word-other : (w u : List ℕ) → spells w (text "RETURN") ≡ false → beh
 unfolding got
 word-other w u e = rw e
 
+-- after the word: a list of options, and the end of the line
+unfoldable pub afterReturn : Got (List ℕ) → Option (Got Marks)
+afterReturn w = behindReturn w >>= λ v. atEnd (marksOf Return (options v))
+
+-- after the space
+unfoldable pub afterSpace : List ℕ → Option (Got Marks)
+afterSpace u = atom u >>= afterReturn
+
 -- the return part of a line that has one
-return-chain : (b : ℕ) (t : List ℕ) → returnMarks (returnPart (b ∷ t)) ≡ (after (text " ") (b ∷ t) >>= λ u. atom u >>= λ w. behindReturn w >>= λ v. atEnd (marksOf Return (options v)))
-unfolding returnPart lineEnd
+return-chain : (b : ℕ) (t : List ℕ) → returnMarks (returnPart (b ∷ t)) ≡ (after (text " ") (b ∷ t) >>= afterSpace)
+unfolding returnPart lineEnd afterSpace afterReturn
 return-chain b t =
     pass (after (text " ") (b ∷ t)) (λ u. atom u >>= λ w. behindReturn w >>= λ v. options v >>= lineEnd)
     ∙ bind-cong (after (text " ") (b ∷ t)) _ _ (λ u e.
@@ -81,7 +89,7 @@ return-chain b t =
     pass (behindReturn w) (λ v. options v >>= lineEnd)
     ∙ bind-cong (behindReturn w) _ _ (λ v o. last (options v))))
 
-pub return-is : (s : List ℕ) (i : ℕ) → i < length s → marksOf Return (ended (returnPart (drop i s))) ≡ (after (text " ") (drop i s) >>= λ u. atom u >>= λ w. behindReturn w >>= λ v. atEnd (marksOf Return (options v)))
+pub return-is : (s : List ℕ) (i : ℕ) → i < length s → marksOf Return (ended (returnPart (drop i s))) ≡ (after (text " ") (drop i s) >>= afterSpace)
 unfolding returnMarks
 return-is s i h = rw (drop-cons s i 0 h) (return-chain (getD s i 0) (drop (suc i) s))
 

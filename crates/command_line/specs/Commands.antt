@@ -1,27 +1,31 @@
 -- What a command that was read means in document 01, and where its spans lie.
 use mathlib.Core.Path.{_≡_}
-use mathlib.Core.Bool.{Bool, false, cond, _&&_, not}
-use mathlib.Core.List.{List as Seq, _∷_, _++_, map}
+use mathlib.Core.Bool.{Bool, true, false, cond, _&&_, _||_, not}
+use mathlib.Core.List.{List as Seq, [], _∷_, _++_, map}
 use mathlib.Core.Option.{Option, none, some}
 use Prim.Native.Nat.{ℕ, _-_, _≤_, _<_, _%_}
 use lib.Dec.{leb}
-use lib.ListN.{length, take, getD, replicate}
-use Rattle.listing_rules.specs.Bytes.{isEmpty}
+use lib.ListN.{length, take, drop, getD, replicate}
+use Rattle.listing_rules.specs.Bytes.{text, isEmpty}
+use Rattle.listing_rules.specs.Tokens.{at, after}
 use Rattle.listing_rules.specs.Lists.{every, joined}
 use Rattle.listing_rules.specs.Options.{Options as Named, lawfulOptions}
-use Rattle.listing_rules.specs.Command.{Parsed, refused, namespace, listing, rootOf, canonical}
-use Rattle.command_line.specs.declared.Span.{Span}
+use Rattle.listing_rules.specs.Command.{Parsed, refused, namespace, listing, rootOf, canonical, isSome}
+use Rattle.command_tokens.specs.declared.Span.{Span}
 use Rattle.command_line.specs.declared.Kind.{Kind}
 use Rattle.command_line.specs.declared.Kind.the-variants.{List, Root, Namespace, Refused}
 use Rattle.command_line.specs.declared.Command.{Command}
-use Rattle.command_line.specs.declared.reading.Arguments.{Arguments}
-use Rattle.command_line.specs.Spans.{spanBytes, Lies}
+use Rattle.command_line.specs.declared.list_command.Arguments.{Arguments}
+use Rattle.command_tokens.specs.Spans.{spanBytes, Lies, nowhere}
 use Rattle.command_line.specs.OptionSets.{optionsIs}
-use Rattle.command_line.specs.PatternLists.{nowhere, kept, Placed}
+use Rattle.command_patterns.specs.Places.{kept, Placed}
+use Rattle.command_patterns.specs.Canonical.{canonicalOf}
+pub use Rattle.command_patterns.specs.Canonical.{short}
+unfoldable pub use Rattle.command_patterns.specs.Canonical.{packedBytes}
 
 -- the canonical patterns of a command: the reference and each pattern that is not empty
 unfoldable pub patternsOf : Seq ℕ → Command → Seq (Seq ℕ)
-patternsOf s c = canonical (spanBytes s (c .reference)) (map (spanBytes s) (take (c .count) (c .patterns)))
+patternsOf s c = canonicalOf s (c .reference) (record { spans = c .patterns; count = c .count })
 
 -- the command by its kind
 unfoldable pub meaningAs : Kind → Seq ℕ → Command → Parsed
@@ -79,19 +83,7 @@ pub record Inside (s : Seq ℕ) (c : Command) : Type 0 where
   pub few : c .count ≤ 8
   pub rest : c ≡ usedOnly (c .kind) c
 
--- a canonical pattern is at most 255 bytes long
-abbrev pub short : Seq ℕ → Bool
-short p = leb (length p) 255
-
--- a length byte and the bytes; of a length above 255, what it is over whole 256s
-abbrev pub packedOne : Seq ℕ → Seq ℕ
-packedOne p = length p % 256 ∷ p
-
--- each of the patterns so: what `packed` of document 01 is for patterns of at most 255 bytes (law `packed-short`)
-unfoldable pub packedBytes : Seq (Seq ℕ) → Seq ℕ
-packedBytes ps = joined (map packedOne ps)
-
--- what is kept of the words behind LIST
+-- what is kept of the words after LIST
 pub record Kept : Type 0 where
   -- each option is known and has no value
   pub known : Bool
@@ -137,3 +129,12 @@ pub record Given (s : Seq ℕ) (tag : Span) (a : Arguments) : Type 0 where
   pub seven : a .options .bits < 128
   pub reference : Lies s (a .reference)
   pub patterns : Placed s (a .patterns)
+
+-- a selection list at first, parentheses around the patterns, or something after them
+abbrev pub extendedAt : Seq ℕ → ℕ → ℕ → ℕ → Bool
+extendedAt s first patterns rest = isSome (after (text " (") (drop first s)) || at 40 (drop patterns s) || not (isEmpty (drop rest s))
+
+-- The command r of the text s means p; and it holds what it should, where that is given which its parts were made of.
+pub record Answers (s : Seq ℕ) (p : Parsed) (given : Type 0) (r : Command) : Type 0 where
+  pub means : meaning s r ≡ p
+  pub inside : given → Inside s r

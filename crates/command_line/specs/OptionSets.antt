@@ -10,6 +10,8 @@ use Rattle.listing_rules.specs.Tokens.{Got, got, _>>=_}
 use Rattle.listing_rules.specs.Options.{Options as Named}
 use Rattle.listing_rules.specs.Command.{Opt, selectionWords, returnWords, knownIn}
 use Rattle.octets.specs.Sets.{union}
+use Rattle.command_tokens.specs.declared.Span.{Span}
+use Rattle.command_tokens.specs.declared.Cursor.{Cursor}
 use Rattle.command_line.specs.declared.Options.{Options}
 use Rattle.command_line.specs.declared.option_list.Place.{Place}
 use Rattle.command_line.specs.declared.option_list.Place.the-variants.{Selection, Return}
@@ -17,7 +19,7 @@ use Rattle.command_line.specs.declared.option_list.Written.{Written}
 use Rattle.command_line.specs.declared.option_list.Written.the-variants.{Word, Absent}
 use Rattle.command_line.specs.declared.option_list.Listed.{Listed}
 use Rattle.command_line.specs.declared.option_list.Listed.the-variants.{Read, Broken}
-use Rattle.command_line.specs.Spans.{spanBytes}
+use Rattle.command_tokens.specs.Spans.{spanBytes}
 
 -- the set's members by their names in document 01
 unfoldable pub optionsIs : Options → Named
@@ -87,6 +89,6 @@ unfoldable pub listedIs : List ℕ → Listed → Option (Got Marks)
 listedIs s (Read o k c) = some (got (record { set = o .bits; known = k }) (drop (c .at) s))
 listedIs s Broken = none
 
--- a list of options behind which the line ends
+-- a list of options after which the line ends
 unfoldable pub ended : Option (List Opt) → Option (Got (List Opt))
 ended x = x >>= λ os. some (got os [])

@@ -9,47 +9,16 @@ ghost use Rattle.listing_rules.specs.Command.{parsed};
 ghost use Rattle.octets.specs.Put.{Put};
 ghost use Rattle.command_line.specs.Commands.{meaning, Inside, patternsOf, packedBytes};
 
-mod literals;
+mod list_command;
 mod option_list;
-mod packing;
-mod pattern_list;
 mod reading;
-mod spans;
-mod tokens;
-mod values;
 
+use command_patterns::Patterns;
 use command_shape::is_one_command;
+pub use command_tokens::Span;
 use octets::refusals::LINE_SHAPE;
-use packing::put_canonical;
-use reading::placed;
 use reading::read_text;
 use reading::refused;
-use spans::span_len;
-
-// A part of the line, from start up to end. The span of a quoted string is what stands between its quotes, escapes and all; that of a
-// literal is its bytes behind the header.
-pub struct Span {
-    pub start: usize,
-    pub end: usize,
-    pub quoted: bool,
-}
-
-// A place in the line. Its methods give the token that stands there and the cursor behind it.
-pub struct Cursor {
-    pub at: usize,
-}
-
-// A token and the cursor behind it.
-pub enum Token {
-    Found(Span, Cursor),
-    Missing,
-}
-
-// The cursor behind something that is not kept: a space, a parenthesis, an option's value.
-pub enum Behind {
-    At(Cursor),
-    Nothing,
-}
 
 // The options of a command: a set of bits, one for each named member.
 pub struct Options {
@@ -91,22 +60,14 @@ pub fn read_command(line: &[u8]) -> Command
 }
 
 // The canonical patterns of a command of this line, each as a length byte and its bytes, from the buffer's first place on; the answer
-// is the place behind them. An empty pattern has no canonical form.
+// is the place after them. An empty pattern has no canonical form.
 pub fn put_patterns(line: &[u8], command: Command, buf: &mut [u8]) -> usize
     ensures { λ r. ⌜ Put (now (buf .entry)) (now (buf .exit)) 0 (packedBytes (patternsOf (now (line .entry)) command)) r ⌝ }
 {
-    let reference = command.reference;
-    let n = placed(command.count);
-    let mut to: usize = 0;
-    let mut i = 0;
-    while i < n {
-        let pattern = command.patterns[i];
-        if span_len(line, pattern) == 0 {
-            i += 1;
-        } else {
-            to = put_canonical(buf, to, line, reference, pattern);
-            i += 1;
-        }
-    }
-    to
+    let spans = command.patterns;
+    let patterns = Patterns {
+        spans,
+        count: command.count,
+    };
+    command_patterns::put_patterns(line, command.reference, patterns, buf)
 }

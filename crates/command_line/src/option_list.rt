@@ -5,13 +5,14 @@ ghost use lib.ListN.{drop};
 ghost use Rattle.listing_rules.specs.Options.{lawfulOptions};
 ghost use Rattle.listing_rules.specs.Command.{option, options, selectionPart, returnPart};
 ghost use Rattle.octets.specs.Sets.{contains, union};
-ghost use Rattle.command_line.specs.OptionSets.{optionsIs, selected as selectedBit, returned as returnedBit, memberOf, writtenIs, WrittenIn, marksOf, listedIs, ended};
-use crate::Behind;
-use crate::Cursor;
+ghost use Rattle.command_line.specs.OptionSets.{optionsIs, selected as selectedBit, returned as returnedBit, memberOf};
+ghost use Rattle.command_line.specs.OptionSets.{writtenIs, WrittenIn, marksOf, listedIs, ended};
 use crate::Options;
-use crate::Span;
-use crate::Token;
-use crate::spans::raw;
+use command_tokens::Behind;
+use command_tokens::Cursor;
+use command_tokens::Span;
+use command_tokens::Token;
+use command_tokens::raw;
 use octets::byte_at;
 use octets::spells_word;
 
@@ -110,102 +111,99 @@ impl Place {
     }
 }
 
-// An option as it is written: its word, whether a value stands behind it, and the cursor behind both.
+// An option as it is written: its word, whether a value stands after it, and the cursor after both.
 pub(crate) enum Written {
     Word(Span, bool, Cursor),
     Absent,
 }
 
-// A list of options: the set of those it names, whether each is known and has no value, and the cursor behind the list.
+// A list of options: the set of those it names, whether each is known and has no value, and the cursor after the list.
 pub(crate) enum Listed {
     Read(Options, bool, Cursor),
     Broken,
 }
 
-impl Cursor {
-    // option = atom [SP "(" value]
-    fn option(self, text: &[u8]) -> Written
-        ensures { λ r. ⌜ writtenIs (now (text .entry)) r ≡ option (drop (self .at) (now (text .entry))) ⌝ }
-        ensures { λ r. ⌜ WrittenIn (now (text .entry)) (self .at) r ⌝ }
-    {
-        let Token::Found(word, next) = self.atom(text) else {
-            return Written::Absent;
-        };
-        let Behind::At(inside) = next.opening(text) else {
-            return Written::Word(word, false, next);
-        };
-        let Behind::At(behind) = inside.value(text) else {
-            return Written::Absent;
-        };
-        Written::Word(word, true, behind)
-    }
+// option = atom [SP "(" value]
+fn read_option(text: &[u8], here: Cursor) -> Written
+    ensures { λ r. ⌜ writtenIs (now (text .entry)) r ≡ option (drop (here .at) (now (text .entry))) ⌝ }
+    ensures { λ r. ⌜ WrittenIn (now (text .entry)) (here .at) r ⌝ }
+{
+    let Token::Found(word, next) = here.atom(text) else {
+        return Written::Absent;
+    };
+    let Behind::At(inside) = next.opening(text) else {
+        return Written::Word(word, false, next);
+    };
+    let Behind::At(rest) = inside.value(text) else {
+        return Written::Absent;
+    };
+    Written::Word(word, true, rest)
+}
 
-    // [option *(SP option)] ")", behind the opening parenthesis
-    fn options(self, text: &[u8], place: Place) -> Listed
-        ensures { λ r. ⌜ listedIs (now (text .entry)) r ≡ marksOf place (options (drop (self .at) (now (text .entry)))) ⌝ }
-    {
-        let mut at = self.at;
-        if byte_at(text, at) == b')' {
-            return Listed::Read(Options::NONE, true, Cursor { at: at + 1 });
-        }
-        let mut set = Options::NONE;
-        let mut known = true;
-        loop {
-            let here = Cursor { at };
-            let Written::Word(word, valued, next) = here.option(text) else {
-                return Listed::Broken;
-            };
-            let member = place.member(raw(text, word));
-            set = set.union(member);
-            known = known & !valued & (member.bits != 0);
-            let end = next.at;
-            let b = byte_at(text, end);
-            if b == b')' {
-                return Listed::Read(set, known, Cursor { at: end + 1 });
-            }
-            if b != b' ' {
-                return Listed::Broken;
-            }
-            at = end + 1;
-        }
+// [option *(SP option)] ")", after the opening parenthesis
+fn read_options(text: &[u8], first: Cursor, place: Place) -> Listed
+    ensures { λ r. ⌜ listedIs (now (text .entry)) r ≡ marksOf place (options (drop (first .at) (now (text .entry)))) ⌝ }
+{
+    let mut at = first.at;
+    if byte_at(text, at) == b')' {
+        return Listed::Read(Options::NONE, true, Cursor { at: at + 1 });
     }
+    let mut set = Options::NONE;
+    let mut known = true;
+    loop {
+        let here = Cursor { at };
+        let Written::Word(word, valued, next) = read_option(text, here) else {
+            return Listed::Broken;
+        };
+        let member = place.member(raw(text, word));
+        set = set.union(member);
+        known = known & !valued & (member.bits != 0);
+        let end = next.at;
+        let b = byte_at(text, end);
+        if b == b')' {
+            return Listed::Read(set, known, Cursor { at: end + 1 });
+        }
+        if b != b' ' {
+            return Listed::Broken;
+        }
+        at = end + 1;
+    }
+}
 
-    // selection = [SP "(" options]
-    pub(crate) fn selection(self, text: &[u8]) -> Listed
-        ensures { λ r. ⌜ listedIs (now (text .entry)) r ≡ marksOf Place.Selection (selectionPart (drop (self .at) (now (text .entry)))) ⌝ }
-    {
-        let Behind::At(inside) = self.opening(text) else {
-            return Listed::Read(Options::NONE, true, self);
-        };
-        inside.options(text, Place::Selection)
-    }
+// selection = [SP "(" options]
+pub(crate) fn read_selection(text: &[u8], here: Cursor) -> Listed
+    ensures { λ r. ⌜ listedIs (now (text .entry)) r ≡ marksOf Place.Selection (selectionPart (drop (here .at) (now (text .entry)))) ⌝ }
+{
+    let Behind::At(inside) = here.opening(text) else {
+        return Listed::Read(Options::NONE, true, here);
+    };
+    read_options(text, inside, Place::Selection)
+}
 
-    // return = [SP "RETURN" SP "(" options], and the end of the line
-    pub(crate) fn return_part(self, text: &[u8]) -> Listed
-        ensures { λ r. ⌜ listedIs (now (text .entry)) r ≡ marksOf Place.Return (ended (returnPart (drop (self .at) (now (text .entry))))) ⌝ }
-    {
-        let at = self.at;
-        if text.len() <= at {
-            return Listed::Read(Options::NONE, true, self);
-        }
-        let Behind::At(next) = self.space(text) else {
-            return Listed::Broken;
-        };
-        let Token::Found(word, behind) = next.atom(text) else {
-            return Listed::Broken;
-        };
-        if !spells_word(raw(text, word), b"RETURN") {
-            return Listed::Broken;
-        }
-        let Behind::At(inside) = behind.opening(text) else {
-            return Listed::Broken;
-        };
-        let Listed::Read(set, known, last) = inside.options(text, Place::Return) else {
-            return Listed::Broken;
-        };
-        if last.at < text.len() {
-            return Listed::Broken;
-        }
-        Listed::Read(set, known, last)
+// return = [SP "RETURN" SP "(" options], and the end of the line
+pub(crate) fn read_returns(text: &[u8], here: Cursor) -> Listed
+    ensures { λ r. ⌜ listedIs (now (text .entry)) r ≡ marksOf Place.Return (ended (returnPart (drop (here .at) (now (text .entry))))) ⌝ }
+{
+    if text.len() <= here.at {
+        return Listed::Read(Options::NONE, true, here);
     }
+    let Behind::At(next) = here.space(text) else {
+        return Listed::Broken;
+    };
+    let Token::Found(word, rest) = next.atom(text) else {
+        return Listed::Broken;
+    };
+    if !spells_word(raw(text, word), b"RETURN") {
+        return Listed::Broken;
+    }
+    let Behind::At(inside) = rest.opening(text) else {
+        return Listed::Broken;
+    };
+    let Listed::Read(set, known, last) = read_options(text, inside, Place::Return) else {
+        return Listed::Broken;
+    };
+    if last.at < text.len() {
+        return Listed::Broken;
+    }
+    Listed::Read(set, known, last)
 }

@@ -12,7 +12,8 @@ use Rattle.collector.proofs.collect.Tie as tie
 
 run-requires : tie.Need-run-requires
 run-requires c κs =
-    let stage = c .before .before .before .before .before in
+    let stage-2 = c .before .before .before .before .before in
+    let stage = stage-2 in
     let pending = stage in
     let found = pending .before .before .before .before in
     let args = found .before .before .before .before .before .before .args in
@@ -25,7 +26,8 @@ same-reply : (c : tie.After-run) →
     let args = found .before .before .before .before .before .before .args in
     collected (args .table .now) (args .option) (args .scratch .now) (found .clear .last .0) (pending .clear2 .last .0) ≡ collected (args .table .now) (args .option) (args .scratch .now) (args .found .now) (args .pending .now)
 same-reply c =
-    let stage = c .before .before .before .before .before .before in
+    let stage-2 = c .before .before .before .before .before .before in
+    let stage = stage-2 in
     let pending = stage in
     let found = pending .before .before .before .before in
     let args = found .before .before .before .before .before .before .args in
@@ -33,7 +35,8 @@ same-reply c =
 
 returns : tie.Need-returns
 returns c =
-    let after-clear4 = c .before .before .before .before .before .before in
+    let stage-2 = c .before .before .before .before .before .before in
+    let after-clear4 = stage-2 in
     let stage = after-clear4 .before .before .before in
     let told = stage in
     let scratch = told .before .before .before .before in
@@ -49,7 +52,8 @@ returns c =
 
 returns-2 : tie.Need-returns-2
 returns-2 c =
-    let stage = c .before .before .before .before in
+    let stage-2 = c .before .before .before .before in
+    let stage = stage-2 in
     let told = c .enum-told .given in
     let scratch = stage in
     let ran = scratch .before .before .before .before .before .before .before .before in

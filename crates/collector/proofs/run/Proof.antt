@@ -11,7 +11,8 @@ use Rattle.collector.proofs.run.Tie as tie
 
 returns : tie.Need-returns
 returns c =
-    let start = c .before .before .before .before .before .before in
+    let stage = c .before .before .before .before .before .before in
+    let start = stage in
     let args = start .args in
     refuses-table (args .table .now) (args .option) (args .scratch .now) (args .found .now) (args .pending .now)
     (sym (c .before .check .ensures) ∙ not-true _ (c .if1 .taken))
@@ -30,12 +31,14 @@ returns-2 c =
 
 walk-table-requires : tie.Need-walk-table-requires
 walk-table-requires c κs =
-    let stage = c .before .before .before .before .before .before .before in
+    let stage-2 = c .before .before .before .before .before .before .before in
+    let stage = stage-2 in
     let passed = stage in (passing passed, passed .before .before .before .before .before .before .pre)
 
 returns-3 : tie.Need-returns-3
 returns-3 c =
-    let stage = c .before .before .before .before .before .before in
+    let stage-2 = c .before .before .before .before .before .before in
+    let stage = stage-2 in
     let walked = stage in
     let asked = walked .before .before .before .before .before in
     let passed = asked .before .before .before in

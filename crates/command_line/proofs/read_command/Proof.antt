@@ -7,6 +7,8 @@ use native.Mathlib.Omega.{arith}
 use borrow.Author.Needs.{needs}
 use borrow.Author.Tests.{not-true, not-false}
 use Rattle.listing_rules.specs.Feeder.{first, oneCommand}
+use Rattle.listing_rules.specs.Command.{parsed}
+use Rattle.command_line.specs.Commands.{Answers}
 use Rattle.command_shape.proofs.Shapes.{one-long}
 use Rattle.command_line.proofs.Judging.{refuses}
 use Rattle.command_line.proofs.Lines.{line-off, line-read, meaning-line, inside-line}
@@ -21,7 +23,8 @@ returns : tie.Need-returns
 returns c =
     let stage = c .before .before .before .before in
     let start = stage in
-    refuses _ 3 (c .refused .ensures) (line-off (start .args .line .now) (sym (c .before .before .is-one-command .ensures) ∙ not-true _ (c .before .if1 .taken)))
+    let off : Answers (start .args .line .now) (parsed (start .args .line .now)) Unit (c .refused .result) = refuses _ 3 (c .refused .ensures) (line-off (start .args .line .now) (sym (c .before .before .is-one-command .ensures) ∙ not-true _ (c .before .if1 .taken))) in
+    (off .means, off .inside tt)
 
 sub-n : tie.Need-sub-n
 sub-n c = omega (arith, one-long (c .before .before .before .args .line .now) (one c))
@@ -38,7 +41,7 @@ returns-2 c =
     let line = start .args .line .now in
     let read = c .read-text .ensures in
     let n = length line - 2 in
-    (sym (meaning-line line n _ (read .1)) ∙ read .0 ∙ sym (line-read line (one (c .before .before))), inside-line line n _ (read .1))
+    (sym (meaning-line line n _ (read .inside tt)) ∙ read .means ∙ sym (line-read line (one (c .before .before))), inside-line line n _ (read .inside tt))
 
 pub read-command-spec : {M : Type 1} → statement M
 read-command-spec =

@@ -11,7 +11,8 @@ use Rattle.collector.proofs.lines.has_use.Tie as tie
 returns : tie.Need-returns
 unfolding useAttr
 returns c =
-    let after-has3 = c .before .before .before .before in
+    let stage = c .before .before .before .before in
+    let after-has3 = stage in
     let after-has2 = after-has3 .before in
     let after-has = after-has2 .before in
     let start = after-has .before in

@@ -12,7 +12,8 @@ use Rattle.collector.proofs.lines.is_find.Tie as tie
 returns : tie.Need-returns
 unfolding isFind
 returns c =
-    let after-has = c .before .before .before .before in
+    let stage-2 = c .before .before .before .before in
+    let after-has = stage-2 in
     let after-subscribed = after-has .before in
     let stage = after-subscribed .before in
     let start = stage in

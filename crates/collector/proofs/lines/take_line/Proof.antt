@@ -8,15 +8,6 @@ use Rattle.collector.proofs.TakeLaws.{parentOf, ReadAs, read-as, line-s
 use Rattle.collector.proofs.lines.take_line.Statement.{statement}
 use Rattle.collector.proofs.lines.take_line.Tie as tie
 
-read-line-requires : tie.Need-read-line-requires
-read-line-requires c κs = search needs
-
-enum-known-parts : tie.Need-enum-known-parts
-enum-known-parts c = search needs
-
-enum-told : tie.Need-enum-told
-enum-told c = search needs
-
 returns : tie.Need-returns
 returns c =
     let read = c .before .before in
@@ -33,39 +24,33 @@ told c =
     let start = read .before .before .before .before in
     read-as (start .args .line .now) (parts .0 .0) (parts .0 .1 .0) (parts .0 .1 .1 .0) (read .read-line .result .name) (read .read-line .ensures .0) (parts .1) (read .read-line .ensures .1)
 
-is-find-requires : tie.Need-is-find-requires
-is-find-requires c κs = search needs
-
-is-none-requires : tie.Need-is-none-requires
-is-none-requires c κs = search needs
-
 array-share-prefix-name : tie.Need-array-share-prefix-name
-array-share-prefix-name c = told (c .before .before .before .before) .inside
+array-share-prefix-name c =
+    let stage = c .before .before .before .before in
+    told (stage) .inside
 
 slice-aggregate-keep : tie.Need-slice-aggregate-keep
-slice-aggregate-keep c = simp length-take (omega (arith, told (c .before .before .before .before .before) .inside))
+slice-aggregate-keep c =
+    let stage = c .before .before .before .before .before in
+    simp length-take (omega (arith, told (stage) .inside))
 
 keep-requires : tie.Need-keep-requires
-keep-requires c κs = let read = c .before .before .before .before .before in (omega (arith, read .before .before .before .before .before .before .before .pre), simp length-take (omega (arith, told read .short)))
-
-enum-known-found-end : tie.Need-enum-known-found-end
-enum-known-found-end c = search needs
-
-enum-told-2 : tie.Need-enum-told-2
-enum-told-2 c = search needs
-
-same-length : tie.Need-same-length
-same-length c = search needs
+keep-requires c κs =
+    let stage = c .before .before .before .before .before in
+    let read = stage in (omega (arith, read .before .before .before .before .before .before .before .pre), simp length-take (omega (arith, told read .short)))
 
 returns-2 : tie.Need-returns-2
 returns-2 c =
-    let kept = c .before .before .before .before in
+    let stage = c .before .before .before .before in
+    let kept = stage in
     let read = kept .before .before .before .before .before .before in
     find-full (told read) (read .before .before .before .before .before .before .before .args .options) (kept .keep .last .1 .0) (kept .before .before .before .before .is-find .ensures) (c .enum-told2 .given .1) (kept .keep .ensures)
 
 -- the stage at which the line was read, from the one at which its find was kept
 abbrev read-before : tie.After-known-told2 → tie.After-known-told
-read-before c = c .before .before .before .before .before .before .before .before .before .before .before
+read-before c =
+    let stage = c .before .before .before .before .before .before .before .before .before .before .before in
+    stage
 
 array-share-prefix-name-2 : tie.Need-array-share-prefix-name-2
 array-share-prefix-name-2 c = told (read-before (c .before)) .inside
@@ -78,21 +63,10 @@ keep-requires-2 c κs =
     let read = read-before (c .before .before) in
     (omega (arith, read .before .before .before .before .before .before .before .pre), simp length-take (omega (arith, told read .short)))
 
-enum-known-pending-end : tie.Need-enum-known-pending-end
-enum-known-pending-end c = search needs
-
-enum-told-3 : tie.Need-enum-told-3
-enum-told-3 c = search needs
-
-same-length-2 : tie.Need-same-length-2
-same-length-2 c = search needs
-
-same-length-3 : tie.Need-same-length-3
-same-length-3 c = search needs
-
 returns-3 : tie.Need-returns-3
 returns-3 c =
-    let asked = c .before .before .before .before in
+    let stage = c .before .before .before .before in
+    let asked = stage in
     let found = asked .before .before .before in
     let kept = found .before .before .before .before .before in
     let read = read-before found in
@@ -107,15 +81,10 @@ returns-3 c =
     (c .enum-told3 .given .1)
     (asked .keep2 .ensures)
 
-same-length-4 : tie.Need-same-length-4
-same-length-4 c = search needs
-
-same-length-5 : tie.Need-same-length-5
-same-length-5 c = search needs
-
 returns-4 : tie.Need-returns-4
 returns-4 c =
-    let asked = c .before .before .before .before .before in
+    let stage = c .before .before .before .before .before in
+    let asked = stage in
     let found = asked .before .before .before in
     let kept = found .before .before .before .before .before in
     let read = read-before found in
@@ -135,27 +104,27 @@ pub take-line-spec : {M : Type 1} → statement M
 take-line-spec =
     tie.close
     (tie.spec
-    read-line-requires
-    enum-known-parts
-    enum-told
+    (λ c κs. search needs)
+    (λ c. search needs)
+    (λ c. search needs)
     returns
-    is-find-requires
-    is-none-requires
+    (λ c κs. search needs)
+    (λ c κs. search needs)
     array-share-prefix-name
     slice-aggregate-keep
     keep-requires
-    enum-known-found-end
-    enum-told-2
-    same-length
+    (λ c. search needs)
+    (λ c. search needs)
+    (λ c. search needs)
     returns-2
     array-share-prefix-name-2
     slice-aggregate-keep-2
     keep-requires-2
-    enum-known-pending-end
-    enum-told-3
-    same-length-2
-    same-length-3
+    (λ c. search needs)
+    (λ c. search needs)
+    (λ c. search needs)
+    (λ c. search needs)
     returns-3
-    same-length-4
-    same-length-5
+    (λ c. search needs)
+    (λ c. search needs)
     returns-4)

@@ -21,7 +21,8 @@ loop-holds c = taking-none (c .before .before .before .pre)
 -- the line lies in the answer
 lies : (c : tie.After-next-line Inv-loop μ-loop) → (c .before .before .loop .at < c .next-line .result) × (c .next-line .result ≤ length (c .before .before .before .before .before .before .args .answer .now))
 lies c =
-    let start = c .before .before .before .before .before .before in
+    let stage = c .before .before .before .before .before .before in
+    let start = stage in
     line-lies (start .args .answer .now) (c .before .before .loop .at) (c .next-line .result) (c .before .loop-test .taken) (c .next-line .ensures)
 
 sub-take-line : tie.Need-sub-take-line Inv-loop μ-loop
@@ -35,17 +36,20 @@ part-take-line-end c = lies c .1
 
 take-line-requires : tie.Need-take-line-requires Inv-loop μ-loop
 take-line-requires c κs =
-    let turn = c .before .before .before .before .before in
+    let stage = c .before .before .before .before .before in
+    let turn = stage in
     turn .loop .inv .inside
 
 loop-less : tie.Need-loop-less Inv-loop μ-loop
 loop-less c =
-    let stage = c .before .before .before .before .before .before .before .before .before .before .before in
+    let stage-2 = c .before .before .before .before .before .before .before .before .before .before .before in
+    let stage = stage-2 in
     omega (arith, lies (stage))
 
 loop-again : tie.Need-loop-again Inv-loop μ-loop
 loop-again c =
-    let stage = c .before .before .before .before .before .before .before in
+    let stage-2 = c .before .before .before .before .before .before .before in
+    let stage = stage-2 in
     let taken = stage in
     let found = taken .before .before .before .before in
     let turn = found .before .before in
@@ -54,17 +58,20 @@ loop-again c =
 
 same-length : tie.Need-same-length Inv-loop μ-loop
 same-length c =
-    let stage = c .before .before .before .before .before .before .before in
+    let stage-2 = c .before .before .before .before .before .before .before in
+    let stage = stage-2 in
     let taken = stage in taken .take-line .kept .1 .1 .0 ∙ taken .before .before .before .before .before .before .loop .inv .found-long
 
 same-length-2 : tie.Need-same-length-2 Inv-loop μ-loop
 same-length-2 c =
-    let stage = c .before .before .before .before .before .before .before in
+    let stage-2 = c .before .before .before .before .before .before .before in
+    let stage = stage-2 in
     let taken = stage in taken .take-line .kept .1 .1 .1 .0 ∙ taken .before .before .before .before .before .before .loop .inv .pending-long
 
 returns : tie.Need-returns Inv-loop μ-loop
 returns c =
-    let stage = c .before .before .before .before .before .before .before in
+    let stage-2 = c .before .before .before .before .before .before .before in
+    let stage = stage-2 in
     let taken = stage in
     let found = taken .before .before .before .before in
     let turn = found .before .before in

@@ -15,7 +15,8 @@ returns c = let start = c .before .before .before in rw (not-true (start .args .
 returns-2 : tie.Need-returns-2
 unfolding withName
 returns-2 c =
-    let stage = c .before .before .before .before in
+    let stage-2 = c .before .before .before .before in
+    let stage = stage-2 in
     let start = stage in
     rw (not-false (start .args .wanted) (c .before .if1 .left)) (λ ns p. packs-full (start .args .name .now) p (c .if2 .taken))
 

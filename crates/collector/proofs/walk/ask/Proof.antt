@@ -17,7 +17,8 @@ sent : (c : tie.After-namespaces) →
     let args = c .before .before .before .before .before .before .before .before .before .before .args in
     Fronts (put .last .0) (put .result) (commandLine (byteOf (args .options)) (args .reference .now))
 sent c =
-    let after-no-command = c .before .before .before .before in
+    let stage-2 = c .before .before .before .before in
+    let after-no-command = stage-2 in
     let stage = after-no-command .before .before .before .before .before .before in
     let put = c .before .before .put-command in
     let made = after-no-command .no-command in
@@ -41,7 +42,8 @@ answered-so : (c : tie.After-known-told) →
     let scratch = answered .answer .last .1 .1 .1 .0 in
     (len ≤ length scratch) × (reply (args .table .now) (take (put .result) (put .last .0)) (args .scratch .now) ≡ go (take len scratch))
 answered-so c =
-    let stage = c .before .before .before .before .before in
+    let stage-2 = c .before .before .before .before .before in
+    let stage = stage-2 in
     let answered = stage in
     let put = answered .before .before .before .before .before .put-command in
     let args = answered .before .before .before .before .before .before .before .before .before .before .before .before .before .args in
@@ -56,14 +58,16 @@ slice-aggregate-take-lines c = simp length-take (omega (arith, answered-so (c .b
 
 take-lines-requires : tie.Need-take-lines-requires
 take-lines-requires c κs =
-    let stage = c .before .before .before .before .before .before .before .before .before in
+    let stage-2 = c .before .before .before .before .before .before .before .before .before in
+    let stage = stage-2 in
     let answered = stage in
     let start = answered .before .before .before .before .before .before .before .before .before .before .before .before .before in
     record { finds = start .pre .1 .0 .finds; asks = start .pre .1 .0 .asks }
 
 returns : tie.Need-returns
 returns c =
-    let stage = c .before .before .before .before in
+    let stage-2 = c .before .before .before .before in
+    let stage = stage-2 in
     let taken = stage in
     let answered = taken .before .before .before .before .before in
     let written = answered .before .before .before .before .before .before .before .before in
@@ -76,7 +80,8 @@ returns c =
 
 returns-2 : tie.Need-returns-2
 returns-2 c =
-    let stage = c .before .before .before .before .before in
+    let stage-2 = c .before .before .before .before .before in
+    let stage = stage-2 in
     let answered = stage in
     let written = answered .before .before .before in
     let args = written .before .before .before .before .before .before .before .before .before .before .args in

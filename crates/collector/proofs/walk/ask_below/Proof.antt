@@ -16,7 +16,8 @@ below : (c : tie.After-reference2) →
     let args = c .before .before .before .before .before .before .before .before .before .before .args in
     Fronts (put .last .0) (put .result) (nameAt (args .name) (args .pending .now) ++ (slash ∷ []))
 below c =
-    let after-no-reference = c .before .before .before .before .before in
+    let stage-2 = c .before .before .before .before .before in
+    let after-no-reference = stage-2 in
     let stage = after-no-reference .before .before .before .before .before in
     let put = c .before .put-below in
     let made = after-no-reference .no-reference in
@@ -32,14 +33,16 @@ slice-aggregate-ask c = simp length-take (omega (arith, below (c .before) .insid
 
 ask-requires : tie.Need-ask-requires
 ask-requires c κs =
-    let stage = c .before .before .before .before in
+    let stage-2 = c .before .before .before .before in
+    let stage = stage-2 in
     let referred = stage in
     let start = referred .before .before .before .before .before .before .before .before .before .before in
     (rw (below referred .bytes) (simp (length-append, length-take) (omega (arith, start .pre .0))), (start .pre .1 .0, start .pre .1 .1))
 
 returns : tie.Need-returns
 returns c =
-    let stage = c .before .before .before .before .before .before in
+    let stage-2 = c .before .before .before .before .before .before in
+    let stage = stage-2 in
     let asked = stage in rw (← below (asked .before .before .before .before .before) .bytes) (asked .ask .ensures)
 
 pub ask-below-spec : {M : Type 1} → statement M

@@ -18,7 +18,8 @@ abbrev μ-loop : tie.MeasureT-loop
 
 loop-holds : tie.Need-loop-holds Inv-loop μ-loop
 loop-holds c =
-    let after-pre = c .before .before .before .before in
+    let stage = c .before .before .before .before in
+    let after-pre = stage in
     after-pre .pre
 
 add-from : tie.Need-add-from Inv-loop μ-loop
@@ -30,12 +31,14 @@ slice-read-wide c = omega (arith, c .before .if1 .taken, c .before .before .befo
 -- where the next name ends
 end-is : (c : tie.After-wide Inv-loop μ-loop) → let at = c .before .before .before .before .loop .at in at + 1 + c .wide .result ≡ at + 1 + getD (c .before .before .before .before .loop .pending) at 0
 end-is c =
-    let turn = c .before .before .before .before in
+    let stage = c .before .before .before .before in
+    let turn = stage in
     ap (λ (n : ℕ). turn .loop .at + 1 + n) (c .wide .ensures)
 
 add-end : tie.Need-add-end Inv-loop μ-loop
 add-end c =
-    let stage = c .before .before .before .before in
+    let stage-2 = c .before .before .before .before in
+    let stage = stage-2 in
     let turn = stage in omega (arith, name-inside (turn .loop .inv) (c .before .before .if1 .taken) (end-is c), turn .loop .inv .holds .asks .room, turn .loop .inv .pending-long, turn .before .before .before .before .before .good)
 
 ask-below-requires : tie.Need-ask-below-requires Inv-loop μ-loop
@@ -50,7 +53,8 @@ ask-below-requires c κs =
 
 loop-less : tie.Need-loop-less Inv-loop μ-loop
 loop-less c =
-    let stage = c .before .before .before .before .before .before .before .before .before in
+    let stage-2 = c .before .before .before .before .before .before .before .before .before in
+    let stage = stage-2 in
     let asked = stage in
     let read = asked .before .before .before .before in
     let turn = read .before .before .before .before in
@@ -58,7 +62,8 @@ loop-less c =
 
 loop-again : tie.Need-loop-again Inv-loop μ-loop
 loop-again c =
-    let stage = c .before .before .before .before .before .before .before .before .before in
+    let stage-2 = c .before .before .before .before .before .before .before .before .before in
+    let stage = stage-2 in
     let asked = stage in
     let read = asked .before .before .before .before in
     let turn = read .before .before .before .before in
@@ -72,23 +77,27 @@ loop-again c =
 
 same-length : tie.Need-same-length Inv-loop μ-loop
 same-length c =
-    let stage = c .before .before .before .before .before .before .before .before .before in
+    let stage-2 = c .before .before .before .before .before .before .before .before .before in
+    let stage = stage-2 in
     let asked = stage in asked .ask-below .kept .1 .1 .1 .0 ∙ asked .before .before .before .before .before .before .before .before .loop .inv .scratch-long
 
 same-length-2 : tie.Need-same-length-2 Inv-loop μ-loop
 same-length-2 c =
-    let stage = c .before .before .before .before .before .before .before .before .before in
+    let stage-2 = c .before .before .before .before .before .before .before .before .before in
+    let stage = stage-2 in
     let asked = stage in asked .ask-below .kept .1 .1 .1 .1 .0 ∙ asked .before .before .before .before .before .before .before .before .loop .inv .found-long
 
 same-length-3 : tie.Need-same-length-3 Inv-loop μ-loop
 same-length-3 c =
-    let stage = c .before .before .before .before .before .before .before .before .before in
+    let stage-2 = c .before .before .before .before .before .before .before .before .before in
+    let stage = stage-2 in
     let asked = stage in asked .ask-below .kept .1 .1 .1 .1 .1 .0 ∙ asked .before .before .before .before .before .before .before .before .loop .inv .pending-long
 
 returns : tie.Need-returns Inv-loop μ-loop
 unfolding collected
 returns c =
-    let stage = c .before .before .before .before .before .before .before .before .before in
+    let stage-2 = c .before .before .before .before .before .before .before .before .before in
+    let stage = stage-2 in
     let asked = stage in
     let read = asked .before .before .before .before in
     let turn = read .before .before .before .before in

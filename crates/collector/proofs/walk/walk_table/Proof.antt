@@ -23,7 +23,8 @@ begins : (c : tie.After-known-told) →
     let pending = asked .ask .last .1 .1 .1 .1 .1 .0 in
     Walking (start .args .table .now) (start .args .options) (length scratch) (length found) (length pending) scratch found pending (c .before .first .given .0 .0) 0
 begins c =
-    let stage = c .before .before .before .before .before .before .before .before .before in
+    let stage-2 = c .before .before .before .before .before .before .before .before .before in
+    let stage = stage-2 in
     let asked = stage in
     let start = asked .before .before .before .before .before .before .before .before .before in
     let kept = asked .ask .kept .1 .1 .1 in
@@ -39,7 +40,8 @@ ask-pending-requires c κs = begins (c .before .before .before)
 
 returns : tie.Need-returns
 returns c =
-    let stage = c .before .before .before .before .before .before in
+    let stage-2 = c .before .before .before .before .before .before in
+    let stage = stage-2 in
     let ended = stage in
     let asked = ended .before .before .before .before .before .before .before .before .before .before .before .before .before in
     let start = asked .before .before .before .before .before .before .before .before .before in
@@ -52,7 +54,8 @@ returns c =
 
 returns-2 : tie.Need-returns-2
 returns-2 c =
-    let stage = c .before .before .before .before .before .before .before .before .before in
+    let stage-2 = c .before .before .before .before .before .before .before .before .before in
+    let stage = stage-2 in
     let asked = stage in
     let start = asked .before .before .before .before .before .before .before .before .before in
     walk-refused (start .args .table .now) (start .args .options) (start .args .scratch .now) (start .pre .0) (start .pre .1 .0) (start .pre .1 .1)

@@ -1,29 +1,20 @@
-use mathlib.Core.Path.{_≡_, sym, _∙_}
+use mathlib.Core.Path.{sym, _∙_}
 use Rattle.listing_rules.specs.Bytes.{text}
 use Rattle.command_line.specs.OptionSets.{returned}
 use borrow.Author.Needs.{needs}
 use Rattle.command_line.proofs.option_list.returned.Statement.{statement}
 use Rattle.command_line.proofs.option_list.returned.Tie as tie
 
--- src/option_list.rt:76:26
--- src/option_list.rt:76:8
--- src/option_list.rt:77:9
 returns : tie.Need-returns
 unfolding returned text
 returns c = rw (sym (c .before .spells-word .ensures) ∙ c .if1 .taken)
 
--- src/option_list.rt:79:26
--- src/option_list.rt:79:8
--- src/option_list.rt:80:9
 returns-2 : tie.Need-returns-2
 unfolding returned text
 returns-2 c =
     let after-spells-word = c .before .before .before .before in
     rw (sym (after-spells-word .spells-word .ensures) ∙ c .before .before .before .if1 .left, sym (c .before .spells-word2 .ensures) ∙ c .if2 .taken)
 
--- src/option_list.rt:82:26
--- src/option_list.rt:82:8
--- src/option_list.rt:83:9
 returns-3 : tie.Need-returns-3
 unfolding returned text
 returns-3 c =
@@ -32,7 +23,6 @@ returns-3 c =
     let after-spells-word = at-if1 .before in
     rw (sym (after-spells-word .spells-word .ensures) ∙ at-if1 .if1 .left, sym (after-spells-word2 .spells-word2 .ensures) ∙ c .before .before .before .if2 .left, sym (c .before .spells-word3 .ensures) ∙ c .if3 .taken)
 
--- src/option_list.rt:73:1
 returns-4 : tie.Need-returns-4
 unfolding returned text
 returns-4 c =

@@ -1,29 +1,20 @@
-use mathlib.Core.Path.{_≡_, sym, _∙_}
+use mathlib.Core.Path.{sym, _∙_}
 use Rattle.listing_rules.specs.Bytes.{text}
 use Rattle.command_line.specs.OptionSets.{selected}
 use borrow.Author.Needs.{needs}
 use Rattle.command_line.proofs.option_list.selected.Statement.{statement}
 use Rattle.command_line.proofs.option_list.selected.Tie as tie
 
--- src/option_list.rt:58:26
--- src/option_list.rt:58:8
--- src/option_list.rt:59:9
 returns : tie.Need-returns
 unfolding selected text
 returns c = rw (sym (c .before .spells-word .ensures) ∙ c .if1 .taken)
 
--- src/option_list.rt:61:26
--- src/option_list.rt:61:8
--- src/option_list.rt:62:9
 returns-2 : tie.Need-returns-2
 unfolding selected text
 returns-2 c =
     let after-spells-word = c .before .before .before .before in
     rw (sym (after-spells-word .spells-word .ensures) ∙ c .before .before .before .if1 .left, sym (c .before .spells-word2 .ensures) ∙ c .if2 .taken)
 
--- src/option_list.rt:64:26
--- src/option_list.rt:64:8
--- src/option_list.rt:65:9
 returns-3 : tie.Need-returns-3
 unfolding selected text
 returns-3 c =
@@ -32,9 +23,6 @@ returns-3 c =
     let after-spells-word = at-if1 .before in
     rw (sym (after-spells-word .spells-word .ensures) ∙ at-if1 .if1 .left, sym (after-spells-word2 .spells-word2 .ensures) ∙ c .before .before .before .if2 .left, sym (c .before .spells-word3 .ensures) ∙ c .if3 .taken)
 
--- src/option_list.rt:67:26
--- src/option_list.rt:67:8
--- src/option_list.rt:68:9
 returns-4 : tie.Need-returns-4
 unfolding selected text
 returns-4 c =
@@ -45,7 +33,6 @@ returns-4 c =
     let after-spells-word = at-if1 .before in
     rw (sym (after-spells-word .spells-word .ensures) ∙ at-if1 .if1 .left, sym (after-spells-word2 .spells-word2 .ensures) ∙ at-if2 .if2 .left, sym (after-spells-word3 .spells-word3 .ensures) ∙ c .before .before .before .if3 .left, sym (c .before .spells-word4 .ensures) ∙ c .if4 .taken)
 
--- src/option_list.rt:55:1
 returns-5 : tie.Need-returns-5
 unfolding selected text
 returns-5 c =

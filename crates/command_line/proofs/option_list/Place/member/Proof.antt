@@ -1,17 +1,10 @@
-use mathlib.Core.Path.{_≡_}
 use borrow.Author.Needs.{needs}
 use Rattle.command_line.proofs.option_list.Place.member.Statement.{statement}
 use Rattle.command_line.proofs.option_list.Place.member.Tie as tie
 
--- src/option_list.rt:93:33
--- src/option_list.rt:93:33
--- src/option_list.rt:94:30
--- src/option_list.rt:94:30
--- src/option_list.rt:89:5
 returns : tie.Need-returns
 returns c = rw (c .before .enum-told .given .1) (c .selected .ensures)
 
--- src/option_list.rt:89:5
 returns-2 : tie.Need-returns-2
 returns-2 c = rw (c .before .enum-told2 .given .1) (c .returned .ensures)
 

@@ -1,0 +1,109 @@
+-- The tag and the word: what the line gives, step by step. Rests on Returning, and on Binds of command_tokens.
+use mathlib.Core.Path.{_≡_, refl, sym, ap, _∙_}
+use mathlib.Core.Bool.{Bool, true, false, cond}
+use mathlib.Core.List.{List, [], _∷_}
+use mathlib.Core.Option.{Option, none, some}
+use Prim.Native.Nat.{ℕ, _≤_, _<_}
+use lib.ListN.{length, drop}
+use Rattle.listing_rules.specs.Bytes.{text, spells, same, raised, isEmpty}
+use Rattle.listing_rules.specs.Tokens.{Got, got, after, tagByte, atomByte, run, run₁, unlessEmpty, atom}
+use Rattle.listing_rules.specs.Command.{Parsed, refused, namespace, orRefuse, worded, tagged}
+use Rattle.command_tokens.specs.declared.Span.{Span}
+use Rattle.command_tokens.specs.declared.Cursor.{Cursor}
+use Rattle.command_tokens.specs.Tokens.{Bare}
+use Rattle.command_tokens.proofs.Binds.{none≢some}
+use Rattle.command_tokens.proofs.Cuts.{lies-ahead}
+use Rattle.command_line.specs.declared.reading.Word.the-variants.{List as ListWord, Namespace, Other}
+use Rattle.command_line.specs.Words.{wordOf, wordedAs}
+use Rattle.command_line.specs.Commands.{TagIn}
+use Rattle.command_line.proofs.Returning.{empty-out, empty-not}
+
+-- a bare token at the front is a tag
+pub tag-in : (s : List ℕ) (t : Span) (c : Cursor) → Bare s 0 t c → TagIn s t
+tag-in s t c h = record { lies = lies-ahead s 0 t c (h .ahead); bare = h .bare; front = h .front }
+
+-- what was read, or the refusal
+module _ {A : Type 0} (k : ℕ) {x : Option A} (go : A → Parsed) where
+  pub read-on : {a : A} → x ≡ some a → orRefuse k x go ≡ go a
+  unfolding orRefuse
+  read-on e = rw e
+
+  pub read-off : x ≡ none → orRefuse k x go ≡ refused k
+  unfolding orRefuse
+  read-off e = rw e
+
+-- the word by its number in the table
+worded-is : (tag : List ℕ) (g : Got (List ℕ)) → worded tag g ≡ wordedAs (wordOf (g .val)) tag (g .rest)
+unfolding worded wordOf wordedAs
+worded-is tag g = go (spells (g .val) (text "LIST")) (spells (g .val) (text "NAMESPACE"))
+  where
+    go : (a b : Bool) → cond a (wordedAs ListWord tag (g .rest)) (cond b (wordedAs Namespace tag (g .rest)) (refused 5)) ≡ wordedAs (cond a ListWord (cond b Namespace Other)) tag (g .rest)
+    go true b = refl
+    go false true = refl
+    go false false = refl
+
+-- a word that was found is the run, and one that was not is empty
+some-same : {A : Type 0} {a b : A} → some a ≡ some b → a ≡ b
+some-same e = cc
+
+run-some : (g h : Got (List ℕ)) → unlessEmpty g ≡ some h → g ≡ h
+unfolding unlessEmpty
+run-some g h e = go (isEmpty (g .val)) e
+  where
+    go : (o : Bool) → cond o none (some g) ≡ some h → g ≡ h
+    go true q = absurd (none≢some q)
+    go false q = some-same q
+
+run-none : (g : Got (List ℕ)) → unlessEmpty g ≡ none → g .val ≡ []
+unfolding unlessEmpty isEmpty
+run-none g e = go (g .val) e
+  where
+    go : (v : List ℕ) → cond (isEmpty v) none (some g) ≡ none → v ≡ []
+    go [] q = refl
+    go (b ∷ v) q = absurd (none≢some (sym q))
+
+module _ (tag t : List ℕ) where
+  -- no word
+  pub word-off : atom t ≡ none → worded tag (run atomByte t) ≡ refused 5
+  unfolding atom run₁ worded spells raised same text
+  word-off e = rw (run-none (run atomByte t) e)
+
+  pub word-read : (w u : List ℕ) → atom t ≡ some (got w u) → worded tag (run atomByte t) ≡ wordedAs (wordOf w) tag u
+  unfolding atom run₁ got
+  word-read w u e = ap (worded tag) (run-some (run atomByte t) (got w u) e) ∙ worded-is tag (got w u)
+
+-- the line after its tag
+afterTag : Got (List ℕ) → Parsed
+afterTag tag = orRefuse 4 (after (text " ") (tag .rest)) (λ u. worded (tag .val) (run atomByte u))
+
+module _ (s : List ℕ) where
+  pub tag-off : run₁ tagByte s ≡ none → tagged s ≡ refused 4
+  unfolding tagged
+  tag-off e = read-off 4 _ e
+
+  module _ (tag : List ℕ) (i : ℕ) (e : run₁ tagByte s ≡ some (got tag (drop i s))) where
+    after-tag : tagged s ≡ afterTag (got tag (drop i s))
+    unfolding tagged afterTag
+    after-tag = read-on 4 afterTag e
+
+    pub space-off : after (text " ") (drop i s) ≡ none → tagged s ≡ refused 4
+    unfolding afterTag got
+    space-off q = after-tag ∙ read-off 4 _ q
+
+    pub space-read : (t : List ℕ) → after (text " ") (drop i s) ≡ some t → tagged s ≡ worded tag (run atomByte t)
+    unfolding afterTag got
+    space-read t q = after-tag ∙ read-on 4 (λ u. worded tag (run atomByte u)) q
+
+-- NAMESPACE ends there, or not
+module _ (tag s : List ℕ) (i : ℕ) where
+  pub namespace-ends : length s ≤ i → wordedAs Namespace tag (drop i s) ≡ namespace tag
+  unfolding wordedAs
+  namespace-ends h = rw (empty-out s i h)
+
+  pub namespace-goes-on : i < length s → wordedAs Namespace tag (drop i s) ≡ refused 4
+  unfolding wordedAs
+  namespace-goes-on h = rw (empty-not s i h)
+
+pub other-word : (tag t : List ℕ) → wordedAs Other tag t ≡ refused 5
+unfolding wordedAs
+other-word tag t = refl

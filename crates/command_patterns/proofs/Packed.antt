@@ -1,0 +1,51 @@
+-- Canonical patterns in a buffer: one pattern more; and what they are where each is at most 255 bytes long. Rests on octets' Puts.
+use mathlib.Core.Path.{_≡_, refl, sym, ap, subst, _∙_}
+use mathlib.Core.Bool.{true}
+use mathlib.Core.List.{List, [], _∷_, _++_, map, append-assoc, append-nil}
+use Prim.Native.Nat.{ℕ, _+_, _<_, _%_, _^_}
+use native.Mathlib.Nat.{mod-eq-of-lt}
+use native.Mathlib.Omega.{arith}
+use lib.ListN.{length}
+use borrow.Author.Tests.{leb-true}
+use Rattle.listing_rules.specs.Lists.{every, joined}
+use Rattle.listing_rules.specs.Walk.{packed}
+use Rattle.listing_rules.proofs.Bools.{and-l, and-r}
+use Rattle.octets.specs.Put.{Put}
+use Rattle.octets.proofs.Puts.{put-none, put-then}
+use Rattle.command_patterns.specs.Canonical.{short, packedOne, packedBytes}
+
+-- the buffer `e` holds the first of all patterns, up to the place `to`, and the rest is to come
+pub record Packing (d e : List ℕ) (to : ℕ) (rest all : List (List ℕ)) : Type 0 where
+  pub bytes : List ℕ
+  pub put : Put d e 0 bytes to
+  pub whole : bytes ++ packedBytes rest ≡ packedBytes all
+
+pub packing-none : (d : List ℕ) (all : List (List ℕ)) → length d + 1 < 2 ^ 64 → Packing d d 0 all all
+packing-none d all h = record { bytes = []; put = put-none d 0 h (omega arith); whole = refl }
+
+module _ (d e : List ℕ) (to : ℕ) (rest all : List (List ℕ)) (w : Packing d e to rest all) where
+  pub packing-same : {rest′ : List (List ℕ)} → rest ≡ rest′ → Packing d e to rest′ all
+  packing-same q = subst (λ (x : List (List ℕ)). Packing d e to x all) q w
+
+  -- one pattern more
+  pub packing-more : (p : List ℕ) (rest′ : List (List ℕ)) {e′ : List ℕ} {to′ : ℕ} → rest ≡ p ∷ rest′ → Put e e′ to (packedOne p) to′ → Packing d e′ to′ rest′ all
+  unfolding packedBytes joined
+  packing-more p rest′ q h =
+      record {
+        bytes = w .bytes ++ packedOne p;
+        put = put-then (w .put) h;
+        whole = append-assoc (w .bytes) (packedOne p) (joined (map packedOne rest′)) ∙ ap (λ (x : List (List ℕ)). w .bytes ++ joined (map packedOne x)) (sym q) ∙ w .whole;
+      }
+
+  pub packing-all : rest ≡ [] → Put d e 0 (packedBytes all) to
+  unfolding packedBytes joined
+  packing-all q = subst (λ (x : List ℕ). Put d e 0 x to) (sym (append-nil (w .bytes)) ∙ ap (λ (x : List (List ℕ)). w .bytes ++ joined (map packedOne x)) (sym q) ∙ w .whole) (w .put)
+
+-- patterns of at most 255 bytes are packed as document 01 has it
+pub packed-short : (ps : List (List ℕ)) → every short ps ≡ true → packedBytes ps ≡ packed ps
+unfolding packedBytes packed joined every
+packed-short [] h = refl
+packed-short (p ∷ ps) h =
+    let one : length p % 256 ≡ length p = mod-eq-of-lt (omega (arith, leb-true (length p) 255 (and-l (short p) (every short ps) h))) in
+    let rest : joined (map packedOne ps) ≡ joined (map (λ n. length n ∷ n) ps) = packed-short ps (and-r (short p) (every short ps) h) in
+    rw (one, rest)

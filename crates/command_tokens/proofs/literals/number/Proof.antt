@@ -1,0 +1,41 @@
+use mathlib.Core.Path.{_≡_, refl, sym, _∙_}
+use Prim.Native.Nat.{_-_, _≤_, min}
+use lib.ListN.{length, drop}
+use Rattle.listing_rules.specs.Tokens.{decimal}
+use Rattle.command_tokens.proofs.Numbers.{number-step, number-out}
+use borrow.Author.Needs.{needs}
+use native.Mathlib.Omega.{arith}
+use Rattle.command_tokens.proofs.literals.number.Statement.{statement}
+use Rattle.command_tokens.proofs.literals.number.Tie as tie
+
+abbrev Inv-loop : tie.InvT-loop
+Inv-loop digits n₀ i₀ n i = (n ≤ 1025) × (min (decimal n (drop i digits)) 1025 ≡ min (decimal 0 digits) 1025)
+
+abbrev μ-loop : tie.MeasureT-loop
+μ-loop digits n₀ i₀ n i = length digits - i
+
+loop-holds : tie.Need-loop-holds Inv-loop μ-loop
+loop-holds c = (omega arith, refl)
+
+loop-again : tie.Need-loop-again Inv-loop μ-loop
+loop-again c =
+    let turn = c .before .before .before in
+    let start = turn .before .before in
+    (omega (arith, c .with-digit .ensures), rw (c .with-digit .ensures) (sym (number-step (start .args .digits .now) (turn .loop .i) (turn .loop .n) (c .before .before .loop-test .taken)) ∙ turn .loop .inv .1))
+
+returns : tie.Need-returns Inv-loop μ-loop
+returns c = omega (arith, c .before .loop .inv .0, c .before .loop .inv .1, number-out (c .before .before .before .args .digits .now) (c .before .loop .i) (c .before .loop .n) (c .loop-test .left))
+
+pub number-spec : {M : Type 1} → statement M
+number-spec =
+    tie.close
+    (tie.spec
+    Inv-loop
+    μ-loop
+    loop-holds
+    (λ c. search needs)
+    (λ c κs. search needs)
+    (λ c. search needs)
+    (λ c. search needs)
+    loop-again
+    returns)

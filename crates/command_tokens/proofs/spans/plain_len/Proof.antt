@@ -1,0 +1,51 @@
+use mathlib.Core.Path.{_≡_, ap}
+use mathlib.Core.Bool.{false}
+use Prim.Native.Nat.{_+_, _≤_, _-_}
+use lib.ListN.{length, drop}
+use Rattle.command_tokens.specs.Spans.{plain}
+use Rattle.command_tokens.proofs.Plain.{plain-skip, plain-keep, plain-out}
+use borrow.Author.Needs.{needs}
+use native.Mathlib.Omega.{arith}
+use Rattle.command_tokens.proofs.spans.plain_len.Statement.{statement}
+use Rattle.command_tokens.proofs.spans.plain_len.Tie as tie
+
+abbrev Inv-loop : tie.InvT-loop
+Inv-loop s n₀ i₀ escaped₀ n i escaped = (n ≤ i) × (n + length (plain escaped (drop i s)) ≡ length (plain false s))
+
+abbrev μ-loop : tie.MeasureT-loop
+μ-loop s n₀ i₀ escaped₀ n i escaped = length s - i
+
+loop-holds : tie.Need-loop-holds Inv-loop μ-loop
+loop-holds c = (omega arith, omega arith)
+
+loop-again : tie.Need-loop-again Inv-loop μ-loop
+loop-again c =
+    let turn = c .before .before .before in
+    let start = turn .before in
+    (omega arith, rw (← plain-skip (start .args .s .now) (turn .loop .i) (turn .loop .escaped) (c .before .before .loop-test .taken) (c .if1 .taken)) (turn .loop .inv .1))
+
+loop-again-2 : tie.Need-loop-again-2 Inv-loop μ-loop
+loop-again-2 c =
+    let turn = c .before .before .before in
+    let start = turn .before in
+    (omega arith, omega (arith, turn .loop .inv .1, ap length (plain-keep (start .args .s .now) (turn .loop .i) (turn .loop .escaped) (c .before .before .loop-test .taken) (c .if1 .left))))
+
+returns : tie.Need-returns Inv-loop μ-loop
+returns c = omega (arith, c .before .loop .inv .1, ap length (plain-out (c .before .before .args .s .now) (c .before .loop .i) (c .before .loop .escaped) (c .loop-test .left)))
+
+pub plain-len-spec : {M : Type 1} → statement M
+plain-len-spec =
+    tie.close
+    (tie.spec
+    Inv-loop
+    μ-loop
+    loop-holds
+    (λ c. search needs)
+    (λ c. search needs)
+    (λ c. search needs)
+    loop-again
+    (λ c. search needs)
+    (λ c. search needs)
+    (λ c. search needs)
+    loop-again-2
+    returns)

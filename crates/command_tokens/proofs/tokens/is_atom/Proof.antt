@@ -1,0 +1,15 @@
+use mathlib.Core.Bool.{Bool, _&&_, not}
+use lib.Dec.{leb}
+use mathlib.Core.Path.{ap}
+use Rattle.listing_rules.specs.Tokens.{atomByte}
+use Rattle.listing_rules.specs.Bytes.{within}
+use Rattle.command_tokens.proofs.Bytes.{special-is}
+use Rattle.command_tokens.proofs.tokens.is_atom.Statement.{statement}
+use Rattle.command_tokens.proofs.tokens.is_atom.Tie as tie
+
+returns : tie.Need-returns
+unfolding atomByte within
+returns c = ap (λ (o : Bool). (leb 0x21 (c .args .b) && leb (c .args .b) 0x7E) && not o) (special-is (c .args .b))
+
+pub is-atom-spec : {M : Type 1} → statement M
+is-atom-spec = tie.close (tie.spec returns)

@@ -27,7 +27,7 @@ use Rattle.command_line.specs.Commands.{packedBytes}
 use Rattle.command_line.proofs.Packed.{packed-short}
 use Rattle.pattern.specs.Packed.{unpacked}
 use Rattle.pattern.proofs.Packed.{unpacked-packed}
-use Rattle.command_line.specs.declared.Span.{Span}
+use Rattle.command_tokens.specs.declared.Span.{Span}
 use Rattle.command_line.specs.Spans.{rawBytes, spanBytes, Lies}
 use Rattle.server.specs.Spans.{partOf}
 use Rattle.list_answer.specs.Index.{Index, Lawful}

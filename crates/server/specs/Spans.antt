@@ -4,7 +4,7 @@ use mathlib.Core.List.{List, []}
 use Prim.Native.Nat.{ℕ, _-_}
 use lib.Dec.{leb}
 use lib.ListN.{length, take, drop}
-use Rattle.command_line.specs.declared.Span.{Span}
+use Rattle.command_tokens.specs.declared.Span.{Span}
 
 -- what lies between its ends, where they lie in the line; else nothing
 unfoldable pub partOf : List ℕ → Span → List ℕ

@@ -1,4 +1,7 @@
 -- `luspemaro::serving::serve` meets its contract. The loop's invariant: the first bytes are answered. Rests on ServeLaws.
+use Rattle.luspemaro.proofs.serving.Place.Laws.{the-laws}
+use Rattle.luspemaro.proofs.serving.Place.{the-type}
+use denote.Struct.Laws.{owed}
 use Rattle.luspemaro.proofs.ServeLaws.{Part, part-none, part-takes, part-more, serves-all, serves-none}
 use Rattle.session.specs.Carrying.{lent}
 use mathlib.Core.Path.{refl, _∙_}
@@ -16,13 +19,16 @@ use Rattle.octets.proofs.advance.Reads as advance-reads
 
 abbrev Inv-loop : tie.InvT-loop
 Inv-loop chunk n table₀ namespaces₀ line₀ out₀ state₀ frames₀ at₀ table namespaces line out state frames at =
-    Part chunk n (lent table₀ namespaces₀ out₀) line₀ state₀ (lent table namespaces out) line state at
+    Part chunk n (lent table₀ namespaces₀ out₀) line₀ state₀ frames₀ (lent table namespaces out) line state frames at
 
 abbrev μ-loop : tie.MeasureT-loop
 μ-loop chunk n table₀ namespaces₀ line₀ out₀ state₀ frames₀ at₀ table namespaces line out state frames at = n - at
 
 loop-holds : tie.Need-loop-holds Inv-loop μ-loop
-loop-holds c = part-none _ _ _ _ _ (c .before .before .before .before .before .before .pre .1)
+loop-holds c =
+    let start = c .before .before .before .before .before .before in
+    let fields = owed the-type the-laws (start .args .place) _ (start .good .0) in
+    part-none _ _ _ _ _ _ (fields .1 .0 .1) (start .pre .1)
 
 sub-answer-some : tie.Need-sub-answer-some Inv-loop μ-loop
 sub-answer-some c = search needs
@@ -73,7 +79,7 @@ loop-again c =
     let start = c .before .before .before .before .before .before .before .before .before .before .before .before .before .before .before .before .before .before .before .before .before .before .before .before .before .before .before .before in
     let turn = c .before .before .before .before .before .before .before .before .before .before .before .before .before .before .before .before .before .before .before .before .before .loop in
     let round = c .before .before .before .before .before .before .before .before .before .before .before .before .before .before .answer-some in
-    part-more (turn .inv) _ _ _ (start .pre .0) (c .before .before .before .before .before .before .before .before .before .before .before .before .before .before .before .before .before .before .before .before .loop-test .taken) (round .ensures) (round .kept .1 .1 .0) (round .kept .1 .1 .1 .0) (round .kept .1 .1 .1 .1 .0) (round .kept .1 .1 .1 .1 .1 .0)
+    part-more (turn .inv) _ _ _ (start .pre .0) (c .before .before .before .before .before .before .before .before .before .before .before .before .before .before .before .before .before .before .before .before .loop-test .taken) (round .ensures) (round .kept .1 .1 .0) (round .kept .1 .1 .1 .0) (round .kept .1 .1 .1 .1 .0) (round .kept .1 .1 .1 .1 .1 .0) _ (c .advance .ensures)
 
 place-at-requires : tie.Need-place-at-requires Inv-loop μ-loop
 place-at-requires c κs = search needs
@@ -91,7 +97,7 @@ same-length-8 : tie.Need-same-length-8 Inv-loop μ-loop
 same-length-8 c = search needs
 
 returns-2 : tie.Need-returns-2 Inv-loop μ-loop
-returns-2 c = let start = c .before .before .before .before .before .before .before .before .before in rw (c .place-at .ensures) (serves-all (c .before .before .loop .inv) (start .args .place) _ refl (omega (arith, c .before .loop-test .left)))
+returns-2 c = let start = c .before .before .before .before .before .before .before .before .before in rw (c .place-at .ensures) (serves-all (c .before .before .loop .inv) (start .args .place) refl refl (omega (arith, c .before .loop-test .left)))
 
 pub serve-spec : {M : Type 1} → statement M
 serve-spec =

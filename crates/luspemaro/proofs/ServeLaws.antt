@@ -1,9 +1,9 @@
 -- Laws of bytes that are answered: what was fed and sent, the bytes of a read part by part, the end of the input, and a run of reads.
--- Rests on session's FeedLaws and Cut, and on listing_rules' InputCut.
+-- Rests on TurnLaws, session's FeedLaws and Cut, and on listing_rules' InputCut.
 use mathlib.Core.Path.{_≡_, refl, sym, ap, subst, _∙_}
 use mathlib.Core.Bool.{true, false}
 use mathlib.Core.List.{List, [], _++_}
-use Prim.Native.Nat.{ℕ, _+_, _-_, _≤_, _<_}
+use Prim.Native.Nat.{ℕ, _+_, _-_, _^_, _≤_, _<_, min}
 use native.Mathlib.Omega.{arith}
 use lib.ListN.{length, take, drop, length-drop}
 use lib.Seq.{take-add, take-take, length-take-le}
@@ -21,7 +21,8 @@ use Rattle.luspemaro.specs.declared.feeding.Turn.{Turn}
 use Rattle.luspemaro.specs.declared.serving.Place.{Place}
 use Rattle.luspemaro.specs.declared.serving.Round.{Round}
 use Rattle.luspemaro.specs.Calling.{GotSome, Sends}
-use Rattle.luspemaro.specs.Serving.{placeIs, Sized, Turns, Rounds, Serves, Ends, ReadsOn, Reached}
+use Rattle.luspemaro.proofs.TurnLaws.{frames-append}
+use Rattle.luspemaro.specs.Serving.{placeIs, Sized, framesIn, Turns, Rounds, Serves, Ends, ReadsOn, Reached}
 
 -- bytes that were read lie in the buffer
 pub got : {room n : ℕ} {r : Got} → GotSome room r → r ≡ Bytes n → n ≤ room
@@ -59,8 +60,9 @@ other-out {st = st} t n h =
     }
 
 -- Where the loop of `serve` stands: the first `at` of the bytes are answered.
-pub record Part (chunk : List ℕ) (n : ℕ) (d : Lent) (line : List ℕ) (st : State) (e : Lent) (line′ : List ℕ) (st′ : State) (at : ℕ) : Type 0 where
+pub record Part (chunk : List ℕ) (n : ℕ) (d : Lent) (line : List ℕ) (st : State) (f : ℕ) (e : Lent) (line′ : List ℕ) (st′ : State) (f′ at : ℕ) : Type 0 where
   pub inside : at ≤ n
+  pub counted : f′ ≡ min (f + framesIn (take at chunk)) (2 ^ 64 - 1)
   pub holds : (s : Session) → Holds d line st s → Holds e line′ st′ (fedAll s (take at chunk) .session)
   pub ready-on : readyIn e line′ st′ ≡ true
   pub table : length (e .table) ≡ length (d .table)
@@ -72,25 +74,27 @@ none-held : (d : Lent) (line : List ℕ) (st : State) (s : Session) → Holds d 
 unfolding fedAll
 none-held d line st s h = h
 
-pub part-none : (chunk : List ℕ) (n : ℕ) (d : Lent) (line : List ℕ) (st : State) → readyIn d line st ≡ true → Part chunk n d line st d line st 0
-part-none chunk n d line st h =
-    record { inside = omega arith; holds = none-held d line st; ready-on = h; table = refl; namespaces = refl; digits = refl; out = refl }
+pub part-none : (chunk : List ℕ) (n : ℕ) (d : Lent) (line : List ℕ) (st : State) (f : ℕ) → f < 2 ^ 64 → readyIn d line st ≡ true → Part chunk n d line st f d line st f 0
+unfolding framesIn
+part-none chunk n d line st f k h =
+    record { inside = omega arith; counted = omega arith; holds = none-held d line st; ready-on = h; table = refl; namespaces = refl; digits = refl; out = refl }
 
-module _ {chunk : List ℕ} {n : ℕ} {d : Lent} {line : List ℕ} {st : State} {e : Lent} {line′ : List ℕ} {st′ : State} {at : ℕ} (p : Part chunk n d line st e line′ st′ at) where
+module _ {chunk : List ℕ} {n : ℕ} {d : Lent} {line : List ℕ} {st : State} {f : ℕ} {e : Lent} {line′ : List ℕ} {st′ : State} {f′ at : ℕ} (p : Part chunk n d line st f e line′ st′ f′ at) where
   -- a round takes a byte at least, and none after the last
   pub part-takes : {e′ : Lent} {line″ : List ℕ} {r : Round} → n ≤ length chunk → at < n → Rounds (take (n - at) (drop at chunk)) e e′ line′ line″ st′ r → (at + r .used ≤ n) × (0 < r .used)
   part-takes few less x =
       let size = length-take-le (n - at) (drop at chunk) (omega (arith, length-drop at chunk)) in
       (omega (arith, x .inside, size), x .onward (omega (arith, size)))
 
-  pub part-more : (e′ : Lent) (line″ : List ℕ) (r : Round) → n ≤ length chunk → at < n → Rounds (take (n - at) (drop at chunk)) e e′ line′ line″ st′ r → length (e′ .table) ≡ length (e .table) → length (e′ .namespaces) ≡ length (e .namespaces) → length line″ ≡ length line′ → length (e′ .out) ≡ length (e .out) → Part chunk n d line st e′ line″ (r .state) (at + r .used)
+  pub part-more : (e′ : Lent) (line″ : List ℕ) (r : Round) → n ≤ length chunk → at < n → Rounds (take (n - at) (drop at chunk)) e e′ line′ line″ st′ r → length (e′ .table) ≡ length (e .table) → length (e′ .namespaces) ≡ length (e .namespaces) → length line″ ≡ length line′ → length (e′ .out) ≡ length (e .out) → (f″ : ℕ) → f″ ≡ min (f′ + r .frames) (2 ^ 64 - 1) → Part chunk n d line st f e′ line″ (r .state) f″ (at + r .used)
   unfolding behind
-  part-more e′ line″ r few less x t m l o =
+  part-more e′ line″ r few less x t m l o f″ q =
       let left = take (n - at) (drop at chunk) in
       let size : length left ≡ n - at = length-take-le (n - at) (drop at chunk) (omega (arith, length-drop at chunk)) in
       let taken : take (at + r .used) chunk ≡ take at chunk ++ take (r .used) left = take-add at (r .used) chunk ∙ ap (λ (l : List ℕ). take at chunk ++ l) (sym (take-take (r .used) (n - at) (drop at chunk) (omega (arith, x .inside, size)))) in
       record {
         inside = omega (arith, x .inside, size);
+        counted = omega (arith, q, p .counted, x .frames, ap framesIn taken, frames-append (take at chunk) (take (r .used) left));
         holds = λ s h. subst (λ (f : Came). Holds e′ line″ (r .state) (f .session)) (sym (ap (fedAll s) taken ∙ fedAll-append s (take at chunk) (take (r .used) left))) (x .holds (fedAll s (take at chunk) .session) (p .holds s h));
         ready-on = x .ready-on;
         table = t ∙ p .table;
@@ -100,11 +104,12 @@ module _ {chunk : List ℕ} {n : ℕ} {d : Lent} {line : List ℕ} {st : State} 
       }
 
   -- all are answered
-  pub serves-all : (q : Place) (frames : ℕ) → q .state ≡ st → n ≤ at → Serves (take n chunk) d e line line′ q (placeIs st′ frames true false)
-  serves-all q frames same all =
+  pub serves-all : (q : Place) → q .state ≡ st → q .frames ≡ f → n ≤ at → Serves (take n chunk) d e line line′ q (placeIs st′ f′ true false)
+  serves-all q same so-many all =
       let end : at ≡ n = omega (arith, p .inside) in
       record {
         holds = λ f s h. subst (λ (l : List ℕ). Holds e line′ st′ (fedAll s l .session)) (ap (λ (k : ℕ). take k chunk) end) (p .holds s (subst (λ (y : State). Holds d line y s) same h));
+        frames = λ g. omega (arith, p .counted, so-many, ap (λ (k : ℕ). framesIn (take k chunk)) end);
         going = λ m. refl;
         ready-on = p .ready-on;
       }
@@ -114,7 +119,7 @@ not-so : true ≡ false → ⊥
 not-so e = let z : _≡_ {A = ℕ} 0 1 = cc in absurd (omega arith)
 
 pub serves-none : {e : Lent} {line′ : List ℕ} {st : State} (bytes : List ℕ) (d : Lent) (line : List ℕ) (q : Place) (frames : ℕ) → readyIn e line′ st ≡ true → Serves bytes d e line line′ q (placeIs st frames false true)
-serves-none bytes d line q frames r = record { holds = λ f. absurd (not-so f); going = λ m. absurd (not-so (sym m)); ready-on = r }
+serves-none bytes d line q frames r = record { holds = λ f. absurd (not-so f); frames = λ f. absurd (not-so f); going = λ m. absurd (not-so (sym m)); ready-on = r }
 
 -- one read: its bytes, the end of the input, or a failure
 pub reads-bytes : {bytes : List ℕ} {d e : Lent} {line line′ : List ℕ} {p r : Place} → Serves bytes d e line line′ p r → ReadsOn d e line line′ p r

@@ -24,12 +24,12 @@ use Rattle.session.proofs.Cut.{never-refused, said-front}
 use Rattle.luspemaro.specs.Serving.{turnIs, endsFrame, framesIn, Answered, Turns}
 
 -- frames that end in bytes, and in bytes after them
-frames-append : (a b : List ℕ) → framesIn (a ++ b) ≡ framesIn a + framesIn b
+pub frames-append : (a b : List ℕ) → framesIn (a ++ b) ≡ framesIn a + framesIn b
 unfolding framesIn
 frames-append [] b = omega arith
 frames-append (c ∷ a) b = omega (arith, frames-append a b)
 
-pub ends-once : (c : ℕ) → endsFrame c ≤ 1
+ends-once : (c : ℕ) → endsFrame c ≤ 1
 ends-once c = go (eqb c 10)
   where
     go : (o : Bool) → cond o 1 0 ≤ 1

@@ -5,7 +5,7 @@ use mathlib.Core.List.{List, [], _∷_}
 use mathlib.Core.Bool.{Bool, true, false, cond}
 use lib.Dec.{eqb}
 use lib.ListN.{length, take}
-use Prim.Native.Nat.{ℕ, _+_, _≤_, _<_}
+use Prim.Native.Nat.{ℕ, _+_, _-_, _^_, _≤_, _<_, min}
 use Rattle.listing_rules.specs.Frames.{Session, Fed, start, fedAll, atEnd}
 use Rattle.session.specs.declared.State.{State}
 use Rattle.session.specs.Carrying.{Lent}
@@ -59,7 +59,9 @@ pub record Turns (bytes : List ℕ) (d e : Lent) (line line′ : List ℕ) (st :
 pub record Rounds (bytes : List ℕ) (d e : Lent) (line line′ : List ℕ) (st : State) (r : Round) : Type 0 where
   pub inside : r .used ≤ length bytes
   pub holds : (s : Session) → Holds d line st s → Holds e line′ (r .state) (fedAll s (take (r .used) bytes) .session)
-  pub sent : r .sent .whole ≡ true → (s : Session) → Holds d line st s → take (r .sent .bytes) (e .out) ≡ fedAll s (take (r .used) bytes) .output
+  pub sent :
+      r .sent .whole ≡ true
+      → (s : Session) → Holds d line st s → take (r .sent .bytes) (e .out) ≡ fedAll s (take (r .used) bytes) .output
   pub frames : r .frames ≡ framesIn (take (r .used) bytes)
   pub onward : 0 < length bytes → 0 < r .used
   pub ready-on : readyIn e line′ (r .state) ≡ true
@@ -67,6 +69,7 @@ pub record Rounds (bytes : List ℕ) (d e : Lent) (line line′ : List ℕ) (st 
 -- All the bytes of a read were answered, unless a call failed: the memory holds the session after them.
 pub record Serves (bytes : List ℕ) (d e : Lent) (line line′ : List ℕ) (p r : Place) : Type 0 where
   pub holds : r .failed ≡ false → (s : Session) → Holds d line (p .state) s → Holds e line′ (r .state) (fedAll s bytes .session)
+  pub frames : r .failed ≡ false → r .frames ≡ min (p .frames + framesIn bytes) (2 ^ 64 - 1)
   pub going : r .more ≡ true → r .failed ≡ false
   pub ready-on : readyIn e line′ (r .state) ≡ true
 
@@ -78,7 +81,9 @@ Ends p st r =
 
 -- One read was answered, unless a call failed: whatever the bytes were that it gave, the memory holds the session after them.
 pub record ReadsOn (d e : Lent) (line line′ : List ℕ) (p r : Place) : Type 0 where
-  pub holds : r .failed ≡ false → (bytes : List ℕ) × ((s : Session) → Holds d line (p .state) s → Holds e line′ (r .state) (fedAll s bytes .session))
+  pub holds :
+      r .failed ≡ false
+      → (bytes : List ℕ) × ((s : Session) → Holds d line (p .state) s → Holds e line′ (r .state) (fedAll s bytes .session))
   pub going : r .more ≡ true → r .failed ≡ false
   pub ready-on : readyIn e line′ (r .state) ≡ true
 

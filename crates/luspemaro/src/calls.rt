@@ -48,7 +48,7 @@ fn is_to_be_repeated() -> bool {
     error == EINTR
 }
 
-// One read. A loop has to end: no input keeps a program waiting for so many pauses.
+// One read. A loop has to end: the tries are more than any machine makes.
 pub(crate) fn read_some(chunk: &mut [u8]) -> Got
     ensures { λ r. ⌜ GotSome (length (now (chunk .entry))) r ⌝ }
 {

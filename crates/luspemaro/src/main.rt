@@ -3,12 +3,15 @@
 // What the answers are is proved in `session`. Here are the buffers and the calls of the system: the bytes of a read are fed as long
 // as the output has room for a line more, so that the answers of many frames go out in one write.
 //
-// A call that a signal interrupts is made again, and so is one that would block, after a pause. Any other failure is told on standard
-// error in one line, with the number of the frame, and ends the program: nothing more goes to standard output, no 13 either for the
-// bytes before it. A frame number is that of the frame being read, or of the first one whose answer may be missing.
+// A call that a signal interrupts is made again, and so is one that would block, after a pause; it is given up after 2 ^ 64 - 1
+// tries. Any other failure is told on standard error in one line and ends the program: nothing more goes to standard output, no 13
+// either for the bytes before it. The line names the frame that was being read, or the first one whose answer may be missing:
 //
-// Assumed are the contracts of what is called of C: `read`, `write` and `nanosleep` of the kit's libc, and, of its `os`, what reads
-// errno and puts it into words. None of them says which bytes it moves, so no promise here does.
+//     luspemaro: write failed at frame 12: No space left on device
+//
+// Assumed are the contracts of what is called of C: `read`, `write` and `nanosleep` of the kit's libc, and `rattle_errno` and
+// `__xpg_strerror_r` of its os, for the reason of a failure. None says which bytes it moves: what is promised here is what lies in the
+// memory before a write and after a read. A reader that goes away ends the program by SIGPIPE, unless that is ignored.
 mod calls;
 mod feeding;
 mod serving;

@@ -121,7 +121,7 @@ fn place_at(state: State, frames: usize, more: bool, failed: bool) -> Place
     }
 }
 
-// A call failed at the frame after those that have ended, which is told.
+// A call failed: the frame after those that have ended is told.
 fn write_failed(state: State, frames: usize) -> Place
     ensures { λ r. ⌜ r ≡ placeIs state frames false true ⌝ }
 {
@@ -142,7 +142,7 @@ fn read_failed(state: State, frames: usize) -> Place
     place_at(state, frames, false, true)
 }
 
-// One read, and what is owed for it.
+// One read: its bytes are answered, or the end of the input is, or that it failed is told.
 pub(crate) fn read_on(
     place: Place,
     table: &mut [u8],

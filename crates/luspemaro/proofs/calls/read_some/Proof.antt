@@ -17,16 +17,47 @@ Inv-loop chunk₀ tries₀ chunk tries = length chunk ≡ length chunk₀
 abbrev μ-loop : tie.MeasureT-loop
 μ-loop chunk₀ tries₀ chunk tries = tries
 
+loop-holds : tie.Need-loop-holds Inv-loop μ-loop
+loop-holds c = search needs
+
+read-requires : tie.Need-read-requires Inv-loop μ-loop
+read-requires c κs = search needs
+
+count-requires : tie.Need-count-requires Inv-loop μ-loop
+count-requires c κs = search needs
+
+same-length : tie.Need-same-length Inv-loop μ-loop
+same-length c = search needs
+
 returns : tie.Need-returns Inv-loop μ-loop
-returns c =
-    let stage = c .before .before .before .before .before .before .before .before .before .before in
-    let start = stage in omega (arith, c .count .ensures)
+returns c = let start = c .before .before .before .before .before .before .before .before .before .before in omega (arith, c .count .ensures)
+
+same-length-2 : tie.Need-same-length-2 Inv-loop μ-loop
+same-length-2 c = search needs
 
 returns-2 : tie.Need-returns-2 Inv-loop μ-loop
 returns-2 c = tt
 
+is-to-be-repeated-requires : tie.Need-is-to-be-repeated-requires Inv-loop μ-loop
+is-to-be-repeated-requires c κs = search needs
+
+same-length-3 : tie.Need-same-length-3 Inv-loop μ-loop
+same-length-3 c = search needs
+
 returns-3 : tie.Need-returns-3 Inv-loop μ-loop
 returns-3 c = tt
+
+sub-tries : tie.Need-sub-tries Inv-loop μ-loop
+sub-tries c = search needs
+
+loop-less : tie.Need-loop-less Inv-loop μ-loop
+loop-less c = search needs
+
+loop-again : tie.Need-loop-again Inv-loop μ-loop
+loop-again c = search needs
+
+same-length-4 : tie.Need-same-length-4 Inv-loop μ-loop
+same-length-4 c = search needs
 
 returns-4 : tie.Need-returns-4 Inv-loop μ-loop
 returns-4 c = tt
@@ -37,18 +68,18 @@ read-some-spec =
     (tie.spec
     Inv-loop
     μ-loop
-    (λ c. search needs)
-    (λ c κs. search needs)
-    (λ c κs. search needs)
-    (λ c. search needs)
+    loop-holds
+    read-requires
+    count-requires
+    same-length
     returns
-    (λ c. search needs)
+    same-length-2
     returns-2
-    (λ c κs. search needs)
-    (λ c. search needs)
+    is-to-be-repeated-requires
+    same-length-3
     returns-3
-    (λ c. search needs)
-    (λ c. search needs)
-    (λ c. search needs)
-    (λ c. search needs)
+    sub-tries
+    loop-less
+    loop-again
+    same-length-4
     returns-4)

@@ -17,10 +17,23 @@ abbrev μ-loop : tie.MeasureT-loop
 loop-holds : tie.Need-loop-holds Inv-loop μ-loop
 loop-holds c = omega arith
 
+sub-write-some : tie.Need-sub-write-some Inv-loop μ-loop
+sub-write-some c = search needs
+
+part-write-some-start : tie.Need-part-write-some-start Inv-loop μ-loop
+part-write-some-start c = search needs
+
+part-write-some-end : tie.Need-part-write-some-end Inv-loop μ-loop
+part-write-some-end c = search needs
+
+write-some-requires : tie.Need-write-some-requires Inv-loop μ-loop
+write-some-requires c κs = search needs
+
 returns : tie.Need-returns Inv-loop μ-loop
-returns c =
-    let turn = c .before .before .before .before in
-    (turn .loop .inv, λ e. cc)
+returns c = (c .before .before .before .before .loop .inv, λ e. cc)
+
+add-bytes : tie.Need-add-bytes Inv-loop μ-loop
+add-bytes c = search needs
 
 loop-less : tie.Need-loop-less Inv-loop μ-loop
 loop-less c = omega arith
@@ -38,12 +51,12 @@ send-spec =
     Inv-loop
     μ-loop
     loop-holds
-    (λ c. search needs)
-    (λ c. search needs)
-    (λ c. search needs)
-    (λ c κs. search needs)
+    sub-write-some
+    part-write-some-start
+    part-write-some-end
+    write-some-requires
     returns
-    (λ c. search needs)
+    add-bytes
     loop-less
     loop-again
     returns-2)

@@ -19,8 +19,29 @@ abbrev μ-loop : tie.MeasureT-loop
 loop-holds : tie.Need-loop-holds Inv-loop μ-loop
 loop-holds c = tt
 
+write-requires : tie.Need-write-requires Inv-loop μ-loop
+write-requires c κs = search needs
+
+count-requires : tie.Need-count-requires Inv-loop μ-loop
+count-requires c κs = search needs
+
+returns : tie.Need-returns Inv-loop μ-loop
+returns c = search needs
+
+pause-requires : tie.Need-pause-requires Inv-loop μ-loop
+pause-requires c κs = search needs
+
+is-to-be-repeated-requires : tie.Need-is-to-be-repeated-requires Inv-loop μ-loop
+is-to-be-repeated-requires c κs = search needs
+
 returns-2 : tie.Need-returns-2 Inv-loop μ-loop
 returns-2 c = omega arith
+
+sub-tries : tie.Need-sub-tries Inv-loop μ-loop
+sub-tries c = search needs
+
+loop-less : tie.Need-loop-less Inv-loop μ-loop
+loop-less c = search needs
 
 loop-again : tie.Need-loop-again Inv-loop μ-loop
 loop-again c = tt
@@ -35,13 +56,13 @@ write-some-spec =
     Inv-loop
     μ-loop
     loop-holds
-    (λ c κs. search needs)
-    (λ c κs. search needs)
-    (λ c. search needs)
-    (λ c κs. search needs)
-    (λ c κs. search needs)
+    write-requires
+    count-requires
+    returns
+    pause-requires
+    is-to-be-repeated-requires
     returns-2
-    (λ c. search needs)
-    (λ c. search needs)
+    sub-tries
+    loop-less
     loop-again
     returns-3)

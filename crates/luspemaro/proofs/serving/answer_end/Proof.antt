@@ -9,11 +9,17 @@ use Rattle.luspemaro.proofs.serving.answer_end.Lts as lts
 use Rattle.luspemaro.proofs.calls.send.Reads as send-reads
 use Rattle.session.proofs.finish.Reads as finish-reads
 
+finish-requires : tie.Need-finish-requires
+finish-requires c κs = search needs
+
+send-requires : tie.Need-send-requires
+send-requires c κs = search needs
+
+same-length : tie.Need-same-length
+same-length c = search needs
+
 returns : tie.Need-returns
-returns c =
-    let after-finish = c .before .before .before .before in
-    let after-pre = after-finish .before .before .before in
-    ends (after-pre .pre) (after-finish .finish .ensures) (c .send .ensures)
+returns c = ends (c .before .before .before .before .before .before .before .pre) (c .before .before .before .before .finish .ensures) (c .send .ensures)
 
 pub answer-end-spec : {M : Type 1} → statement M
-answer-end-spec = tie.close (tie.spec (λ c κs. search needs) (λ c κs. search needs) (λ c. search needs) returns)
+answer-end-spec = tie.close (tie.spec finish-requires send-requires same-length returns)

@@ -20,63 +20,95 @@ use Rattle.luspemaro.proofs.serving.write_failed.Reads as write-failed-
 abbrev memory : tie.Start → Lent
 memory start = lent (start .args .table .now) (start .args .namespaces .now) (start .args .out .now)
 
+large-buffer-requires : tie.Need-large-buffer-requires
+large-buffer-requires c κs = search needs
+
+slice-aggregate-read-some : tie.Need-slice-aggregate-read-some
+slice-aggregate-read-some c = search needs
+
+read-some-requires : tie.Need-read-some-requires
+read-some-requires c κs = search needs
+
+enum-known-n : tie.Need-enum-known-n
+enum-known-n c = search needs
+
+slice-aggregate-serve : tie.Need-slice-aggregate-serve
+slice-aggregate-serve c = search needs
+
 serve-requires : tie.Need-serve-requires
-serve-requires c κs =
-    let after-n = c .before .before .before .before .before .before in
-    let after-read-some = after-n .before .before .before in
-    let after-pre = after-read-some .before .before .before .before .before .before .before .before in
-    (omega (arith, got (after-read-some .read-some .ensures) (after-n .n .given .1), after-read-some .read-some .kept .0), after-pre .pre)
+serve-requires c κs = (omega (arith, got (c .before .before .before .before .before .before .before .before .before .read-some .ensures) (c .before .before .before .before .before .before .n .given .1), c .before .before .before .before .before .before .before .before .before .read-some .kept .0), c .before .before .before .before .before .before .before .before .before .before .before .before .before .before .before .before .before .pre)
+
+enum-told : tie.Need-enum-told
+enum-told c = search needs
 
 answer-end-requires : tie.Need-answer-end-requires
-answer-end-requires c κs =
-    let stage = c .before .before .before .before .before .before .before .before .before .before .before .before in
-    let start = stage in room-of (memory start) (start .args .line .now) (start .args .place .state) (start .pre)
+answer-end-requires c κs = let start = c .before .before .before .before .before .before .before .before .before .before .before .before in room-of (memory start) (start .args .line .now) (start .args .place .state) (start .pre)
+
+write-failed-requires : tie.Need-write-failed-requires
+write-failed-requires c κs = search needs
+
+same-length : tie.Need-same-length
+same-length c = search needs
 
 returns : tie.Need-returns
-returns c =
-    let after-answer-end = c .before .before .before .before .before in
-    let stage = after-answer-end .before .before .before .before .before .before .before .before .before .before .before .before .before in
-    let start = stage in rw (c .write-failed .ensures) (reads-none (memory start) (start .args .line .now) (start .args .place) _ (start .pre) (after-answer-end .answer-end .kept .1 .0) _)
+returns c = let start = c .before .before .before .before .before .before .before .before .before .before .before .before .before .before .before .before .before .before in rw (c .write-failed .ensures) (reads-none (memory start) (start .args .line .now) (start .args .place) _ (start .pre) (c .before .before .before .before .before .answer-end .kept .1 .0) _)
+
+place-at-requires : tie.Need-place-at-requires
+place-at-requires c κs = search needs
+
+enum-told-2 : tie.Need-enum-told-2
+enum-told-2 c = search needs
+
+read-failed-requires : tie.Need-read-failed-requires
+read-failed-requires c κs = search needs
+
+same-length-2 : tie.Need-same-length-2
+same-length-2 c = search needs
+
+same-length-3 : tie.Need-same-length-3
+same-length-3 c = search needs
+
+same-length-4 : tie.Need-same-length-4
+same-length-4 c = search needs
+
+same-length-5 : tie.Need-same-length-5
+same-length-5 c = search needs
 
 returns-2 : tie.Need-returns-2
-returns-2 c =
-    let after-serve = c .before .before .before .before .before .before .before .before in
-    reads-bytes (after-serve .serve .ensures)
+returns-2 c = reads-bytes (c .before .before .before .before .before .before .before .before .serve .ensures)
+
+same-length-6 : tie.Need-same-length-6
+same-length-6 c = search needs
 
 returns-3 : tie.Need-returns-3
-returns-3 c =
-    let after-answer-end = c .before .before .before .before .before in
-    let stage = after-answer-end .before .before .before .before .before .before .before .before .before .before .before .before .before in
-    let start = stage in rw (c .place-at .ensures) (reads-end (memory start) (start .args .line .now) (start .args .place) _ (start .pre) (after-answer-end .answer-end .kept .1 .0) _)
+returns-3 c = let start = c .before .before .before .before .before .before .before .before .before .before .before .before .before .before .before .before .before .before in rw (c .place-at .ensures) (reads-end (memory start) (start .args .line .now) (start .args .place) _ (start .pre) (c .before .before .before .before .before .answer-end .kept .1 .0) _)
 
 returns-4 : tie.Need-returns-4
-returns-4 c =
-    let stage = c .before .before .before .before .before .before .before .before .before .before .before .before in
-    let start = stage in rw (c .read-failed .ensures) (reads-none (memory start) (start .args .line .now) (start .args .place) _ (start .pre) refl _)
+returns-4 c = let start = c .before .before .before .before .before .before .before .before .before .before .before .before in rw (c .read-failed .ensures) (reads-none (memory start) (start .args .line .now) (start .args .place) _ (start .pre) refl _)
 
 pub read-on-spec : {M : Type 1} → statement M
 read-on-spec =
     tie.close
     (tie.spec
-    (λ c κs. search needs)
-    (λ c. search needs)
-    (λ c κs. search needs)
-    (λ c. search needs)
-    (λ c. search needs)
+    large-buffer-requires
+    slice-aggregate-read-some
+    read-some-requires
+    enum-known-n
+    slice-aggregate-serve
     serve-requires
-    (λ c. search needs)
+    enum-told
     answer-end-requires
-    (λ c κs. search needs)
-    (λ c. search needs)
+    write-failed-requires
+    same-length
     returns
-    (λ c κs. search needs)
-    (λ c. search needs)
-    (λ c κs. search needs)
-    (λ c. search needs)
-    (λ c. search needs)
-    (λ c. search needs)
-    (λ c. search needs)
+    place-at-requires
+    enum-told-2
+    read-failed-requires
+    same-length-2
+    same-length-3
+    same-length-4
+    same-length-5
     returns-2
-    (λ c. search needs)
+    same-length-6
     returns-3
     returns-4)

@@ -31,7 +31,7 @@ STEPS = (
 
 # What is to be shown does not follow, or the statement shown is the wanted one about other values.
 FACTS = (
-    r'`omega`: the goal does not follow from what it read',
+    r'`omega`: (?:the goal|the part `[^`]*` of the goal) does not follow from what it read',
     r'`search`: no proof of',
     r'`search` does not close',
     r'`cc`(?: met a bound of its own before the equations had joined|: the equations do not join)',

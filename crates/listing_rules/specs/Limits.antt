@@ -76,20 +76,20 @@ found-names (suc n) k = row 0x0003 ((48 + k) ∷ times 198 97) ++ found-names n 
 abbrev long-found : ℕ → List ℕ
 long-found more = found-names 40 0 ++ row 0x0003 (90 ∷ times (190 + more) 97)
 
--- below a first level of one byte more than found takes, and a mailbox below each of 42 first levels of 194 bytes
-abbrev below-one : ℕ → ℕ → List ℕ
-below-one zero k = []
-below-one (suc n) k = row 0x0003 (33 ∷ 47 ∷ (48 + k) ∷ times 197 97) ++ below-one n (k + 1)
-
+-- a first level with a subscribed mailbox below it, and with a subscribed row of its own
 abbrev below-level : ℕ → ℕ → List ℕ
 below-level b n = row 0x0003 (b ∷ times n 97 ++ text "/a")
 
-abbrev below-each : ℕ → ℕ → List ℕ
-below-each zero k = []
-below-each (suc n) k = below-level (48 + k) 193 ++ below-each n (k + 1)
+abbrev found-level : ℕ → ℕ → List ℕ
+found-level b n = row 0x0003 (b ∷ times n 97) ++ below-level b n
 
+abbrev found-levels : ℕ → ℕ → List ℕ
+found-levels zero k = []
+found-levels (suc n) k = found-level (48 + k) 193 ++ found-levels n (k + 1)
+
+-- one answer: a level of 196 bytes for pending alone, 41 of 194 for both, and a find that found has no room for
 abbrev long-pending : ℕ → List ℕ
-long-pending more = below-one 41 0 ++ (below-each 41 0 ++ below-level 90 (193 + more))
+long-pending more = below-level 33 195 ++ (found-levels 40 0 ++ (found-level 90 (193 + more) ++ row 0x0003 (91 ∷ times 199 97)))
 
 -- levels without a mailbox: a row 0002, a parent of a remote row, and two of a local one
 abbrev levels-table : List ℕ
@@ -443,7 +443,7 @@ program-found-room =
     ∷ answersFrame (long-found 1) (text "5700") 5 (text "520A\n")
     ∷ []
 
--- pending of 8,192 bytes, after which found is full, and one more
+-- pending of 8,192 bytes, after which a find does not fit, and one more
 abbrev pub program-pending-room : List Case
 program-pending-room =
     answersFrame (long-pending 0) (text "5700") 5 (text "520A\n")
@@ -477,13 +477,15 @@ literals-cut-short =
     ∷ crlf)) ∷ (sends "a LIST \"\" {1}" ++ (97 ∷ 13 ∷ crlf)) ∷ [])
     ∷ []
 
--- the limits: n of 1,024 and a canonical pattern of 255 bytes, 2,048 bytes in all
+-- the limits: n of 1,024 and a canonical pattern of 255 bytes; 2,048 bytes in all, of which one stands in a literal, and one more;
+-- parentheses in a literal are none
 abbrev pub literal-lengths : List Case
 literal-lengths =
-    refuses 8 ((sends "a LIST \"\" {1024}" ++ (times 1024 97 ++ crlf)) ∷ (sends "a LIST \"b\" {255}" ++ (times 255 97 ++ crlf)) ∷ [])
+    refuses 8 ((sends "a LIST \"\" {1024}" ++ (times 1024 97 ++ crlf)) ∷ (sends "a LIST \"b\" {255}" ++ (times 255 97 ++ crlf))
+    ∷ (text "a LIST \"" ++ (times 2030 97 ++ lines ("\" {1}" ∷ "a" ∷ []))) ∷ [])
     ∷ replies 16384 [] [] (sends "a LIST \"\" {255}" ++ (times 255 97 ++ crlf)) (answered (sends "a OK done"))
-    ∷ replies 16384 [] [] (sends "a LIST (A {1024}" ++ (times 1024 41 ++ (text "(" ++ (times 988 97 ++ sends ")) \"\" *")))) (refusal 4)
-    ∷ replies 16384 [] [] (sends "a LIST (A {1024}" ++ (times 1024 41 ++ (text "(" ++ (times 998 97 ++ sends ")) \"\" *")))) (refusal 3)
+    ∷ refuses 4 ((sends "a LIST (A {3}" ++ (times 3 41 ++ sends "(a)) \"\" *")) ∷ [])
+    ∷ refuses 3 ((text "a LIST \"" ++ (times 2031 97 ++ lines ("\" {1}" ∷ "a" ∷ []))) ∷ [])
     ∷ []
 
 -- the feeder: chunks cut anywhere, zero length too; a header in a literal is none

@@ -3,7 +3,8 @@
  * Every entry takes any bytes and any numbers, and its result and every byte of lent memory are decided by a promise that is proved
  * (crates/exports). What the caller owes:
  *
- * - Lent memory passes as a pointer and a length. The pointer is never null, at length 0 too: lend any object then.
+ * - Lent memory passes as a pointer and a length, which of records is their number. The pointer is never null, at length 0 too: lend
+ *   any object of its type then.
  * - What an entry writes (a pointer without const) overlaps nothing else that the same call is lent.
  * - The stack has room for the entry: see LUSPEMARO_STACK_ .. below. Nothing checks it.
  *
@@ -29,8 +30,14 @@
 extern "C" {
 #endif
 
-/* ---- The mailbox table: rows without a gap. A row is its flags (2 bytes, high byte first), the name's length (1 to 200), the name.
- * A row that does not exist has flags SUBSCRIBED alone; the bits without a name are 0. An empty table passes. */
+/* ---- The mailbox table: rows, each with flags and a name, ascending by name. A row that does not exist has flags SUBSCRIBED alone; the
+ * bits without a name are 0. An empty table passes. It is lent in one of two forms; rows that pass in both give the same answers.
+ *
+ * Records: a struct for each row, over one area of name bytes. The names lie inside the area, in any order and without overlap; bytes
+ * that are no name's may hold anything. The first count records are the rows; those after them are spare and not looked at.
+ *
+ * Packed, for the entries that say so: rows without a gap. A row is its flags (2 bytes, high byte first), the name's length (1 to 200),
+ * the name. */
 
 #define LUSPEMARO_FLAG_EXISTS 0x0001
 #define LUSPEMARO_FLAG_SUBSCRIBED 0x0002
@@ -48,10 +55,19 @@ extern "C" {
 #define LUSPEMARO_FLAG_TRASH 0x4000
 
 /* The most that passes. */
-#define LUSPEMARO_MAX_TABLE 32768 /* bytes of a table */
+#define LUSPEMARO_MAX_AREA 32768  /* bytes of an area of names */
+#define LUSPEMARO_MAX_TABLE 32768 /* bytes of a packed table */
 #define LUSPEMARO_MAX_ROWS 512
 #define LUSPEMARO_MAX_NAME 200  /* bytes of a name */
 #define LUSPEMARO_MAX_LEVELS 16 /* levels of a name, parted by "/" */
+
+/* A record of 6 bytes. flags: of LUSPEMARO_FLAG_ .. start: the place of the name's first byte in the area. len: the name's length, 1 to
+ * 200. The last byte belongs to no member and is not looked at. */
+struct luspemaro_record {
+    uint16_t flags;
+    uint16_t start;
+    uint8_t len;
+};
 
 /* ---- The namespace list: entries without a gap. An entry is its class, the prefix's length (0 to 64), the prefix, the delimiter (0
  * for NIL, or 21 to 7E). Classes do not descend. An empty list passes. */
@@ -106,7 +122,7 @@ extern "C" {
 
 #define LUSPEMARO_DONE 0 /* no refusal */
 
-#define LUSPEMARO_REFUSAL_TABLE 1                /* the mailbox table does not pass */
+#define LUSPEMARO_REFUSAL_TABLE 1                /* the mailbox table does not pass, or count is above the records lent */
 #define LUSPEMARO_REFUSAL_NAMESPACES 2           /* the namespace list does not pass */
 #define LUSPEMARO_REFUSAL_LINE_SHAPE 3           /* too long, no CR LF at its end, a byte that no line has, a literal cut short or too long */
 #define LUSPEMARO_REFUSAL_GRAMMAR 4              /* the tag, or the rest after a known word, is off the grammar */
@@ -121,12 +137,12 @@ extern "C" {
 #define LUSPEMARO_REFUSAL_BAD_FRAME 13           /* the program of frames alone: no entry gives it */
 
 /* ---- Rooms: lengths of lent memory with which 9, 10 and 11 are never given, whatever the table and the command. Less suffices for a
- * table of t bytes: an answer to a line of n bytes has at most 59 t + n + 1,666 bytes; scratch needs at most 42 t + 11, found t and
- * pending 15 t. These are counted from the rules and are no part of a promise. */
+ * table of t bytes, those of the names and 3 for each row: an answer to a line of n bytes has at most 59 t + n + 1,666 bytes; scratch
+ * needs at most 42 t + 11, found t and pending 15 t. These are counted from the rules and are no part of a promise. */
 
 #define LUSPEMARO_ROOM_ANSWER 1572864
 #define LUSPEMARO_ROOM_SCRATCH 147456
-#define LUSPEMARO_ROOM_FOUND 32768
+#define LUSPEMARO_ROOM_FOUND 33280
 #define LUSPEMARO_ROOM_PENDING 491520
 #define LUSPEMARO_ROOM_LIST_LINE 612 /* the longest LIST line */
 #define LUSPEMARO_ROOM_COMMAND 2048  /* the feeder asks for this much, and refuses less */
@@ -134,13 +150,16 @@ extern "C" {
 
 /* ---- Stacks: bytes below the call that each entry needs at most, with a margin. They are computed from the archive's machine code and
  * measured (host/c/test), not proved. An answer needs so much since values of options nest as deep as the line allows: a line of 2,048
- * bytes may open some 2,000 parentheses. */
+ * bytes may open some 2,000 parentheses. Records take 36 KiB more than a packed table: a mark for each byte of the area. */
 
+#define LUSPEMARO_STACK_CHECK_RECORDS 53248
 #define LUSPEMARO_STACK_CHECK_TABLE 16384
 #define LUSPEMARO_STACK_CHECK_NAMESPACES 12288
 #define LUSPEMARO_STACK_MATCHES 12288
-#define LUSPEMARO_STACK_ANSWER 282624
-#define LUSPEMARO_STACK_COLLECT 24576
+#define LUSPEMARO_STACK_ANSWER 323584
+#define LUSPEMARO_STACK_ANSWER_PACKED 286720
+#define LUSPEMARO_STACK_COLLECT 98304
+#define LUSPEMARO_STACK_COLLECT_PACKED 98304
 #define LUSPEMARO_STACK_WRITE_LINE 12288
 #define LUSPEMARO_STACK_READ_LINE 12288
 #define LUSPEMARO_STACK_FEED 12288
@@ -198,7 +217,11 @@ struct luspemaro_fed {
 
 /* ---- The entries. */
 
-/* Check 1: whether the table passes. */
+/* Check 1: whether the records pass. A count above records_length does not. */
+bool luspemaro_check_records(const struct luspemaro_record *records, size_t records_length, size_t count, const uint8_t *area,
+                             size_t area_length);
+
+/* Check 1 of the packed form: whether the table passes. */
 bool luspemaro_check_table(const uint8_t *table, size_t table_length);
 
 /* Check 2: whether the namespace list passes. */
@@ -209,17 +232,29 @@ bool luspemaro_matches(const uint8_t *pattern, size_t pattern_length, const uint
 
 /* The answer to one command line, its CR LF included, at the front of out. Refusals, in this order: 1, 2, 3, 4 for the tag, 5, 4 for the
  * rest, 6, 7, 8, 9. The bytes after the answer stay; a refusal changes no byte. */
-struct luspemaro_outcome luspemaro_answer(const uint8_t *table, size_t table_length, const uint8_t *namespaces,
+struct luspemaro_outcome luspemaro_answer(const struct luspemaro_record *records, size_t records_length, size_t count,
+                                          const uint8_t *area, size_t area_length, const uint8_t *namespaces,
                                           size_t namespaces_length, const uint8_t *line, size_t line_length, uint8_t *out,
                                           size_t out_length);
+
+/* luspemaro_answer over a packed table. */
+struct luspemaro_outcome luspemaro_answer_packed(const uint8_t *table, size_t table_length, const uint8_t *namespaces,
+                                                 size_t namespaces_length, const uint8_t *line, size_t line_length, uint8_t *out,
+                                                 size_t out_length);
 
 /* The collector's walk. option: the sum of LUSPEMARO_OPTION_ .. Finds lie at the front of found, length bytes of them, and the names
  * that were asked below at the front of pending, count - 1 of them; each as a length byte (1 to 200) and the name, in walk order. The
  * bytes after them, and all of scratch, are zero. Refusals: 1, 6, then in the walk's own order 9 (scratch), 10, 11; a refusal leaves
  * all three zero. */
-struct luspemaro_outcome luspemaro_collect(const uint8_t *table, size_t table_length, uint8_t option, uint8_t *scratch,
+struct luspemaro_outcome luspemaro_collect(const struct luspemaro_record *records, size_t records_length, size_t count,
+                                           const uint8_t *area, size_t area_length, uint8_t option, uint8_t *scratch,
                                            size_t scratch_length, uint8_t *found, size_t found_length, uint8_t *pending,
                                            size_t pending_length);
+
+/* luspemaro_collect over a packed table. */
+struct luspemaro_outcome luspemaro_collect_packed(const uint8_t *table, size_t table_length, uint8_t option, uint8_t *scratch,
+                                                  size_t scratch_length, uint8_t *found, size_t found_length, uint8_t *pending,
+                                                  size_t pending_length);
 
 /* The LIST line of these parts at the front of out: any attributes, a name of the table's shape, and criteria 0 to 3; or the root line,
  * for NOSELECT, an empty name and no criteria. Refusals, in this order: 12 for criteria above 3, 12 for other parts, 9. The bytes after

@@ -1,4 +1,4 @@
-/* Tests of luspemaro_answer. */
+/* Tests of luspemaro_answer and luspemaro_answer_packed. */
 #include "check.h"
 
 #include <stdio.h>
@@ -191,8 +191,12 @@ static void short_buffers(void)
 /* Nothing at all is lent. */
 static void nothing_lent(void)
 {
+    const struct luspemaro_record none = {0, 0, 0};
     uint8_t nothing = FILLER;
-    EXPECT(is_refusal(luspemaro_answer(&nothing, 0, &nothing, 0, &nothing, 0, &nothing, 0), LUSPEMARO_REFUSAL_LINE_SHAPE));
+    struct luspemaro_outcome r = luspemaro_answer(&none, 0, 0, &nothing, 0, &nothing, 0, &nothing, 0, &nothing, 0);
+    EXPECT(is_refusal(r, LUSPEMARO_REFUSAL_LINE_SHAPE));
+    r = luspemaro_answer_packed(&nothing, 0, &nothing, 0, &nothing, 0, &nothing, 0);
+    EXPECT(is_refusal(r, LUSPEMARO_REFUSAL_LINE_SHAPE));
     EXPECT(nothing == FILLER);
 }
 
@@ -205,7 +209,8 @@ static void room_of_an_answer(void)
     const struct rows *table = largest_table(LUSPEMARO_MAX_ROWS, LUSPEMARO_MAX_LEVELS, 0x7F03);
     memset(line, 't', sizeof line);
     memcpy(line + sizeof line - (sizeof rest - 1), rest, sizeof rest - 1);
-    EXPECT(table_passes(table) && table->length == LUSPEMARO_MAX_TABLE);
+    EXPECT(table_passes(table));
+    EXPECT(table->length == LUSPEMARO_MAX_TABLE + (form == RECORDS ? HEAD * LUSPEMARO_MAX_ROWS : 0));
     struct luspemaro_outcome r = answer_to(table, line, sizeof line, LUSPEMARO_ROOM_ANSWER);
     EXPECT(r.number == LUSPEMARO_DONE);
     EXPECT(LUSPEMARO_ROOM_ANSWER / 5 * 4 < r.length && r.length <= 59 * table->length + sizeof line + 1666);

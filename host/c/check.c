@@ -9,6 +9,8 @@
 /* The bytes before lent memory that are watched. */
 enum { FRONT = 64, PAGE = 4096 };
 
+enum form form;
+
 static bool test_holds;
 
 void expect(bool holds, const char *claim, const char *file, int line)
@@ -94,15 +96,15 @@ const struct rows NO_ROWS = {0, {0}};
 void add_row_of(struct rows *rows, unsigned flags, const uint8_t *name, size_t length)
 {
     uint8_t *row = rows->bytes + rows->length;
-    if (length > 255 || rows->length + 3 + length > sizeof rows->bytes) {
+    if (length > 255 || rows->length + HEAD + length > sizeof rows->bytes) {
         fprintf(stderr, "no room for a row\n");
         exit(2);
     }
     row[0] = (uint8_t)(flags >> 8);
     row[1] = (uint8_t)flags;
     row[2] = (uint8_t)length;
-    memcpy(row + 3, name, length);
-    rows->length += 3 + length;
+    memcpy(row + HEAD, name, length);
+    rows->length += HEAD + length;
 }
 
 void add_row(struct rows *rows, unsigned flags, const char *name)
@@ -126,7 +128,7 @@ const struct rows *largest_table(size_t count, size_t levels, unsigned flags)
 {
     static struct rows rows;
     uint8_t name[LUSPEMARO_MAX_NAME];
-    size_t length = LUSPEMARO_MAX_TABLE / count - 3;
+    size_t length = LUSPEMARO_MAX_TABLE / count - (form == PACKED ? HEAD : 0);
     if (length > sizeof name)
         length = sizeof name;
     size_t first = length - 2 * (levels - 1);
@@ -143,23 +145,85 @@ const struct rows *largest_table(size_t count, size_t levels, unsigned flags)
     return &rows;
 }
 
+/* ---- records */
+
+const struct luspemaro_record *lent_records(void)
+{
+    return (const struct luspemaro_record *)lent(RECORD);
+}
+
+/* Whether a whole row begins at this place. */
+static bool is_row(const struct rows *rows, size_t at)
+{
+    return rows->length - at >= HEAD && rows->length - at - HEAD >= rows->bytes[at + 2];
+}
+
+size_t lend_records(const struct rows *rows)
+{
+    size_t count = 0, names = 0, at = 0, row = 0;
+    for (; at < rows->length && is_row(rows, at); at += (size_t)HEAD + rows->bytes[at + 2]) {
+        names += rows->bytes[at + 2];
+        count++;
+    }
+    bool is_cut = at < rows->length;
+    struct luspemaro_record *records = (struct luspemaro_record *)lend(RECORD, (count + is_cut) * sizeof *records);
+    uint8_t *area = lend(NAMES, names);
+    size_t start = names;
+    for (at = 0; row < count; row++) {
+        const uint8_t *head = rows->bytes + at;
+        start -= head[2];
+        memcpy(area + start, head + HEAD, head[2]);
+        records[row].flags = (uint16_t)(head[0] << 8 | head[1]);
+        records[row].start = (uint16_t)start;
+        records[row].len = head[2];
+        at += (size_t)HEAD + head[2];
+    }
+    if (is_cut) {
+        records[count].flags = LUSPEMARO_FLAG_EXISTS;
+        records[count].start = (uint16_t)names;
+        records[count].len = 1;
+    }
+    return count + is_cut;
+}
+
 /* ---- calls */
+
+static const uint8_t *lend_packed(const struct rows *rows)
+{
+    return lend_bytes(TABLE, rows->bytes, rows->length);
+}
 
 bool table_passes(const struct rows *rows)
 {
-    return luspemaro_check_table(lend_bytes(TABLE, rows->bytes, rows->length), rows->length);
+    if (form == PACKED)
+        return luspemaro_check_table(lend_packed(rows), rows->length);
+    size_t count = lend_records(rows);
+    return luspemaro_check_records(lent_records(), count, count, lent(NAMES), lent_length(NAMES));
 }
 
 struct luspemaro_outcome answer_to(const struct rows *rows, const void *line, size_t line_length, size_t room)
 {
-    return luspemaro_answer(lend_bytes(TABLE, rows->bytes, rows->length), rows->length, lent(NAMESPACES), lent_length(NAMESPACES),
-                            lend_bytes(LINE, line, line_length), line_length, lend(OUT, room), room);
+    lend_bytes(LINE, line, line_length);
+    lend(OUT, room);
+    if (form == PACKED)
+        return luspemaro_answer_packed(lend_packed(rows), rows->length, lent(NAMESPACES), lent_length(NAMESPACES), lent(LINE),
+                                       line_length, lent(OUT), room);
+    size_t count = lend_records(rows);
+    return luspemaro_answer(lent_records(), count, count, lent(NAMES), lent_length(NAMES), lent(NAMESPACES), lent_length(NAMESPACES),
+                            lent(LINE), line_length, lent(OUT), room);
 }
 
 struct luspemaro_outcome walk(const struct rows *rows, unsigned option, size_t scratch, size_t found, size_t pending)
 {
-    return luspemaro_collect(lend_bytes(TABLE, rows->bytes, rows->length), rows->length, (uint8_t)option, lend(SCRATCH, scratch),
-                             scratch, lend(FOUND, found), found, lend(PENDING, pending), pending);
+    lend(SCRATCH, scratch);
+    lend(FOUND, found);
+    lend(PENDING, pending);
+    if (form == PACKED)
+        return luspemaro_collect_packed(lend_packed(rows), rows->length, (uint8_t)option, lent(SCRATCH), scratch, lent(FOUND), found,
+                                        lent(PENDING), pending);
+    size_t count = lend_records(rows);
+    return luspemaro_collect(lent_records(), count, count, lent(NAMES), lent_length(NAMES), (uint8_t)option, lent(SCRATCH), scratch,
+                             lent(FOUND), found, lent(PENDING), pending);
 }
 
 bool is_refusal(struct luspemaro_outcome outcome, unsigned number)
@@ -169,23 +233,36 @@ bool is_refusal(struct luspemaro_outcome outcome, unsigned number)
 
 /* ---- the tests */
 
+static unsigned passed, failed;
+
+static void run(const struct test *test, const char *note)
+{
+    for (; test->name != NULL; test++) {
+        for (int area = 0; area < AREAS; area++)
+            lend((enum area)area, 0);
+        test_holds = true;
+        test->run();
+        if (test_holds) {
+            passed++;
+        } else {
+            failed++;
+            printf("failed: %s%s\n", test->name, note);
+        }
+    }
+}
+
 int main(void)
 {
-    static const struct test *const groups[] = {check_tests, answer_tests, walk_tests, line_tests, feeder_tests};
-    unsigned passed = 0, failed = 0;
-    for (size_t group = 0; group < sizeof groups / sizeof groups[0]; group++)
-        for (const struct test *test = groups[group]; test->name != NULL; test++) {
-            for (int area = 0; area < AREAS; area++)
-                lend((enum area)area, 0);
-            test_holds = true;
-            test->run();
-            if (test_holds) {
-                passed++;
-            } else {
-                failed++;
-                printf("failed: %s\n", test->name);
-            }
-        }
+    static const struct test *const of_tables[] = {table_tests, answer_tests, walk_tests};
+    static const struct test *const others[] = {record_tests, check_tests, line_tests, feeder_tests};
+    for (size_t group = 0; group < sizeof of_tables / sizeof of_tables[0]; group++) {
+        form = PACKED;
+        run(of_tables[group], ", packed");
+        form = RECORDS;
+        run(of_tables[group], ", records");
+    }
+    for (size_t group = 0; group < sizeof others / sizeof others[0]; group++)
+        run(others[group], "");
     printf("%u passed, %u failed\n", passed, failed);
     return failed == 0 ? EXIT_SUCCESS : EXIT_FAILURE;
 }

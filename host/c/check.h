@@ -15,13 +15,17 @@ struct test {
     void (*run)(void);
 };
 
-/* The tests of one file, up to a row without a name. */
-extern const struct test check_tests[], answer_tests[], walk_tests[], line_tests[], feeder_tests[];
+/* The tests of one topic, up to a row without a name. Those of tables, answers and walks run once for each form of a table. */
+extern const struct test table_tests[], answer_tests[], walk_tests[], record_tests[], check_tests[], line_tests[], feeder_tests[];
+
+/* The form in which `struct rows` are lent. */
+enum form { PACKED, RECORDS };
+extern enum form form;
 
 /* Memory to lend, filled with FILLER. An access past its end stops the program: a page that no one may touch begins there. One area
  * lends one run at a time, of at most AREA_ROOM bytes. */
 enum { FILLER = 0xA5, AREA_ROOM = 1 << 21 };
-enum area { TABLE, NAMESPACES, LINE, OUT, SCRATCH, FOUND, PENDING, AREAS };
+enum area { TABLE, RECORD, NAMES, NAMESPACES, LINE, OUT, SCRATCH, FOUND, PENDING, AREAS };
 uint8_t *lend(enum area area, size_t length);
 
 /* Lent memory with these bytes. */
@@ -36,10 +40,11 @@ bool untouched(enum area area);
 /* Whether the bytes before the lent memory have not changed. */
 bool front_untouched(enum area area);
 
-/* A mailbox table in the making. */
+/* A mailbox table in the making, in the packed form. */
+enum { HEAD = 3 };
 struct rows {
     size_t length;
-    uint8_t bytes[LUSPEMARO_MAX_TABLE + 512];
+    uint8_t bytes[LUSPEMARO_MAX_TABLE + (HEAD + 1) * LUSPEMARO_MAX_ROWS];
 };
 void add_row_of(struct rows *rows, unsigned flags, const uint8_t *name, size_t length);
 void add_row(struct rows *rows, unsigned flags, const char *name);
@@ -49,12 +54,17 @@ extern const struct rows NO_ROWS;
 /* Document 01's table E: Foo-x, Foo/Bar, Foo/Baz, INBOX, Moo. */
 const struct rows *table_e(void);
 
-/* A table that is as large as it may be: so many rows, with names as long as may be, whose first levels all differ and take what the
- * other levels, of one byte each, leave. A quote and a backslash take two bytes in a line: the last level is a backslash, the others
- * between are quotes, and the first has both. */
+/* A table that is as large as it may be in its form: so many rows, with names as long as may be, whose first levels all differ and
+ * take what the other levels, of one byte each, leave. A quote and a backslash take two bytes in a line: the last level is a backslash,
+ * the others between are quotes, and the first has both. */
 const struct rows *largest_table(size_t count, size_t levels, unsigned flags);
 
-/* Calls over lent memory, which ends at its last byte. */
+/* Lends the rows as records over an area in which the names lie in the other order, and gives the number of records. What is left of a
+ * row that is cut short is a record whose name ends past the area. */
+size_t lend_records(const struct rows *rows);
+const struct luspemaro_record *lent_records(void);
+
+/* Calls over lent memory, which ends at its last byte, in the form that is set. */
 bool table_passes(const struct rows *rows);
 struct luspemaro_outcome answer_to(const struct rows *rows, const void *line, size_t line_length, size_t room);
 struct luspemaro_outcome walk(const struct rows *rows, unsigned option, size_t scratch, size_t found, size_t pending);

@@ -1,4 +1,4 @@
-/* Tests of luspemaro_check_table, luspemaro_check_namespaces and luspemaro_matches. */
+/* Tests of check 1 in both forms of a table, luspemaro_check_namespaces and luspemaro_matches. */
 #include "check.h"
 
 /* ---- check 1 */
@@ -21,8 +21,8 @@ static bool passes(const struct row *row)
 
 static void empty_table(void)
 {
-    EXPECT(luspemaro_check_table(lend(TABLE, 0), 0));
-    EXPECT(untouched(TABLE));
+    EXPECT(table_passes(&NO_ROWS));
+    EXPECT(untouched(TABLE) && untouched(RECORD) && untouched(NAMES));
 }
 
 static void table_e_passes(void)
@@ -38,7 +38,7 @@ static void table_cut_short(void)
     for (size_t length = 0; length <= whole; length++) {
         bool at_end = length == end;
         if (at_end && end < whole)
-            end += 3u + rows.bytes[end + 2];
+            end += (size_t)HEAD + rows.bytes[end + 2];
         rows.length = length;
         EXPECT(table_passes(&rows) == at_end);
     }
@@ -134,8 +134,15 @@ static void limits_of_a_table(void)
     EXPECT(!passes_with(0, 0, 255));
     EXPECT(passes_with(LUSPEMARO_MAX_ROWS, 2, 0));
     EXPECT(!passes_with(LUSPEMARO_MAX_ROWS, 2, 1));
+}
+
+/* The bytes before a name count for a packed table, and not for the area of records. */
+static void bytes_of_a_table(void)
+{
     EXPECT(passes_with(161, 200, 82) && rows.length == LUSPEMARO_MAX_TABLE);
-    EXPECT(!passes_with(161, 200, 83) && rows.length == LUSPEMARO_MAX_TABLE + 1);
+    EXPECT(passes_with(161, 200, 83) == (form == RECORDS) && rows.length == LUSPEMARO_MAX_TABLE + 1);
+    EXPECT(passes_with(163, 200, 168) == (form == RECORDS) && rows.length == LUSPEMARO_MAX_AREA + 164 * HEAD);
+    EXPECT(!passes_with(163, 200, 169));
 }
 
 /* ---- check 2 */
@@ -247,14 +254,19 @@ static void every_byte_of_a_match(void)
         }
 }
 
+const struct test table_tests[] = {
+    {"check 1: an empty table", empty_table},
+    {"check 1: table E", table_e_passes},
+    {"check 1: a table cut short", table_cut_short},
+    {"check 1: every flags", every_flags},
+    {"check 1: every byte as a name", every_name_byte},
+    {"check 1: names", names_of_a_table},
+    {"check 1: limits", limits_of_a_table},
+    {"check 1: bytes", bytes_of_a_table},
+    {NULL, NULL},
+};
+
 const struct test check_tests[] = {
-    {"check_table: an empty table", empty_table},
-    {"check_table: table E", table_e_passes},
-    {"check_table: a table cut short", table_cut_short},
-    {"check_table: every flags", every_flags},
-    {"check_table: every byte as a name", every_name_byte},
-    {"check_table: names", names_of_a_table},
-    {"check_table: limits", limits_of_a_table},
     {"check_namespaces: lists", namespace_lists},
     {"check_namespaces: limits", limits_of_a_list},
     {"matches: patterns and names", patterns},

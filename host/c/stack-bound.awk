@@ -3,7 +3,8 @@
 #
 # A function needs what it pushes and takes from rsp, every such place of it counted once, and for each call a return address and what
 # the callee needs. Only `-v recursive=NAME` may call itself, at most `-v levels=N` times within itself. A call of the C library counts
-# as nothing: its need is the platform's. Where the code moves rsp in another way, or another call is indirect or recursive, no bound is
+# as nothing: its need is the platform's. A large frame is taken page by page: r11 is set to where rsp is to go, and a loop takes a page at
+# a time until rsp is there; such a frame counts by what r11 is moved. Where the code moves rsp in another way, or another call is indirect or recursive, no bound is
 # known, and the exit status is 1.
 
 function wrong(what) { print "stack-bound: " what > "/dev/stderr"; failed = 1 }
@@ -15,6 +16,10 @@ function wrong(what) { print "stack-bound: " what > "/dev/stderr"; failed = 1 }
     next
 }
 $2 == "push" { frame[name] += 8 }
+$2 == "mov" && $3 == "r11,rsp" { paging = 1; next }
+paging && $2 == "sub" && $3 ~ /^r11,0x[0-9a-f]+$/ { frame[name] += hex(substr($3, 7)); next }
+paging && $2 == "sub" && $3 == "rsp,0x1000" { next }
+paging && $2 == "cmp" && $3 == "rsp,r11" { paging = 0; next }
 $2 == "sub" && $3 ~ /^rsp,0x[0-9a-f]+$/ { frame[name] += hex(substr($3, 7)); next }
 $2 == "add" && $3 ~ /^rsp,/ { next }
 $2 == "call" && $3 !~ /^[0-9a-f]+$/ { wrong(name ": indirect call") }

@@ -90,24 +90,38 @@ static bool dies_on(size_t size, void (*call)(void))
 
 /* ---- the inputs */
 
-static uint8_t table[LUSPEMARO_MAX_TABLE], namespaces[LUSPEMARO_MAX_NAMESPACES], line[LUSPEMARO_MAX_COMMAND];
+static uint8_t table[LUSPEMARO_MAX_TABLE], area[LUSPEMARO_MAX_AREA], namespaces[LUSPEMARO_MAX_NAMESPACES], line[LUSPEMARO_MAX_COMMAND];
+static struct luspemaro_record records[LUSPEMARO_MAX_ROWS];
 static size_t table_length, namespaces_length, line_length;
 static uint8_t out[LUSPEMARO_ROOM_ANSWER], scratch[LUSPEMARO_ROOM_SCRATCH], found[LUSPEMARO_ROOM_FOUND],
     pending[LUSPEMARO_ROOM_PENDING], command[LUSPEMARO_ROOM_COMMAND];
 
-/* A full table: 512 rows of 61 bytes in 16 levels, all existing, subscribed and with a use. */
-static void fill_table(void)
+/* Tables in both forms that are as full as may be: 512 rows in 16 levels, all existing, subscribed and with a use. The names have all
+ * the bytes there are: 61 each in the packed form, 64 each in the area, where they lie in the other order. */
+enum { FLAGS = 0x0100 | LUSPEMARO_FLAG_EXISTS | LUSPEMARO_FLAG_SUBSCRIBED, PACKED_NAME = 61, NAME = 64 };
+
+static void fill_name(uint8_t *at, unsigned row, unsigned length)
+{
+    memset(at, '"', length);
+    for (unsigned level = 1; level < LUSPEMARO_MAX_LEVELS; level++)
+        at[length - 2 * level] = '/';
+    for (unsigned bit = 0; bit < 9; bit++)
+        at[bit] = (row >> (8 - bit) & 1) != 0 ? '\\' : '"';
+}
+
+static void fill_tables(void)
 {
     for (unsigned row = 0; row < LUSPEMARO_MAX_ROWS; row++) {
         uint8_t *at = table + 64 * row;
-        at[0] = 0x01;
-        at[1] = LUSPEMARO_FLAG_EXISTS | LUSPEMARO_FLAG_SUBSCRIBED;
-        at[2] = 61;
-        memset(at + 3, '"', 61);
-        for (unsigned level = 1; level < LUSPEMARO_MAX_LEVELS; level++)
-            at[64 - 2 * level] = '/';
-        for (unsigned bit = 0; bit < 9; bit++)
-            at[3 + bit] = (row >> (8 - bit) & 1) != 0 ? '\\' : '"';
+        at[0] = FLAGS >> 8;
+        at[1] = FLAGS & 0xFF;
+        at[2] = PACKED_NAME;
+        fill_name(at + 3, row, PACKED_NAME);
+        unsigned start = NAME * (LUSPEMARO_MAX_ROWS - 1 - row);
+        records[row].flags = FLAGS;
+        records[row].start = (uint16_t)start;
+        records[row].len = NAME;
+        fill_name(area + start, row, NAME);
     }
     table_length = sizeof table;
 }
@@ -159,6 +173,11 @@ static bool truth;
 static size_t place;
 static uint8_t option;
 
+static void call_check_records(void)
+{
+    truth = luspemaro_check_records(records, LUSPEMARO_MAX_ROWS, LUSPEMARO_MAX_ROWS, area, sizeof area);
+}
+
 static void call_check_table(void)
 {
     truth = luspemaro_check_table(table, table_length);
@@ -171,22 +190,35 @@ static void call_check_namespaces(void)
 
 static void call_matches(void)
 {
-    truth = luspemaro_matches(line, line_length, table + 3, 61);
+    truth = luspemaro_matches(line, line_length, area, NAME);
 }
 
 static void call_answer(void)
 {
-    outcome = luspemaro_answer(table, table_length, namespaces, namespaces_length, line, line_length, out, sizeof out);
+    outcome = luspemaro_answer(records, LUSPEMARO_MAX_ROWS, LUSPEMARO_MAX_ROWS, area, sizeof area, namespaces, namespaces_length, line,
+                               line_length, out, sizeof out);
+}
+
+static void call_answer_packed(void)
+{
+    outcome = luspemaro_answer_packed(table, table_length, namespaces, namespaces_length, line, line_length, out, sizeof out);
 }
 
 static void call_collect(void)
 {
-    outcome = luspemaro_collect(table, table_length, option, scratch, sizeof scratch, found, sizeof found, pending, sizeof pending);
+    outcome = luspemaro_collect(records, LUSPEMARO_MAX_ROWS, LUSPEMARO_MAX_ROWS, area, sizeof area, option, scratch, sizeof scratch,
+                                found, sizeof found, pending, sizeof pending);
+}
+
+static void call_collect_packed(void)
+{
+    outcome = luspemaro_collect_packed(table, table_length, option, scratch, sizeof scratch, found, sizeof found, pending,
+                                       sizeof pending);
 }
 
 static void call_write_line(void)
 {
-    outcome = luspemaro_write_line(0xFFFF, table + 3, 61, 3, out, sizeof out);
+    outcome = luspemaro_write_line(0xFFFF, area, NAME, 3, out, sizeof out);
 }
 
 static void call_read_line(void)
@@ -221,43 +253,49 @@ static void measure(const char *entry, const char *input, size_t stated, void (*
     printf("%s, %s: %zu of %zu bytes\n", entry, input, need, stated);
 }
 
-static void measure_answer(const char *input, unsigned number)
+/* An entry over a table in one of its forms. */
+struct entry {
+    const char *name;
+    size_t stated;
+    void (*call)(void);
+};
+
+static void measure_outcome(const struct entry *entry, const char *input, unsigned number)
 {
-    measure("answer", input, LUSPEMARO_STACK_ANSWER, call_answer);
-    claim(outcome.number == number, "answer", input);
+    measure(entry->name, input, entry->stated, entry->call);
+    claim(outcome.number == number, entry->name, input);
 }
 
-static void measure_answers(void)
+static void measure_answers(const struct entry *entry)
 {
     set_long_line("a LIST (X (", '(', "\r\n");
-    measure_answer("the deepest value, never closed", LUSPEMARO_REFUSAL_GRAMMAR);
-    claim(dies_on(LUSPEMARO_STACK_ANSWER / 2 / PAGE * PAGE, call_answer), "answer", "half of the stated stack, which must not do");
+    measure_outcome(entry, "the deepest value, never closed", LUSPEMARO_REFUSAL_GRAMMAR);
+    claim(dies_on(entry->stated / 2 / PAGE * PAGE, entry->call), entry->name, "half of the stated stack, which must not do");
     set_long_line("a LIST \"\" * RETURN (X (", '(', "\r\n");
-    measure_answer("the deepest value after RETURN, never closed", LUSPEMARO_REFUSAL_GRAMMAR);
+    measure_outcome(entry, "the deepest value after RETURN, never closed", LUSPEMARO_REFUSAL_GRAMMAR);
     set_long_line("a LIST (X (", '(', "{0}\r\n)\r\n");
-    measure_answer("the deepest value with a literal", LUSPEMARO_REFUSAL_GRAMMAR);
+    measure_outcome(entry, "the deepest value with a literal", LUSPEMARO_REFUSAL_GRAMMAR);
     set_closed_line(1014);
-    measure_answer("the deepest value, closed", LUSPEMARO_REFUSAL_OPTION);
+    measure_outcome(entry, "the deepest value, closed", LUSPEMARO_REFUSAL_OPTION);
     set_long_line("a LIST (SUBSCRIBED RECURSIVEMATCH) \"\" (% %/*%*/%", '%', ") RETURN (CHILDREN)\r\n");
-    measure_answer("the longest pattern", LUSPEMARO_REFUSAL_PATTERNS);
+    measure_outcome(entry, "the longest pattern", LUSPEMARO_REFUSAL_PATTERNS);
     set_line("a LIST (SUBSCRIBED RECURSIVEMATCH SPECIAL-USE REMOTE) \"\" (% %/% *%*%*%x a b c d *) RETURN (CHILDREN SUBSCRIBED)\r\n");
-    measure_answer("eight patterns over a full table", LUSPEMARO_DONE);
+    measure_outcome(entry, "eight patterns over a full table", LUSPEMARO_DONE);
     set_line("a LIST \"\" *% RETURN (CHILDREN SUBSCRIBED SPECIAL-USE)\r\n");
-    measure_answer("every level of a full table", LUSPEMARO_DONE);
+    measure_outcome(entry, "every level of a full table", LUSPEMARO_DONE);
     set_line("a LIST \"\" \"\"\r\n");
-    measure_answer("the root line", LUSPEMARO_DONE);
+    measure_outcome(entry, "the root line", LUSPEMARO_DONE);
     set_line("a NAMESPACE\r\n");
-    measure_answer("a full namespace list", LUSPEMARO_DONE);
+    measure_outcome(entry, "a full namespace list", LUSPEMARO_DONE);
 }
 
-static void measure_walks(void)
+static void measure_walks(const struct entry *entry)
 {
     option = 3;
-    measure("collect", "a full table", LUSPEMARO_STACK_COLLECT, call_collect);
-    claim(outcome.number == LUSPEMARO_DONE && outcome.count == 1 + 512 * 15, "collect", "a full table");
+    measure_outcome(entry, "a full table", LUSPEMARO_DONE);
+    claim(outcome.count == 1 + 512 * 15, entry->name, "the commands of a full table");
     option = 8;
-    measure("collect", "an option byte that is not lawful", LUSPEMARO_STACK_COLLECT, call_collect);
-    claim(outcome.number == LUSPEMARO_REFUSAL_OPTION, "collect", "an option byte that is not lawful");
+    measure_outcome(entry, "an option byte that is not lawful", LUSPEMARO_REFUSAL_OPTION);
 }
 
 static void measure_lines(void)
@@ -266,7 +304,7 @@ static void measure_lines(void)
     claim(outcome.number == LUSPEMARO_DONE, "write_line", "every attribute");
     line_length = outcome.length;
     measure("read_line", "every attribute", LUSPEMARO_STACK_READ_LINE, call_read_line);
-    claim(parts.number == LUSPEMARO_DONE && parts.length == 61, "read_line", "every attribute");
+    claim(parts.number == LUSPEMARO_DONE && parts.length == NAME, "read_line", "every attribute");
     line_length = 0;
     measure("read_line", "nothing", LUSPEMARO_STACK_READ_LINE, call_read_line);
     claim(parts.number == LUSPEMARO_REFUSAL_NOT_SUCH_LINE, "read_line", "nothing");
@@ -274,6 +312,8 @@ static void measure_lines(void)
 
 static void measure_others(void)
 {
+    measure("check_records", "full records", LUSPEMARO_STACK_CHECK_RECORDS, call_check_records);
+    claim(truth, "check_records", "full records");
     measure("check_table", "a full table", LUSPEMARO_STACK_CHECK_TABLE, call_check_table);
     claim(truth, "check_table", "a full table");
     measure("check_namespaces", "a full list", LUSPEMARO_STACK_CHECK_NAMESPACES, call_check_namespaces);
@@ -293,11 +333,21 @@ static void measure_others(void)
 
 int main(void)
 {
-    fill_table();
+    static const struct entry answers[] = {
+        {"answer", LUSPEMARO_STACK_ANSWER, call_answer},
+        {"answer_packed", LUSPEMARO_STACK_ANSWER_PACKED, call_answer_packed},
+    };
+    static const struct entry walks[] = {
+        {"collect", LUSPEMARO_STACK_COLLECT, call_collect},
+        {"collect_packed", LUSPEMARO_STACK_COLLECT_PACKED, call_collect_packed},
+    };
+    fill_tables();
     fill_namespaces();
     frames = run_on(4 * PAGE, call_nothing);
-    measure_answers();
-    measure_walks();
+    for (size_t form = 0; form < 2; form++) {
+        measure_answers(&answers[form]);
+        measure_walks(&walks[form]);
+    }
     measure_lines();
     measure_others();
     printf("%u passed, %u failed\n", passed, failed);

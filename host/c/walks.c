@@ -1,4 +1,4 @@
-/* Tests of luspemaro_collect. */
+/* Tests of luspemaro_collect and luspemaro_collect_packed. */
 #include "check.h"
 
 enum { ROOM = 2000 };
@@ -117,7 +117,8 @@ static void rooms_of_a_walk(void)
     size_t scratch = LUSPEMARO_ROOM_SCRATCH / 5 * 4;
     EXPECT(is_refusal(walk(table, 3, scratch, LUSPEMARO_ROOM_FOUND, 0), LUSPEMARO_REFUSAL_SHORT_BUFFER));
     r = walk(table, 3, LUSPEMARO_ROOM_SCRATCH, LUSPEMARO_ROOM_FOUND, 0);
-    EXPECT(r.number == LUSPEMARO_DONE && r.count == 1 && r.length == LUSPEMARO_MAX_ROWS * 62);
+    EXPECT(r.number == LUSPEMARO_DONE && r.count == 1 && r.length == table->length - 2 * LUSPEMARO_MAX_ROWS);
+    EXPECT(r.length == (form == RECORDS ? LUSPEMARO_ROOM_FOUND : LUSPEMARO_MAX_ROWS * 62));
 }
 
 const struct test walk_tests[] = {

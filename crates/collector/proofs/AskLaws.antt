@@ -7,6 +7,7 @@ use native.Mathlib.Omega.{arith}
 use lib.Dec.{eqb}
 use lib.ListN.{length, take, drop, replicate, length-append, length-replicate}
 use lib.Seq.{take-at}
+use Rattle.listing_rules.specs.Table.{Table}
 use Rattle.listing_rules.specs.Bytes.{text, crlf, quote}
 use Rattle.listing_rules.proofs.Keys.{openBytes}
 use Rattle.listing_rules.specs.Lines.{escaped, quoted}
@@ -96,10 +97,10 @@ pub command-fits : (o : ℕ) (reference : List ℕ) → length reference ≤ ref
 command-fits o reference h = omega (arith, command-length o reference)
 
 -- the server's reply to a line, by the code's answer
-abbrev pub reply : List ℕ → List ℕ → List ℕ → Step (List ℕ)
+abbrev pub reply : Table → List ℕ → List ℕ → Step (List ℕ)
 reply table l scratch = replied (limited (length scratch) (answer table [] l))
 
-module _ (table l scratch : List ℕ) where
+module _ (table : Table) (l scratch : List ℕ) where
   server-refused : {r : Written} (k : ℕ) → r ≡ writtenIs (served table [] l scratch) → r ≡ Refused k → reply table l scratch ≡ stop k
   unfolding served writtenIs replied
   server-refused k a e = pick (served table [] l scratch) (sym a ∙ e)
@@ -119,7 +120,7 @@ module _ (table l scratch : List ℕ) where
           (omega (arith, ap length f, length-append a (drop (length a) scratch)), ap go (sym (ap (take len) f ∙ take-at a (drop (length a) scratch) len y)))
 
 -- one command, by its line at the front of a buffer
-module _ (table : List ℕ) (w : WalkOptions) (reference scratch : List ℕ) {line : List ℕ} {n : ℕ} (F : Fronts line n (commandLine (byteOf w) reference)) where
+module _ (table : Table) (w : WalkOptions) (reference scratch : List ℕ) {line : List ℕ} {n : ℕ} (F : Fronts line n (commandLine (byteOf w) reference)) where
   asks-as : (found pending : List ℕ) (s : Lists) (x : Step (List ℕ)) → reply table (take n line) scratch ≡ x → commandStep table w reference scratch found pending s ≡ (x >>= λ a. answerStep w a found pending s)
   unfolding asked
   asks-as found pending s x e = ap (λ (y : Step (List ℕ)). y >>= λ a. answerStep w a found pending s) (ap (λ (l : List ℕ). reply table l scratch) (sym (F .bytes)) ∙ e)

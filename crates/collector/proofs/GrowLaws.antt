@@ -6,6 +6,7 @@ use Prim.Native.Nat.{ℕ}
 use native.Mathlib.Omega.{arith}
 use lib.Dec.{leb}
 use lib.ListN.{length}
+use Rattle.listing_rules.specs.Table.{Table}
 use Rattle.listing_rules.specs.Options.{isNone}
 use Rattle.listing_rules.specs.Reader.{Read, line, root, bad, readLine}
 use Rattle.listing_rules.specs.Walk.{Lists, Step, stop, go, _>>=_, linesOf, packed, withName, fits, takenIn, takenAll, asked}
@@ -57,6 +58,6 @@ module _ (o found pending : ℕ) where
   lines-grow (l ∷ ls) s u e =
       let w = bind-went _ _ u e in grows-on s (w .0) u (line-grows s (w .0) (readLine l) (w .1)) (lines-grow ls (w .0) u (w .2))
 
-  pub asked-grows : (table : List ℕ) (scratch : ℕ) (s u : Lists) (reference : List ℕ) → asked table o scratch found pending s reference ≡ go u → Grows s u
+  pub asked-grows : (table : Table) (scratch : ℕ) (s u : Lists) (reference : List ℕ) → asked table o scratch found pending s reference ≡ go u → Grows s u
   unfolding asked
   asked-grows table scratch s u reference e = let w = bind-went _ _ u e in lines-grow (linesOf (w .0)) s u (w .2)

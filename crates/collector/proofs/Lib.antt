@@ -8,5 +8,6 @@ mod AnswerLaws
 mod AskLaws
 mod GrowLaws
 mod QueueLaws
+mod HeldLaws
 mod WalkLaws
 pub mod WholeLaws

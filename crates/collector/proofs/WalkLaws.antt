@@ -8,7 +8,7 @@ use native.Mathlib.Omega.{arith}
 use lib.ListN.{length, take, drop, getD, replicate, length-append}
 use lib.Seq.{take-append-le}
 use Rattle.listing_rules.specs.Bytes.{slash}
-use Rattle.listing_rules.specs.Table.{rows, passes}
+use Rattle.listing_rules.specs.Table.{Table, rows, passes}
 use Rattle.listing_rules.specs.Listing.{candidates}
 use Rattle.listing_rules.specs.Walk.{Lists, Step, stop, go, _>>=_, packed, asked, walkFrom, walkAll, WalkReply, walkRefused, walked, ended, walk, collected}
 use Rattle.listing_rules.proofs.WalkFuel.{walk-fuel}
@@ -25,7 +25,7 @@ use Rattle.collector.proofs.QueueLaws.{NextName, queue-end, queue-next,
 use Rattle.collector.proofs.GrowLaws.{asked-grows}
 
 -- the bound on the steps that `walk` gives
-abbrev stepsOf : List ℕ → ℕ
+abbrev stepsOf : Table → ℕ
 stepsOf table = suc (suc (length (candidates (rows table))))
 
 -- nothing is found, and no command was sent
@@ -36,18 +36,18 @@ abbrev pub noProgress : Progress
 noProgress = record { count = 0; found = 0; pending = 0 }
 
 -- the walk of a table that passes, with any bound on the steps that is large enough
-walks : (table : List ℕ) (w : WalkOptions) (scratch found pending k : ℕ) → passes table ≡ true → stepsOf table ≤ k → walk table (byteOf w) scratch found pending ≡ ended (walkAll table (byteOf w) scratch found pending k)
+walks : (table : Table) (w : WalkOptions) (scratch found pending k : ℕ) → passes table ≡ true → stepsOf table ≤ k → walk table (byteOf w) scratch found pending ≡ ended (walkAll table (byteOf w) scratch found pending k)
 unfolding walk
 walks table w scratch found pending k ok h =
     rw (ok, byte-lawful w) (ap ended (sym (walk-fuel table (byteOf w) scratch found pending k (ok, byte-lawful w) h)))
 
 -- one collection goes by the lengths of the buffers
-pub collected-long : (table : List ℕ) (o : ℕ) (s d b s′ d′ b′ : List ℕ) → length s′ ≡ length s → length d′ ≡ length d → length b′ ≡ length b → collected table o s′ d′ b′ ≡ collected table o s d b
+pub collected-long : (table : Table) (o : ℕ) (s d b s′ d′ b′ : List ℕ) → length s′ ≡ length s → length d′ ≡ length d → length b′ ≡ length b → collected table o s′ d′ b′ ≡ collected table o s d b
 unfolding collected
 collected-long table o s d b s′ d′ b′ l₀ l₁ l₂ = λ i. walk table o (l₀ i) (l₁ i) (l₂ i)
 
 -- The first command. The table passes, and found and pending are zero.
-module _ (table : List ℕ) (w : WalkOptions) (s : List ℕ) {d b : List ℕ} (ok : passes table ≡ true) (zd : d ≡ replicate (length d) 0) (zb : b ≡ replicate (length b) 0) where
+module _ (table : Table) (w : WalkOptions) (s : List ℕ) {d b : List ℕ} (ok : passes table ≡ true) (zd : d ≡ replicate (length d) 0) (zb : b ≡ replicate (length b) 0) where
   holds-none : Holds noLists d b noProgress
   holds-none = record { finds = packs-none d zd; asks = packs-none b zb }
 
@@ -83,7 +83,7 @@ module _ (table : List ℕ) (w : WalkOptions) (s : List ℕ) {d b : List ℕ} (o
       })
 
 -- Between two commands.
-module _ {table : List ℕ} {w : WalkOptions} {scratch found pending : ℕ} {s d b : List ℕ} {p : Progress} {at : ℕ} (W : Walking table w scratch found pending s d b p at) where
+module _ {table : Table} {w : WalkOptions} {scratch found pending : ℕ} {s d b : List ℕ} {p : Progress} {at : ℕ} (W : Walking table w scratch found pending s d b p at) where
   -- one step is left at least
   left-as : {x : WalkReply} → ended (walkFrom table (byteOf w) scratch found pending (suc (W .fuel - 1)) (W .done) (W .lists)) ≡ x → x ≡ walk table (byteOf w) scratch found pending
   left-as e =

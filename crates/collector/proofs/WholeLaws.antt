@@ -7,7 +7,7 @@ use Prim.Native.Nat.{ℕ, _+_}
 use native.Mathlib.Omega.{arith}
 use lib.ListN.{length, replicate}
 use Rattle.listing_rules.specs.Bytes.{oneOf}
-use Rattle.listing_rules.specs.Table.{rows, passes}
+use Rattle.listing_rules.specs.Table.{Table, rows, passes}
 use Rattle.listing_rules.specs.Walk.{lawfulByte, WalkReply, walkRefused, walked, walk, walkNumber, walkCount, foundLength, packed, zeroBehind, foundAfter, pendingAfter, scratchAfter, collected}
 use Rattle.listing_rules.specs.Demand3.{Demand3, meetingNames, meetingAncestors, tooSmall}
 use Rattle.listing_rules.proofs.Demand3.{demand-3-holds}
@@ -32,7 +32,7 @@ unfolding lengthOf collectedIs foundLength
 length-of-walk (walkRefused k) = refl
 length-of-walk (walked count f p) = refl
 
-module _ (table : List ℕ) (o : ℕ) (scratch found pending : List ℕ) where
+module _ (table : Table) (o : ℕ) (scratch found pending : List ℕ) where
   -- "1, 6, then the walk"
   pub refuses-table : passes table ≡ false → collected table o scratch found pending ≡ walkRefused 1
   unfolding collected walk
@@ -90,7 +90,7 @@ reply-done (walkRefused j) e = let y : _≡_ {A = ℕ} 0 1 = cc in absurd (omega
 reply-done (walked c f p) {count} {len} e = let y : c ≡ count = cc in let z : length f ≡ len = cc in (f, p, ap (λ (n : ℕ). walked n f p) y, z)
 
 -- What `WholeWalk` says of a refusal, and of a walk that came to its end.
-module _ {table : List ℕ} {o scratch found pending : ℕ} {f p : List ℕ} where
+module _ {table : Table} {o scratch found pending : ℕ} {f p : List ℕ} where
   pub whole-refused : {k : ℕ} → WholeWalk table o scratch found pending (Refused k) f p →
       (tooSmall (rows table) o scratch found pending ≡ true)
       × (oneOf (9 ∷ 10 ∷ 11 ∷ []) k ≡ true)

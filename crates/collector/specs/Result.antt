@@ -4,7 +4,7 @@ use mathlib.Core.Bool.{true}
 use mathlib.Core.List.{List}
 use Prim.Native.Nat.{ℕ}
 use lib.ListN.{length}
-use Rattle.listing_rules.specs.Table.{passes}
+use Rattle.listing_rules.specs.Table.{Table, passes}
 use Rattle.listing_rules.specs.Walk.{lawfulByte, WalkReply, walkRefused, walked, collected, scratchAfter, foundAfter, pendingAfter}
 use Rattle.listing_rules.specs.Demand3.{Demand3}
 use Rattle.collector.specs.declared.Collected.{Collected}
@@ -29,7 +29,7 @@ lengthOf (Refused k) = 0
 lengthOf (Done count len) = len
 
 -- One collection, by the table, the option byte and the three buffers as they were lent: the answer, and what each buffer holds then.
-module _ (table : List ℕ) (o : ℕ) (scratch found pending : List ℕ) where
+module _ (table : Table) (o : ℕ) (scratch found pending : List ℕ) where
   abbrev pub collectedOf : Collected
   collectedOf = collectedIs (collected table o scratch found pending)
 
@@ -44,7 +44,7 @@ module _ (table : List ℕ) (o : ℕ) (scratch found pending : List ℕ) where
 
 -- The whole walk, by the lengths of the three buffers: the answer, and what lies in found and in pending then, are those of a reply
 -- that demand 3 allows.
-pub record WholeWalk (table : List ℕ) (o scratch found pending : ℕ) (r : Collected) (inFound inPending : List ℕ) : Type 0 where
+pub record WholeWalk (table : Table) (o scratch found pending : ℕ) (r : Collected) (inFound inPending : List ℕ) : Type 0 where
   pub reply : WalkReply
   pub owed : Demand3 table o scratch found pending reply
   pub result : r ≡ collectedIs reply
@@ -52,6 +52,6 @@ pub record WholeWalk (table : List ℕ) (o scratch found pending : ℕ) (r : Col
   pub pending-holds : inPending ≡ pendingAfter pending reply
 
 -- demand 3 is owed for a table that passes and a lawful option byte
-abbrev pub OwesDemand3 : List ℕ → ℕ → List ℕ → List ℕ → List ℕ → Collected → List ℕ → List ℕ → Type 0
+abbrev pub OwesDemand3 : Table → ℕ → List ℕ → List ℕ → List ℕ → Collected → List ℕ → List ℕ → Type 0
 OwesDemand3 table o scratch found pending r inFound inPending =
     passes table ≡ true → lawfulByte o ≡ true → WholeWalk table o (length scratch) (length found) (length pending) r inFound inPending

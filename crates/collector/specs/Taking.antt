@@ -3,6 +3,7 @@ use mathlib.Core.Path.{_≡_}
 use mathlib.Core.List.{List}
 use Prim.Native.Nat.{ℕ, _+_, _≤_}
 use lib.ListN.{length}
+use Rattle.listing_rules.specs.Table.{Table}
 use Rattle.listing_rules.specs.Reader.{readLine}
 use Rattle.listing_rules.specs.Walk.{Lists, Step, stop, go, linesOf, takenIn, takenAll, asked}
 use Rattle.collector.specs.Names.{Packs}
@@ -48,9 +49,9 @@ abbrev pub TakesAnswer : WalkOptions → List ℕ → Progress → List ℕ → 
 TakesAnswer w answer p found pending found′ pending′ r = Takes (answerStep w answer found pending) (p .count) p found pending found′ pending′ r
 
 -- the command with a reference, and its answer; the count grows by one
-abbrev pub commandStep : List ℕ → WalkOptions → List ℕ → List ℕ → List ℕ → List ℕ → Lists → Step Lists
+abbrev pub commandStep : Table → WalkOptions → List ℕ → List ℕ → List ℕ → List ℕ → Lists → Step Lists
 commandStep table w reference scratch found pending s = asked table (byteOf w) (length scratch) (length found) (length pending) s reference
 
-abbrev pub TakesCommand : List ℕ → WalkOptions → List ℕ → List ℕ → Progress → List ℕ → List ℕ → List ℕ → List ℕ → Taken → Type 0
+abbrev pub TakesCommand : Table → WalkOptions → List ℕ → List ℕ → Progress → List ℕ → List ℕ → List ℕ → List ℕ → Taken → Type 0
 TakesCommand table w reference scratch p found pending found′ pending′ r =
     Takes (commandStep table w reference scratch found pending) (p .count + 1) p found pending found′ pending′ r

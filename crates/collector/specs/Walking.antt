@@ -3,6 +3,7 @@ use mathlib.Core.Path.{_≡_}
 use mathlib.Core.List.{List}
 use Prim.Native.Nat.{ℕ, suc, _-_, _≤_, _<_}
 use lib.ListN.{length, take}
+use Rattle.listing_rules.specs.Table.{Table}
 use Rattle.listing_rules.specs.Walk.{Lists, packed, walkFrom, ended, walk}
 use Rattle.collector.specs.Options.{byteOf}
 use Rattle.collector.specs.Taking.{Holds}
@@ -11,7 +12,7 @@ use Rattle.collector.specs.declared.options.WalkOptions.{WalkOptions}
 
 -- A table, a walk's options and the lengths of the three buffers; then what lies in these, how far the walk is, and the place in pending of
 -- the next name to ask below.
-pub record Walking (table : List ℕ) (w : WalkOptions) (scratch found pending : ℕ) (inScratch inFound inPending : List ℕ) (p : Progress) (at : ℕ) : Type 0 where
+pub record Walking (table : Table) (w : WalkOptions) (scratch found pending : ℕ) (inScratch inFound inPending : List ℕ) (p : Progress) (at : ℕ) : Type 0 where
   pub scratch-long : length inScratch ≡ scratch
   pub found-long : length inFound ≡ found
   pub pending-long : length inPending ≡ pending

@@ -1,6 +1,6 @@
 // The collector: walks a mailbox table as a client does, by sending commands to the server side and reading its lines back.
 //
-// The table serves check 1 and the calls of `server::answer`, and nothing else. A command is made from the option byte and a
+// The table serves check 1 and the calls of the server side's command entry, and nothing else. A command is made from the option byte and a
 // pending name, finds and pending names come from the answer and the option byte.
 mod command;
 mod lines;
@@ -8,14 +8,22 @@ mod names;
 mod options;
 mod walk;
 
+use mailbox_table::Indexing;
+use mailbox_table::check_words;
+use mailbox_table::unpack;
 use octets::clear;
 use octets::refusals;
 use options::Asked;
 use options::WalkOptions;
+use records::Record;
+use records::copy_in;
+use records::no_words;
 use walk::walk_table;
 ghost use mathlib.Core.Path.{_≡_};
 ghost use lib.ListN.{length, replicate};
+ghost use Rattle.listing_rules.specs.Table.{packedTable};
 ghost use Rattle.listing_rules.specs.Walk.{collected};
+ghost use Rattle.records.specs.Lent.{lentTable, wordTable};
 ghost use Rattle.collector.specs.Result.{collectedOf, scratchOf, foundOf, pendingOf, OwesDemand3};
 ghost use Rattle.collector.specs.Ends.{Ends};
 
@@ -28,22 +36,71 @@ pub enum Collected {
 // The whole walk. Finds lie at the front of `found` and the names that were asked below at the front of `pending`, zero after
 // them; `scratch` takes the answers, and is zero in the end. A refusal zeroes all three.
 pub fn collect(
+    records: &[Record],
+    count: usize,
+    area: &[u8],
+    option: u8,
+    scratch: &mut [u8],
+    found: &mut [u8],
+    pending: &mut [u8],
+) -> Collected
+    ensures result { λ r. ⌜ r ≡ collectedOf (lentTable (now (area .entry)) (now (records .entry)) count) option (now (scratch .entry)) (now (found .entry)) (now (pending .entry)) ⌝ }
+    ensures scratch { λ _. ⌜ now (scratch .exit) ≡ scratchOf (lentTable (now (area .entry)) (now (records .entry)) count) option (now (scratch .entry)) (now (found .entry)) (now (pending .entry)) ⌝ }
+    ensures found { λ _. ⌜ now (found .exit) ≡ foundOf (lentTable (now (area .entry)) (now (records .entry)) count) option (now (scratch .entry)) (now (found .entry)) (now (pending .entry)) ⌝ }
+    ensures pending { λ _. ⌜ now (pending .exit) ≡ pendingOf (lentTable (now (area .entry)) (now (records .entry)) count) option (now (scratch .entry)) (now (found .entry)) (now (pending .entry)) ⌝ }
+    ensures demand3 { λ r. ⌜ OwesDemand3 (lentTable (now (area .entry)) (now (records .entry)) count) option (now (scratch .entry)) (now (found .entry)) (now (pending .entry))
+        r (now (found .exit)) (now (pending .exit)) ⌝ }
+{
+    let mut words = no_words();
+    let n = copy_in(records, count, &mut words);
+    collect_words(&words[..n], count, area, option, scratch, found, pending)
+}
+
+// The same over a packed table, turned into records first.
+pub fn collect_packed(
     table: &[u8],
     option: u8,
     scratch: &mut [u8],
     found: &mut [u8],
     pending: &mut [u8],
 ) -> Collected
-    ensures result { λ r. ⌜ r ≡ collectedOf (now (table .entry)) option (now (scratch .entry)) (now (found .entry)) (now (pending .entry)) ⌝ }
-    ensures scratch { λ _. ⌜ now (scratch .exit) ≡ scratchOf (now (table .entry)) option (now (scratch .entry)) (now (found .entry)) (now (pending .entry)) ⌝ }
-    ensures found { λ _. ⌜ now (found .exit) ≡ foundOf (now (table .entry)) option (now (scratch .entry)) (now (found .entry)) (now (pending .entry)) ⌝ }
-    ensures pending { λ _. ⌜ now (pending .exit) ≡ pendingOf (now (table .entry)) option (now (scratch .entry)) (now (found .entry)) (now (pending .entry)) ⌝ }
-    ensures demand3 { λ r. ⌜ OwesDemand3 (now (table .entry)) option (now (scratch .entry)) (now (found .entry)) (now (pending .entry))
+    ensures result { λ r. ⌜ r ≡ collectedOf (packedTable (now (table .entry))) option (now (scratch .entry)) (now (found .entry)) (now (pending .entry)) ⌝ }
+    ensures scratch { λ _. ⌜ now (scratch .exit) ≡ scratchOf (packedTable (now (table .entry))) option (now (scratch .entry)) (now (found .entry)) (now (pending .entry)) ⌝ }
+    ensures found { λ _. ⌜ now (found .exit) ≡ foundOf (packedTable (now (table .entry))) option (now (scratch .entry)) (now (found .entry)) (now (pending .entry)) ⌝ }
+    ensures pending { λ _. ⌜ now (pending .exit) ≡ pendingOf (packedTable (now (table .entry))) option (now (scratch .entry)) (now (found .entry)) (now (pending .entry)) ⌝ }
+    ensures demand3 { λ r. ⌜ OwesDemand3 (packedTable (now (table .entry))) option (now (scratch .entry)) (now (found .entry)) (now (pending .entry))
+        r (now (found .exit)) (now (pending .exit)) ⌝ }
+{
+    let mut words = no_words();
+    let Indexing::Rows(n) = unpack(table, &mut words) else {
+        clear(scratch);
+        clear(found);
+        clear(pending);
+        return Collected::Refused(refusals::TABLE);
+    };
+    collect_words(&words[..n], n, table, option, scratch, found, pending)
+}
+
+// The same over records, each as a number: the first `count` words are the rows, over the area of names.
+pub fn collect_words(
+    words: &[u64],
+    count: usize,
+    area: &[u8],
+    option: u8,
+    scratch: &mut [u8],
+    found: &mut [u8],
+    pending: &mut [u8],
+) -> Collected
+    ensures result { λ r. ⌜ r ≡ collectedOf (wordTable (now (area .entry)) (now (words .entry)) count) option (now (scratch .entry)) (now (found .entry)) (now (pending .entry)) ⌝ }
+    ensures scratch { λ _. ⌜ now (scratch .exit) ≡ scratchOf (wordTable (now (area .entry)) (now (words .entry)) count) option (now (scratch .entry)) (now (found .entry)) (now (pending .entry)) ⌝ }
+    ensures found { λ _. ⌜ now (found .exit) ≡ foundOf (wordTable (now (area .entry)) (now (words .entry)) count) option (now (scratch .entry)) (now (found .entry)) (now (pending .entry)) ⌝ }
+    ensures pending { λ _. ⌜ now (pending .exit) ≡ pendingOf (wordTable (now (area .entry)) (now (words .entry)) count) option (now (scratch .entry)) (now (found .entry)) (now (pending .entry)) ⌝ }
+    ensures demand3 { λ r. ⌜ OwesDemand3 (wordTable (now (area .entry)) (now (words .entry)) count) option (now (scratch .entry)) (now (found .entry)) (now (pending .entry))
         r (now (found .exit)) (now (pending .exit)) ⌝ }
 {
     clear(found);
     clear(pending);
-    let result = run(table, option, scratch, found, pending);
+    let result = run(words, count, area, option, scratch, found, pending);
     clear(scratch);
     if let Collected::Refused(number) = result {
         clear(found);
@@ -55,7 +112,9 @@ pub fn collect(
 
 // Refusals 1 and 6, then the walk. Found and pending are zero; a refusal leaves them anyhow.
 fn run(
-    table: &[u8],
+    words: &[u64],
+    count: usize,
+    area: &[u8],
     option: u8,
     scratch: &mut [u8],
     found: &mut [u8],
@@ -63,14 +122,14 @@ fn run(
 ) -> Collected
     requires { ⌜ now found ≡ replicate (length (now found)) 0 ⌝ }
     requires { ⌜ now pending ≡ replicate (length (now pending)) 0 ⌝ }
-    ensures { λ r. ⌜ Ends (collected (now (table .entry)) option (now (scratch .entry)) (now (found .entry)) (now (pending .entry)))
-        (now (found .exit)) (now (pending .exit)) r ⌝ }
+    ensures { λ r. ⌜ Ends (collected (wordTable (now (area .entry)) (now (words .entry)) count) option
+        (now (scratch .entry)) (now (found .entry)) (now (pending .entry))) (now (found .exit)) (now (pending .exit)) r ⌝ }
 {
-    if !mailbox_table::check(table) {
+    if !check_words(words, count, area) {
         return Collected::Refused(refusals::TABLE);
     }
     let Asked::Of(options) = WalkOptions::of_byte(option) else {
         return Collected::Refused(refusals::OPTION);
     };
-    walk_table(table, options, scratch, found, pending)
+    walk_table(&words[..count], area, options, scratch, found, pending)
 }

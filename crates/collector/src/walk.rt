@@ -10,6 +10,7 @@ use super::lines::take_lines;
 use super::options::WalkOptions;
 use octets::Written;
 use octets::wide;
+use server::answer_words;
 ghost use mathlib.Core.Path.{_≡_};
 ghost use mathlib.Core.Bool.{true};
 ghost use mathlib.Core.List.{[], _∷_, _++_};
@@ -18,6 +19,7 @@ ghost use lib.ListN.{length, replicate};
 ghost use Rattle.listing_rules.specs.Bytes.{slash};
 ghost use Rattle.listing_rules.specs.Table.{passes};
 ghost use Rattle.listing_rules.specs.Walk.{collected};
+ghost use Rattle.collector.specs.Held.{heldTable};
 ghost use Rattle.collector.specs.Names.{Lies, nameAt};
 ghost use Rattle.collector.specs.Options.{byteOf};
 ghost use Rattle.collector.specs.Rooms.{referenceRoom};
@@ -31,47 +33,51 @@ pub(crate) struct NamePlace {
     pub end: usize,
 }
 
-// Walks a table that passes. Found and pending are zero.
+// What a command is made for: the options of the walk, and how far it is before the command.
+pub(crate) struct Asking {
+    pub options: WalkOptions,
+    pub start: Progress,
+}
+
+// Walks a table that passes, given as a word for each record over the area of names. Found and pending are zero.
 pub(crate) fn walk_table(
-    table: &[u8],
+    words: &[u64],
+    area: &[u8],
     options: WalkOptions,
     scratch: &mut [u8],
     found: &mut [u8],
     pending: &mut [u8],
 ) -> Collected
-    requires { ⌜ passes (now table) ≡ true ⌝ }
+    requires { ⌜ passes (heldTable (now area) (now words)) ≡ true ⌝ }
     requires { ⌜ now found ≡ replicate (length (now found)) 0 ⌝ }
     requires { ⌜ now pending ≡ replicate (length (now pending)) 0 ⌝ }
-    ensures { λ r. ⌜ Ends (collected (now (table .entry)) (byteOf options) (now (scratch .entry)) (now (found .entry)) (now (pending .entry)))
+    ensures { λ r. ⌜ Ends (collected (heldTable (now (area .entry)) (now (words .entry))) (byteOf options) (now (scratch .entry)) (now (found .entry)) (now (pending .entry)))
         (now (found .exit)) (now (pending .exit)) r ⌝ }
 {
     let none = [0u8; 0];
-    match ask(
-        table,
+    let asking = Asking {
         options,
-        &none,
-        scratch,
-        found,
-        pending,
-        Progress::NONE,
-    ) {
-        Taken::All(first) => ask_pending(table, options, scratch, found, pending, first),
+        start: Progress::NONE,
+    };
+    match ask(words, area, asking, &none, scratch, found, pending) {
+        Taken::All(first) => ask_pending(words, area, options, scratch, found, pending, first),
         Taken::Refused(number) => Collected::Refused(number),
     }
 }
 
 // Asks below each name of pending, in order; names that are put there meanwhile come in their turn.
 fn ask_pending(
-    table: &[u8],
+    words: &[u64],
+    area: &[u8],
     options: WalkOptions,
     scratch: &mut [u8],
     found: &mut [u8],
     pending: &mut [u8],
     first: Progress,
 ) -> Collected
-    requires { ⌜ Walking (now table) options (length (now scratch)) (length (now found)) (length (now pending))
+    requires { ⌜ Walking (heldTable (now area) (now words)) options (length (now scratch)) (length (now found)) (length (now pending))
         (now scratch) (now found) (now pending) first 0 ⌝ }
-    ensures { λ r. ⌜ Ends (collected (now (table .entry)) (byteOf options) (now (scratch .entry)) (now (found .entry)) (now (pending .entry)))
+    ensures { λ r. ⌜ Ends (collected (heldTable (now (area .entry)) (now (words .entry))) (byteOf options) (now (scratch .entry)) (now (found .entry)) (now (pending .entry)))
         (now (found .exit)) (now (pending .exit)) r ⌝ }
 {
     let mut progress = first;
@@ -80,7 +86,11 @@ fn ask_pending(
         let from = at + 1;
         let end = from + wide(pending[at]);
         let name = NamePlace { from, end };
-        match ask_below(table, options, name, scratch, found, pending, progress) {
+        let asking = Asking {
+            options,
+            start: progress,
+        };
+        match ask_below(words, area, asking, name, scratch, found, pending) {
             Taken::All(next) => {
                 progress = next;
                 at = end;
@@ -95,18 +105,19 @@ fn ask_pending(
 
 // The command below a name of pending.
 fn ask_below(
-    table: &[u8],
-    options: WalkOptions,
+    words: &[u64],
+    area: &[u8],
+    asking: Asking,
     name: NamePlace,
     scratch: &mut [u8],
     found: &mut [u8],
     pending: &mut [u8],
-    start: Progress,
 ) -> Taken
     requires { ⌜ Lies name (now pending) ⌝ }
-    requires { ⌜ Inside (now found) (now pending) start ⌝ }
-    requires { ⌜ start .count ≤ length (now pending) ⌝ }
-    ensures { λ r. ⌜ TakesCommand (now (table .entry)) options (nameAt name (now (pending .entry)) ++ (slash ∷ [])) (now (scratch .entry)) start
+    requires { ⌜ Inside (now found) (now pending) (asking .start) ⌝ }
+    requires { ⌜ asking .start .count ≤ length (now pending) ⌝ }
+    ensures { λ r. ⌜ TakesCommand (heldTable (now (area .entry)) (now (words .entry))) (asking .options)
+        (nameAt name (now (pending .entry)) ++ (slash ∷ [])) (now (scratch .entry)) (asking .start)
         (now (found .entry)) (now (pending .entry)) (now (found .exit)) (now (pending .exit)) r ⌝ }
 {
     let from = name.from;
@@ -114,37 +125,40 @@ fn ask_below(
     let mut reference = no_reference();
     let n = put_below(&mut reference, &pending[from..end]);
     ask(
-        table,
-        options,
+        words,
+        area,
+        asking,
         &reference[..n],
         scratch,
         found,
         pending,
-        start,
     )
 }
 
 // Sends the command with this reference and takes its answer in. Here alone the server side is called, and here alone the
 // count grows.
 fn ask(
-    table: &[u8],
-    options: WalkOptions,
+    words: &[u64],
+    area: &[u8],
+    asking: Asking,
     reference: &[u8],
     scratch: &mut [u8],
     found: &mut [u8],
     pending: &mut [u8],
-    start: Progress,
 ) -> Taken
     requires { ⌜ length (now reference) ≤ referenceRoom ⌝ }
-    requires { ⌜ Inside (now found) (now pending) start ⌝ }
-    requires { ⌜ start .count ≤ length (now pending) ⌝ }
-    ensures { λ r. ⌜ TakesCommand (now (table .entry)) options (now (reference .entry)) (now (scratch .entry)) start
+    requires { ⌜ Inside (now found) (now pending) (asking .start) ⌝ }
+    requires { ⌜ asking .start .count ≤ length (now pending) ⌝ }
+    ensures { λ r. ⌜ TakesCommand (heldTable (now (area .entry)) (now (words .entry))) (asking .options)
+        (now (reference .entry)) (now (scratch .entry)) (asking .start)
         (now (found .entry)) (now (pending .entry)) (now (found .exit)) (now (pending .exit)) r ⌝ }
 {
+    let options = asking.options;
+    let start = asking.start;
     let mut line = no_command();
     let n = put_command(&mut line, options, reference);
     let namespaces = [0u8; 0];
-    match server::answer(table, &namespaces, &line[..n], scratch) {
+    match answer_words(words, words.len(), area, &namespaces, &line[..n], scratch) {
         Written::Done(len) => {
             let count = start.count + 1;
             let sent = Progress {

@@ -7,29 +7,44 @@ pub mod outcomes;
 
 use list_line::Attributes;
 use list_line::Criteria;
+use mailbox_table::check_words;
 use outcomes::LineParts;
 use outcomes::Outcome;
 use outcomes::collected_outcome;
 use outcomes::line_parts;
 use outcomes::written_outcome;
+use records::Record;
+use records::copy_in;
+use records::no_words;
 ghost use mathlib.Core.Path.{_≡_};
 ghost use mathlib.Core.Bool.{_&&_};
 ghost use lib.Dec.{leb};
 ghost use lib.ListN.{length};
-ghost use Rattle.listing_rules.specs.Table.{passes};
+ghost use Rattle.listing_rules.specs.Table.{passes, packedTable};
 ghost use Rattle.listing_rules.specs.Namespaces.{namespacesPass};
 ghost use Rattle.listing_rules.specs.Match.{matches};
 ghost use Rattle.listing_rules.specs.Reader.{written, readLine};
 ghost use Rattle.listing_rules.specs.Server.{served};
 ghost use Rattle.listing_rules.specs.Walk.{collected};
+ghost use Rattle.records.specs.Lent.{lentTable, wordTable};
 ghost use Rattle.list_line.specs.Members.{members};
 ghost use Rattle.collector.specs.Result.{collectedOf, scratchOf, foundOf, pendingOf, OwesDemand3};
 ghost use Rattle.exports.specs.Outcomes.{Into, walkOutcome, partsOf};
 
-// Check 1: whether the table passes.
+// Check 1: whether the first `count` records pass, over the area of name bytes.
+#[no_mangle]
+pub extern "C" fn luspemaro_check_records(records: &[Record], count: usize, area: &[u8]) -> bool
+    ensures { λ r. ⌜ r ≡ passes (lentTable (now (area .entry)) (now (records .entry)) count) ⌝ }
+{
+    let mut words = no_words();
+    let n = copy_in(records, count, &mut words);
+    check_words(&words[..n], count, area)
+}
+
+// The same for a packed table.
 #[no_mangle]
 pub extern "C" fn luspemaro_check_table(table: &[u8]) -> bool
-    ensures { λ r. ⌜ r ≡ passes (now (table .entry)) ⌝ }
+    ensures { λ r. ⌜ r ≡ passes (packedTable (now (table .entry))) ⌝ }
 {
     mailbox_table::check(table)
 }
@@ -53,35 +68,113 @@ pub extern "C" fn luspemaro_matches(pattern: &[u8], name: &[u8]) -> bool
 // The answer to one command at the front of `out`.
 #[no_mangle]
 pub extern "C" fn luspemaro_answer(
+    records: &[Record],
+    count: usize,
+    area: &[u8],
+    namespaces: &[u8],
+    line: &[u8],
+    out: &mut [u8],
+) -> Outcome
+    ensures { λ r. ⌜ Into (served (lentTable (now (area .entry)) (now (records .entry)) count) (now (namespaces .entry)) (now (line .entry)) (now (out .entry)))
+        (now (out .entry)) (now (out .exit)) r ⌝ }
+{
+    let mut words = no_words();
+    let n = copy_in(records, count, &mut words);
+    answer_words(&words[..n], count, area, namespaces, line, out)
+}
+
+// The same over records, each as a number.
+fn answer_words(
+    words: &[u64],
+    count: usize,
+    area: &[u8],
+    namespaces: &[u8],
+    line: &[u8],
+    out: &mut [u8],
+) -> Outcome
+    ensures { λ r. ⌜ Into (served (wordTable (now (area .entry)) (now (words .entry)) count) (now (namespaces .entry)) (now (line .entry)) (now (out .entry)))
+        (now (out .entry)) (now (out .exit)) r ⌝ }
+{
+    written_outcome(server::answer_words(words, count, area, namespaces, line, out))
+}
+
+// The same over a packed table.
+#[no_mangle]
+pub extern "C" fn luspemaro_answer_packed(
     table: &[u8],
     namespaces: &[u8],
     line: &[u8],
     out: &mut [u8],
 ) -> Outcome
-    ensures { λ r. ⌜ Into (served (now (table .entry)) (now (namespaces .entry)) (now (line .entry)) (now (out .entry)))
+    ensures { λ r. ⌜ Into (served (packedTable (now (table .entry))) (now (namespaces .entry)) (now (line .entry)) (now (out .entry)))
         (now (out .entry)) (now (out .exit)) r ⌝ }
 {
-    written_outcome(server::answer(table, namespaces, line, out))
+    written_outcome(server::answer_packed(table, namespaces, line, out))
 }
 
 // The whole walk: finds at the front of `found`, the names that were asked below at the front of `pending`.
 #[no_mangle]
 pub extern "C" fn luspemaro_collect(
+    records: &[Record],
+    count: usize,
+    area: &[u8],
+    option: u8,
+    scratch: &mut [u8],
+    found: &mut [u8],
+    pending: &mut [u8],
+) -> Outcome
+    ensures result { λ r. ⌜ r ≡ walkOutcome (collected (lentTable (now (area .entry)) (now (records .entry)) count) option (now (scratch .entry)) (now (found .entry)) (now (pending .entry))) ⌝ }
+    ensures scratch { λ _. ⌜ now (scratch .exit) ≡ scratchOf (lentTable (now (area .entry)) (now (records .entry)) count) option (now (scratch .entry)) (now (found .entry)) (now (pending .entry)) ⌝ }
+    ensures found { λ _. ⌜ now (found .exit) ≡ foundOf (lentTable (now (area .entry)) (now (records .entry)) count) option (now (scratch .entry)) (now (found .entry)) (now (pending .entry)) ⌝ }
+    ensures pending { λ _. ⌜ now (pending .exit) ≡ pendingOf (lentTable (now (area .entry)) (now (records .entry)) count) option (now (scratch .entry)) (now (found .entry)) (now (pending .entry)) ⌝ }
+    ensures demand3 { λ _. ⌜ OwesDemand3 (lentTable (now (area .entry)) (now (records .entry)) count) option (now (scratch .entry)) (now (found .entry)) (now (pending .entry))
+        (collectedOf (lentTable (now (area .entry)) (now (records .entry)) count) option (now (scratch .entry)) (now (found .entry)) (now (pending .entry)))
+        (now (found .exit)) (now (pending .exit)) ⌝ }
+{
+    let mut words = no_words();
+    let n = copy_in(records, count, &mut words);
+    collect_words(&words[..n], count, area, option, scratch, found, pending)
+}
+
+// The same over records, each as a number.
+fn collect_words(
+    words: &[u64],
+    count: usize,
+    area: &[u8],
+    option: u8,
+    scratch: &mut [u8],
+    found: &mut [u8],
+    pending: &mut [u8],
+) -> Outcome
+    ensures result { λ r. ⌜ r ≡ walkOutcome (collected (wordTable (now (area .entry)) (now (words .entry)) count) option (now (scratch .entry)) (now (found .entry)) (now (pending .entry))) ⌝ }
+    ensures scratch { λ _. ⌜ now (scratch .exit) ≡ scratchOf (wordTable (now (area .entry)) (now (words .entry)) count) option (now (scratch .entry)) (now (found .entry)) (now (pending .entry)) ⌝ }
+    ensures found { λ _. ⌜ now (found .exit) ≡ foundOf (wordTable (now (area .entry)) (now (words .entry)) count) option (now (scratch .entry)) (now (found .entry)) (now (pending .entry)) ⌝ }
+    ensures pending { λ _. ⌜ now (pending .exit) ≡ pendingOf (wordTable (now (area .entry)) (now (words .entry)) count) option (now (scratch .entry)) (now (found .entry)) (now (pending .entry)) ⌝ }
+    ensures demand3 { λ _. ⌜ OwesDemand3 (wordTable (now (area .entry)) (now (words .entry)) count) option (now (scratch .entry)) (now (found .entry)) (now (pending .entry))
+        (collectedOf (wordTable (now (area .entry)) (now (words .entry)) count) option (now (scratch .entry)) (now (found .entry)) (now (pending .entry)))
+        (now (found .exit)) (now (pending .exit)) ⌝ }
+{
+    collected_outcome(collector::collect_words(words, count, area, option, scratch, found, pending))
+}
+
+// The same over a packed table.
+#[no_mangle]
+pub extern "C" fn luspemaro_collect_packed(
     table: &[u8],
     option: u8,
     scratch: &mut [u8],
     found: &mut [u8],
     pending: &mut [u8],
 ) -> Outcome
-    ensures result { λ r. ⌜ r ≡ walkOutcome (collected (now (table .entry)) option (now (scratch .entry)) (now (found .entry)) (now (pending .entry))) ⌝ }
-    ensures scratch { λ _. ⌜ now (scratch .exit) ≡ scratchOf (now (table .entry)) option (now (scratch .entry)) (now (found .entry)) (now (pending .entry)) ⌝ }
-    ensures found { λ _. ⌜ now (found .exit) ≡ foundOf (now (table .entry)) option (now (scratch .entry)) (now (found .entry)) (now (pending .entry)) ⌝ }
-    ensures pending { λ _. ⌜ now (pending .exit) ≡ pendingOf (now (table .entry)) option (now (scratch .entry)) (now (found .entry)) (now (pending .entry)) ⌝ }
-    ensures demand3 { λ _. ⌜ OwesDemand3 (now (table .entry)) option (now (scratch .entry)) (now (found .entry)) (now (pending .entry))
-        (collectedOf (now (table .entry)) option (now (scratch .entry)) (now (found .entry)) (now (pending .entry)))
+    ensures result { λ r. ⌜ r ≡ walkOutcome (collected (packedTable (now (table .entry))) option (now (scratch .entry)) (now (found .entry)) (now (pending .entry))) ⌝ }
+    ensures scratch { λ _. ⌜ now (scratch .exit) ≡ scratchOf (packedTable (now (table .entry))) option (now (scratch .entry)) (now (found .entry)) (now (pending .entry)) ⌝ }
+    ensures found { λ _. ⌜ now (found .exit) ≡ foundOf (packedTable (now (table .entry))) option (now (scratch .entry)) (now (found .entry)) (now (pending .entry)) ⌝ }
+    ensures pending { λ _. ⌜ now (pending .exit) ≡ pendingOf (packedTable (now (table .entry))) option (now (scratch .entry)) (now (found .entry)) (now (pending .entry)) ⌝ }
+    ensures demand3 { λ _. ⌜ OwesDemand3 (packedTable (now (table .entry))) option (now (scratch .entry)) (now (found .entry)) (now (pending .entry))
+        (collectedOf (packedTable (now (table .entry))) option (now (scratch .entry)) (now (found .entry)) (now (pending .entry)))
         (now (found .exit)) (now (pending .exit)) ⌝ }
 {
-    collected_outcome(collector::collect(table, option, scratch, found, pending))
+    collected_outcome(collector::collect_packed(table, option, scratch, found, pending))
 }
 
 // The line writer: the line of these parts at the front of `out`. The criteria are those that CHILDINFO names: 1 SUBSCRIBED, 2

@@ -10,7 +10,7 @@ use borrow.Author.Tests.{leb-true, leb-false}
 use Rattle.listing_rules.specs.Bytes.{text, all}
 use Rattle.listing_rules.specs.Lists.{every, keep, joined}
 use Rattle.listing_rules.specs.Names.{lawfulName, nameByte}
-use Rattle.listing_rules.specs.Table.{rows, passes}
+use Rattle.listing_rules.specs.Table.{Table, rows, passes}
 use Rattle.listing_rules.specs.Tokens.{lineByte}
 use Rattle.listing_rules.specs.Options.{Criteria, isNone}
 use Rattle.listing_rules.specs.Listing.{candidates, attributes, attributesFor, inOrder, childInfo, listed, listedNames}
@@ -98,7 +98,7 @@ module _ (o room₁ room₂ : ℕ) (L : Name → List ℕ) (B : Name → List Bo
   taken-all ns f a g h = went-to (taken-cases ns f a g (packed-le f (found ns) room₁ (h .0), packed-le a (keep named ns) room₂ (h .1))) h
 
 -- the collector's line of a name
-module _ (t : List ℕ) (o : ℕ) (ref : List ℕ) where
+module _ (t : Table) (o : ℕ) (ref : List ℕ) where
   abbrev pub pats : List (List ℕ)
   pats = (ref ++ text "%") ∷ []
 

@@ -10,7 +10,7 @@ use lib.ListN.{length}
 use borrow.Author.Tests.{ltb-true, ltb-false}
 use Rattle.listing_rules.specs.Bytes.{slash, oneOf}
 use Rattle.listing_rules.specs.Lists.{anyOf}
-use Rattle.listing_rules.specs.Table.{rows, passes}
+use Rattle.listing_rules.specs.Table.{Table, rows, passes}
 use Rattle.listing_rules.specs.Walk.{lawfulByte, walk, walkRefused, packed}
 use Rattle.listing_rules.specs.Demand3.{Demand3, declaredWalk, meetingNames, meetingAncestors, walkAnswer, scratchTooSmall, foundTooSmall, pendingTooSmall, tooSmall}
 use Rattle.listing_rules.proofs.Bools.{or-cases, or-none-l, or-none-r}
@@ -27,7 +27,7 @@ short-number k found-short = refl
 short-number k pending-short = refl
 
 -- `Room` says that no buffer is too small
-module _ (t : List ℕ) (o scratch found pending : ℕ) (wk : Walks t o) where
+module _ (t : Table) (o scratch found pending : ℕ) (wk : Walks t o) where
   abbrev answerSize : Name → ℕ
   answerSize reference = length (walkAnswer (rows t) o reference)
 
@@ -73,7 +73,7 @@ module _ (t : List ℕ) (o scratch found pending : ℕ) (wk : Walks t o) where
         pending = ltb-false pending pendingSize (or-none-r ((firstShort || nextShort) || foundShort) (ltb pending pendingSize) e);
       }
 
-pub demand-3-holds : (t : List ℕ) (o scratch found pending : ℕ) → passes t ≡ true → lawfulByte o ≡ true → Demand3 t o scratch found pending (walk t o scratch found pending)
+pub demand-3-holds : (t : Table) (o scratch found pending : ℕ) → passes t ≡ true → lawfulByte o ≡ true → Demand3 t o scratch found pending (walk t o scratch found pending)
 unfolding Demand3 declaredWalk
 demand-3-holds t o scratch found pending ok lw = pick (tooSmall (rows t) o scratch found pending) refl (demand-3-whole t o (ok, lw) scratch found pending)
   where

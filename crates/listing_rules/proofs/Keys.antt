@@ -7,7 +7,8 @@ use Rattle.listing_rules.specs.Orders.{thenBy, lexBy, byteOrder, isLt, a
 use Rattle.listing_rules.specs.Names.{levels, properAncestors, below, levelOrder, walkOrder, inbox, nameByte, isFull, inboxSpelled}
 use Rattle.listing_rules.specs.Names.{lawfulName}
 use Rattle.listing_rules.specs.Flags.{exists, subscribed, remote, noSelect, noInferiors, marked, unmarked, uses, hasUse, lawfulFlags}
-use Rattle.listing_rules.specs.Table.{rowAt, rowsAfter, rows, rowsFill, names, noneBelow, passes, hasRow, flagsOf}
+use Rattle.listing_rules.specs.Table.{rows, names, noneBelow, rowsPass, passes, rowAt, rowsAfter, packedRows, rowsFill, packedTable, hasRow, flagsOf}
+use Rattle.listing_rules.specs.Records.{rowOf, recordRows, liesInside, apart, allApart, laidOut, recordTable, recordsAfter, packedRecords}
 use Rattle.listing_rules.specs.Namespaces.{entryAt, entriesAfter, entries, entriesFill, lawfulEntry, classesRise, ofClass}
 use Rattle.listing_rules.specs.Namespaces.{namespacesPass}
 use Rattle.listing_rules.specs.Tokens.{got, _>>=_, at, after, withFirst, atomByte, tagByte, astringByte, patternByte, run}
@@ -62,8 +63,12 @@ unfolding exists subscribed remote noSelect noInferiors marked unmarked uses has
 openFlags = tt
 
 unfoldable pub openTable : Unit {0}
-unfolding rowAt rowsAfter rows rowsFill names noneBelow passes hasRow flagsOf
+unfolding rows names noneBelow rowsPass passes rowAt rowsAfter packedRows rowsFill packedTable hasRow flagsOf
 openTable = tt
+
+unfoldable pub openRecords : Unit {0}
+unfolding rowOf recordRows liesInside apart allApart laidOut recordTable recordsAfter packedRecords
+openRecords = tt
 
 unfoldable pub openNamespaces : Unit {0}
 unfolding entryAt entriesAfter entries entriesFill lawfulEntry classesRise ofClass namespacesPass
@@ -119,5 +124,5 @@ openFrames = tt
 
 -- opens every definition that the cases of the two tables compute
 unfoldable pub openAll : Unit {0}
-unfolding openBytes openLists openOrders openNames openFlags openTable openNamespaces openTokens openFeeder openOptions openCommand openMatch openListing openLines openServer openReader openWalk openDemand3 openFrames
+unfolding openBytes openLists openOrders openNames openFlags openTable openRecords openNamespaces openTokens openFeeder openOptions openCommand openMatch openListing openLines openServer openReader openWalk openDemand3 openFrames
 openAll = tt

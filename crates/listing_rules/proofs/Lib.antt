@@ -30,6 +30,9 @@ pub mod WalkLists
 pub mod WalkWhole
 pub mod WalkFuel
 pub mod Demand3
+pub mod RecordLaws
+pub mod RecordPlaces
+pub mod Alike
 pub mod InputCut
 pub mod Places
 pub mod Tables

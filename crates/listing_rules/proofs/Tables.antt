@@ -5,6 +5,7 @@ use mathlib.Core.List.{[]}
 use Rattle.listing_rules.specs.Cases.{failures}
 use Rattle.listing_rules.specs.ExpertSheet.{sheet}
 use Rattle.listing_rules.specs.Limits.{flags-of-a-row, names-of-rows, order-of-rows, size-of-a-table, namespace-entries}
+use Rattle.listing_rules.specs.Limits.{records-layout, records-size, records-answered}
 use Rattle.listing_rules.specs.Limits.{namespace-classes, uses-by-name, flags-by-name, attributes-together}
 use Rattle.listing_rules.specs.Limits.{children-and-empty-patterns, special-use-selected, quotes-and-wildcards}
 use Rattle.listing_rules.specs.Limits.{childinfo-and-uses-shown, levels-listed, levels-not-listed, levels-counted, inbox-alone}
@@ -36,6 +37,18 @@ order-of-rows-hold = refl
 size-of-a-table-hold : failures 1 size-of-a-table ≡ []
 unfolding openAll
 size-of-a-table-hold = refl
+
+records-layout-hold : failures 1 records-layout ≡ []
+unfolding openAll
+records-layout-hold = refl
+
+records-size-hold : failures 1 records-size ≡ []
+unfolding openAll
+records-size-hold = refl
+
+records-answered-hold : failures 1 records-answered ≡ []
+unfolding openAll
+records-answered-hold = refl
 
 namespace-entries-hold : failures 1 namespace-entries ≡ []
 unfolding openAll
@@ -203,6 +216,9 @@ pub record Limits-hold : Type 0 where
   pub names-of-rows-stand : failures 1 names-of-rows ≡ []
   pub order-of-rows-stand : failures 1 order-of-rows ≡ []
   pub size-of-a-table-stand : failures 1 size-of-a-table ≡ []
+  pub records-layout-stand : failures 1 records-layout ≡ []
+  pub records-size-stand : failures 1 records-size ≡ []
+  pub records-answered-stand : failures 1 records-answered ≡ []
   pub namespace-entries-stand : failures 1 namespace-entries ≡ []
   pub namespace-classes-stand : failures 1 namespace-classes ≡ []
   pub uses-by-name-stand : failures 1 uses-by-name ≡ []
@@ -251,6 +267,9 @@ limits-hold =
       names-of-rows-stand = names-of-rows-hold;
       order-of-rows-stand = order-of-rows-hold;
       size-of-a-table-stand = size-of-a-table-hold;
+      records-layout-stand = records-layout-hold;
+      records-size-stand = records-size-hold;
+      records-answered-stand = records-answered-hold;
       namespace-entries-stand = namespace-entries-hold;
       namespace-classes-stand = namespace-classes-hold;
       uses-by-name-stand = uses-by-name-hold;

@@ -5,7 +5,7 @@ use Prim.Native.Nat.{ℕ, zero, suc, _≤_}
 use native.Mathlib.Omega.{arith}
 use lib.ListN.{length, drop}
 use Rattle.listing_rules.specs.Bytes.{slash}
-use Rattle.listing_rules.specs.Table.{rows}
+use Rattle.listing_rules.specs.Table.{Table, rows}
 use Rattle.listing_rules.specs.Listing.{candidates}
 use Rattle.listing_rules.specs.Walk.{Lists, Step, stop, go, _>>=_, Walked, asked, walkFrom, walkAll}
 use Rattle.listing_rules.proofs.Order.{View, view, less, equal, more}
@@ -28,7 +28,7 @@ bind-more (stop k) f g h n = refl
 bind-more (go a) f g h n = h a n
 
 -- one step more changes nothing where the walk is not out of steps
-module _ (t : List ℕ) (o scratch found pending : ℕ) where
+module _ (t : Table) (o scratch found pending : ℕ) where
   -- a step, with the names that are still to be asked
   stepAt : ℕ → ℕ → Lists → List (List ℕ) → Step Walked
   stepAt k done s l =
@@ -47,6 +47,6 @@ module _ (t : List ℕ) (o scratch found pending : ℕ) where
   unfolding walkAll
   all-more k n = bind-more (asked t o scratch found pending (record { finds = []; asks = [] }) []) _ _ (from-more k 0) n
 
-pub walk-fuel : (t : List ℕ) (o scratch found pending k : ℕ) → Walks t o → suc (suc (length (candidates (rows t)))) ≤ k → walkAll t o scratch found pending k ≡ walkAll t o scratch found pending (suc (suc (length (candidates (rows t)))))
+pub walk-fuel : (t : Table) (o scratch found pending k : ℕ) → Walks t o → suc (suc (length (candidates (rows t)))) ≤ k → walkAll t o scratch found pending k ≡ walkAll t o scratch found pending (suc (suc (length (candidates (rows t)))))
 walk-fuel t o scratch found pending k wk h =
     steady (walkAll t o scratch found pending) (suc (suc (length (candidates (rows t))))) (all-more t o scratch found pending) (walk-ends t o wk scratch found pending) k h

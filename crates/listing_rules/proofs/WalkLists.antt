@@ -10,7 +10,7 @@ use Rattle.listing_rules.specs.Bytes.{slash, all}
 use Rattle.listing_rules.specs.Lists.{keep, joined}
 use Rattle.listing_rules.specs.Orders.{byteOrder, sorted}
 use Rattle.listing_rules.specs.Names.{nameByte, below, properAncestors, walkOrder}
-use Rattle.listing_rules.specs.Table.{rows, passes}
+use Rattle.listing_rules.specs.Table.{Table, rows, passes}
 use Rattle.listing_rules.specs.Listing.{candidateMeets}
 use Rattle.listing_rules.specs.Demand3.{meetingNames, meetingAncestors}
 use Rattle.listing_rules.proofs.ListLaws.{mem-map, map-mem, mem-joined, joined-mem, mem-keep, keep-mem}
@@ -41,7 +41,7 @@ under-mem g a z m = pick (all nameByte a) refl m
 mem-under : (g : Name → List Name) (a z : Name) → all nameByte a ≡ true → List·Memᴰ z (g (a ++ (slash ∷ []))) → List·Memᴰ z (under g a)
 mem-under g a z e k = rw e k
 
-module _ (t : List ℕ) (o : ℕ) (wk : Walks t o) where
+module _ (t : Table) (o : ℕ) (wk : Walks t o) where
   -- it gives children, in walk order
   module _ (g : Name → List Name) (hits : (ref z : Name) → List·Memᴰ z (g ref) → Hit t o ref z) (bytes : (ref : Name) → Asc byteOrder (g ref)) where
     under-shape : (a e : Name) → List·Memᴰ e (under g a) → ChildOf a e

@@ -10,7 +10,7 @@ use Rattle.listing_rules.proofs.Keys.{openBytes}
 use Rattle.listing_rules.specs.Lists.{anyOf}
 use Rattle.listing_rules.specs.Orders.{lexBy, byteOrder}
 use Rattle.listing_rules.specs.Names.{nameByte, below, levelOrder, walkOrder}
-use Rattle.listing_rules.specs.Table.{rows, flagsOf}
+use Rattle.listing_rules.specs.Table.{Table, rows, flagsOf}
 use Rattle.listing_rules.specs.Match.{matchesAny}
 use Rattle.listing_rules.specs.Options.{isNone}
 use Rattle.listing_rules.specs.Listing.{candidates, meetsCriteria, candidateMeets, meetsBelow, meetsUnmatchedBelow, listed, listedNames}
@@ -33,7 +33,7 @@ walk-tops x y h k =
     walk-same-depth x y (ap length (levels-one x h) ∙ sym (ap length (levels-one y k)))
     ∙ rw (levels-one x h, levels-one y k) (thenBy-eq (byteOrder x y))
 
-module _ (t : List ℕ) (o : ℕ) where
+module _ (t : Table) (o : ℕ) where
   abbrev pub cands : List Name
   cands = candidates (rows t)
 

@@ -12,7 +12,7 @@ use Rattle.listing_rules.specs.Lists.{anyOf}
 use Rattle.listing_rules.specs.Names.{nameByte, inbox}
 use Rattle.listing_rules.proofs.Keys.{openBytes, openNames}
 use Rattle.listing_rules.specs.Flags.{exists, subscribed, remote, uses, hasUse}
-use Rattle.listing_rules.specs.Table.{Row, rows, passes, flagsOf}
+use Rattle.listing_rules.specs.Table.{Table, Row, rows, passes, flagsOf}
 use Rattle.listing_rules.specs.Options.{noCriteria, isNone, criteria}
 use Rattle.listing_rules.specs.Match.{wildMatch, matches, matchesAny}
 use Rattle.listing_rules.specs.Listing.{meetsCriteria, candidateMeets, meetsBelow, meetsUnmatchedBelow, childInfo, unselective, levelAbove, listed, attributes, attributesFor, inOrder}
@@ -38,14 +38,14 @@ find-uses : (x e b₈ b₉ b₁₀ b₁₁ b₁₂ b₁₃ b₁₄ : Bool) → (
 find-uses x e b₈ b₉ b₁₀ b₁₁ b₁₂ b₁₃ b₁₄ h = ap (λ (u : Bool). x && u) (simp (and-true, or-false, or-assoc)) ∙ find-dropped x e (b₈ || (b₉ || (b₁₀ || (b₁₁ || (b₁₂ || (b₁₃ || (b₁₄ || false))))))) h
 
 -- a table that passes is walked with a lawful option byte
-abbrev pub Walks : List ℕ → ℕ → Type 0
+abbrev pub Walks : Table → ℕ → Type 0
 Walks t o = (passes t ≡ true) × (lawfulByte o ≡ true)
 
 beside : (o : ℕ) → lawfulByte o ≡ true → (not (dropsSubscribed o) || wantsSpecial o) ≡ true
 unfolding lawfulByte
 beside o h = and-r (leb o 7) (not (dropsSubscribed o) || wantsSpecial o) h
 
-pub find-met : (t : List ℕ) (o : ℕ) → Walks t o → (ps : List (List ℕ)) (n : List ℕ) → isFind o (attributes (rows t) (walkOptions o) ps n) ≡ candidateMeets (rows t) (walkOptions o) n
+pub find-met : (t : Table) (o : ℕ) → Walks t o → (ps : List (List ℕ)) (n : List ℕ) → isFind o (attributes (rows t) (walkOptions o) ps n) ≡ candidateMeets (rows t) (walkOptions o) n
 unfolding isFind attr useAttr attributes attributesFor inOrder walkOptions candidateMeets meetsCriteria hasUse uses anyOf
 find-met t o w ps n = go (dropsSubscribed o) (wantsSpecial o) (beside o (w .1)) (use-exists t (w .0) n)
   where

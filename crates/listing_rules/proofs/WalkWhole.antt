@@ -11,7 +11,7 @@ use Rattle.listing_rules.specs.Bytes.{slash, all, within}
 use Rattle.listing_rules.proofs.Keys.{openBytes}
 use Rattle.listing_rules.specs.Lists.{joined}
 use Rattle.listing_rules.specs.Names.{nameByte, lawfulName}
-use Rattle.listing_rules.specs.Table.{rows, passes}
+use Rattle.listing_rules.specs.Table.{Table, rows, passes}
 use Rattle.listing_rules.specs.Tokens.{lineByte}
 use Rattle.listing_rules.specs.Walk.{walked, packed, stop, go, Walked, asked, walkFrom, walkAll, walkRefused, ended, walk}
 use Rattle.listing_rules.specs.Demand3.{declaredWalk, meetingNames, meetingAncestors, walkAnswer}
@@ -31,7 +31,7 @@ use Rattle.listing_rules.proofs.WalkLists.{kids, finds′, fuel, P, F, 
 abbrev pub result : List Name → List Name → Walked
 result f p = record { count = suc (length p); lists = listsOf f p }
 
-module _ (t : List ℕ) (o : ℕ) (wk : Walks t o) (scratch room₁ room₂ : ℕ) where
+module _ (t : Table) (o : ℕ) (wk : Walks t o) (scratch room₁ room₂ : ℕ) where
   ok : passes t ≡ true
   ok = wk .0
 

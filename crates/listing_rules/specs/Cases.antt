@@ -1,5 +1,5 @@
 -- Cases that the definitions are computed on, for the expert's sheet and the table of limits: a case holds or it does not.
-use mathlib.Core.List.{List, [], _∷_, _++_}
+use mathlib.Core.List.{List, [], _∷_, _++_, map}
 use mathlib.Core.Bool.{Bool, true, false, cond, _&&_, _||_, not}
 use lib.Dec.{eqb}
 use lib.ListN.{length, take, replicate}
@@ -7,7 +7,8 @@ use Prim.Native.Nat.{ℕ, suc, _+_, _/_, _%_}
 use Prim.Native.String.{String}
 use Rattle.listing_rules.specs.Bytes.{text, crlf, same, isEmpty}
 use Rattle.listing_rules.specs.Lists.{every, anyOf}
-use Rattle.listing_rules.specs.Table.{rows, passes}
+use Rattle.listing_rules.specs.Table.{Table, rows, passes, packedTable}
+use Rattle.listing_rules.specs.Records.{Record, recordTable}
 use Rattle.listing_rules.specs.Namespaces.{namespacesPass}
 use Rattle.listing_rules.specs.Feeder.{Event, handed, goOn, denied, quiet, goOnLine, Feeder, reading, inLiteral, dropping, first, feedChunks}
 use Rattle.listing_rules.specs.Options.{criteriaNumber}
@@ -41,6 +42,15 @@ abbrev pub lines : List String → List ℕ
 lines [] = []
 lines (s ∷ ss) = sends s ++ lines ss
 
+-- an area, records over it and their count, as they are lent
+pub record Lent : Type 0 where
+  pub area : List ℕ
+  pub records : List Record
+  pub count : ℕ
+
+abbrev pub lentTable : Lent → Table
+lentTable t = recordTable (t .area) (t .records) (t .count)
+
 pub data Case : Type 0 where
   -- a table, a namespace list and a command line are answered so, in a buffer of this length
   replies : ℕ → List ℕ → List ℕ → List ℕ → Reply → Case
@@ -51,6 +61,12 @@ pub data Case : Type 0 where
   walks : List ℕ → ℕ → ℕ → ℕ → ℕ → WalkReply → Case
   -- all of these tables pass, and none of those
   tables : List (List ℕ) → List (List ℕ) → Case
+  -- all of these records pass, and none of those
+  layouts : List Lent → List Lent → Case
+  -- records, a namespace list and a command line are answered so, in a buffer of this length
+  repliesOver : Lent → ℕ → List ℕ → List ℕ → Reply → Case
+  -- records and an option byte, with the rooms of scratch, found and pending, are walked so
+  walksOver : Lent → ℕ → ℕ → ℕ → ℕ → WalkReply → Case
   -- all of these namespace lists pass, and none of those
   spaces : List (List ℕ) → List (List ℕ) → Case
   -- the same with the answer buffer as it was lent: the number, the length, and the buffer's bytes afterwards
@@ -119,21 +135,24 @@ isFirst (inLiteral kept n) = false
 isFirst (dropping cr) = false
 
 -- what demand 3 says of a walk with this result
-abbrev pub asDeclared : List ℕ → ℕ → ℕ → ℕ → ℕ → WalkReply → Bool
+abbrev pub asDeclared : Table → ℕ → ℕ → ℕ → ℕ → WalkReply → Bool
 asDeclared t o s f p (walkRefused k) = not (passes t) || not (lawfulByte o) || tooSmall (rows t) o s f p
 asDeclared t o s f p (walked c fs ps) = not (tooSmall (rows t) o s f p) && sameWalk (declaredWalk t o) (walked c fs ps)
 
 abbrev pub holds : Case → Bool
-holds (replies room t ns l r) = sameReply (limited room (answer t ns l)) r
-holds (refuses k ls) = every (λ l. sameReply (answer [] [] l) (refusal k)) ls
-holds (walks t o s f p r) = sameWalk (walk t o s f p) r && asDeclared t o s f p r
-holds (tables good poor) = every passes good && not (anyOf passes poor)
+holds (replies room t ns l r) = sameReply (limited room (answer (packedTable t) ns l)) r
+holds (refuses k ls) = every (λ l. sameReply (answer (packedTable []) [] l) (refusal k)) ls
+holds (walks t o s f p r) = sameWalk (walk (packedTable t) o s f p) r && asDeclared (packedTable t) o s f p r
+holds (tables good poor) = every (λ t. passes (packedTable t)) good && not (anyOf (λ t. passes (packedTable t)) poor)
+holds (layouts good poor) = every passes (map lentTable good) && not (anyOf passes (map lentTable poor))
+holds (repliesOver t room ns l r) = sameReply (limited room (answer (lentTable t) ns l)) r
+holds (walksOver t o s f p r) = sameWalk (walk (lentTable t) o s f p) r && asDeclared (lentTable t) o s f p r
 holds (spaces good poor) = every namespacesPass good && not (anyOf namespacesPass poor)
 holds (answersInto d t ns l k n e) =
-    let r = served t ns l d in
+    let r = served (packedTable t) ns l d in
     eqb (numberOf r) k && eqb (lengthOf r) n && same (bufferAfter d r) e
 holds (walksInto t o s f p k c n f′ p′) =
-    let r = collected t o s f p in
+    let r = collected (packedTable t) o s f p in
     eqb (walkNumber r) k && eqb (walkCount r) c && eqb (foundLength r) n
     && same (scratchAfter (length s) r) (times (length s) 0) && same (foundAfter (length f) r) f′ && same (pendingAfter (length p) r) p′
 holds (writes room bs n c r) = sameReply (limited room (lineFrom bs n c)) r

@@ -9,7 +9,7 @@ use Rattle.listing_rules.specs.Bytes.{text, slash, oneOf}
 use Rattle.listing_rules.specs.Lists.{keep, joined, anyOf}
 use Rattle.listing_rules.specs.Orders.{sorted}
 use Rattle.listing_rules.specs.Names.{properAncestors, walkOrder}
-use Rattle.listing_rules.specs.Table.{Row, rows}
+use Rattle.listing_rules.specs.Table.{Row, Table, rows}
 use Rattle.listing_rules.specs.Options.{Options}
 use Rattle.listing_rules.specs.Listing.{candidates, candidateMeets}
 use Rattle.listing_rules.specs.Server.{listAnswer}
@@ -37,7 +37,7 @@ unfoldable pub meetingAncestors : List Row → ℕ → List (List ℕ)
 meetingAncestors rs o = sorted walkOrder (joined (map properAncestors (meetingNames rs o)))
 
 -- "the count is one more than there are ancestors"
-unfoldable pub declaredWalk : List ℕ → ℕ → WalkReply
+unfoldable pub declaredWalk : Table → ℕ → WalkReply
 declaredWalk table o =
     walked (1 + length (meetingAncestors (rows table) o)) (packed (meetingNames (rows table) o)) (packed (meetingAncestors (rows table) o))
 
@@ -64,7 +64,7 @@ tooSmall rs o scratch found pending = scratchTooSmall rs o scratch || foundTooSm
 
 -- What the walk's result owes: refused exactly when a buffer is too small (by 9, 10 or 11; which one, the walk's own order
 -- decides), and else what the table says.
-unfoldable pub Demand3 : List ℕ → ℕ → ℕ → ℕ → ℕ → WalkReply → Type 0
+unfoldable pub Demand3 : Table → ℕ → ℕ → ℕ → ℕ → WalkReply → Type 0
 Demand3 table o scratch found pending (walkRefused k) =
     (tooSmall (rows table) o scratch found pending ≡ true) × (oneOf (9 ∷ 10 ∷ 11 ∷ []) k ≡ true)
 Demand3 table o scratch found pending (walked count f p) =

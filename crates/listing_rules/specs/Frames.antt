@@ -6,6 +6,7 @@ use lib.Dec.{eqb, leb}
 use lib.ListN.{length}
 use Prim.Native.Nat.{ℕ, _+_, _-_, _*_, _/_, _%_}
 use Rattle.listing_rules.specs.Bytes.{within, isEmpty, LF}
+use Rattle.listing_rules.specs.Table.{packedTable}
 use Rattle.listing_rules.specs.Tokens.{_>>=_}
 use Rattle.listing_rules.specs.Server.{Reply, refusal, answered, limited, answer}
 use Rattle.listing_rules.specs.Walk.{WalkReply, walkRefused, walked, walk}
@@ -105,8 +106,8 @@ addEntry s bs =
 unfoldable pub framed : Stored → Frame → Stepped
 framed s (tableBytes bs) = addRow s bs
 framed s (namespaceBytes bs) = addEntry s bs
-framed s (command l) = answering s (replyLine (limited 16384 (answer (s .table) (s .namespaces) l)))
-framed s (walkWith o) = answering s (walkLine (walk (s .table) o 16384 8192 8192))
+framed s (command l) = answering s (replyLine (limited 16384 (answer (packedTable (s .table)) (s .namespaces) l)))
+framed s (walkWith o) = answering s (walkLine (walk (packedTable (s .table)) o 16384 8192 8192))
 framed s badFrame = answering s (refusalLine 13)
 
 -- One frame a line, given by its characters without the LF.

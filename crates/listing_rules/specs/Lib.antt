@@ -5,6 +5,7 @@ pub mod Orders
 pub mod Names
 pub mod Flags
 pub mod Table
+pub mod Records
 pub mod Namespaces
 pub mod Tokens
 pub mod Feeder

@@ -3,10 +3,11 @@
 use mathlib.Core.List.{List, [], _∷_, _++_, map}
 use mathlib.Core.Bool.{Bool, true, false}
 use lib.ListN.{replicate}
-use Prim.Native.Nat.{ℕ, zero, suc, _+_, _/_, _%_}
+use Prim.Native.Nat.{ℕ, zero, suc, _+_, _-_, _*_, _/_, _%_}
 use Prim.Native.String.{String}
 use Rattle.listing_rules.specs.Bytes.{text, crlf}
 use Rattle.listing_rules.specs.Lists.{joined}
+use Rattle.listing_rules.specs.Records.{Record}
 use Rattle.listing_rules.specs.Feeder.{handed, goOn, denied}
 use Rattle.listing_rules.specs.Options.{Criteria, noCriteria}
 use Rattle.listing_rules.specs.Server.{refusal, answered}
@@ -14,7 +15,7 @@ use Rattle.listing_rules.specs.Reader.{line, root}
 use Rattle.listing_rules.specs.Walk.{walkRefused, walked, packed}
 use Rattle.listing_rules.specs.Cases.{row, mailbox, entry, times, sends, lines, Case, replies, refuses, walks, tables, spaces, answersInto}
 use Rattle.listing_rules.specs.Cases.{walksInto, writes, writesInto, gives, reads, program, steps, answersFrame, counts, feeds, continues}
-use Rattle.listing_rules.specs.Cases.{}
+use Rattle.listing_rules.specs.Cases.{Lent, layouts, repliesOver, walksOver}
 use Rattle.listing_rules.specs.ExpertSheet.{tableE}
 
 abbrev named : List ℕ → List ℕ
@@ -103,6 +104,33 @@ levels-table =
     ∷ mailbox 0x0001 "T/u/v"
     ∷ [])
 
+-- a record, and records over the bytes of a text
+abbrev at : ℕ → ℕ → ℕ → Record
+at f s l = record { flags = f; start = s; len = l }
+
+abbrev lent : String → List Record → ℕ → Lent
+lent a rs n = record { area = text a; records = rs; count = n }
+
+-- records over so many a's
+abbrev over-area : ℕ → List Record → ℕ → Lent
+over-area n rs c = record { area = times n 97; records = rs; count = c }
+
+-- so many ascending names of two bytes, side by side, and that the last record is right (0) or reaches past the area (1)
+abbrev pair-records : ℕ → ℕ → ℕ → List Record
+pair-records zero k bad = at 0x0001 (2 * k) (2 + bad) ∷ []
+pair-records (suc n) k bad = at 0x0001 (2 * k) 2 ∷ pair-records n (suc k) bad
+
+abbrev pair-names : ℕ → ℕ → List ℕ
+pair-names zero k = []
+pair-names (suc n) k = (65 + k / 32) ∷ (65 + k % 32) ∷ pair-names n (suc k)
+
+abbrev pairs : ℕ → ℕ → Lent
+pairs n bad = record { area = pair-names n 0; records = pair-records (n - 1) 0 bad; count = n }
+
+-- Moo before Foo/Bar in the area, rubbish between them, and a spare record
+abbrev moo-and-foo : Lent
+moo-and-foo = lent "Moo%%Foo/Bar" (at 0x0003 5 7 ∷ at 0x0001 0 3 ∷ at 0xFFFF 0 255 ∷ []) 2
+
 -- flags, row by row: bits 7 and 15, marked with unmarked, and what does not exist
 abbrev pub flags-of-a-row : List Case
 flags-of-a-row =
@@ -132,6 +160,44 @@ order-of-rows =
 abbrev pub size-of-a-table : List Case
 size-of-a-table =
     tables (many 512 0 59 ∷ []) (many 513 0 0 ∷ (many 511 0 59 ++ named (80 ∷ 96 ∷ times 60 97)) ∷ [])
+    ∷ []
+
+-- Records (W4) over an area: names at both ends and in any order of their bytes, unused bytes with anything in them, spare records with
+-- anything in them, copies of a name in unused bytes; then names that overlap by a byte or lie in one another, that end past the area, an
+-- empty one, records that ascend by start and not by name, a count above the records, and the rest of check 1.
+abbrev pub records-layout : List Case
+records-layout =
+    layouts (lent "INBOXxxMoo" (at 0x0001 0 5 ∷ at 0x0001 7 3 ∷ []) 2
+    ∷ lent "MooINBOX" (at 0x0001 3 5 ∷ at 0x0001 0 3 ∷ []) 2
+    ∷ lent "a" (at 0x0001 0 1 ∷ at 0x8000 9 0 ∷ at 0x0001 0 1 ∷ []) 1
+    ∷ lent "a" (at 0x0001 0 1 ∷ []) 0 ∷ lent "" [] 0 ∷ lent "%%" (at 0x0000 0 1 ∷ []) 0
+    ∷ lent "Foo\r/\nFoo" (at 0x0001 6 3 ∷ []) 1
+    ∷ lent "a/ba" (at 0x0001 3 1 ∷ at 0x0001 0 3 ∷ []) 2 ∷ [])
+    (lent "ab" (at 0x0001 0 1 ∷ at 0x0001 0 2 ∷ []) 2 ∷ lent "abc" (at 0x0001 0 2 ∷ at 0x0001 1 2 ∷ []) 2
+    ∷ lent "cba" (at 0x0001 1 2 ∷ at 0x0001 0 2 ∷ []) 2 ∷ lent "abc" (at 0x0001 0 3 ∷ at 0x0001 1 1 ∷ []) 2
+    ∷ lent "aab" (at 0x0001 1 1 ∷ at 0x0001 0 3 ∷ []) 2
+    ∷ lent "ab" (at 0x0001 1 2 ∷ []) 1 ∷ lent "ab" (at 0x0001 2 1 ∷ []) 1 ∷ lent "ab" (at 0x0001 65535 200 ∷ []) 1
+    ∷ lent "ab" (at 0x0001 1 0 ∷ []) 1 ∷ lent "ba" (at 0x0001 0 1 ∷ at 0x0001 1 1 ∷ []) 2
+    ∷ lent "a" (at 0x0001 0 1 ∷ []) 2 ∷ lent "" [] 1
+    ∷ lent "a%" (at 0x0001 0 2 ∷ []) 1 ∷ lent "a" (at 0x0000 0 1 ∷ []) 1 ∷ lent "a/ba" (at 0x0011 3 1 ∷ at 0x0001 0 3 ∷ []) 2 ∷ [])
+    ∷ []
+
+-- an area of 32,768 bytes and of one more; 512 records and one more, of which the last is looked at; a name of 200 bytes and of 201
+abbrev pub records-size : List Case
+records-size =
+    layouts (over-area 32768 (at 0x0001 32767 1 ∷ []) 1 ∷ over-area 200 (at 0x0001 0 200 ∷ []) 1 ∷ pairs 512 0 ∷ [])
+    (over-area 32769 (at 0x0001 32767 1 ∷ []) 1 ∷ over-area 32769 [] 0 ∷ over-area 201 (at 0x0001 0 201 ∷ []) 1 ∷ pairs 513 0 ∷ pairs 511 1 ∷ [])
+    ∷ []
+
+-- a command, a refusal and a walk over records: the rows in the order of their names, the spare record not looked at
+abbrev pub records-answered : List Case
+records-answered =
+    repliesOver moo-and-foo 16384 [] (sends "a LIST \"\" * RETURN (CHILDREN)")
+    (answered (lines ("* LIST (\\HasNoChildren) \"/\" \"Foo/Bar\"" ∷ "* LIST (\\HasNoChildren) \"/\" \"Moo\"" ∷ "a OK done" ∷ [])))
+    ∷ repliesOver (lent "a" (at 0x0001 0 1 ∷ []) 2) 16384 (9 ∷ []) (sends "a LIST") (refusal 1)
+    ∷ repliesOver moo-and-foo 16384 (9 ∷ []) (sends "a LIST") (refusal 2)
+    ∷ walksOver moo-and-foo 0 16384 8192 8192 (walked 2 (packed (text "Foo/Bar" ∷ [])) (packed (text "Foo" ∷ [])))
+    ∷ walksOver (lent "a" (at 0x0001 1 1 ∷ []) 1) 9 16384 8192 8192 (walkRefused 1)
     ∷ []
 
 -- namespace entries: class, prefix length, prefix bytes, delimiter

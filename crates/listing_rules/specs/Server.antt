@@ -6,7 +6,7 @@ use lib.ListN.{length, drop}
 use Prim.Native.Nat.{ℕ}
 use Rattle.listing_rules.specs.Bytes.{text, crlf}
 use Rattle.listing_rules.specs.Lists.{joined}
-use Rattle.listing_rules.specs.Table.{Row, rows, passes}
+use Rattle.listing_rules.specs.Table.{Row, Table, rows, passes}
 use Rattle.listing_rules.specs.Namespaces.{Entry, entries, namespacesPass, ofClass}
 use Rattle.listing_rules.specs.Options.{Options}
 use Rattle.listing_rules.specs.Command.{Parsed, refused, namespace, listing, rootOf, parsed}
@@ -51,7 +51,7 @@ answerTo rs es (listing tag o ps) = answered (listAnswer rs tag o ps)
 answerTo rs es (rootOf tag) = answered (rootLine ++ okLine tag)
 
 -- "Server order: 1, 2, 3, tag 4, 5, rest 4, 6, 7, 8, 9." The first eight:
-unfoldable pub answer : List ℕ → List ℕ → List ℕ → Reply
+unfoldable pub answer : Table → List ℕ → List ℕ → Reply
 answer table spaces l =
     let r = answerTo (rows table) (entries spaces) (parsed l) in
     let e2 = cond (namespacesPass spaces) r (refusal 2) in
@@ -77,5 +77,5 @@ lengthOf (refusal k) = 0
 lengthOf (answered a) = length a
 
 -- one command: the table, the namespace list, the line, and the answer buffer as it was lent
-unfoldable pub served : List ℕ → List ℕ → List ℕ → List ℕ → Reply
+unfoldable pub served : Table → List ℕ → List ℕ → List ℕ → Reply
 served table spaces l buffer = limited (length buffer) (answer table spaces l)

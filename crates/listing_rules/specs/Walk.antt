@@ -6,7 +6,7 @@ use lib.ListN.{length, getD, drop, replicate}
 use Prim.Native.Nat.{ℕ, zero, suc, _-_}
 use Rattle.listing_rules.specs.Bytes.{text, crlf, bit, slash, LF}
 use Rattle.listing_rules.specs.Lists.{joined, onFirst}
-use Rattle.listing_rules.specs.Table.{rows, passes}
+use Rattle.listing_rules.specs.Table.{Table, rows, passes}
 use Rattle.listing_rules.specs.Options.{isNone}
 use Rattle.listing_rules.specs.Listing.{candidates}
 use Rattle.listing_rules.specs.Lines.{quoted, remotePlace, subscribedPlace, allPlace, archivePlace, draftsPlace, flaggedPlace, junkPlace}
@@ -108,7 +108,7 @@ pub record Walked : Type 0 where
   pub lists : Lists
 
 -- "Its namespace list is empty." "Scratch takes the server's answers": its room, and that of found and pending
-module _ (table : List ℕ) (o scratch found pending : ℕ) where
+module _ (table : Table) (o scratch found pending : ℕ) where
   -- one command and its lines: "after each command 9, then by line 10 before 11"
   unfoldable pub asked : Lists → List ℕ → Step Lists
   asked s reference = replied (limited scratch (answer table [] (commandLine o reference))) >>= λ a. takenAll o found pending s (linesOf a)
@@ -134,7 +134,7 @@ ended (stop k) = walkRefused k
 ended (go w) = walked (w .count) (packed (w .lists .finds)) (packed (w .lists .asks))
 
 -- "Collector order: 1, 6, then the walk"; 6 is an option byte that is not lawful. No candidate is asked twice, so the candidates bound the steps.
-unfoldable pub walk : List ℕ → ℕ → ℕ → ℕ → ℕ → WalkReply
+unfoldable pub walk : Table → ℕ → ℕ → ℕ → ℕ → WalkReply
 walk table o scratch found pending =
     let w = ended (walkAll table o scratch found pending (suc (suc (length (candidates (rows table)))))) in
     cond (passes table) (cond (lawfulByte o) w (walkRefused 6)) (walkRefused 1)
@@ -170,5 +170,5 @@ unfoldable pub scratchAfter : ℕ → WalkReply → List ℕ
 scratchAfter room r = replicate room 0
 
 -- one collection: the table, the option byte, and the three buffers as they were lent
-unfoldable pub collected : List ℕ → ℕ → List ℕ → List ℕ → List ℕ → WalkReply
+unfoldable pub collected : Table → ℕ → List ℕ → List ℕ → List ℕ → WalkReply
 collected table o scratch found pending = walk table o (length scratch) (length found) (length pending)

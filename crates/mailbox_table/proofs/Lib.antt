@@ -4,10 +4,16 @@ pub mod SharedLaws
 pub mod BelowLaws
 pub mod IndexLaws
 pub mod ScanLaws
-pub mod CheckLaws
+pub mod HeldLaws
+pub mod UnpackedLaws
+mod AnswerLaws
+mod PackedLaws
+mod LinkLaws
+mod LayoutLaws
+mod CopyLaws
+mod PassLaws
+mod FindLaws
 mod FlagBits
 mod RightLaws
-mod StepLaws
 mod KeptLaws
-mod CollectLaws
 mod InferiorLaws

@@ -8,7 +8,7 @@ use Rattle.listing_rules.specs.Orders.{byteOrder, isLt, ascendsFrom}
 use Rattle.listing_rules.specs.Names.{lawfulName}
 use Rattle.listing_rules.specs.Flags.{lawfulFlags}
 use Rattle.listing_rules.specs.Table.{Row, names}
-use Rattle.mailbox_table.specs.Collect.{rowsRight}
+use Rattle.mailbox_table.specs.Link.{rowsRight}
 use Rattle.listing_rules.proofs.Bools.{and-l, and-r, and-i}
 
 -- rows that are right from x on: each is lawful, and they ascend from x on

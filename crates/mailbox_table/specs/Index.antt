@@ -44,22 +44,22 @@ pub record Indexed (area words : List ℕ) : Type 0 where
   pub inside : (k : ℕ) → k < length words → nthRow words k .start + nthRow words k .len ≤ length area
 
 -- The number of rows, exactly if the table passes and there is room for a word for each: with room for 512, if it passes.
-unfoldable pub indexingOf : List ℕ → ℕ → Indexing
+unfoldable pub indexingOf : Table.Table → ℕ → Indexing
 indexingOf t room = cond (passes t && leb (length (rows t)) room) (Rows (length (rows t))) Fails
 
--- where rows are found, the words at the front are their index
-abbrev pub Found : List ℕ → List ℕ → Indexing → Type 0
-Found t words Fails = Unit {0}
-Found t words (Rows n) = (n ≡ length (rows t)) × (rowsAt t (take n words) ≡ rows t) × Indexed t (take n words)
+-- where rows are found, the words at the front are their index over the area
+abbrev pub Found : List ℕ → List Table.Row → List ℕ → Indexing → Type 0
+Found area rs words Fails = Unit {0}
+Found area rs words (Rows n) = (n ≡ length rs) × (rowsAt area (take n words) ≡ rs) × Indexed area (take n words)
 
 -- the lent words that hold no row: after the rows they stay as they were lent, and on failure every word is zero
 abbrev pub Rest : List ℕ → List ℕ → Indexing → Type 0
 Rest before after Fails = after ≡ replicate (length before) 0
 Rest before after (Rows n) = drop n after ≡ drop n before
 
--- What `index` promises of a table, of the lent words before and after it, and of its answer.
-pub record Indexes (t before after : List ℕ) (r : Indexing) : Type 0 where
+-- What an index promises of a table whose names lie in the area, of the lent words before and after it, and of its answer.
+pub record Indexes (area : List ℕ) (t : Table.Table) (before after : List ℕ) (r : Indexing) : Type 0 where
   pub answer : r ≡ indexingOf t (length before)
   pub room : length after ≡ length before
-  pub found : Found t after r
+  pub found : Found area (rows t) after r
   pub rest : Rest before after r

@@ -1,6 +1,9 @@
--- What the code of the mailbox table means in terms of document 01's definitions. Collect serves this crate alone.
+-- What the code of the mailbox table means in terms of document 01's definitions. Link, Layout and Find serve this crate alone.
 pub mod Words
 pub mod Shared
 pub mod Index
 pub mod Below
-pub mod Collect
+pub mod Packed
+pub mod Link
+pub mod Layout
+pub mod Find

@@ -1,23 +1,30 @@
 // The mailbox table of document 01: flags and rows, check 1, and an index of the rows.
 //
-// The table stays where the caller has it. The index is one number for each row (`rows::Row::word`), in memory that the caller
-// lends: where the row's name lies in the table, its flags, and how many bytes it shares with the name before. What works on
-// rows asks the index and never counts bytes of the packed form.
-mod collect;
+// The names stay where the caller has them, in the area of name bytes of a table of records or in the packed table, which is its
+// own area. The index is one number for each row (`rows::Row::word`), in memory that the caller lends: where the row's name lies
+// in the area, its flags, and how many bytes it shares with the name before. What works on rows asks the index and never counts
+// bytes of the packed form. A record is such a number too, without what is shared: records and packed rows go through one check.
 pub mod flags;
 mod inferiors;
+mod layout;
+mod link;
+mod packed;
+mod raw;
 pub mod rows;
 pub mod scan;
 
-use collect::collect_rows;
-use inferiors::inferiors_pass;
+use packed::find_rows;
+use packed::split_rows;
+use raw::find_words;
+use records::Record;
+use records::copy_in;
+pub use records::no_words;
 ghost use mathlib.Core.Path.{_≡_};
 ghost use lib.ListN.{length, replicate};
-ghost use Rattle.listing_rules.specs.Table.{passes};
-ghost use Rattle.mailbox_table.specs.Index.{indexingOf, Indexes};
-ghost use Rattle.mailbox_table.specs.Collect.{Collects};
-
-pub(crate) const MAX_ROWS: usize = 512;
+ghost use Rattle.listing_rules.specs.Table.{passes, packedTable};
+ghost use Rattle.records.specs.Lent.{lentTable, wordTable};
+ghost use Rattle.mailbox_table.specs.Index.{Indexes};
+ghost use Rattle.mailbox_table.specs.Packed.{Unpacks};
 
 pub(crate) const MAX_BYTES: usize = 32768;
 
@@ -28,9 +35,9 @@ pub enum Indexing {
     Fails,
 }
 
-// Check 1: whether the table passes.
+// Check 1: whether the packed table passes.
 pub fn check(table: &[u8]) -> bool
-    ensures { λ r. ⌜ r ≡ passes (now (table .entry)) ⌝ }
+    ensures { λ r. ⌜ r ≡ passes (packedTable (now (table .entry))) ⌝ }
 {
     let mut words = no_words();
     match index(table, &mut words) {
@@ -42,7 +49,7 @@ pub fn check(table: &[u8]) -> bool
 // Check 1, and the index of the rows at the front of `words`: with room for 512 words it fails exactly if the table does not
 // pass. The words after the rows stay as they were lent. Where it fails, every word is zero.
 pub fn index(table: &[u8], words: &mut [u64]) -> Indexing
-    ensures { λ r. ⌜ Indexes (now (table .entry)) (now (words .entry)) (now (words .exit)) r ⌝ }
+    ensures { λ r. ⌜ Indexes (now (table .entry)) (packedTable (now (table .entry))) (now (words .entry)) (now (words .exit)) r ⌝ }
 {
     let Indexing::Rows(n) = find_rows(table, words) else {
         clear_words(words);
@@ -51,20 +58,47 @@ pub fn index(table: &[u8], words: &mut [u64]) -> Indexing
     Indexing::Rows(n)
 }
 
-// Check 1, and the index of the rows. Where it fails, the words are what the passes left.
-fn find_rows(table: &[u8], words: &mut [u64]) -> Indexing
-    ensures { λ r. ⌜ Collects (now (table .entry)) (now (words .entry)) (now (words .exit))
-        (indexingOf (now (table .entry)) (length (now (words .entry)))) r ⌝ }
+// Check 1: whether the first `count` records pass, over the area of name bytes.
+pub fn check_records(records: &[Record], count: usize, area: &[u8]) -> bool
+    ensures { λ r. ⌜ r ≡ passes (lentTable (now (area .entry)) (now (records .entry)) count) ⌝ }
 {
-    if MAX_BYTES < table.len() {
-        return Indexing::Fails;
+    let mut words = no_words();
+    let n = copy_in(records, count, &mut words);
+    check_words(&words[..n], count, area)
+}
+
+// The same over records, each as a number.
+pub fn check_words(raw: &[u64], count: usize, area: &[u8]) -> bool
+    ensures { λ r. ⌜ r ≡ passes (wordTable (now (area .entry)) (now (raw .entry)) count) ⌝ }
+{
+    let mut words = no_words();
+    match index_words(area, raw, count, &mut words) {
+        Indexing::Rows(_) => true,
+        Indexing::Fails => false,
     }
-    let Indexing::Rows(n) = collect_rows(table, words) else {
+}
+
+// Check 1 of the first `count` of the records, and the index of their rows as `index` gives it.
+pub fn index_words(area: &[u8], raw: &[u64], count: usize, words: &mut [u64]) -> Indexing
+    ensures { λ r. ⌜ Indexes (now (area .entry)) (wordTable (now (area .entry)) (now (raw .entry)) count)
+        (now (words .entry)) (now (words .exit)) r ⌝ }
+{
+    let Indexing::Rows(n) = find_words(area, raw, count, words) else {
+        clear_words(words);
         return Indexing::Fails;
     };
-    if !inferiors_pass(table, &words[..n]) {
+    Indexing::Rows(n)
+}
+
+// The packed table turned into records, at the front of `words`; the words after them stay as they were lent. It fails, with every
+// word zero, if rows do not fill the table exactly or are more than 512 or than there is room for.
+pub fn unpack(table: &[u8], words: &mut [u64]) -> Indexing
+    ensures { λ r. ⌜ Unpacks (now (table .entry)) (now (words .entry)) (now (words .exit)) r ⌝ }
+{
+    let Indexing::Rows(n) = split_rows(table, words) else {
+        clear_words(words);
         return Indexing::Fails;
-    }
+    };
     Indexing::Rows(n)
 }
 
@@ -77,11 +111,4 @@ fn clear_words(words: &mut [u64])
         words[i] = 0;
         i += 1;
     }
-}
-
-// Room for the index of any table that passes.
-pub fn no_words() -> [u64; MAX_ROWS]
-    ensures { λ r. ⌜ r ≡ replicate 512 0 ⌝ }
-{
-    [0u64; MAX_ROWS]
 }

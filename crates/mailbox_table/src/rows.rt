@@ -13,8 +13,14 @@ pub struct Row {
     pub shared: usize,
 }
 
+// A row that stands where it should, or none.
+pub(crate) enum Step {
+    Next(Row),
+    Bad,
+}
+
 impl Row {
-    // The row as one number. Only `collect` makes words, of rows whose places it has tested.
+    // The row as one number. Only `packed` and `link` make words, of rows whose places they have tested.
     pub(crate) fn word(self) -> u64
         requires { ⌜ Packs self ⌝ }
         ensures { λ r. ⌜ r ≡ wordOf self ⌝ }

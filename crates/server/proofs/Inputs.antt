@@ -8,7 +8,7 @@ use lib.Dec.{leb}
 use lib.ListN.{length, take, length-append, drop}
 use lib.Seq.{length-take-le, sets, take-append-seam, drop-length, take-nil}
 use borrow.Author.Tests.{le-leb, leb-true, lt-leb}
-use Rattle.listing_rules.specs.Table.{rows, passes}
+use Rattle.listing_rules.specs.Table.{Table, rows, passes}
 use Rattle.listing_rules.proofs.Passes.{TableParts, passes-parts}
 use Rattle.mailbox_table.specs.declared.Indexing.{Indexing}
 use Rattle.mailbox_table.specs.declared.Indexing.the-variants.{Rows, Fails}
@@ -36,10 +36,10 @@ use Rattle.server.specs.Replies.{Few}
 -- The index of a table, with room for 512 rows
 
 -- a table that passes has room
-roomy : (t : List ℕ) → passes t ≡ true → leb (length (rows t)) 512 ≡ true
+roomy : (t : Table) → passes t ≡ true → leb (length (rows t)) 512 ≡ true
 roomy t e = le-leb (length (rows t)) 512 (passes-parts t e .few)
 
-module _ {t before words : List ℕ} {r : Indexing} (x : Indexes t before words r) (h : length before ≡ 512) where
+module _ {area : List ℕ} {t : Table} {before words : List ℕ} {r : Indexing} (x : Indexes area t before words r) (h : length before ≡ 512) where
   answer-is : r ≡ indexingOf t 512
   answer-is = x .answer ∙ ap (indexingOf t) h
 
@@ -63,8 +63,8 @@ module _ {t before words : List ℕ} {r : Indexing} (x : Indexes t before words 
   pub record Known (n : ℕ) : Type 0 where
     pub inside : n ≤ length words
     pub size : n ≡ length (take n words)
-    pub same : rowsAt t (take n words) ≡ rows t
-    pub index : Index t (take n words)
+    pub same : rowsAt area (take n words) ≡ rows t
+    pub index : Index area (take n words)
 
   pub index-rows : (n : ℕ) → r ≡ Rows n → Known n
   index-rows n e =
@@ -79,10 +79,10 @@ module _ {t before words : List ℕ} {r : Indexing} (x : Indexes t before words 
         };
       }
     where
-      f : (n ≡ length (rows t)) × (rowsAt t (take n words) ≡ rows t) × Indexed t (take n words)
-      f = subst (λ (q : Indexing). Found t words q) e (x .found)
+      f : (n ≡ length (rows t)) × (rowsAt area (take n words) ≡ rows t) × Indexed area (take n words)
+      f = subst (λ (q : Indexing). Found area (rows t) words q) e (x .found)
 
-      parts : TableParts t
+      parts : TableParts (rows t)
       parts = passes-parts t (index-passes n e)
 
       fits : n ≤ length words

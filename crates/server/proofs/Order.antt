@@ -1,10 +1,10 @@
 -- The refusals in document 01's order, and the reply to a command by its kind. Rests on Inputs.
 use mathlib.Core.Path.{_≡_, refl, sym, ap, _∙_}
-use mathlib.Core.Bool.{true, false}
+use mathlib.Core.Bool.{true, false, cond}
 use mathlib.Core.List.{List}
 use Prim.Native.Nat.{ℕ}
 use lib.ListN.{length}
-use Rattle.listing_rules.specs.Table.{rows, passes}
+use Rattle.listing_rules.specs.Table.{Table, rows, passes}
 use Rattle.listing_rules.specs.Namespaces.{entries, namespacesPass}
 use Rattle.listing_rules.specs.Command.{parsed}
 use Rattle.listing_rules.specs.Server.{refusal, answer, answerTo, limited, served, bufferAfter}
@@ -17,7 +17,7 @@ use Rattle.command_line.specs.OptionSets.{optionsIs}
 use Rattle.command_line.specs.Commands.{meaning, meaningAs, patternsOf}
 use Rattle.command_line.specs.Spans.{spanBytes}
 use Rattle.mailbox_table.specs.Index.{rowsAt}
-use Rattle.server.specs.Replies.{commandReply, spacesReply, rootReply, listingReply, Few}
+use Rattle.server.specs.Replies.{commandReply, indexReply, spacesReply, rootReply, listingReply, Few}
 use Rattle.server.proofs.Inputs.{listing-few}
 
 -- a number of refusal, and no byte changed
@@ -25,18 +25,22 @@ pub refused-with : (k : ℕ) (d : List ℕ) → Gives (refusal k) d d (Refused k
 unfolding limited writtenIs bufferAfter
 refused-with k d = (refl, refl)
 
-module _ (t s l d : List ℕ) where
+module _ (t : Table) (s l d : List ℕ) where
   pub served-1 : passes t ≡ false → served t s l d ≡ limited (length d) (refusal 1)
   unfolding served answer
   served-1 e = rw e
 
-  pub served-2 : passes t ≡ true → namespacesPass s ≡ false → served t s l d ≡ limited (length d) (refusal 2)
+  pub served-on : (area words : List ℕ) → passes t ≡ true → rowsAt area words ≡ rows t → served t s l d ≡ limited (length d) (indexReply area words s l)
   unfolding served answer
-  served-2 e f = rw (e, f)
+  served-on area words e f = rw (e, f)
 
-  pub served-on : passes t ≡ true → namespacesPass s ≡ true → served t s l d ≡ limited (length d) (answerTo (rows t) (entries s) (parsed l))
-  unfolding served answer
-  served-on e f = rw (e, f)
+-- over an index: the namespace list, then the command
+module _ (area words s l : List ℕ) where
+  pub index-2 : namespacesPass s ≡ false → indexReply area words s l ≡ refusal 2
+  index-2 e = rw e
+
+  pub index-on : namespacesPass s ≡ true → indexReply area words s l ≡ commandReply area words s l
+  index-on e = rw e
 
 -- The reply to a command that was read, by its kind
 module _ (area words namespaces l : List ℕ) (c : Command) (m : meaning l c ≡ parsed l) where

@@ -1,15 +1,15 @@
 -- The replies of the server, of what its functions have: an index, the namespace list, the line, a command that was read.
 use mathlib.Core.Path.{_≡_}
-use mathlib.Core.Bool.{true}
+use mathlib.Core.Bool.{true, cond}
 use mathlib.Core.List.{List, _++_}
 use Prim.Native.Nat.{ℕ, _≤_}
 use lib.Dec.{leb}
 use lib.ListN.{length}
 use Rattle.listing_rules.specs.Lists.{every}
-use Rattle.listing_rules.specs.Namespaces.{entries}
+use Rattle.listing_rules.specs.Namespaces.{entries, namespacesPass}
 use Rattle.listing_rules.specs.Command.{parsed}
 use Rattle.listing_rules.specs.Lines.{rootLine, okLine}
-use Rattle.listing_rules.specs.Server.{Reply, answered, answerTo, listAnswer, namespaceAnswer}
+use Rattle.listing_rules.specs.Server.{Reply, refusal, answered, answerTo, listAnswer, namespaceAnswer}
 use Rattle.command_line.specs.declared.Command.{Command}
 use Rattle.command_line.specs.OptionSets.{optionsIs}
 use Rattle.command_line.specs.Commands.{patternsOf}
@@ -18,6 +18,10 @@ use Rattle.mailbox_table.specs.Index.{rowsAt}
 -- to a line, over an index
 abbrev pub commandReply : List ℕ → List ℕ → List ℕ → List ℕ → Reply
 commandReply area words namespaces line = answerTo (rowsAt area words) (entries namespaces) (parsed line)
+
+-- the same behind check 2
+abbrev pub indexReply : List ℕ → List ℕ → List ℕ → List ℕ → Reply
+indexReply area words namespaces line = cond (namespacesPass namespaces) (commandReply area words namespaces line) (refusal 2)
 
 -- to NAMESPACE
 abbrev pub spacesText : List ℕ → List ℕ → List ℕ

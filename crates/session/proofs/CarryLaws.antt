@@ -8,6 +8,7 @@ use lib.Dec.{leb}
 use lib.ListN.{length, take, drop, replicate, length-append, length-replicate}
 use lib.Seq.{sets, sets-eq, length-take-le, take-at, drop-at}
 use borrow.Author.Tests.{leb-true, le-leb}
+use Rattle.listing_rules.specs.Table.{packedTable}
 use Rattle.listing_rules.specs.Server.{Reply, refusal, answered, limited, answer, served, bufferAfter}
 use Rattle.listing_rules.specs.Walk.{WalkReply, walkRefused, walked, walk, collected, foundAfter, zeroBehind}
 use Rattle.listing_rules.specs.Frames.{Stored, Stepped, hex, answerLine, refusalLine, replyLine, walkLine, answering, addRow, addEntry, framed}
@@ -77,26 +78,26 @@ known-refused (refusal j) k w = cc
 known-refused (answered a) k w = cc
 
 -- a command's line, by the server's answer `x` and the buffer `e` that it left
-module _ (t n l b e : List ℕ) (x : Written) (h : length b ≡ 16384) (a : x ≡ writtenIs (served t n l b)) (m : e ≡ bufferAfter b (served t n l b)) where
-  served-as : served t n l b ≡ limited 16384 (answer t n l)
+module _ (t n l b e : List ℕ) (x : Written) (h : length b ≡ 16384) (a : x ≡ writtenIs (served (packedTable t) n l b)) (m : e ≡ bufferAfter b (served (packedTable t) n l b)) where
+  served-as : served (packedTable t) n l b ≡ limited 16384 (answer (packedTable t) n l)
   unfolding served
-  served-as = ap (λ (room : ℕ). limited room (answer t n l)) h
+  served-as = ap (λ (room : ℕ). limited room (answer (packedTable t) n l)) h
 
   pub reply-fits : (k : ℕ) → x ≡ Wrote k → (k ≤ 16384) × (length (take k e) ≡ k)
   reply-fits k w =
-      let y = known-answered (served t n l b) b e k (sym a ∙ w) m in
-      (omega (arith, y .1, limited-fits 16384 (answer t n l) (take k e) (sym served-as ∙ y .0)), y .1)
+      let y = known-answered (served (packedTable t) n l b) b e k (sym a ∙ w) m in
+      (omega (arith, y .1, limited-fits 16384 (answer (packedTable t) n l) (take k e) (sym served-as ∙ y .0)), y .1)
 
   pub reply-says : (o p : List ℕ) (k r : ℕ) → x ≡ Wrote k → Put o p 0 (answerLine (0x41 ∷ take k e)) r → Says (commandLine t n l) o p r
   unfolding replyLine
   reply-says o p k r w put =
-      let y = known-answered (served t n l b) b e k (sym a ∙ w) m in
+      let y = known-answered (served (packedTable t) n l b) b e k (sym a ∙ w) m in
       let f = reply-fits k w in
       rw (sym served-as ∙ y .0) (says (omega (arith, length-line (0x41 ∷ take k e), f .0, f .1)) put)
 
   pub reply-refuses : (o p : List ℕ) (k r : ℕ) → x ≡ NotWritten k → Put o p 0 (refusalLine k) r → Says (commandLine t n l) o p r
   unfolding replyLine
-  reply-refuses o p k r w put = rw (sym served-as ∙ known-refused (served t n l b) k (sym a ∙ w)) (says-refusal k put)
+  reply-refuses o p k r w put = rw (sym served-as ∙ known-refused (served (packedTable t) n l b) k (sym a ∙ w)) (says-refusal k put)
 
 -- a walk by the collector's answer: what was found lies at the front of its buffer
 known-walked : (r : WalkReply) (e : List ℕ) (room c k : ℕ) → length e ≡ room → collectedIs r ≡ Done c k → e ≡ foundAfter room r → (k ≤ room) × (length (take k e) ≡ k) × (walkLine r ≡ answerLine (0x57 ∷ c / 256 % 256 ∷ c % 256 ∷ take k e))
@@ -115,23 +116,23 @@ known-stopped (walkRefused j) k w = let z : j ≡ k = cc in ap refusalLine z
 known-stopped (walked c f p) k w = cc
 
 -- a walk's line, by the collector's answer `x` and the buffer `e` that it left
-module _ (t : List ℕ) (option : ℕ) (s f p e : List ℕ) (x : Collected) (sizes : (length s ≡ 16384) × (length f ≡ 8192) × (length p ≡ 8192)) (a : x ≡ collectedIs (collected t option s f p)) (same : length e ≡ length f) (m : e ≡ foundAfter (length f) (collected t option s f p)) where
-  collected-as : collected t option s f p ≡ walk t option 16384 8192 8192
+module _ (t : List ℕ) (option : ℕ) (s f p e : List ℕ) (x : Collected) (sizes : (length s ≡ 16384) × (length f ≡ 8192) × (length p ≡ 8192)) (a : x ≡ collectedIs (collected (packedTable t) option s f p)) (same : length e ≡ length f) (m : e ≡ foundAfter (length f) (collected (packedTable t) option s f p)) where
+  collected-as : collected (packedTable t) option s f p ≡ walk (packedTable t) option 16384 8192 8192
   unfolding collected
-  collected-as = λ i. walk t option (sizes .0 i) (sizes .1 i) (sizes .2 i)
+  collected-as = λ i. walk (packedTable t) option (sizes .0 i) (sizes .1 i) (sizes .2 i)
 
   pub walk-fits : (c k : ℕ) → x ≡ Done c k → (k ≤ length e) × (length (take k e) ≡ k)
   walk-fits c k w =
-      let y = known-walked (collected t option s f p) e (length f) c k same (sym a ∙ w) m in
+      let y = known-walked (collected (packedTable t) option s f p) e (length f) c k same (sym a ∙ w) m in
       (omega (arith, y .0, same), y .1)
 
-  pub walk-says : (o q : List ℕ) (c k r : ℕ) → x ≡ Done c k → Put o q 0 (answerLine (0x57 ∷ c / 256 % 256 ∷ c % 256 ∷ take k e)) r → Says (walkLine (walk t option 16384 8192 8192)) o q r
+  pub walk-says : (o q : List ℕ) (c k r : ℕ) → x ≡ Done c k → Put o q 0 (answerLine (0x57 ∷ c / 256 % 256 ∷ c % 256 ∷ take k e)) r → Says (walkLine (walk (packedTable t) option 16384 8192 8192)) o q r
   walk-says o q c k r w put =
-      let y = known-walked (collected t option s f p) e (length f) c k same (sym a ∙ w) m in
+      let y = known-walked (collected (packedTable t) option s f p) e (length f) c k same (sym a ∙ w) m in
       rw (ap walkLine (sym collected-as) ∙ y .2) (says (omega (arith, length-line (0x57 ∷ c / 256 % 256 ∷ c % 256 ∷ take k e), y .0, y .1, sizes .1)) put)
 
-  pub walk-refuses : (o q : List ℕ) (k r : ℕ) → x ≡ Refused k → Put o q 0 (refusalLine k) r → Says (walkLine (walk t option 16384 8192 8192)) o q r
-  walk-refuses o q k r w put = rw (ap walkLine (sym collected-as) ∙ known-stopped (collected t option s f p) k (sym a ∙ w)) (says-refusal k put)
+  pub walk-refuses : (o q : List ℕ) (k r : ℕ) → x ≡ Refused k → Put o q 0 (refusalLine k) r → Says (walkLine (walk (packedTable t) option 16384 8192 8192)) o q r
+  walk-refuses o q k r w put = rw (ap walkLine (sym collected-as) ∙ known-stopped (collected (packedTable t) option s f p) k (sym a ∙ w)) (says-refusal k put)
 
 -- bytes after those that were added stay
 behind-added : (d bs : List ℕ) (used : ℕ) → used + length bs ≤ length d → drop (used + length bs) (sets d used bs) ≡ drop (used + length bs) d
@@ -229,9 +230,9 @@ module _ (d : Lent) (n : Lengths) (w : Within n (d .table) (d .namespaces)) (f :
   unfolding framed frameIs
   kind-command size o k e x = rw e (carries-said (commandLine (take (n .table) (d .table)) (take (n .namespaces) (d .namespaces)) (take size bytes)) o k x)
 
-  pub kind-walk : (option : ℕ) (o : List ℕ) (k : ℕ) → f ≡ Walk option → Says (walkLine (walk (take (n .table) (d .table)) option 16384 8192 8192)) (d .out) o k → CarriesOut n bytes f d (lent (d .table) (d .namespaces) o) (outcomeIs (n .table) (n .namespaces) k)
+  pub kind-walk : (option : ℕ) (o : List ℕ) (k : ℕ) → f ≡ Walk option → Says (walkLine (walk (packedTable (take (n .table) (d .table))) option 16384 8192 8192)) (d .out) o k → CarriesOut n bytes f d (lent (d .table) (d .namespaces) o) (outcomeIs (n .table) (n .namespaces) k)
   unfolding framed frameIs
-  kind-walk option o k e x = rw e (carries-said (walkLine (walk (take (n .table) (d .table)) option 16384 8192 8192)) o k x)
+  kind-walk option o k e x = rw e (carries-said (walkLine (walk (packedTable (take (n .table) (d .table))) option 16384 8192 8192)) o k x)
 
   pub kind-bad : (o : List ℕ) (k : ℕ) → f ≡ Bad → Put (d .out) o 0 (refusalLine 13) k → CarriesOut n bytes f d (lent (d .table) (d .namespaces) o) (outcomeIs (n .table) (n .namespaces) k)
   unfolding framed frameIs

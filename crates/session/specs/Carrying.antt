@@ -6,6 +6,7 @@ use lib.Dec.{leb}
 use lib.ListN.{length, take, drop}
 use lib.Seq.{sets}
 use Prim.Native.Nat.{ℕ, _+_, _≤_}
+use Rattle.listing_rules.specs.Table.{packedTable}
 use Rattle.listing_rules.specs.Server.{limited, answer}
 use Rattle.listing_rules.specs.Frames.{Frame as Meant, Stored, Stepped, refusalLine, replyLine, readFrame, framed}
 use Rattle.frames.specs.declared.gathering.Gathered.{Gathered}
@@ -36,7 +37,7 @@ Within n table namespaces =
 
 -- the line that answers a command
 abbrev pub commandLine : List ℕ → List ℕ → List ℕ → List ℕ
-commandLine table namespaces command = replyLine (limited 16384 (answer table namespaces command))
+commandLine table namespaces command = replyLine (limited 16384 (answer (packedTable table) namespaces command))
 
 abbrev pub outcomeIs : ℕ → ℕ → ℕ → Outcome
 outcomeIs table namespaces written = record { stored = record { table = table; namespaces = namespaces }; written = written }

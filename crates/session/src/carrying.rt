@@ -3,13 +3,14 @@
 ghost use mathlib.Core.Path.{_≡_};
 ghost use Prim.Native.Nat.{_≤_};
 ghost use lib.ListN.{length, replicate};
+ghost use Rattle.listing_rules.specs.Table.{packedTable};
 ghost use Rattle.listing_rules.specs.Walk.{walk};
 ghost use Rattle.listing_rules.specs.Frames.{walkLine};
 ghost use Rattle.frames.specs.Reading.{sizeOf};
 ghost use Rattle.session.specs.Carrying.{lent, Within, outcomeIs, commandLine, Says, Keeps, CarriesOut, Ended};
 use crate::Lengths;
 use collector::Collected;
-use collector::collect;
+use collector::collect_packed;
 use frames::ANSWER;
 use frames::Frame;
 use frames::Gathered;
@@ -88,7 +89,7 @@ fn reply(table: &[u8], namespaces: &[u8], command: &[u8], out: &mut [u8]) -> usi
     ensures { λ r. ⌜ Says (commandLine (now (table .entry)) (now (namespaces .entry)) (now (command .entry))) (now (out .entry)) (now (out .exit)) r ⌝ }
 {
     let mut answer = answer_buffer();
-    match server::answer(table, namespaces, command, &mut answer) {
+    match server::answer_packed(table, namespaces, command, &mut answer) {
         Written::Done(n) => put_line(out, 0, ANSWER, &answer[..n]),
         Written::Refused(number) => put_refusal(out, 0, number),
     }
@@ -96,12 +97,12 @@ fn reply(table: &[u8], namespaces: &[u8], command: &[u8], out: &mut [u8]) -> usi
 
 // A walk's line: the number of commands and what was found, or the number of its refusal.
 fn walk_line(table: &[u8], option: u8, out: &mut [u8]) -> usize
-    ensures { λ r. ⌜ Says (walkLine (walk (now (table .entry)) option 16384 8192 8192)) (now (out .entry)) (now (out .exit)) r ⌝ }
+    ensures { λ r. ⌜ Says (walkLine (walk (packedTable (now (table .entry))) option 16384 8192 8192)) (now (out .entry)) (now (out .exit)) r ⌝ }
 {
     let mut scratch = answer_buffer();
     let mut found = names_buffer();
     let mut pending = names_buffer();
-    match collect(table, option, &mut scratch, &mut found, &mut pending) {
+    match collect_packed(table, option, &mut scratch, &mut found, &mut pending) {
         Collected::Done(count, n) => put_walk(out, 0, count, &found[..n]),
         Collected::Refused(number) => put_refusal(out, 0, number),
     }

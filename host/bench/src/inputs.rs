@@ -1,7 +1,10 @@
-//! What is measured: tables of several sizes, and the calls over them.
+//! What is measured: tables of several sizes, in both forms, and the calls over them.
 
+use compare::records::Layout;
+use compare::tables::{table_bytes, NewRow};
 use second::namespaces::Entry;
-use second::table::{Flags, Row};
+use second::table::Flags;
+use second::Record;
 
 /// Rows of the tables.
 pub const SIZES: [usize; 4] = [64, 128, 256, 512];
@@ -36,37 +39,56 @@ pub enum Table {
     ManyA,
 }
 
+#[derive(Clone, Copy, PartialEq)]
+pub enum Form {
+    Packed,
+    Records,
+}
+
 pub struct Case {
     pub title: &'static str,
     pub table: Table,
+    pub form: Form,
     pub call: Call,
 }
 
-pub const CASES: [Case; 9] = [
-    Case { title: "check of the table", table: Table::Tree, call: Call::Check },
+pub const CASES: [Case; 13] = [
+    packed_case("check of the table", Table::Tree, Call::Check),
     text_case(r#"`LIST "" "*"`"#, r#"a LIST "" "*""#),
     text_case(r#"`LIST "" "%"`"#, r#"a LIST "" "%""#),
     text_case(
         r#"`LIST (SUBSCRIBED RECURSIVEMATCH) "" "%"`"#,
         r#"a LIST (SUBSCRIBED RECURSIVEMATCH) "" "%""#,
     ),
-    Case {
-        title: "eight patterns of forty `*`",
-        table: Table::Tree,
-        call: Call::Command(Command::Stars { patterns: 8, length: 40 }),
-    },
-    Case {
-        title: "`%a` twenty times, then `b`",
-        table: Table::ManyA,
-        call: Call::Command(Command::PercentA(20)),
-    },
+    packed_case(
+        "eight patterns of forty `*`",
+        Table::Tree,
+        Call::Command(Command::Stars { patterns: 8, length: 40 }),
+    ),
+    packed_case("`%a` twenty times, then `b`", Table::ManyA, Call::Command(Command::PercentA(20))),
     text_case(r#"`LIST "" "*" RETURN (CHILDREN)`"#, r#"a LIST "" "*" RETURN (CHILDREN)"#),
     text_case("`NAMESPACE`", "a NAMESPACE"),
-    Case { title: "a whole walk", table: Table::Tree, call: Call::Walk(0) },
+    packed_case("a whole walk", Table::Tree, Call::Walk(0)),
+    records_case("check of records", Call::Check),
+    records_case(r#"`LIST "" "*"` over records"#, text_call(r#"a LIST "" "*""#)),
+    records_case(r#"`LIST "" "%"` over records"#, text_call(r#"a LIST "" "%""#)),
+    records_case("a whole walk over records", Call::Walk(0)),
 ];
 
+const fn packed_case(title: &'static str, table: Table, call: Call) -> Case {
+    Case { title, table, form: Form::Packed, call }
+}
+
 const fn text_case(title: &'static str, line: &'static str) -> Case {
-    Case { title, table: Table::Tree, call: Call::Command(Command::Text(line)) }
+    packed_case(title, Table::Tree, text_call(line))
+}
+
+const fn records_case(title: &'static str, call: Call) -> Case {
+    Case { title, table: Table::Tree, form: Form::Records, call }
+}
+
+const fn text_call(line: &'static str) -> Call {
+    Call::Command(Command::Text(line))
 }
 
 impl Command {
@@ -82,14 +104,42 @@ impl Command {
     }
 }
 
+/// How far apart in the rows two names are that lie side by side in the area. It has no divisor with
+/// the numbers of rows.
+const STRIDE: usize = 37;
+/// What lies before each name and is no name's.
+const UNUSED: u8 = 0;
+
 impl Table {
+    /// The packed form.
     pub fn bytes(self, rows: usize) -> Vec<u8> {
-        let mut named: Vec<(String, Flags)> = (0..rows).map(|at| self.row(at)).collect();
-        named.sort_by(|one, other| one.0.cmp(&other.0));
-        let bytes = |(name, flags): &(String, Flags)| {
-            Row { flags: *flags, name: name.as_bytes() }.to_bytes().unwrap_or_default()
+        table_bytes(&self.rows(rows))
+    }
+
+    /// The same rows as records: the names lie in another order, with an unused byte before each.
+    pub fn layout(self, rows: usize) -> Layout {
+        let rows = self.rows(rows);
+        let mut records = vec![Record::default(); rows.len()];
+        let mut area = Vec::new();
+        for place in 0..rows.len() {
+            let at = place * STRIDE % rows.len();
+            let NewRow { flags, name } = &rows[at];
+            area.push(UNUSED);
+            let (start, len) = (area.len() as u16, name.len() as u8);
+            records[at] = Record { flags: flags.bits(), start, len };
+            area.extend_from_slice(name);
+        }
+        Layout { count: records.len(), records, area }
+    }
+
+    fn rows(self, count: usize) -> Vec<NewRow> {
+        let row = |at| {
+            let (name, flags) = self.row(at);
+            NewRow { flags, name: name.into_bytes() }
         };
-        named.iter().flat_map(bytes).collect()
+        let mut rows: Vec<NewRow> = (0..count).map(row).collect();
+        rows.sort_by(|one, other| one.name.cmp(&other.name));
+        rows
     }
 
     fn row(self, at: usize) -> (String, Flags) {

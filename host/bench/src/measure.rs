@@ -3,11 +3,11 @@
 use std::array;
 use std::hint::black_box;
 
-use compare::library::both::{ANSWER, CHECK_TABLE, COLLECT, PROVED, SECOND};
+use compare::library::both::{Lent, Mailboxes, ANSWER, CHECK_TABLE, COLLECT, PROVED, SECOND};
 
 use crate::clock::seconds_of_one;
 use crate::floor;
-use crate::inputs::{namespaces, Call, Case, SIZES};
+use crate::inputs::{namespaces, Call, Case, Form, SIZES};
 
 /// More than any answer to these cases.
 const ROOM: usize = 65_536;
@@ -16,10 +16,12 @@ const SAMPLE_SECONDS: f64 = 0.000_5;
 /// In a round each contender has one sample at each size, one behind the other.
 const ROUNDS: usize = 41;
 
-/// Who is measured: the two libraries, by their places in `both`, and the two floors.
-const CONTENDERS: usize = 4;
+/// Who is measured: the two libraries, by their places in `both`, the two floors, and the proved
+/// library over the packed form of the same rows.
+const CONTENDERS: usize = 5;
 const BYTE_FLOOR: usize = 2;
 const BLOCK_FLOOR: usize = 3;
+const PACKED: usize = 4;
 
 /// Medians over the rounds.
 pub struct Measured {
@@ -29,6 +31,8 @@ pub struct Measured {
     pub by_byte_floor: f64,
     /// The same with the widest loads and stores there are.
     pub by_block_floor: f64,
+    /// The same by its own over the packed form of the same rows.
+    pub by_packed: f64,
     /// The proved library's time by its own at the first size.
     pub growth: f64,
     /// Seconds of one call of the proved library.
@@ -50,7 +54,9 @@ struct Buffers {
 }
 
 struct Inputs {
-    table: Vec<u8>,
+    packed: Vec<u8>,
+    records: Mailboxes,
+    form: Form,
     namespaces: Vec<u8>,
     line: Vec<u8>,
     call: Call,
@@ -89,6 +95,7 @@ fn medians(rounds: &[Round], size: usize) -> Measured {
         by_second: by(SECOND),
         by_byte_floor: by(BYTE_FLOOR),
         by_block_floor: by(BLOCK_FLOOR),
+        by_packed: by(PACKED),
         growth: median_of(&|round| round[size][PROVED] / round[0][PROVED]),
         seconds: median_of(&|round| round[size][PROVED]),
     }
@@ -107,19 +114,30 @@ impl Inputs {
             Call::Command(command) => command.line(),
             Call::Check | Call::Walk(_) => Vec::new(),
         };
-        let table = case.table.bytes(rows);
-        Inputs { table, namespaces: namespaces(), line, call: case.call }
+        let (packed, records) = (case.table.bytes(rows), Mailboxes::new(case.table.layout(rows)));
+        let Case { form, call, .. } = *case;
+        Inputs { packed, records, form, namespaces: namespaces(), line, call }
     }
 
-    /// What both libraries give, if it is the same and no refusal.
+    /// The table in its form, or in the packed one.
+    fn table(&self, who: usize) -> Lent<'_> {
+        match self.form {
+            Form::Records if who != PACKED => Lent::Records(&self.records),
+            _ => Lent::Packed(&self.packed),
+        }
+    }
+
+    /// What both libraries give, and the proved one over the packed form, if it is the same and no
+    /// refusal.
     fn verified(&self) -> Result<Done, String> {
-        let [proved, second] = [PROVED, SECOND].map(|who| {
+        let [proved, second, packed] = [PROVED, SECOND, PACKED].map(|who| {
             let mut lent = Buffers::new();
             Done { result: self.run(who, &mut lent), lent }
         });
         match proved.result {
             Err(number) => Err(format!("refused with {number}")),
             Ok(_) if proved != second => Err("the two libraries differ".to_string()),
+            Ok(_) if proved != packed => Err("the two forms differ".to_string()),
             Ok(_) => Ok(proved),
         }
     }
@@ -136,29 +154,33 @@ impl Inputs {
     /// Seconds of one call of a contender, from so many.
     fn seconds(&self, who: usize, calls: usize, done: &Done, lent: &mut Buffers) -> f64 {
         seconds_of_one(calls, || match who {
-            PROVED | SECOND => _ = black_box(self.run(black_box(who), lent)),
             BYTE_FLOOR => self.run_floor(floor::byte_by_byte, done, lent),
-            _ => self.run_floor(floor::by_blocks, done, lent),
+            BLOCK_FLOOR => self.run_floor(floor::by_blocks, done, lent),
+            _ => _ = black_box(self.run(black_box(who), lent)),
         })
     }
 
     fn run(&self, who: usize, lent: &mut Buffers) -> Result<(usize, usize), u8> {
         let Buffers { out, found, pending } = lent;
+        let table = self.table(who);
+        let library = if who == SECOND { SECOND } else { PROVED };
         match self.call {
-            Call::Check => CHECK_TABLE[who](&self.table).then_some((0, 0)).ok_or(1),
-            Call::Command(_) => ANSWER[who](&self.table, &self.namespaces, &self.line, out)
-                .map(|length| (0, length)),
-            Call::Walk(option) => COLLECT[who](&self.table, option, out, found, pending),
+            Call::Check => CHECK_TABLE[library](table).then_some((0, 0)).ok_or(1),
+            Call::Command(_) => {
+                ANSWER[library](table, &self.namespaces, &self.line, out).map(|length| (0, length))
+            }
+            Call::Walk(option) => COLLECT[library](table, option, out, found, pending),
         }
     }
 
+    /// Of records too it is the packed table that is read.
     fn run_floor(&self, floor: fn(&[u8], &[u8], &mut [u8]), done: &Done, lent: &mut Buffers) {
         let length = done.result.map_or(0, |(_, length)| length);
         let (from, to) = match self.call {
             Call::Walk(_) => (&done.lent.found, &mut lent.found),
             Call::Check | Call::Command(_) => (&done.lent.out, &mut lent.out),
         };
-        floor(black_box(&self.table), black_box(&from[..length]), &mut to[..length]);
+        floor(black_box(&self.packed), black_box(&from[..length]), &mut to[..length]);
         black_box(to);
     }
 }

@@ -1,6 +1,6 @@
 //! The table of docs/PERFORMANCE.md.
 
-use crate::inputs::{CASES, SIZES};
+use crate::inputs::{Form, CASES, SIZES};
 use crate::measure::Measured;
 
 /// The lines of the page between which the table stands.
@@ -19,14 +19,18 @@ pub fn with_table(page: &str, measures: &Measures) -> Option<String> {
 
 fn table(measures: &Measures) -> String {
     let sizes = SIZES.map(|rows| format!(" {rows} rows |")).concat();
-    let mut text = format!("| Call |{sizes} floor, by bytes | floor, by blocks |\n");
-    text += &format!("|---|{}\n", "---:|".repeat(SIZES.len() + 2));
+    let mut text = format!("| Call |{sizes} floor, by bytes | floor, by blocks | packed |\n");
+    text += &format!("|---|{}\n", "---:|".repeat(SIZES.len() + 3));
     for (case, measured) in CASES.iter().zip(measures) {
         let ratios: String =
             measured.iter().map(|one| format!(" {:.2} |", one.by_second)).collect();
         let full = &measured[SIZES.len() - 1];
         let floors = format!(" {:.1} | {:.0} |", full.by_byte_floor, full.by_block_floor);
-        text += &format!("| {} |{ratios}{floors}\n", case.title);
+        let packed = match case.form {
+            Form::Packed => " |".to_string(),
+            Form::Records => format!(" {:.2} |", full.by_packed),
+        };
+        text += &format!("| {} |{ratios}{floors}{packed}\n", case.title);
     }
     text
 }

@@ -14,11 +14,37 @@ const INBOX_SPELLINGS: [&[u8]; 6] =
 
 const ODD_DELIMITERS: [u8; 5] = [b'"', b'\\', b'!', b'~', b'.'];
 
+/// What can be wrong with rows; one more number stands for bytes that are no rows.
+const DAMAGES: usize = 9;
+
 /// The bytes of a table after one damage. Some damages leave a table that passes.
 pub fn damaged_table(random: &mut Random, mut rows: Vec<NewRow>) -> Vec<u8> {
+    let at = damaged_place(random, &mut rows);
+    match random.below(DAMAGES + 1) {
+        DAMAGES => damaged_bytes(random, table_bytes(&rows)),
+        damage => {
+            damage_row(random, &mut rows, at, damage);
+            table_bytes(&rows)
+        }
+    }
+}
+
+/// Rows after one damage.
+pub fn damaged_rows(random: &mut Random, mut rows: Vec<NewRow>) -> Vec<NewRow> {
+    let at = damaged_place(random, &mut rows);
+    let damage = random.below(DAMAGES);
+    damage_row(random, &mut rows, at, damage);
+    rows
+}
+
+/// The number of a row, of which there is one more.
+fn damaged_place(random: &mut Random, rows: &mut Vec<NewRow>) -> usize {
     rows.push(NewRow { flags: lawful_flags(random), name: b"~~~".to_vec() });
-    let at = random.below(rows.len());
-    match random.below(10) {
+    random.below(rows.len())
+}
+
+fn damage_row(random: &mut Random, rows: &mut Vec<NewRow>, at: usize, damage: usize) {
+    match damage {
         0..3 => rows[at].flags = odd_flags(random, rows[at].flags),
         3..6 => {
             rows[at].name = odd_name(random, &rows[at].name);
@@ -26,15 +52,13 @@ pub fn damaged_table(random: &mut Random, mut rows: Vec<NewRow>) -> Vec<u8> {
                 rows.sort_by(|one, other| one.name.cmp(&other.name));
             }
         }
-        6 => add_row_below(random, &mut rows, at),
+        6 => add_row_below(random, rows, at),
         7 => {
             let other = random.below(rows.len());
             rows.swap(at, other);
         }
-        8 => rows.insert(at, rows[at].clone()),
-        _ => return damaged_bytes(random, table_bytes(&rows)),
+        _ => rows.insert(at, rows[at].clone()),
     }
-    table_bytes(&rows)
 }
 
 /// A row below another, or beside it, whatever that one's flags are.

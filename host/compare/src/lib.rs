@@ -13,6 +13,7 @@ pub mod library;
 mod limits;
 mod literals;
 pub mod random;
+pub mod records;
 mod report;
 mod sending;
 mod special_uses;

@@ -3,7 +3,6 @@
 use std::collections::BTreeSet;
 
 use child::SentFrame;
-use second::answer;
 use second::command::{MAX_CANONICAL, MAX_PATTERNS};
 use second::frames::{
     ANSWER_ROOM, ENTRY, FOUND_ROOM, NAMESPACES_ROOM, PENDING_ROOM, ROW, SCRATCH_ROOM, TABLE_ROOM,
@@ -11,6 +10,7 @@ use second::frames::{
 use second::name::{self, MAX_LEVELS, MAX_NAME};
 use second::shape::MAX_LINE;
 use second::table::{Flags, MAX_ROWS, ROW_HEAD};
+use second::{answer, Table};
 
 use crate::random::Random;
 use crate::sending::Sending;
@@ -266,7 +266,7 @@ fn pending_length(rows: &[NewRow]) -> usize {
 
 /// The length of an answer that is not refused.
 fn answer_length(table: &[u8], line: &str) -> usize {
-    answer(table, &[], line.as_bytes(), &mut vec![0; AMPLE_ROOM]).unwrap_or(0)
+    answer(Table::Packed(table), &[], line.as_bytes(), &mut vec![0; AMPLE_ROOM]).unwrap_or(0)
 }
 
 /// Rows of one length, ascending: a number of three digits and filling.

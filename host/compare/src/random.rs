@@ -30,6 +30,13 @@ impl Random {
         of[self.below(of.len())]
     }
 
+    /// Puts some into an order, each as likely as another.
+    pub fn shuffle<T>(&mut self, some: &mut [T]) {
+        for at in (1..some.len()).rev() {
+            some.swap(at, self.below(at + 1));
+        }
+    }
+
     pub fn byte(&mut self) -> u8 {
         self.next() as u8
     }

@@ -1,5 +1,5 @@
 //! The C names of the crate `exports` and its structs, and a safe call of each. A slice passes as a
-//! pointer and a length.
+//! pointer and a length, which of records is their number.
 
 use crate::refusal::Refusal;
 
@@ -14,6 +14,15 @@ pub struct Outcome {
     pub count: usize,
 }
 
+/// What a walk of the collector gives.
+#[derive(Clone, Copy, Debug, PartialEq, Eq)]
+pub struct Walked {
+    /// The number of commands sent.
+    pub commands: usize,
+    /// The length of the names at the front of found.
+    pub found: usize,
+}
+
 /// `LineParts` of the crate `exports`.
 #[repr(C)]
 pub struct LineParts {
@@ -22,6 +31,31 @@ pub struct LineParts {
     pub attributes: u16,
     pub length: usize,
     pub name: [u8; NAME_ROOM],
+}
+
+/// A record of a mailbox table, as the archive has it.
+#[repr(C)]
+#[derive(Clone, Copy, Debug, Default, PartialEq, Eq)]
+pub struct Record {
+    /// The flags of the mailbox, as in a packed row.
+    pub flags: u16,
+    /// The place of the name's first byte in the area.
+    pub start: u16,
+    /// The length of the name, 1 to 200 where it passes.
+    pub len: u8,
+}
+
+/// A mailbox table as records over an area of name bytes.
+///
+/// The rows ascend by name; the names lie inside the area, of at most 32,768 bytes, in any order and
+/// without overlap. Bytes of the area that no name uses may hold anything.
+#[derive(Clone, Copy, Debug)]
+pub struct Records<'m> {
+    pub records: &'m [Record],
+    /// How many of the records are rows; those after them are spare and not looked at. More than
+    /// there are records do not pass.
+    pub count: usize,
+    pub area: &'m [u8],
 }
 
 /// A feeder between two chunks, `FeederState` of the crate `exports`. The default is its first state.
@@ -47,6 +81,13 @@ pub struct FedChunk {
 
 extern "C" {
     fn luspemaro_check_table(table: *const u8, table_len: usize) -> bool;
+    fn luspemaro_check_records(
+        records: *const Record,
+        records_len: usize,
+        count: usize,
+        area: *const u8,
+        area_len: usize,
+    ) -> bool;
     fn luspemaro_check_namespaces(list: *const u8, list_len: usize) -> bool;
     fn luspemaro_matches(
         pattern: *const u8,
@@ -55,6 +96,19 @@ extern "C" {
         name_len: usize,
     ) -> bool;
     fn luspemaro_answer(
+        records: *const Record,
+        records_len: usize,
+        count: usize,
+        area: *const u8,
+        area_len: usize,
+        namespaces: *const u8,
+        namespaces_len: usize,
+        line: *const u8,
+        line_len: usize,
+        out: *mut u8,
+        out_len: usize,
+    ) -> Outcome;
+    fn luspemaro_answer_packed(
         table: *const u8,
         table_len: usize,
         namespaces: *const u8,
@@ -65,6 +119,20 @@ extern "C" {
         out_len: usize,
     ) -> Outcome;
     fn luspemaro_collect(
+        records: *const Record,
+        records_len: usize,
+        count: usize,
+        area: *const u8,
+        area_len: usize,
+        option: u8,
+        scratch: *mut u8,
+        scratch_len: usize,
+        found: *mut u8,
+        found_len: usize,
+        pending: *mut u8,
+        pending_len: usize,
+    ) -> Outcome;
+    fn luspemaro_collect_packed(
         table: *const u8,
         table_len: usize,
         option: u8,
@@ -102,6 +170,13 @@ pub fn check_table(table: &[u8]) -> bool {
     unsafe { luspemaro_check_table(table.as_ptr(), table.len()) }
 }
 
+pub fn check_records(table: Records) -> bool {
+    let Records { records, count, area } = table;
+    unsafe {
+        luspemaro_check_records(records.as_ptr(), records.len(), count, area.as_ptr(), area.len())
+    }
+}
+
 pub fn check_namespaces(list: &[u8]) -> bool {
     unsafe { luspemaro_check_namespaces(list.as_ptr(), list.len()) }
 }
@@ -110,9 +185,28 @@ pub fn matches(pattern: &[u8], name: &[u8]) -> bool {
     unsafe { luspemaro_matches(pattern.as_ptr(), pattern.len(), name.as_ptr(), name.len()) }
 }
 
-pub fn answer(table: &[u8], namespaces: &[u8], line: &[u8], out: &mut [u8]) -> Outcome {
+pub fn answer(table: Records, namespaces: &[u8], line: &[u8], out: &mut [u8]) -> Outcome {
+    let Records { records, count, area } = table;
     unsafe {
         luspemaro_answer(
+            records.as_ptr(),
+            records.len(),
+            count,
+            area.as_ptr(),
+            area.len(),
+            namespaces.as_ptr(),
+            namespaces.len(),
+            line.as_ptr(),
+            line.len(),
+            out.as_mut_ptr(),
+            out.len(),
+        )
+    }
+}
+
+pub fn answer_packed(table: &[u8], namespaces: &[u8], line: &[u8], out: &mut [u8]) -> Outcome {
+    unsafe {
+        luspemaro_answer_packed(
             table.as_ptr(),
             table.len(),
             namespaces.as_ptr(),
@@ -126,6 +220,32 @@ pub fn answer(table: &[u8], namespaces: &[u8], line: &[u8], out: &mut [u8]) -> O
 }
 
 pub fn collect(
+    table: Records,
+    option: u8,
+    scratch: &mut [u8],
+    found: &mut [u8],
+    pending: &mut [u8],
+) -> Outcome {
+    let Records { records, count, area } = table;
+    unsafe {
+        luspemaro_collect(
+            records.as_ptr(),
+            records.len(),
+            count,
+            area.as_ptr(),
+            area.len(),
+            option,
+            scratch.as_mut_ptr(),
+            scratch.len(),
+            found.as_mut_ptr(),
+            found.len(),
+            pending.as_mut_ptr(),
+            pending.len(),
+        )
+    }
+}
+
+pub fn collect_packed(
     table: &[u8],
     option: u8,
     scratch: &mut [u8],
@@ -133,7 +253,7 @@ pub fn collect(
     pending: &mut [u8],
 ) -> Outcome {
     unsafe {
-        luspemaro_collect(
+        luspemaro_collect_packed(
             table.as_ptr(),
             table.len(),
             option,
@@ -174,6 +294,11 @@ impl Outcome {
         let result = Refusal::check(self.number);
         assert!(result.is_ok() || (self.length, self.count) == (0, 0), "a refusal with a length");
         result
+    }
+
+    /// What a walk gives.
+    pub fn walked(&self) -> Result<Walked, Refusal> {
+        self.result().map(|()| Walked { commands: self.count, found: self.length })
     }
 
     /// The length of what was written.

@@ -14,7 +14,7 @@ mod refusal;
 
 use std::mem::{offset_of, size_of};
 
-use raw::{FedChunk, FeederState, LineParts, Outcome};
+use raw::{FedChunk, FeederState, LineParts, Outcome, Record};
 
 const LAYOUTS: &str = include_str!("../../c/layouts.def");
 
@@ -34,6 +34,10 @@ fn parse(line: &str) -> Option<Layout<'_>> {
 #[test]
 fn layouts_are_those_of_the_header() {
     let in_rust = [
+        ("luspemaro_record", Some("flags"), offset_of!(Record, flags)),
+        ("luspemaro_record", Some("start"), offset_of!(Record, start)),
+        ("luspemaro_record", Some("len"), offset_of!(Record, len)),
+        ("luspemaro_record", None, size_of::<Record>()),
         ("luspemaro_outcome", Some("number"), offset_of!(Outcome, number)),
         ("luspemaro_outcome", Some("length"), offset_of!(Outcome, length)),
         ("luspemaro_outcome", Some("count"), offset_of!(Outcome, count)),

@@ -6,7 +6,7 @@ use crate::name::descendant_prefix;
 use crate::quoted::push_quoted;
 use crate::refusal::Refusal;
 use crate::server::answer;
-use crate::table::checked_rows;
+use crate::table::{checked_rows, Table};
 
 /// The option byte: 1 asks for REMOTE, 2 for SPECIAL-USE, 4 drops SUBSCRIBED.
 pub const OPTION_REMOTE: u8 = 1;
@@ -35,7 +35,7 @@ struct Names<'b> {
 /// "On success pending holds its names; room behind the lengths, and all scratch, is zero."
 /// "Its refusals give count 0 and length 0 and zero all three buffers."
 pub fn collect(
-    table: &[u8],
+    table: Table,
     option: u8,
     scratch: &mut [u8],
     found: &mut [u8],
@@ -55,11 +55,11 @@ pub fn collect(
 }
 
 /// Why a walk is refused with 1 or 6, or none if it is not.
-pub fn walk_fault(table: &[u8], option: u8) -> Option<Fault> {
+pub fn walk_fault(table: Table, option: u8) -> Option<Fault> {
     checked(table, option).err()
 }
 
-fn checked(table: &[u8], option: u8) -> Result<WalkOptions, Fault> {
+fn checked(table: Table, option: u8) -> Result<WalkOptions, Fault> {
     checked_rows(table).map_err(Fault::Table)?;
     let rule = "an option byte is 0 to 7, and 4 stands beside 2";
     WalkOptions::from_byte(option).ok_or(Fault::OptionByte(rule))
@@ -67,7 +67,7 @@ fn checked(table: &[u8], option: u8) -> Result<WalkOptions, Fault> {
 
 /// "Collector order: 1, 6, then the walk". Gives the number of commands sent.
 fn walk(
-    table: &[u8],
+    table: Table,
     option: u8,
     scratch: &mut [u8],
     found: &mut Names,

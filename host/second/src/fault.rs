@@ -5,7 +5,8 @@ use crate::refusal::Refusal;
 /// A row of a table or an entry of a namespace list that breaks a rule.
 #[derive(Clone, Copy, Debug, PartialEq, Eq)]
 pub struct ListFault {
-    /// The byte of the table or list, from 0 on, where it starts.
+    /// The byte of the packed table or list, from 0 on, where it starts; of records, the number of
+    /// the record.
     pub at: usize,
     pub rule: &'static str,
     /// Where the other one starts without which the rule would not be broken.

@@ -9,6 +9,7 @@ use crate::collector::{collect, walk_fault};
 use crate::fault::{Fault, RoomFault};
 use crate::refusal::Refusal;
 use crate::server::{answer, command_fault};
+use crate::table::Table;
 
 /// First byte of a frame that adds to the table.
 pub const ROW: u8 = 0x4D;
@@ -116,8 +117,8 @@ impl Program {
             Ok(Frame::Entry(entry)) => {
                 room(&self.namespaces, &entry, NAMESPACES_ROOM).err().map(Fault::NamespacesRoom)
             }
-            Ok(Frame::Command(line)) => command_fault(&self.table, &self.namespaces, &line),
-            Ok(Frame::Walk(option)) => walk_fault(&self.table, option),
+            Ok(Frame::Command(line)) => command_fault(self.stored(), &self.namespaces, &line),
+            Ok(Frame::Walk(option)) => walk_fault(self.stored(), option),
         }
     }
 
@@ -130,9 +131,14 @@ impl Program {
         }
     }
 
+    /// The stored rows, in the packed form.
+    fn stored(&self) -> Table<'_> {
+        Table::Packed(&self.table)
+    }
+
     fn answer_command(&self, line: &[u8]) -> Result<Answer, Refusal> {
         let mut out = vec![0; ANSWER_ROOM];
-        let length = answer(&self.table, &self.namespaces, line, &mut out)?;
+        let length = answer(self.stored(), &self.namespaces, line, &mut out)?;
         out.truncate(length);
         Ok(Answer::Lines(out))
     }
@@ -141,7 +147,8 @@ impl Program {
         let mut scratch = vec![0; SCRATCH_ROOM];
         let mut found = vec![0; FOUND_ROOM];
         let mut pending = vec![0; PENDING_ROOM];
-        let (count, length) = collect(&self.table, option, &mut scratch, &mut found, &mut pending)?;
+        let (count, length) =
+            collect(self.stored(), option, &mut scratch, &mut found, &mut pending)?;
         found.truncate(length);
         // At most 4,097: each command but the first took two bytes or more of pending.
         Ok(Answer::Walked { count: count as u16, found })

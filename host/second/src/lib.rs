@@ -1,10 +1,10 @@
 //! The second program of the listing rules: written from the papers alone, document 01 and of
-//! document 02 requests W1 to W3, to be compared with the proved program and to be the plain
+//! document 02 requests W1 to W4, to be compared with the proved program and to be the plain
 //! measure of its speed.
 //!
 //! The entries are those of document 01: the two checks, the command entry, the line writer,
-//! the line reader, the collector and the frames of the program; and W2's feeder. Left out, as
-//! there: login, SELECT, FETCH, modified UTF-7, sockets.
+//! the line reader, the collector and the frames of the program; and W2's feeder. A table is given
+//! in either of its forms. Left out, as there: login, SELECT, FETCH, modified UTF-7, sockets.
 
 pub mod collector;
 pub mod command;
@@ -19,6 +19,7 @@ pub mod name;
 pub mod namespaces;
 mod pattern;
 pub mod quoted;
+pub mod records;
 pub mod refusal;
 mod server;
 pub mod shape;
@@ -29,6 +30,7 @@ pub use feeder::{Event, Feeder};
 pub use line::{read_line, write_line, write_parts, Criteria, Line};
 pub use namespaces::check_namespaces;
 pub use pattern::matches;
+pub use records::{Record, Records};
 pub use refusal::Refusal;
 pub use server::answer;
-pub use table::check_table;
+pub use table::{check_table, Table};

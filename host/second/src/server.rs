@@ -6,14 +6,14 @@ use crate::line::{put_answer, ROOT_LINE};
 use crate::listing::list_lines;
 use crate::namespaces::{checked_entries, namespace_line, Entry};
 use crate::refusal::Refusal;
-use crate::table::{checked_rows, Row};
+use crate::table::{checked_rows, Row, Table};
 
 /// Answers one command line and gives the answer's length.
 ///
 /// "Server order: 1, 2, 3, tag 4, 5, rest 4, 6, 7, 8, 9. A refusal has length 0 and no buffer
 /// byte changes; on success the bytes behind the answer stay as they were."
 pub fn answer(
-    table: &[u8],
+    table: Table,
     namespaces: &[u8],
     line: &[u8],
     out: &mut [u8],
@@ -30,7 +30,7 @@ pub fn answer(
 }
 
 /// Why a command is refused with 1 to 8, or none if it is not.
-pub fn command_fault(table: &[u8], namespaces: &[u8], line: &[u8]) -> Option<Fault> {
+pub fn command_fault(table: Table, namespaces: &[u8], line: &[u8]) -> Option<Fault> {
     checked(table, namespaces, line).err()
 }
 
@@ -42,7 +42,7 @@ struct Checked<'i> {
 }
 
 fn checked<'i>(
-    table: &'i [u8],
+    table: Table<'i>,
     namespaces: &'i [u8],
     line: &'i [u8],
 ) -> Result<Checked<'i>, Fault> {

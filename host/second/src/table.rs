@@ -1,11 +1,13 @@
-//! The mailbox table: its flags, its rows and check 1.
+//! The mailbox table: its flags, its rows, check 1, and the packed form. The other form is that of
+//! `records`.
 
 use std::ops::Range;
 
 use crate::fault::ListFault;
 use crate::name;
+use crate::records::Records;
 
-/// Document 01: "At most 512 rows and 32,768 bytes."
+/// Document 01: "At most 512 rows and 32,768 bytes." The bytes are those of the packed form.
 pub const MAX_ROWS: usize = 512;
 pub const MAX_TABLE: usize = 32_768;
 /// The bytes of a row before its name: flags, high byte first, and the name length.
@@ -111,17 +113,37 @@ impl Row<'_> {
     }
 }
 
+/// A mailbox table as it is stored.
+#[derive(Clone, Copy, Debug)]
+pub enum Table<'t> {
+    /// Rows without a gap, each with its name.
+    Packed(&'t [u8]),
+    /// Records beside their names.
+    Records(Records<'t>),
+}
+
+impl Table<'_> {
+    /// "An empty table passes."
+    pub const EMPTY: Table<'static> = Table::Packed(&[]);
+}
+
 /// Check 1.
-pub fn check_table(table: &[u8]) -> bool {
+pub fn check_table(table: Table) -> bool {
     checked_rows(table).is_ok()
 }
 
 /// The rows of a table that passes check 1, ascending by name, or the first row that breaks a rule.
-pub fn checked_rows(table: &[u8]) -> Result<Vec<Row<'_>>, ListFault> {
-    let (rows, rest) = split_rows(table);
-    if let Some(broken) = first_broken(&rows) {
-        return Err(broken.fault(&rows));
+pub fn checked_rows(table: Table<'_>) -> Result<Vec<Row<'_>>, ListFault> {
+    match table {
+        Table::Packed(bytes) => checked_packed_rows(bytes),
+        Table::Records(records) => records.checked_rows(),
     }
+}
+
+fn checked_packed_rows(table: &[u8]) -> Result<Vec<Row<'_>>, ListFault> {
+    let (rows, rest) = split_rows(table);
+    let start = |row: usize| rows[..row].iter().map(|row| ROW_HEAD + row.name.len()).sum();
+    check_rows(&rows, start)?;
     let rule = if !rest.is_empty() {
         "rows fill the table exactly"
     } else if table.len() > MAX_TABLE {
@@ -132,9 +154,20 @@ pub fn checked_rows(table: &[u8]) -> Result<Vec<Row<'_>>, ListFault> {
     Err(ListFault { at: table.len() - rest.len(), rule, other: None })
 }
 
-/// The row at a place of a table.
+/// The row at a place of a packed table.
 pub fn row_at(table: &[u8], at: usize) -> Option<Row<'_>> {
     split_row(table.get(at..)?).map(|(row, _)| row)
+}
+
+/// What check 1 asks of the rows, however they are stored. The fault is told by the places of the
+/// rows, which `place` gives for their numbers from 0 on.
+pub(crate) fn check_rows(rows: &[Row], place: impl Fn(usize) -> usize) -> Result<(), ListFault> {
+    match first_broken(rows) {
+        None => Ok(()),
+        Some(Broken { row, rule, other }) => {
+            Err(ListFault { at: place(row), rule, other: other.map(place) })
+        }
+    }
 }
 
 /// A row that breaks a rule, and the row with which it does, by their numbers from 0 on.
@@ -142,13 +175,6 @@ struct Broken {
     row: usize,
     rule: &'static str,
     other: Option<usize>,
-}
-
-impl Broken {
-    fn fault(&self, rows: &[Row]) -> ListFault {
-        let start = |row: usize| rows[..row].iter().map(|row| ROW_HEAD + row.name.len()).sum();
-        ListFault { at: start(self.row), rule: self.rule, other: self.other.map(start) }
-    }
 }
 
 /// The first row that breaks a rule. Rows before it ascend, which the search for rows below one with
@@ -174,7 +200,7 @@ fn broken_alone(rows: &[Row], row: usize) -> Option<Broken> {
     Some(Broken { row, rule, other: None })
 }
 
-/// The rows of a table, not judged any further, and the bytes behind them that are no whole row.
+/// The rows of a packed table, not judged any further, and the bytes behind them that are no whole row.
 pub fn split_rows(table: &[u8]) -> (Vec<Row<'_>>, &[u8]) {
     let mut rows = Vec::new();
     let mut rest = table;

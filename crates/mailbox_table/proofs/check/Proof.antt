@@ -1,10 +1,11 @@
--- `mailbox_table::check` meets its contract: with room for 512 rows the index answers check 1. By CheckLaws.
+-- `mailbox_table::check` meets its contract: with room for 512 rows the index answers check 1. By HeldLaws.
 use mathlib.Core.Path.{sym, ap, subst}
 use Prim.Native.Nat.{ℕ}
 use lib.ListN.{length, length-replicate}
+use Rattle.listing_rules.specs.Table.{packedTable}
 use Rattle.mailbox_table.specs.declared.Indexing.{Indexing}
 use Rattle.mailbox_table.specs.Index.{Indexes}
-use Rattle.mailbox_table.proofs.CheckLaws.{index-held, index-refused}
+use Rattle.mailbox_table.proofs.HeldLaws.{index-held, index-refused}
 use native.Mathlib.Omega.{arith}
 use borrow.Author.Needs.{needs}
 use Rattle.mailbox_table.proofs.check.Statement.{statement}
@@ -17,7 +18,7 @@ returns c =
     let start = stage in
     let no-words = after-no-words .no-words in
     let index = c .before .before .before .index in
-    sym (index-held (subst (λ (r : Indexing). Indexes (start .args .table .now) (no-words .result) (index .last .1 .0) r) (c .enum-told .given .1) (index .ensures)) .table-passes)
+    sym (index-held (subst (λ (r : Indexing). Indexes (start .args .table .now) (packedTable (start .args .table .now)) (no-words .result) (index .last .1 .0) r) (c .enum-told .given .1) (index .ensures)) .table-passes)
 
 returns-2 : tie.Need-returns-2
 returns-2 c =
@@ -28,7 +29,7 @@ returns-2 c =
     let index = c .before .before .before .index in
     sym
     (index-refused (omega (arith, ap length (no-words .ensures), length-replicate {A = ℕ} 512 0))
-    (subst (λ (r : Indexing). Indexes (start .args .table .now) (no-words .result) (index .last .1 .0) r) (c .enum-told2 .given .1) (index .ensures)))
+    (subst (λ (r : Indexing). Indexes (start .args .table .now) (packedTable (start .args .table .now)) (no-words .result) (index .last .1 .0) r) (c .enum-told2 .given .1) (index .ensures)))
 
 pub check-spec : {M : Type 1} → statement M
 check-spec =

@@ -1,16 +1,12 @@
--- `mailbox_table::index` meets its contract: what `find_rows` answers, with every word cleared where it fails. By CheckLaws.
+-- `mailbox_table::index` meets its contract: what `find_rows` answers, with every word cleared where it fails. By FindLaws.
 use mathlib.Core.Path.{subst}
-use lib.ListN.{length}
+use Rattle.listing_rules.specs.Table.{packedTable}
 use Rattle.mailbox_table.specs.declared.Indexing.{Indexing}
-use Rattle.mailbox_table.specs.Index.{indexingOf}
-use Rattle.mailbox_table.specs.Collect.{Collects}
-use Rattle.mailbox_table.proofs.CheckLaws.{indexes-rows, indexes-fails}
+use Rattle.mailbox_table.specs.Find.{Finds}
+use Rattle.mailbox_table.proofs.FindLaws.{indexes-rows, indexes-fails}
 use borrow.Author.Needs.{needs}
 use Rattle.mailbox_table.proofs.index.Statement.{statement}
 use Rattle.mailbox_table.proofs.index.Tie as tie
-
-enum-told : tie.Need-enum-told
-enum-told c = search needs
 
 returns : tie.Need-returns
 returns c =
@@ -18,22 +14,18 @@ returns c =
     let after-find-rows = after-enum-told .before .before .before .before in
     let stage = after-find-rows .before .before .before .before in
     let start = stage in
-    let enum-told′ = after-enum-told .enum-told in
-    let t = start .args .table .now in
-    let before = start .args .words .now in
     let found = after-find-rows .find-rows in
-    let fails = subst (λ (r : Indexing). Collects t before (found .last .1 .0) (indexingOf t (length before)) r) (enum-told′ .given .1) (found .ensures) in
-    indexes-fails fails (c .before .before .clear-words .ensures)
+    let t = start .args .table .now in
+    indexes-fails (subst (λ (r : Indexing). Finds t (packedTable t) (start .args .words .now) (found .last .1 .0) r) (after-enum-told .enum-told .given .1) (found .ensures)) (c .before .before .clear-words .ensures)
 
 returns-2 : tie.Need-returns-2
 returns-2 c =
     let after-find-rows = c .before .before .before .before .before in
     let stage = after-find-rows .before .before .before .before in
     let start = stage in
-    let t = start .args .table .now in
-    let before = start .args .words .now in
     let found = after-find-rows .find-rows in
-    indexes-rows (subst (λ (r : Indexing). Collects t before (found .last .1 .0) (indexingOf t (length before)) r) (c .before .n .given .1) (found .ensures))
+    let t = start .args .table .now in
+    indexes-rows (subst (λ (r : Indexing). Finds t (packedTable t) (start .args .words .now) (found .last .1 .0) r) (c .before .n .given .1) (found .ensures))
 
 pub index-spec : {M : Type 1} → statement M
 index-spec =
@@ -41,7 +33,7 @@ index-spec =
     (tie.spec
     (λ c κs. search needs)
     (λ c. search needs)
-    enum-told
+    (λ c. search needs)
     (λ c κs. search needs)
     (λ c. search needs)
     returns

@@ -1,17 +1,39 @@
-//! `compare-library`
+//! `compare-library [--group TEXT] [--least N]`
 //!
 //! Compares the proved library with the second program's: lines written and read, patterns, the two
-//! checks, commands, walks and the feeder. Each difference is printed; the last line is `N passed,
-//! M failed`, by groups of comparisons. Status 1 is a difference.
+//! checks, commands, walks, records and the feeder. With `--group` only the groups whose name has
+//! TEXT in it. Groups that go on seed by seed compare at least N times, or 100,000 times.
+//!
+//! Each difference is printed; the last line is `N passed, M failed`, by groups of comparisons.
+//! Status 1 is a difference; status 2 a wrong call.
 
+use std::env;
 use std::process::ExitCode;
 
-use compare::library::{Tally, GROUPS};
+use compare::library::{Group, Tally, GROUPS};
+
+const USAGE: &str = "usage: compare-library [--group TEXT] [--least N]";
+/// Status for what is wrong with the call.
+const BAD_CALL: u8 = 2;
+/// Comparisons of a group that goes on seed by seed.
+const LEAST: u64 = 100_000;
+
+struct Call {
+    groups: Vec<Group>,
+    least: u64,
+}
 
 fn main() -> ExitCode {
+    let call = match read_call() {
+        Ok(call) => call,
+        Err(message) => {
+            eprintln!("{message}");
+            return ExitCode::from(BAD_CALL);
+        }
+    };
     let (mut passed, mut failed) = (0, 0);
-    for (name, compare) in GROUPS {
-        let mut tally = Tally::default();
+    for (name, compare) in call.groups {
+        let mut tally = Tally::new(call.least);
         compare(&mut tally);
         println!("{name}: {} compared, {} different", tally.compared, tally.different);
         if tally.different == 0 {
@@ -22,4 +44,23 @@ fn main() -> ExitCode {
     }
     println!("{passed} passed, {failed} failed");
     ExitCode::from(u8::from(failed > 0))
+}
+
+fn read_call() -> Result<Call, String> {
+    let (mut text, mut least) = (String::new(), LEAST);
+    let mut arguments = env::args().skip(1);
+    while let Some(argument) = arguments.next() {
+        let value = arguments.next().ok_or(USAGE)?;
+        match argument.as_str() {
+            "--group" => text = value,
+            "--least" => least = value.parse().map_err(|_| USAGE)?,
+            _ => return Err(USAGE.to_string()),
+        }
+    }
+    let groups: Vec<Group> = GROUPS.into_iter().filter(|(name, _)| name.contains(&text)).collect();
+    if groups.is_empty() {
+        let names: Vec<&str> = GROUPS.iter().map(|(name, _)| *name).collect();
+        return Err(format!("there is no such group; the groups are\n{}", names.join("\n")));
+    }
+    Ok(Call { groups, least })
 }

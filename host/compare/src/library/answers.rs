@@ -1,8 +1,8 @@
 //! The command entry.
 
-use session::{show_namespaces, show_table};
+use session::show_namespaces;
 
-use super::both::{ANSWER, SECOND};
+use super::both::{Lent, ANSWER, PROVED, SECOND};
 use super::tally::{shown, Tally, Text, SEED};
 use crate::commands::{command, damaged};
 use crate::damage::{damaged_table, namespace_list};
@@ -12,7 +12,7 @@ use crate::tables::{good_table, table_bytes};
 const TABLES: usize = 4_000;
 const COMMANDS_A_TABLE: usize = 6;
 /// More than any answer here.
-const ROOM: usize = 16_384;
+pub const ROOM: usize = 16_384;
 const FILL: u8 = b'.';
 
 pub fn commands(tally: &mut Tally) {
@@ -29,24 +29,32 @@ pub fn commands(tally: &mut Tally) {
             if random.percent(30) {
                 line = damaged(&mut random, line);
             }
-            let need = answer_both(tally, &table, &list, &line, ROOM);
+            let table = [Lent::Packed(&table); 2];
+            let need = answer_both(tally, table, &list, &line, ROOM);
             for room in [0, need.saturating_sub(1), need, need + 1] {
-                answer_both(tally, &table, &list, &line, room);
+                answer_both(tally, table, &list, &line, room);
             }
         }
     }
 }
 
-/// Answers by both libraries, and gives the length of the answer, 0 if it was refused.
-fn answer_both(tally: &mut Tally, table: &[u8], list: &[u8], line: &[u8], room: usize) -> usize {
-    let given = ANSWER.map(|answer| {
+/// Answers by both libraries, each over its form of the table, and gives the length of the answer, 0
+/// if it was refused.
+pub fn answer_both(
+    tally: &mut Tally,
+    tables: [Lent; 2],
+    list: &[u8],
+    line: &[u8],
+    room: usize,
+) -> usize {
+    let given = [PROVED, SECOND].map(|who| {
         let mut out = vec![FILL; room];
-        let result = answer(table, list, line, &mut out);
+        let result = ANSWER[who](tables[who], list, line, &mut out);
         (result, Text(out))
     });
     let length = given[SECOND].0.unwrap_or(0);
     let call = || {
-        let (line, table, list) = (shown(line), show_table(table), show_namespaces(list));
+        let (line, table, list) = (shown(line), tables[PROVED], show_namespaces(list));
         format!("answer: line {line}, room {room}, table and namespace list\n{table}{list}")
     };
     tally.same(call, given);

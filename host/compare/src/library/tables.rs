@@ -1,9 +1,9 @@
 //! The two checks.
 
 use second::table::{Flags, MAX_ROWS, MAX_TABLE};
-use session::{show_namespaces, show_table};
+use session::show_namespaces;
 
-use super::both::{CHECK_NAMESPACES, CHECK_TABLE};
+use super::both::{Lent, CHECK_NAMESPACES, CHECK_TABLE, PROVED, SECOND};
 use super::tally::{Tally, SEED};
 use crate::damage::{damaged_bytes, damaged_table, namespace_list};
 use crate::random::Random;
@@ -17,25 +17,25 @@ pub fn tables(tally: &mut Tally) {
     for _ in 0..TABLES {
         let count = random.below(24);
         let rows = good_table(&mut random, count);
-        check_both(tally, &table_bytes(&rows));
-        check_both(tally, &damaged_table(&mut random, rows.clone()));
-        check_both(tally, &damaged_bytes(&mut random, table_bytes(&rows)));
+        check_packed(tally, &table_bytes(&rows));
+        check_packed(tally, &damaged_table(&mut random, rows.clone()));
+        check_packed(tally, &damaged_bytes(&mut random, table_bytes(&rows)));
     }
 }
 
 /// Numbers of rows and of bytes on both sides of what passes.
 pub fn limits(tally: &mut Tally) {
     for rows in MAX_ROWS - 1..=MAX_ROWS + 1 {
-        check_both(tally, &table_of(rows, 8));
+        check_packed(tally, &table_of(rows, 8));
     }
     // 162 rows of 203 bytes less a few, so that one more byte in the last name decides.
     for length in 1..=200 {
         let mut rows = numbered(MAX_TABLE / 203, 200);
         rows.push(NewRow { flags: Flags::EXISTS, name: vec![b'~'; length] });
-        check_both(tally, &table_bytes(&rows));
+        check_packed(tally, &table_bytes(&rows));
     }
     for length in 0..=255 {
-        check_both(tally, &table_of(3, length));
+        check_packed(tally, &table_of(3, length));
     }
 }
 
@@ -48,9 +48,14 @@ pub fn namespace_lists(tally: &mut Tally) {
     }
 }
 
-fn check_both(tally: &mut Tally, table: &[u8]) {
-    let call = || format!("check_table\n{}", show_table(table));
-    tally.same(call, CHECK_TABLE.map(|check| check(table)));
+fn check_packed(tally: &mut Tally, table: &[u8]) {
+    check_both(tally, [Lent::Packed(table); 2]);
+}
+
+/// Check 1 by both libraries, each over its form of the table.
+pub fn check_both(tally: &mut Tally, tables: [Lent; 2]) {
+    let call = || format!("check_table\n{}", tables[PROVED]);
+    tally.same(call, [PROVED, SECOND].map(|who| CHECK_TABLE[who](tables[who])));
 }
 
 fn table_of(rows: usize, length: usize) -> Vec<u8> {
@@ -58,7 +63,7 @@ fn table_of(rows: usize, length: usize) -> Vec<u8> {
 }
 
 /// Rows with ascending names of one length, where it is at least 4.
-fn numbered(rows: usize, length: usize) -> Vec<NewRow> {
+pub fn numbered(rows: usize, length: usize) -> Vec<NewRow> {
     let name = |at: usize| format!("{at:04}{}", "n".repeat(length)).into_bytes()[..length].to_vec();
     (0..rows).map(|at| NewRow { flags: Flags::EXISTS, name: name(at) }).collect()
 }

@@ -10,10 +10,11 @@ const MOST_SHOWN: u64 = 3;
 const FEWEST_COUNTED: usize = 8;
 
 /// The comparisons of one group.
-#[derive(Default)]
 pub struct Tally {
     pub compared: u64,
     pub different: u64,
+    /// A group that goes on seed by seed ends when it has compared so many times.
+    least: u64,
 }
 
 /// Bytes that are shown as text.
@@ -21,6 +22,20 @@ pub struct Tally {
 pub struct Text(pub Vec<u8>);
 
 impl Tally {
+    pub fn new(least: u64) -> Tally {
+        Tally { compared: 0, different: 0, least }
+    }
+
+    /// The seeds of a group, until it has compared often enough.
+    pub fn for_each_seed(&mut self, mut compare: impl FnMut(&mut Tally, u64)) {
+        for seed in SEED.. {
+            if self.compared >= self.least {
+                return;
+            }
+            compare(self, seed);
+        }
+    }
+
     /// Compares what the two libraries gave for a call, which is shown if they differ.
     pub fn same<T: PartialEq + Debug>(&mut self, call: impl FnOnce() -> String, given: [T; 2]) {
         self.compared += 1;

@@ -1,8 +1,6 @@
 //! The collector.
 
-use session::show_table;
-
-use super::both::{COLLECT, SECOND};
+use super::both::{Lent, COLLECT, PROVED, SECOND};
 use super::tally::{Tally, Text, SEED};
 use crate::damage::damaged_table;
 use crate::random::Random;
@@ -10,17 +8,31 @@ use crate::tables::{good_table, table_bytes};
 
 const TABLES: usize = 6_000;
 /// Every option byte up to one above the lawful ones.
-const OPTIONS: u8 = 9;
-/// More than any walk here needs.
+pub const OPTIONS: u8 = 9;
+/// More than a walk over few rows needs.
 const ROOM: usize = 8_192;
 const FILL: u8 = b'.';
 
 /// The lengths of the three lent buffers.
 #[derive(Clone, Copy, Debug)]
-struct Rooms {
-    scratch: usize,
-    found: usize,
-    pending: usize,
+pub struct Rooms {
+    pub scratch: usize,
+    pub found: usize,
+    pub pending: usize,
+}
+
+impl Rooms {
+    /// More than any walk here needs.
+    pub const AMPLE: Rooms = Rooms { scratch: ROOM, found: ROOM, pending: ROOM };
+
+    /// Found and pending as long as they have to be, or a byte shorter, and any scratch.
+    pub fn near(self, random: &mut Random) -> Rooms {
+        Rooms {
+            scratch: if random.percent(60) { ROOM } else { random.below(1_000) },
+            found: near(random, self.found),
+            pending: near(random, self.pending),
+        }
+    }
 }
 
 pub fn walks(tally: &mut Tally) {
@@ -30,16 +42,11 @@ pub fn walks(tally: &mut Tally) {
         let rows = good_table(&mut random, count);
         let bad = random.percent(5);
         let table = if bad { damaged_table(&mut random, rows) } else { table_bytes(&rows) };
+        let table = [Lent::Packed(&table); 2];
         for option in 0..OPTIONS {
-            let whole = Rooms { scratch: ROOM, found: ROOM, pending: ROOM };
-            let need = collect_both(tally, &table, option, whole);
+            let need = collect_both(tally, table, option, Rooms::AMPLE);
             for _ in 0..3 {
-                let rooms = Rooms {
-                    scratch: if random.percent(60) { ROOM } else { random.below(1_000) },
-                    found: near(&mut random, need.found),
-                    pending: near(&mut random, need.pending),
-                };
-                collect_both(tally, &table, option, rooms);
+                collect_both(tally, table, option, need.near(&mut random));
             }
         }
     }
@@ -54,12 +61,12 @@ fn near(random: &mut Random, need: usize) -> usize {
     }
 }
 
-/// Walks by both libraries, and gives what found and pending need.
-fn collect_both(tally: &mut Tally, table: &[u8], option: u8, rooms: Rooms) -> Rooms {
-    let given = COLLECT.map(|collect| {
+/// Walks by both libraries, each over its form of the table, and gives what found and pending need.
+pub fn collect_both(tally: &mut Tally, tables: [Lent; 2], option: u8, rooms: Rooms) -> Rooms {
+    let given = [PROVED, SECOND].map(|who| {
         let [mut scratch, mut found, mut pending] =
             [rooms.scratch, rooms.found, rooms.pending].map(|room| vec![FILL; room]);
-        let result = collect(table, option, &mut scratch, &mut found, &mut pending);
+        let result = COLLECT[who](tables[who], option, &mut scratch, &mut found, &mut pending);
         (result, Text(scratch), Text(found), Text(pending))
     });
     let (result, _, _, pending) = &given[SECOND];
@@ -68,7 +75,7 @@ fn collect_both(tally: &mut Tally, table: &[u8], option: u8, rooms: Rooms) -> Ro
         found: result.map_or(0, |(_, length)| length),
         pending: names_length(&pending.0),
     };
-    let call = || format!("collect: option {option}, {rooms:?}, table\n{}", show_table(table));
+    let call = || format!("collect: option {option}, {rooms:?}, table\n{}", tables[PROVED]);
     tally.same(call, given);
     need
 }

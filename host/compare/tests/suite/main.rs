@@ -5,6 +5,7 @@ use std::path::PathBuf;
 
 mod comparison;
 mod explanations;
+mod records;
 mod streams;
 
 /// The second program. The tests stand in `deps`, beside the folder of the examples.

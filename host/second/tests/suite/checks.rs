@@ -1,8 +1,8 @@
 //! Check 1 and check 2: what passes and what does not.
 
-use second::{check_namespaces, check_table};
+use second::{check_namespaces, check_table, Table};
 
-use crate::common::{check, table_of};
+use crate::common::{check, rows_pass, table_of};
 
 const EXISTS: &str = "exists";
 
@@ -34,7 +34,7 @@ fn names() {
         ("1/2/3/4/5/6/7/8/9/a/b/c/d/e/f/g/h", false),
     ];
     for (name, passes) in rows {
-        assert_eq!(check_table(&table_of(&[(name, EXISTS)])), passes, "{name:?}");
+        assert_eq!(rows_pass(&[(name, EXISTS)]), passes, "{name:?}");
     }
 }
 
@@ -57,7 +57,7 @@ fn flags() {
         ("8001", false),
     ];
     for (flags, passes) in rows {
-        assert_eq!(check_table(&table_of(&[("Foo", flags)])), passes, "{flags}");
+        assert_eq!(rows_pass(&[("Foo", flags)]), passes, "{flags}");
     }
 }
 
@@ -75,7 +75,7 @@ fn orders_of_rows() {
     ];
     for (names, passes) in tables {
         let rows: Vec<_> = names.iter().map(|name| (*name, EXISTS)).collect();
-        assert_eq!(check_table(&table_of(&rows)), passes, "{names:?}");
+        assert_eq!(rows_pass(&rows), passes, "{names:?}");
     }
 }
 
@@ -90,7 +90,7 @@ fn rows_below_no_inferiors() {
         (&[("a/b", CHILDLESS), ("a/b/c", EXISTS)], false),
     ];
     for (rows, passes) in tables {
-        assert_eq!(check_table(&table_of(rows)), passes, "{rows:?}");
+        assert_eq!(rows_pass(rows), passes, "{rows:?}");
     }
 }
 
@@ -105,7 +105,7 @@ fn table_as_bytes() {
         (b"\x00\x01\x01ab", false),
     ];
     for (table, passes) in tables {
-        assert_eq!(check_table(table), passes, "{table:?}");
+        assert_eq!(check_table(Table::Packed(table)), passes, "{table:?}");
     }
 }
 
@@ -114,7 +114,7 @@ fn numbers_of_rows() {
     for (count, passes) in [(512, true), (513, false)] {
         let names: Vec<_> = (0..count).map(|number| format!("{number:03}")).collect();
         let rows: Vec<_> = names.iter().map(|name| (name.as_str(), EXISTS)).collect();
-        assert_eq!(check_table(&table_of(&rows)), passes, "{count} rows");
+        assert_eq!(rows_pass(&rows), passes, "{count} rows");
     }
 }
 
@@ -128,7 +128,7 @@ fn numbers_of_bytes() {
         let rows: Vec<_> = names.iter().map(|name| (name.as_str(), EXISTS)).collect();
         let table = table_of(&rows);
         assert_eq!(table.len() <= 32_768, passes);
-        assert_eq!(check_table(&table), passes, "{} bytes", table.len());
+        assert_eq!(check_table(Table::Packed(&table)), passes, "{} bytes", table.len());
     }
 }
 

@@ -1,8 +1,9 @@
 //! Set-ups, exchanges and walks as data, and the checks of them.
 
 use second::namespaces::Entry;
+use second::records::packed_records;
 use second::table::{Flags, Row};
-use second::{answer, collect, frames, Refusal};
+use second::{answer, check_table, collect, frames, Record, Records, Refusal, Table};
 
 /// What a lent buffer holds before a call.
 const FILL: u8 = 0xA5;
@@ -27,6 +28,48 @@ pub fn table_of(rows: &Rows) -> Vec<u8> {
     rows.iter().flat_map(row).collect()
 }
 
+/// A table in three forms that mean the same rows.
+pub struct Forms {
+    packed: Vec<u8>,
+    /// The records of the packed table, over its bytes.
+    in_place: Vec<Record>,
+    /// Records over an area where the names lie in the other order.
+    turned: Vec<Record>,
+    area: Vec<u8>,
+}
+
+/// What lies before each name of the turned form.
+const UNUSED: &[u8] = b"%\0";
+
+impl Forms {
+    pub fn of(rows: &Rows) -> Forms {
+        let packed = table_of(rows);
+        let in_place = packed_records(&packed).expect("a table of at most 32,768 bytes");
+        let (mut turned, mut area) = (in_place.clone(), Vec::new());
+        for (record, (name, _)) in turned.iter_mut().zip(rows).rev() {
+            area.extend_from_slice(UNUSED);
+            record.start = u16::try_from(area.len()).expect("a small area");
+            area.extend_from_slice(name.as_bytes());
+        }
+        turned.push(Record { flags: 0xFFFF, start: 0, len: 0xFF });
+        Forms { packed, in_place, turned, area }
+    }
+
+    pub fn tables(&self) -> [Table<'_>; 3] {
+        let count = self.in_place.len();
+        let records = |records, area| Table::Records(Records { records, count, area });
+        let turned = records(&self.turned, &self.area);
+        [Table::Packed(&self.packed), records(&self.in_place, &self.packed), turned]
+    }
+}
+
+/// Whether the rows pass check 1, in every form.
+pub fn rows_pass(rows: &Rows) -> bool {
+    let [packed, in_place, turned] = Forms::of(rows).tables().map(check_table);
+    assert_eq!([in_place, turned], [packed; 2], "{rows:?}");
+    packed
+}
+
 /// Checks a dialogue as the RFCs print it: commands behind `C:`, the lines of their answers
 /// behind `S:`.
 pub fn check_dialogue(rows: &Rows, entries: &Entries, dialogue: &str) {
@@ -40,16 +83,20 @@ pub fn check_dialogue(rows: &Rows, entries: &Entries, dialogue: &str) {
     }
 }
 
-/// Runs each command over the same table and list, and checks its answer, the bytes behind it,
-/// and on refusal every byte of the buffer.
+/// Runs each command over every form of the same table and the same list, and checks its answer,
+/// the bytes behind it, and on refusal every byte of the buffer.
 pub fn check(rows: &Rows, entries: &Entries, exchanges: &[Exchange]) {
-    let table = table_of(rows);
     let namespaces: Vec<u8> = entries.iter().flat_map(entry_bytes).collect();
+    for table in Forms::of(rows).tables() {
+        check_table_answers(table, &namespaces, exchanges);
+    }
+}
+
+fn check_table_answers(table: Table, namespaces: &[u8], exchanges: &[Exchange]) {
     for (command, expected) in exchanges {
         let line = format!("{command}\r\n");
         let mut out = vec![FILL; frames::ANSWER_ROOM];
-        let result =
-            answer(&table, &namespaces, line.as_bytes(), &mut out).map_err(Refusal::number);
+        let result = answer(table, namespaces, line.as_bytes(), &mut out).map_err(Refusal::number);
         let (text, behind) = out.split_at(result.unwrap_or(0));
         let text = str::from_utf8(text).expect("an answer of ASCII");
         let lines: Vec<&str> = text.split_terminator("\r\n").collect();
@@ -59,10 +106,17 @@ pub fn check(rows: &Rows, entries: &Entries, exchanges: &[Exchange]) {
     }
 }
 
-/// Runs a walk in buffers of these lengths and checks every byte of the three.
+/// Runs a walk over every form of a table in buffers of these lengths, and checks every byte of the
+/// three.
 pub fn check_walk(rows: &Rows, option: u8, rooms: [usize; 3], expected: Result<Walked, u8>) {
+    for table in Forms::of(rows).tables() {
+        check_table_walk(table, option, rooms, expected);
+    }
+}
+
+fn check_table_walk(table: Table, option: u8, rooms: [usize; 3], expected: Result<Walked, u8>) {
     let [mut scratch, mut found, mut pending] = rooms.map(|room| vec![FILL; room]);
-    let result = collect(&table_of(rows), option, &mut scratch, &mut found, &mut pending);
+    let result = collect(table, option, &mut scratch, &mut found, &mut pending);
     let (found_names, pending_names) = match expected {
         Ok((_, found, pending)) => (names_bytes(found), names_bytes(pending)),
         Err(_) => (vec![], vec![]),

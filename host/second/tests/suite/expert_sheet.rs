@@ -1,8 +1,8 @@
 //! E1 to E8 of the expert's sheet (document 01), E3 with the line that W1 (document 02) adds.
 
-use second::{answer, check_table, Refusal};
+use second::{answer, Refusal, Table};
 
-use crate::common::{check, check_dialogue, check_walk, table_of, Rows};
+use crate::common::{check, check_dialogue, check_walk, rows_pass, Rows};
 
 const TABLE_E: &Rows = &[
     ("Foo-x", "0001"),
@@ -131,7 +131,7 @@ fn e8_lengths_of_names() {
     for (length, passes) in [(200, true), (201, false)] {
         let name = "n".repeat(length);
         let rows = [(name.as_str(), "0001")];
-        assert_eq!(check_table(&table_of(&rows)), passes, "a name of {length} bytes");
+        assert_eq!(rows_pass(&rows), passes, "a name of {length} bytes");
         let line = format!("* LIST () \"/\" \"{name}\"");
         let listed = [line.as_str(), "a OK done"];
         let expected: Result<&[&str], u8> = if passes { Ok(&listed) } else { Err(1) };
@@ -144,7 +144,7 @@ fn e8_lengths_of_lines() {
     for (length, expected) in [(2_048, Ok(())), (2_049, Err(Refusal::LineShape))] {
         let rest = " NAMESPACE\r\n";
         let line = "t".repeat(length - rest.len()) + rest;
-        let result = answer(&[], &[], line.as_bytes(), &mut [0; ROOM]);
+        let result = answer(Table::EMPTY, &[], line.as_bytes(), &mut [0; ROOM]);
         assert_eq!(result.map(drop), expected, "a line of {length} bytes");
     }
 }

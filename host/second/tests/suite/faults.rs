@@ -4,7 +4,7 @@ use second::fault::{Fault, LineFault, ListFault, RoomFault};
 use second::frames::{hex_of, Program, COMMAND, ROW, TABLE_ROOM, WALK};
 use second::namespaces::checked_entries;
 use second::table::{checked_rows, row_at};
-use second::Refusal;
+use second::{Record, Records, Refusal, Table};
 
 use crate::common::{table_of, Rows};
 
@@ -32,7 +32,7 @@ fn rows() {
     ];
     for (rows, name, rule, other) in tables {
         let table = table_of(rows);
-        let fault = checked_rows(&table).expect_err("a fault");
+        let fault = checked_rows(Table::Packed(&table)).expect_err("a fault");
         let name_at = |at| row_at(&table, at).expect("a row").name;
         assert_eq!((name_at(fault.at), fault.rule), (name.as_bytes(), rule), "{rows:?}");
         assert_eq!(fault.other.map(name_at), other.map(str::as_bytes), "{rows:?}");
@@ -41,14 +41,40 @@ fn rows() {
 
 #[test]
 fn tables_as_a_whole() {
-    let fault = |at, rule| Err(ListFault { at, rule, other: None });
-    let rows = |table: &[u8]| checked_rows(table).map(|rows| rows.len());
+    let rows = |table: &[u8]| checked_rows(Table::Packed(table)).map(|rows| rows.len());
     assert_eq!(rows(b""), Ok(0));
-    assert_eq!(rows(b"\0\x01\x01a\0\x01"), fault(4, "rows fill the table exactly"));
+    assert_eq!(rows(b"\0\x01\x01a\0\x01"), Err(fault(4, "rows fill the table exactly")));
     let many: Vec<u8> =
         (0..513).flat_map(|n| [b"\0\x01\x03", row_name(n).as_bytes()].concat()).collect();
-    assert_eq!(rows(&many), fault(512 * 6, "a table has at most 512 rows"));
+    assert_eq!(rows(&many), Err(fault(512 * 6, "a table has at most 512 rows")));
     assert_eq!(rows(&many[..512 * 6]), Ok(512));
+}
+
+/// Of records the faults are told by numbers; the rest of check 1 is that of the packed table.
+#[test]
+fn records() {
+    let record = |start, len| Record { flags: 1, start, len };
+    let lists: [(&[Record], usize, &[u8], ListFault); 7] = [
+        (&[record(0, 1)], 2, b"a", fault(1, "there are as many records as the count says")),
+        (&[], 0, &[0; 32_769], fault(0, "an area has at most 32,768 bytes")),
+        (&[record(0, 1), record(1, 1)], 2, b"a", fault(1, "names lie inside the area")),
+        (&[record(0, 0)], 1, b"a", fault(0, "a name has 1 to 200 bytes")),
+        (&[record(2, 1), record(0, 3)], 2, b"b/a", overlap(1, 0)),
+        (&[record(1, 2), record(0, 2), record(3, 1)], 3, b"bacd", overlap(1, 0)),
+        (&[record(1, 1), record(0, 1)], 2, b"ab", ListFault { other: Some(0), ..fault(1, ASCEND) }),
+    ];
+    for (records, count, area, expected) in lists {
+        let told = checked_rows(Table::Records(Records { records, count, area }));
+        assert_eq!(told.expect_err("a fault"), expected, "{records:?}");
+    }
+}
+
+fn fault(at: usize, rule: &'static str) -> ListFault {
+    ListFault { at, rule, other: None }
+}
+
+fn overlap(at: usize, other: usize) -> ListFault {
+    ListFault { at, rule: "names do not overlap", other: Some(other) }
 }
 
 fn row_name(number: usize) -> String {

@@ -11,6 +11,7 @@ mod listing;
 mod literals;
 mod matcher;
 mod program;
+mod records;
 mod rfc2342;
 mod rfc5258;
 mod rfc6154;

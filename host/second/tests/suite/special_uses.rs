@@ -1,6 +1,6 @@
 //! W3 (document 02), sentence by sentence: special uses by tree.
 
-use second::answer;
+use second::{answer, collect, Table};
 
 use crate::common::{check, check_dialogue, check_walk, table_of, Rows, Walked};
 
@@ -174,13 +174,15 @@ fn scratch_of_each_walk() {
     for (option, selection, references) in walks {
         let length = |reference: &&str| {
             let line = format!("w LIST ({selection}) \"{reference}\" \"%\"\r\n");
-            answer(&table_of(TREE), &[], line.as_bytes(), &mut [0; ROOM]).expect("an answer")
+            answer(Table::Packed(&table_of(TREE)), &[], line.as_bytes(), &mut [0; ROOM])
+                .expect("an answer")
         };
         let longest = references.iter().map(length).max().expect("a command");
         let walk = |room| {
             let [mut scratch, mut found, mut pending] =
                 [room, ROOM, ROOM].map(|room| vec![0; room]);
-            second::collect(&table_of(TREE), option, &mut scratch, &mut found, &mut pending)
+            let table = table_of(TREE);
+            collect(Table::Packed(&table), option, &mut scratch, &mut found, &mut pending)
         };
         assert!(walk(longest).is_ok(), "{option}");
         assert_eq!(walk(longest - 1), Err(second::Refusal::AnswerRoom), "{option}");

@@ -6,6 +6,7 @@ use lib.ListN.{length, take, length-take}
 use borrow.Author.Needs.{needs}
 use Rattle.listing_rules.specs.Walk.{go, commandLine}
 use Rattle.collector.specs.Options.{byteOf}
+use Rattle.collector.specs.Held.{heldTable}
 use Rattle.collector.specs.Rooms.{commandRoom}
 use Rattle.collector.proofs.AskLaws.{Fronts, put-fronts, command-fits, reply, server-done, asked-done, asked-refused, takes-step}
 use Rattle.collector.proofs.walk.ask.Statement.{statement}
@@ -14,41 +15,46 @@ use Rattle.collector.proofs.walk.ask.Tie as tie
 -- the command stands at the front of the line
 sent : (c : tie.After-namespaces) →
     let put = c .before .before .put-command in
-    let args = c .before .before .before .before .before .before .before .before .before .before .args in
-    Fronts (put .last .0) (put .result) (commandLine (byteOf (args .options)) (args .reference .now))
+    let args = c .before .before .before .before .before .before .before .before .before .before .before .before .before .args in
+    Fronts (put .last .0) (put .result) (commandLine (byteOf (args .asking .options)) (args .reference .now))
 sent c =
     let stage-2 = c .before .before .before .before in
     let after-no-command = stage-2 in
-    let stage = after-no-command .before .before .before .before .before .before in
+    let stage = after-no-command .before .before .before .before .before .before .before .before .before in
     let put = c .before .before .put-command in
     let made = after-no-command .no-command in
     let start = stage in
-    let byte = byteOf (start .args .options) in
+    let byte = byteOf (start .args .asking .options) in
     let reference = start .args .reference .now in
     put-fronts (made .result) (put .last .0) (commandLine byte reference) (put .result) commandRoom (made .ensures) (put .ensures) (command-fits byte reference (start .pre .0))
 
 array-share-prefix-line : tie.Need-array-share-prefix-line
 array-share-prefix-line c = sent c .inside
 
-slice-aggregate-answer-2 : tie.Need-slice-aggregate-answer-2
-slice-aggregate-answer-2 c = simp length-take (omega (arith, sent (c .before) .inside))
+slice-aggregate-answer-words-2 : tie.Need-slice-aggregate-answer-words-2
+slice-aggregate-answer-words-2 c = simp length-take (omega (arith, sent (c .before) .inside))
 
 -- the answer stands at the front of scratch
 answered-so : (c : tie.After-known-told) →
     let answered = c .before .before .before .before .before in
     let put = answered .before .before .before .before .before .put-command in
-    let args = answered .before .before .before .before .before .before .before .before .before .before .before .before .before .args in
+    let args = answered .before .before .before .before .before .before .before .before .before .before .before .before .before .before .before .before .args in
     let len = c .before .len .given .0 .0 in
-    let scratch = answered .answer .last .1 .1 .1 .0 in
-    (len ≤ length scratch) × (reply (args .table .now) (take (put .result) (put .last .0)) (args .scratch .now) ≡ go (take len scratch))
+    let scratch = answered .answer-words .last .1 .1 .1 .1 .1 .0 in
+    (len ≤ length scratch) × (reply (heldTable (args .area .now) (args .words .now)) (take (put .result) (put .last .0)) (args .scratch .now) ≡ go (take len scratch))
 answered-so c =
     let stage-2 = c .before .before .before .before .before in
     let stage = stage-2 in
     let answered = stage in
     let put = answered .before .before .before .before .before .put-command in
-    let args = answered .before .before .before .before .before .before .before .before .before .before .before .before .before .args in
+    let args = answered .before .before .before .before .before .before .before .before .before .before .before .before .before .before .before .before .args in
     let told = c .before .len .given in
-    server-done (args .table .now) (take (put .result) (put .last .0)) (args .scratch .now) (answered .answer .last .1 .1 .1 .0) (told .0 .0) (answered .answer .ensures .0) (told .1) (answered .answer .ensures .1)
+    server-done (heldTable (args .area .now) (args .words .now)) (take (put .result) (put .last .0)) (args .scratch .now) (answered .answer-words .last .1 .1 .1 .1 .1 .0) (told .0 .0) (answered .answer-words .ensures .0) (told .1) (answered .answer-words .ensures .1)
+
+add-count : tie.Need-add-count
+add-count c =
+    let start = c .before .before .before .before .before .before .before .before .before .before .before .before .before .before .before .before .before .before .before .before .before .before in
+    omega (arith, start .pre .1 .1, start .good)
 
 slice-reshare-prefix-take-lines : tie.Need-slice-reshare-prefix-take-lines
 slice-reshare-prefix-take-lines c = answered-so (c .before) .0
@@ -61,7 +67,7 @@ take-lines-requires c κs =
     let stage-2 = c .before .before .before .before .before .before .before .before .before in
     let stage = stage-2 in
     let answered = stage in
-    let start = answered .before .before .before .before .before .before .before .before .before .before .before .before .before in
+    let start = answered .before .before .before .before .before .before .before .before .before .before .before .before .before .before .before .before in
     record { finds = start .pre .1 .0 .finds; asks = start .pre .1 .0 .asks }
 
 returns : tie.Need-returns
@@ -71,11 +77,11 @@ returns c =
     let taken = stage in
     let answered = taken .before .before .before .before .before in
     let written = answered .before .before .before .before .before .before .before .before in
-    let start = written .before .before .before .before .before .before .before .before .before .before in
+    let start = written .before .before .before .before .before .before .before .before .before .before .before .before .before in
     let args = start .args in
     let last = taken .take-lines .last .1 .1 in
-    takes-step _ _ _ (args .start .count + 1) (args .start) (args .found .now) (args .pending .now) (last .0) (last .1 .0) (taken .take-lines .result)
-    (asked-done (args .table .now) (args .options) (args .reference .now) (args .scratch .now) (sent written) (answered-so answered .1) (args .found .now) (args .pending .now))
+    takes-step _ _ _ (args .asking .start .count + 1) (args .asking .start) (args .found .now) (args .pending .now) (last .0) (last .1 .0) (taken .take-lines .result)
+    (asked-done (heldTable (args .area .now) (args .words .now)) (args .asking .options) (args .reference .now) (args .scratch .now) (sent written) (answered-so answered .1) (args .found .now) (args .pending .now))
     (taken .take-lines .ensures)
 
 returns-2 : tie.Need-returns-2
@@ -84,9 +90,9 @@ returns-2 c =
     let stage = stage-2 in
     let answered = stage in
     let written = answered .before .before .before in
-    let args = written .before .before .before .before .before .before .before .before .before .before .args in
+    let args = written .before .before .before .before .before .before .before .before .before .before .before .before .before .args in
     λ s h.
-    asked-refused (args .table .now) (args .options) (args .reference .now) (args .scratch .now) (sent written) (answered .answer .ensures .0) (c .before .number .given .1) (args .found .now) (args .pending .now) s
+    asked-refused (heldTable (args .area .now) (args .words .now)) (args .asking .options) (args .reference .now) (args .scratch .now) (sent written) (answered .answer-words .ensures .0) (c .before .number .given .1) (args .found .now) (args .pending .now) s
 
 pub ask-spec : {M : Type 1} → statement M
 ask-spec =
@@ -97,10 +103,10 @@ ask-spec =
     (λ c κs. search needs)
     (λ c. search needs)
     array-share-prefix-line
-    slice-aggregate-answer-2
+    slice-aggregate-answer-words-2
     (λ c κs. search needs)
     (λ c. search needs)
-    (λ c. search needs)
+    add-count
     slice-reshare-prefix-take-lines
     slice-aggregate-take-lines
     take-lines-requires

@@ -13,12 +13,12 @@ use Rattle.collector.proofs.walk.ask_below.Tie as tie
 -- the name and "/" stand at the front of the reference
 below : (c : tie.After-reference2) →
     let put = c .before .put-below in
-    let args = c .before .before .before .before .before .before .before .before .before .before .args in
+    let args = c .before .before .before .before .before .before .before .before .before .before .before .args in
     Fronts (put .last .0) (put .result) (nameAt (args .name) (args .pending .now) ++ (slash ∷ []))
 below c =
     let stage-2 = c .before .before .before .before .before in
     let after-no-reference = stage-2 in
-    let stage = after-no-reference .before .before .before .before .before in
+    let stage = after-no-reference .before .before .before .before .before .before in
     let put = c .before .put-below in
     let made = after-no-reference .no-reference in
     let start = stage in
@@ -36,7 +36,7 @@ ask-requires c κs =
     let stage-2 = c .before .before .before .before in
     let stage = stage-2 in
     let referred = stage in
-    let start = referred .before .before .before .before .before .before .before .before .before .before in
+    let start = referred .before .before .before .before .before .before .before .before .before .before .before in
     (rw (below referred .bytes) (simp (length-append, length-take) (omega (arith, start .pre .0))), (start .pre .1 .0, start .pre .1 .1))
 
 returns : tie.Need-returns

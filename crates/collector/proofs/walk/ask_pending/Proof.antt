@@ -6,24 +6,25 @@ use lib.ListN.{length, getD}
 use borrow.Author.Needs.{needs}
 use Rattle.listing_rules.specs.Walk.{collected}
 use Rattle.collector.specs.Walking.{Walking}
+use Rattle.collector.specs.Held.{heldTable}
 use Rattle.collector.proofs.WalkLaws.{name-inside, name-lies, count-fits, walking-ends, walking-refused, walking-step}
 use Rattle.collector.proofs.walk.ask_pending.Statement.{statement}
 use Rattle.collector.proofs.walk.ask_pending.Tie as tie
 
 abbrev Inv-loop : tie.InvT-loop
-Inv-loop table options scratch₀ found₀ pending₀ progress₀ at₀ scratch found pending progress at = Walking table options (length scratch₀) (length found₀) (length pending₀) scratch found pending progress at
+Inv-loop words area options scratch₀ found₀ pending₀ progress₀ at₀ scratch found pending progress at = Walking (heldTable area words) options (length scratch₀) (length found₀) (length pending₀) scratch found pending progress at
 
 abbrev μ-loop : tie.MeasureT-loop
-μ-loop table options scratch₀ found₀ pending₀ progress₀ at₀ scratch found pending progress at = length pending - at
+μ-loop words area options scratch₀ found₀ pending₀ progress₀ at₀ scratch found pending progress at = length pending - at
 
 loop-holds : tie.Need-loop-holds Inv-loop μ-loop
 loop-holds c =
-    let stage = c .before .before .before .before in
+    let stage = c .before .before .before .before .before in
     let after-pre = stage in
     after-pre .pre
 
 add-from : tie.Need-add-from Inv-loop μ-loop
-add-from c = let turn = c .before .before in omega (arith, turn .loop .inv .holds .asks .room, turn .loop .inv .pending-long, turn .before .before .before .before .before .good)
+add-from c = let turn = c .before .before in omega (arith, turn .loop .inv .holds .asks .room, turn .loop .inv .pending-long, turn .before .before .before .before .before .before .good)
 
 slice-read-wide : tie.Need-slice-read-wide Inv-loop μ-loop
 slice-read-wide c = omega (arith, c .before .if1 .taken, c .before .before .before .loop .inv .holds .asks .room)
@@ -39,7 +40,7 @@ add-end : tie.Need-add-end Inv-loop μ-loop
 add-end c =
     let stage-2 = c .before .before .before .before in
     let stage = stage-2 in
-    let turn = stage in omega (arith, name-inside (turn .loop .inv) (c .before .before .if1 .taken) (end-is c), turn .loop .inv .holds .asks .room, turn .loop .inv .pending-long, turn .before .before .before .before .before .good)
+    let turn = stage in omega (arith, name-inside (turn .loop .inv) (c .before .before .if1 .taken) (end-is c), turn .loop .inv .holds .asks .room, turn .loop .inv .pending-long, turn .before .before .before .before .before .before .good)
 
 ask-below-requires : tie.Need-ask-below-requires Inv-loop μ-loop
 ask-below-requires c κs =
@@ -58,7 +59,7 @@ loop-less c =
     let asked = stage in
     let read = asked .before .before .before .before in
     let turn = read .before .before .before .before in
-    omega (arith, read .before .before .if1 .taken, turn .loop .inv .holds .asks .room, asked .ask-below .kept .1 .1 .1 .1 .1 .0)
+    omega (arith, read .before .before .if1 .taken, turn .loop .inv .holds .asks .room, asked .ask-below .kept .1 .1 .1 .1 .1 .1 .0)
 
 loop-again : tie.Need-loop-again Inv-loop μ-loop
 loop-again c =
@@ -67,9 +68,9 @@ loop-again c =
     let asked = stage in
     let read = asked .before .before .before .before in
     let turn = read .before .before .before .before in
-    let kept = asked .ask-below .kept .1 .1 .1 in
+    let kept = asked .ask-below .kept .1 .1 .1 .1 in
     walking-step (turn .loop .inv) (read .before .before .if1 .taken) (end-is read)
-    (asked .ask-below .last .1 .1 .1 .0)
+    (asked .ask-below .last .1 .1 .1 .1 .0)
     (rw (c .before .next .given .1) at (asked .ask-below .ensures))
     (kept .0)
     (kept .1 .0)
@@ -79,19 +80,19 @@ same-length : tie.Need-same-length Inv-loop μ-loop
 same-length c =
     let stage-2 = c .before .before .before .before .before .before .before .before .before in
     let stage = stage-2 in
-    let asked = stage in asked .ask-below .kept .1 .1 .1 .0 ∙ asked .before .before .before .before .before .before .before .before .loop .inv .scratch-long
+    let asked = stage in asked .ask-below .kept .1 .1 .1 .1 .0 ∙ asked .before .before .before .before .before .before .before .before .loop .inv .scratch-long
 
 same-length-2 : tie.Need-same-length-2 Inv-loop μ-loop
 same-length-2 c =
     let stage-2 = c .before .before .before .before .before .before .before .before .before in
     let stage = stage-2 in
-    let asked = stage in asked .ask-below .kept .1 .1 .1 .1 .0 ∙ asked .before .before .before .before .before .before .before .before .loop .inv .found-long
+    let asked = stage in asked .ask-below .kept .1 .1 .1 .1 .1 .0 ∙ asked .before .before .before .before .before .before .before .before .loop .inv .found-long
 
 same-length-3 : tie.Need-same-length-3 Inv-loop μ-loop
 same-length-3 c =
     let stage-2 = c .before .before .before .before .before .before .before .before .before in
     let stage = stage-2 in
-    let asked = stage in asked .ask-below .kept .1 .1 .1 .1 .1 .0 ∙ asked .before .before .before .before .before .before .before .before .loop .inv .pending-long
+    let asked = stage in asked .ask-below .kept .1 .1 .1 .1 .1 .1 .0 ∙ asked .before .before .before .before .before .before .before .before .loop .inv .pending-long
 
 returns : tie.Need-returns Inv-loop μ-loop
 unfolding collected

@@ -7,6 +7,7 @@ use Rattle.listing_rules.specs.Walk.{WalkReply}
 use Rattle.collector.specs.Options.{byteOf}
 use Rattle.collector.specs.Walking.{Walking}
 use Rattle.collector.specs.Ends.{Ends}
+use Rattle.collector.specs.Held.{heldTable}
 use Rattle.collector.proofs.WalkLaws.{collected-long, walk-refused, walking-begins}
 use Rattle.collector.proofs.walk.walk_table.Statement.{statement}
 use Rattle.collector.proofs.walk.walk_table.Tie as tie
@@ -17,19 +18,19 @@ ask-requires c κs = (omega arith, (record { finds = omega arith; asks = omega a
 -- the first command was taken
 begins : (c : tie.After-known-told) →
     let asked = c .before .before .before .before .before .before .before .before .before in
-    let start = asked .before .before .before .before .before .before .before .before .before in
-    let scratch = asked .ask .last .1 .1 .1 .0 in
-    let found = asked .ask .last .1 .1 .1 .1 .0 in
-    let pending = asked .ask .last .1 .1 .1 .1 .1 .0 in
-    Walking (start .args .table .now) (start .args .options) (length scratch) (length found) (length pending) scratch found pending (c .before .first .given .0 .0) 0
+    let start = asked .before .before .before .before .before .before .before .before .before .before in
+    let scratch = asked .ask .last .1 .1 .1 .1 .0 in
+    let found = asked .ask .last .1 .1 .1 .1 .1 .0 in
+    let pending = asked .ask .last .1 .1 .1 .1 .1 .1 .0 in
+    Walking (heldTable (start .args .area .now) (start .args .words .now)) (start .args .options) (length scratch) (length found) (length pending) scratch found pending (c .before .first .given .0 .0) 0
 begins c =
     let stage-2 = c .before .before .before .before .before .before .before .before .before in
     let stage = stage-2 in
     let asked = stage in
-    let start = asked .before .before .before .before .before .before .before .before .before in
-    let kept = asked .ask .kept .1 .1 .1 in
-    walking-begins (start .args .table .now) (start .args .options) (start .args .scratch .now) (start .pre .0) (start .pre .1 .0) (start .pre .1 .1)
-    (asked .ask .last .1 .1 .1 .0)
+    let start = asked .before .before .before .before .before .before .before .before .before .before in
+    let kept = asked .ask .kept .1 .1 .1 .1 in
+    walking-begins (heldTable (start .args .area .now) (start .args .words .now)) (start .args .options) (start .args .scratch .now) (start .pre .0) (start .pre .1 .0) (start .pre .1 .1)
+    (asked .ask .last .1 .1 .1 .1 .0)
     (rw (c .before .first .given .1) at (asked .ask .ensures))
     (kept .0)
     (kept .1 .0)
@@ -44,12 +45,12 @@ returns c =
     let stage = stage-2 in
     let ended = stage in
     let asked = ended .before .before .before .before .before .before .before .before .before .before .before .before .before in
-    let start = asked .before .before .before .before .before .before .before .before .before in
-    let kept = asked .ask .kept .1 .1 .1 in
-    let first = asked .ask .last .1 .1 .1 in
-    let last = ended .ask-pending .last .1 .1 .1 in
+    let start = asked .before .before .before .before .before .before .before .before .before .before in
+    let kept = asked .ask .kept .1 .1 .1 .1 in
+    let first = asked .ask .last .1 .1 .1 .1 in
+    let last = ended .ask-pending .last .1 .1 .1 .1 in
     subst (λ (w : WalkReply). Ends w (last .0) (last .1 .0) (ended .ask-pending .result))
-    (collected-long (start .args .table .now) (byteOf (start .args .options)) (start .args .scratch .now) (start .args .found .now) (start .args .pending .now) (first .0) (first .1 .0) (first .1 .1 .0) (kept .0) (kept .1 .0) (kept .1 .1 .0))
+    (collected-long (heldTable (start .args .area .now) (start .args .words .now)) (byteOf (start .args .options)) (start .args .scratch .now) (start .args .found .now) (start .args .pending .now) (first .0) (first .1 .0) (first .1 .1 .0) (kept .0) (kept .1 .0) (kept .1 .1 .0))
     (ended .ask-pending .ensures)
 
 returns-2 : tie.Need-returns-2
@@ -57,8 +58,8 @@ returns-2 c =
     let stage-2 = c .before .before .before .before .before .before .before .before .before in
     let stage = stage-2 in
     let asked = stage in
-    let start = asked .before .before .before .before .before .before .before .before .before in
-    walk-refused (start .args .table .now) (start .args .options) (start .args .scratch .now) (start .pre .0) (start .pre .1 .0) (start .pre .1 .1)
+    let start = asked .before .before .before .before .before .before .before .before .before .before in
+    walk-refused (heldTable (start .args .area .now) (start .args .words .now)) (start .args .options) (start .args .scratch .now) (start .pre .0) (start .pre .1 .0) (start .pre .1 .1)
     (rw (c .before .number .given .1) at (asked .ask .ensures))
 
 pub walk-table-spec : {M : Type 1} → statement M

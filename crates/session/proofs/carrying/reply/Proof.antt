@@ -14,37 +14,37 @@ sized c = ap length (c .answer-buffer .ensures) ∙ length-replicate {A = ℕ} 1
 
 array-share-prefix-answer : tie.Need-array-share-prefix-answer
 array-share-prefix-answer c =
-    let after-answer2 = c .before .before .before .before .before in
-    let stage = after-answer2 .before .before in
+    let after-answer-packed = c .before .before .before .before .before in
+    let stage = after-answer-packed .before .before in
     let made = stage in
-    let served = after-answer2 .answer2 in
+    let served = after-answer-packed .answer-packed in
     omega (arith, reply-fits _ _ _ _ _ _ (sized made) (served .ensures .0) (served .ensures .1) _ (c .before .before .n .given .1) .0, served .kept .1 .1 .1 .0, sized made)
 
 slice-aggregate-put-line : tie.Need-slice-aggregate-put-line
 slice-aggregate-put-line c =
-    let after-answer2 = c .before .before .before .before .before .before in
-    let stage = after-answer2 .before .before in
+    let after-answer-packed = c .before .before .before .before .before .before in
+    let stage = after-answer-packed .before .before in
     let made = stage in
-    let served = after-answer2 .answer2 in
+    let served = after-answer-packed .answer-packed in
     sym (reply-fits _ _ _ _ _ _ (sized made) (served .ensures .0) (served .ensures .1) _ (c .before .before .before .n .given .1) .1)
 
 returns : tie.Need-returns
 returns c =
     let after-n = c .before .before .before .before .before .before in
-    let after-answer2 = after-n .before .before .before in
-    let stage = after-answer2 .before .before in
+    let after-answer-packed = after-n .before .before .before in
+    let stage = after-answer-packed .before .before in
     let made = stage in
-    let served = after-answer2 .answer2 in
+    let served = after-answer-packed .answer-packed in
     let n = after-n .n in
     reply-says _ _ _ _ _ _ (sized made) (served .ensures .0) (served .ensures .1) _ _ _ _ (n .given .1) (c .before .before .put-line .ensures)
 
 returns-2 : tie.Need-returns-2
 returns-2 c =
     let after-number = c .before .before .before .before .before in
-    let after-answer2 = after-number .before .before .before in
-    let stage = after-answer2 .before .before in
+    let after-answer-packed = after-number .before .before .before in
+    let stage = after-answer-packed .before .before in
     let made = stage in
-    let served = after-answer2 .answer2 in
+    let served = after-answer-packed .answer-packed in
     let number = after-number .number in
     reply-refuses _ _ _ _ _ _ (sized made) (served .ensures .0) (served .ensures .1) _ _ _ _ (number .given .1) (c .before .before .put-refusal .ensures)
 

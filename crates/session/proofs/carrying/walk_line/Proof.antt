@@ -17,7 +17,7 @@ array-share-prefix-found c =
     let after-collect = c .before .before .before .before .before .before .before in
     let stage = after-collect .before .before .before .before in
     let made = stage in
-    let walked = after-collect .collect in
+    let walked = after-collect .collect-packed in
     walk-fits _ _ _ _ _ _ _ (sizes made) (walked .ensures .0) (walked .kept .1 .1 .1 .0) (walked .ensures .1 .1 .0) _ _ (c .before .before .count .given .1) .0
 
 slice-aggregate-put-walk : tie.Need-slice-aggregate-put-walk
@@ -25,7 +25,7 @@ slice-aggregate-put-walk c =
     let after-collect = c .before .before .before .before .before .before .before .before in
     let stage = after-collect .before .before .before .before in
     let made = stage in
-    let walked = after-collect .collect in
+    let walked = after-collect .collect-packed in
     sym (walk-fits _ _ _ _ _ _ _ (sizes made) (walked .ensures .0) (walked .kept .1 .1 .1 .0) (walked .ensures .1 .1 .0) _ _ (c .before .before .before .count .given .1) .1)
 
 returns : tie.Need-returns
@@ -34,7 +34,7 @@ returns c =
     let after-collect = after-count .before .before .before .before .before in
     let stage = after-collect .before .before .before .before in
     let made = stage in
-    let walked = after-collect .collect in
+    let walked = after-collect .collect-packed in
     let count = after-count .count in
     walk-says _ _ _ _ _ _ _ (sizes made) (walked .ensures .0) (walked .kept .1 .1 .1 .0) (walked .ensures .1 .1 .0) _ _ _ _ _ (count .given .1) (c .before .before .put-walk .ensures)
 
@@ -44,7 +44,7 @@ returns-2 c =
     let after-collect = after-number .before .before .before .before .before in
     let stage = after-collect .before .before .before .before in
     let made = stage in
-    let walked = after-collect .collect in
+    let walked = after-collect .collect-packed in
     let number = after-number .number in
     walk-refuses _ _ _ _ _ _ _ (sizes made) (walked .ensures .0) (walked .kept .1 .1 .1 .0) (walked .ensures .1 .1 .0) _ _ _ _ (number .given .1) (c .before .before .put-refusal .ensures)
 

@@ -1,0 +1,24 @@
+-- `luspemaro_collect_packed` meets its contract: the promise of `collector::collect_packed`, in C's form.
+use mathlib.Core.Path.{ap, _∙_}
+use borrow.Author.Needs.{needs}
+use Rattle.exports.specs.Outcomes.{collectedCase}
+use Rattle.exports.proofs.OutcomeLaws.{collected-case}
+use Rattle.exports.proofs.luspemaro_collect_packed.Statement.{statement}
+use Rattle.exports.proofs.luspemaro_collect_packed.Tie as tie
+
+returns : tie.Need-returns
+returns c =
+    let after-collect = c .before .before .before .before .before .before .before in
+    let e = after-collect .collect-packed .ensures in
+    (c .collected-outcome .ensures ∙ ap collectedCase (e .0) ∙ collected-case _, (e .1 .0, (e .1 .1 .0, (e .1 .1 .1 .0, λ p l. rw (e .0) at (e .1 .1 .1 .1 p l)))))
+
+pub luspemaro-collect-packed-spec : {M : Type 1} → statement M
+luspemaro-collect-packed-spec =
+    tie.close
+    (tie.spec
+    (λ c κs. search needs)
+    (λ c κs. search needs)
+    (λ c. search needs)
+    (λ c. search needs)
+    (λ c. search needs)
+    returns)

@@ -1,0 +1,133 @@
+-- A packed table turned into records: its records mean its rows and pass where it passes, so every command and every walk is answered alike.
+-- Rests on Passes.
+use mathlib.Core.Path.{_≡_, refl, sym, ap, _∙_}
+use mathlib.Core.Bool.{Bool, true, false, _&&_, _||_, false≢true}
+use mathlib.Core.List.{List, [], _∷_, map}
+use mathlib.Core.Option.{some}
+use Prim.Native.Nat.{ℕ, zero, suc, _+_, _*_, _≤_}
+use native.Mathlib.Decide.{decLe}
+use native.Mathlib.Omega.{arith}
+use native.Mathlib.Numerals.{add-one}
+use lib.Dec.{leb}
+use lib.ListN.{length, take, drop, getD, length-map}
+use lib.Seq.{drop-drop, take-length}
+use borrow.Author.Tests.{le-leb}
+use Rattle.listing_rules.specs.Lists.{every}
+use Rattle.listing_rules.specs.Table.{Row, Table, rows, passes, rowAt, rowsAfter, packedRows, rowsFill, packedTable}
+use Rattle.listing_rules.specs.Records.{Record, rowOf, recordRows, liesInside, apart, allApart, laidOut, recordTable, recordsAfter, packedRecords}
+use Rattle.listing_rules.specs.Server.{served}
+use Rattle.listing_rules.specs.Walk.{collected}
+use Rattle.listing_rules.proofs.Bools.{and-i, or-l}
+use Rattle.listing_rules.proofs.Passes.{packed-parts, packed-some}
+use Rattle.listing_rules.proofs.Rows.{fills-short}
+
+-- the record of the row whose first byte is h, at a place, with u after that byte
+abbrev recordAt : ℕ → ℕ → List ℕ → Record
+recordAt at h u = record { flags = 256 * h + getD u 0 0; start = at + 3; len = getD u 1 0 }
+
+-- the bytes after a place, where the place's own byte is known
+next-drop : (t : List ℕ) (at h : ℕ) (u : List ℕ) → drop at t ≡ h ∷ u → drop (suc at) t ≡ u
+next-drop t at h u e = rw (← add-one at) (sym (drop-drop 1 at t) ∙ ap (λ (l : List ℕ). drop 1 l) e)
+
+-- a record means the row that stands there
+row-is : (t : List ℕ) (at h : ℕ) (u : List ℕ) → drop at t ≡ h ∷ u → rowOf t (recordAt at h u) ≡ rowAt h u
+unfolding rowOf rowAt
+row-is t at h u e = λ i. record { flags = 256 * h + getD u 0 0; name = take (getD u 1 0) (bytes i) }
+  where
+    bytes : drop (at + 3) t ≡ drop 2 u
+    bytes = sym (drop-drop 3 at t) ∙ ap (λ (l : List ℕ). drop 3 l) e
+
+-- the records mean the rows
+rows-after : (t : List ℕ) (u : List ℕ) (at skip : ℕ) → drop at t ≡ u → map (rowOf t) (recordsAfter at skip u) ≡ rowsAfter skip u
+unfolding recordsAfter rowsAfter
+rows-after t [] at skip e = refl
+rows-after t (h ∷ u) at zero e =
+    let first = row-is t at h u e in
+    let rest = rows-after t u (suc at) (suc (suc (getD u 1 0))) (next-drop t at h u e) in
+    λ i. first i ∷ rest i
+rows-after t (h ∷ u) at (suc k) e = rows-after t u (suc at) k (next-drop t at h u e)
+
+pub packed-rows-are : (t : List ℕ) → recordRows t (packedRecords t) ≡ packedRows t
+unfolding recordRows packedRecords packedRows
+packed-rows-are t = rows-after t t 0 0 refl
+
+-- "Names lie inside the area": rows that fill the bytes do not run past their end
+long-enough : (k : ℕ) (u : List ℕ) → rowsFill k u ≡ true → k ≤ length u
+long-enough k u e = go (decLe k (length u))
+  where
+    go : Dec (k ≤ length u) → k ≤ length u
+    go (yes h) = h
+    go (no h) = absurd (false≢true (sym (fills-short k u (omega arith)) ∙ e))
+
+inside-after : (t : List ℕ) (u : List ℕ) (at skip : ℕ) → length t ≡ at + length u → rowsFill skip u ≡ true → every (liesInside t) (recordsAfter at skip u) ≡ true
+unfolding recordsAfter rowsFill every liesInside
+inside-after t [] at skip l e = refl
+inside-after t (h ∷ u) at zero l e =
+    and-i (leb (at + 3 + getD u 1 0) (length t)) _
+    (le-leb (at + 3 + getD u 1 0) (length t) (omega (arith, l, long-enough (suc (suc (getD u 1 0))) u e)))
+    (inside-after t u (suc at) (suc (suc (getD u 1 0))) (omega (arith, l)) e)
+inside-after t (h ∷ u) at (suc k) l e = inside-after t u (suc at) k (omega (arith, l)) e
+
+-- "without overlap": each name ends before the next begins
+apart-after : (r : Record) (u : List ℕ) (at skip : ℕ) → r .start + r .len ≤ at + skip → every (apart r) (recordsAfter at skip u) ≡ true
+unfolding recordsAfter every apart
+apart-after r [] at skip h = refl
+apart-after r (x ∷ u) at zero h =
+    and-i (leb (r .start + r .len) (at + 3) || leb (at + 3 + getD u 1 0) (r .start)) _
+    (or-l (leb (r .start + r .len) (at + 3)) (leb (at + 3 + getD u 1 0) (r .start)) (le-leb (r .start + r .len) (at + 3) (omega arith)))
+    (apart-after r u (suc at) (suc (suc (getD u 1 0))) (omega arith))
+apart-after r (x ∷ u) at (suc k) h = apart-after r u (suc at) k (omega arith)
+
+all-apart-after : (u : List ℕ) (at skip : ℕ) → allApart (recordsAfter at skip u) ≡ true
+unfolding recordsAfter allApart
+all-apart-after [] at skip = refl
+all-apart-after (h ∷ u) at zero =
+    and-i (every (apart (recordAt at h u)) (recordsAfter (suc at) (suc (suc (getD u 1 0))) u)) (allApart (recordsAfter (suc at) (suc (suc (getD u 1 0))) u))
+    (apart-after (recordAt at h u) u (suc at) (suc (suc (getD u 1 0))) (omega arith))
+    (all-apart-after u (suc at) (suc (suc (getD u 1 0))))
+all-apart-after (h ∷ u) at (suc k) = all-apart-after u (suc at) k
+
+pub packed-apart : (t : List ℕ) → allApart (packedRecords t) ≡ true
+unfolding packedRecords
+packed-apart t = all-apart-after t 0 0
+
+pub packed-inside : (t : List ℕ) → rowsFill 0 t ≡ true → every (liesInside t) (packedRecords t) ≡ true
+unfolding packedRecords
+packed-inside t e = inside-after t t 0 0 (omega arith) e
+
+pub packed-count : (t : List ℕ) → length (packedRecords t) ≡ length (packedRows t)
+unfolding recordRows
+packed-count t = sym (length-map (packedRecords t) (rowOf t)) ∙ ap length (packed-rows-are t)
+
+-- bytes that hold rows hold them as records, too
+pub records-of-packed : (t : List ℕ) → length t ≤ 32768 → rowsFill 0 t ≡ true → recordTable t (packedRecords t) (length (packedRecords t)) ≡ packedTable t
+unfolding recordTable laidOut
+records-of-packed t h e =
+    rw (
+      take-length (packedRecords t),
+      le-leb (length (packedRecords t)) (length (packedRecords t)) (omega arith),
+      le-leb (length t) 32768 h,
+      packed-inside t e,
+      packed-apart t,
+      packed-some t h e,
+      packed-rows-are t,
+    )
+
+-- Law of W4: "For every packed table that passes and its records, every command gives the same bytes and number", and every walk.
+pub record AnsweredAlike (t u : Table) : Type 0 where
+  pub both-pass : passes u ≡ passes t
+  pub rows-same : rows u ≡ rows t
+  pub commands : (spaces line buffer : List ℕ) → served u spaces line buffer ≡ served t spaces line buffer
+  pub walks : (o : ℕ) (scratch found pending : List ℕ) → collected u o scratch found pending ≡ collected t o scratch found pending
+
+pub same-alike : (t u : Table) → u ≡ t → AnsweredAlike t u
+same-alike t u e =
+    record {
+      both-pass = ap passes e;
+      rows-same = ap rows e;
+      commands = λ spaces line buffer. ap (λ (x : Table). served x spaces line buffer) e;
+      walks = λ o scratch found pending. ap (λ (x : Table). collected x o scratch found pending) e;
+    }
+
+pub packed-as-records : (t : List ℕ) → passes (packedTable t) ≡ true → AnsweredAlike (packedTable t) (recordTable t (packedRecords t) (length (packedRecords t)))
+packed-as-records t h = let p = packed-parts t h in same-alike _ _ (records-of-packed t (p .size) (p .fills))

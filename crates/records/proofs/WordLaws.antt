@@ -1,0 +1,19 @@
+-- A record's number tells the record. Rests on arithmetic alone.
+use mathlib.Core.Path.{_≡_}
+use Prim.Native.Nat.{_/_, _%_, _<_}
+use native.Mathlib.Omega.{arith}
+use Rattle.records.specs.declared.Record.{Record}
+use Rattle.records.specs.Words.{wordOf, recordOf, meant}
+
+pub word-tells : (r : Record) → r .flags < 65536 → r .start < 65536 → r .len < 256 → recordOf (wordOf r) ≡ meant r
+unfolding wordOf recordOf meant
+word-tells r f s l = λ i. record { flags = flags-are i; start = start-is i; len = len-is i }
+  where
+    flags-are : wordOf r % 65536 ≡ r .flags
+    flags-are = omega arith
+
+    start-is : wordOf r / 65536 % 65536 ≡ r .start
+    start-is = omega arith
+
+    len-is : wordOf r / 4294967296 % 256 ≡ r .len
+    len-is = omega arith

@@ -1,0 +1,13 @@
+-- `records::record_of` meets its contract: the record is the definition, opened.
+use mathlib.Core.Path.{refl}
+use Rattle.records.specs.Words.{structOf}
+use borrow.Author.Needs.{needs}
+use Rattle.records.proofs.record_of.Statement.{statement}
+use Rattle.records.proofs.record_of.Tie as tie
+
+returns : tie.Need-returns
+unfolding structOf
+returns c = refl
+
+pub record-of-spec : {M : Type 1} → statement M
+record-of-spec = tie.close (tie.spec (λ c. search needs) (λ c. search needs) (λ c. search needs) returns)

@@ -1,0 +1,3 @@
+-- What lent records, and the numbers that stand for them, mean.
+pub mod Words
+pub mod Lent

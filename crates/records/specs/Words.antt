@@ -1,0 +1,19 @@
+-- A lent record, what it means, and the number that stands for it.
+use Prim.Native.Nat.{ℕ, _+_, _*_, _/_, _%_}
+use Rattle.listing_rules.specs.Records.{Record as Meant}
+use Rattle.records.specs.declared.Record.{Record}
+
+-- the record of the definitions, field by field
+unfoldable pub meant : Record → Meant
+meant r = record { flags = r .flags; start = r .start; len = r .len }
+
+-- 16 bits of flags, 16 of the start and 8 of the length, the flags lowest
+unfoldable pub wordOf : Record → ℕ
+wordOf r = r .flags + 65536 * r .start + 4294967296 * r .len
+
+-- what a number tells, as the definitions have it and as the code has it; the bits above the length tell nothing
+unfoldable pub recordOf : ℕ → Meant
+recordOf w = record { flags = w % 65536; start = w / 65536 % 65536; len = w / 4294967296 % 256 }
+
+unfoldable pub structOf : ℕ → Record
+structOf w = record { flags = w % 65536; start = w / 65536 % 65536; len = w / 4294967296 % 256 }

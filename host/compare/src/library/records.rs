@@ -1,0 +1,200 @@
+//! Records over an area: check 1, commands and walks; and packed tables beside their records.
+
+use std::ops::RangeInclusive;
+
+use second::records::{Record, MAX_AREA};
+use second::table::{Flags, MAX_ROWS};
+
+use super::answers::{self, answer_both};
+use super::both::{Lent, Mailboxes};
+use super::tables::{check_both, numbered};
+use super::tally::Tally;
+use super::walks::{collect_both, Rooms, OPTIONS};
+use crate::commands::{command, damaged};
+use crate::damage::{damaged_bytes, damaged_table, namespace_list};
+use crate::random::Random;
+use crate::records::{some_layout, Layout};
+use crate::tables::{good_table, table_bytes, NewRow};
+
+/// The most rows of a table that is not at a limit.
+const FEW: usize = 16;
+const COMMANDS: [&[u8]; 3] =
+    [b"a LIST \"\" *\r\n", b"a LIST (REMOTE) \"\" % RETURN (CHILDREN)\r\n", b"a NAMESPACE\r\n"];
+
+/// Layouts of every kind, each checked, some with commands and walks over them.
+pub fn layouts(tally: &mut Tally) {
+    tally.for_each_seed(|tally, seed| {
+        let mut random = Random::of("library: records", seed);
+        let count = random.below(FEW);
+        let rows = good_table(&mut random, count);
+        let mailboxes = Mailboxes::new(some_layout(&mut random, &rows));
+        let records = [Lent::Records(&mailboxes); 2];
+        check_both(tally, records);
+        calls(tally, &mut random, &[records], &rows);
+    });
+}
+
+/// A packed table, good or damaged: its records and itself, by the proved library, and itself by the
+/// second program, give the same. One whose rows do not fill it has no records.
+pub fn of_packed(tally: &mut Tally) {
+    tally.for_each_seed(|tally, seed| {
+        let mut random = Random::of("library: records of packed tables", seed);
+        let count = random.below(FEW);
+        let rows = good_table(&mut random, count);
+        let table = match random.below(10) {
+            0..2 => damaged_table(&mut random, rows.clone()),
+            2 => damaged_bytes(&mut random, table_bytes(&rows)),
+            _ => table_bytes(&rows),
+        };
+        let mailboxes = Layout::of_packed(&table).map(Mailboxes::new);
+        let forms = forms_of(&table, mailboxes.as_ref());
+        forms.iter().for_each(|&form| check_both(tally, form));
+        calls(tally, &mut random, &forms, &rows);
+    });
+}
+
+/// A packed table by both libraries, and its records, if it has any, by the proved one beside it.
+fn forms_of<'m>(table: &'m [u8], records: Option<&'m Mailboxes>) -> Vec<[Lent<'m>; 2]> {
+    let packed = Lent::Packed(table);
+    [packed].into_iter().chain(records.map(Lent::Records)).map(|form| [form, packed]).collect()
+}
+
+/// A command in buffers on both sides of the answer's length, or a walk, or neither, over each form.
+fn calls(tally: &mut Tally, random: &mut Random, forms: &[[Lent; 2]], rows: &[NewRow]) {
+    match random.below(10) {
+        0..3 => {
+            let names: Vec<Vec<u8>> = rows.iter().map(|row| row.name.clone()).collect();
+            let mut line = command(random, &names);
+            if random.percent(10) {
+                line = damaged(random, line);
+            }
+            let list = if random.percent(10) { namespace_list(random) } else { Vec::new() };
+            for &form in forms {
+                let need = answer_both(tally, form, &list, &line, answers::ROOM);
+                for room in [0, need.saturating_sub(1), need, need + 1] {
+                    answer_both(tally, form, &list, &line, room);
+                }
+            }
+        }
+        3..5 => {
+            let option = random.below(usize::from(OPTIONS)) as u8;
+            for &form in forms {
+                let need = collect_both(tally, form, option, Rooms::AMPLE);
+                collect_both(tally, form, option, need.near(random));
+            }
+        }
+        _ => {}
+    }
+}
+
+/// Areas, how many names lie in each, and the starts and lengths that each name takes in turn.
+type Places = (&'static [u8], usize, RangeInclusive<u16>, RangeInclusive<u8>);
+
+/// All places of one, of two and of three names in small areas.
+pub fn small_areas(tally: &mut Tally) {
+    let one: [Places; 3] = [0..=301, 32_768..=33_069, 65_235..=65_535]
+        .map(|starts| ([b'a'; 300].as_slice(), 1, starts, 0..=255));
+    let two =
+        [b"abab", b"aabb", b"abcd", b"dcba", b"ba/a"].map(|area| (&area[..], 2, 0..=5, 0..=4));
+    let three =
+        [b"abcd", b"dcba", b"bdac", b"cadb", b"a/ab"].map(|area| (&area[..], 3, 0..=3, 1..=3));
+    for (area, names, starts, lengths) in one.into_iter().chain(two).chain(three) {
+        let place = |start| lengths.clone().map(move |len| Record { flags: 1, start, len });
+        let places: Vec<Record> = starts.flat_map(place).collect();
+        check_choices(tally, area, &places, names, &mut Vec::new());
+    }
+}
+
+/// Check 1 of so many records more, each at each of the places.
+fn check_choices(
+    tally: &mut Tally,
+    area: &[u8],
+    places: &[Record],
+    more: usize,
+    chosen: &mut Vec<Record>,
+) {
+    if more == 0 {
+        let layout = Layout { records: chosen.clone(), count: chosen.len(), area: area.to_vec() };
+        return check_both(tally, [Lent::Records(&Mailboxes::new(layout)); 2]);
+    }
+    for &record in places {
+        chosen.push(record);
+        check_choices(tally, area, places, more - 1, chosen);
+        chosen.pop();
+    }
+}
+
+/// Areas, packed tables and numbers of rows on both sides of what passes, names at both ends of the
+/// area, and counts of every kind; with commands and walks.
+pub fn limits(tally: &mut Tally) {
+    for count in [0, 1, 2, MAX_ROWS - 1, MAX_ROWS, MAX_ROWS + 1] {
+        for length in [4, 63, 64] {
+            for turned in [false, true] {
+                for size in [0, MAX_AREA - 1, MAX_AREA, MAX_AREA + 1] {
+                    let layout = side_by_side(&subscribed(count, length), turned, size);
+                    every_call(tally, [Lent::Records(&Mailboxes::new(layout)); 2]);
+                }
+            }
+        }
+    }
+    let layout = side_by_side(&subscribed(3, 5), true, 0);
+    for records in 0..=layout.records.len() {
+        let high = (0..64).map(|bit| 1 << bit);
+        for count in (0..=4).chain(high.clone()).chain(high.map(|bit| bit + records)) {
+            let records = layout.records[..records].to_vec();
+            let layout = Layout { records, count, area: layout.area.clone() };
+            every_call(tally, [Lent::Records(&Mailboxes::new(layout)); 2]);
+        }
+    }
+    for count in [MAX_ROWS - 1, MAX_ROWS, MAX_ROWS + 1] {
+        for length in [4, 60, 61, 62] {
+            let table = table_bytes(&subscribed(count, length));
+            let mailboxes = Layout::of_packed(&table).map(Mailboxes::new);
+            let forms = forms_of(&table, mailboxes.as_ref());
+            forms.into_iter().for_each(|form| every_call(tally, form));
+        }
+    }
+}
+
+/// The rows side by side, ascending or descending, up to the end of an area of at least this size.
+fn side_by_side(rows: &[NewRow], turned: bool, size: usize) -> Layout {
+    let used: usize = rows.iter().map(|row| row.name.len()).sum();
+    let mut records = vec![Record::default(); rows.len()];
+    let mut area = Vec::new();
+    for number in 0..rows.len() {
+        let at = if turned { rows.len() - 1 - number } else { number };
+        if number == 1 {
+            area.resize(area.len() + size.saturating_sub(used), b'/');
+        }
+        let NewRow { flags, name } = &rows[at];
+        records[at] =
+            Record { flags: flags.bits(), start: area.len() as u16, len: name.len() as u8 };
+        area.extend_from_slice(name);
+    }
+    area.resize(area.len().max(size), b'/');
+    Layout { count: records.len(), records, area }
+}
+
+/// Rows with ascending names of one length, of at least 4.
+fn subscribed(rows: usize, length: usize) -> Vec<NewRow> {
+    let mut rows = numbered(rows, length);
+    rows.iter_mut().for_each(|row| row.flags.add(Flags::SUBSCRIBED));
+    rows
+}
+
+/// Check 1, commands, walks, and refusals after 1, each library over its form of the table.
+fn every_call(tally: &mut Tally, tables: [Lent; 2]) {
+    check_both(tally, tables);
+    for line in COMMANDS {
+        answer_both(tally, tables, b"", line, MAX_ANSWER);
+    }
+    answer_both(tally, tables, b"\x09", b"", 0);
+    for option in [1, OPTIONS] {
+        collect_both(tally, tables, option, MAX_ROOMS);
+    }
+}
+
+/// More than the answer to a command here, and what finds need at most: every byte of the area and a
+/// length byte for each name.
+const MAX_ANSWER: usize = 65_536;
+const MAX_ROOMS: Rooms = Rooms { scratch: MAX_ANSWER, found: MAX_AREA + MAX_ROWS, pending: 0 };

@@ -1,0 +1,92 @@
+//! Mailboxes as records beside their names (document 02, W4).
+
+use std::ops::Range;
+
+use crate::fault::ListFault;
+use crate::table::{check_rows, split_rows, Flags, Row, MAX_TABLE, ROW_HEAD};
+
+/// "the area (at most 32,768 bytes)"
+pub const MAX_AREA: usize = 32_768;
+
+/// "records, each with flags, name start and name length"
+#[derive(Clone, Copy, Debug, Default, PartialEq, Eq)]
+pub struct Record {
+    pub flags: u16,
+    pub start: u16,
+    pub len: u8,
+}
+
+/// Records "over one area of name bytes".
+#[derive(Clone, Copy, Debug)]
+pub struct Records<'t> {
+    pub records: &'t [Record],
+    /// How many of the records are rows. Those after them are spare and not looked at.
+    pub count: usize,
+    pub area: &'t [u8],
+}
+
+impl Record {
+    /// Where the name lies, which may be past the area. The end does not wrap around.
+    pub fn place(self) -> Range<usize> {
+        let start = usize::from(self.start);
+        start..start + usize::from(self.len)
+    }
+}
+
+impl<'t> Records<'t> {
+    /// The rows of records that pass check 1, or the first record that breaks a rule, by its number.
+    ///
+    /// The names are compared by their places last, when there are at most 512.
+    pub(crate) fn checked_rows(self) -> Result<Vec<Row<'t>>, ListFault> {
+        let rows = self.rows()?;
+        check_rows(&rows, |number| number)?;
+        match self.first_overlap() {
+            None => Ok(rows),
+            Some((at, other)) => {
+                Err(ListFault { at, rule: "names do not overlap", other: Some(other) })
+            }
+        }
+    }
+
+    /// The rows that the records mean, not judged any further: "Names lie inside the area (at most
+    /// 32,768 bytes)".
+    fn rows(self) -> Result<Vec<Row<'t>>, ListFault> {
+        let fault = |at, rule| ListFault { at, rule, other: None };
+        let too_few = fault(self.records.len(), "there are as many records as the count says");
+        let held = self.records.get(..self.count).ok_or(too_few)?;
+        if self.area.len() > MAX_AREA {
+            return Err(fault(self.count, "an area has at most 32,768 bytes"));
+        }
+        let row = |(at, record): (usize, &Record)| {
+            let name = self.area.get(record.place());
+            let name = name.ok_or(fault(at, "names lie inside the area"))?;
+            Ok(Row { flags: Flags::from_bits(record.flags), name })
+        };
+        held.iter().enumerate().map(row).collect()
+    }
+
+    /// Two records whose names overlap, by their numbers, the higher one first. In the order of
+    /// their starts each name ends where the next begins or before it.
+    fn first_overlap(self) -> Option<(usize, usize)> {
+        let mut numbers: Vec<usize> = (0..self.count).collect();
+        let place = |number: usize| self.records[number].place();
+        numbers.sort_unstable_by_key(|&number| place(number).start);
+        let overlap = |pair: &&[usize]| place(pair[0]).end > place(pair[1]).start;
+        let pair = numbers.windows(2).find(overlap)?;
+        Some((pair[0].max(pair[1]), pair[0].min(pair[1])))
+    }
+}
+
+/// The records of a packed table whose rows fill it. The names stay where they lie: the packed bytes
+/// are the area, and what stands before each name is unused.
+pub fn packed_records(table: &[u8]) -> Option<Vec<Record>> {
+    let (rows, rest) = split_rows(table);
+    let mut end = 0;
+    let record = |row: &Row| {
+        let start = end + ROW_HEAD;
+        end = start + row.name.len();
+        Record { flags: row.flags.bits(), start: start as u16, len: row.name.len() as u8 }
+    };
+    let has_records = rest.is_empty() && table.len() <= MAX_TABLE;
+    has_records.then(|| rows.iter().map(record).collect())
+}

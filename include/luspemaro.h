@@ -126,7 +126,7 @@ struct luspemaro_record {
 #define LUSPEMARO_REFUSAL_NAMESPACES 2           /* the namespace list does not pass */
 #define LUSPEMARO_REFUSAL_LINE_SHAPE 3           /* too long, no CR LF at its end, a byte that no line has, a literal cut short or too long */
 #define LUSPEMARO_REFUSAL_GRAMMAR 4              /* the tag, or the rest after a known word, is off the grammar */
-#define LUSPEMARO_REFUSAL_WORD 5                 /* the word is neither LIST nor NAMESPACE */
+#define LUSPEMARO_REFUSAL_WORD 5                 /* the word is none of LIST, LSUB and NAMESPACE */
 #define LUSPEMARO_REFUSAL_OPTION 6               /* an unknown option, one with a value, or an unlawful option byte */
 #define LUSPEMARO_REFUSAL_RECURSIVEMATCH_ALONE 7 /* RECURSIVEMATCH with neither SUBSCRIBED nor SPECIAL-USE beside it */
 #define LUSPEMARO_REFUSAL_PATTERNS 8             /* over 8 patterns, or a canonical pattern of over 255 bytes */
@@ -230,8 +230,8 @@ bool luspemaro_check_namespaces(const uint8_t *list, size_t list_length);
 /* Whether the name matches the canonical pattern, of any length. False of every name of over 255 bytes. */
 bool luspemaro_matches(const uint8_t *pattern, size_t pattern_length, const uint8_t *name, size_t name_length);
 
-/* The answer to one command line, its CR LF included, at the front of out. Refusals, in this order: 1, 2, 3, 4 for the tag, 5, 4 for the
- * rest, 6, 7, 8, 9. The bytes after the answer stay; a refusal changes no byte. */
+/* The answer to one command line, LIST, LSUB or NAMESPACE, its CR LF included, at the front of out. Refusals, in this order: 1, 2, 3, 4
+ * for the tag, 5, 4 for the rest, 6, 7, 8, 9; LSUB has neither 6 nor 7. The bytes after the answer stay; a refusal changes no byte. */
 struct luspemaro_outcome luspemaro_answer(const struct luspemaro_record *records, size_t records_length, size_t count,
                                           const uint8_t *area, size_t area_length, const uint8_t *namespaces,
                                           size_t namespaces_length, const uint8_t *line, size_t line_length, uint8_t *out,
@@ -262,7 +262,7 @@ struct luspemaro_outcome luspemaro_collect_packed(const uint8_t *table, size_t t
 struct luspemaro_outcome luspemaro_write_line(uint16_t attributes, const uint8_t *name, size_t name_length, uint8_t criteria,
                                               uint8_t *out, size_t out_length);
 
-/* The parts of a LIST line, its CR LF included. */
+/* The parts of a LIST line, its CR LF included. An LSUB line is none. */
 struct luspemaro_line luspemaro_read_line(const uint8_t *line, size_t line_length);
 
 /* Takes the chunk through the first byte that something comes of, or all of it, and stores the command's bytes at the front of the

@@ -35,7 +35,7 @@ FACTS = (
     r'`search`: no proof of',
     r'`search` does not close',
     r'`cc`(?: met a bound of its own before the equations had joined|: the equations do not join)',
-    r'`rw` has no last argument, so what it leaves must be a path whose two ends are equal',
+    r'`(?:rw|simp)` has no last argument, so what it leaves must be a path whose two ends are equal',
     r'computed as far as they go, the two (?:types|values|sides) (?:first differ|differ only) where',
     r'as printed, the two (?:types|values|sides) (?:first differ|differ only) where one has `[^`]*`\s+\(\w+\), right after',
 )

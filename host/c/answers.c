@@ -91,6 +91,16 @@ static void other_answers(void)
     EXPECT(answers(table_e(), "a LIST {0}\r\n {3}\r\nMoo\r\n", "* LIST () \"/\" \"Moo\"\r\na OK done\r\n"));
 }
 
+/* LSUB (document 02's W5): what is subscribed, and the level above it under a pattern that ends in "%". */
+static void lsub(void)
+{
+    EXPECT(answers(table_e(), "a LSUB \"\" *\r\n", "* LSUB () \"/\" \"Foo/Baz\"\r\na OK done\r\n"));
+    EXPECT(answers(table_e(), "a lsub \"\" %\r\n", "* LSUB (\\Noselect) \"/\" \"Foo\"\r\na OK done\r\n"));
+    EXPECT(answers(table_e(), "a LSUB {4}\r\nFoo/ {1}\r\n%\r\n", "* LSUB () \"/\" \"Foo/Baz\"\r\na OK done\r\n"));
+    EXPECT(answers(table_e(), "a LSUB \"\" *%\r\n", "* LSUB () \"/\" \"Foo/Baz\"\r\na OK done\r\n"));
+    EXPECT(answers(table_e(), "a LSUB Foo \"\"\r\n", "a OK done\r\n"));
+}
+
 static void bad_table(void)
 {
     static const struct rows half = {2, {0, 1}};
@@ -126,8 +136,11 @@ static void bad_lines(void)
         {4, "a\r\n"},
         {5, "a \r\n"},
         {5, "a BAD (\r\n"},
-        {5, "a LSUB \"\" *\r\n"},
+        {5, "a LSUBS \"\" *\r\n"},
         {4, "a NAMESPACE \r\n"},
+        {4, "a LSUB \"\" (*)\r\n"},
+        {4, "a LSUB (SUBSCRIBED) \"\" *\r\n"},
+        {4, "a LSUB \"\" * RETURN ()\r\n"},
         {4, "a LIST (FOO RECURSIVEMATCH) \"\" (a b c d e f g h i) x\r\n"},
         {6, "a LIST (FOO RECURSIVEMATCH) \"\" (a b c d e f g h i)\r\n"},
         {6, "a LIST (SUBSCRIBED (x)) \"\" *\r\n"},
@@ -173,7 +186,8 @@ static void limits_of_a_line(void)
 /* 9 with every buffer that is shorter than the answer, and no byte changes; a buffer of the answer's length holds it. */
 static void short_buffers(void)
 {
-    static const char *const lines[] = {"a LIST \"\" *\r\n", "a LIST \"\" \"\"\r\n", "a NAMESPACE\r\n", "a LIST \"\" x\r\n"};
+    static const char *const lines[] = {"a LIST \"\" *\r\n", "a LIST \"\" \"\"\r\n", "a NAMESPACE\r\n", "a LIST \"\" x\r\n",
+                                        "a LSUB \"\" %\r\n"};
     static uint8_t whole[2000];
     for (size_t i = 0; i < sizeof lines / sizeof lines[0]; i++) {
         size_t length = answer_text(table_e(), lines[i], sizeof whole).length;
@@ -221,6 +235,7 @@ const struct test answer_tests[] = {
     {"answer: the expert's sheet", expert_sheet},
     {"answer: each flag", each_flag},
     {"answer: namespaces, literals, an empty table", other_answers},
+    {"answer: LSUB", lsub},
     {"answer: 1", bad_table},
     {"answer: 2", bad_namespaces},
     {"answer: 3 to 8", bad_lines},

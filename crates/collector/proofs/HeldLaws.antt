@@ -1,17 +1,17 @@
 -- The table of a walk: what is counted of the words of a table that passes, and a packed table turned into words. Rests on RecordLaws of
 -- listing_rules.
-use mathlib.Core.Path.{_≡_, refl, sym, ap, _∙_}
+use mathlib.Core.Path.{_≡_, refl, ap}
 use mathlib.Core.Bool.{true, false, false≢true}
 use mathlib.Core.List.{List, [], _∷_, map}
 use Prim.Native.Nat.{ℕ, zero, suc, _≤_}
 use native.Mathlib.Decide.{decLe}
 use native.Mathlib.Omega.{arith}
 use lib.Dec.{leb}
-use lib.ListN.{length, take, length-map, length-take}
+use lib.ListN.{length, take, length-map}
 use lib.Seq.{length-take-le, take-all}
 use borrow.Author.Tests.{le-leb, lt-leb}
 use Rattle.listing_rules.specs.Table.{passes}
-use Rattle.listing_rules.specs.Records.{Record, recordTable}
+use Rattle.listing_rules.specs.Records.{recordTable}
 use Rattle.records.specs.Words.{recordOf}
 use Rattle.records.specs.Lent.{wordTable}
 use Rattle.collector.specs.Held.{heldTable}

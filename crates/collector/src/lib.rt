@@ -6,22 +6,21 @@ mod command;
 mod lines;
 mod names;
 mod options;
+mod packed;
 mod walk;
 
-use mailbox_table::Indexing;
 use mailbox_table::check_words;
-use mailbox_table::unpack;
 use octets::clear;
 use octets::refusals;
 use options::Asked;
 use options::WalkOptions;
+pub use packed::collect_packed;
 use records::Record;
 use records::copy_in;
 use records::no_words;
 use walk::walk_table;
 ghost use mathlib.Core.Path.{_≡_};
 ghost use lib.ListN.{length, replicate};
-ghost use Rattle.listing_rules.specs.Table.{packedTable};
 ghost use Rattle.listing_rules.specs.Walk.{collected};
 ghost use Rattle.records.specs.Lent.{lentTable, wordTable};
 ghost use Rattle.collector.specs.Result.{collectedOf, scratchOf, foundOf, pendingOf, OwesDemand3};
@@ -44,41 +43,21 @@ pub fn collect(
     found: &mut [u8],
     pending: &mut [u8],
 ) -> Collected
-    ensures result { λ r. ⌜ r ≡ collectedOf (lentTable (now (area .entry)) (now (records .entry)) count) option (now (scratch .entry)) (now (found .entry)) (now (pending .entry)) ⌝ }
-    ensures scratch { λ _. ⌜ now (scratch .exit) ≡ scratchOf (lentTable (now (area .entry)) (now (records .entry)) count) option (now (scratch .entry)) (now (found .entry)) (now (pending .entry)) ⌝ }
-    ensures found { λ _. ⌜ now (found .exit) ≡ foundOf (lentTable (now (area .entry)) (now (records .entry)) count) option (now (scratch .entry)) (now (found .entry)) (now (pending .entry)) ⌝ }
-    ensures pending { λ _. ⌜ now (pending .exit) ≡ pendingOf (lentTable (now (area .entry)) (now (records .entry)) count) option (now (scratch .entry)) (now (found .entry)) (now (pending .entry)) ⌝ }
-    ensures demand3 { λ r. ⌜ OwesDemand3 (lentTable (now (area .entry)) (now (records .entry)) count) option (now (scratch .entry)) (now (found .entry)) (now (pending .entry))
+    ensures result { λ r. ⌜ r ≡ collectedOf (lentTable (now (area .entry)) (now (records .entry)) count)
+        option (now (scratch .entry)) (now (found .entry)) (now (pending .entry)) ⌝ }
+    ensures scratch { λ _. ⌜ now (scratch .exit) ≡ scratchOf (lentTable (now (area .entry)) (now (records .entry)) count)
+        option (now (scratch .entry)) (now (found .entry)) (now (pending .entry)) ⌝ }
+    ensures found { λ _. ⌜ now (found .exit) ≡ foundOf (lentTable (now (area .entry)) (now (records .entry)) count)
+        option (now (scratch .entry)) (now (found .entry)) (now (pending .entry)) ⌝ }
+    ensures pending { λ _. ⌜ now (pending .exit) ≡ pendingOf (lentTable (now (area .entry)) (now (records .entry)) count)
+        option (now (scratch .entry)) (now (found .entry)) (now (pending .entry)) ⌝ }
+    ensures demand3 { λ r. ⌜ OwesDemand3 (lentTable (now (area .entry)) (now (records .entry)) count)
+        option (now (scratch .entry)) (now (found .entry)) (now (pending .entry))
         r (now (found .exit)) (now (pending .exit)) ⌝ }
 {
     let mut words = no_words();
     let n = copy_in(records, count, &mut words);
     collect_words(&words[..n], count, area, option, scratch, found, pending)
-}
-
-// The same over a packed table, turned into records first.
-pub fn collect_packed(
-    table: &[u8],
-    option: u8,
-    scratch: &mut [u8],
-    found: &mut [u8],
-    pending: &mut [u8],
-) -> Collected
-    ensures result { λ r. ⌜ r ≡ collectedOf (packedTable (now (table .entry))) option (now (scratch .entry)) (now (found .entry)) (now (pending .entry)) ⌝ }
-    ensures scratch { λ _. ⌜ now (scratch .exit) ≡ scratchOf (packedTable (now (table .entry))) option (now (scratch .entry)) (now (found .entry)) (now (pending .entry)) ⌝ }
-    ensures found { λ _. ⌜ now (found .exit) ≡ foundOf (packedTable (now (table .entry))) option (now (scratch .entry)) (now (found .entry)) (now (pending .entry)) ⌝ }
-    ensures pending { λ _. ⌜ now (pending .exit) ≡ pendingOf (packedTable (now (table .entry))) option (now (scratch .entry)) (now (found .entry)) (now (pending .entry)) ⌝ }
-    ensures demand3 { λ r. ⌜ OwesDemand3 (packedTable (now (table .entry))) option (now (scratch .entry)) (now (found .entry)) (now (pending .entry))
-        r (now (found .exit)) (now (pending .exit)) ⌝ }
-{
-    let mut words = no_words();
-    let Indexing::Rows(n) = unpack(table, &mut words) else {
-        clear(scratch);
-        clear(found);
-        clear(pending);
-        return Collected::Refused(refusals::TABLE);
-    };
-    collect_words(&words[..n], n, table, option, scratch, found, pending)
 }
 
 // The same over records, each as a number: the first `count` words are the rows, over the area of names.
@@ -91,11 +70,16 @@ pub fn collect_words(
     found: &mut [u8],
     pending: &mut [u8],
 ) -> Collected
-    ensures result { λ r. ⌜ r ≡ collectedOf (wordTable (now (area .entry)) (now (words .entry)) count) option (now (scratch .entry)) (now (found .entry)) (now (pending .entry)) ⌝ }
-    ensures scratch { λ _. ⌜ now (scratch .exit) ≡ scratchOf (wordTable (now (area .entry)) (now (words .entry)) count) option (now (scratch .entry)) (now (found .entry)) (now (pending .entry)) ⌝ }
-    ensures found { λ _. ⌜ now (found .exit) ≡ foundOf (wordTable (now (area .entry)) (now (words .entry)) count) option (now (scratch .entry)) (now (found .entry)) (now (pending .entry)) ⌝ }
-    ensures pending { λ _. ⌜ now (pending .exit) ≡ pendingOf (wordTable (now (area .entry)) (now (words .entry)) count) option (now (scratch .entry)) (now (found .entry)) (now (pending .entry)) ⌝ }
-    ensures demand3 { λ r. ⌜ OwesDemand3 (wordTable (now (area .entry)) (now (words .entry)) count) option (now (scratch .entry)) (now (found .entry)) (now (pending .entry))
+    ensures result { λ r. ⌜ r ≡ collectedOf (wordTable (now (area .entry)) (now (words .entry)) count)
+        option (now (scratch .entry)) (now (found .entry)) (now (pending .entry)) ⌝ }
+    ensures scratch { λ _. ⌜ now (scratch .exit) ≡ scratchOf (wordTable (now (area .entry)) (now (words .entry)) count)
+        option (now (scratch .entry)) (now (found .entry)) (now (pending .entry)) ⌝ }
+    ensures found { λ _. ⌜ now (found .exit) ≡ foundOf (wordTable (now (area .entry)) (now (words .entry)) count)
+        option (now (scratch .entry)) (now (found .entry)) (now (pending .entry)) ⌝ }
+    ensures pending { λ _. ⌜ now (pending .exit) ≡ pendingOf (wordTable (now (area .entry)) (now (words .entry)) count)
+        option (now (scratch .entry)) (now (found .entry)) (now (pending .entry)) ⌝ }
+    ensures demand3 { λ r. ⌜ OwesDemand3 (wordTable (now (area .entry)) (now (words .entry)) count)
+        option (now (scratch .entry)) (now (found .entry)) (now (pending .entry))
         r (now (found .exit)) (now (pending .exit)) ⌝ }
 {
     clear(found);

@@ -1,5 +1,5 @@
 -- What stands after the word LIST, as the code reads it: part by part, and what is kept of the parts is judged. Rests on Members,
--- Returning and Wording.
+-- Returning and Refusing.
 use mathlib.Core.Path.{_≡_, refl, sym, ap, _∙_}
 use mathlib.Core.Bool.{Bool, true, false, cond, _&&_, _||_, not}
 use mathlib.Core.List.{List, []}
@@ -12,20 +12,21 @@ use lib.ListN.{length, drop, getD}
 use borrow.Author.Tests.{eqb-true, eqb-false, lt-ltb, le-ltb}
 use Rattle.listing_rules.specs.Bytes.{text, isEmpty}
 use Rattle.listing_rules.specs.Lists.{every}
-use Rattle.listing_rules.specs.Tokens.{Got, got, _>>=_, at, after, astring}
+use Rattle.listing_rules.specs.Tokens.{Got, got, _>>=_, at, after}
 use Rattle.listing_rules.specs.Options.{lawfulOptions}
 use Rattle.listing_rules.specs.Command.{Opt, ListArgs, Parsed, refused, listing, rootOf, selectionPart, patterns, returnPart, isSome, listArgs, extended, knownIn, selectionWords, returnWords, optionsOf, canonical, fewPatterns, asksRoot, judged, orRefuse}
 use Rattle.octets.specs.Sets.{union}
 use Rattle.command_tokens.specs.declared.Cursor.{Cursor}
 use Rattle.command_tokens.specs.declared.Behind.{Behind}
 use Rattle.command_tokens.specs.declared.Behind.the-variants.{At}
-use Rattle.command_tokens.specs.Tokens.{behindIs, argument}
+use Rattle.command_tokens.specs.Tokens.{behindIs}
 use Rattle.command_tokens.proofs.Bytes.{at-here, at-other}
 use Rattle.command_patterns.specs.Places.{eight, joinTo, upToEight}
 use Rattle.command_line.specs.declared.option_list.Place.the-variants.{Selection, Return}
 use Rattle.command_line.specs.OptionSets.{optionsIs, Marks, noMarks, marked, summed, marksOf, ended}
 use Rattle.command_line.specs.Commands.{short, Kept, decided, decidedAs, extendedAt}
 use Rattle.command_line.proofs.Returning.{empty-out, empty-not}
+use Rattle.command_line.proofs.Refusing.{refuse-bind, refuse-map, refuse-cong, referred, referred-is}
 use Rattle.command_line.proofs.Members.{marked-known, options-named}
 
 -- a command is extended: by its selection list, by parentheses, by what stands after the patterns
@@ -70,30 +71,6 @@ judged-decided tag a = ap (λ (x : Parsed). cond (every (knownIn selectionWords)
     go true = refl
     go false = refl
 
--- ---- reading on, or the refusal 4
-
-module _ {A B : Type 0} (x : Option A) where
-  -- two readings, one after the other
-  refuse-bind : (f : A → Option B) (go : B → Parsed) → orRefuse 4 (x >>= f) go ≡ orRefuse 4 x (λ a. orRefuse 4 (f a) go)
-  refuse-bind f go = each x
-    where
-      each : (y : Option A) → orRefuse 4 (y >>= f) go ≡ orRefuse 4 y (λ a. orRefuse 4 (f a) go)
-      each none = unfold orRefuse _>>=_ in refl
-      each (some a) = unfold orRefuse _>>=_ in refl
-
-  -- what was read, as something else
-  refuse-map : (f : A → B) (go : B → Parsed) → orRefuse 4 (x >>= λ a. some (f a)) go ≡ orRefuse 4 x (λ a. go (f a))
-  refuse-map f go = each x
-    where
-      each : (y : Option A) → orRefuse 4 (y >>= λ a. some (f a)) go ≡ orRefuse 4 y (λ a. go (f a))
-      each none = unfold orRefuse _>>=_ in refl
-      each (some a) = unfold orRefuse _>>=_ in refl
-
-refuse-cong : {A : Type 0} (x : Option A) (f g : A → Parsed) → ((a : A) → f a ≡ g a) → orRefuse 4 x f ≡ orRefuse 4 x g
-unfolding orRefuse
-refuse-cong none f g h = refl
-refuse-cong (some a) f g h = h a
-
 -- ---- the parts, one after the other
 
 -- after the patterns: RETURN or nothing, and the judgement of what is kept
@@ -113,13 +90,9 @@ afterPatterns tag has m ref v p =
 unfoldable pub afterSpace : List ℕ → Bool → Marks → List ℕ → List ℕ → Parsed
 afterSpace tag has m ref v = orRefuse 4 (upToEight (patterns v)) (afterPatterns tag has m ref v)
 
--- after the reference
-unfoldable pub afterReference : List ℕ → Bool → Marks → Got (List ℕ) → Parsed
-afterReference tag has m r = orRefuse 4 (after (text " ") (r .rest)) (afterSpace tag has m (r .val))
-
 -- after the selection part
 unfoldable pub afterSelection : List ℕ → Bool → Got Marks → Parsed
-afterSelection tag has m = orRefuse 4 (argument (m .rest)) (afterReference tag has (m .val))
+afterSelection tag has m = referred (m .rest) (afterSpace tag has (m .val))
 
 -- ---- and so it is in document 01
 
@@ -177,17 +150,10 @@ module _ (tag t : List ℕ) where
 
   -- LIST, part by part
   pub list-is : orRefuse 4 (listArgs t) (judged tag) ≡ orRefuse 4 (marksOf Selection (selectionPart t)) (afterSelection tag (isSome (after (text " (") t)))
-  unfolding listArgs afterSelection argument afterReference got args sel
+  unfolding listArgs afterSelection args got
   list-is =
       refuse-bind (selectionPart t) _ (judged tag)
-      ∙ refuse-cong (selectionPart t) _ (λ s. orRefuse 4 (argument (s .rest)) (afterReference tag has (sel s))) (λ s.
-      refuse-bind (after (text " ") (s .rest)) _ (judged tag)
-      ∙ refuse-cong (after (text " ") (s .rest)) _ (λ u. orRefuse 4 (astring u) (afterReference tag has (sel s))) (λ u.
-      refuse-bind (astring u) _ (judged tag)
-      ∙ refuse-cong (astring u) _ (afterReference tag has (sel s)) (λ r.
-      refuse-bind (after (text " ") (r .rest)) _ (judged tag)
-      ∙ refuse-cong (after (text " ") (r .rest)) _ (afterSpace tag has (sel s) (r .val)) (space-is s r)))
-      ∙ sym (refuse-bind (after (text " ") (s .rest)) (λ u. astring u) (afterReference tag has (sel s))))
+      ∙ refuse-cong (selectionPart t) _ (λ s. referred (s .rest) (afterSpace tag has (sel s))) (λ s. referred-is (s .rest) _ (judged tag) (afterSpace tag has (sel s)) (space-is s))
       ∙ sym (selected (selectionPart t) (afterSelection tag has))
     where
       has : Bool

@@ -14,13 +14,14 @@ use Rattle.listing_rules.specs.Options.{lawfulOptions}
 use Rattle.listing_rules.specs.Command.{Parsed, refused, namespace, listing, rootOf, canonical}
 use Rattle.command_tokens.specs.declared.Span.{Span}
 use Rattle.command_line.specs.declared.Kind.{Kind}
-use Rattle.command_line.specs.declared.Kind.the-variants.{List, Root, Namespace, Refused}
+use Rattle.command_line.specs.declared.Kind.the-variants.{List, Root, Namespace, Lsub, Refused}
+use Rattle.command_line.specs.declared.Options.{Options}
 use Rattle.command_line.specs.declared.Command.{Command}
 use Rattle.command_patterns.specs.declared.Patterns.{Patterns}
 use Rattle.command_line.specs.declared.list_command.Arguments.{Arguments}
 use Rattle.command_tokens.specs.Spans.{spanBytes, Lies, nowhere}
-use Rattle.command_patterns.specs.Places.{held, kept, Places}
-use Rattle.command_line.specs.Commands.{meaning, meaningAs, Inside, bareCommand, refusedWith, usedOnly, short, Kept, decided, decidedAs, TagIn, Given, Answers}
+use Rattle.command_patterns.specs.Places.{held, kept, Places, Placed}
+use Rattle.command_line.specs.Commands.{meaning, meaningAs, Inside, noOptions, bareCommand, refusedWith, withPatterns, usedOnly, short, Kept, decided, decidedAs, TagIn, Given, Answers}
 use Rattle.command_patterns.proofs.Counting.{none-written}
 use Rattle.command_tokens.proofs.Cuts.{lies-nowhere}
 use Rattle.command_patterns.proofs.Filling.{filled-none}
@@ -113,29 +114,34 @@ pub inside-refused : (s : Seq ℕ) (k : ℕ) → Inside s (refusedWith k)
 unfolding usedOnly
 inside-refused s k = inside-bare s (Refused k) nowhere (record { lies = lies-nowhere s; bare = refl; front = refl }) refl
 
--- the command that lists, of the parts that were read
-unfoldable pub listOf : Span → Arguments → Command
-listOf t a = record { kind = List; tag = t; options = a .options; reference = a .reference; patterns = a .patterns .spans; count = a .patterns .count }
+-- the command of the parts that were read
+unfoldable pub commandOf : Kind → Options → Span → Span → Patterns → Command
+commandOf k o t r p = record { kind = k; tag = t; options = o; reference = r; patterns = p .spans; count = p .count }
 
-pub inside-list : (s : Seq ℕ) (t : Span) (a : Arguments) → Given s t a → a .patterns .count ≤ 8 → Inside s (listOf t a)
-unfolding usedOnly listOf
-inside-list s t a g h =
+inside-parts : (s : Seq ℕ) (c : Command) → TagIn s (c .tag) → c .options .bits < 128 → Lies s (c .reference) → Placed s (record { spans = c .patterns; count = c .count }) → c .count ≤ 8 → usedOnly (c .kind) c ≡ withPatterns (c .kind) (c .options) c → Inside s c
+inside-parts s c t o r p h e =
     record {
-      tag = g .tagged .lies;
-      bare = g .tagged .bare;
-      front = g .tagged .front;
-      seven = g .seven;
-      reference = g .reference;
-      patterns = places-at s (a .patterns .spans) (g .patterns .places);
+      tag = t .lies;
+      bare = t .bare;
+      front = t .front;
+      seven = o;
+      reference = r;
+      patterns = places-at s (c .patterns) (p .places);
       few = h;
-      rest = λ i. record { kind = List; tag = t; options = a .options; reference = a .reference; patterns = places i; count = n };
+      rest = (λ i. record { kind = c .kind; tag = c .tag; options = c .options; reference = c .reference; patterns = places i; count = c .count }) ∙ sym e;
     }
   where
-    n : ℕ
-    n = a .patterns .count
+    places : c .patterns ≡ take (c .count) (c .patterns) ++ replicate (8 - c .count) nowhere
+    places = sym (take-append-drop (c .count) (c .patterns)) ∙ ap (λ (x : Seq Span). take (c .count) (c .patterns) ++ x) (p .unused)
 
-    places : a .patterns .spans ≡ take n (a .patterns .spans) ++ replicate (8 - n) nowhere
-    places = sym (take-append-drop n (a .patterns .spans)) ∙ ap (λ (x : Seq Span). take n (a .patterns .spans) ++ x) (g .patterns .unused)
+module _ (s : Seq ℕ) (t : Span) where
+  pub inside-list : (a : Arguments) → Given s t a → a .patterns .count ≤ 8 → Inside s (commandOf List (a .options) t (a .reference) (a .patterns))
+  unfolding usedOnly commandOf
+  inside-list a g h = inside-parts s _ (g .tagged) (g .seven) (g .reference) (g .patterns) h refl
+
+  pub inside-lsub : (r : Span) (p : Patterns) → TagIn s t → Lies s r → Placed s p → p .count ≤ 8 → Inside s (commandOf Lsub noOptions t r p)
+  unfolding usedOnly commandOf
+  inside-lsub r p g l w h = inside-parts s _ g (omega arith) l w h refl
 
 -- A refusal is decided whole: its number, and else the empty command.
 pub refused-whole : (s : Seq ℕ) (c : Command) (k : ℕ) → Inside s c → c .kind ≡ Refused k → c ≡ refusedWith k

@@ -10,7 +10,7 @@ use Rattle.listing_rules.specs.Feeder.{first, oneCommand}
 use Rattle.listing_rules.specs.Command.{refused, lineText, orRefuse, tagged, parsed}
 use Rattle.command_tokens.specs.declared.Span.{Span}
 use Rattle.command_line.specs.declared.Kind.{Kind}
-use Rattle.command_line.specs.declared.Kind.the-variants.{List, Root, Namespace, Refused}
+use Rattle.command_line.specs.declared.Kind.the-variants.{List, Root, Namespace, Lsub, Refused}
 use Rattle.command_line.specs.declared.Command.{Command}
 use Rattle.command_tokens.specs.Spans.{plain, rawBytes, spanBytes, Lies, nowhere}
 use Rattle.command_patterns.specs.Places.{held}
@@ -57,10 +57,14 @@ module _ (l : Seq ℕ) (n : ℕ) where
       tag : spanBytes (take n l) (c .tag) ≡ spanBytes l (c .tag)
       tag = span-line (c .tag) (h .tag)
 
+      patterns : patternsOf (take n l) c ≡ patternsOf l c
+      patterns = rw (span-line (c .reference) (h .reference), spans-line (c .count) (c .patterns) (h .patterns))
+
       go : (k : Kind) → meaningAs k (take n l) c ≡ meaningAs k l c
-      go List = rw (tag, span-line (c .reference) (h .reference), spans-line (c .count) (c .patterns) (h .patterns))
+      go List = rw (tag, patterns)
       go Root = rw tag
       go Namespace = rw tag
+      go Lsub = rw (tag, patterns)
       go (Refused k) = refl
 
   pub inside-line : (c : Command) → Inside (take n l) c → Inside l c

@@ -1,8 +1,8 @@
--- The tag and the word: what the line gives, step by step. Rests on Returning, and on Binds of command_tokens.
+-- The tag and the word: what the line gives, step by step. Rests on Returning and Refusing, and on Binds of command_tokens.
 use mathlib.Core.Path.{_≡_, refl, sym, ap, _∙_}
 use mathlib.Core.Bool.{Bool, true, false, cond}
 use mathlib.Core.List.{List, [], _∷_}
-use mathlib.Core.Option.{Option, none, some}
+use mathlib.Core.Option.{none, some}
 use Prim.Native.Nat.{ℕ, _≤_, _<_}
 use lib.ListN.{length, drop}
 use Rattle.listing_rules.specs.Bytes.{text, spells, same, raised, isEmpty}
@@ -13,34 +13,46 @@ use Rattle.command_tokens.specs.declared.Cursor.{Cursor}
 use Rattle.command_tokens.specs.Tokens.{Bare}
 use Rattle.command_tokens.proofs.Binds.{none≢some}
 use Rattle.command_tokens.proofs.Cuts.{lies-ahead}
-use Rattle.command_line.specs.declared.reading.Word.the-variants.{List as ListWord, Namespace, Other}
+use Rattle.command_line.specs.declared.reading.Word.{Word}
+use Rattle.command_line.specs.declared.reading.Word.the-variants.{List as ListWord, Namespace, Lsub, Other}
 use Rattle.command_line.specs.Words.{wordOf, wordedAs}
 use Rattle.command_line.specs.Commands.{TagIn}
 use Rattle.command_line.proofs.Returning.{empty-out, empty-not}
+use Rattle.command_line.proofs.Refusing.{read-on, read-off}
 
 -- a bare token at the front is a tag
 pub tag-in : (s : List ℕ) (t : Span) (c : Cursor) → Bare s 0 t c → TagIn s t
 tag-in s t c h = record { lies = lies-ahead s 0 t c (h .ahead); bare = h .bare; front = h .front }
 
--- what was read, or the refusal
-module _ {A : Type 0} (k : ℕ) {x : Option A} (go : A → Parsed) where
-  pub read-on : {a : A} → x ≡ some a → orRefuse k x go ≡ go a
-  unfolding orRefuse
-  read-on e = rw e
-
-  pub read-off : x ≡ none → orRefuse k x go ≡ refused k
-  unfolding orRefuse
-  read-off e = rw e
-
 -- the word by its number in the table
 worded-is : (tag : List ℕ) (g : Got (List ℕ)) → worded tag g ≡ wordedAs (wordOf (g .val)) tag (g .rest)
 unfolding worded wordOf wordedAs
-worded-is tag g = go (spells (g .val) (text "LIST")) (spells (g .val) (text "NAMESPACE"))
+worded-is tag g = cond-word (spells (g .val) (text "LIST")) ListWord _ _ (cond-word (spells (g .val) (text "NAMESPACE")) Namespace _ _ (cond-word (spells (g .val) (text "LSUB")) Lsub _ _ refl))
   where
-    go : (a b : Bool) → cond a (wordedAs ListWord tag (g .rest)) (cond b (wordedAs Namespace tag (g .rest)) (refused 5)) ≡ wordedAs (cond a ListWord (cond b Namespace Other)) tag (g .rest)
-    go true b = refl
-    go false true = refl
-    go false false = refl
+    -- one word of the table, and the rest of it
+    cond-word : (b : Bool) (w v : Word) (p : Parsed) → p ≡ wordedAs v tag (g .rest) → cond b (wordedAs w tag (g .rest)) p ≡ wordedAs (cond b w v) tag (g .rest)
+    cond-word true w v p e = refl
+    cond-word false w v p e = e
+
+-- the table, word by word
+module _ (w : List ℕ) where
+  pub word-list : spells w (text "LIST") ≡ true → wordOf w ≡ ListWord
+  unfolding wordOf
+  word-list e = rw e
+
+  module _ (list : spells w (text "LIST") ≡ false) where
+    pub word-namespace : spells w (text "NAMESPACE") ≡ true → wordOf w ≡ Namespace
+    unfolding wordOf
+    word-namespace e = rw (list, e)
+
+    module _ (namespace : spells w (text "NAMESPACE") ≡ false) where
+      pub word-lsub : spells w (text "LSUB") ≡ true → wordOf w ≡ Lsub
+      unfolding wordOf
+      word-lsub e = rw (list, namespace, e)
+
+      pub word-unknown : spells w (text "LSUB") ≡ false → wordOf w ≡ Other
+      unfolding wordOf
+      word-unknown e = rw (list, namespace, e)
 
 -- a word that was found is the run, and one that was not is empty
 some-same : {A : Type 0} {a b : A} → some a ≡ some b → a ≡ b

@@ -1,19 +1,19 @@
 -- What a command that was read means in document 01, and where its spans lie.
 use mathlib.Core.Path.{_≡_}
-use mathlib.Core.Bool.{Bool, true, false, cond, _&&_, _||_, not}
-use mathlib.Core.List.{List as Seq, [], _∷_, _++_, map}
+use mathlib.Core.Bool.{Bool, false, cond, _&&_, _||_, not}
+use mathlib.Core.List.{List as Seq, _++_}
 use mathlib.Core.Option.{Option, none, some}
-use Prim.Native.Nat.{ℕ, _-_, _≤_, _<_, _%_}
-use lib.Dec.{leb}
-use lib.ListN.{length, take, drop, getD, replicate}
+use Prim.Native.Nat.{ℕ, _-_, _≤_, _<_}
+use lib.ListN.{take, drop, getD, replicate}
 use Rattle.listing_rules.specs.Bytes.{text, isEmpty}
 use Rattle.listing_rules.specs.Tokens.{at, after}
-use Rattle.listing_rules.specs.Lists.{every, joined}
+use Rattle.listing_rules.specs.Lists.{every}
 use Rattle.listing_rules.specs.Options.{Options as Named, lawfulOptions}
-use Rattle.listing_rules.specs.Command.{Parsed, refused, namespace, listing, rootOf, canonical, isSome}
+use Rattle.listing_rules.specs.Command.{Parsed, refused, namespace, listing, rootOf, subscriptions, canonical, isSome}
 use Rattle.command_tokens.specs.declared.Span.{Span}
 use Rattle.command_line.specs.declared.Kind.{Kind}
-use Rattle.command_line.specs.declared.Kind.the-variants.{List, Root, Namespace, Refused}
+use Rattle.command_line.specs.declared.Kind.the-variants.{List, Root, Namespace, Lsub, Refused}
+use Rattle.command_line.specs.declared.Options.{Options}
 use Rattle.command_line.specs.declared.Command.{Command}
 use Rattle.command_line.specs.declared.list_command.Arguments.{Arguments}
 use Rattle.command_tokens.specs.Spans.{spanBytes, Lies, nowhere}
@@ -32,11 +32,16 @@ unfoldable pub meaningAs : Kind → Seq ℕ → Command → Parsed
 meaningAs List s c = listing (spanBytes s (c .tag)) (optionsIs (c .options)) (patternsOf s c)
 meaningAs Root s c = rootOf (spanBytes s (c .tag))
 meaningAs Namespace s c = namespace (spanBytes s (c .tag))
+meaningAs Lsub s c = subscriptions (spanBytes s (c .tag)) (patternsOf s c)
 meaningAs (Refused k) s c = refused k
 
 -- the command, as document 01 has it: its number of refusal, or its values
 unfoldable pub meaning : Seq ℕ → Command → Parsed
 meaning s c = meaningAs (c .kind) s c
+
+-- no option
+abbrev pub noOptions : Options
+noOptions = record { bits = 0 }
 
 -- a command of which nothing but its kind and its tag is kept
 abbrev pub bareCommand : Kind → Span → Command
@@ -44,7 +49,7 @@ bareCommand k t =
     record {
       kind = k;
       tag = t;
-      options = record { bits = 0 };
+      options = noOptions;
       reference = nowhere;
       patterns = replicate 8 nowhere;
       count = 0;
@@ -54,18 +59,23 @@ bareCommand k t =
 abbrev pub refusedWith : ℕ → Command
 refusedWith k = bareCommand (Refused k) nowhere
 
--- The command of which all is empty that its kind does not use: LIST uses every field, and of the eight places as many as it has
--- patterns; the root line and NAMESPACE use the tag alone, a refusal its number alone.
-unfoldable pub usedOnly : Kind → Command → Command
-usedOnly List c =
+-- a command with its reference, and of the eight places as many as it has patterns
+abbrev pub withPatterns : Kind → Options → Command → Command
+withPatterns k o c =
     record {
-      kind = List;
+      kind = k;
       tag = c .tag;
-      options = c .options;
+      options = o;
       reference = c .reference;
       patterns = take (c .count) (c .patterns) ++ replicate (8 - c .count) nowhere;
       count = c .count;
     }
+
+-- The command of which all is empty that its kind does not use: LIST uses every field, LSUB all but the options; the root line and
+-- NAMESPACE use the tag alone, a refusal its number alone.
+unfoldable pub usedOnly : Kind → Command → Command
+usedOnly List c = withPatterns List (c .options) c
+usedOnly Lsub c = withPatterns Lsub noOptions c
 usedOnly Root c = bareCommand Root (c .tag)
 usedOnly Namespace c = bareCommand Namespace (c .tag)
 usedOnly (Refused k) c = refusedWith k

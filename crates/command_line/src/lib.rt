@@ -2,7 +2,7 @@
 // refusal, 3 to 8, and `put_patterns` the canonical patterns of a command that was read.
 //
 // A command holds no bytes of its own: its tag, its reference and its patterns are spans of the line. `meaning` of specs/ says what a
-// command is in the terms of document 01. Absent: words other than LIST and NAMESPACE.
+// command is in the terms of document 01. Absent: words other than LIST, NAMESPACE and LSUB.
 
 ghost use mathlib.Core.Path.{_≡_};
 ghost use Rattle.listing_rules.specs.Command.{parsed};
@@ -10,6 +10,7 @@ ghost use Rattle.octets.specs.Put.{Put};
 ghost use Rattle.command_line.specs.Commands.{meaning, Inside, patternsOf, packedBytes};
 
 mod list_command;
+mod lsub_command;
 mod option_list;
 mod reading;
 
@@ -30,6 +31,7 @@ pub enum Kind {
     List,
     Root,
     Namespace,
+    Lsub,
     Refused(u8),
 }
 

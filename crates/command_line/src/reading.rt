@@ -10,6 +10,7 @@ use crate::Command;
 use crate::Kind;
 use crate::Options;
 use crate::list_command::read_list;
+use crate::lsub_command::read_lsub;
 use command_patterns::Patterns;
 use command_tokens::Behind;
 use command_tokens::Cursor;
@@ -24,10 +25,11 @@ use octets::spells_word;
 pub(crate) enum Word {
     List,
     Namespace,
+    Lsub,
     Other,
 }
 
-// "LIST or NAMESPACE in any case".
+// LIST, NAMESPACE or LSUB "in any case".
 fn word_of(name: &[u8]) -> Word
     ensures { λ r. ⌜ r ≡ wordOf (now (name .entry)) ⌝ }
 {
@@ -36,6 +38,9 @@ fn word_of(name: &[u8]) -> Word
     }
     if spells_word(name, b"NAMESPACE") {
         return Word::Namespace;
+    }
+    if spells_word(name, b"LSUB") {
+        return Word::Lsub;
     }
     Word::Other
 }
@@ -57,6 +62,7 @@ pub(crate) fn read_text(text: &[u8]) -> Command
     match word_of(raw(text, word)) {
         Word::List => read_list(text, tag, rest),
         Word::Namespace => read_namespace(text, tag, rest),
+        Word::Lsub => read_lsub(text, tag, rest),
         Word::Other => refused(WORD),
     }
 }

@@ -26,7 +26,7 @@ impl Patterns {
     }
 
     // One pattern more.
-    fn with(self, span: Span) -> Patterns
+    pub fn with(self, span: Span) -> Patterns
         ensures { λ r. ⌜ r ≡ withSpan self span ⌝ }
     {
         let mut next = self;

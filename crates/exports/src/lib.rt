@@ -123,11 +123,16 @@ pub extern "C" fn luspemaro_collect(
     found: &mut [u8],
     pending: &mut [u8],
 ) -> Outcome
-    ensures result { λ r. ⌜ r ≡ walkOutcome (collected (lentTable (now (area .entry)) (now (records .entry)) count) option (now (scratch .entry)) (now (found .entry)) (now (pending .entry))) ⌝ }
-    ensures scratch { λ _. ⌜ now (scratch .exit) ≡ scratchOf (lentTable (now (area .entry)) (now (records .entry)) count) option (now (scratch .entry)) (now (found .entry)) (now (pending .entry)) ⌝ }
-    ensures found { λ _. ⌜ now (found .exit) ≡ foundOf (lentTable (now (area .entry)) (now (records .entry)) count) option (now (scratch .entry)) (now (found .entry)) (now (pending .entry)) ⌝ }
-    ensures pending { λ _. ⌜ now (pending .exit) ≡ pendingOf (lentTable (now (area .entry)) (now (records .entry)) count) option (now (scratch .entry)) (now (found .entry)) (now (pending .entry)) ⌝ }
-    ensures demand3 { λ _. ⌜ OwesDemand3 (lentTable (now (area .entry)) (now (records .entry)) count) option (now (scratch .entry)) (now (found .entry)) (now (pending .entry))
+    ensures result { λ r. ⌜ r ≡ walkOutcome (collected (lentTable (now (area .entry)) (now (records .entry)) count)
+        option (now (scratch .entry)) (now (found .entry)) (now (pending .entry))) ⌝ }
+    ensures scratch { λ _. ⌜ now (scratch .exit) ≡ scratchOf (lentTable (now (area .entry)) (now (records .entry)) count)
+        option (now (scratch .entry)) (now (found .entry)) (now (pending .entry)) ⌝ }
+    ensures found { λ _. ⌜ now (found .exit) ≡ foundOf (lentTable (now (area .entry)) (now (records .entry)) count)
+        option (now (scratch .entry)) (now (found .entry)) (now (pending .entry)) ⌝ }
+    ensures pending { λ _. ⌜ now (pending .exit) ≡ pendingOf (lentTable (now (area .entry)) (now (records .entry)) count)
+        option (now (scratch .entry)) (now (found .entry)) (now (pending .entry)) ⌝ }
+    ensures demand3 { λ _. ⌜ OwesDemand3 (lentTable (now (area .entry)) (now (records .entry)) count)
+        option (now (scratch .entry)) (now (found .entry)) (now (pending .entry))
         (collectedOf (lentTable (now (area .entry)) (now (records .entry)) count) option (now (scratch .entry)) (now (found .entry)) (now (pending .entry)))
         (now (found .exit)) (now (pending .exit)) ⌝ }
 {
@@ -146,11 +151,16 @@ fn collect_words(
     found: &mut [u8],
     pending: &mut [u8],
 ) -> Outcome
-    ensures result { λ r. ⌜ r ≡ walkOutcome (collected (wordTable (now (area .entry)) (now (words .entry)) count) option (now (scratch .entry)) (now (found .entry)) (now (pending .entry))) ⌝ }
-    ensures scratch { λ _. ⌜ now (scratch .exit) ≡ scratchOf (wordTable (now (area .entry)) (now (words .entry)) count) option (now (scratch .entry)) (now (found .entry)) (now (pending .entry)) ⌝ }
-    ensures found { λ _. ⌜ now (found .exit) ≡ foundOf (wordTable (now (area .entry)) (now (words .entry)) count) option (now (scratch .entry)) (now (found .entry)) (now (pending .entry)) ⌝ }
-    ensures pending { λ _. ⌜ now (pending .exit) ≡ pendingOf (wordTable (now (area .entry)) (now (words .entry)) count) option (now (scratch .entry)) (now (found .entry)) (now (pending .entry)) ⌝ }
-    ensures demand3 { λ _. ⌜ OwesDemand3 (wordTable (now (area .entry)) (now (words .entry)) count) option (now (scratch .entry)) (now (found .entry)) (now (pending .entry))
+    ensures result { λ r. ⌜ r ≡ walkOutcome (collected (wordTable (now (area .entry)) (now (words .entry)) count)
+        option (now (scratch .entry)) (now (found .entry)) (now (pending .entry))) ⌝ }
+    ensures scratch { λ _. ⌜ now (scratch .exit) ≡ scratchOf (wordTable (now (area .entry)) (now (words .entry)) count)
+        option (now (scratch .entry)) (now (found .entry)) (now (pending .entry)) ⌝ }
+    ensures found { λ _. ⌜ now (found .exit) ≡ foundOf (wordTable (now (area .entry)) (now (words .entry)) count)
+        option (now (scratch .entry)) (now (found .entry)) (now (pending .entry)) ⌝ }
+    ensures pending { λ _. ⌜ now (pending .exit) ≡ pendingOf (wordTable (now (area .entry)) (now (words .entry)) count)
+        option (now (scratch .entry)) (now (found .entry)) (now (pending .entry)) ⌝ }
+    ensures demand3 { λ _. ⌜ OwesDemand3 (wordTable (now (area .entry)) (now (words .entry)) count)
+        option (now (scratch .entry)) (now (found .entry)) (now (pending .entry))
         (collectedOf (wordTable (now (area .entry)) (now (words .entry)) count) option (now (scratch .entry)) (now (found .entry)) (now (pending .entry)))
         (now (found .exit)) (now (pending .exit)) ⌝ }
 {
@@ -166,10 +176,14 @@ pub extern "C" fn luspemaro_collect_packed(
     found: &mut [u8],
     pending: &mut [u8],
 ) -> Outcome
-    ensures result { λ r. ⌜ r ≡ walkOutcome (collected (packedTable (now (table .entry))) option (now (scratch .entry)) (now (found .entry)) (now (pending .entry))) ⌝ }
-    ensures scratch { λ _. ⌜ now (scratch .exit) ≡ scratchOf (packedTable (now (table .entry))) option (now (scratch .entry)) (now (found .entry)) (now (pending .entry)) ⌝ }
-    ensures found { λ _. ⌜ now (found .exit) ≡ foundOf (packedTable (now (table .entry))) option (now (scratch .entry)) (now (found .entry)) (now (pending .entry)) ⌝ }
-    ensures pending { λ _. ⌜ now (pending .exit) ≡ pendingOf (packedTable (now (table .entry))) option (now (scratch .entry)) (now (found .entry)) (now (pending .entry)) ⌝ }
+    ensures result { λ r. ⌜ r ≡ walkOutcome (collected (packedTable (now (table .entry)))
+        option (now (scratch .entry)) (now (found .entry)) (now (pending .entry))) ⌝ }
+    ensures scratch { λ _. ⌜ now (scratch .exit) ≡ scratchOf (packedTable (now (table .entry)))
+        option (now (scratch .entry)) (now (found .entry)) (now (pending .entry)) ⌝ }
+    ensures found { λ _. ⌜ now (found .exit) ≡ foundOf (packedTable (now (table .entry)))
+        option (now (scratch .entry)) (now (found .entry)) (now (pending .entry)) ⌝ }
+    ensures pending { λ _. ⌜ now (pending .exit) ≡ pendingOf (packedTable (now (table .entry)))
+        option (now (scratch .entry)) (now (found .entry)) (now (pending .entry)) ⌝ }
     ensures demand3 { λ _. ⌜ OwesDemand3 (packedTable (now (table .entry))) option (now (scratch .entry)) (now (found .entry)) (now (pending .entry))
         (collectedOf (packedTable (now (table .entry))) option (now (scratch .entry)) (now (found .entry)) (now (pending .entry)))
         (now (found .exit)) (now (pending .exit)) ⌝ }

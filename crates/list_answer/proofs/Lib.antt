@@ -1,4 +1,4 @@
--- Laws of the LIST answer, from what stands alone to what rests on it.
+-- Laws of the LIST and LSUB answers, from what stands alone to what rests on it.
 mod Sets
 mod Prefixes
 mod Listed
@@ -9,3 +9,4 @@ mod Deciding
 mod Showing
 mod RowTexts
 mod Putting
+mod Replies

@@ -14,7 +14,7 @@ use Rattle.listing_rules.specs.Table.{Row, names, hasRow, flagsOf}
 use Rattle.listing_rules.specs.Options.{Options}
 use Rattle.listing_rules.specs.Match.{matchesAny}
 use Rattle.listing_rules.specs.Listing.{candidates, implied, candidateMeets, meetsBelow, meetsUnmatchedBelow, unselective, endsInPercent, levelAbove, listed, listedNames}
-use Rattle.listing_rules.specs.Server.{lineOf}
+use Rattle.list_line.specs.declared.words.LineWord.{LineWord}
 use Rattle.listing_rules.proofs.Bools.{and-l, and-r, or-cases}
 use Rattle.listing_rules.proofs.ListLaws.{every-mem, some-mem, keep-mem, mem-keep}
 use Rattle.listing_rules.proofs.Order.{bytes-total}
@@ -24,7 +24,7 @@ use Rattle.listing_rules.proofs.LawfulNames.{below-split, good-below, good-part
 use Rattle.listing_rules.proofs.NameFlags.{implied-meets-not, candidate-row}
 use Rattle.list_answer.specs.Prefixes.{prefixes}
 use Rattle.list_answer.specs.Index.{Lawful}
-use Rattle.list_answer.specs.Shown.{shownText}
+use Rattle.list_answer.specs.Shown.{lineOn, shownText}
 use Rattle.list_answer.proofs.AtRow.{joined-shown}
 use Rattle.list_answer.proofs.Prefixes.{prefixes-have, prefixes-asc, AllFull}
 
@@ -101,6 +101,6 @@ module _ (rs : List Row) (o : Options) (ps : List (List ℕ)) where
         cand-asc = unfold candidates in asc-sorted byteOrder bytes-total (joined (map (λ r. r .name ∷ properAncestors (r .name)) rs))
 
 -- The text of the beginnings that are looked at is that of the listed names.
-pub answer-text : (rs : List Row) (o : Options) (ps : List (List ℕ)) → Lawful rs → ascends (names rs) ≡ true → joined (map (shownText rs o ps) (prefixes rs)) ≡ joined (map (lineOf rs o ps) (listedNames rs o ps))
+pub answer-text : (w : LineWord) (rs : List Row) (o : Options) (ps : List (List ℕ)) → Lawful rs → ascends (names rs) ≡ true → joined (map (shownText w rs o ps) (prefixes rs)) ≡ joined (map (lineOn w rs o ps) (listedNames rs o ps))
 unfolding shownText
-answer-text rs o ps law a = sym (joined-shown (listed rs o ps) (lineOf rs o ps) (prefixes rs)) ∙ ap (λ (l : List (List ℕ)). joined (map (lineOf rs o ps) l)) (listed-prefixes rs o ps law a)
+answer-text w rs o ps law a = sym (joined-shown (listed rs o ps) (lineOn w rs o ps) (prefixes rs)) ∙ ap (λ (l : List (List ℕ)). joined (map (lineOn w rs o ps) l)) (listed-prefixes rs o ps law a)

@@ -15,11 +15,10 @@ use Rattle.listing_rules.specs.Orders.{ascends}
 use Rattle.listing_rules.specs.Options.{Options}
 use Rattle.listing_rules.specs.Match.{matchesAny}
 use Rattle.listing_rules.specs.Listing.{meetsCriteria}
-use Rattle.listing_rules.specs.Server.{answered, listAnswer}
+use Rattle.listing_rules.specs.Server.{answered}
 use Rattle.listing_rules.proofs.Bools.{or-r}
 use Rattle.octets.specs.Sets.{contains}
 use Rattle.list_line.proofs.Members.{setOf-below, contains-setOf}
-use Rattle.command_line.specs.declared.Options.{Options as OptionSet}
 use Rattle.command_line.specs.OptionSets.{optionsIs}
 use Rattle.mailbox_table.specs.declared.rows.Row.{Row as Place}
 use Rattle.mailbox_table.specs.Words.{rowOfWord}
@@ -34,7 +33,7 @@ use Rattle.list_answer.specs.declared.question.Question.{Question}
 use Rattle.list_answer.specs.Index.{Index, Lawful}
 use Rattle.list_answer.specs.Marks.{levelOnly, meetsMark, unmatchedMark, childMark, matchedMark, rowMarks, markedWord}
 use Rattle.list_answer.specs.Ready.{Knows, Marked, Ready}
-use Rattle.list_answer.specs.Shown.{listReply}
+use Rattle.list_answer.specs.Shown.{answerFor, replyTo}
 use Rattle.list_answer.proofs.AtRow.{map-append}
 use Rattle.list_answer.proofs.Levels.{recursive-levels}
 
@@ -186,5 +185,5 @@ module _ (area patterns : List ℕ) (q : Question) where
       size = length-map ws mark
 
   -- the answer over them is that over the words as they were
-  pub marked-reply : (ws ms tag : List ℕ) (o : OptionSet) → ms ≡ map (markedWord area patterns q) ws → q .options ≡ o → listReply area ms patterns (q .options) tag ≡ listReply area ws patterns o tag
-  marked-reply ws ms tag o e f = λ i. answered (listAnswer ((ap (rowsAt area) e ∙ marked-rows ws) i) tag (optionsIs (f i)) (unpacked patterns))
+  pub marked-reply : (ws ms tag : List ℕ) → ms ≡ map (markedWord area patterns q) ws → replyTo area ms patterns q tag ≡ replyTo area ws patterns q tag
+  marked-reply ws ms tag e = ap (λ (rs : List Row). answered (answerFor (q .word) rs tag (optionsIs (q .options)) (unpacked patterns))) (ap (rowsAt area) e ∙ marked-rows ws)

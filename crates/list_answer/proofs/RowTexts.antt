@@ -11,6 +11,7 @@ use borrow.Author.Tests.{ne-eqb}
 use Rattle.listing_rules.specs.Lists.{joined}
 use Rattle.listing_rules.specs.Table.{Row}
 use Rattle.listing_rules.specs.Options.{Options}
+use Rattle.list_line.specs.declared.words.LineWord.{LineWord}
 use Rattle.mailbox_table.specs.Shared.{sharedLen}
 use Rattle.mailbox_table.specs.Index.{nthRow, nthName, rowAtWord, rowsAt, Indexed}
 use Rattle.mailbox_table.proofs.IndexLaws.{name-length, shares-less, shared-at}
@@ -52,9 +53,9 @@ abbrev pub textFrom : (List ℕ → List ℕ) → List ℕ → List ℕ → ℕ 
 textFrom T area words i = joined (map T (prefixesAfter (nameBefore area words i) (drop i (rowsAt area words))))
 
 module _ (area words : List ℕ) (x : Indexed area words) where
-  module _ (o : Options) (ps : List (List ℕ)) (i : ℕ) (h : i < length words) where
+  module _ (w : LineWord) (o : Options) (ps : List (List ℕ)) (i : ℕ) (h : i < length words) where
     abbrev texts : List ℕ → List ℕ
-    texts = shownText (rowsAt area words) o ps
+    texts = shownText w (rowsAt area words) o ps
 
     abbrev len : ℕ
     len = nthRow words i .len
@@ -73,12 +74,12 @@ module _ (area words : List ℕ) (x : Indexed area words) where
     -- without RECURSIVEMATCH and without levels nothing is shown of a beginning that is not the whole name
     proper-none : (o .selRecursive || levelsAsked o ps) ≡ false → (j : ℕ) → shared < j → j < len → texts (take j (nthName area words i)) ≡ []
     proper-none e j g k =
-        text-implied (rowsAt area words) o ps (take j (nthName area words i))
+        text-implied w (rowsAt area words) o ps (take j (nthName area words i))
         (flags-proper area words x (record { row = i; len = j }) (record { row = h; beyond = g; within = omega arith }) (ne-eqb len j (λ d. omega arith)))
         e
 
     -- so the whole name is the first to look at
-    pub first-shown : (deep : Bool) → deep ≡ (o .selRecursive || levelsAsked o ps) → beyond (shownText (rowsAt area words) o ps) (nthName area words i) (cond deep (nthRow words i .shared) (nthRow words i .len - 1)) ≡ beyond (shownText (rowsAt area words) o ps) (nthName area words i) (nthRow words i .shared)
+    pub first-shown : (deep : Bool) → deep ≡ (o .selRecursive || levelsAsked o ps) → beyond (shownText w (rowsAt area words) o ps) (nthName area words i) (cond deep (nthRow words i .shared) (nthRow words i .len - 1)) ≡ beyond (shownText w (rowsAt area words) o ps) (nthName area words i) (nthRow words i .shared)
     first-shown true e = refl
     first-shown false e =
         sym

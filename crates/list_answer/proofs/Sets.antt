@@ -1,5 +1,5 @@
 -- Members put together one by one make the set of them all.
-use mathlib.Core.Path.{_≡_, sym, ap, _∙_}
+use mathlib.Core.Path.{_≡_, refl, sym, ap, _∙_}
 use mathlib.Core.Bool.{Bool, true, false}
 use mathlib.Core.List.{List, [], _∷_, _++_, append-nil, append-assoc}
 use Prim.Native.Nat.{ℕ, suc, _+_, _*_, _^_}
@@ -7,6 +7,8 @@ use native.Mathlib.Nat.{pow-suc}
 use native.Mathlib.Omega.{arith}
 use lib.Bits.{or-shifted-r}
 use lib.ListN.{length, length-append}
+use Rattle.listing_rules.specs.Listing.{inOrder}
+use Rattle.listing_rules.specs.Lsub.{lsubAttributes}
 use Rattle.list_line.specs.Members.{setOf}
 use Rattle.list_line.proofs.Members.{setOf-below, setOf-in, setOf-out}
 use Rattle.list_answer.specs.Sets.{withMember, adds}
@@ -40,6 +42,12 @@ adds-all bs = set-adds [] bs
 -- one step of the code: a member more of a set that is known
 pub more : (m : ℕ) {r s t : ℕ} {b c : Bool} → s ≡ t → b ≡ c → r ≡ withMember s b m → r ≡ withMember t c m
 more m e f g = g ∙ (λ i. withMember (e i) (f i) m)
+
+-- the set of an LSUB line's attributes: \Noselect or none
+pub noselect-alone : (b : Bool) → withMember 0 b 4 ≡ setOf (lsubAttributes b)
+unfolding setOf lsubAttributes inOrder
+noselect-alone true = refl
+noselect-alone false = refl
 
 -- the sixteen attributes in three groups
 pub sixteen-adds : (f : ℕ) (s u c d : Bool) → adds (adds (adds 0 1 (ownAttributes f s)) 128 (useAttributes f u)) 16384 (c ∷ d ∷ []) ≡ setOf (ownAttributes f s ++ (useAttributes f u ++ (c ∷ d ∷ [])))

@@ -1,4 +1,4 @@
--- What the code of the LIST answer means beside document 01's definitions.
+-- What the code of the LIST and LSUB answers means beside document 01's definitions.
 pub mod Sets
 pub mod Index
 pub mod Prefixes

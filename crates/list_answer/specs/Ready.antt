@@ -1,9 +1,13 @@
 -- What the functions over the rows rely on.
 use mathlib.Core.Path.{_≡_}
+use mathlib.Core.Bool.{Bool, cond}
 use mathlib.Core.List.{List}
 use Prim.Native.Nat.{ℕ, _≤_, _<_}
 use lib.ListN.{length, getD}
+use Rattle.listing_rules.specs.Lists.{anyOf}
 use Rattle.listing_rules.specs.Options.{Options as Named}
+use Rattle.listing_rules.specs.Listing.{endsInPercent}
+use Rattle.list_line.specs.declared.words.LineWord.the-variants.{List as OfList, Lsub as OfLsub}
 use Rattle.command_line.specs.declared.Options.{Options}
 use Rattle.command_line.specs.OptionSets.{optionsIs}
 use Rattle.mailbox_table.specs.Index.{nthRow, rowAtWord}
@@ -18,9 +22,17 @@ use Rattle.list_answer.specs.Marks.{levelsAsked, rowMarks}
 abbrev pub Knows : List ℕ → Question → Type 0
 Knows patterns q = q .levels ≡ levelsAsked (optionsIs (q .options)) (unpacked patterns)
 
--- what `Question::of` promises: the options as they are, and what it knows
+-- what `Question::of` promises: the options as they are, the word LIST, and what it knows
 abbrev pub Asks : List ℕ → Options → Question → Type 0
-Asks patterns o q = (q .options ≡ o) × Knows patterns q
+Asks patterns o q = (q .options ≡ o) × (q .word ≡ OfList) × Knows patterns q
+
+-- the set of SUBSCRIBED, which is 1, and REMOTE, 2, with RECURSIVEMATCH, 4, or without
+abbrev pub lsubSet : Bool → ℕ
+lsubSet recursive = cond recursive 7 3
+
+-- what `Question::lsub` promises: RECURSIVEMATCH exactly if a pattern ends in "%", and the word LSUB
+abbrev pub AsksLsub : List ℕ → Question → Type 0
+AsksLsub patterns q = (q .options .bits ≡ lsubSet (anyOf endsInPercent (unpacked patterns))) × (q .word ≡ OfLsub) × Knows patterns q
 
 -- every row has its marks
 abbrev pub Marked : List ℕ → List ℕ → Named → List (List ℕ) → Type 0

@@ -1,15 +1,20 @@
 -- What the answer shows of a name.
 use mathlib.Core.Path.{_≡_}
-use mathlib.Core.Bool.{Bool, true, cond, _&&_, _||_}
-use mathlib.Core.List.{List, [], map}
+use mathlib.Core.Bool.{Bool, true, cond, _&&_, _||_, not}
+use mathlib.Core.List.{List, [], _++_, map}
 use Prim.Native.Nat.{ℕ}
 use Rattle.listing_rules.specs.Lists.{joined}
 use Rattle.listing_rules.specs.Table.{Row, flagsOf}
-use Rattle.listing_rules.specs.Options.{Options, criteriaNumber}
+use Rattle.listing_rules.specs.Options.{Options, Criteria, noCriteria, criteriaNumber}
 use Rattle.listing_rules.specs.Match.{matchesAny}
-use Rattle.listing_rules.specs.Listing.{candidateMeets, meetsBelow, meetsUnmatchedBelow, listed, attributes, childInfo}
-use Rattle.listing_rules.specs.Server.{Reply, answered, lineOf, listAnswer}
+use Rattle.listing_rules.specs.Listing.{candidateMeets, meetsBelow, meetsUnmatchedBelow, listed, attributes, childInfo, listedNames}
+use Rattle.listing_rules.specs.Lines.{wordLine, okLine}
+use Rattle.listing_rules.specs.Lsub.{isSubscribed, lsubAttributes}
+use Rattle.listing_rules.specs.Server.{Reply, answered, listAnswer, lsubAnswer}
+use Rattle.list_line.specs.declared.words.LineWord.{LineWord}
+use Rattle.list_line.specs.declared.words.LineWord.the-variants.{List as OfList, Lsub as OfLsub}
 use Rattle.list_line.specs.Members.{setOf}
+use Rattle.list_line.specs.Words.{startOf}
 use Rattle.mailbox_table.specs.Index.{nthRow, nthName, rowsAt}
 use Rattle.mailbox_table.specs.Below.{belowFrom, prefixOf}
 use Rattle.pattern.specs.Packed.{unpacked}
@@ -41,16 +46,29 @@ matchesFor rs o ps n = matchesAny (chosen (levelOnly o ps (flagsOf rs n)) ps) n
 
 -- What is shown
 
+-- the attributes on a line with this word, and the criteria that its CHILDINFO names
+unfoldable pub attributesOn : LineWord → List Row → Options → List (List ℕ) → List ℕ → List Bool
+attributesOn OfList rs o ps n = attributes rs o ps n
+attributesOn OfLsub rs o ps n = lsubAttributes (not (isSubscribed rs n))
+
+unfoldable pub criteriaOn : LineWord → List Row → Options → List ℕ → Criteria
+criteriaOn OfList rs o n = childInfo rs o n
+criteriaOn OfLsub rs o n = noCriteria
+
+-- a listed name's line
+unfoldable pub lineOn : LineWord → List Row → Options → List (List ℕ) → List ℕ → List ℕ
+lineOn w rs o ps n = wordLine (startOf w) (attributesOn w rs o ps n) n (criteriaOn w rs o n)
+
 -- a line with these attributes and these criteria in CHILDINFO, or nothing
-unfoldable pub shownIs : List Row → Options → List (List ℕ) → List ℕ → Shown
-shownIs rs o ps n =
+unfoldable pub shownIs : LineWord → List Row → Options → List (List ℕ) → List ℕ → Shown
+shownIs w rs o ps n =
     cond (listed rs o ps n)
-    (Line (record { bits = setOf (attributes rs o ps n) }) (record { bits = criteriaNumber (childInfo rs o n) }))
+    (Line (record { bits = setOf (attributesOn w rs o ps n) }) (record { bits = criteriaNumber (criteriaOn w rs o n) }))
     Nothing
 
 -- the text of a name's line, or none
-unfoldable pub shownText : List Row → Options → List (List ℕ) → List ℕ → List ℕ
-shownText rs o ps n = cond (listed rs o ps n) (lineOf rs o ps n) []
+unfoldable pub shownText : LineWord → List Row → Options → List (List ℕ) → List ℕ → List ℕ
+shownText w rs o ps n = cond (listed rs o ps n) (lineOn w rs o ps n) []
 
 -- The same of what the code has: an index, packed patterns, a question
 
@@ -63,7 +81,7 @@ abbrev pub foundBelow : List ℕ → List ℕ → ℕ → Beginning → Bool
 foundBelow area words m b = belowFrom area words m (begun area words b) (b .row)
 
 abbrev pub shownAt : List ℕ → List ℕ → List ℕ → Question → Beginning → Shown
-shownAt area words patterns q b = shownIs (rowsAt area words) (optionsIs (q .options)) (unpacked patterns) (begun area words b)
+shownAt area words patterns q b = shownIs (q .word) (rowsAt area words) (optionsIs (q .options)) (unpacked patterns) (begun area words b)
 
 -- what the rows say of a name
 pub record Stands (area words patterns : List ℕ) (q : Question) (b : Beginning) (s : Standing) : Type 0 where
@@ -86,7 +104,7 @@ Matched area words patterns q b r =
 
 -- the texts of a name, of the names that begin at row i, and of all rows
 abbrev pub textOf : List ℕ → List ℕ → List ℕ → Question → List ℕ → List ℕ
-textOf area words patterns q n = shownText (rowsAt area words) (optionsIs (q .options)) (unpacked patterns) n
+textOf area words patterns q n = shownText (q .word) (rowsAt area words) (optionsIs (q .options)) (unpacked patterns) n
 
 abbrev pub textAt : List ℕ → List ℕ → List ℕ → Question → Beginning → List ℕ
 textAt area words patterns q b = textOf area words patterns q (begun area words b)
@@ -98,8 +116,19 @@ abbrev pub rowsText : List ℕ → List ℕ → List ℕ → Question → List �
 rowsText area words patterns q = joined (map (textOf area words patterns q) (prefixes (rowsAt area words)))
 
 -- the whole answer, and the reply that it is
-abbrev pub listText : List ℕ → List ℕ → List ℕ → OptionSet → List ℕ → List ℕ
-listText area words patterns o tag = listAnswer (rowsAt area words) tag (optionsIs o) (unpacked patterns)
+unfoldable pub answerFor : LineWord → List Row → List ℕ → Options → List (List ℕ) → List ℕ
+answerFor w rs tag o ps = joined (map (lineOn w rs o ps) (listedNames rs o ps)) ++ okLine tag
+
+abbrev pub answerText : List ℕ → List ℕ → List ℕ → Question → List ℕ → List ℕ
+answerText area words patterns q tag = answerFor (q .word) (rowsAt area words) tag (optionsIs (q .options)) (unpacked patterns)
+
+abbrev pub replyTo : List ℕ → List ℕ → List ℕ → Question → List ℕ → Reply
+replyTo area words patterns q tag = answered (answerText area words patterns q tag)
+
+-- The replies of the two commands
 
 abbrev pub listReply : List ℕ → List ℕ → List ℕ → OptionSet → List ℕ → Reply
-listReply area words patterns o tag = answered (listText area words patterns o tag)
+listReply area words patterns o tag = answered (listAnswer (rowsAt area words) tag (optionsIs o) (unpacked patterns))
+
+abbrev pub lsubReply : List ℕ → List ℕ → List ℕ → List ℕ → Reply
+lsubReply area words patterns tag = answered (lsubAnswer (rowsAt area words) tag (unpacked patterns))

@@ -1,4 +1,4 @@
-// The whole LIST answer: the lines of the names that are listed, in ascending order, and the tagged line.
+// The whole LIST or LSUB answer: the lines of the names that are listed, in ascending order, and the tagged line.
 use super::decide::Beginning;
 use super::decide::Shown;
 use super::decide::decide;
@@ -14,13 +14,14 @@ use octets::Written;
 use octets::refusals::SHORT_BUFFER;
 ghost use mathlib.Core.Path.{_≡_};
 ghost use mathlib.Core.Bool.{cond};
-ghost use Prim.Native.Nat.{_<_, _-_};
+ghost use Prim.Native.Nat.{_<_, _≤_, _-_};
 ghost use lib.ListN.{length};
 ghost use Rattle.octets.specs.Put.{Put};
 ghost use Rattle.octets.specs.Written.{Gives};
+ghost use Rattle.pattern.specs.Packed.{unpacked};
 ghost use Rattle.list_answer.specs.Index.{Index};
-ghost use Rattle.list_answer.specs.Ready.{Ready, At};
-ghost use Rattle.list_answer.specs.Shown.{textAt, rowText, rowsText, listText, listReply};
+ghost use Rattle.list_answer.specs.Ready.{Knows, Ready, At};
+ghost use Rattle.list_answer.specs.Shown.{textAt, rowText, rowsText, answerText, replyTo, listReply, lsubReply};
 
 // The LIST answer over the index of a table that passes: the rows are marked for the command, and the answer is written or refused.
 // Only the crate `server` calls it, with the index that `mailbox_table::index` made.
@@ -38,6 +39,42 @@ pub fn write_list(
         (now (out .entry)) (now (out .exit)) r ⌝ }
 {
     let question = Question::of(options, patterns);
+    write_answer(area, words, patterns, question, tag, out)
+}
+
+// The LSUB answer, in the same way. An LSUB command has one pattern at most.
+pub fn write_lsub(
+    area: &[u8],
+    words: &[u64],
+    patterns: &[u8],
+    tag: &[u8],
+    out: &mut [u8],
+) -> Written
+    requires { ⌜ Index (now area) (now words) ⌝ }
+    requires { ⌜ length (unpacked (now patterns)) ≤ 1 ⌝ }
+    ensures { λ r. ⌜ Gives
+        (lsubReply (now (area .entry)) (now (words .entry)) (now (patterns .entry)) (now (tag .entry)))
+        (now (out .entry)) (now (out .exit)) r ⌝ }
+{
+    let question = Question::lsub(patterns);
+    write_answer(area, words, patterns, question, tag, out)
+}
+
+// The answer to a question: the rows are marked for it first.
+fn write_answer(
+    area: &[u8],
+    words: &[u64],
+    patterns: &[u8],
+    question: Question,
+    tag: &[u8],
+    out: &mut [u8],
+) -> Written
+    requires { ⌜ Index (now area) (now words) ⌝ }
+    requires { ⌜ Knows (now patterns) question ⌝ }
+    ensures { λ r. ⌜ Gives
+        (replyTo (now (area .entry)) (now (words .entry)) (now (patterns .entry)) question (now (tag .entry)))
+        (now (out .entry)) (now (out .exit)) r ⌝ }
+{
     let n = words.len();
     let mut marked = no_words();
     mark_rows(area, words, patterns, question, &mut marked);
@@ -55,7 +92,7 @@ fn write_marked(
 ) -> Written
     requires { ⌜ Ready (now area) (now words) (now patterns) question ⌝ }
     ensures { λ r. ⌜ Gives
-        (listReply (now (area .entry)) (now (words .entry)) (now (patterns .entry)) (question .options) (now (tag .entry)))
+        (replyTo (now (area .entry)) (now (words .entry)) (now (patterns .entry)) question (now (tag .entry)))
         (now (out .entry)) (now (out .exit)) r ⌝ }
 {
     let mut none = [0u8; 0];
@@ -78,7 +115,7 @@ fn put_answer(
 ) -> usize
     requires { ⌜ Ready (now area) (now words) (now patterns) question ⌝ }
     ensures { λ r. ⌜ Put (now (buf .entry)) (now (buf .exit)) 0
-        (listText (now (area .entry)) (now (words .entry)) (now (patterns .entry)) (question .options) (now (tag .entry))) r ⌝ }
+        (answerText (now (area .entry)) (now (words .entry)) (now (patterns .entry)) question (now (tag .entry))) r ⌝ }
 {
     let to = put_rows(buf, 0, area, words, patterns, question);
     put_ok_line(buf, to, tag)
@@ -174,6 +211,7 @@ fn put_name(
     };
     let i = name.row;
     let len = name.len;
+    let word = question.word;
     let whole = name_of(area, Row::of_word(words[i]));
-    put_line(buf, at, attributes, &whole[..len], criteria)
+    put_line(buf, at, word, attributes, &whole[..len], criteria)
 }

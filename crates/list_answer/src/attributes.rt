@@ -3,14 +3,17 @@ use super::question::Question;
 use list_line::Attributes;
 use mailbox_table::flags::Flags;
 ghost use mathlib.Core.Path.{_≡_};
+ghost use mathlib.Core.Bool.{not};
+ghost use Rattle.listing_rules.specs.Flags.{subscribed};
 ghost use Rattle.listing_rules.specs.Listing.{attributesFor};
+ghost use Rattle.listing_rules.specs.Lsub.{lsubAttributes};
 ghost use Rattle.octets.specs.Sets.{contains};
 ghost use Rattle.command_line.specs.OptionSets.{optionsIs};
 ghost use Rattle.list_line.specs.Members.{setOf};
 ghost use Rattle.list_answer.specs.Sets.{withMember, adds};
 ghost use Rattle.list_answer.specs.Attributes.{ownAttributes, useAttributes};
 
-// The attributes of a name with these flags. A level shows \HasChildren, asked or not.
+// The attributes of a LIST line, for a name with these flags. A level shows \HasChildren, asked or not.
 pub(crate) fn attributes_of(
     flags: Flags,
     question: Question,
@@ -27,6 +30,17 @@ pub(crate) fn attributes_of(
         parent,
         asked & !children & !flags.has(Flags::NO_INFERIORS),
         Attributes::HAS_NO_CHILDREN,
+    )
+}
+
+// The attributes of an LSUB line: \Noselect alone, where a name with these flags is not subscribed.
+pub(crate) fn lsub_attributes(flags: Flags) -> Attributes
+    ensures { λ r. ⌜ r .bits ≡ setOf (lsubAttributes (not (subscribed (flags .bits)))) ⌝ }
+{
+    with(
+        Attributes::NONE,
+        !flags.has(Flags::SUBSCRIBED),
+        Attributes::NOSELECT,
     )
 }
 

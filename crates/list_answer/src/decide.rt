@@ -1,10 +1,12 @@
 // What the answer shows of one name.
 use super::attributes::attributes_of;
+use super::attributes::lsub_attributes;
 use super::marks::Marks;
 use super::question::Question;
 use command_line::Options;
 use list_line::Attributes;
 use list_line::Criteria;
+use list_line::LineWord;
 use mailbox_table::flags::Flags;
 use mailbox_table::rows::Row;
 use mailbox_table::rows::name_of;
@@ -57,12 +59,18 @@ pub(crate) fn decide(
     if !is_matched(area, words, patterns, question, name) {
         return Shown::Nothing;
     }
-    let info = asked_below(question.is_recursive(), area, words, Marks::MEETING, name);
-    let children = asked_below(question.shows_children(), area, words, Marks::CHILD, name);
-    Shown::Line(
-        attributes_of(standing.flags, question, children, standing.level),
-        child_info(info, question.options),
-    )
+    let word = question.word;
+    match word {
+        LineWord::Lsub => Shown::Line(lsub_attributes(standing.flags), Criteria::NONE),
+        LineWord::List => {
+            let info = asked_below(question.is_recursive(), area, words, Marks::MEETING, name);
+            let children = asked_below(question.shows_children(), area, words, Marks::CHILD, name);
+            Shown::Line(
+                attributes_of(standing.flags, question, children, standing.level),
+                child_info(info, question.options),
+            )
+        }
+    }
 }
 
 // What the rows say of the name. The patterns for which they were marked are not looked at again.

@@ -1,4 +1,4 @@
-// The lines of a LIST answer: which names are listed, with which attributes, in which order.
+// The lines of a LIST or LSUB answer: which names are listed, with which attributes, in which order.
 //
 // Rows ascend by name, so the names to look at are, at each row, the beginnings of its name that are longer than what it shares with
 // the name before. Among them is every candidate, an implied Foo before Foo-x too, though only Foo/Bar implies it. What a row is
@@ -11,3 +11,4 @@ mod marks;
 mod question;
 
 pub use answer::write_list;
+pub use answer::write_lsub;

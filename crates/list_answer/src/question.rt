@@ -1,5 +1,6 @@
 // What a command asks of every name. Whatever a request adds to it by value is a field here.
 use command_line::Options;
+use list_line::LineWord;
 use mailbox_table::flags::Flags;
 use pattern::some_level;
 ghost use mathlib.Core.Path.{_≡_};
@@ -7,22 +8,36 @@ ghost use mathlib.Core.Bool.{_&&_, _||_, not};
 ghost use Rattle.listing_rules.specs.Flags.{exists, remote};
 ghost use Rattle.listing_rules.specs.Listing.{meetsCriteria, unselective};
 ghost use Rattle.command_line.specs.OptionSets.{optionsIs};
-ghost use Rattle.list_answer.specs.Ready.{Asks};
+ghost use Rattle.list_answer.specs.Ready.{Asks, AsksLsub, lsubSet};
 
-// The options, and whether the command lists levels: names that do not exist, above those that meet the criteria.
+// The options; whether the command lists levels, names that do not exist above those that meet the criteria; and the word of its lines.
 pub(crate) struct Question {
     pub(crate) options: Options,
     pub(crate) levels: bool,
+    pub(crate) word: LineWord,
 }
 
 impl Question {
-    // The question of a command with these options and these packed patterns.
+    // The question of a LIST command with these options and these packed patterns.
     pub(crate) fn of(options: Options, patterns: &[u8]) -> Question
         ensures { λ r. ⌜ Asks (now (patterns .entry)) options r ⌝ }
     {
         Question {
             options,
             levels: is_unselective(options) & some_level(patterns),
+            word: LineWord::List,
+        }
+    }
+
+    // The question of an LSUB command with these packed patterns. It lists what LIST (SUBSCRIBED REMOTE) does for one pattern, and,
+    // where that ends in "%", what RECURSIVEMATCH adds: what matches above a subscribed name that does not.
+    pub(crate) fn lsub(patterns: &[u8]) -> Question
+        ensures { λ r. ⌜ AsksLsub (now (patterns .entry)) r ⌝ }
+    {
+        Question {
+            options: lsub_options(some_level(patterns)),
+            levels: false,
+            word: LineWord::Lsub,
         }
     }
 
@@ -79,6 +94,17 @@ impl Question {
     {
         self.levels & !flags.has(Flags::EXISTS)
     }
+}
+
+// SUBSCRIBED and REMOTE, and RECURSIVEMATCH where it is asked.
+fn lsub_options(recursive: bool) -> Options
+    ensures { λ r. ⌜ r .bits ≡ lsubSet recursive ⌝ }
+{
+    let subscribed = Options::SUBSCRIBED.union(Options::REMOTE);
+    if recursive {
+        return subscribed.union(Options::RECURSIVEMATCH);
+    }
+    subscribed
 }
 
 // Whether neither RECURSIVEMATCH, SUBSCRIBED nor SPECIAL-USE is selected.

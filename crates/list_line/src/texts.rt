@@ -1,10 +1,13 @@
-// The texts of LIST lines.
+// The texts of LIST and LSUB lines.
 use octets::wide;
 ghost use mathlib.Core.Path.{_≡_};
 ghost use Prim.Native.Nat.{_<_};
 ghost use Rattle.list_line.specs.Names.{namePlaces, NameSpan};
 
+// How a line begins, for each word.
 pub(crate) const LINE_START: [u8; 8] = *b"* LIST (";
+
+pub(crate) const LSUB_START: [u8; 8] = *b"* LSUB (";
 
 // Between the attributes and the quoted name, and the same with its first quote.
 pub(crate) const DELIMITER: [u8; 6] = *b") \"/\" ";

@@ -2,6 +2,7 @@
 use super::attributes::Attributes;
 use super::criteria::Criteria;
 use super::texts;
+use super::words::LineWord;
 use names::lawful_name;
 use octets::Written;
 use octets::put_all;
@@ -11,7 +12,7 @@ use octets::refusals::SHORT_BUFFER;
 ghost use mathlib.Core.Path.{_≡_};
 ghost use mathlib.Core.List.{_++_};
 ghost use Rattle.listing_rules.specs.Bytes.{crlf};
-ghost use Rattle.listing_rules.specs.Lines.{attributeNames, chosen, spaced, childInfoText, listLine, rootLine, okLine};
+ghost use Rattle.listing_rules.specs.Lines.{attributeNames, chosen, spaced, childInfoText, wordLine, listLine, rootLine, okLine};
 ghost use Rattle.listing_rules.specs.Options.{criteriaOf};
 ghost use Rattle.listing_rules.specs.Reader.{rootParts, lineFrom};
 ghost use Rattle.listing_rules.specs.Server.{answered};
@@ -19,18 +20,21 @@ ghost use Rattle.octets.specs.Put.{Put};
 ghost use Rattle.octets.specs.Written.{Gives};
 ghost use Rattle.list_line.specs.Members.{members};
 ghost use Rattle.list_line.specs.Names.{allNames, namePlaces};
+ghost use Rattle.list_line.specs.Words.{startOf};
 
-// A LIST line.
+// A line with this word.
 pub fn put_line(
     buf: &mut [u8],
     at: usize,
+    word: LineWord,
     attributes: Attributes,
     name: &[u8],
     criteria: Criteria,
 ) -> usize
-    ensures { λ r. ⌜ Put (now (buf .entry)) (now (buf .exit)) at (listLine (members (attributes .bits)) (now (name .entry)) (criteriaOf (criteria .bits))) r ⌝ }
+    ensures { λ r. ⌜ Put (now (buf .entry)) (now (buf .exit)) at
+        (wordLine (startOf word) (members (attributes .bits)) (now (name .entry)) (criteriaOf (criteria .bits))) r ⌝ }
 {
-    let a = put_all(buf, at, &texts::LINE_START);
+    let a = put_start(buf, at, word);
     let b = put_attributes(buf, a, attributes.bits);
     let c = put_all(buf, b, &texts::DELIMITER);
     let d = put_quoted(buf, c, name);
@@ -72,6 +76,16 @@ pub fn write_line(
         return Written::Refused(NOT_SUCH_LINE);
     }
     write_root(buf)
+}
+
+// How a line with this word begins.
+fn put_start(buf: &mut [u8], at: usize, word: LineWord) -> usize
+    ensures { λ r. ⌜ Put (now (buf .entry)) (now (buf .exit)) at (startOf word) r ⌝ }
+{
+    match word {
+        LineWord::List => put_all(buf, at, &texts::LINE_START),
+        LineWord::Lsub => put_all(buf, at, &texts::LSUB_START),
+    }
 }
 
 // The names of the attributes in the set, with one space between two.
@@ -136,11 +150,11 @@ fn write_named(attributes: Attributes, name: &[u8], criteria: Criteria, buf: &mu
         (buf .entry)) (now (buf .exit)) r ⌝ }
 {
     let mut none = [0u8; 0];
-    let need = put_line(&mut none, 0, attributes, name, criteria);
+    let need = put_line(&mut none, 0, LineWord::List, attributes, name, criteria);
     if buf.len() < need {
         return Written::Refused(SHORT_BUFFER);
     }
-    Written::Done(put_line(buf, 0, attributes, name, criteria))
+    Written::Done(put_line(buf, 0, LineWord::List, attributes, name, criteria))
 }
 
 // The root line at the front, if there is room.

@@ -9,6 +9,10 @@ use Rattle.listing_rules.specs.Names.{lawfulName}
 use Rattle.listing_rules.specs.Flags.{exists, subscribed, remote, noSelect, noInferiors, marked, unmarked, uses, hasUse, lawfulFlags}
 use Rattle.listing_rules.specs.Table.{rows, names, noneBelow, rowsPass, passes, rowAt, rowsAfter, packedRows, rowsFill, packedTable, hasRow, flagsOf}
 use Rattle.listing_rules.specs.Records.{rowOf, recordRows, liesInside, apart, allApart, laidOut, recordTable, recordsAfter, packedRecords}
+use Rattle.listing_rules.specs.Subscriptions.{storeTable, held, storeRows, spelledAs, spelled, rowsBefore, belowNoInferiors, uses as usesByte}
+use Rattle.listing_rules.specs.Subscriptions.{freeFrom, freeFront, lowestRun, freeRun, overwritten, withSubscribed, withoutSubscribed, zeroRecord}
+use Rattle.listing_rules.specs.Subscriptions.{nth, flagged, inserted, removed, insertion, subscribing, unsubscribing, edited, storeAfter, isIn}
+use Rattle.listing_rules.specs.Subscriptions.{subscribedNames, setEdited, setAfter, editedAll, setAll}
 use Rattle.listing_rules.specs.Namespaces.{entryAt, entriesAfter, entries, entriesFill, lawfulEntry, classesRise, ofClass}
 use Rattle.listing_rules.specs.Namespaces.{namespacesPass}
 use Rattle.listing_rules.specs.Tokens.{got, _>>=_, at, after, withFirst, atomByte, tagByte, astringByte, patternByte, run}
@@ -20,14 +24,15 @@ use Rattle.listing_rules.specs.Feeder.{stillOne, oneCommand}
 use Rattle.listing_rules.specs.Options.{lawfulOptions, noCriteria, isNone, lawfulCriteria, criteriaOf, criteriaNumber, criteria}
 use Rattle.listing_rules.specs.Command.{lineText, valueRest, option, parted, options, patterns, selectionPart, returnPart, isSome}
 use Rattle.listing_rules.specs.Command.{listArgs, extended, selectionWords, returnWords, knownIn, named, optionsOf, canonical}
-use Rattle.listing_rules.specs.Command.{fewPatterns, asksRoot, judged, orRefuse, worded, tagged, parsed}
+use Rattle.listing_rules.specs.Command.{fewPatterns, asksRoot, judged, lsubArgs, judgedLsub, orRefuse, worded, tagged, parsed}
 use Rattle.listing_rules.specs.Match.{anyTail, anyTailInLevel, headThen, wildMatch, matches, matchesAny}
 use Rattle.listing_rules.specs.Listing.{candidates, implied, meetsCriteria, candidateMeets, meetsBelow, meetsUnmatchedBelow}
 use Rattle.listing_rules.specs.Listing.{unselective, endsInPercent, levelAbove, listed, childInfo, hasChildren, inOrder}
 use Rattle.listing_rules.specs.Listing.{attributesFor, attributes, listedNames}
 use Rattle.listing_rules.specs.Lines.{attributeNames, chosen, spacedTail, spaced, escaped, quoted, criteriaNames, criteriaText}
-use Rattle.listing_rules.specs.Lines.{childInfoText, listLine, rootLine, okLine}
-use Rattle.listing_rules.specs.Server.{lineOf, listAnswer, delimiterText, entryText, classText, namespaceAnswer, answerTo, answer}
+use Rattle.listing_rules.specs.Lines.{childInfoText, wordLine, listLine, rootLine, okLine}
+use Rattle.listing_rules.specs.Lsub.{isSubscribed, subscribedMatch, subscribedBelow, aboveSubscribed, lsubListed, lsubNames, lsubAttributes, lsubLine}
+use Rattle.listing_rules.specs.Server.{lineOf, listAnswer, lsubAnswer, delimiterText, entryText, classText, namespaceAnswer, answerTo, answer}
 use Rattle.listing_rules.specs.Server.{limited, bufferAfter, numberOf, lengthOf, served}
 use Rattle.listing_rules.specs.Reader.{separated, readChosen, criteriaSets, readAmong, childInfoRead, readParts, orBad, readLine}
 use Rattle.listing_rules.specs.Reader.{rootAttributes, attributesRead, nameRead, childInfoOf, readNumber, nameBytes, sameBools}
@@ -70,6 +75,10 @@ unfoldable pub openRecords : Unit {0}
 unfolding rowOf recordRows liesInside apart allApart laidOut recordTable recordsAfter packedRecords
 openRecords = tt
 
+unfoldable pub openSubscriptions : Unit {0}
+unfolding storeTable held storeRows spelledAs spelled rowsBefore belowNoInferiors usesByte freeFrom freeFront lowestRun freeRun overwritten withSubscribed withoutSubscribed zeroRecord nth flagged inserted removed insertion subscribing unsubscribing edited storeAfter isIn subscribedNames setEdited setAfter editedAll setAll
+openSubscriptions = tt
+
 unfoldable pub openNamespaces : Unit {0}
 unfolding entryAt entriesAfter entries entriesFill lawfulEntry classesRise ofClass namespacesPass
 openNamespaces = tt
@@ -87,7 +96,7 @@ unfolding lawfulOptions noCriteria isNone lawfulCriteria criteriaOf criteriaNumb
 openOptions = tt
 
 unfoldable pub openCommand : Unit {0}
-unfolding lineText valueRest option parted options patterns selectionPart returnPart isSome listArgs extended selectionWords returnWords knownIn named optionsOf canonical fewPatterns asksRoot judged orRefuse worded tagged parsed
+unfolding lineText valueRest option parted options patterns selectionPart returnPart isSome listArgs extended selectionWords returnWords knownIn named optionsOf canonical fewPatterns asksRoot judged lsubArgs judgedLsub orRefuse worded tagged parsed
 openCommand = tt
 
 unfoldable pub openMatch : Unit {0}
@@ -99,11 +108,15 @@ unfolding candidates implied meetsCriteria candidateMeets meetsBelow meetsUnmatc
 openListing = tt
 
 unfoldable pub openLines : Unit {0}
-unfolding attributeNames chosen spacedTail spaced escaped quoted criteriaNames criteriaText childInfoText listLine rootLine okLine
+unfolding attributeNames chosen spacedTail spaced escaped quoted criteriaNames criteriaText childInfoText wordLine listLine rootLine okLine
 openLines = tt
 
+unfoldable pub openLsub : Unit {0}
+unfolding isSubscribed subscribedMatch subscribedBelow aboveSubscribed lsubListed lsubNames lsubAttributes lsubLine
+openLsub = tt
+
 unfoldable pub openServer : Unit {0}
-unfolding lineOf listAnswer delimiterText entryText classText namespaceAnswer answerTo answer limited bufferAfter numberOf lengthOf served
+unfolding lineOf listAnswer lsubAnswer delimiterText entryText classText namespaceAnswer answerTo answer limited bufferAfter numberOf lengthOf served
 openServer = tt
 
 unfoldable pub openReader : Unit {0}
@@ -124,5 +137,5 @@ openFrames = tt
 
 -- opens every definition that the cases of the two tables compute
 unfoldable pub openAll : Unit {0}
-unfolding openBytes openLists openOrders openNames openFlags openTable openRecords openNamespaces openTokens openFeeder openOptions openCommand openMatch openListing openLines openServer openReader openWalk openDemand3 openFrames
+unfolding openBytes openLists openOrders openNames openFlags openTable openRecords openSubscriptions openNamespaces openTokens openFeeder openOptions openCommand openMatch openListing openLines openLsub openServer openReader openWalk openDemand3 openFrames
 openAll = tt

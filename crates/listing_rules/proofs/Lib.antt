@@ -36,3 +36,13 @@ pub mod Alike
 pub mod InputCut
 pub mod Places
 pub mod Tables
+pub mod LsubLaws
+pub mod FreeRuns
+pub mod EditLists
+pub mod EditRows
+pub mod EditPlaces
+pub mod EditBytes
+pub mod EditLayout
+pub mod EditFlags
+pub mod EditPasses
+pub mod SubscriptionLaws

@@ -1,9 +1,8 @@
 -- A packed table turned into records: its records mean its rows and pass where it passes, so every command and every walk is answered alike.
 -- Rests on Passes.
 use mathlib.Core.Path.{_≡_, refl, sym, ap, _∙_}
-use mathlib.Core.Bool.{Bool, true, false, _&&_, _||_, false≢true}
+use mathlib.Core.Bool.{true, false, _||_, false≢true}
 use mathlib.Core.List.{List, [], _∷_, map}
-use mathlib.Core.Option.{some}
 use Prim.Native.Nat.{ℕ, zero, suc, _+_, _*_, _≤_}
 use native.Mathlib.Decide.{decLe}
 use native.Mathlib.Omega.{arith}
@@ -13,7 +12,7 @@ use lib.ListN.{length, take, drop, getD, length-map}
 use lib.Seq.{drop-drop, take-length}
 use borrow.Author.Tests.{le-leb}
 use Rattle.listing_rules.specs.Lists.{every}
-use Rattle.listing_rules.specs.Table.{Row, Table, rows, passes, rowAt, rowsAfter, packedRows, rowsFill, packedTable}
+use Rattle.listing_rules.specs.Table.{Table, rows, passes, rowAt, rowsAfter, packedRows, rowsFill, packedTable}
 use Rattle.listing_rules.specs.Records.{Record, rowOf, recordRows, liesInside, apart, allApart, laidOut, recordTable, recordsAfter, packedRecords}
 use Rattle.listing_rules.specs.Server.{served}
 use Rattle.listing_rules.specs.Walk.{collected}

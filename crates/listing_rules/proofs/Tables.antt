@@ -5,7 +5,9 @@ use mathlib.Core.List.{[]}
 use Rattle.listing_rules.specs.Cases.{failures}
 use Rattle.listing_rules.specs.ExpertSheet.{sheet}
 use Rattle.listing_rules.specs.Limits.{flags-of-a-row, names-of-rows, order-of-rows, size-of-a-table, namespace-entries}
+use Rattle.listing_rules.specs.Limits.{lsub-lines, lsub-grammar}
 use Rattle.listing_rules.specs.Limits.{records-layout, records-size, records-answered}
+use Rattle.listing_rules.specs.Limits.{edits-made, edits-inbox, edits-refused, edits-layout}
 use Rattle.listing_rules.specs.Limits.{namespace-classes, uses-by-name, flags-by-name, attributes-together}
 use Rattle.listing_rules.specs.Limits.{children-and-empty-patterns, special-use-selected, quotes-and-wildcards}
 use Rattle.listing_rules.specs.Limits.{childinfo-and-uses-shown, levels-listed, levels-not-listed, levels-counted, inbox-alone}
@@ -17,7 +19,7 @@ use Rattle.listing_rules.specs.Limits.{literals-cut-short, literal-lengt
 use Rattle.listing_rules.specs.Limits.{feeder-command-length}
 use Rattle.listing_rules.proofs.Keys.{openAll}
 
--- E1 to E8, with W1's line and W3's cases: one table under one claim
+-- E1 to E8, with W1's line and the cases of W3 and W5: one table under one claim
 pub sheet-holds : failures 1 sheet ≡ []
 unfolding openAll
 sheet-holds = refl
@@ -49,6 +51,22 @@ records-size-hold = refl
 records-answered-hold : failures 1 records-answered ≡ []
 unfolding openAll
 records-answered-hold = refl
+
+edits-made-hold : failures 1 edits-made ≡ []
+unfolding openAll
+edits-made-hold = refl
+
+edits-inbox-hold : failures 1 edits-inbox ≡ []
+unfolding openAll
+edits-inbox-hold = refl
+
+edits-refused-hold : failures 1 edits-refused ≡ []
+unfolding openAll
+edits-refused-hold = refl
+
+edits-layout-hold : failures 1 edits-layout ≡ []
+unfolding openAll
+edits-layout-hold = refl
 
 namespace-entries-hold : failures 1 namespace-entries ≡ []
 unfolding openAll
@@ -101,6 +119,14 @@ levels-counted-hold = refl
 inbox-alone-hold : failures 1 inbox-alone ≡ []
 unfolding openAll
 inbox-alone-hold = refl
+
+lsub-lines-hold : failures 1 lsub-lines ≡ []
+unfolding openAll
+lsub-lines-hold = refl
+
+lsub-grammar-hold : failures 1 lsub-grammar ≡ []
+unfolding openAll
+lsub-grammar-hold = refl
 
 namespace-line-hold : failures 1 namespace-line ≡ []
 unfolding openAll
@@ -219,6 +245,10 @@ pub record Limits-hold : Type 0 where
   pub records-layout-stand : failures 1 records-layout ≡ []
   pub records-size-stand : failures 1 records-size ≡ []
   pub records-answered-stand : failures 1 records-answered ≡ []
+  pub edits-made-stand : failures 1 edits-made ≡ []
+  pub edits-inbox-stand : failures 1 edits-inbox ≡ []
+  pub edits-refused-stand : failures 1 edits-refused ≡ []
+  pub edits-layout-stand : failures 1 edits-layout ≡ []
   pub namespace-entries-stand : failures 1 namespace-entries ≡ []
   pub namespace-classes-stand : failures 1 namespace-classes ≡ []
   pub uses-by-name-stand : failures 1 uses-by-name ≡ []
@@ -232,6 +262,8 @@ pub record Limits-hold : Type 0 where
   pub levels-not-listed-stand : failures 1 levels-not-listed ≡ []
   pub levels-counted-stand : failures 1 levels-counted ≡ []
   pub inbox-alone-stand : failures 1 inbox-alone ≡ []
+  pub lsub-lines-stand : failures 1 lsub-lines ≡ []
+  pub lsub-grammar-stand : failures 1 lsub-grammar ≡ []
   pub namespace-line-stand : failures 1 namespace-line ≡ []
   pub table-then-list-then-line-stand : failures 1 table-then-list-then-line ≡ []
   pub line-shape-stand : failures 1 line-shape ≡ []
@@ -270,6 +302,10 @@ limits-hold =
       records-layout-stand = records-layout-hold;
       records-size-stand = records-size-hold;
       records-answered-stand = records-answered-hold;
+      edits-made-stand = edits-made-hold;
+      edits-inbox-stand = edits-inbox-hold;
+      edits-refused-stand = edits-refused-hold;
+      edits-layout-stand = edits-layout-hold;
       namespace-entries-stand = namespace-entries-hold;
       namespace-classes-stand = namespace-classes-hold;
       uses-by-name-stand = uses-by-name-hold;
@@ -283,6 +319,8 @@ limits-hold =
       levels-not-listed-stand = levels-not-listed-hold;
       levels-counted-stand = levels-counted-hold;
       inbox-alone-stand = inbox-alone-hold;
+      lsub-lines-stand = lsub-lines-hold;
+      lsub-grammar-stand = lsub-grammar-hold;
       namespace-line-stand = namespace-line-hold;
       table-then-list-then-line-stand = table-then-list-then-line-hold;
       line-shape-stand = line-shape-hold;

@@ -9,6 +9,7 @@ use Rattle.listing_rules.specs.Bytes.{text, crlf, same, isEmpty}
 use Rattle.listing_rules.specs.Lists.{every, anyOf}
 use Rattle.listing_rules.specs.Table.{Table, rows, passes, packedTable}
 use Rattle.listing_rules.specs.Records.{Record, recordTable}
+use Rattle.listing_rules.specs.Subscriptions.{Edit, Store, Edited, denied as refusedEdit, stored, edited}
 use Rattle.listing_rules.specs.Namespaces.{namespacesPass}
 use Rattle.listing_rules.specs.Feeder.{Event, handed, goOn, denied, quiet, goOnLine, Feeder, reading, inLiteral, dropping, first, feedChunks}
 use Rattle.listing_rules.specs.Options.{criteriaNumber}
@@ -67,6 +68,8 @@ pub data Case : Type 0 where
   repliesOver : Lent → ℕ → List ℕ → List ℕ → Reply → Case
   -- records and an option byte, with the rooms of scratch, found and pending, are walked so
   walksOver : Lent → ℕ → ℕ → ℕ → ℕ → WalkReply → Case
+  -- these records pass, and each of these edits of them, the others not made, comes to this
+  edits : Lent → List Edit → Edited → Case
   -- all of these namespace lists pass, and none of those
   spaces : List (List ℕ) → List (List ℕ) → Case
   -- the same with the answer buffer as it was lent: the number, the length, and the buffer's bytes afterwards
@@ -94,6 +97,25 @@ pub data Case : Type 0 where
   feeds : List (List ℕ) → List Event → Bool → Case
   -- the continuation line
   continues : List ℕ → Case
+
+-- what is lent as a store, and what an edit leaves
+abbrev pub lentStore : Lent → Store
+lentStore t = record { records = t .records; count = t .count; area = t .area }
+
+abbrev pub leaves : Lent → Edited
+leaves t = stored (lentStore t)
+
+abbrev pub sameRecords : List Record → List Record → Bool
+sameRecords [] [] = true
+sameRecords [] (q ∷ qs) = false
+sameRecords (r ∷ rs) [] = false
+sameRecords (r ∷ rs) (q ∷ qs) = eqb (r .flags) (q .flags) && eqb (r .start) (q .start) && eqb (r .len) (q .len) && sameRecords rs qs
+
+abbrev pub sameEdited : Edited → Edited → Bool
+sameEdited (refusedEdit j) (refusedEdit k) = eqb j k
+sameEdited (refusedEdit j) (stored t) = false
+sameEdited (stored s) (refusedEdit k) = false
+sameEdited (stored s) (stored t) = sameRecords (s .records) (t .records) && eqb (s .count) (t .count) && same (s .area) (t .area)
 
 abbrev pub sameReply : Reply → Reply → Bool
 sameReply (refusal a) (refusal b) = eqb a b
@@ -147,6 +169,7 @@ holds (tables good poor) = every (λ t. passes (packedTable t)) good && not (any
 holds (layouts good poor) = every passes (map lentTable good) && not (anyOf passes (map lentTable poor))
 holds (repliesOver t room ns l r) = sameReply (limited room (answer (lentTable t) ns l)) r
 holds (walksOver t o s f p r) = sameWalk (walk (lentTable t) o s f p) r && asDeclared (lentTable t) o s f p r
+holds (edits t es r) = passes (lentTable t) && every (λ e. sameEdited (edited (lentStore t) e) r) es
 holds (spaces good poor) = every namespacesPass good && not (anyOf namespacesPass poor)
 holds (answersInto d t ns l k n e) =
     let r = served (packedTable t) ns l d in

@@ -156,6 +156,7 @@ pub data Parsed : Type 0 where
   namespace : List ℕ → Parsed
   listing : List ℕ → Options → List (List ℕ) → Parsed
   rootOf : List ℕ → Parsed
+  subscriptions : List ℕ → List (List ℕ) → Parsed
 
 -- "In an extended command an empty pattern matches nothing .. In the other kind it asks for the root line": that command has one pattern
 unfoldable pub asksRoot : ListArgs → Bool
@@ -169,18 +170,40 @@ judged tag a =
     let e7 = cond (lawfulOptions (optionsOf a)) e8 (refused 7) in
     cond (every (knownIn selectionWords) (a .selection) && every (knownIn returnWords) (a .returns)) e7 (refused 6)
 
+-- what is written after the word LSUB: document 02, W5, "LSUB with reference and a single pattern"
+pub record LsubArgs : Type 0 where
+  pub reference : List ℕ
+  pub pat : List ℕ
+
+unfoldable pub lsubArgs : List ℕ → Option LsubArgs
+lsubArgs t = do
+  u ← after (text " ") t
+  r ← astring u
+  v ← after (text " ") (r .rest)
+  p ← pattern v
+  cond (isEmpty (p .rest)) (some (record { reference = r .val; pat = p .val })) none
+
+-- an LSUB command on the grammar: 8; "An empty pattern is as in an extended command", so it has no canonical form
+unfoldable pub judgedLsub : List ℕ → LsubArgs → Parsed
+judgedLsub tag a =
+    let ps = canonical (a .reference) (a .pat ∷ []) in
+    cond (every (λ p. leb (length p) 255) ps) (subscriptions tag ps) (refused 8)
+
 -- go on with what was read, or refuse with the number
 unfoldable pub orRefuse : {A : Type 0} → ℕ → Option A → (A → Parsed) → Parsed
 orRefuse k none go = refused k
 orRefuse k (some a) go = go a
 
 -- "a word, the longest run of atom bytes: LIST or NAMESPACE in any case"; another word is 5, a rest off the grammar 4.
--- "NAMESPACE ends there."
+-- "NAMESPACE ends there." W5: "Check 5 now knows three words."
 unfoldable pub worded : List ℕ → Got (List ℕ) → Parsed
 worded tag w =
     let list = orRefuse 4 (listArgs (w .rest)) (judged tag) in
     let spaces = cond (isEmpty (w .rest)) (namespace tag) (refused 4) in
-    cond (spells (w .val) (text "LIST")) list (cond (spells (w .val) (text "NAMESPACE")) spaces (refused 5))
+    let subscribed = orRefuse 4 (lsubArgs (w .rest)) (judgedLsub tag) in
+    cond (spells (w .val) (text "LIST")) list
+    (cond (spells (w .val) (text "NAMESPACE")) spaces
+    (cond (spells (w .val) (text "LSUB")) subscribed (refused 5)))
 
 -- "Tag, one space, then a word": "An empty tag or a missing space is 4"
 unfoldable pub tagged : List ℕ → Parsed

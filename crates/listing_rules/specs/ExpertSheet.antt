@@ -1,4 +1,4 @@
--- The expert's sheet, E1 to E8, with W1's line and cases for W3, proved from the definitions as one table under one claim
+-- The expert's sheet, E1 to E8, with W1's line and cases for W3 and W5, proved from the definitions as one table under one claim
 -- (`sheet-holds` of proofs/Tables).
 use mathlib.Core.List.{List, [], _∷_, _++_}
 use Prim.Native.Nat.{ℕ}
@@ -67,6 +67,12 @@ sheet =
     ∷ walks tableU 4 16384 8192 8192 (walkRefused 6)
     ∷ walks tableU 5 16384 8192 8192 (walkRefused 6)
     ∷ walks tableU 8 16384 8192 8192 (walkRefused 6)
+    -- W5: the names with a subscription; under "%" the level above one that does not match, with \Noselect alone; no root line
+    ∷ over tableE (sends "a LSUB \"\" \"*\"") (answered (lines ("* LSUB () \"/\" \"Foo/Baz\"" ∷ "a OK done" ∷ [])))
+    ∷ over tableE (sends "a LSUB \"\" \"%\"") (answered (lines ("* LSUB (\\Noselect) \"/\" \"Foo\"" ∷ "a OK done" ∷ [])))
+    ∷ over tableU (sends "a LSUB \"\" %") (answered (lines ("* LSUB (\\Noselect) \"/\" \"A\"" ∷ "a OK done" ∷ [])))
+    ∷ over tableE (sends "a LSUB \"\" \"\"") nothing
+    ∷ over tableE (sends "a LSUB (SUBSCRIBED) \"\" %") (refusal 4)
     -- E8: 8 patterns pass, 9 are 8
     ∷ over tableE (sends "a LIST \"\" (a b c d e f \"\" h)") nothing
     ∷ over tableE (sends "a LIST \"\" (a b c d e f \"\" h i)") (refusal 8)

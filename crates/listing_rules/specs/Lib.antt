@@ -6,6 +6,7 @@ pub mod Names
 pub mod Flags
 pub mod Table
 pub mod Records
+pub mod Subscriptions
 pub mod Namespaces
 pub mod Tokens
 pub mod Feeder
@@ -14,6 +15,7 @@ pub mod Command
 pub mod Match
 pub mod Listing
 pub mod Lines
+pub mod Lsub
 pub mod Server
 pub mod Reader
 pub mod Walk

@@ -8,6 +8,7 @@ use Prim.Native.String.{String}
 use Rattle.listing_rules.specs.Bytes.{text, crlf}
 use Rattle.listing_rules.specs.Lists.{joined}
 use Rattle.listing_rules.specs.Records.{Record}
+use Rattle.listing_rules.specs.Subscriptions.{Edit, subscribe, unsubscribe, denied as refusedEdit}
 use Rattle.listing_rules.specs.Feeder.{handed, goOn, denied}
 use Rattle.listing_rules.specs.Options.{Criteria, noCriteria}
 use Rattle.listing_rules.specs.Server.{refusal, answered}
@@ -15,7 +16,7 @@ use Rattle.listing_rules.specs.Reader.{line, root}
 use Rattle.listing_rules.specs.Walk.{walkRefused, walked, packed}
 use Rattle.listing_rules.specs.Cases.{row, mailbox, entry, times, sends, lines, Case, replies, refuses, walks, tables, spaces, answersInto}
 use Rattle.listing_rules.specs.Cases.{walksInto, writes, writesInto, gives, reads, program, steps, answersFrame, counts, feeds, continues}
-use Rattle.listing_rules.specs.Cases.{Lent, layouts, repliesOver, walksOver}
+use Rattle.listing_rules.specs.Cases.{Lent, layouts, repliesOver, walksOver, edits, leaves}
 use Rattle.listing_rules.specs.ExpertSheet.{tableE}
 
 abbrev named : List ℕ → List ℕ
@@ -131,6 +132,43 @@ pairs n bad = record { area = pair-names n 0; records = pair-records (n - 1) 0 b
 abbrev moo-and-foo : Lent
 moo-and-foo = lent "Moo%%Foo/Bar" (at 0x0003 5 7 ∷ at 0x0001 0 3 ∷ at 0xFFFF 0 255 ∷ []) 2
 
+-- an edit of a text, and of several
+abbrev sub : String → Edit
+sub n = subscribe (text n)
+
+abbrev unsub : String → Edit
+unsub n = unsubscribe (text n)
+
+abbrev subs : List String → List Edit
+subs ns = map sub ns
+
+-- b and d, three free bytes, and two spare records with rubbish in them
+abbrev b-and-d : Lent
+b-and-d = lent "bd???" (at 0x0001 0 1 ∷ at 0x0001 1 1 ∷ at 0xFFFF 9 9 ∷ at 0xFFFF 0 5 ∷ []) 2
+
+-- a row 0002 between rows that exist, its name after theirs; rubbish on both sides, and a spare record
+abbrev b-alone : Lent
+b-alone = lent "%ad%bb%" (at 0x0013 1 1 ∷ at 0x0002 4 2 ∷ at 0x0003 2 1 ∷ at 0xFFFF 3 9 ∷ []) 3
+
+-- INBOX, not subscribed, and room for a row of nine bytes
+abbrev inbox-lent : ℕ → Lent
+inbox-lent f = lent "INBOX?????????" (at f 0 5 ∷ at 0x0000 0 0 ∷ []) 1
+
+-- two free bytes, one, four and two, between names of one byte
+abbrev gaps : List Record → ℕ → String → Lent
+gaps rs n a = lent a (at 0x0001 2 1 ∷ at 0x0001 4 1 ∷ at 0x0001 9 1 ∷ rs) n
+
+-- names with and without a subscription: existing and not, remote, marked, with a use, in quotes, above and below each other
+abbrev subscriptions-table : List ℕ
+subscriptions-table =
+    joined (mailbox 0x0001 "Foo/Bar" ∷ mailbox 0x0003 "Foo/Baz" ∷ mailbox 0x0007 "Foo/x/y" ∷ mailbox 0x0023 "INBOX" ∷ mailbox 0x0002 "INBOX/z"
+    ∷ mailbox 0x0009 "Moo" ∷ mailbox 0x0002 "Moo/\"" ∷ mailbox 0x010B "Q" ∷ mailbox 0x0001 "R" ∷ mailbox 0x0007 "R/r" ∷ mailbox 0x0005 "S" ∷ [])
+
+abbrev lsub-all : List ℕ
+lsub-all =
+    lines ("* LSUB () \"/\" \"Foo/Baz\"" ∷ "* LSUB () \"/\" \"Foo/x/y\"" ∷ "* LSUB () \"/\" \"INBOX\"" ∷ "* LSUB () \"/\" \"INBOX/z\""
+    ∷ "* LSUB () \"/\" \"Moo/\\\"\"" ∷ "* LSUB () \"/\" \"Q\"" ∷ "* LSUB () \"/\" \"R/r\"" ∷ [])
+
 -- flags, row by row: bits 7 and 15, marked with unmarked, and what does not exist
 abbrev pub flags-of-a-row : List Case
 flags-of-a-row =
@@ -198,6 +236,71 @@ records-answered =
     ∷ repliesOver moo-and-foo 16384 (9 ∷ []) (sends "a LIST") (refusal 2)
     ∷ walksOver moo-and-foo 0 16384 8192 8192 (walked 2 (packed (text "Foo/Bar" ∷ [])) (packed (text "Foo" ∷ [])))
     ∷ walksOver (lent "a" (at 0x0001 1 1 ∷ []) 1) 9 16384 8192 8192 (walkRefused 1)
+    ∷ []
+
+-- W6: flags that are set, set again and cleared; rows 0002 that are put in at the front, in the middle and at the end, below a row and above one;
+-- a row 0002 taken out, its record and bytes zero, other spare records and unused bytes as they were; edits that change nothing
+abbrev pub edits-made : List Case
+edits-made =
+    edits b-and-d (sub "b" ∷ []) (leaves (lent "bd???" (at 0x0003 0 1 ∷ at 0x0001 1 1 ∷ at 0xFFFF 9 9 ∷ at 0xFFFF 0 5 ∷ []) 2))
+    ∷ edits (lent "ab" (at 0x0003 0 1 ∷ at 0x0002 1 1 ∷ []) 2) (subs ("a" ∷ "b" ∷ [])) (leaves (lent "ab" (at 0x0003 0 1 ∷ at 0x0002 1 1 ∷ []) 2))
+    ∷ edits (lent "a" (at 0x7F3D 0 1 ∷ []) 1) (sub "a" ∷ []) (leaves (lent "a" (at 0x7F3F 0 1 ∷ []) 1))
+    ∷ edits (lent "a" (at 0x7F3F 0 1 ∷ []) 1) (unsub "a" ∷ []) (leaves (lent "a" (at 0x7F3D 0 1 ∷ []) 1))
+    ∷ edits (lent "a" (at 0x7F3D 0 1 ∷ []) 1) (unsub "a" ∷ []) (leaves (lent "a" (at 0x7F3D 0 1 ∷ []) 1))
+    ∷ edits b-and-d (sub "a" ∷ []) (leaves (lent "bda??" (at 0x0002 2 1 ∷ at 0x0001 0 1 ∷ at 0x0001 1 1 ∷ at 0xFFFF 0 5 ∷ []) 3))
+    ∷ edits b-and-d (sub "c" ∷ []) (leaves (lent "bdc??" (at 0x0001 0 1 ∷ at 0x0002 2 1 ∷ at 0x0001 1 1 ∷ at 0xFFFF 0 5 ∷ []) 3))
+    ∷ edits b-and-d (sub "b/c" ∷ []) (leaves (lent "bdb/c" (at 0x0001 0 1 ∷ at 0x0002 2 3 ∷ at 0x0001 1 1 ∷ at 0xFFFF 0 5 ∷ []) 3))
+    ∷ edits b-and-d (sub "da" ∷ []) (leaves (lent "bdda?" (at 0x0001 0 1 ∷ at 0x0001 1 1 ∷ at 0x0002 2 2 ∷ at 0xFFFF 0 5 ∷ []) 3))
+    ∷ edits (lent "Foo/Bar%%%" (at 0x0001 0 7 ∷ at 0x0001 0 1 ∷ []) 1) (sub "Foo" ∷ []) (leaves (lent "Foo/BarFoo" (at 0x0002 7 3 ∷ at 0x0001 0 7 ∷ []) 2))
+    ∷ edits (lent "??" (at 0x0001 0 1 ∷ []) 0) (sub "a" ∷ []) (leaves (lent "a?" (at 0x0002 0 1 ∷ []) 1))
+    ∷ edits b-alone (unsub "bb" ∷ [])
+    (leaves (record { area = text "%ad%" ++ (0 ∷ 0 ∷ text "%"); records = at 0x0013 1 1 ∷ at 0x0003 2 1 ∷ at 0x0000 0 0 ∷ at 0xFFFF 3 9 ∷ []; count = 2 }))
+    ∷ edits b-alone (unsub "d" ∷ []) (leaves (lent "%ad%bb%" (at 0x0013 1 1 ∷ at 0x0002 4 2 ∷ at 0x0001 2 1 ∷ at 0xFFFF 3 9 ∷ []) 3))
+    ∷ edits b-alone (unsub "b" ∷ unsub "bbb" ∷ unsub "" ∷ unsub "%" ∷ unsub "a/x" ∷ unsub "inbox/" ∷ unsubscribe (times 201 97) ∷ sub "bb" ∷ []) (leaves b-alone)
+    ∷ edits (lent "a" (at 0x0002 0 1 ∷ []) 1) (unsub "a" ∷ []) (leaves (record { area = 0 ∷ []; records = at 0x0000 0 0 ∷ []; count = 0 }))
+    ∷ []
+
+-- a first level INBOX in any case of letters is spelled INBOX, and no other is
+abbrev pub edits-inbox : List Case
+edits-inbox =
+    edits (inbox-lent 0x0001) (subs ("inbox" ∷ "INBOX" ∷ "iNbOx" ∷ [])) (leaves (inbox-lent 0x0003))
+    ∷ edits (inbox-lent 0x0003) (unsub "inbox" ∷ []) (leaves (inbox-lent 0x0001))
+    ∷ edits (inbox-lent 0x0001) (subs ("Inbox/x" ∷ "INBOX/x" ∷ [])) (leaves (lent "INBOXINBOX/x??" (at 0x0001 0 5 ∷ at 0x0002 5 7 ∷ []) 2))
+    ∷ edits (lent "INBOX/x" (at 0x0003 0 7 ∷ []) 1) (unsub "inbox/x" ∷ []) (leaves (lent "INBOX/x" (at 0x0001 0 7 ∷ []) 1))
+    ∷ edits (inbox-lent 0x0001) (sub "inboxx" ∷ []) (leaves (lent "INBOXinboxx???" (at 0x0001 0 5 ∷ at 0x0002 5 6 ∷ []) 2))
+    ∷ edits (inbox-lent 0x0001) (sub "x/inbox" ∷ []) (leaves (lent "INBOXx/inbox??" (at 0x0001 0 5 ∷ at 0x0002 5 7 ∷ []) 2))
+    ∷ edits (inbox-lent 0x0001) (subs ("inbox/" ∷ "Inbox//x" ∷ "/inbox" ∷ [])) (refusedEdit 14)
+    ∷ []
+
+-- 14 for an unlawful name and below a row with no inferiors; 15 for no spare record, for free bytes that are too few or too scattered; 14 before 15;
+-- neither where the name has a row
+abbrev pub edits-refused : List Case
+edits-refused =
+    edits b-and-d (subs ("" ∷ "%" ∷ "a%" ∷ "*" ∷ "/" ∷ "a/" ∷ "/a" ∷ "\u{1f}" ∷ "\u{7f}" ∷ [])) (refusedEdit 14)
+    ∷ edits (lent "" (at 0x0000 0 0 ∷ []) 0) (subscribe (times 201 97) ∷ subscribe (deep 16) ∷ subscribe (128 ∷ []) ∷ []) (refusedEdit 14)
+    ∷ edits (lent "" (at 0x0000 0 0 ∷ []) 0) (subscribe (times 200 97) ∷ subscribe (deep 15) ∷ sub "a" ∷ []) (refusedEdit 15)
+    ∷ edits (lent "a??????" (at 0x0011 0 1 ∷ at 0x0000 0 0 ∷ []) 1) (subs ("a/b" ∷ "a/b/c" ∷ [])) (refusedEdit 14)
+    ∷ edits (lent "a???" (at 0x0011 0 1 ∷ at 0x0000 0 0 ∷ []) 1) (sub "a-b" ∷ []) (leaves (lent "aa-b" (at 0x0011 0 1 ∷ at 0x0002 1 3 ∷ []) 2))
+    ∷ edits (lent "a/b??????" (at 0x0011 0 3 ∷ at 0x0000 0 0 ∷ []) 1) (sub "a" ∷ []) (leaves (lent "a/ba?????" (at 0x0002 3 1 ∷ at 0x0011 0 3 ∷ []) 2))
+    ∷ edits (lent "b?" (at 0x0001 0 1 ∷ []) 1) (subs ("a" ∷ "c" ∷ [])) (refusedEdit 15)
+    ∷ edits (lent "b?" (at 0x0001 0 1 ∷ []) 1) (sub "a%" ∷ sub "" ∷ []) (refusedEdit 14)
+    ∷ edits (lent "a" (at 0x0011 0 1 ∷ []) 1) (sub "a/b" ∷ []) (refusedEdit 14)
+    ∷ edits (lent "b" (at 0x0001 0 1 ∷ []) 1) (sub "b" ∷ []) (leaves (lent "b" (at 0x0003 0 1 ∷ []) 1))
+    ∷ edits b-and-d (subs ("aaaa" ∷ "zzzz" ∷ [])) (refusedEdit 15)
+    ∷ edits (lent "?b??d?" (at 0x0001 1 1 ∷ at 0x0001 4 1 ∷ at 0x0000 0 0 ∷ []) 2) (sub "aaa" ∷ []) (refusedEdit 15)
+    ∷ []
+
+-- the lowest free run that is long enough, the name at its start; bytes free on either side of a freed name, or under spare records, are one run
+abbrev pub edits-layout : List Case
+edits-layout =
+    edits (gaps (at 0xFFFF 0 2 ∷ at 0xFFFF 5 4 ∷ []) 3 "??a?b????c??") (sub "d" ∷ []) (leaves (gaps (at 0x0002 0 1 ∷ at 0xFFFF 5 4 ∷ []) 4 "d?a?b????c??"))
+    ∷ edits (gaps (at 0xFFFF 0 2 ∷ at 0xFFFF 5 4 ∷ []) 3 "??a?b????c??") (sub "dd" ∷ []) (leaves (gaps (at 0x0002 0 2 ∷ at 0xFFFF 5 4 ∷ []) 4 "dda?b????c??"))
+    ∷ edits (gaps (at 0xFFFF 0 2 ∷ at 0xFFFF 5 4 ∷ []) 3 "??a?b????c??") (sub "ddd" ∷ []) (leaves (gaps (at 0x0002 5 3 ∷ at 0xFFFF 5 4 ∷ []) 4 "??a?bddd?c??"))
+    ∷ edits (gaps (at 0xFFFF 0 2 ∷ []) 3 "??a?b????c?????") (sub "ddddd" ∷ []) (leaves (gaps (at 0x0002 10 5 ∷ []) 4 "??a?b????cddddd"))
+    ∷ edits (gaps (at 0xFFFF 0 2 ∷ []) 3 "??a?b????c????") (sub "ddddd" ∷ []) (refusedEdit 15)
+    ∷ edits (record { area = text "a?" ++ (0 ∷ 0 ∷ text "?c"); records = at 0x0001 0 1 ∷ at 0x0001 5 1 ∷ at 0x0000 0 0 ∷ []; count = 2 }) (sub "bbbb" ∷ [])
+    (leaves (lent "abbbbc" (at 0x0001 0 1 ∷ at 0x0002 1 4 ∷ at 0x0001 5 1 ∷ []) 3))
+    ∷ edits (lent "???" (at 0x0000 0 0 ∷ []) 0) (sub "abc" ∷ []) (leaves (lent "abc" (at 0x0002 0 3 ∷ []) 1))
     ∷ []
 
 -- namespace entries: class, prefix length, prefix bytes, delimiter
@@ -326,6 +429,47 @@ abbrev pub inbox-alone : List Case
 inbox-alone =
     replies 16384 (all-named ("INBOX" ∷ "INBOX/x" ∷ [])) [] (sends "a LIST inb (ox ox/% ox/x)")
     (answered (lines ("* LIST () \"/\" \"INBOX\"" ∷ "a OK done" ∷ [])))
+    ∷ []
+
+-- LSUB (W5): subscribed names that match, existing or not, remote too, with no attribute whatever their flags; under a pattern ending in
+-- "%" an unsubscribed candidate, with a row or implied, above a subscribed name that does not match, with \Noselect alone
+abbrev pub lsub-lines : List Case
+lsub-lines =
+    replies 16384 subscriptions-table [] (sends "a LSUB \"\" *")
+    (answered (lsub-all ++ sends "a OK done"))
+    ∷ replies 16384 subscriptions-table [] (sends "a lSuB \"\" %")
+    (answered (lines ("* LSUB (\\Noselect) \"/\" \"Foo\"" ∷ "* LSUB () \"/\" \"INBOX\"" ∷ "* LSUB (\\Noselect) \"/\" \"Moo\""
+    ∷ "* LSUB () \"/\" \"Q\"" ∷ "* LSUB (\\Noselect) \"/\" \"R\"" ∷ "a OK done" ∷ [])))
+    -- the descendant has to be one that does not match: under "*%" each does, and "*" and a name end in no "%"
+    ∷ replies 16384 subscriptions-table [] (sends "a LSUB \"\" *%") (answered (lsub-all ++ sends "a OK done"))
+    ∷ replies 16384 subscriptions-table [] (sends "a LSUB \"\" Foo") (answered (sends "a OK done"))
+    ∷ replies 16384 subscriptions-table [] (sends "a LSUB Fo o%")
+    (answered (lines ("* LSUB (\\Noselect) \"/\" \"Foo\"" ∷ "a OK done" ∷ [])))
+    ∷ replies 16384 subscriptions-table [] (sends "a LSUB Foo/ %")
+    (answered (lines ("* LSUB () \"/\" \"Foo/Baz\"" ∷ "* LSUB (\\Noselect) \"/\" \"Foo/x\"" ∷ "a OK done" ∷ [])))
+    -- INBOX in any case of letters; a subscribed INBOX above a subscribed name is given once
+    ∷ replies 16384 subscriptions-table [] (sends "a LSUB \"\" in%") (answered (lines ("* LSUB () \"/\" \"INBOX\"" ∷ "a OK done" ∷ [])))
+    -- an implied INBOX
+    ∷ replies 16384 (mailbox 0x0003 "INBOX/x") [] (sends "a LSUB i \"N%\"") (answered (lines ("* LSUB (\\Noselect) \"/\" \"INBOX\"" ∷ "a OK done" ∷ [])))
+    ∷ []
+
+-- LSUB takes a reference and a single pattern: 4 for a selection, parentheses, RETURN or a second pattern; 8 for a canonical pattern of 256
+-- bytes; an empty pattern lists nothing and gives no root line, however long the reference is. NAMESPACE and LIST stay what they were.
+abbrev pub lsub-grammar : List Case
+lsub-grammar =
+    refuses 4 (map sends ("a LSUB" ∷ "a LSUB \"\"" ∷ "a LSUB \"\" " ∷ "a LSUB \"\" (%)" ∷ "a LSUB () \"\" %" ∷ "a LSUB (SUBSCRIBED) \"\" %"
+    ∷ "a LSUB \"\" % RETURN ()" ∷ "a LSUB \"\" % %" ∷ "a LSUB \"\" % " ∷ "a LSUB  \"\" %" ∷ "a LSUB % %" ∷ "a LSUB(\"\" %" ∷ []))
+    ∷ refuses 5 (map sends ("a LSUBS \"\" %" ∷ "a LSU \"\" %" ∷ "a LSUB+ \"\" %" ∷ []))
+    ∷ replies 16384 tableE [] (text "a LSUB \"ab\" " ++ (times 253 120 ++ crlf)) (answered (sends "a OK done"))
+    ∷ replies 16384 tableE [] (text "a LSUB \"ab\" " ++ (times 254 120 ++ crlf)) (refusal 8)
+    ∷ replies 16384 tableE [] (text "a LSUB " ++ (times 300 120 ++ sends " \"\"")) (answered (sends "a OK done"))
+    ∷ replies 16384 tableE [] (sends "a LSUB \"\" \"\"") (answered (sends "a OK done"))
+    ∷ replies 16384 tableE [] (lines ("a LSUB {4}" ∷ "Foo/ {1}" ∷ "%" ∷ [])) (answered (lines ("* LSUB () \"/\" \"Foo/Baz\"" ∷ "a OK done" ∷ [])))
+    -- 9 as for LIST
+    ∷ replies 36 tableE [] (sends "a LSUB \"\" *") (answered (lines ("* LSUB () \"/\" \"Foo/Baz\"" ∷ "a OK done" ∷ [])))
+    ∷ replies 35 tableE [] (sends "a LSUB \"\" *") (refusal 9)
+    -- an LSUB line is none that the reader takes
+    ∷ reads (sends "* LIST () \"/\" \"a\"") (line plain (text "a") none-named) (map sends ("* LSUB () \"/\" \"a\"" ∷ "* LSUB (\\Noselect) \"/\" \"a\"" ∷ []))
     ∷ []
 
 -- NAMESPACE

@@ -88,10 +88,12 @@ criteriaText c = spaced (chosen (c .subscribed ∷ c .special ∷ []) criteriaNa
 unfoldable pub childInfoText : Criteria → List ℕ
 childInfoText c = cond (isNone c) [] (text " (\"CHILDINFO\" (" ++ (criteriaText c ++ text "))"))
 
--- "Line: `* LIST (attributes) "/" "name"`, then perhaps ` ("CHILDINFO" ("SUBSCRIBED"))`, CR LF."
+-- "Line: `* LIST (attributes) "/" "name"`, then perhaps ` ("CHILDINFO" ("SUBSCRIBED"))`, CR LF." `start` has the line's word.
+unfoldable pub wordLine : List ℕ → List Bool → List ℕ → Criteria → List ℕ
+wordLine start bs n c = start ++ (spaced (chosen bs attributeNames) ++ (text ") \"/\" " ++ (quoted n ++ (childInfoText c ++ crlf))))
+
 unfoldable pub listLine : List Bool → List ℕ → Criteria → List ℕ
-listLine bs n c =
-    text "* LIST (" ++ (spaced (chosen bs attributeNames) ++ (text ") \"/\" " ++ (quoted n ++ (childInfoText c ++ crlf))))
+listLine bs n c = wordLine (text "* LIST (") bs n c
 
 -- "Root line: `* LIST (\Noselect) "/" ""`."
 unfoldable pub rootLine : List ℕ

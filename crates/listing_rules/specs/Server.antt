@@ -9,9 +9,10 @@ use Rattle.listing_rules.specs.Lists.{joined}
 use Rattle.listing_rules.specs.Table.{Row, Table, rows, passes}
 use Rattle.listing_rules.specs.Namespaces.{Entry, entries, namespacesPass, ofClass}
 use Rattle.listing_rules.specs.Options.{Options}
-use Rattle.listing_rules.specs.Command.{Parsed, refused, namespace, listing, rootOf, parsed}
+use Rattle.listing_rules.specs.Command.{Parsed, refused, namespace, listing, rootOf, subscriptions, parsed}
 use Rattle.listing_rules.specs.Listing.{listedNames, attributes, childInfo}
 use Rattle.listing_rules.specs.Lines.{listLine, rootLine, okLine, quoted}
+use Rattle.listing_rules.specs.Lsub.{lsubNames, lsubLine}
 
 -- a number of refusal, or the bytes of an answer
 pub data Reply : Type 0 where
@@ -25,6 +26,10 @@ lineOf rs o ps n = listLine (attributes rs o ps n) n (childInfo rs o n)
 -- the LIST lines, then the tagged line
 unfoldable pub listAnswer : List Row → List ℕ → Options → List (List ℕ) → List ℕ
 listAnswer rs tag o ps = joined (map (lineOf rs o ps) (listedNames rs o ps)) ++ okLine tag
+
+-- the LSUB lines, then the tagged line
+unfoldable pub lsubAnswer : List Row → List ℕ → List (List ℕ) → List ℕ
+lsubAnswer rs tag ps = joined (map (lsubLine rs) (lsubNames rs ps)) ++ okLine tag
 
 -- "a delimiter is quoted or NIL"
 unfoldable pub delimiterText : ℕ → List ℕ
@@ -49,6 +54,7 @@ answerTo rs es (refused k) = refusal k
 answerTo rs es (namespace tag) = answered (namespaceAnswer es tag)
 answerTo rs es (listing tag o ps) = answered (listAnswer rs tag o ps)
 answerTo rs es (rootOf tag) = answered (rootLine ++ okLine tag)
+answerTo rs es (subscriptions tag ps) = answered (lsubAnswer rs tag ps)
 
 -- "Server order: 1, 2, 3, tag 4, 5, rest 4, 6, 7, 8, 9." The first eight:
 unfoldable pub answer : Table → List ℕ → List ℕ → Reply

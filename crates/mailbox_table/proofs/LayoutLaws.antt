@@ -1,7 +1,7 @@
 -- Names without overlap, by a map of used bytes: the marks of one name, the loop over the names, and that two names of which neither is
 -- empty are apart exactly if no byte belongs to both. Rests on the laws of records in listing_rules.
 use mathlib.Core.Path.{_≡_, refl, sym, ap, _∙_}
-use mathlib.Core.Bool.{Bool, true, false, _&&_, _||_, false≢true}
+use mathlib.Core.Bool.{Bool, true, false, _&&_, _||_, not, false≢true}
 use mathlib.Core.List.{List, [], _∷_, _++_, map, map-append}
 use mathlib.Core.Logic.{_⊎_, inl, inr, ⊎-elim}
 use Prim.Native.Nat.{ℕ, zero, suc, _+_, _≤_, _<_}
@@ -38,39 +38,46 @@ module _ (start len k : ℕ) where
       go true p d = inr (ltb-false k (start + len) d)
       go false p d = inl (leb-false start k p)
 
--- The loop over a name's bytes: those before k were free and are marked, the others are as they were.
-pub record Marking (before : List Bool) (start len : ℕ) (used : List Bool) (k : ℕ) : Type 0 where
+-- what was seen of the bytes before k: one that was marked, or that none was
+abbrev pub Seen : List Bool → ℕ → ℕ → Bool → Type 0
+Seen before start k true = (j : ℕ) × (start ≤ j) × (j < k) × (getD before j false ≡ true)
+Seen before start k false = (j : ℕ) → start ≤ j → j < k → getD before j false ≡ false
+
+-- The loop over a name's bytes: those before k are marked and were seen, the others are as they were.
+pub record Marking (before : List Bool) (start len : ℕ) (used : List Bool) (taken : Bool) (k : ℕ) : Type 0 where
   pub low : start ≤ k
   pub high : k ≤ start + len
   pub size : length used ≡ length before
-  pub free : (j : ℕ) → start ≤ j → j < k → getD before j false ≡ false
+  pub seen : Seen before start k taken
   pub marked : (j : ℕ) → start ≤ j → j < k → getD used j false ≡ true
   pub others : (j : ℕ) → (j < start) ⊎ (k ≤ j) → getD used j false ≡ getD before j false
 
-pub marking-none : (used : List Bool) (start len : ℕ) → Marking used start len used start
+pub marking-none : (used : List Bool) (start len : ℕ) → Marking used start len used false start
 marking-none used start len =
-    record { low = omega arith; high = omega arith; size = refl; free = λ j h g. absurd (omega arith); marked = λ j h g. absurd (omega arith); others = λ j h. refl }
+    record { low = omega arith; high = omega arith; size = refl; seen = λ j h g. absurd (omega arith); marked = λ j h g. absurd (omega arith); others = λ j h. refl }
 
-module _ {before : List Bool} {start len : ℕ} {used : List Bool} {k : ℕ} (c : Marking before start len used k) where
-  -- a byte that is marked already
-  pub marking-hit : k < start + len → getD used k false ≡ true → Marked before used start len false
-  marking-hit h e = (k, covers-in start len k (c .low) h, sym (c .others k (inr (omega arith))) ∙ e)
+-- one byte more is seen
+seen-more : (before : List Bool) (start k : ℕ) (taken b : Bool) → start ≤ k → getD before k false ≡ b → Seen before start k taken → Seen before start (k + 1) (taken || b)
+seen-more before start k true b h e s = (s .0, s .1, omega (arith, s .2), s .3)
+seen-more before start k false true h e s = (k, h, omega arith, e)
+seen-more before start k false false h e s = λ j a b. go j a b (decLe k j)
+  where
+    go : (j : ℕ) → start ≤ j → j < k + 1 → Dec (k ≤ j) → getD before j false ≡ false
+    go j a b (yes d) = let w : j ≡ k = omega arith in rw w e
+    go j a b (no d) = s j a (omega arith)
 
-  pub marking-more : k < start + len → k < length used → getD used k false ≡ false → Marking before start len (set used k true) (k + 1)
-  marking-more h l e =
+module _ {before : List Bool} {start len : ℕ} {used : List Bool} {taken : Bool} {k : ℕ} (c : Marking before start len used taken k) where
+  pub marking-more : k < start + len → k < length used → Marking before start len (set used k true) (taken || getD used k false) (k + 1)
+  marking-more h l =
       record {
         low = omega (arith, c .low);
         high = omega arith;
         size = length-set used k true ∙ c .size;
-        free = λ j a b. free-more j a b (decLe k j);
+        seen = seen-more before start k taken (getD used k false) (c .low) (sym (c .others k (inr (omega arith)))) (c .seen);
         marked = λ j a b. marked-more j a b (ℕ-discrete j k);
         others = λ j a. getD-set-other used k j true false (differs j a) ∙ c .others j (beyond j a);
       }
     where
-      free-more : (j : ℕ) → start ≤ j → j < k + 1 → Dec (k ≤ j) → getD before j false ≡ false
-      free-more j a b (yes d) = let w : j ≡ k = omega arith in rw w (sym (c .others k (inr (omega arith))) ∙ e)
-      free-more j a b (no d) = c .free j a (omega arith)
-
       marked-more : (j : ℕ) → start ≤ j → j < k + 1 → Dec (j ≡ k) → getD (set used k true) j false ≡ true
       marked-more j a b (yes d) = rw d (getD-set-same used k true false l)
       marked-more j a b (no d) = getD-set-other used k j true false d ∙ c .marked j a (omega arith)
@@ -83,12 +90,9 @@ module _ {before : List Bool} {start len : ℕ} {used : List Bool} {k : ℕ} (c 
       beyond j (inl a) = inl a
       beyond j (inr a) = inr (omega arith)
 
-  pub marking-done : start + len ≤ k → Marked before used start len true
-  marking-done h = (c .size, λ j e. all-free j (covers-true start len j e), λ j. there j (covers start len j) refl)
+  pub marking-done : start + len ≤ k → Marked before used start len (not taken)
+  marking-done h = go taken (c .seen)
     where
-      all-free : (j : ℕ) → (start ≤ j) × (j < start + len) → getD before j false ≡ false
-      all-free j w = c .free j (w .0) (omega (arith, w .1))
-
       there : (j : ℕ) (o : Bool) → covers start len j ≡ o → getD used j false ≡ (o || getD before j false)
       there j true e = let w = covers-true start len j e in c .marked j (w .0) (omega (arith, w .1))
       there j false e = c .others j (past j (covers-false start len j e))
@@ -96,6 +100,13 @@ module _ {before : List Bool} {start len : ℕ} {used : List Bool} {k : ℕ} (c 
           past : (j : ℕ) → (j < start) ⊎ (start + len ≤ j) → (j < start) ⊎ (k ≤ j)
           past j (inl a) = inl a
           past j (inr a) = inr (omega (arith, c .high))
+
+      go : (o : Bool) → Seen before start k o → Marked before used start len (not o)
+      go true s = (s .0, covers-in start len (s .0) (s .1) (omega (arith, s .2, c .high)), s .3)
+      go false s = (c .size, λ j e. free j (covers-true start len j e), λ j. there j (covers start len j) refl)
+        where
+          free : (j : ℕ) → (start ≤ j) × (j < start + len) → getD before j false ≡ false
+          free j w = s j (w .0) (omega (arith, w .1))
 
 -- a byte that belongs to the name of a record, and to a name of some
 abbrev pub coveredBy : ℕ → Record → Bool

@@ -1,7 +1,7 @@
 -- What a caller has who turned a packed table into records. Rests on RecordLaws of listing_rules.
-use mathlib.Core.Path.{_≡_, refl, sym, ap, _∙_}
-use mathlib.Core.Bool.{Bool, true, false, cond, false≢true}
-use mathlib.Core.List.{List, map}
+use mathlib.Core.Path.{_≡_, refl, sym, _∙_}
+use mathlib.Core.Bool.{Bool, true, false, false≢true}
+use mathlib.Core.List.{List}
 use mathlib.Core.Option.{none, some}
 use Prim.Native.Nat.{ℕ, _≤_, min}
 use native.Mathlib.Omega.{arith}
@@ -9,9 +9,8 @@ use lib.Dec.{leb}
 use lib.ListN.{length, take, length-take}
 use borrow.Author.Tests.{le-leb, leb-true}
 use Rattle.listing_rules.specs.Table.{Row, Table, passes, rowsPass, packedRows, rowsFill, packedTable}
-use Rattle.listing_rules.specs.Records.{Record, recordTable, packedRecords}
-use Rattle.listing_rules.proofs.Bools.{and-l, and-r}
-use Rattle.listing_rules.proofs.Passes.{rows-parts, packed-none}
+use Rattle.listing_rules.specs.Records.{recordTable, packedRecords}
+use Rattle.listing_rules.proofs.Passes.{rows-parts}
 use Rattle.listing_rules.proofs.RecordLaws.{packed-count, records-of-packed}
 use Rattle.records.specs.Lent.{wordTable}
 use Rattle.mailbox_table.specs.declared.Indexing.the-variants.{Rows, Fails}

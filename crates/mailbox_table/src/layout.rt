@@ -27,21 +27,21 @@ pub(crate) fn lie_apart(words: &[u64]) -> bool
     true
 }
 
-// Marks the bytes of a name, and answers whether none of them was marked.
+// Marks the bytes of a name, and answers whether none of them was marked. The loop has no way out before its end, so that the machine can
+// take many bytes at a time.
 fn mark_name(used: &mut [bool; MAX_BYTES], start: usize, len: usize) -> bool
     requires { ⌜ Maps (now used) start len ⌝ }
     ensures { λ r. ⌜ Marked (now (used .entry)) (now (used .exit)) start len r ⌝ }
 {
     let end = start + len;
+    let mut taken = false;
     let mut k = start;
     while k < end {
-        if used[k] {
-            return false;
-        }
+        taken = taken | used[k];
         used[k] = true;
         k += 1;
     }
-    true
+    !taken
 }
 
 fn no_marks() -> [bool; MAX_BYTES]

@@ -1,2 +1,3 @@
--- Laws of the shape of a name.
+-- Laws of the shape of a name, and of INBOX.
 pub mod NameShape
+pub mod Inbox

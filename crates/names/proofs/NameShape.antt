@@ -1,22 +1,20 @@
--- The shape of a name, as the loops over its bytes see it: slashes and levels, INBOX's spelling, and the parts of a lawful name one by
--- one. Rests on octets' laws of comparing.
-use mathlib.Core.Path.{_≡_, refl, sym, ap, _∙_}
-use mathlib.Core.Bool.{Bool, true, false, cond, not, _&&_, _||_, and-assoc, and-false, or-false}
-use mathlib.Core.List.{List, [], _∷_, map}
+-- The shape of a name, as the loops over its bytes see it: slashes and levels, and the parts of a lawful name one by one. Rests on
+-- nothing.
+use mathlib.Core.Path.{_≡_, refl, ap}
+use mathlib.Core.Bool.{Bool, true, false, cond, not, _&&_, and-assoc, and-false}
+use mathlib.Core.List.{List, [], _∷_}
 use Prim.Native.Nat.{ℕ, zero, suc, _+_, _-_, _≤_, _<_}
 use native.Mathlib.Numerals.{add-one}
 use native.Mathlib.Omega.{arith}
 use lib.Dec.{eqb, lit≤}
-use lib.ListN.{length, take, drop, getD, drop-of-length-le, length-take, length-drop}
+use lib.ListN.{length, drop, getD, drop-of-length-le, length-drop}
 use lib.Seq.{drop-cons}
 use mir.Val.{boolByte}
-use borrow.Author.Tests.{eq-eqb, ne-eqb, eqb-true, eqb-false, le-leb, lt-leb}
-use Rattle.listing_rules.specs.Bytes.{slash, within, all, same, raise, raised, spells}
-use Rattle.listing_rules.proofs.Keys.{openBytes}
+use borrow.Author.Tests.{eq-eqb, ne-eqb, le-leb, lt-leb}
+use Rattle.listing_rules.specs.Bytes.{slash, within, all}
 use Rattle.listing_rules.specs.Lists.{every, onFirst}
-use Rattle.listing_rules.specs.Names.{levels, isFull, inbox, inboxSpelled, lawfulName, nameByte}
+use Rattle.listing_rules.specs.Names.{levels, isFull, inboxSpelled, lawfulName, nameByte}
 use Rattle.names.specs.Slashes.{slashCount, noPair}
-use Rattle.octets.proofs.Same.{spells-lengths}
 
 pub digit-small : (b : Bool) → boolByte b ≤ 1
 digit-small true = lit≤ tt
@@ -149,115 +147,6 @@ levels-full (b ∷ t) h = rw place (go (eqb b 47) refl)
     go : (o : Bool) → eqb b 47 ≡ o → every isFull (levels (b ∷ t)) ≡ (not o && (noPair (b ∷ t) && not (eqb (getD (b ∷ t) (length t) 0) 47)))
     go true e = rw (at-slash b t e) (full-none (levels t))
     go false e = rw (at-byte b t e, full-first b (levels t)) (full-behind b t e)
-
--- the first level, and whether the name or its first level ends here
-unfoldable firstLevel : List ℕ → List ℕ
-firstLevel [] = []
-firstLevel (b ∷ t) = let r = firstLevel t in cond (eqb b 47) [] (b ∷ r)
-
-unfoldable pub endsHere : List ℕ → Bool
-endsHere [] = true
-endsHere (b ∷ t) = eqb b 47
-
-levels-first : (s : List ℕ) → (ls : List (List ℕ)) × (levels s ≡ firstLevel s ∷ ls)
-unfolding levels slash firstLevel onFirst
-levels-first [] = ([], refl)
-levels-first (b ∷ t) = go (eqb b 47) (levels-first t)
-  where
-    go : (o : Bool) → (ls : List (List ℕ)) × (levels t ≡ firstLevel t ∷ ls) → (ls : List (List ℕ)) × (cond o ([] ∷ levels t) (onFirst b (levels t)) ≡ cond o [] (b ∷ firstLevel t) ∷ ls)
-    go true w = (levels t, refl)
-    go false w = (w .0, rw (w .1))
-
-raised-map : (s : List ℕ) → raised s ≡ map raise s
-unfolding raised
-raised-map [] = refl
-raised-map (b ∷ t) = ap (λ (l : List ℕ). raise b ∷ l) (raised-map t)
-
-map-id : (s : List ℕ) → map (λ b. b) s ≡ s
-map-id [] = refl
-map-id (b ∷ t) = ap (λ (l : List ℕ). b ∷ l) (map-id t)
-
--- a word without a slash is the first level exactly if the name begins with it and the level ends there
-first-is : (f : ℕ → ℕ) → f 47 ≡ 47 → (word s : List ℕ) → slashCount word ≡ 0 → same (map f (firstLevel s)) word ≡ (same (map f (take (length word) s)) word && endsHere (drop (length word) s))
-unfolding same firstLevel endsHere slashCount slash
-first-is f h [] [] g = refl
-first-is f h [] (b ∷ t) g = go (eqb b 47)
-  where
-    go : (o : Bool) → same (map f (cond o [] (b ∷ firstLevel t))) [] ≡ o
-    go true = refl
-    go false = refl
-first-is f h (w ∷ ws) [] g = refl
-first-is f h (w ∷ ws) (b ∷ t) g = go (eqb w 47) (eqb b 47) refl refl g (first-is f h ws t)
-  where
-    go : (u o : Bool) → eqb w 47 ≡ u → eqb b 47 ≡ o → cond u (suc (slashCount ws)) (slashCount ws) ≡ 0
-        → (slashCount ws ≡ 0 → same (map f (firstLevel t)) ws ≡ (same (map f (take (length ws) t)) ws && endsHere (drop (length ws) t)))
-        → same (map f (cond o [] (b ∷ firstLevel t))) (w ∷ ws) ≡ (same (map f (b ∷ take (length ws) t)) (w ∷ ws) && endsHere (drop (length ws) t))
-    go true o d e z ih = absurd (omega arith)
-    go false false d e z ih = rw (ih z) (sym (and-assoc (eqb (f b) w) (same (map f (take (length ws) t)) ws) (endsHere (drop (length ws) t))))
-    go false true d e z ih = rw (differ e d)
-      where
-        differ : eqb b 47 ≡ true → eqb w 47 ≡ false → eqb (f b) w ≡ false
-        differ p q = ne-eqb (f b) w (λ k. eqb-false w 47 q (sym k ∙ ap f (eqb-true b 47 p) ∙ h))
-
-slash-raised : raise 47 ≡ 47
-unfolding openBytes
-slash-raised = refl
-
-inbox-slashes : slashCount inbox ≡ 0
-unfolding openBytes slashCount inbox
-inbox-slashes = refl
-
-inbox-length : length inbox ≡ 5
-unfolding openBytes inbox
-inbox-length = refl
-
-first-spells : (s : List ℕ) → spells (firstLevel s) inbox ≡ (spells (take 5 s) inbox && endsHere (drop 5 s))
-unfolding spells
-first-spells s =
-    rw (raised-map (firstLevel s), raised-map (take 5 s), first-is raise slash-raised inbox s inbox-slashes, inbox-length)
-
-first-same : (s : List ℕ) → same (firstLevel s) inbox ≡ (same (take 5 s) inbox && endsHere (drop 5 s))
-first-same s =
-    ap (λ (l : List ℕ). same l inbox) (sym (map-id (firstLevel s))) ∙ first-is (λ b. b) refl inbox s inbox-slashes ∙ rw (inbox-length, map-id (take 5 s))
-
-inbox-first : (l : List ℕ) (ls : List (List ℕ)) → inboxSpelled (l ∷ ls) ≡ (not (spells l inbox) || same l inbox)
-unfolding inboxSpelled
-inbox-first l ls = refl
-
--- The rule for INBOX, in terms of the first five bytes and of what stands behind them.
-inbox-five : (s : List ℕ) → inboxSpelled (levels s) ≡ (not (spells (take 5 s) inbox && endsHere (drop 5 s)) || (same (take 5 s) inbox && endsHere (drop 5 s)))
-inbox-five s =
-    let w = levels-first s in
-    rw (w .1, inbox-first (firstLevel s) (w .0), first-spells s, first-same s)
-
-module _ (s : List ℕ) where
-  -- another first level
-  pub inbox-other : spells (take 5 s) inbox ≡ false → inboxSpelled (levels s) ≡ true
-  inbox-other e = rw (inbox-five s, e)
-
-  pub inbox-same : same (take 5 s) inbox ≡ true → inboxSpelled (levels s) ≡ true
-  inbox-same e = rw (inbox-five s, e) (go (spells (take 5 s) inbox) (endsHere (drop 5 s)))
-    where
-      go : (a b : Bool) → (not (a && b) || b) ≡ true
-      go true true = refl
-      go true false = refl
-      go false b = refl
-
-  -- another spelling
-  pub inbox-misspelled : spells (take 5 s) inbox ≡ true → same (take 5 s) inbox ≡ false → inboxSpelled (levels s) ≡ not (endsHere (drop 5 s))
-  inbox-misspelled e d = rw (inbox-five s, e, d) (or-false (not (endsHere (drop 5 s))))
-
-pub ends-at : (s : List ℕ) (i : ℕ) → i < length s → endsHere (drop i s) ≡ eqb (getD s i 0) 47
-unfolding endsHere
-ends-at s i h = rw (drop-cons s i 0 h)
-
-pub ends-behind : (s : List ℕ) (i : ℕ) → length s ≤ i → endsHere (drop i s) ≡ true
-unfolding endsHere
-ends-behind s i h = rw (drop-of-length-le s h)
-
--- fewer bytes spell no INBOX
-pub inbox-short : (s : List ℕ) → length s < 5 → spells (take 5 s) inbox ≡ false
-inbox-short s h = spells-lengths (take 5 s) inbox (λ e. omega (arith, inbox-length, length-take 5 s))
 
 -- the parts of a lawful name, one by one as they are tested
 module _ (s : List ℕ) where

@@ -1,8 +1,9 @@
-// Mailbox names: whether a run of bytes has the shape of one, its levels and INBOX's spelling with it.
+// Mailbox names: whether a run of bytes has the shape of one, its levels and INBOX's spelling with it; and INBOX spelled INBOX.
 //
 // Each condition is a loop over the whole name that keeps a bool or a count and never leaves early, so that it runs on many
 // bytes at a time.
 use octets::SLASH;
+use octets::put_all;
 use octets::same_bytes;
 use octets::spells_word;
 ghost use mathlib.Core.Path.{_≡_};
@@ -10,7 +11,9 @@ ghost use Prim.Native.Nat.{_≤_};
 ghost use lib.ListN.{length};
 ghost use Rattle.listing_rules.specs.Bytes.{all};
 ghost use Rattle.listing_rules.specs.Names.{lawfulName, nameByte, levels, inboxSpelled};
+ghost use Rattle.listing_rules.specs.Subscriptions.{spelled};
 ghost use Rattle.names.specs.Slashes.{slashCount, noPair};
+ghost use Rattle.names.specs.Inbox.{inboxFirst};
 
 pub const MAX_NAME: usize = 200;
 
@@ -44,6 +47,16 @@ pub fn lawful_name(name: &[u8]) -> bool
         return false;
     }
     inbox_spelled(name)
+}
+
+// A name whose first level is INBOX in any case of letters is spelled INBOX; another stays as it is, lawful or not.
+pub fn spell(name: &mut [u8])
+    ensures { λ _. ⌜ now (name .exit) ≡ spelled (now (name .entry)) ⌝ }
+{
+    if !inbox_first(name) {
+        return;
+    }
+    put_all(name, 0, b"INBOX");
 }
 
 // Whether it is a byte of names.
@@ -93,23 +106,28 @@ fn no_pair(name: &[u8]) -> bool
     ok
 }
 
-// Whether a first level INBOX, in any case of letters, is spelled INBOX. Another spelling is lawful only where the level goes
-// on after it.
+// Whether the first level is INBOX in any case of letters: the name begins so, and the level ends there.
+fn inbox_first(name: &[u8]) -> bool
+    ensures { λ r. ⌜ r ≡ inboxFirst (now (name .entry)) ⌝ }
+{
+    if name.len() < 5 {
+        return false;
+    }
+    if !spells_word(&name[..5], b"INBOX") {
+        return false;
+    }
+    if name.len() == 5 {
+        return true;
+    }
+    name[5] == SLASH
+}
+
+// Whether a first level INBOX, in any case of letters, is spelled INBOX.
 fn inbox_spelled(name: &[u8]) -> bool
     ensures { λ r. ⌜ r ≡ inboxSpelled (levels (now (name .entry))) ⌝ }
 {
-    if name.len() < 5 {
+    if !inbox_first(name) {
         return true;
     }
-    let first = &name[..5];
-    if !spells_word(first, b"INBOX") {
-        return true;
-    }
-    if same_bytes(first, b"INBOX") {
-        return true;
-    }
-    if name.len() == 5 {
-        return false;
-    }
-    name[5] != SLASH
+    same_bytes(&name[..5], b"INBOX")
 }

@@ -18,7 +18,7 @@ use Rattle.listing_rules.specs.Bytes.{text, spells, isEmpty}
 use Rattle.listing_rules.specs.Lists.{every, joined}
 use Rattle.listing_rules.specs.Tokens.{Got, after, run, run₁, tagByte, atomByte}
 use Rattle.listing_rules.specs.Options.{Options, lawfulOptions}
-use Rattle.listing_rules.specs.Command.{Parsed, listing, refused, namespace, rootOf, ListArgs, parsed, lineText, tagged, worded, judged, orRefuse, listArgs, fewPatterns, canonical, asksRoot, optionsOf, knownIn, selectionWords, returnWords}
+use Rattle.listing_rules.specs.Command.{Parsed, listing, refused, namespace, rootOf, subscriptions, ListArgs, LsubArgs, lsubArgs, judgedLsub, parsed, lineText, tagged, worded, judged, orRefuse, listArgs, fewPatterns, canonical, asksRoot, optionsOf, knownIn, selectionWords, returnWords}
 use Rattle.listing_rules.specs.Walk.{packed}
 use Rattle.listing_rules.proofs.Bools.{and-l, and-r}
 use Rattle.octets.specs.Put.{Put}
@@ -105,6 +105,7 @@ Carries (refused k) = Unit {0}
 Carries (namespace tag) = Unit {0}
 Carries (listing tag o ps) = Few ps
 Carries (rootOf tag) = Unit {0}
+Carries (subscriptions tag ps) = Few ps × (length ps ≤ 1)
 
 judged-few : (tag : List ℕ) (a : ListArgs) → Carries (judged tag a)
 unfolding judged
@@ -121,6 +122,20 @@ judged-few tag a =
       brief = and-r (leb (length (a .pats)) 8) (every (λ p. leb (length p) 255) (canonical (a .reference) (a .pats))) e;
     }
 
+lsub-few : (tag : List ℕ) (a : LsubArgs) → Carries (judgedLsub tag a)
+unfolding judgedLsub
+lsub-few tag a = go (every (λ p. leb (length p) 255) ps) refl
+  where
+    ps : List (List ℕ)
+    ps = canonical (a .reference) (a .pat ∷ [])
+
+    one : length ps ≤ 1
+    one = omega (arith, canonical-few (a .reference) (a .pat ∷ []))
+
+    go : (b : Bool) → every (λ p. leb (length p) 255) ps ≡ b → Carries (cond b (subscriptions tag ps) (refused 8))
+    go true e = (record { few = omega (arith, one); brief = e }, one)
+    go false e = tt
+
 or-carries : {A : Type 0} (k : ℕ) (x : Option A) (f : A → Parsed) → ((a : A) → Carries (f a)) → Carries (orRefuse k x f)
 unfolding orRefuse
 or-carries k none f h = tt
@@ -128,13 +143,17 @@ or-carries k (some a) f h = h a
 
 worded-few : (tag : List ℕ) (w : Got (List ℕ)) → Carries (worded tag w)
 unfolding worded
-worded-few tag w = go (spells (w .val) (text "LIST")) (spells (w .val) (text "NAMESPACE")) (isEmpty (w .rest))
+worded-few tag w = go (spells (w .val) (text "LIST")) (spells (w .val) (text "NAMESPACE")) (spells (w .val) (text "LSUB")) (isEmpty (w .rest))
   where
-    go : (l n e : Bool) → Carries (cond l (orRefuse 4 (listArgs (w .rest)) (judged tag)) (cond n (cond e (namespace tag) (refused 4)) (refused 5)))
-    go true n e = or-carries 4 (listArgs (w .rest)) (judged tag) (judged-few tag)
-    go false true true = tt
-    go false true false = tt
-    go false false e = tt
+    lsub : Parsed
+    lsub = orRefuse 4 (lsubArgs (w .rest)) (judgedLsub tag)
+
+    go : (l n s e : Bool) → Carries (cond l (orRefuse 4 (listArgs (w .rest)) (judged tag)) (cond n (cond e (namespace tag) (refused 4)) (cond s lsub (refused 5))))
+    go true n s e = or-carries 4 (listArgs (w .rest)) (judged tag) (judged-few tag)
+    go false true s true = tt
+    go false true s false = tt
+    go false false true e = or-carries 4 (lsubArgs (w .rest)) (judgedLsub tag) (lsub-few tag)
+    go false false false e = tt
 
 parsed-few : (l : List ℕ) → Carries (parsed l)
 unfolding parsed tagged
@@ -145,6 +164,9 @@ parsed-few l =
 
 pub listing-few : (l tag : List ℕ) (o : Options) (ps : List (List ℕ)) → parsed l ≡ listing tag o ps → Few ps
 listing-few l tag o ps e = rw e at (parsed-few l)
+
+pub subscriptions-few : (l tag : List ℕ) (ps : List (List ℕ)) → parsed l ≡ subscriptions tag ps → Few ps × (length ps ≤ 1)
+subscriptions-few l tag ps e = rw e at (parsed-few l)
 
 -- eight patterns with their length bytes take 2,048 bytes at most
 pub packed-few : (ps : List (List ℕ)) → every (λ p. leb (length p) 255) ps ≡ true → length (packed ps) ≤ 256 * length ps

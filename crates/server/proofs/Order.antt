@@ -1,8 +1,8 @@
 -- The refusals in document 01's order, and the reply to a command by its kind. Rests on Inputs.
 use mathlib.Core.Path.{_≡_, refl, sym, ap, _∙_}
-use mathlib.Core.Bool.{true, false, cond}
+use mathlib.Core.Bool.{true, false}
 use mathlib.Core.List.{List}
-use Prim.Native.Nat.{ℕ}
+use Prim.Native.Nat.{ℕ, _≤_}
 use lib.ListN.{length}
 use Rattle.listing_rules.specs.Table.{Table, rows, passes}
 use Rattle.listing_rules.specs.Namespaces.{entries, namespacesPass}
@@ -11,14 +11,14 @@ use Rattle.listing_rules.specs.Server.{refusal, answer, answerTo, limited, serv
 use Rattle.octets.specs.Written.{writtenIs, Gives}
 use Rattle.octets.specs.declared.Written.the-variants.{Refused}
 use Rattle.command_line.specs.declared.Kind.{Kind}
-use Rattle.command_line.specs.declared.Kind.the-variants.{Root, Namespace, List as Listing, Refused as Refusal}
+use Rattle.command_line.specs.declared.Kind.the-variants.{Root, Namespace, List as Listing, Lsub, Refused as Refusal}
 use Rattle.command_line.specs.declared.Command.{Command}
 use Rattle.command_line.specs.OptionSets.{optionsIs}
 use Rattle.command_line.specs.Commands.{meaning, meaningAs, patternsOf}
 use Rattle.command_line.specs.Spans.{spanBytes}
 use Rattle.mailbox_table.specs.Index.{rowsAt}
-use Rattle.server.specs.Replies.{commandReply, indexReply, spacesReply, rootReply, listingReply, Few}
-use Rattle.server.proofs.Inputs.{listing-few}
+use Rattle.server.specs.Replies.{commandReply, indexReply, spacesReply, rootReply, listingReply, subscriptionsReply, Few}
+use Rattle.server.proofs.Inputs.{listing-few, subscriptions-few}
 
 -- a number of refusal, and no byte changed
 pub refused-with : (k : ℕ) (d : List ℕ) → Gives (refusal k) d d (Refused k)
@@ -65,7 +65,16 @@ module _ (area words namespaces l : List ℕ) (c : Command) (m : meaning l c ≡
     unfolding answerTo meaningAs
     reply-list e = ap (listingReply area words l c) t ∙ reply-as Listing e
 
+    pub reply-lsub : c .kind ≡ Lsub → subscriptionsReply area words l c tag ≡ commandReply area words namespaces l
+    unfolding answerTo meaningAs
+    reply-lsub e = ap (subscriptionsReply area words l c) t ∙ reply-as Lsub e
+
   -- what a listing asks for is few and short
   pub list-few : c .kind ≡ Listing → Few (patternsOf l c)
   unfolding meaning meaningAs
   list-few e = listing-few l (spanBytes l (c .tag)) (optionsIs (c .options)) (patternsOf l c) (sym m ∙ ap (λ (q : Kind). meaningAs q l c) e)
+
+  -- and so is what LSUB asks for, which is one pattern at most
+  pub lsub-one : c .kind ≡ Lsub → Few (patternsOf l c) × (length (patternsOf l c) ≤ 1)
+  unfolding meaning meaningAs
+  lsub-one e = subscriptions-few l (spanBytes l (c .tag)) (patternsOf l c) (sym m ∙ ap (λ (q : Kind). meaningAs q l c) e)

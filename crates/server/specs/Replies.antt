@@ -9,7 +9,7 @@ use Rattle.listing_rules.specs.Lists.{every}
 use Rattle.listing_rules.specs.Namespaces.{entries, namespacesPass}
 use Rattle.listing_rules.specs.Command.{parsed}
 use Rattle.listing_rules.specs.Lines.{rootLine, okLine}
-use Rattle.listing_rules.specs.Server.{Reply, refusal, answered, answerTo, listAnswer, namespaceAnswer}
+use Rattle.listing_rules.specs.Server.{Reply, refusal, answered, answerTo, listAnswer, lsubAnswer, namespaceAnswer}
 use Rattle.command_line.specs.declared.Command.{Command}
 use Rattle.command_line.specs.OptionSets.{optionsIs}
 use Rattle.command_line.specs.Commands.{patternsOf}
@@ -40,6 +40,10 @@ rootReply tag = answered (rootText tag)
 -- to LIST
 abbrev pub listingReply : List ℕ → List ℕ → List ℕ → Command → List ℕ → Reply
 listingReply area words line c tag = answered (listAnswer (rowsAt area words) tag (optionsIs (c .options)) (patternsOf line c))
+
+-- to LSUB
+abbrev pub subscriptionsReply : List ℕ → List ℕ → List ℕ → Command → List ℕ → Reply
+subscriptionsReply area words line c tag = answered (lsubAnswer (rowsAt area words) tag (patternsOf line c))
 
 -- few and short patterns
 pub record Few (ps : List (List ℕ)) : Type 0 where

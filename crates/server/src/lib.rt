@@ -3,16 +3,17 @@
 //
 // Refusals in document 01's order: the table 1, the namespace list 2, the command 3 to 8, the length of the answer 9. An answer is
 // measured before a byte is written, so a refusal changes no byte of the buffer.
+mod packed;
 mod replies;
 
 use command_line::Kind;
 use command_line::read_command;
 use mailbox_table::Indexing;
-use mailbox_table::index;
 use mailbox_table::index_words;
 use octets::Written;
 use octets::refusals::NAMESPACES;
 use octets::refusals::TABLE;
+pub use packed::answer_packed;
 use records::Record;
 use records::copy_in;
 use records::no_words;
@@ -20,8 +21,8 @@ use replies::span_of;
 use replies::write_listing;
 use replies::write_namespaces;
 use replies::write_root;
+use replies::write_subscriptions;
 ghost use mathlib.Core.Path.{_≡_};
-ghost use Rattle.listing_rules.specs.Table.{packedTable};
 ghost use Rattle.listing_rules.specs.Server.{bufferAfter, served};
 ghost use Rattle.records.specs.Lent.{lentTable, wordTable};
 ghost use Rattle.octets.specs.Written.{writtenIs, Gives};
@@ -48,20 +49,6 @@ pub fn answer(
     answer_words(&words[..n], count, area, namespaces, line, out)
 }
 
-// The same over a packed table.
-pub fn answer_packed(table: &[u8], namespaces: &[u8], line: &[u8], out: &mut [u8]) -> Written
-    ensures result { λ r. ⌜ r ≡ writtenIs
-        (served (packedTable (now (table .entry))) (now (namespaces .entry)) (now (line .entry)) (now (out .entry))) ⌝ }
-    ensures bytes { λ _. ⌜ now (out .exit) ≡ bufferAfter (now (out .entry))
-        (served (packedTable (now (table .entry))) (now (namespaces .entry)) (now (line .entry)) (now (out .entry))) ⌝ }
-{
-    let mut words = no_words();
-    let Indexing::Rows(n) = index(table, &mut words) else {
-        return Written::Refused(TABLE);
-    };
-    answer_index(table, &words[..n], namespaces, line, out)
-}
-
 // The same over records, each as a number (`records::word_of`): the first `count` words are the rows, over the area of names.
 pub fn answer_words(
     words: &[u64],
@@ -84,7 +71,7 @@ pub fn answer_words(
 }
 
 // The same where the table passes: the refusals 2 to 9, over the index of the table.
-fn answer_index(
+pub(crate) fn answer_index(
     area: &[u8],
     words: &[u64],
     namespaces: &[u8],
@@ -117,5 +104,6 @@ fn respond(area: &[u8], words: &[u64], namespaces: &[u8], line: &[u8], out: &mut
         Kind::Namespace => write_namespaces(namespaces, tag, out),
         Kind::Root => write_root(tag, out),
         Kind::List => write_listing(area, words, line, command, tag, out),
+        Kind::Lsub => write_subscriptions(area, words, line, command, tag, out),
     }
 }

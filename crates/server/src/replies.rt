@@ -1,21 +1,23 @@
-// The three answers, each measured over an empty buffer before it is written.
+// The answers, each measured over an empty buffer before it is written.
 use command_line::Command;
 use command_line::Span;
 use command_line::put_patterns;
 use list_answer::write_list;
+use list_answer::write_lsub;
 use list_line::put_ok_line;
 use list_line::put_root_line;
 use namespace_list::put_namespaces;
 use octets::Written;
 use octets::refusals::SHORT_BUFFER;
 ghost use mathlib.Core.Path.{_≡_};
-ghost use lib.ListN.{replicate};
+ghost use Prim.Native.Nat.{_≤_};
+ghost use lib.ListN.{length, replicate};
 ghost use Rattle.octets.specs.Put.{Put};
 ghost use Rattle.octets.specs.Written.{Gives};
 ghost use Rattle.command_line.specs.Commands.{patternsOf};
 ghost use Rattle.list_answer.specs.Index.{Index};
 ghost use Rattle.server.specs.Spans.{partOf};
-ghost use Rattle.server.specs.Replies.{spacesText, spacesReply, rootText, rootReply, listingReply, Few};
+ghost use Rattle.server.specs.Replies.{spacesText, spacesReply, rootText, rootReply, listingReply, subscriptionsReply, Few};
 
 // The bytes of a span that is not quoted, as far as the line goes.
 pub(crate) fn span_of(line: &[u8], span: Span) -> &[u8]
@@ -99,4 +101,24 @@ pub(crate) fn write_listing(
     let end = put_patterns(line, command, &mut patterns);
     let options = command.options;
     write_list(area, words, &patterns[..end], options, tag, out)
+}
+
+// The LSUB answer of a command with one canonical pattern, or none where its pattern is empty.
+pub(crate) fn write_subscriptions(
+    area: &[u8],
+    words: &[u64],
+    line: &[u8],
+    command: Command,
+    tag: &[u8],
+    out: &mut [u8],
+) -> Written
+    requires { ⌜ Index (now area) (now words) ⌝ }
+    requires { ⌜ Few (patternsOf (now line) command) × (length (patternsOf (now line) command) ≤ 1) ⌝ }
+    ensures { λ r. ⌜ Gives
+        (subscriptionsReply (now (area .entry)) (now (words .entry)) (now (line .entry)) command (now (tag .entry)))
+        (now (out .entry)) (now (out .exit)) r ⌝ }
+{
+    let mut patterns = no_patterns();
+    let end = put_patterns(line, command, &mut patterns);
+    write_lsub(area, words, &patterns[..end], tag, out)
 }

@@ -15,10 +15,10 @@ const UNKNOWN_OPTIONS: [&[u8]; 6] =
 const ODD_BYTES: &[u8] = b"    (((())))\"\"\\\\{}%*+]/aA\x01\x7F";
 const ODD_SHAPE: &[u8] = b"\x00\x80\xFF\r\n";
 
-/// A LIST or NAMESPACE on the grammar, with its CR LF; patterns are made from the names.
+/// A LIST or NAMESPACE on the grammar, with its CR LF; patterns are made from the names. LSUB has
+/// commands of its own, in `lsub`.
 pub fn command(random: &mut Random, names: &[Vec<u8>]) -> Vec<u8> {
-    let mut line = random.pick(&TAGS).to_vec();
-    line.push(b' ');
+    let mut line = tag_and_space(random);
     if random.percent(6) {
         push_in_some_case(&mut line, random, b"NAMESPACE");
     } else {
@@ -27,6 +27,11 @@ pub fn command(random: &mut Random, names: &[Vec<u8>]) -> Vec<u8> {
     }
     line.extend_from_slice(b"\r\n");
     line
+}
+
+/// A tag and the space after it.
+pub fn tag_and_space(random: &mut Random) -> Vec<u8> {
+    [random.pick(&TAGS), b" ".as_slice()].concat()
 }
 
 /// A line after one to three damages, most of them before its CR LF and to its grammar alone.
@@ -166,7 +171,8 @@ fn push_patterns(
     line.push(b')');
 }
 
-fn push_in_some_case(line: &mut Vec<u8>, random: &mut Random, word: &[u8]) {
+/// The word as it is, or with letters of either case.
+pub fn push_in_some_case(line: &mut Vec<u8>, random: &mut Random, word: &[u8]) {
     if random.percent(80) {
         return line.extend_from_slice(word);
     }

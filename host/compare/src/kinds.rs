@@ -12,6 +12,7 @@ use crate::damage::{damaged_table, namespace_list};
 use crate::levels::levels_above;
 use crate::limits;
 use crate::literals;
+use crate::lsub;
 use crate::random::Random;
 use crate::sending::Sending;
 use crate::special_uses;
@@ -41,7 +42,7 @@ pub fn kinds() -> impl Iterator<Item = Kind> {
     GENERATORS.into_iter().map(|(name, generator)| Kind { name, generator })
 }
 
-const GENERATORS: [(&str, Generator); 25] = [
+const GENERATORS: [(&str, Generator); 27] = [
     ("a table and commands", commands_over_a_table),
     ("a growing table", growing_table),
     ("a damaged table", damaged_tables),
@@ -67,6 +68,8 @@ const GENERATORS: [(&str, Generator); 25] = [
     ("special uses by tree", special_uses::trees),
     ("option bytes", special_uses::option_bytes),
     ("limits of answers with CHILDINFO", limits::answers_with_childinfo),
+    ("subscribed names by LSUB", lsub::subscribed_names),
+    ("limits of answers with LSUB", limits::answers_with_lsub),
 ];
 
 fn commands_over_a_table(random: &mut Random) -> Vec<SentFrame> {

@@ -12,6 +12,7 @@ mod levels;
 pub mod library;
 mod limits;
 mod literals;
+mod lsub;
 pub mod random;
 pub mod records;
 mod report;

@@ -139,6 +139,20 @@ pub fn answers_with_childinfo(random: &mut Random) -> Vec<SentFrame> {
     answers_of(random, rows, &rest(walk), &[&rest(other)])
 }
 
+/// The same for LSUB: lines of subscribed names, or of the levels above them with `\Noselect`.
+pub fn answers_with_lsub(random: &mut Random) -> Vec<SentFrame> {
+    const FLAGS: [Flags; 3] = [SUBSCRIBED, Flags::SUBSCRIBED, SUBSCRIBED.with(Flags::REMOTE)];
+    let (below, rest, other) = *random.pick(&[
+        &("", " LSUB \"\" *", " LSUB \"\" %"),
+        &("", " LSUB \"\" *%", " LIST (SUBSCRIBED) \"\" *"),
+        &("/c", " LSUB \"\" %", " LSUB \"\" *"),
+        &("/c", " LSUB \"\" %%", " LIST (SUBSCRIBED RECURSIVEMATCH) \"\" %"),
+    ]);
+    let flags = FLAGS[random.below(FLAGS.len())];
+    let rows = numbered_rows(random.within(200..=270), 10, flags);
+    answers_of(random, rows_around("", &rows, below), rest, &[other])
+}
+
 /// Commands whose answers fill the buffer, or are a byte longer or shorter; the tag makes the
 /// length. Under the same tags then others.
 fn answers_of(

@@ -51,7 +51,8 @@ pub fn matches(pattern: &[u8], name: &[u8]) -> bool {
     raw::matches(pattern, name)
 }
 
-/// Answers one command line at the front of `out`, and gives the answer's length.
+/// Answers one command line, LIST, LSUB or NAMESPACE, at the front of `out`, and gives the answer's
+/// length.
 pub fn answer(
     table: Records,
     namespaces: &[u8],

@@ -28,6 +28,7 @@ pub enum Request {
     /// The root line: an empty pattern in a command that is not extended.
     Root,
     List(ListRequest),
+    Lsub(LsubRequest),
 }
 
 /// A LIST for names. An empty pattern has no canonical form and is not kept.
@@ -35,6 +36,12 @@ pub struct ListRequest {
     pub selection: Selection,
     pub returned: Return,
     pub canonical_patterns: Vec<Vec<u8>>,
+}
+
+/// An LSUB (document 02, W5): "reference and a single pattern". An empty pattern has no canonical
+/// form here either, and lists nothing.
+pub struct LsubRequest {
+    pub canonical_pattern: Option<Vec<u8>>,
 }
 
 /// The selection options given. "A repeat counts once."
@@ -76,11 +83,13 @@ pub fn read_command(line: &[u8]) -> Result<Command<'_>, LineFault> {
     let word = cursor.word();
     let request = if word.eq_ignore_ascii_case(b"LIST") {
         judge(read_list(cursor)?)?
+    } else if word.eq_ignore_ascii_case(b"LSUB") {
+        Request::Lsub(read_lsub(cursor)?)
     } else if word.eq_ignore_ascii_case(b"NAMESPACE") {
         cursor.end()?;
         Request::Namespace
     } else {
-        let rule = "the word is LIST or NAMESPACE";
+        let rule = "the word is LIST, LSUB or NAMESPACE";
         return Err(LineFault { refusal: Refusal::Word, at, rule });
     };
     Ok(Command { tag, request })
@@ -121,6 +130,18 @@ fn read_return<'l>(cursor: &mut Cursor<'l, '_>) -> Result<Vec<WrittenOption<'l>>
     cursor.options()
 }
 
+/// The rest of an LSUB: SP reference SP pattern; 4 over the whole of it comes before 8.
+fn read_lsub(mut cursor: Cursor) -> Result<LsubRequest, LineFault> {
+    cursor.space()?;
+    let reference = cursor.reference()?;
+    cursor.space()?;
+    let pattern_at = cursor.place();
+    let pattern = cursor.pattern()?;
+    cursor.end()?;
+    let canonical = canonical_patterns(&reference, &[pattern], pattern_at)?;
+    Ok(LsubRequest { canonical_pattern: canonical.into_iter().next() })
+}
+
 /// Refusals 6, 7 and 8, in this order, over the whole command.
 fn judge(list: WrittenList) -> Result<Request, LineFault> {
     let selection = Selection::of(&list.selection)?;
@@ -128,7 +149,7 @@ fn judge(list: WrittenList) -> Result<Request, LineFault> {
     if selection.recursive_match && selection.criteria().is_empty() {
         return Err(recursive_match_alone(&list.selection));
     }
-    let canonical_patterns = canonical_patterns(&list)?;
+    let canonical_patterns = canonical_patterns(&list.reference, &list.patterns, list.patterns_at)?;
     if !list.extended && canonical_patterns.is_empty() {
         return Ok(Request::Root);
     }
@@ -210,16 +231,19 @@ fn unknown(option: &WrittenOption, rule: &'static str) -> LineFault {
 
 /// "The canonical pattern is the reference followed by the pattern". An empty pattern counts
 /// for the eight and has no canonical form, so its reference may be of any length.
-fn canonical_patterns(list: &WrittenList) -> Result<Vec<Vec<u8>>, LineFault> {
-    let written = list.patterns.iter().filter(|pattern| !pattern.is_empty());
-    let canonical: Vec<_> =
-        written.map(|pattern| [list.reference.as_slice(), pattern].concat()).collect();
-    let rule = if list.patterns.len() > MAX_PATTERNS {
+fn canonical_patterns(
+    reference: &[u8],
+    patterns: &[Vec<u8>],
+    at: usize,
+) -> Result<Vec<Vec<u8>>, LineFault> {
+    let written = patterns.iter().filter(|pattern| !pattern.is_empty());
+    let canonical: Vec<_> = written.map(|pattern| [reference, pattern].concat()).collect();
+    let rule = if patterns.len() > MAX_PATTERNS {
         "a command has at most 8 patterns"
     } else if canonical.iter().any(|pattern| pattern.len() > MAX_CANONICAL) {
         "a canonical pattern has at most 255 bytes"
     } else {
         return Ok(canonical);
     };
-    Err(LineFault { refusal: Refusal::Patterns, at: list.patterns_at, rule })
+    Err(LineFault { refusal: Refusal::Patterns, at, rule })
 }

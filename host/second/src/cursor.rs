@@ -138,7 +138,7 @@ impl<'l, 's> Cursor<'l, 's> {
     }
 
     /// pattern = quoted / literal / 1*(atom byte / "]" / "%" / "*")
-    fn pattern(&mut self) -> Token<Vec<u8>> {
+    pub fn pattern(&mut self) -> Token<Vec<u8>> {
         let rule = "a pattern is a quoted string, a literal or a run of atom bytes, ] % and *";
         self.string_or_run(|byte| is_astring_byte(byte) || is_wildcard(byte), rule)
     }

@@ -1,5 +1,5 @@
 //! The second program of the listing rules: written from the papers alone, document 01 and of
-//! document 02 requests W1 to W4, to be compared with the proved program and to be the plain
+//! document 02 requests W1 to W5, to be compared with the proved program and to be the plain
 //! measure of its speed.
 //!
 //! The entries are those of document 01: the two checks, the command entry, the line writer,
@@ -15,6 +15,7 @@ pub mod frames;
 pub mod line;
 mod listing;
 pub mod literal;
+mod lsub;
 pub mod name;
 pub mod namespaces;
 mod pattern;

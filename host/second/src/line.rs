@@ -1,5 +1,5 @@
 //! LIST lines: the sixteen attributes, the criteria of CHILDINFO, the line writer and the line
-//! reader.
+//! reader. LSUB lines are written in the same way, with their own word, and not read.
 
 use crate::name;
 use crate::quoted::{push_quoted, read_quoted};
@@ -113,12 +113,28 @@ const CRITERIA: [(Criteria, &[u8]); 2] =
 
 /// The line that names the root.
 pub const ROOT_LINE: &[u8] = b"* LIST (\\Noselect) \"/\" \"\"\r\n";
-const LINE_START: &[u8] = b"* LIST (";
 const BEFORE_NAME: &[u8] = b") \"/\" ";
 const CHILDINFO_START: &[u8] = b" (\"CHILDINFO\" (";
 const CHILDINFO_END: &[u8] = b"))";
 /// What a line ends with, of a command and of an answer.
 pub const CRLF: &[u8] = b"\r\n";
+
+/// The word of a line: that of the command which it answers.
+#[derive(Clone, Copy, Debug, PartialEq, Eq)]
+pub enum LineWord {
+    List,
+    Lsub,
+}
+
+impl LineWord {
+    /// What a line starts with, up to its attributes.
+    const fn start(self) -> &'static [u8] {
+        match self {
+            LineWord::List => b"* LIST (",
+            LineWord::Lsub => b"* LSUB (",
+        }
+    }
+}
 
 /// The parts of a LIST line.
 #[derive(Clone, Debug, PartialEq, Eq)]
@@ -151,7 +167,7 @@ pub fn write_line(
         return Err(Refusal::Line);
     }
     let mut line = Vec::new();
-    push_line(&mut line, Attributes::from_bits(attrs), name, childinfo);
+    push_line(&mut line, LineWord::List, Attributes::from_bits(attrs), name, childinfo);
     put_answer(&line, out)
 }
 
@@ -176,9 +192,15 @@ pub fn read_line(line: &[u8]) -> Result<Line, Refusal> {
     read_parts(line).filter(|parts| name::is_lawful(&parts.name)).ok_or(Refusal::Line)
 }
 
-/// `* LIST (attributes) "/" "name"`, then perhaps ` ("CHILDINFO" (criteria))`, CR LF.
-pub fn push_line(line: &mut Vec<u8>, attributes: Attributes, name: &[u8], childinfo: Criteria) {
-    line.extend_from_slice(LINE_START);
+/// `* WORD (attributes) "/" "name"`, then perhaps ` ("CHILDINFO" (criteria))`, CR LF.
+pub fn push_line(
+    line: &mut Vec<u8>,
+    word: LineWord,
+    attributes: Attributes,
+    name: &[u8],
+    childinfo: Criteria,
+) {
+    line.extend_from_slice(word.start());
     push_words(line, &ATTRIBUTES, |attribute| attributes.has(attribute));
     line.extend_from_slice(BEFORE_NAME);
     push_quoted(line, name);
@@ -213,7 +235,7 @@ pub fn put_answer(answer: &[u8], out: &mut [u8]) -> Result<usize, Refusal> {
 
 fn read_parts(line: &[u8]) -> Option<Line> {
     let mut attributes = Attributes::NONE;
-    let rest = line.strip_prefix(LINE_START)?;
+    let rest = line.strip_prefix(LineWord::List.start())?;
     let rest = read_words(rest, &ATTRIBUTES, |attribute| attributes.add(attribute));
     let (name, rest) = read_quoted(rest.strip_prefix(BEFORE_NAME)?)?;
     let (childinfo, rest) = read_childinfo(rest)?;

@@ -3,13 +3,13 @@
 use std::collections::BTreeMap;
 
 use crate::command::{ListRequest, Return, Selection};
-use crate::line::{push_line, Attributes, Criteria};
+use crate::line::{push_line, Attributes, Criteria, LineWord};
 use crate::name;
-use crate::pattern::{matches, ANY_IN_LEVEL};
+use crate::pattern::{ends_in_percent, matches};
 use crate::table::{rows_below, Flags, Row};
 
 /// The candidates that match some pattern, with their flags. "lines ascend by name".
-type Matching<'t> = BTreeMap<&'t [u8], Flags>;
+pub type Matching<'t> = BTreeMap<&'t [u8], Flags>;
 
 /// A candidate that matches some pattern.
 struct Candidate<'r, 't> {
@@ -33,7 +33,8 @@ pub fn list_lines(rows: &[Row], request: &ListRequest) -> Vec<u8> {
             if is_level {
                 attributes.add(Attributes::HAS_CHILDREN);
             }
-            push_line(&mut lines, attributes, name, childinfo_of(&candidate, selection));
+            let childinfo = childinfo_of(&candidate, selection);
+            push_line(&mut lines, LineWord::List, attributes, name, childinfo);
         }
     }
     lines
@@ -41,7 +42,7 @@ pub fn list_lines(rows: &[Row], request: &ListRequest) -> Vec<u8> {
 
 /// "Candidates are the table's names and all their proper ancestors." The rows below one
 /// ancestor stand side by side, so an ancestor of the row before has been seen already.
-fn matching_candidates<'t>(rows: &[Row<'t>], patterns: &[Vec<u8>]) -> Matching<'t> {
+pub fn matching_candidates<'t>(rows: &[Row<'t>], patterns: &[Vec<u8>]) -> Matching<'t> {
     let is_matched = |name: &[u8]| patterns.iter().any(|pattern| matches(pattern, name));
     let mut matching = Matching::new();
     let mut before: &[u8] = b"";
@@ -85,7 +86,7 @@ fn is_listed(candidate: &Candidate, selection: Selection, matching: &Matching) -
 fn is_level_above(candidate: &Candidate, request: &ListRequest) -> bool {
     let selection = request.selection;
     let mut percent_patterns =
-        request.canonical_patterns.iter().filter(|pattern| pattern.ends_with(&[ANY_IN_LEVEL]));
+        request.canonical_patterns.iter().filter(|pattern| ends_in_percent(pattern));
     let narrows = selection.recursive_match || selection.subscribed || selection.special_use;
     !narrows
         && !candidate.flags.has(Flags::EXISTS)

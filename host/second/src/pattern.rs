@@ -18,6 +18,11 @@ pub fn matches(pattern: &[u8], name: &[u8]) -> bool {
     }
 }
 
+/// Whether levels of hierarchy are asked for: "a pattern ending in "%"" (W1, W5).
+pub fn ends_in_percent(pattern: &[u8]) -> bool {
+    pattern.ends_with(&[ANY_IN_LEVEL])
+}
+
 pub fn is_wildcard(byte: u8) -> bool {
     byte == ANY || byte == ANY_IN_LEVEL
 }

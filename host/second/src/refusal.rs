@@ -14,7 +14,7 @@ pub enum Refusal {
     LineShape = 3,
     /// The tag, or the rest after a known word, is off the grammar.
     Grammar = 4,
-    /// The word is neither LIST nor NAMESPACE.
+    /// The word is none of LIST, LSUB and NAMESPACE.
     Word = 5,
     /// An unknown option, an option with a value, or an unlawful option byte.
     UnknownOption = 6,

@@ -4,6 +4,7 @@ use crate::command::{read_command, Command, Request};
 use crate::fault::Fault;
 use crate::line::{put_answer, ROOT_LINE};
 use crate::listing::list_lines;
+use crate::lsub::lsub_lines;
 use crate::namespaces::{checked_entries, namespace_line, Entry};
 use crate::refusal::Refusal;
 use crate::table::{checked_rows, Row, Table};
@@ -23,6 +24,7 @@ pub fn answer(
         Request::Namespace => namespace_line(&checked.entries),
         Request::Root => ROOT_LINE.to_vec(),
         Request::List(request) => list_lines(&checked.rows, request),
+        Request::Lsub(request) => lsub_lines(&checked.rows, request),
     };
     text.extend_from_slice(checked.command.tag);
     text.extend_from_slice(b" OK done\r\n");

@@ -2,7 +2,7 @@
 use mathlib.Core.Path.{_≡_, _∙_}
 use Rattle.command_line.specs.Spans.{spanBytes}
 use Rattle.server.proofs.Inputs.{part-span}
-use Rattle.server.proofs.Order.{refused-with, list-few, reply-refused, reply-spaces, reply-root, reply-list}
+use Rattle.server.proofs.Order.{refused-with, list-few, reply-refused, reply-spaces, reply-root, reply-list, reply-lsub, lsub-one}
 use borrow.Author.Needs.{needs}
 use Rattle.server.proofs.respond.Statement.{statement}
 use Rattle.server.proofs.respond.Tie as tie
@@ -64,6 +64,25 @@ returns-4 c =
     let tag = after-span-of .span-of .result .now in
     rw (← reply-list (a .area .now) (a .words .now) (a .namespaces .now) (a .line .now) (read .result) (read .ensures .0) tag (tag-is (after-span-of)) (after-enum-told3 .enum-told3 .given .1)) (c .before .before .write-listing .ensures)
 
+write-subscriptions-requires : tie.Need-write-subscriptions-requires
+write-subscriptions-requires c κs =
+    let after-read-command = c .before .before .before .before in
+    let start = after-read-command .before .before .before .before .before .before in
+    let a = start .args in
+    let read = after-read-command .read-command in
+    (start .pre, lsub-one (a .area .now) (a .words .now) (a .namespaces .now) (a .line .now) (read .result) (read .ensures .0) (c .before .enum-told4 .given .1))
+
+returns-5 : tie.Need-returns-5
+returns-5 c =
+    let after-enum-told4 = c .before .before .before .before in
+    let after-span-of = after-enum-told4 .before .before in
+    let after-read-command = after-span-of .before in
+    let start = after-read-command .before .before .before .before .before .before in
+    let a = start .args in
+    let read = after-read-command .read-command in
+    let tag = after-span-of .span-of .result .now in
+    rw (← reply-lsub (a .area .now) (a .words .now) (a .namespaces .now) (a .line .now) (read .result) (read .ensures .0) tag (tag-is (after-span-of)) (after-enum-told4 .enum-told4 .given .1)) (c .before .before .write-subscriptions .ensures)
+
 pub respond-spec : {M : Type 1} → statement M
 respond-spec =
     tie.close
@@ -77,10 +96,14 @@ respond-spec =
     (λ c κs. search needs)
     (λ c. search needs)
     write-listing-requires
+    (λ c. search needs)
+    write-subscriptions-requires
     returns
     (λ c. search needs)
     returns-2
     (λ c. search needs)
     returns-3
     (λ c. search needs)
-    returns-4)
+    returns-4
+    (λ c. search needs)
+    returns-5)

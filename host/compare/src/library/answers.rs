@@ -6,13 +6,14 @@ use super::both::{Lent, ANSWER, PROVED, SECOND};
 use super::tally::{shown, Tally, Text, SEED};
 use crate::commands::{command, damaged};
 use crate::damage::{damaged_table, namespace_list};
+use crate::lsub::{lsub_command, subscriptions};
 use crate::random::Random;
-use crate::tables::{good_table, table_bytes};
+use crate::tables::{good_table, names_of, table_bytes};
 
 const TABLES: usize = 4_000;
 const COMMANDS_A_TABLE: usize = 6;
 /// More than any answer here.
-pub const ROOM: usize = 16_384;
+const ROOM: usize = 16_384;
 const FILL: u8 = b'.';
 
 pub fn commands(tally: &mut Tally) {
@@ -29,12 +30,34 @@ pub fn commands(tally: &mut Tally) {
             if random.percent(30) {
                 line = damaged(&mut random, line);
             }
-            let table = [Lent::Packed(&table); 2];
-            let need = answer_both(tally, table, &list, &line, ROOM);
-            for room in [0, need.saturating_sub(1), need, need + 1] {
-                answer_both(tally, table, &list, &line, room);
-            }
+            answer_in_rooms(tally, [Lent::Packed(&table); 2], &list, &line);
         }
+    }
+}
+
+/// LSUB, lawful and damaged, over tables with many subscriptions or few.
+pub fn lsub(tally: &mut Tally) {
+    let mut random = Random::of("library: LSUB", SEED);
+    for _ in 0..TABLES {
+        let count = random.below(20);
+        let rows = subscriptions(&mut random, count);
+        let names = names_of(&rows);
+        let table = table_bytes(&rows);
+        for _ in 0..COMMANDS_A_TABLE {
+            let mut line = lsub_command(&mut random, &names);
+            if random.percent(20) {
+                line = damaged(&mut random, line);
+            }
+            answer_in_rooms(tally, [Lent::Packed(&table); 2], b"", &line);
+        }
+    }
+}
+
+/// Answers in a buffer with room enough, and in buffers on both sides of the answer's length.
+pub fn answer_in_rooms(tally: &mut Tally, tables: [Lent; 2], list: &[u8], line: &[u8]) {
+    let need = answer_both(tally, tables, list, line, ROOM);
+    for room in [0, need.saturating_sub(1), need, need + 1] {
+        answer_both(tally, tables, list, line, room);
     }
 }
 

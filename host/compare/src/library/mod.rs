@@ -19,7 +19,7 @@ pub use tally::Tally;
 /// A name, and what compares.
 pub type Group = (&'static str, fn(&mut Tally));
 
-pub const GROUPS: [Group; 20] = [
+pub const GROUPS: [Group; 22] = [
     ("every set of attributes, written and read back", lines::every_set),
     ("every number of a set of criteria", lines::every_criteria_byte),
     ("names at the limits, buffers on both sides of the line's length", lines::names_and_rooms),
@@ -32,9 +32,11 @@ pub const GROUPS: [Group; 20] = [
     ("tables at the limits", tables::limits),
     ("namespace lists", tables::namespace_lists),
     ("commands, buffers on both sides of the answer's length", answers::commands),
+    ("LSUB, buffers on both sides of the answer's length", answers::lsub),
     ("walks, buffers on both sides of what they need", walks::walks),
     ("records in every layout, with commands and walks", records::layouts),
     ("packed tables and their records", records::of_packed),
+    ("LSUB over records and over packed tables", records::lsub),
     ("records at every place of small areas", records::small_areas),
     ("records at the limits", records::limits),
     ("streams for the feeder, chunk by chunk", feeding::streams),

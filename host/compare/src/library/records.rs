@@ -5,21 +5,27 @@ use std::ops::RangeInclusive;
 use second::records::{Record, MAX_AREA};
 use second::table::{Flags, MAX_ROWS};
 
-use super::answers::{self, answer_both};
+use super::answers::{answer_both, answer_in_rooms};
 use super::both::{Lent, Mailboxes};
 use super::tables::{check_both, numbered};
 use super::tally::Tally;
 use super::walks::{collect_both, Rooms, OPTIONS};
 use crate::commands::{command, damaged};
 use crate::damage::{damaged_bytes, damaged_table, namespace_list};
+use crate::lsub::{lsub_command, subscriptions};
 use crate::random::Random;
-use crate::records::{some_layout, Layout};
-use crate::tables::{good_table, table_bytes, NewRow};
+use crate::records::{laid_out, some_layout, Layout};
+use crate::tables::{good_table, names_of, table_bytes, NewRow};
 
 /// The most rows of a table that is not at a limit.
 const FEW: usize = 16;
-const COMMANDS: [&[u8]; 3] =
-    [b"a LIST \"\" *\r\n", b"a LIST (REMOTE) \"\" % RETURN (CHILDREN)\r\n", b"a NAMESPACE\r\n"];
+const COMMANDS: [&[u8]; 5] = [
+    b"a LIST \"\" *\r\n",
+    b"a LIST (REMOTE) \"\" % RETURN (CHILDREN)\r\n",
+    b"a NAMESPACE\r\n",
+    b"a LSUB \"\" *\r\n",
+    b"a LSUB \"\" %\r\n",
+];
 
 /// Layouts of every kind, each checked, some with commands and walks over them.
 pub fn layouts(tally: &mut Tally) {
@@ -53,6 +59,26 @@ pub fn of_packed(tally: &mut Tally) {
     });
 }
 
+/// LSUB over rows laid out in some way, over a layout that may have something wrong, and over the
+/// packed table and its records.
+pub fn lsub(tally: &mut Tally) {
+    tally.for_each_seed(|tally, seed| {
+        let mut random = Random::of("library: LSUB over records", seed);
+        let count = random.below(FEW);
+        let rows = subscriptions(&mut random, count);
+        let line = lsub_command(&mut random, &names_of(&rows));
+        let layouts = [laid_out(&mut random, &rows), some_layout(&mut random, &rows)];
+        for mailboxes in layouts.map(Mailboxes::new) {
+            answer_in_rooms(tally, [Lent::Records(&mailboxes); 2], b"", &line);
+        }
+        let table = table_bytes(&rows);
+        let mailboxes = Layout::of_packed(&table).map(Mailboxes::new);
+        for form in forms_of(&table, mailboxes.as_ref()) {
+            answer_in_rooms(tally, form, b"", &line);
+        }
+    });
+}
+
 /// A packed table by both libraries, and its records, if it has any, by the proved one beside it.
 fn forms_of<'m>(table: &'m [u8], records: Option<&'m Mailboxes>) -> Vec<[Lent<'m>; 2]> {
     let packed = Lent::Packed(table);
@@ -70,10 +96,7 @@ fn calls(tally: &mut Tally, random: &mut Random, forms: &[[Lent; 2]], rows: &[Ne
             }
             let list = if random.percent(10) { namespace_list(random) } else { Vec::new() };
             for &form in forms {
-                let need = answer_both(tally, form, &list, &line, answers::ROOM);
-                for room in [0, need.saturating_sub(1), need, need + 1] {
-                    answer_both(tally, form, &list, &line, room);
-                }
+                answer_in_rooms(tally, form, &list, &line);
             }
         }
         3..5 => {

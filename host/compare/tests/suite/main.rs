@@ -5,6 +5,7 @@ use std::path::PathBuf;
 
 mod comparison;
 mod explanations;
+mod lsub;
 mod records;
 mod streams;
 

@@ -102,7 +102,7 @@ fn entries() {
 /// What a command is refused with, the place, and the start of the rule.
 #[test]
 fn lines() {
-    let lines: [(&str, u8, usize, &str); 24] = [
+    check_lines(&[
         ("a NAMESPACE", 3, 11, "a line ends with CR LF"),
         ("a NAME\0SPACE\r\n", 3, 6, "no byte of a command is 00"),
         ("a NAME\u{e9}\r\n", 3, 6, "a line holds bytes 01 to 7F"),
@@ -113,7 +113,7 @@ fn lines() {
         ("a LIST {1}\r\nx \n\r\n", 3, 14, "a line holds bytes 01 to 7F"),
         ("+ LIST\r\n", 4, 0, "a tag is"),
         ("a\r\n", 4, 1, "one space is expected"),
-        ("a SELECT x\r\n", 5, 2, "the word is LIST or NAMESPACE"),
+        ("a SELECT x\r\n", 5, 2, "the word is LIST, LSUB or NAMESPACE"),
         ("a NAMESPACE \r\n", 4, 11, "the end of the line is expected"),
         ("a LIST \"\"\r\n", 4, 9, "one space is expected"),
         ("a LIST \"\" \r\n", 4, 10, "a pattern is"),
@@ -127,8 +127,32 @@ fn lines() {
         ("a LIST \"\" * RETURN (REMOTE)\r\n", 6, 20, "SUBSCRIBED, CHILDREN and"),
         ("a LIST (REMOTE RECURSIVEMATCH) \"\" *\r\n", 7, 15, "SUBSCRIBED or SPECIAL-USE"),
         ("a LIST \"\" (1 2 3 4 5 6 7 8 9)\r\n", 8, 10, "a command has at most 8 patterns"),
-    ];
-    for (line, number, at, rule) in lines {
+    ]);
+    assert_eq!(fault_of(COMMAND, b"a LIST \"\" {1}\r\nx\r\n"), None);
+}
+
+/// The same of LSUB (document 02, W5).
+#[test]
+fn lines_of_lsub() {
+    check_lines(&[
+        ("a LSUBS \"\" *\r\n", 5, 2, "the word is LIST, LSUB or NAMESPACE"),
+        ("a LSUB \"\"\r\n", 4, 9, "one space is expected"),
+        ("a LSUB () \"\" *\r\n", 4, 7, "a quoted string, a literal or an atom is expected"),
+        ("a LSUB \"\" (*)\r\n", 4, 10, "a pattern is"),
+        ("a LSUB \"\" * *\r\n", 4, 11, "the end of the line is expected"),
+        ("a LSUB \"\" * RETURN ()\r\n", 4, 11, "the end of the line is expected"),
+        (
+            &format!("a LSUB x {}\r\n", "%".repeat(255)),
+            8,
+            9,
+            "a canonical pattern has at most 255 bytes",
+        ),
+    ]);
+    assert_eq!(fault_of(COMMAND, b"a LSUB \"\" {1}\r\nx\r\n"), None);
+}
+
+fn check_lines(lines: &[(&str, u8, usize, &str)]) {
+    for &(line, number, at, rule) in lines {
         let Some(Fault::Line(fault)) = fault_of(COMMAND, line.as_bytes()) else {
             panic!("{line:?}: no fault of the line");
         };
@@ -136,7 +160,6 @@ fn lines() {
         assert_eq!((refusal.number(), place), (number, at), "{line:?}: {told}");
         assert!(told.starts_with(rule), "{line:?}: {told}");
     }
-    assert_eq!(fault_of(COMMAND, b"a LIST \"\" {1}\r\nx\r\n"), None);
 }
 
 fn fault_of(first: u8, bytes: &[u8]) -> Option<Fault> {

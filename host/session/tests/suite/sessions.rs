@@ -9,6 +9,7 @@ use crate::common::{printed, run_on, summary, whole_text};
 const CUSTOMERS: &str = include_str!("../../../sessions/customers.session");
 const REFUSALS: &str = include_str!("../../../sessions/refusals.session");
 const LITERALS: &str = include_str!("../../../sessions/literals.session");
+const LSUB: &str = include_str!("../../../sessions/lsub.session");
 const SPECIAL_FOLDERS: &str = include_str!("../../../sessions/special-folders.session");
 const README: &str = include_str!("../../../../README.md");
 
@@ -139,6 +140,52 @@ fn the_special_folders() {
     check_parts(&text, &parts);
 }
 
+/// W5: the levels that a retired mail program opens, and LIST beside them.
+#[test]
+fn a_retired_mail_program() {
+    let text = printed(LSUB, Form::Text);
+    let parts = [
+        concat!(
+            "Command    a1 LSUB \"\" \"%\"\n",
+            "Answer     * LSUB (\\Noselect) \"/\" \"Archive\"\n",
+            "           * LSUB () \"/\" \"INBOX\"\n",
+            "           * LSUB (\\Noselect) \"/\" \"Projects\"\n",
+            "           * LSUB () \"/\" \"Teams\"\n",
+            "           a1 OK done\n",
+        ),
+        concat!(
+            "Answer     * LSUB (\\Noselect) \"/\" \"Projects/Harbour\"\n",
+            "           * LSUB () \"/\" \"Projects/Old\"\n",
+            "           a2 OK done\n",
+        ),
+        concat!(
+            "Answer     * LSUB () \"/\" \"Projects/Harbour/Plans\"\n",
+            "           a3 OK done\n",
+        ),
+        concat!(
+            "Answer     * LSUB () \"/\" \"Archive/2024\"\n",
+            "           * LSUB () \"/\" \"INBOX\"\n",
+            "           * LSUB () \"/\" \"Projects/Harbour/Plans\"\n",
+            "           * LSUB () \"/\" \"Projects/Old\"\n",
+            "           * LSUB () \"/\" \"Teams\"\n",
+            "           a4 OK done\n",
+        ),
+        concat!(
+            "           * LIST (\\Subscribed \\NonExistent) \"/\" \"Projects/Old\"\n",
+            "           * LIST (\\Remote \\Subscribed) \"/\" \"Teams\"\n",
+            "           b1 OK done\n",
+        ),
+        "Answer     * LIST () \"/\" \"Archive\" (\"CHILDINFO\" (\"SUBSCRIBED\"))\n",
+        concat!("Command    a6 LSUB \"Projects/\" \"\"\n", "Answer     a6 OK done\n"),
+        concat!(
+            "Refused    4: tag, or the rest after a known word, off the grammar (as expected)\n",
+            "Explained  byte 9 of the command, '(': a quoted string, a literal or an atom is expected\n",
+            "           (explained by the second program, not proved)\n",
+        ),
+    ];
+    check_parts(&text, &parts);
+}
+
 /// The session that the README shows gives the output that it shows.
 #[test]
 fn the_session_of_the_readme() {
@@ -175,6 +222,7 @@ fn the_bundled_sessions_end_well() {
     let sessions = [
         (CUSTOMERS, "8 of 8 rows and 0 of 0 entries kept; 4 commands, 1 walk; 0 refused"),
         (LITERALS, "3 of 3 rows and 0 of 0 entries kept; 10 commands, 0 walks; 6 refused, 6 of them as expected"),
+        (LSUB, "7 of 7 rows and 0 of 0 entries kept; 10 commands, 0 walks; 2 refused, 2 of them as expected"),
         (SPECIAL_FOLDERS, "6 of 6 rows and 0 of 0 entries kept; 3 commands, 4 walks; 2 refused, 2 of them as expected"),
         (REFUSALS, "51 of 51 rows and 3 of 3 entries kept; 11 commands, 4 walks, 5 bad frames; 20 refused, 20 of them as expected"),
     ];

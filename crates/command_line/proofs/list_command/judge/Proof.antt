@@ -11,7 +11,7 @@ use Rattle.command_patterns.specs.Canonical.{canonicalOf}
 use Rattle.command_patterns.specs.declared.Measured.{Measured}
 use Rattle.command_line.specs.OptionSets.{optionsIs}
 use Rattle.command_line.specs.Commands.{meaning, meaningAs, patternsOf, short, argumentsIs}
-use Rattle.command_line.proofs.Judging.{kept-few, kept-many, decided-6, decided-7, decided-many, decided-long, decided-root, decided-list, listOf, inside-list, refuses, asks-root}
+use Rattle.command_line.proofs.Judging.{kept-few, kept-many, decided-6, decided-7, decided-many, decided-long, decided-root, decided-list, commandOf, inside-list, refuses, asks-root}
 use Rattle.command_line.proofs.list_command.judge.Statement.{statement}
 use Rattle.command_line.proofs.list_command.judge.Tie as tie
 
@@ -80,7 +80,7 @@ returns-5 c =
     asks-root _ (start .args .tag) (c .bare .ensures) (decided-root _ (argumentsIs text a) (known (stage-3)) (lawful (stage-2)) (held text (a .patterns)) (kept-few _ _ (at-if3 .if3 .left)) (fit (stage)) root) (λ g. g .tagged)
 
 returns-6 : tie.Need-returns-6
-unfolding argumentsIs meaning meaningAs patternsOf listOf
+unfolding argumentsIs meaning meaningAs patternsOf commandOf
 returns-6 c =
     let stage = c .before .before .before .before in
     let after-measure = stage .before .before in

@@ -1,7 +1,8 @@
--- `read_list`: part by part off the grammar, or what is kept of the parts, judged. Rests on Grammar, Judging and Listing.
+-- `read_list`: part by part off the grammar, or what is kept of the parts, judged. Rests on Grammar, Refusing, Judging and Listing.
 use mathlib.Core.Path.{_≡_, sym, ap, subst, _∙_}
 use mathlib.Core.Bool.{Bool, _&&_}
 use mathlib.Core.List.{List as Seq}
+use mathlib.Core.Option.{some}
 use Prim.Native.Nat.{ℕ, _<_, _^_}
 use lib.ListN.{drop}
 use borrow.Author.Needs.{needs}
@@ -9,6 +10,7 @@ use Rattle.listing_rules.specs.Bytes.{text}
 use Rattle.listing_rules.specs.Tokens.{got, after}
 use Rattle.listing_rules.specs.Command.{Parsed, isSome}
 use Rattle.command_tokens.specs.Spans.{spanBytes}
+use Rattle.command_tokens.specs.Tokens.{argument}
 use Rattle.command_tokens.proofs.Binds.{token-found, token-missing, token-ahead, behind-at, behind-nothing}
 use Rattle.command_tokens.proofs.Cuts.{lies-ahead}
 use Rattle.command_patterns.specs.Places.{kept}
@@ -20,8 +22,8 @@ use Rattle.command_line.specs.Commands.{argumentsIs, decided}
 use Rattle.command_line.proofs.Members.{both-seven}
 use Rattle.command_line.proofs.Listing.{listed-read, listed-broken}
 use Rattle.command_line.proofs.Judging.{refuses, answers-as}
-use Rattle.command_line.proofs.Wording.{read-on, read-off}
-use Rattle.command_line.proofs.Grammar.{afterSelection, afterReference, afterSpace, afterPatterns, list-is}
+use Rattle.command_line.proofs.Refusing.{read-on, read-off, reference-off, reference-alone, reference-read}
+use Rattle.command_line.proofs.Grammar.{afterSelection, afterSpace, afterPatterns, list-is}
 use Rattle.command_line.proofs.list_command.read_list.Statement.{statement}
 use Rattle.command_line.proofs.list_command.read_list.Tie as tie
 
@@ -63,7 +65,7 @@ returns-2 : tie.Need-returns-2
 unfolding afterSelection got
 returns-2 c =
     let stage = c .before .before .before .before in
-    refuses _ 4 (c .refused2 .ensures) (selected (stage) ∙ read-off 4 _ (token-missing _ (c .before .before .before .argument .ensures .0) (c .before .enum-told2 .given .1)))
+    refuses _ 4 (c .refused2 .ensures) (selected (stage) ∙ reference-off _ _ (token-missing _ (c .before .before .before .argument .ensures .0) (c .before .enum-told2 .given .1)))
 
 -- ---- the reference
 
@@ -71,15 +73,15 @@ module _ (c : tie.After-known-told2) where
   abbrev reference : Seq ℕ
   reference = spanBytes (line (c .before .before .before .before .before .before .before .before .before)) (c .before .reference .given .0 .0)
 
-  referred : whole (c .before .before .before .before .before .before .before .before .before) ≡ afterReference (tag (c .before .before .before .before .before .before .before .before .before)) (has (c .before .before .before .before .before .before .before .before .before)) (marks (c .before .before .before .before)) (got reference (drop (c .before .reference .given .0 .1 .0 .at) (line (c .before .before .before .before .before .before .before .before .before))))
-  unfolding afterSelection got
-  referred = selected (c .before .before .before .before) ∙ read-on 4 (afterReference (tag (c .before .before .before .before .before .before .before .before .before)) (has (c .before .before .before .before .before .before .before .before .before)) (marks (c .before .before .before .before))) (token-found _ (c .before .before .before .argument .ensures .0) (c .before .reference .given .1))
+  referred : argument (drop (c .before .before .before .before .before .selected .given .0 .1 .1 .0 .at) (line (c .before .before .before .before .before .before .before .before .before))) ≡ some (got reference (drop (c .before .reference .given .0 .1 .0 .at) (line (c .before .before .before .before .before .before .before .before .before))))
+  referred = token-found _ (c .before .before .before .argument .ensures .0) (c .before .reference .given .1)
 
 returns-3 : tie.Need-returns-3
-unfolding afterReference got
+unfolding afterSelection got
 returns-3 c =
     let stage = c .before .before .before .before in
-    refuses _ 4 (c .refused3 .ensures) (referred (stage) ∙ read-off 4 _ (behind-nothing _ (c .before .before .before .space .ensures .0) (c .before .enum-told3 .given .1)))
+    let selection = stage .before .before .before .before in
+    refuses _ 4 (c .refused3 .ensures) (selected selection ∙ reference-alone _ _ _ _ (referred stage) (behind-nothing _ (c .before .before .before .space .ensures .0) (c .before .enum-told3 .given .1)))
 
 -- ---- the space before the patterns
 
@@ -88,8 +90,8 @@ module _ (c : tie.After-known-told3) where
   place = c .before .fourth .given .0 .0 .at
 
   spaced : whole (c .before .before .before .before .before .before .before .before .before .before .before .before .before) ≡ afterSpace (tag (c .before .before .before .before .before .before .before .before .before .before .before .before .before)) (has (c .before .before .before .before .before .before .before .before .before .before .before .before .before)) (marks (c .before .before .before .before .before .before .before .before)) (reference (c .before .before .before .before)) (drop place (line (c .before .before .before .before .before .before .before .before .before .before .before .before .before)))
-  unfolding afterReference got
-  spaced = referred (c .before .before .before .before) ∙ read-on 4 (afterSpace (tag (c .before .before .before .before .before .before .before .before .before .before .before .before .before)) (has (c .before .before .before .before .before .before .before .before .before .before .before .before .before)) (marks (c .before .before .before .before .before .before .before .before)) (reference (c .before .before .before .before))) (behind-at _ (c .before .before .before .space .ensures .0) (c .before .fourth .given .1))
+  unfolding afterSelection got
+  spaced = selected (c .before .before .before .before .before .before .before .before) ∙ reference-read _ (afterSpace (tag (c .before .before .before .before .before .before .before .before .before .before .before .before .before)) (has (c .before .before .before .before .before .before .before .before .before .before .before .before .before)) (marks (c .before .before .before .before .before .before .before .before))) _ _ (referred (c .before .before .before .before)) _ (behind-at _ (c .before .before .before .space .ensures .0) (c .before .fourth .given .1))
 
 returns-4 : tie.Need-returns-4
 unfolding afterSpace

@@ -9,9 +9,10 @@ use Rattle.listing_rules.specs.Tokens.{got, tagByte, atomByte, run, run₁}
 use Rattle.listing_rules.specs.Command.{worded, tagged}
 use Rattle.command_tokens.specs.Spans.{spanBytes}
 use Rattle.command_tokens.proofs.Binds.{token-found, token-missing, bare-ahead, bare-bytes, behind-at, behind-nothing}
+use Rattle.command_line.specs.declared.Command.{Command}
 use Rattle.command_line.specs.declared.reading.Word.{Word}
 use Rattle.command_line.specs.Words.{wordOf, wordedAs}
-use Rattle.command_line.specs.Commands.{TagIn}
+use Rattle.command_line.specs.Commands.{TagIn, Answers}
 use Rattle.command_line.proofs.Judging.{refuses, answers-as}
 use Rattle.command_line.proofs.Wording.{tag-in, tag-off, space-off, space-read, word-off, word-read, other-word}
 use Rattle.command_line.proofs.reading.read_text.Statement.{statement}
@@ -81,18 +82,21 @@ module _ (c : tie.After-word-of) where
   by-word : (w : Word) → c .word-of .result ≡ w → tagged text ≡ wordedAs w (tag (c .before .before .before .before .before .before .before .before .before .before)) rest
   by-word w e = spaced (c .before .before .before .before .before .before) ∙ word-read _ _ word rest (token-found _ (c .before .before .before .before .before .atom .ensures .0) (c .before .before .before .word .given .1)) ∙ ap (λ (x : Word). wordedAs x (tag (c .before .before .before .before .before .before .before .before .before .before)) rest) (word-is ∙ e)
 
+  -- a word's own function answers
+  arm : (w : Word) {r : Command} → c .word-of .result ≡ w → Answers text (wordedAs w (tag (c .before .before .before .before .before .before .before .before .before .before)) rest) (TagIn text (c .before .before .before .before .before .before .before .before .before .before .before .tag2 .given .0 .0)) r → Answers text (tagged text) Unit r
+  arm w e a = answers-as a (by-word w e) (λ u. tagged-in (c .before .before .before .before .before .before .before .before .before .before))
+
 returns-4 : tie.Need-returns-4
-returns-4 c =
-    let stage = c .before .before .before .before .before .before .before .before .before .before .before .before .before in
-    answers-as (c .read-list .ensures) (by-word (c .before .before .before) _ (c .before .enum-told4 .given .1)) (λ u. tagged-in (stage))
+returns-4 c = arm (c .before .before .before) _ (c .before .enum-told4 .given .1) (c .read-list .ensures)
 
 returns-5 : tie.Need-returns-5
-returns-5 c =
-    let stage = c .before .before .before .before .before .before .before .before .before .before .before .before .before in
-    answers-as (c .read-namespace .ensures) (by-word (c .before .before .before) _ (c .before .enum-told5 .given .1)) (λ u. tagged-in (stage))
+returns-5 c = arm (c .before .before .before) _ (c .before .enum-told5 .given .1) (c .read-namespace .ensures)
 
 returns-6 : tie.Need-returns-6
-returns-6 c = refuses _ 5 (c .refused4 .ensures) (by-word (c .before .before .before) _ (c .before .enum-told6 .given .1) ∙ other-word _ _)
+returns-6 c = arm (c .before .before .before) _ (c .before .enum-told6 .given .1) (c .read-lsub .ensures)
+
+returns-7 : tie.Need-returns-7
+returns-7 c = refuses _ 5 (c .refused4 .ensures) (by-word (c .before .before .before) _ (c .before .enum-told7 .given .1) ∙ other-word _ _)
 
 pub read-text-spec : {M : Type 1} → statement M
 read-text-spec =
@@ -121,6 +125,9 @@ read-text-spec =
     (λ c κs. search needs)
     (λ c. search needs)
     (λ c κs. search needs)
+    (λ c. search needs)
+    (λ c κs. search needs)
     returns-4
     returns-5
-    returns-6)
+    returns-6
+    returns-7)

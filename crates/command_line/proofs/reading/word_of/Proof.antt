@@ -1,26 +1,55 @@
--- `word_of` is the table, word by word.
-use mathlib.Core.Path.{sym, _∙_}
+-- `word_of` is the table, word by word. Rests on Wording.
+use mathlib.Core.Path.{_≡_, sym, _∙_}
+use mathlib.Core.Bool.{false}
 use borrow.Author.Needs.{needs}
-use Rattle.listing_rules.specs.Bytes.{text}
-use Rattle.command_line.specs.Words.{wordOf}
+use Rattle.listing_rules.specs.Bytes.{text, spells}
+use Rattle.command_line.proofs.Wording.{word-list, word-namespace, word-lsub, word-unknown}
 use Rattle.command_line.proofs.reading.word_of.Statement.{statement}
 use Rattle.command_line.proofs.reading.word_of.Tie as tie
 
+-- ---- what each test shows
+
+not-list : (c : tie.Else1) → spells (c .before .before .before .before .args .name .now) (text "LIST") ≡ false
+unfolding text
+not-list c = sym (c .before .spells-word .ensures) ∙ c .if1 .left
+
+not-namespace : (c : tie.Else2) → spells (c .before .before .before .before .before .before .before .args .name .now) (text "NAMESPACE") ≡ false
+unfolding text
+not-namespace c = sym (c .before .spells-word2 .ensures) ∙ c .if2 .left
+
+-- ---- the words
+
 returns : tie.Need-returns
-unfolding wordOf text
-returns c = rw (sym (c .before .spells-word .ensures) ∙ c .if1 .taken)
+unfolding text
+returns c = sym (word-list _ (sym (c .before .spells-word .ensures) ∙ c .if1 .taken))
 
 returns-2 : tie.Need-returns-2
-unfolding wordOf text
-returns-2 c =
-    let after-spells-word = c .before .before .before .before in
-    rw (sym (after-spells-word .spells-word .ensures) ∙ c .before .before .before .if1 .left, sym (c .before .spells-word2 .ensures) ∙ c .if2 .taken)
+unfolding text
+returns-2 c = sym (word-namespace _ (not-list (c .before .before .before)) (sym (c .before .spells-word2 .ensures) ∙ c .if2 .taken))
 
 returns-3 : tie.Need-returns-3
-unfolding wordOf text
+unfolding text
 returns-3 c =
-    let after-spells-word = c .before .before .before .before in
-    rw (sym (after-spells-word .spells-word .ensures) ∙ c .before .before .before .if1 .left, sym (c .before .spells-word2 .ensures) ∙ c .if2 .left)
+    let second = c .before .before .before in
+    sym (word-lsub _ (not-list (second .before .before .before)) (not-namespace second) (sym (c .before .spells-word3 .ensures) ∙ c .if3 .taken))
+
+returns-4 : tie.Need-returns-4
+unfolding text
+returns-4 c =
+    let second = c .before .before .before in
+    sym (word-unknown _ (not-list (second .before .before .before)) (not-namespace second) (sym (c .before .spells-word3 .ensures) ∙ c .if3 .left))
 
 pub word-of-spec : {M : Type 1} → statement M
-word-of-spec = tie.close (tie.spec (λ c. search needs) (λ c κs. search needs) returns (λ c. search needs) (λ c κs. search needs) returns-2 returns-3)
+word-of-spec =
+    tie.close
+    (tie.spec
+    (λ c. search needs)
+    (λ c κs. search needs)
+    returns
+    (λ c. search needs)
+    (λ c κs. search needs)
+    returns-2
+    (λ c. search needs)
+    (λ c κs. search needs)
+    returns-3
+    returns-4)

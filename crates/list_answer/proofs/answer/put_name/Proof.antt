@@ -17,7 +17,7 @@ returns c =
     let start = c .before .before .before .before .before .before .before in
     let a = start .args in
     let table = rowsAt (a .area .now) (a .words .now) in
-    rw (text-none table (optionsIs (a .question .options)) (unpacked (a .patterns .now)) (begun (a .area .now) (a .words .now) (a .name)) (sym (c .before .before .decide .ensures) ∙ c .enum-told .given .1))
+    rw (text-none (a .question .word) table (optionsIs (a .question .options)) (unpacked (a .patterns .now)) (begun (a .area .now) (a .words .now) (a .name)) (sym (c .before .before .decide .ensures) ∙ c .enum-told .given .1))
     (put-none _ _ (search needs) (search needs))
 
 slice-aggregate-put-line : tie.Need-slice-aggregate-put-line
@@ -47,7 +47,7 @@ returns-2 c =
     let area = a .area .now in
     let words = a .words .now in
     let bytes = named area (getD words (a .name .row) 0) (row .result) (row .ensures) (looked .result .now) (looked .ensures) in
-    let text = text-line (rowsAt area words) (optionsIs (a .question .options)) (unpacked (a .patterns .now)) (begun area words (a .name)) (line .0 .0) (line .0 .1 .0) (sym (shown .ensures) ∙ line .1) in
+    let text = text-line (a .question .word) (rowsAt area words) (optionsIs (a .question .options)) (unpacked (a .patterns .now)) (begun area words (a .name)) (line .0 .0) (line .0 .1 .0) (sym (shown .ensures) ∙ line .1) in
     rw (text, ← bytes) (c .before .before .put-line .ensures)
 
 pub put-name-spec : {M : Type 1} → statement M

@@ -44,11 +44,11 @@ loop-holds c =
     let place = c .before .before .before .of-word .ensures in
     let first : c .first-length .result ≡ cond deep (nthRow words i .shared) (nthRow words i .len - 1) = c .first-length .ensures ∙ ap (λ (r : Place). cond deep (r .shared) (r .len - 1)) place in
     let size = ap (λ (r : Place). r .len) place in
-    let range = first-range area words x o ps i (start .pre .1) deep in (
+    let range = first-range area words x (question .word) o ps i (start .pre .1) deep in (
       size,
       omega (arith, first, range .0),
       omega (arith, first, range .1, size),
-      putting-none _ _ (search needs) (search needs) (ap (beyond (textOf area words (start .args .patterns .now) question) (nthName area words i)) first ∙ first-shown area words x o ps i (start .pre .1) deep asked),
+      putting-none _ _ (search needs) (search needs) (ap (beyond (textOf area words (start .args .patterns .now) question) (nthName area words i)) first ∙ first-shown area words x (question .word) o ps i (start .pre .1) deep asked),
     )
 
 put-name-requires : tie.Need-put-name-requires Inv-loop μ-loop

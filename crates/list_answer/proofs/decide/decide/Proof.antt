@@ -1,5 +1,5 @@
 -- `list_answer::decide::decide` meets its contract: what stands and matches is shown. By Showing, what lies below by Deciding.
-use mathlib.Core.Path.{_≡_, sym, _∙_}
+use mathlib.Core.Path.{_≡_, refl, sym, _∙_}
 use mathlib.Core.Bool.{_&&_}
 use borrow.Author.Tests.{not-true, not-false}
 use Rattle.listing_rules.specs.Listing.{meetsBelow, hasChildren}
@@ -8,7 +8,7 @@ use Rattle.mailbox_table.specs.Index.{rowsAt}
 use Rattle.pattern.specs.Packed.{unpacked}
 use Rattle.list_answer.specs.Shown.{begun}
 use Rattle.list_answer.proofs.Deciding.{meets-below, children-below}
-use Rattle.list_answer.proofs.Showing.{shown-not, shown-unmatched, shown-line}
+use Rattle.list_answer.proofs.Showing.{shown-not, shown-unmatched, shown-list, shown-lsub}
 use borrow.Author.Needs.{needs}
 use Rattle.list_answer.proofs.decide.decide.Statement.{statement}
 use Rattle.list_answer.proofs.decide.decide.Tie as tie
@@ -24,7 +24,7 @@ returns c =
     let o = optionsIs (a .question .options) in
     let ps = unpacked (a .patterns .now) in
     let n = begun (a .area .now) (a .words .now) (a .name) in
-    shown-not table o ps n (standing .result .level) (standing .result .counts) (stands .level) (stands .counts) (not-true _ (c .if1 .taken))
+    shown-not (a .question .word) table o ps n (standing .result .level) (standing .result .counts) (stands .level) (stands .counts) (not-true _ (c .if1 .taken))
 
 returns-2 : tie.Need-returns-2
 returns-2 c =
@@ -38,19 +38,39 @@ returns-2 c =
     let o = optionsIs (a .question .options) in
     let ps = unpacked (a .patterns .now) in
     let n = begun (a .area .now) (a .words .now) (a .name) in
-    shown-unmatched table o ps n (standing .result .level) (standing .result .counts) (stands .level) (stands .counts) (not-false _ (c .before .before .if1 .left))
+    shown-unmatched (a .question .word) table o ps n (standing .result .level) (standing .result .counts) (stands .level) (stands .counts) (not-false _ (c .before .before .if1 .left))
     (c .before .is-matched .result) (c .before .is-matched .ensures) (not-true _ (c .if2 .taken))
 
 returns-3 : tie.Need-returns-3
 returns-3 c =
-    let after-asked-below = c .before .before .before .before in
-    let after-is-recursive = after-asked-below .before in
-    let at-if2 = after-is-recursive .before in
+    let at-if2 = c .before .before .before in
     let after-is-matched = at-if2 .before in
     let at-if1 = after-is-matched .before in
     let after-look-at = at-if1 .before .before in
-    let stage = after-look-at .before .before .before .before in
-    let start = stage in
+    let start = after-look-at .before .before .before .before in
+    let standing = after-look-at .look-at in
+    let stands = standing .ensures (start .args .patterns .now) (start .pre .0) in
+    let matched = after-is-matched .is-matched in
+    let question = start .args .question in
+    let n = begun (start .args .area .now) (start .args .words .now) (start .args .name) in
+    shown-lsub (question .word) (rowsAt (start .args .area .now) (start .args .words .now)) (optionsIs (question .options)) (unpacked (start .args .patterns .now)) n
+    (standing .result .level) (standing .result .counts) (stands .level) (stands .counts) (not-false _ (at-if1 .if1 .left))
+    (matched .result) (matched .ensures)
+    (c .before .enum-told .given .1) (not-false _ (at-if2 .if2 .left))
+    (standing .result .flags .bits) (stands .flags)
+    (c .lsub-attributes .result) (c .lsub-attributes .ensures)
+    (record { bits = 0 }) refl
+
+returns-4 : tie.Need-returns-4
+returns-4 c =
+    let after-asked-below = c .before .before .before .before in
+    let after-is-recursive = after-asked-below .before in
+    let after-word = after-is-recursive .before in
+    let at-if2 = after-word .before .before in
+    let after-is-matched = at-if2 .before in
+    let at-if1 = after-is-matched .before in
+    let after-look-at = at-if1 .before .before in
+    let start = after-look-at .before .before .before .before in
     let standing = after-look-at .look-at in
     let stands = standing .ensures (start .args .patterns .now) (start .pre .0) in
     let matched = after-is-matched .is-matched in
@@ -65,15 +85,17 @@ returns-3 c =
     let ready = start .pre .0 in
     let x = ready .index .indexed in
     let at = start .pre .1 in
-    let o = optionsIs (start .args .question .options) in
+    let question = start .args .question in
+    let o = optionsIs (question .options) in
     let ps = unpacked (start .args .patterns .now) in
     let n = begun area words name in
     let children : parent .result ≡ (o .retChildren && hasChildren (rowsAt area words) o n)
     = parent .ensures ∙ (λ i. asked .ensures i && sym (children-below area words x name at o ps (ready .marked)) i) in
     let info : below .result ≡ (o .selRecursive && meetsBelow (rowsAt area words) o n)
     = below .ensures ∙ (λ i. recursive .ensures i && sym (meets-below area words x name at o ps (ready .marked)) i) in
-    shown-line (rowsAt area words) o ps n (standing .result .level) (standing .result .counts) (stands .level) (stands .counts) (not-false _ (at-if1 .if1 .left))
-    (matched .result) (matched .ensures) (not-false _ (at-if2 .if2 .left))
+    shown-list (question .word) (rowsAt area words) o ps n (standing .result .level) (standing .result .counts) (stands .level) (stands .counts) (not-false _ (at-if1 .if1 .left))
+    (matched .result) (matched .ensures)
+    (after-word .enum-told2 .given .1) (not-false _ (at-if2 .if2 .left))
     (standing .result .flags .bits) (stands .flags)
     (parent .result) children
     (attributes .result) (attributes .ensures)
@@ -88,10 +110,14 @@ decide-spec =
     returns
     (λ c κs. search needs)
     returns-2
+    (λ c. search needs)
+    (λ c κs. search needs)
+    (λ c. search needs)
     (λ c κs. search needs)
     (λ c κs. search needs)
     (λ c κs. search needs)
     (λ c κs. search needs)
     (λ c κs. search needs)
     (λ c κs. search needs)
-    returns-3)
+    returns-3
+    returns-4)

@@ -6,7 +6,7 @@ use Rattle.list_answer.proofs.question.Question.of.Statement.{statement
 use Rattle.list_answer.proofs.question.Question.of.Tie as tie
 
 returns : tie.Need-returns
-returns c = (refl, λ i. c .before .is-unselective .ensures i && c .some-level .ensures i)
+returns c = (refl, refl, λ i. c .before .is-unselective .ensures i && c .some-level .ensures i)
 
 pub of-spec : {M : Type 1} → statement M
 of-spec = tie.close (tie.spec (λ c κs. search needs) (λ c κs. search needs) returns)

@@ -1,6 +1,6 @@
--- `collect_packed` meets its contract: a packed table that has no records is refused, and its records are walked (`collect_words`). By
+-- `packed::collect_packed` meets its contract: a packed table that has no records is refused, and its records are walked (`collect_words`). By
 -- UnpackedLaws of mailbox_table; demand 3 by WholeLaws.
-use mathlib.Core.Path.{_≡_, refl, sym, ap, subst, _∙_}
+use mathlib.Core.Path.{_≡_, ap, subst}
 use Prim.Native.Nat.{ℕ, _≤_}
 use native.Mathlib.Omega.{arith}
 use lib.ListN.{length, length-replicate}
@@ -9,10 +9,9 @@ use Rattle.listing_rules.specs.Table.{Table, packedTable}
 use Rattle.mailbox_table.specs.declared.Indexing.{Indexing}
 use Rattle.mailbox_table.specs.Packed.{Unpacks}
 use Rattle.mailbox_table.proofs.UnpackedLaws.{Turned, unpacked-turned, unpacked-none}
-use Rattle.collector.proofs.PackLaws.{cleared}
 use Rattle.collector.proofs.WholeLaws.{Promise, promise-refused, refuses-table}
-use Rattle.collector.proofs.collect_packed.Statement.{statement}
-use Rattle.collector.proofs.collect_packed.Tie as tie
+use Rattle.collector.proofs.packed.collect_packed.Statement.{statement}
+use Rattle.collector.proofs.packed.collect_packed.Tie as tie
 
 returns : tie.Need-returns
 returns c =

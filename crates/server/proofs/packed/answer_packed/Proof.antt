@@ -1,12 +1,12 @@
--- `server::answer_packed` meets its contract: refusal 1, and what `answer_index` gives. By Order; the index by Inputs.
+-- `server::packed::answer_packed` meets its contract: refusal 1, and what `answer_index` gives. By Order; the index by Inputs.
 use mathlib.Core.Path.{ap}
 use lib.ListN.{length, take}
 use Rattle.listing_rules.specs.Table.{packedTable}
 use Rattle.server.proofs.Inputs.{index-fails, index-passes, Known, index-rows}
 use Rattle.server.proofs.Order.{refused-with, served-1, served-on}
 use borrow.Author.Needs.{needs}
-use Rattle.server.proofs.answer_packed.Statement.{statement}
-use Rattle.server.proofs.answer_packed.Tie as tie
+use Rattle.server.proofs.packed.answer_packed.Statement.{statement}
+use Rattle.server.proofs.packed.answer_packed.Tie as tie
 
 -- the rows, where they are found
 known : (c : tie.After-n) → Known (c .before .before .before .index .ensures) (ap length (c .before .before .before .before .before .no-words .ensures)) (c .n .given .0 .0)

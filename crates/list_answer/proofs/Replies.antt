@@ -1,0 +1,59 @@
+-- The reply to a question is that of the LIST or the LSUB command that asked it. LSUB rests on listing_rules' LsubLaws.
+use mathlib.Core.Path.{_≡_, refl, sym, ap, _∙_}
+use mathlib.Core.Bool.{Bool, true, false}
+use mathlib.Core.List.{List, _++_, map}
+use Prim.Native.Nat.{ℕ, _≤_}
+use lib.ListN.{length}
+use Rattle.listing_rules.specs.Bytes.{bit}
+use Rattle.listing_rules.specs.Lists.{anyOf, joined}
+use Rattle.listing_rules.specs.Table.{Row}
+use Rattle.listing_rules.specs.Options.{Options as Named}
+use Rattle.listing_rules.specs.Listing.{endsInPercent, unselective}
+use Rattle.listing_rules.specs.Lines.{listLine, okLine}
+use Rattle.listing_rules.specs.Lsub.{lsubLine}
+use Rattle.listing_rules.specs.Server.{answered, lineOf, listAnswer, lsubAnswer}
+use Rattle.listing_rules.proofs.LsubLaws.{subscribing, lsub-as-list}
+use Rattle.list_line.specs.declared.words.LineWord.the-variants.{List as OfList, Lsub as OfLsub}
+use Rattle.list_line.specs.Words.{startOf}
+use Rattle.command_line.specs.declared.Options.{Options}
+use Rattle.command_line.specs.OptionSets.{optionsIs}
+use Rattle.mailbox_table.specs.Index.{rowsAt}
+use Rattle.pattern.specs.Packed.{unpacked}
+use Rattle.list_answer.specs.declared.question.Question.{Question}
+use Rattle.list_answer.specs.Marks.{levelsAsked}
+use Rattle.list_answer.specs.Ready.{Asks, AsksLsub, lsubSet}
+use Rattle.list_answer.specs.Shown.{attributesOn, criteriaOn, lineOn, answerFor, replyTo, listReply, lsubReply}
+
+list-answer : (rs : List Row) (tag : List ℕ) (o : Named) (ps : List (List ℕ)) → answerFor OfList rs tag o ps ≡ listAnswer rs tag o ps
+unfolding answerFor listAnswer lineOn lineOf listLine startOf attributesOn criteriaOn
+list-answer rs tag o ps = refl
+
+lsub-answer : (rs : List Row) (tag : List ℕ) (ps : List (List ℕ)) (r : Bool) → r ≡ anyOf endsInPercent ps → length ps ≤ 1 → answerFor OfLsub rs tag (subscribing r) ps ≡ lsubAnswer rs tag ps
+unfolding answerFor lsubAnswer lineOn lsubLine startOf attributesOn criteriaOn
+lsub-answer rs tag ps r e h = rw e (ap (λ (ns : List (List ℕ)). joined (map (lsubLine rs) ns) ++ okLine tag) (sym (lsub-as-list rs ps h)))
+
+-- the options of an LSUB question
+pub lsub-options : (o : Options) (r : Bool) → o .bits ≡ lsubSet r → optionsIs o ≡ subscribing r
+unfolding optionsIs bit
+lsub-options o true e = rw e
+lsub-options o false e = rw e
+
+-- which lists no levels, since SUBSCRIBED is selected
+pub lsub-levels : (o : Options) (r : Bool) (ps : List (List ℕ)) → o .bits ≡ lsubSet r → levelsAsked (optionsIs o) ps ≡ false
+unfolding unselective
+lsub-levels o r ps e = rw (lsub-options o r e) (go r)
+  where
+    go : (c : Bool) → levelsAsked (subscribing c) ps ≡ false
+    go true = refl
+    go false = refl
+
+module _ (area words patterns tag : List ℕ) (q : Question) where
+  pub list-reply : (o : Options) → Asks patterns o q → replyTo area words patterns q tag ≡ listReply area words patterns o tag
+  list-reply o a =
+      (λ i. answered (answerFor (a .1 i) (rowsAt area words) tag (optionsIs (a .0 i)) (unpacked patterns)))
+      ∙ ap answered (list-answer (rowsAt area words) tag (optionsIs o) (unpacked patterns))
+
+  pub lsub-reply : AsksLsub patterns q → length (unpacked patterns) ≤ 1 → replyTo area words patterns q tag ≡ lsubReply area words patterns tag
+  lsub-reply a h =
+      (λ i. answered (answerFor (a .1 i) (rowsAt area words) tag (lsub-options (q .options) (anyOf endsInPercent (unpacked patterns)) (a .0) i) (unpacked patterns)))
+      ∙ ap answered (lsub-answer (rowsAt area words) tag (unpacked patterns) (anyOf endsInPercent (unpacked patterns)) refl h)

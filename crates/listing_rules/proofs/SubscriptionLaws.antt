@@ -1,0 +1,225 @@
+-- W6: 15 exactly where a row to be put in has no room; an accepted edit of a store that passes keeps its sizes and check 1, leaves the other rows as
+-- they are, and does to the subscribed names what it does to a plain set; so does a series. Rests on EditPasses.
+use mathlib.Core.Path.{_≡_, refl, sym, ap, _∙_, subst}
+use mathlib.Core.Bool.{Bool, true, false, cond, _&&_, _||_, not, false≢true, and-false}
+use mathlib.Core.List.{List, [], _∷_}
+use mathlib.Core.Option.{Option, none, some}
+use Prim.Native.Nat.{ℕ, _≤_, _<_}
+use lib.Dec.{ltb, eqb}
+use lib.ListN.{length}
+use borrow.Author.Tests.{ltb-true, not-true, lt-ltb, le-ltb}
+use Rattle.listing_rules.specs.Bytes.{same}
+use Rattle.listing_rules.specs.Lists.{keep}
+use Rattle.listing_rules.specs.Names.{lawfulName}
+use Rattle.listing_rules.specs.Flags.{subscribed, lawfulFlags}
+use Rattle.listing_rules.specs.Table.{Row, names, hasRow, passes}
+use Rattle.listing_rules.specs.Records.{Record, rowOf}
+use Rattle.listing_rules.specs.Subscriptions.{Edit, subscribe, unsubscribe, Store, storeTable, held, storeRows, spelled, rowsBefore, belowNoInferiors, freeRun}
+use Rattle.listing_rules.specs.Subscriptions.{withSubscribed, withoutSubscribed, nth, flagged, inserted, removed, Edited, denied, stored, insertion, subscribing}
+use Rattle.listing_rules.specs.Subscriptions.{unsubscribing, edited, storeAfter, isIn, subscribedNames, setEdited, setAfter, editedAll, setAll}
+use Rattle.listing_rules.proofs.Bools.{and-l, and-r}
+use Rattle.listing_rules.proofs.ListLaws.{every-mem}
+use Rattle.listing_rules.proofs.Sorted.{ascends-asc}
+use Rattle.listing_rules.proofs.FreeRuns.{FreeAt, run-free, run-none, none-run}
+use Rattle.listing_rules.proofs.EditRows.{subscribedIn, others-kept, set-changed}
+use Rattle.listing_rules.proofs.EditPlaces.{Found, Gap, found, gap}
+use Rattle.listing_rules.proofs.EditFlags.{set-subscribed, set-inferiors, set-lawful, clear-subscribed, clear-inferiors, clear-lawful}
+use Rattle.listing_rules.proofs.EditLayout.{parts-nth}
+use Rattle.listing_rules.proofs.EditPasses.{StoreParts, store-parts, parts-store, Done, own-parts, own-member, flagged-done, removed-done, inserted-done, unchanged-done}
+
+-- the name of an edit as it is spelled, and whether the edit subscribes it
+abbrev pub nameOf : Edit → List ℕ
+nameOf (subscribe n) = spelled n
+nameOf (unsubscribe n) = spelled n
+
+abbrev pub subscribes : Edit → Bool
+subscribes (subscribe n) = true
+subscribes (unsubscribe n) = false
+
+abbrev isStored : Edited → Bool
+isStored (denied k) = false
+isStored (stored t) = true
+
+refused-not : (k : ℕ) (t : Store) → denied k ≡ stored t → ⊥
+refused-not k t e = false≢true (ap isStored e)
+
+stored-is : (s t : Store) → stored s ≡ stored t → s ≡ t
+unfolding storeAfter
+stored-is s t e = ap (storeAfter s) e
+
+module _ (s t : Store) (n : List ℕ) (sp : StoreParts s) where
+  its-record : hasRow (storeRows s) n ≡ true → Found (s .area) (held s) n
+  unfolding storeRows
+  its-record h = found (s .area) n (held s) (ascends-asc (names (storeRows s)) (sp .parts .ascend)) h
+
+  its-gap : hasRow (storeRows s) n ≡ false → Gap (s .area) (held s) n
+  unfolding storeRows
+  its-gap h = gap (s .area) n (held s) (ascends-asc (names (storeRows s)) (sp .parts .ascend)) h
+
+  -- the flags at the place of the name
+  its-flags : (w : Found (s .area) (held s) n) → nth (s .records) (rowsBefore (storeRows s) n) .flags ≡ w .it .flags
+  unfolding storeRows
+  its-flags w = ap (λ (k : ℕ). nth (s .records) k .flags) (w .place) ∙ ap (λ (r : Record). r .flags) (parts-nth s (w .front) (w .it) (w .back) _ (own-parts s n sp w))
+
+  its-lawful : (w : Found (s .area) (held s) n) → lawfulFlags (w .it .flags) ≡ true
+  unfolding rowOf
+  its-lawful w = every-mem (λ (r : Row). lawfulFlags (r .flags)) (storeRows s) (sp .parts .lawful-flags) (rowOf (s .area) (w .it)) (own-member s n sp w)
+
+  -- an insertion that is accepted
+  insertion-done : hasRow (storeRows s) n ≡ false → lawfulName n ≡ true → belowNoInferiors (storeRows s) n ≡ false → insertion s n ≡ stored t → Done s t n true
+  unfolding insertion storeRows
+  insertion-done h l b e = run (freeRun s (length n)) refl e
+    where
+      go : (start : ℕ) → freeRun s (length n) ≡ some start → (o : Bool) → (ltb (s .count) 512 && ltb (s .count) (length (s .records))) ≡ o → cond o (stored (inserted s (rowsBefore (storeRows s) n) start n)) (denied 15) ≡ stored t → Done s t n true
+      go start f true c k =
+          let w = its-gap h in
+          subst (λ (x : Store). Done s x n true) (ap (λ (j : ℕ). inserted s j start n) (sym (w .place)) ∙ stored-is _ t k)
+          (inserted-done s n sp w start l b (run-free s (length n) start f) (ltb-true (s .count) 512 (and-l (ltb (s .count) 512) (ltb (s .count) (length (s .records))) c)) (ltb-true (s .count) (length (s .records)) (and-r (ltb (s .count) 512) (ltb (s .count) (length (s .records))) c)))
+      go start f false c k = absurd (refused-not 15 t k)
+
+      run : (r : Option ℕ) → freeRun s (length n) ≡ r → (elim r [ none ↦ denied 15 | some start ↦ cond (ltb (s .count) 512 && ltb (s .count) (length (s .records))) (stored (inserted s (rowsBefore (storeRows s) n) start n)) (denied 15) ]) ≡ stored t → Done s t n true
+      run none f k = absurd (refused-not 15 t k)
+      run (some start) f k = go start f (ltb (s .count) 512 && ltb (s .count) (length (s .records))) refl k
+
+  subscribing-done : subscribing s n ≡ stored t → Done s t n true
+  unfolding subscribing storeRows
+  subscribing-done e = go (hasRow (storeRows s) n) refl e
+    where
+      k : ℕ
+      k = rowsBefore (storeRows s) n
+
+      fresh : (o : Bool) → (lawfulName n && not (belowNoInferiors (storeRows s) n)) ≡ o → hasRow (storeRows s) n ≡ false → cond o (insertion s n) (denied 14) ≡ stored t → Done s t n true
+      fresh true c h q =
+          insertion-done h (and-l (lawfulName n) (not (belowNoInferiors (storeRows s) n)) c)
+          (not-true (belowNoInferiors (storeRows s) n) (and-r (lawfulName n) (not (belowNoInferiors (storeRows s) n)) c)) q
+      fresh false c h q = absurd (refused-not 14 t q)
+
+      go : (o : Bool) → hasRow (storeRows s) n ≡ o → cond o (stored (flagged s k (withSubscribed (nth (s .records) k .flags)))) (cond (lawfulName n && not (belowNoInferiors (storeRows s) n)) (insertion s n) (denied 14)) ≡ stored t → Done s t n true
+      go true h q =
+          let w = its-record h in
+          let f = w .it .flags in
+          subst (λ (x : Store). Done s x n true) (sym (λ i. flagged s (w .place i) (withSubscribed (its-flags w i))) ∙ stored-is _ t q)
+          (subst (Done s (flagged s (length (w .front)) (withSubscribed f)) n) (set-subscribed f) (flagged-done s n sp w (withSubscribed f) (set-lawful f (its-lawful w)) (set-inferiors f)))
+      go false h q = fresh (lawfulName n && not (belowNoInferiors (storeRows s) n)) refl h q
+
+  unsubscribing-done : unsubscribing s n ≡ stored t → Done s t n false
+  unfolding unsubscribing storeRows
+  unsubscribing-done e = go (hasRow (storeRows s) n) refl e
+    where
+      k : ℕ
+      k = rowsBefore (storeRows s) n
+
+      two : (w : Found (s .area) (held s) n) (o : Bool) → eqb (nth (s .records) k .flags) 0x0002 ≡ o → cond o (stored (removed s k)) (stored (flagged s k (withoutSubscribed (nth (s .records) k .flags)))) ≡ stored t → Done s t n false
+      two w true c q = subst (λ (x : Store). Done s x n false) (ap (removed s) (sym (w .place)) ∙ stored-is _ t q) (removed-done s n sp w)
+      two w false c q =
+          let f = w .it .flags in
+          subst (λ (x : Store). Done s x n false) (sym (λ i. flagged s (w .place i) (withoutSubscribed (its-flags w i))) ∙ stored-is _ t q)
+          (subst (Done s (flagged s (length (w .front)) (withoutSubscribed f)) n) (clear-subscribed f) (flagged-done s n sp w (withoutSubscribed f) (clear-lawful f (its-lawful w) (ap (λ (x : ℕ). eqb x 2) (sym (its-flags w)) ∙ c)) (clear-inferiors f)))
+
+      go : (o : Bool) → hasRow (storeRows s) n ≡ o → cond o (cond (eqb (nth (s .records) k .flags) 0x0002) (stored (removed s k)) (stored (flagged s k (withoutSubscribed (nth (s .records) k .flags))))) (stored s) ≡ stored t → Done s t n false
+      go true h q = two (its-record h) (eqb (nth (s .records) k .flags) 0x0002) refl q
+      go false h q = subst (λ (x : Store). Done s x n false) (stored-is s t q) (unchanged-done s n sp (its-gap h))
+
+-- "an insertion with 512 rows, no spare record or no free run of name bytes long enough, with 15", and no other
+module _ (s : Store) (n : List ℕ) where
+  no-room : (ltb (s .count) 512 && ltb (s .count) (length (s .records))) ≡ false → insertion s n ≡ denied 15
+  unfolding insertion
+  no-room e = go (freeRun s (length n))
+    where
+      go : (r : Option ℕ) → (elim r [ none ↦ denied 15 | some start ↦ cond (ltb (s .count) 512 && ltb (s .count) (length (s .records))) (stored (inserted s (rowsBefore (storeRows s) n) start n)) (denied 15) ]) ≡ denied 15
+      go none = refl
+      go (some start) = ap (λ (o : Bool). cond o (stored (inserted s (rowsBefore (storeRows s) n) start n)) (denied 15)) e
+
+  pub rows-refused : 512 ≤ s .count → insertion s n ≡ denied 15
+  rows-refused h = no-room (ap (λ (o : Bool). o && ltb (s .count) (length (s .records))) (le-ltb (s .count) 512 h))
+
+  pub spare-refused : length (s .records) ≤ s .count → insertion s n ≡ denied 15
+  spare-refused h = no-room (ap (λ (o : Bool). ltb (s .count) 512 && o) (le-ltb (s .count) (length (s .records)) h) ∙ and-false (ltb (s .count) 512))
+
+  pub run-refused : ((at : ℕ) → FreeAt s (length n) at → ⊥) → insertion s n ≡ denied 15
+  unfolding insertion
+  run-refused f = rw (none-run s (length n) f, insertion)
+
+  pub insertion-made : s .count < 512 → s .count < length (s .records) → (at : ℕ) → 1 ≤ length n → FreeAt s (length n) at → (start : ℕ) × (freeRun s (length n) ≡ some start) × (insertion s n ≡ stored (inserted s (rowsBefore (storeRows s) n) start n))
+  unfolding insertion
+  insertion-made few room at h r = go (freeRun s (length n)) refl
+    where
+      go : (o : Option ℕ) → freeRun s (length n) ≡ o → (start : ℕ) × (o ≡ some start) × ((elim o [ none ↦ denied 15 | some start ↦ cond (ltb (s .count) 512 && ltb (s .count) (length (s .records))) (stored (inserted s (rowsBefore (storeRows s) n) start n)) (denied 15) ]) ≡ stored (inserted s (rowsBefore (storeRows s) n) start n))
+      go none e = absurd (run-none s (length n) h e at r)
+      go (some start) e = (start, refl, rw (lt-ltb (s .count) 512 few, lt-ltb (s .count) (length (s .records)) room))
+
+-- what an accepted edit does
+pub edited-done : (s t : Store) (e : Edit) → passes (storeTable s) ≡ true → edited s e ≡ stored t → Done s t (nameOf e) (subscribes e)
+unfolding edited
+edited-done s t (subscribe n) h q = subscribing-done s t (spelled n) (store-parts s h) q
+edited-done s t (unsubscribe n) h q = unsubscribing-done s t (spelled n) (store-parts s h) q
+
+-- what it does to the set of subscribed names
+done-set : (s t : Store) (e : Edit) → Done s t (nameOf e) (subscribes e) → (m : List ℕ) → isIn (subscribedNames t) m ≡ setEdited (isIn (subscribedNames s)) e m
+unfolding setEdited subscribedNames subscribedIn
+done-set s t (subscribe n) d m =
+    set-changed (storeRows s) (storeRows t) (spelled n) (d .change) m
+    ∙ ap (λ (b : Bool). cond (same (spelled n) m) b (isIn (subscribedNames s) m)) (d .row-after)
+    ∙ put (same (spelled n) m)
+  where
+    put : (b : Bool) → cond b true (isIn (subscribedNames s) m) ≡ (b || isIn (subscribedNames s) m)
+    put true = refl
+    put false = refl
+done-set s t (unsubscribe n) d m =
+    set-changed (storeRows s) (storeRows t) (spelled n) (d .change) m
+    ∙ ap (λ (b : Bool). cond (same (spelled n) m) b (isIn (subscribedNames s) m)) (d .row-after)
+    ∙ cut (same (spelled n) m)
+  where
+    cut : (b : Bool) → cond b false (isIn (subscribedNames s) m) ≡ (not b && isIn (subscribedNames s) m)
+    cut true = refl
+    cut false = refl
+
+module _ (s t : Store) (e : Edit) (h : passes (storeTable s) ≡ true) (q : edited s e ≡ stored t) where
+  -- no record and no byte is lent more or less, and the count stays within the records
+  pub edited-sizes : (length (t .records) ≡ length (s .records)) × (length (t .area) ≡ length (s .area)) × (t .count ≤ length (t .records))
+  edited-sizes = let d = edited-done s t e h q in (d .same-records, d .same-area, d .after .counted)
+
+  -- check 1 passes after it
+  pub edited-passes : passes (storeTable t) ≡ true
+  edited-passes = parts-store t (edited-done s t e h q .after)
+
+  -- "a success changes only the named row, the other rows keeping name, flags and order"
+  pub others-stay : keep (λ (r : Row). not (same (r .name) (nameOf e))) (storeRows t) ≡ keep (λ (r : Row). not (same (r .name) (nameOf e))) (storeRows s)
+  others-stay = others-kept (storeRows s) (storeRows t) (nameOf e) (edited-done s t e h q .change)
+
+  -- the subscribed names are those of a plain set that is given the edit
+  pub edited-set : (m : List ℕ) → isIn (subscribedNames t) m ≡ setEdited (isIn (subscribedNames s)) e m
+  edited-set m = done-set s t e (edited-done s t e h q) m
+
+-- a refusal, and a success, of a store that passes
+after-passes : (s : Store) (e : Edit) → passes (storeTable s) ≡ true → (x : Edited) → edited s e ≡ x → passes (storeTable (storeAfter s x)) ≡ true
+unfolding storeAfter
+after-passes s e h (denied k) q = h
+after-passes s e h (stored t) q = edited-passes s t e h q
+
+set-alike : (has like : List ℕ → Bool) (e : Edit) (m : List ℕ) → has m ≡ like m → setEdited has e m ≡ setEdited like e m
+unfolding setEdited
+set-alike has like (subscribe n) m h = ap (λ (b : Bool). same (spelled n) m || b) h
+set-alike has like (unsubscribe n) m h = ap (λ (b : Bool). not (same (spelled n) m) && b) h
+
+after-set : (s : Store) (e : Edit) → passes (storeTable s) ≡ true → (has : List ℕ → Bool) → ((m : List ℕ) → isIn (subscribedNames s) m ≡ has m) → (x : Edited) → edited s e ≡ x → (m : List ℕ) → isIn (subscribedNames (storeAfter s x)) m ≡ setAfter has e x m
+unfolding storeAfter setAfter
+after-set s e h has like (denied k) q m = like m
+after-set s e h has like (stored t) q m = edited-set s t e h q m ∙ set-alike (isIn (subscribedNames s)) has e m (like m)
+
+-- after any series of edits check 1 passes
+pub series-passes : (s : Store) (es : List Edit) → passes (storeTable s) ≡ true → passes (storeTable (editedAll s es)) ≡ true
+unfolding editedAll
+series-passes s [] h = h
+series-passes s (e ∷ es) h = series-passes (storeAfter s (edited s e)) es (after-passes s e h (edited s e) refl)
+
+series-set : (s : Store) (has : List ℕ → Bool) (es : List Edit) → passes (storeTable s) ≡ true → ((m : List ℕ) → isIn (subscribedNames s) m ≡ has m) → (m : List ℕ) → isIn (subscribedNames (editedAll s es)) m ≡ setAll s has es m
+unfolding editedAll setAll
+series-set s has [] h like m = like m
+series-set s has (e ∷ es) h like m =
+    series-set (storeAfter s (edited s e)) (setAfter has e (edited s e)) es (after-passes s e h (edited s e) refl) (after-set s e h has like (edited s e) refl) m
+
+-- "After any series of edits the subscribed names are those that a plain set, starting with the table's and given the same accepted edits,
+--  names so spelled, would hold."
+pub plain-set : (s : Store) (es : List Edit) → passes (storeTable s) ≡ true → (m : List ℕ) → isIn (subscribedNames (editedAll s es)) m ≡ setAll s (isIn (subscribedNames s)) es m
+plain-set s es h m = series-set s (isIn (subscribedNames s)) es h (λ k. refl) m

@@ -1,0 +1,11 @@
+-- Laws of edits. Those that crates above cite are public.
+pub mod PlanLaws
+mod PlaceLaws
+mod InferiorLaws
+mod FlagLaws
+mod MapLaws
+mod RunLaws
+mod DecideLaws
+mod ShiftLaws
+pub mod FitLaws
+pub mod AppliedLaws

@@ -1,0 +1,4 @@
+-- What an edit of an index comes to, and what it leaves.
+pub mod Plans
+pub mod Runs
+pub mod Applied

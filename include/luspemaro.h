@@ -11,7 +11,7 @@
  * An entry keeps no pointer and no memory between two calls, allocates nothing and makes no system call; so calls may run in several
  * threads at a time where none writes what another is lent.
  *
- * Document 01 is the paper of the rules.
+ * Documents 01 and 02 are the papers of the rules.
  */
 #ifndef LUSPEMARO_H
 #define LUSPEMARO_H
@@ -31,13 +31,15 @@ extern "C" {
 #endif
 
 /* ---- The mailbox table: rows, each with flags and a name, ascending by name. A row that does not exist has flags SUBSCRIBED alone; the
- * bits without a name are 0. An empty table passes. It is lent in one of two forms; rows that pass in both give the same answers.
+ * bits without a name are 0. An empty table passes. It is lent in one of two forms; rows that pass in both are walked alike.
  *
  * Records: a struct for each row, over one area of name bytes. The names lie inside the area, in any order and without overlap; bytes
- * that are no name's may hold anything. The first count records are the rows; those after them are spare and not looked at.
+ * that are no name's are free and may hold anything. The first count records are the rows; those after them are spare and not looked at.
+ * luspemaro_answer may change the rows: SUBSCRIBE may insert one, which takes the first spare record and the lowest run of free bytes
+ * that is long enough, and UNSUBSCRIBE may remove one, whose bytes become zero and free, and the last record zero and spare.
  *
- * Packed, for the entries that say so: rows without a gap. A row is its flags (2 bytes, high byte first), the name's length (1 to 200),
- * the name. */
+ * Packed, for the entries that say so: rows without a gap, for reading. A row is its flags (2 bytes, high byte first), the name's length
+ * (1 to 200), the name. */
 
 #define LUSPEMARO_FLAG_EXISTS 0x0001
 #define LUSPEMARO_FLAG_SUBSCRIBED 0x0002
@@ -62,7 +64,7 @@ extern "C" {
 #define LUSPEMARO_MAX_LEVELS 16 /* levels of a name, parted by "/" */
 
 /* A record of 6 bytes. flags: of LUSPEMARO_FLAG_ .. start: the place of the name's first byte in the area. len: the name's length, 1 to
- * 200. The last byte belongs to no member and is not looked at. */
+ * 200. The last byte belongs to no member: it is not looked at, and nothing is said of it after an edit. */
 struct luspemaro_record {
     uint16_t flags;
     uint16_t start;
@@ -118,7 +120,7 @@ struct luspemaro_record {
 #define LUSPEMARO_OPTION_SPECIAL_USE 0x02        /* only those with a special use */
 #define LUSPEMARO_OPTION_WITHOUT_SUBSCRIBED 0x04 /* those that are not subscribed too */
 
-/* ---- Document 01's numbers of refusal. Of several causes the first in the entry's order is told. */
+/* ---- The papers' numbers of refusal. Of several causes the first in the entry's order is told. */
 
 #define LUSPEMARO_DONE 0 /* no refusal */
 
@@ -126,7 +128,7 @@ struct luspemaro_record {
 #define LUSPEMARO_REFUSAL_NAMESPACES 2           /* the namespace list does not pass */
 #define LUSPEMARO_REFUSAL_LINE_SHAPE 3           /* too long, no CR LF at its end, a byte that no line has, a literal cut short or too long */
 #define LUSPEMARO_REFUSAL_GRAMMAR 4              /* the tag, or the rest after a known word, is off the grammar */
-#define LUSPEMARO_REFUSAL_WORD 5                 /* the word is none of LIST, LSUB and NAMESPACE */
+#define LUSPEMARO_REFUSAL_WORD 5                 /* the word is none of LIST, LSUB, NAMESPACE, SUBSCRIBE, UNSUBSCRIBE */
 #define LUSPEMARO_REFUSAL_OPTION 6               /* an unknown option, one with a value, or an unlawful option byte */
 #define LUSPEMARO_REFUSAL_RECURSIVEMATCH_ALONE 7 /* RECURSIVEMATCH with neither SUBSCRIBED nor SPECIAL-USE beside it */
 #define LUSPEMARO_REFUSAL_PATTERNS 8             /* over 8 patterns, or a canonical pattern of over 255 bytes */
@@ -135,6 +137,8 @@ struct luspemaro_record {
 #define LUSPEMARO_REFUSAL_PENDING_FULL 11        /* a pending name does not fit */
 #define LUSPEMARO_REFUSAL_NOT_SUCH_LINE 12       /* not a LIST line, or not the parts of one */
 #define LUSPEMARO_REFUSAL_BAD_FRAME 13           /* the program of frames alone: no entry gives it */
+#define LUSPEMARO_REFUSAL_UNLAWFUL_NAME 14       /* SUBSCRIBE: an unlawful name, or one below a row with no inferiors */
+#define LUSPEMARO_REFUSAL_NO_ROOM 15             /* SUBSCRIBE would insert a row: 512 rows, no spare record, or no free run long enough */
 
 /* ---- Rooms: lengths of lent memory with which 9, 10 and 11 are never given, whatever the table and the command. Less suffices for a
  * table of t bytes, those of the names and 3 for each row: an answer to a line of n bytes has at most 59 t + n + 1,666 bytes; scratch
@@ -157,7 +161,6 @@ struct luspemaro_record {
 #define LUSPEMARO_STACK_CHECK_NAMESPACES 12288
 #define LUSPEMARO_STACK_MATCHES 12288
 #define LUSPEMARO_STACK_ANSWER 323584
-#define LUSPEMARO_STACK_ANSWER_PACKED 286720
 #define LUSPEMARO_STACK_COLLECT 98304
 #define LUSPEMARO_STACK_COLLECT_PACKED 98304
 #define LUSPEMARO_STACK_WRITE_LINE 12288
@@ -167,8 +170,9 @@ struct luspemaro_record {
 
 /* ---- What the entries answer. */
 
-/* Of a call that writes into lent memory. number: LUSPEMARO_DONE or a refusal. length: bytes written at the front of out, or of found.
- * count: of a walk, the commands sent; else 0. A refusal has length 0 and count 0. */
+/* Of a call that writes into lent memory. number: LUSPEMARO_DONE or a refusal. length: bytes written at the front of out, or of found; 0
+ * with a refusal. count: of luspemaro_answer, how many of the records are rows now, which is the count passed but for an edit that
+ * inserts or removes a row; of a walk, the commands sent, 0 with a refusal; else 0. */
 struct luspemaro_outcome {
     uint8_t number;
     size_t length;
@@ -230,17 +234,17 @@ bool luspemaro_check_namespaces(const uint8_t *list, size_t list_length);
 /* Whether the name matches the canonical pattern, of any length. False of every name of over 255 bytes. */
 bool luspemaro_matches(const uint8_t *pattern, size_t pattern_length, const uint8_t *name, size_t name_length);
 
-/* The answer to one command line, LIST, LSUB or NAMESPACE, its CR LF included, at the front of out. Refusals, in this order: 1, 2, 3, 4
- * for the tag, 5, 4 for the rest, 6, 7, 8, 9; LSUB has neither 6 nor 7. The bytes after the answer stay; a refusal changes no byte. */
-struct luspemaro_outcome luspemaro_answer(const struct luspemaro_record *records, size_t records_length, size_t count,
-                                          const uint8_t *area, size_t area_length, const uint8_t *namespaces,
-                                          size_t namespaces_length, const uint8_t *line, size_t line_length, uint8_t *out,
-                                          size_t out_length);
-
-/* luspemaro_answer over a packed table. */
-struct luspemaro_outcome luspemaro_answer_packed(const uint8_t *table, size_t table_length, const uint8_t *namespaces,
-                                                 size_t namespaces_length, const uint8_t *line, size_t line_length, uint8_t *out,
-                                                 size_t out_length);
+/* The answer to one command line, LIST, LSUB, NAMESPACE, SUBSCRIBE or UNSUBSCRIBE, its CR LF included, at the front of out. Refusals, in
+ * this order: 1, 2, 3, 4 for the tag, 5, 4 for the rest, 6, 7, 8, 14, 15, 9; 6 and 7 are of LIST, 8 of LIST and LSUB, 14 and 15 of
+ * SUBSCRIBE. The bytes after the answer stay; a refusal changes no byte of out, no record and no byte of the area.
+ *
+ * SUBSCRIBE and UNSUBSCRIBE edit the rows. A name whose first level is INBOX in any case of letters is spelled INBOX first. SUBSCRIBE sets
+ * the flag SUBSCRIBED of the name's row, or inserts a row with that flag alone; UNSUBSCRIBE clears the flag, removes a row that has no
+ * other flag, and is done where the name has no subscription. The other rows keep flags, name and order, and where the names lie; the
+ * records after the place move by one. Other commands change no record and no byte of the area. */
+struct luspemaro_outcome luspemaro_answer(struct luspemaro_record *records, size_t records_length, size_t count, uint8_t *area,
+                                          size_t area_length, const uint8_t *namespaces, size_t namespaces_length,
+                                          const uint8_t *line, size_t line_length, uint8_t *out, size_t out_length);
 
 /* The collector's walk. option: the sum of LUSPEMARO_OPTION_ .. Finds lie at the front of found, length bytes of them, and the names
  * that were asked below at the front of pending, count - 1 of them; each as a length byte (1 to 200) and the name, in walk order. The

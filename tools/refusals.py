@@ -4,6 +4,12 @@
 refused for a fact if some error is of the kind `fact` and none is of the kind `text` or of no kind at all. Beside a text a fact
 counts for nothing: of a program that stores the same byte twice, and is right, a statement is refused first, and then the list of
 the function's needs. Where an error fits two lists, the first one holds.
+
+That an edit makes the program wrong is for its author to know. `b & a` for `a & b` is right, and its proof, which fits, leaves an
+equation that does not hold by computing: that is a fact too.
+
+`refused_together` reads what was printed of a crate with several edits. Each edit has functions of its own, and is judged by the
+errors of these alone, in the same way.
 """
 import re
 
@@ -24,9 +30,11 @@ TEXTS = (
     r'this pattern needs a function',  # a loop has other locals
 )
 
-# A step of a proof that finds nothing to do in the changed goal. Alone it shows nothing; beside a fact it does no harm.
+# A step of a proof that finds nothing to do in the changed goal, or leaves a statement that is no equation and may well hold. Alone it
+# shows nothing; beside a fact it does no harm.
 STEPS = (
     r"`rw`: no occurrence of the path's left endpoint in the goal",
+    r'`(?:rw|simp)` has no last argument, so what it leaves must be a path whose two ends are equal',
 )
 
 # What is to be shown does not follow, or the statement shown is the wanted one about other values.
@@ -35,7 +43,7 @@ FACTS = (
     r'`search`: no proof of',
     r'`search` does not close',
     r'`cc`(?: met a bound of its own before the equations had joined|: the equations do not join)',
-    r'`(?:rw|simp)` has no last argument, so what it leaves must be a path whose two ends are equal',
+    r'`(?:rw|simp)` has no last argument, so what it leaves must be a path whose two ends are equal, and `Path ',
     r'computed as far as they go, the two (?:types|values|sides) (?:first differ|differ only) where',
     r'as printed, the two (?:types|values|sides) (?:first differ|differ only) where one has `[^`]*`\s+\(\w+\), right after',
 )
@@ -70,7 +78,7 @@ def errors(output):
         if error:
             last = [error[1] + ':' + error[2], (error[3] or '') + error[4]]
             found.append(last)
-        elif unproved and 'search' in unproved[2]:
+        elif unproved and '`search`' in unproved[2]:
             found.append([unproved[1], unproved[2]])
             last = None
         elif last and CONTINUED.match(line):
@@ -126,21 +134,41 @@ def in_one_line(place, text):
     return re.sub(r'^(.*/)?crates/[^/]*/', '', place) + ': ' + said
 
 
+def judged(found):
+    """The word for these errors of a crate that is not proved, and the error that decides, in one line."""
+    first = {}
+    for place, text in found:
+        first.setdefault(kind(place, text), (place, text))
+    for word, decides in (('TEXT', 'text'), ('UNREAD', None), ('refused', 'fact')):
+        if decides in first:
+            return word, in_one_line(*first[decides])
+    return 'UNREAD', 'no fact is refused, but ' + (in_one_line(*first['step']) if 'step' in first else 'nothing that this script can read')
+
+
 def verdict(status, output):
     """The word for a check of an edited crate, and the error that decides, in one line. Only 'refused' passes."""
     last = re.search(r'^logic=(proved|not-proved)', output, re.MULTILINE)
     if status == 0 and last and last[1] == 'proved':
         return 'SURVIVED', 'the crate is still proved with this edit'
-    kinds = [(kind(place, text), in_one_line(place, text)) for place, text in errors(output)]
-    first = {}
-    for k, line in kinds:
-        first.setdefault(k, line)
-    if 'text' in first:
-        return 'TEXT', first['text']
-    if status != 1 or not last:
+    word, line = judged(errors(output))
+    if word != 'TEXT' and (status != 1 or not last):
         return 'NO VERDICT', 'status %d: %s' % (status, ' '.join(output.strip().split('\n')[-1:])[:WIDTH])
-    if None in first:
-        return 'UNREAD', first[None]
-    if 'fact' in first:
-        return 'refused', first['fact']
-    return 'UNREAD', 'no fact is refused, but ' + first.get('step', 'nothing that this script can read')
+    return word, line
+
+
+def proof_of(place):
+    """The folder of the proof that an error is in, as `lines/take_line`; None of an error elsewhere."""
+    file = re.match(r'(?:.*/)?crates/[^/]*/proofs/(.+)/[^/]*:\d+$', place)
+    name = re.match(r'\w+((?:::\w+)+)$', place)
+    return file[1] if file else name[1][2:].replace('::', '/') if name else None
+
+
+def refused_together(status, output, parts):
+    """Of the edits of one check, given by the folders of proofs that each alone can break, those that are refused for a fact: the
+    place of each among them, and the error that decides. None at all where the check says what belongs to no edit."""
+    found = [error for error in errors(output) if kind(*error) != 'follows']
+    owners = [[n for n, part in enumerate(parts) if proof_of(place) in part] for place, _ in found]
+    if status != 1 or not re.search('^logic=not-proved', output, re.MULTILINE) or any(len(owner) != 1 for owner in owners):
+        return {}
+    said = {n: judged([error for error, owner in zip(found, owners) if owner == [n]]) for n in range(len(parts))}
+    return {n: line for n, (word, line) in said.items() if word == 'refused'}

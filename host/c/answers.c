@@ -1,4 +1,4 @@
-/* Tests of luspemaro_answer and luspemaro_answer_packed. */
+/* Tests of luspemaro_answer and of the commands that change nothing: LIST, LSUB and NAMESPACE. */
 #include "check.h"
 
 #include <stdio.h>
@@ -8,20 +8,26 @@ static struct luspemaro_outcome answer_text(const struct rows *rows, const char 
     return answer_to(rows, line, strlen(line), room);
 }
 
-/* Whether this is the answer, and the bytes after it are as they were. */
+/* Whether this is the answer, the bytes after it are as they were, and so are the rows. */
 static bool answers(const struct rows *rows, const char *line, const char *answer)
 {
     struct luspemaro_outcome r = answer_text(rows, line, 2000);
-    return r.number == LUSPEMARO_DONE && r.length == strlen(answer) && r.count == 0 && front_untouched(OUT)
-           && memcmp(lent(OUT), answer, r.length) == 0 && all_are(lent(OUT) + r.length, 2000 - r.length, FILLER);
+    return r.number == LUSPEMARO_DONE && r.length == strlen(answer) && r.count == lent_records_length() && front_untouched(OUT)
+           && memcmp(lent(OUT), answer, r.length) == 0 && all_are(lent(OUT) + r.length, 2000 - r.length, FILLER) && rows_untouched();
 }
 
-/* Whether this refusal is given, with any buffer, and no byte changes. */
+/* Whether the answer is this refusal, with the count that was passed, and no byte has changed. */
+static bool refused(struct luspemaro_outcome outcome, unsigned number)
+{
+    return is_refusal_of_rows(outcome, number, lent_records_length()) && untouched(OUT) && rows_untouched();
+}
+
+/* Whether this refusal is given, with any buffer. */
 static bool refuses(const struct rows *rows, const void *line, size_t length, unsigned number)
 {
     static const size_t rooms[] = {0, 1, 2000};
     for (size_t i = 0; i < sizeof rooms / sizeof rooms[0]; i++)
-        if (!is_refusal(answer_to(rows, line, length, rooms[i]), number) || !untouched(OUT))
+        if (!refused(answer_to(rows, line, length, rooms[i]), number))
             return false;
     return true;
 }
@@ -194,8 +200,7 @@ static void short_buffers(void)
         memcpy(whole, lent(OUT), length);
         EXPECT(length > 0);
         for (size_t room = 0; room < length; room++) {
-            EXPECT(is_refusal(answer_text(table_e(), lines[i], room), LUSPEMARO_REFUSAL_SHORT_BUFFER));
-            EXPECT(untouched(OUT));
+            EXPECT(refused(answer_text(table_e(), lines[i], room), LUSPEMARO_REFUSAL_SHORT_BUFFER));
         }
         EXPECT(answer_text(table_e(), lines[i], length).length == length);
         EXPECT(memcmp(lent(OUT), whole, length) == 0 && front_untouched(OUT));
@@ -205,13 +210,11 @@ static void short_buffers(void)
 /* Nothing at all is lent. */
 static void nothing_lent(void)
 {
-    const struct luspemaro_record none = {0, 0, 0};
+    struct luspemaro_record none = {1, 2, 3};
     uint8_t nothing = FILLER;
     struct luspemaro_outcome r = luspemaro_answer(&none, 0, 0, &nothing, 0, &nothing, 0, &nothing, 0, &nothing, 0);
     EXPECT(is_refusal(r, LUSPEMARO_REFUSAL_LINE_SHAPE));
-    r = luspemaro_answer_packed(&nothing, 0, &nothing, 0, &nothing, 0, &nothing, 0);
-    EXPECT(is_refusal(r, LUSPEMARO_REFUSAL_LINE_SHAPE));
-    EXPECT(nothing == FILLER);
+    EXPECT(nothing == FILLER && none.flags == 1 && none.start == 2 && none.len == 3);
 }
 
 /* The room that suffices for every answer: here 512 rows of 16 levels, of which the pattern matches every ancestor and no row, so that
@@ -224,11 +227,11 @@ static void room_of_an_answer(void)
     memset(line, 't', sizeof line);
     memcpy(line + sizeof line - (sizeof rest - 1), rest, sizeof rest - 1);
     EXPECT(table_passes(table));
-    EXPECT(table->length == LUSPEMARO_MAX_TABLE + (form == RECORDS ? HEAD * LUSPEMARO_MAX_ROWS : 0));
+    EXPECT(table->length == LUSPEMARO_MAX_AREA + HEAD * LUSPEMARO_MAX_ROWS);
     struct luspemaro_outcome r = answer_to(table, line, sizeof line, LUSPEMARO_ROOM_ANSWER);
     EXPECT(r.number == LUSPEMARO_DONE);
     EXPECT(LUSPEMARO_ROOM_ANSWER / 5 * 4 < r.length && r.length <= 59 * table->length + sizeof line + 1666);
-    EXPECT(is_refusal(answer_to(table, line, sizeof line, r.length - 1), LUSPEMARO_REFUSAL_SHORT_BUFFER));
+    EXPECT(refused(answer_to(table, line, sizeof line, r.length - 1), LUSPEMARO_REFUSAL_SHORT_BUFFER));
 }
 
 const struct test answer_tests[] = {

@@ -147,9 +147,14 @@ const struct rows *largest_table(size_t count, size_t levels, unsigned flags)
 
 /* ---- records */
 
-const struct luspemaro_record *lent_records(void)
+struct luspemaro_record *lent_records(void)
 {
-    return (const struct luspemaro_record *)lent(RECORD);
+    return (struct luspemaro_record *)lent(RECORD);
+}
+
+size_t lent_records_length(void)
+{
+    return lent_length(RECORD) / sizeof(struct luspemaro_record);
 }
 
 /* Whether a whole row begins at this place. */
@@ -201,16 +206,28 @@ bool table_passes(const struct rows *rows)
     return luspemaro_check_records(lent_records(), count, count, lent(NAMES), lent_length(NAMES));
 }
 
-struct luspemaro_outcome answer_to(const struct rows *rows, const void *line, size_t line_length, size_t room)
+/* What the records and the names were before the last answer. */
+static uint8_t records_before[AREA_ROOM], names_before[AREA_ROOM];
+
+struct luspemaro_outcome answer_lent(size_t count, const void *line, size_t line_length, size_t room)
 {
     lend_bytes(LINE, line, line_length);
     lend(OUT, room);
-    if (form == PACKED)
-        return luspemaro_answer_packed(lend_packed(rows), rows->length, lent(NAMESPACES), lent_length(NAMESPACES), lent(LINE),
-                                       line_length, lent(OUT), room);
-    size_t count = lend_records(rows);
-    return luspemaro_answer(lent_records(), count, count, lent(NAMES), lent_length(NAMES), lent(NAMESPACES), lent_length(NAMESPACES),
-                            lent(LINE), line_length, lent(OUT), room);
+    memcpy(records_before, lent(RECORD), lent_length(RECORD));
+    memcpy(names_before, lent(NAMES), lent_length(NAMES));
+    return luspemaro_answer(lent_records(), lent_records_length(), count, lent(NAMES), lent_length(NAMES), lent(NAMESPACES),
+                            lent_length(NAMESPACES), lent(LINE), line_length, lent(OUT), room);
+}
+
+bool rows_untouched(void)
+{
+    return memcmp(records_before, lent(RECORD), lent_length(RECORD)) == 0 && front_untouched(RECORD)
+           && memcmp(names_before, lent(NAMES), lent_length(NAMES)) == 0 && front_untouched(NAMES);
+}
+
+struct luspemaro_outcome answer_to(const struct rows *rows, const void *line, size_t line_length, size_t room)
+{
+    return answer_lent(lend_records(rows), line, line_length, room);
 }
 
 struct luspemaro_outcome walk(const struct rows *rows, unsigned option, size_t scratch, size_t found, size_t pending)
@@ -228,7 +245,12 @@ struct luspemaro_outcome walk(const struct rows *rows, unsigned option, size_t s
 
 bool is_refusal(struct luspemaro_outcome outcome, unsigned number)
 {
-    return outcome.number == number && outcome.length == 0 && outcome.count == 0;
+    return is_refusal_of_rows(outcome, number, 0);
+}
+
+bool is_refusal_of_rows(struct luspemaro_outcome outcome, unsigned number, size_t count)
+{
+    return outcome.number == number && outcome.length == 0 && outcome.count == count;
 }
 
 /* ---- the tests */
@@ -253,16 +275,18 @@ static void run(const struct test *test, const char *note)
 
 int main(void)
 {
-    static const struct test *const of_tables[] = {table_tests, answer_tests, walk_tests};
-    static const struct test *const others[] = {record_tests, check_tests, line_tests, feeder_tests};
+    static const struct test *const of_tables[] = {table_tests, walk_tests};
+    static const struct test *const others[] = {answer_tests, record_tests, edit_tests, check_tests, line_tests, feeder_tests};
     for (size_t group = 0; group < sizeof of_tables / sizeof of_tables[0]; group++) {
         form = PACKED;
         run(of_tables[group], ", packed");
         form = RECORDS;
         run(of_tables[group], ", records");
     }
-    for (size_t group = 0; group < sizeof others / sizeof others[0]; group++)
+    for (size_t group = 0; group < sizeof others / sizeof others[0]; group++) {
+        form = RECORDS;
         run(others[group], "");
+    }
     printf("%u passed, %u failed\n", passed, failed);
     return failed == 0 ? EXIT_SUCCESS : EXIT_FAILURE;
 }

@@ -15,8 +15,9 @@ struct test {
     void (*run)(void);
 };
 
-/* The tests of one topic, up to a row without a name. Those of tables, answers and walks run once for each form of a table. */
-extern const struct test table_tests[], answer_tests[], walk_tests[], record_tests[], check_tests[], line_tests[], feeder_tests[];
+/* The tests of one topic, up to a row without a name. Those of tables and walks run once for each form of a table. */
+extern const struct test table_tests[], answer_tests[], walk_tests[], record_tests[], edit_tests[], check_tests[], line_tests[],
+    feeder_tests[];
 
 /* The form in which `struct rows` are lent. */
 enum form { PACKED, RECORDS };
@@ -62,9 +63,15 @@ const struct rows *largest_table(size_t count, size_t levels, unsigned flags);
 /* Lends the rows as records over an area in which the names lie in the other order, and gives the number of records. What is left of a
  * row that is cut short is a record whose name ends past the area. */
 size_t lend_records(const struct rows *rows);
-const struct luspemaro_record *lent_records(void);
+struct luspemaro_record *lent_records(void);
+size_t lent_records_length(void);
 
-/* Calls over lent memory, which ends at its last byte, in the form that is set. */
+/* The answer to a line over the first count of the lent records and the lent names, in a buffer of this length; and whether it left every
+ * record, every byte of the names and what stands before both as they were. */
+struct luspemaro_outcome answer_lent(size_t count, const void *line, size_t line_length, size_t room);
+bool rows_untouched(void);
+
+/* Calls over lent memory, which ends at its last byte; those that take a table in either form, in the form that is set. */
 bool table_passes(const struct rows *rows);
 struct luspemaro_outcome answer_to(const struct rows *rows, const void *line, size_t line_length, size_t room);
 struct luspemaro_outcome walk(const struct rows *rows, unsigned option, size_t scratch, size_t found, size_t pending);
@@ -73,7 +80,8 @@ struct luspemaro_outcome walk(const struct rows *rows, unsigned option, size_t s
 uint8_t *lent(enum area area);
 size_t lent_length(enum area area);
 
-/* Whether the outcome is this refusal: length 0 and count 0. */
+/* Whether the outcome is this refusal: length 0, and count 0 or, of an answer over so many rows, their count. */
 bool is_refusal(struct luspemaro_outcome outcome, unsigned number);
+bool is_refusal_of_rows(struct luspemaro_outcome outcome, unsigned number, size_t count);
 
 #endif

@@ -2,14 +2,14 @@
 #include "luspemaro.h"
 
 /* One row: its flags, and where its name lies. */
-static const uint8_t names[] = "Customers/ABC";
-static const struct luspemaro_record rows[] = {{LUSPEMARO_FLAG_EXISTS | LUSPEMARO_FLAG_SUBSCRIBED, 0, 13}};
+static uint8_t names[] = "Customers/ABC";
+static struct luspemaro_record rows[] = {{LUSPEMARO_FLAG_EXISTS | LUSPEMARO_FLAG_SUBSCRIBED, 0, 13}};
 static const uint8_t line[] = "a LIST (SUBSCRIBED RECURSIVEMATCH) \"\" \"%\"\r\n";
 static uint8_t out[16384], scratch[16384], found[8192], pending[8192];
 
 int main(void)
 {
-    struct luspemaro_outcome r = luspemaro_answer(rows, 1, 1, names, sizeof names - 1, names, 0,
+    struct luspemaro_outcome r = luspemaro_answer(rows, 1, 1, names, sizeof names - 1, line, 0,
                                                   line, sizeof line - 1, out, sizeof out);
     if (r.number == LUSPEMARO_DONE)
         fwrite(out, 1, r.length, stdout);

@@ -21,8 +21,7 @@ static void lend_places(const struct place *places, size_t count)
 /* Whether the first count of the lent records pass over the lent names. */
 static bool lent_pass(size_t count)
 {
-    return luspemaro_check_records(lent_records(), lent_length(RECORD) / sizeof(struct luspemaro_record), count, lent(NAMES),
-                                   lent_length(NAMES));
+    return luspemaro_check_records(lent_records(), lent_records_length(), count, lent(NAMES), lent_length(NAMES));
 }
 
 /* Names inside the area, in any order of their bytes, without overlap; the records ascend by name. */
@@ -137,12 +136,9 @@ static void bytes_between_records(void)
 
 enum { ROOM = 2000 };
 
-static struct luspemaro_outcome answer_lent(size_t count, const char *line)
+static struct luspemaro_outcome answer_text(size_t count, const char *line)
 {
-    lend_bytes(LINE, line, strlen(line));
-    lend(OUT, ROOM);
-    return luspemaro_answer(lent_records(), lent_length(RECORD) / sizeof(struct luspemaro_record), count, lent(NAMES),
-                            lent_length(NAMES), lent(NAMESPACES), lent_length(NAMESPACES), lent(LINE), strlen(line), lent(OUT), ROOM);
+    return answer_lent(count, line, strlen(line), ROOM);
 }
 
 static struct luspemaro_outcome walk_lent(size_t count, uint8_t option)
@@ -150,16 +146,19 @@ static struct luspemaro_outcome walk_lent(size_t count, uint8_t option)
     lend(SCRATCH, ROOM);
     lend(FOUND, ROOM);
     lend(PENDING, ROOM);
-    return luspemaro_collect(lent_records(), lent_length(RECORD) / sizeof(struct luspemaro_record), count, lent(NAMES),
-                             lent_length(NAMES), option, lent(SCRATCH), ROOM, lent(FOUND), ROOM, lent(PENDING), ROOM);
+    return luspemaro_collect(lent_records(), lent_records_length(), count, lent(NAMES), lent_length(NAMES), option, lent(SCRATCH), ROOM,
+                             lent(FOUND), ROOM, lent(PENDING), ROOM);
 }
 
 /* Whether 1 is given before every other refusal, and the lent memory is as it is after a refusal. */
 static bool refuses_table(size_t count)
 {
+    static const char *const lines[] = {"a LIST \"\" *\r\n", "", "a SUBSCRIBE a\r\n", "a SUBSCRIBE \"\"\r\n", "a UNSUBSCRIBE x\r\n"};
+    bool holds = true;
     lend_bytes(NAMESPACES, "\3\0/", 3);
-    bool holds = is_refusal(answer_lent(count, "a LIST \"\" *\r\n"), LUSPEMARO_REFUSAL_TABLE) && untouched(OUT)
-                 && is_refusal(answer_lent(count, ""), LUSPEMARO_REFUSAL_TABLE) && untouched(OUT);
+    for (size_t i = 0; i < sizeof lines / sizeof lines[0]; i++)
+        holds = holds && is_refusal_of_rows(answer_text(count, lines[i]), LUSPEMARO_REFUSAL_TABLE, count) && untouched(OUT)
+                && rows_untouched();
     lend(NAMESPACES, 0);
     for (unsigned option = 0; option <= 0xFF; option += 51)
         holds = holds && is_refusal(walk_lent(count, (uint8_t)option), LUSPEMARO_REFUSAL_TABLE) && all_are(lent(SCRATCH), ROOM, 0)
@@ -188,50 +187,47 @@ static void count_of_an_answer(void)
     static const struct place places[] = {{3, 3}, {9, 3}, {3, 3}};
     lend_places(places, 3);
     lend_bytes(NAMES, "BarBarFooFoo", 12);
-    struct luspemaro_outcome r = answer_lent(1, line);
-    EXPECT(r.number == LUSPEMARO_DONE && r.length == strlen(one) && memcmp(lent(OUT), one, strlen(one)) == 0);
-    EXPECT(answer_lent(2, line).length > r.length && answer_lent(0, line).length == strlen("a OK done\r\n"));
-    EXPECT(is_refusal(answer_lent(3, line), LUSPEMARO_REFUSAL_TABLE));
+    struct luspemaro_outcome r = answer_text(1, line);
+    EXPECT(r.number == LUSPEMARO_DONE && r.count == 1 && r.length == strlen(one) && memcmp(lent(OUT), one, strlen(one)) == 0);
+    EXPECT(answer_text(2, line).length > r.length && answer_text(0, line).length == strlen("a OK done\r\n"));
+    EXPECT(is_refusal_of_rows(answer_text(3, line), LUSPEMARO_REFUSAL_TABLE, 3));
     r = walk_lent(2, 0);
     EXPECT(r.number == LUSPEMARO_DONE && r.count == 1 && r.length == 0);
 }
 
-/* The records of a packed table, over its own bytes, give what the packed table gives. */
+/* The records of a packed table, over its own bytes, give what its records give over names that lie in another order, and are walked as
+ * the packed table is. */
 static void packed_in_place(void)
 {
     static const char line[] = "a LIST (REMOTE) \"\" (% *) RETURN (CHILDREN SUBSCRIBED)\r\n";
-    static uint8_t packed[ROOM];
+    static uint8_t before[ROOM];
     const struct rows *table = table_e();
-    form = PACKED;
-    struct luspemaro_outcome of_packed = answer_to(table, line, strlen(line), ROOM);
-    memcpy(packed, lent(OUT), ROOM);
     size_t count = lend_records(table), at = 0;
-    struct luspemaro_record *records = (struct luspemaro_record *)lent(RECORD);
+    struct luspemaro_outcome turned = answer_text(count, line);
+    memcpy(before, lent(OUT), ROOM);
     for (size_t row = 0; row < count; row++) {
-        records[row].start = (uint16_t)(at + HEAD);
-        at += (size_t)HEAD + records[row].len;
+        lent_records()[row].start = (uint16_t)(at + HEAD);
+        at += (size_t)HEAD + lent_records()[row].len;
     }
     lend_bytes(NAMES, table->bytes, table->length);
-    struct luspemaro_outcome r = answer_lent(count, line);
-    EXPECT(r.number == LUSPEMARO_DONE && r.length == of_packed.length && memcmp(lent(OUT), packed, ROOM) == 0);
-    of_packed = walk(table, 0, ROOM, ROOM, ROOM);
-    memcpy(packed, lent(FOUND), ROOM);
+    struct luspemaro_outcome r = answer_text(count, line);
+    EXPECT(r.number == LUSPEMARO_DONE && r.length == turned.length && memcmp(lent(OUT), before, ROOM) == 0);
+    form = PACKED;
+    struct luspemaro_outcome packed = walk(table, 0, ROOM, ROOM, ROOM);
+    memcpy(before, lent(FOUND), ROOM);
     r = walk_lent(count, 0);
-    EXPECT(r.number == LUSPEMARO_DONE && r.length == of_packed.length && r.count == of_packed.count);
-    EXPECT(memcmp(lent(FOUND), packed, ROOM) == 0);
+    EXPECT(r.number == LUSPEMARO_DONE && r.length == packed.length && r.count == packed.count);
+    EXPECT(memcmp(lent(FOUND), before, ROOM) == 0);
 }
 
-/* No entry writes into the records or the area. */
+/* The check, the walk and commands that are no edits write into no record and no byte of the area. */
 static void lent_for_reading(void)
 {
-    static uint8_t records[ROOM], names[ROOM];
     size_t count = lend_records(table_e());
-    memcpy(records, lent(RECORD), lent_length(RECORD));
-    memcpy(names, lent(NAMES), lent_length(NAMES));
-    EXPECT(lent_pass(count) && answer_lent(count, "a LIST \"\" *\r\n").number == LUSPEMARO_DONE);
-    EXPECT(walk_lent(count, 0).number == LUSPEMARO_DONE && walk_lent(count, 9).number == LUSPEMARO_REFUSAL_OPTION);
-    EXPECT(memcmp(records, lent(RECORD), lent_length(RECORD)) == 0 && front_untouched(RECORD));
-    EXPECT(memcmp(names, lent(NAMES), lent_length(NAMES)) == 0 && front_untouched(NAMES));
+    EXPECT(answer_text(count, "a LIST \"\" *\r\n").number == LUSPEMARO_DONE && rows_untouched());
+    EXPECT(answer_text(count, "a LSUB \"\" *\r\n").number == LUSPEMARO_DONE && rows_untouched());
+    EXPECT(lent_pass(count) && rows_untouched());
+    EXPECT(walk_lent(count, 0).number == LUSPEMARO_DONE && walk_lent(count, 9).number == LUSPEMARO_REFUSAL_OPTION && rows_untouched());
 }
 
 const struct test record_tests[] = {

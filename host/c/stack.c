@@ -92,7 +92,7 @@ static bool dies_on(size_t size, void (*call)(void))
 
 static uint8_t table[LUSPEMARO_MAX_TABLE], area[LUSPEMARO_MAX_AREA], namespaces[LUSPEMARO_MAX_NAMESPACES], line[LUSPEMARO_MAX_COMMAND];
 static struct luspemaro_record records[LUSPEMARO_MAX_ROWS];
-static size_t table_length, namespaces_length, line_length;
+static size_t table_length, count, namespaces_length, line_length;
 static uint8_t out[LUSPEMARO_ROOM_ANSWER], scratch[LUSPEMARO_ROOM_SCRATCH], found[LUSPEMARO_ROOM_FOUND],
     pending[LUSPEMARO_ROOM_PENDING], command[LUSPEMARO_ROOM_COMMAND];
 
@@ -124,6 +124,7 @@ static void fill_tables(void)
         fill_name(area + start, row, NAME);
     }
     table_length = sizeof table;
+    count = LUSPEMARO_MAX_ROWS;
 }
 
 static void fill_namespaces(void)
@@ -164,6 +165,18 @@ static void set_closed_line(size_t depth)
     line_length = 19 + 2 * depth;
 }
 
+/* An edit, by its word, of the name of a row, or of a name that no row has: both have NAME bytes. */
+static void set_edit_line(const char *word, const struct luspemaro_record *row)
+{
+    line_length = (size_t)snprintf((char *)line, sizeof line, "a %s {%d}\r\n", word, NAME);
+    if (row != NULL)
+        memcpy(line + line_length, area + row->start, NAME);
+    else
+        memset(line + line_length, 'z', NAME);
+    memcpy(line + line_length + NAME, "\r\n", 2);
+    line_length += NAME + 2;
+}
+
 /* ---- the calls, and what they answered */
 
 static struct luspemaro_outcome outcome;
@@ -195,13 +208,8 @@ static void call_matches(void)
 
 static void call_answer(void)
 {
-    outcome = luspemaro_answer(records, LUSPEMARO_MAX_ROWS, LUSPEMARO_MAX_ROWS, area, sizeof area, namespaces, namespaces_length, line,
-                               line_length, out, sizeof out);
-}
-
-static void call_answer_packed(void)
-{
-    outcome = luspemaro_answer_packed(table, table_length, namespaces, namespaces_length, line, line_length, out, sizeof out);
+    outcome = luspemaro_answer(records, LUSPEMARO_MAX_ROWS, count, area, sizeof area, namespaces, namespaces_length, line, line_length,
+                               out, sizeof out);
 }
 
 static void call_collect(void)
@@ -289,6 +297,40 @@ static void measure_answers(const struct entry *entry)
     measure_outcome(entry, "a full namespace list", LUSPEMARO_DONE);
 }
 
+/* An edit over a full table, which it changes and which is filled again. */
+static void measure_edit(const struct entry *entry, const char *input, unsigned number, size_t given_back)
+{
+    measure_outcome(entry, input, number);
+    claim(outcome.count == given_back, entry->name, "the count given back");
+    fill_tables();
+}
+
+static void measure_edits(const struct entry *entry)
+{
+    enum { ALL = LUSPEMARO_MAX_ROWS };
+    set_edit_line("UNSUBSCRIBE", &records[0]);
+    measure_edit(entry, "a flag cleared", LUSPEMARO_DONE, ALL);
+    set_edit_line("UNSUBSCRIBE", NULL);
+    measure_edit(entry, "no subscription", LUSPEMARO_DONE, ALL);
+    records[0].flags = LUSPEMARO_FLAG_SUBSCRIBED;
+    set_edit_line("UNSUBSCRIBE", &records[0]);
+    measure_edit(entry, "the first of 512 rows removed", LUSPEMARO_DONE, ALL - 1);
+    count = ALL - 1;
+    set_edit_line("SUBSCRIBE", NULL);
+    measure_edit(entry, "a row inserted after 511", LUSPEMARO_DONE, ALL);
+    /* The rows but the first, each one place further down: the first name is free, and is inserted before them all. */
+    set_edit_line("SUBSCRIBE", &records[0]);
+    memmove(records, records + 1, (ALL - 1) * sizeof records[0]);
+    count = ALL - 1;
+    measure_edit(entry, "a row inserted before 511", LUSPEMARO_DONE, ALL);
+    set_edit_line("SUBSCRIBE", NULL);
+    measure_edit(entry, "no room for a row", LUSPEMARO_REFUSAL_NO_ROOM, ALL);
+    set_line("a SUBSCRIBE {0}\r\n\r\n");
+    measure_edit(entry, "an unlawful name", LUSPEMARO_REFUSAL_UNLAWFUL_NAME, ALL);
+    set_long_line("a SUBSCRIBE \"", 'n', "\"\r\n");
+    measure_edit(entry, "the longest name", LUSPEMARO_REFUSAL_UNLAWFUL_NAME, ALL);
+}
+
 static void measure_walks(const struct entry *entry)
 {
     option = 3;
@@ -333,10 +375,7 @@ static void measure_others(void)
 
 int main(void)
 {
-    static const struct entry answers[] = {
-        {"answer", LUSPEMARO_STACK_ANSWER, call_answer},
-        {"answer_packed", LUSPEMARO_STACK_ANSWER_PACKED, call_answer_packed},
-    };
+    static const struct entry answer = {"answer", LUSPEMARO_STACK_ANSWER, call_answer};
     static const struct entry walks[] = {
         {"collect", LUSPEMARO_STACK_COLLECT, call_collect},
         {"collect_packed", LUSPEMARO_STACK_COLLECT_PACKED, call_collect_packed},
@@ -344,10 +383,10 @@ int main(void)
     fill_tables();
     fill_namespaces();
     frames = run_on(4 * PAGE, call_nothing);
-    for (size_t form = 0; form < 2; form++) {
-        measure_answers(&answers[form]);
+    measure_answers(&answer);
+    measure_edits(&answer);
+    for (size_t form = 0; form < 2; form++)
         measure_walks(&walks[form]);
-    }
     measure_lines();
     measure_others();
     printf("%u passed, %u failed\n", passed, failed);

@@ -1,17 +1,13 @@
 """Writes the walk of each entry that takes records: what it is called, its core, its parameters, and what it promises."""
+from edit_entry import Done, edit_entry
 from entry import Clause, declared, entry, truth
 from head import specs_of
 
 TABLE = [('area', 'shr')]
-COMMAND = [('area', 'shr'), ('namespaces', 'shr'), ('line', 'shr'), ('out', 'mut')]
+EDIT = [('area', 'mut'), ('namespaces', 'shr'), ('line', 'shr'), ('out', 'mut')]
 WALK = [('area', 'shr'), ('option', 'u8'), ('scratch', 'mut'), ('found', 'mut'), ('pending', 'mut')]
 
-# one command: what is served, and that it is the same of tables that are alike
-SERVED = 'served t namespaces line out'
-SERVED_ALIKE = 'served-alike t u namespaces line out a'
-SERVER = 'use Rattle.listing_rules.specs.Server.{served, bufferAfter}\n'
-
-# a collection, likewise
+# a collection: what is lent, and that it is the same of tables that are alike
 LENT = 'option scratch found pending'
 COLLECTED_ALIKE = f'collected-alike t u {LENT} a'
 
@@ -38,10 +34,12 @@ def collector(own):
 
 entry('mailbox_table', 'check_records', ('mailbox_table', 'check_words'), TABLE, truth(), passing(), 'use Rattle.listing_rules.specs.Table.{passes}\n')
 
-entry('server', 'answer', ('server', 'answer_words'), COMMAND, declared('octets', 'Written', 'server', enum=True),
-      [Clause('result', f'r ≡ writtenIs ({SERVED})', f'e ∙ ap writtenIs ({SERVED_ALIKE})'),
-       Clause('bytes', f'out′ ≡ bufferAfter out ({SERVED})', f'e ∙ ap (bufferAfter out) ({SERVED_ALIKE})')],
-      SERVER + 'use Rattle.octets.specs.Written.{writtenIs}\n')
+edit_entry('server', 'answer', ('server', 'answer_words'), EDIT, Done('server', 'Stored', 'server', ['written', 'count', 'from', 'to'], ['written', 'count']),
+           declared('server', 'Answered', 'server', enum=False),
+           [Clause('result', '(r .written ≡ writtenIs (c .reply)) × (r .count ≡ c .store .count)', '(e .0 ∙ ap writtenIs (a .reply), e .1 ∙ a .count)'),
+            Clause('bytes', 'out′ ≡ bufferAfter out (c .reply)', 'e ∙ ap (bufferAfter out) (a .reply)'),
+            Clause('area', 'area′ ≡ c .store .area', 'e ∙ a .area')],
+           'use Rattle.listing_rules.specs.Server.{bufferAfter}\nuse Rattle.octets.specs.Written.{writtenIs}\n')
 
 entry('collector', 'collect', ('collector', 'collect_words'), WALK, declared('collector', 'Collected', 'collector', enum=True),
       collected(f'r ≡ collectedOf t {LENT}', f'e ∙ ap collectedIs ({COLLECTED_ALIKE})', 'r'), collector('collector'))
@@ -53,9 +51,11 @@ OUTCOMES = 'use ' + specs_of('exports', 'exports') + '.Outcomes.'
 
 entry('exports', 'luspemaro_check_records', ('mailbox_table', 'check_words'), TABLE, truth(), passing(), 'use Rattle.listing_rules.specs.Table.{passes}\n')
 
-entry('exports', 'luspemaro_answer', ('exports', 'answer_words'), COMMAND, OUTCOME,
-      [Clause('result', f'Into ({SERVED}) out out′ r', f'(e .0 ∙ ap outcomeOf ({SERVED_ALIKE}), e .1 ∙ ap (bufferAfter out) ({SERVED_ALIKE}))')],
-      SERVER + OUTCOMES + '{Into, outcomeOf}\n')
+edit_entry('exports', 'luspemaro_answer', ('exports', 'answer_words'), EDIT, Done('exports', 'outcomes.Done', 'exports', ['outcome', 'from', 'to'], 'outcome'), OUTCOME,
+           [Clause('result', 'r ≡ outcomeOf (c .reply) (c .store .count)', 'e ∙ (λ i. outcomeOf (a .reply i) (a .count i))'),
+            Clause('bytes', 'out′ ≡ bufferAfter out (c .reply)', 'e ∙ ap (bufferAfter out) (a .reply)'),
+            Clause('area', 'area′ ≡ c .store .area', 'e ∙ a .area')],
+           'use Rattle.listing_rules.specs.Server.{bufferAfter}\n' + OUTCOMES + '{outcomeOf}\n')
 
 entry('exports', 'luspemaro_collect', ('exports', 'collect_words'), WALK, OUTCOME,
       collected(f'r ≡ walkOutcome (collected t {LENT})', f'e ∙ ap walkOutcome ({COLLECTED_ALIKE})', f'(collectedOf t {LENT})'),

@@ -10,7 +10,7 @@ use super::lines::take_lines;
 use super::options::WalkOptions;
 use octets::Written;
 use octets::wide;
-use server::answer_words;
+use server::read_words;
 ghost use mathlib.Core.Path.{_≡_};
 ghost use mathlib.Core.Bool.{true};
 ghost use mathlib.Core.List.{[], _∷_, _++_};
@@ -158,7 +158,7 @@ fn ask(
     let mut line = no_command();
     let n = put_command(&mut line, options, reference);
     let namespaces = [0u8; 0];
-    match answer_words(words, words.len(), area, &namespaces, &line[..n], scratch) {
+    match read_words(words, words.len(), area, &namespaces, &line[..n], scratch) {
         Written::Done(len) => {
             let count = start.count + 1;
             let sent = Progress {

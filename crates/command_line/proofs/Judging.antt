@@ -21,7 +21,7 @@ use Rattle.command_patterns.specs.declared.Patterns.{Patterns}
 use Rattle.command_line.specs.declared.list_command.Arguments.{Arguments}
 use Rattle.command_tokens.specs.Spans.{spanBytes, Lies, nowhere}
 use Rattle.command_patterns.specs.Places.{held, kept, Places, Placed}
-use Rattle.command_line.specs.Commands.{meaning, meaningAs, Inside, noOptions, bareCommand, refusedWith, withPatterns, usedOnly, short, Kept, decided, decidedAs, TagIn, Given, Answers}
+use Rattle.command_line.specs.Commands.{meaning, meaningAs, Inside, noOptions, namedCommand, bareCommand, refusedWith, withPatterns, usedOnly, short, Kept, decided, decidedAs, TagIn, Given, Answers}
 use Rattle.command_patterns.proofs.Counting.{none-written}
 use Rattle.command_tokens.proofs.Cuts.{lies-nowhere}
 use Rattle.command_patterns.proofs.Filling.{filled-none}
@@ -89,18 +89,21 @@ places-at s [] h k = lies-nowhere s
 places-at s (t ∷ ts) h zero = h .0
 places-at s (t ∷ ts) h (suc k) = places-at s ts (h .1) k
 
-inside-bare : (s : Seq ℕ) (k : Kind) (t : Span) → TagIn s t → bareCommand k t ≡ usedOnly k (bareCommand k t) → Inside s (bareCommand k t)
-inside-bare s k t h e =
+pub inside-named : (s : Seq ℕ) (k : Kind) (t n : Span) → TagIn s t → Lies s n → namedCommand k t n ≡ usedOnly k (namedCommand k t n) → Inside s (namedCommand k t n)
+inside-named s k t n h l e =
     record {
       tag = h .lies;
       bare = h .bare;
       front = h .front;
       seven = omega arith;
-      reference = lies-nowhere s;
+      reference = l;
       patterns = places-at s (replicate 8 nowhere) (filled-none s .places);
       few = omega arith;
       rest = e;
     }
+
+inside-bare : (s : Seq ℕ) (k : Kind) (t : Span) → TagIn s t → bareCommand k t ≡ usedOnly k (bareCommand k t) → Inside s (bareCommand k t)
+inside-bare s k t h e = inside-named s k t nowhere h (lies-nowhere s) e
 
 pub inside-root : (s : Seq ℕ) (t : Span) → TagIn s t → Inside s (bareCommand Root t)
 unfolding usedOnly

@@ -6,6 +6,7 @@ pub mod Refusing
 pub mod Judging
 pub mod Grammar
 pub mod Lsub
+pub mod Edits
 pub mod Wording
 pub mod Lines
 pub mod Packed

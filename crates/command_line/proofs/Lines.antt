@@ -10,11 +10,11 @@ use Rattle.listing_rules.specs.Feeder.{first, oneCommand}
 use Rattle.listing_rules.specs.Command.{refused, lineText, orRefuse, tagged, parsed}
 use Rattle.command_tokens.specs.declared.Span.{Span}
 use Rattle.command_line.specs.declared.Kind.{Kind}
-use Rattle.command_line.specs.declared.Kind.the-variants.{List, Root, Namespace, Lsub, Refused}
+use Rattle.command_line.specs.declared.Kind.the-variants.{List, Root, Namespace, Lsub, Subscribe, Unsubscribe, Refused}
 use Rattle.command_line.specs.declared.Command.{Command}
 use Rattle.command_tokens.specs.Spans.{plain, rawBytes, spanBytes, Lies, nowhere}
 use Rattle.command_patterns.specs.Places.{held}
-use Rattle.command_line.specs.Commands.{patternsOf, meaning, meaningAs, Inside}
+use Rattle.command_line.specs.Commands.{patternsOf, nameOf, meaning, meaningAs, Inside}
 
 -- the line is not one command, or is
 module _ (l : Seq ℕ) where
@@ -51,7 +51,7 @@ module _ (l : Seq ℕ) (n : ℕ) where
       cc
 
   pub meaning-line : (c : Command) → Inside (take n l) c → meaning (take n l) c ≡ meaning l c
-  unfolding meaning meaningAs patternsOf held
+  unfolding meaning meaningAs patternsOf nameOf held
   meaning-line c h = go (c .kind)
     where
       tag : spanBytes (take n l) (c .tag) ≡ spanBytes l (c .tag)
@@ -60,11 +60,16 @@ module _ (l : Seq ℕ) (n : ℕ) where
       patterns : patternsOf (take n l) c ≡ patternsOf l c
       patterns = rw (span-line (c .reference) (h .reference), spans-line (c .count) (c .patterns) (h .patterns))
 
+      name : nameOf (take n l) c ≡ nameOf l c
+      name = span-line (c .reference) (h .reference)
+
       go : (k : Kind) → meaningAs k (take n l) c ≡ meaningAs k l c
       go List = rw (tag, patterns)
       go Root = rw tag
       go Namespace = rw tag
       go Lsub = rw (tag, patterns)
+      go Subscribe = rw (tag, name)
+      go Unsubscribe = rw (tag, name)
       go (Refused k) = refl
 
   pub inside-line : (c : Command) → Inside (take n l) c → Inside l c

@@ -14,7 +14,7 @@ use Rattle.command_tokens.specs.Tokens.{Bare}
 use Rattle.command_tokens.proofs.Binds.{none≢some}
 use Rattle.command_tokens.proofs.Cuts.{lies-ahead}
 use Rattle.command_line.specs.declared.reading.Word.{Word}
-use Rattle.command_line.specs.declared.reading.Word.the-variants.{List as ListWord, Namespace, Lsub, Other}
+use Rattle.command_line.specs.declared.reading.Word.the-variants.{List as ListWord, Namespace, Lsub, Subscribe, Unsubscribe, Other}
 use Rattle.command_line.specs.Words.{wordOf, wordedAs}
 use Rattle.command_line.specs.Commands.{TagIn}
 use Rattle.command_line.proofs.Returning.{empty-out, empty-not}
@@ -27,7 +27,12 @@ tag-in s t c h = record { lies = lies-ahead s 0 t c (h .ahead); bare = h .bare; 
 -- the word by its number in the table
 worded-is : (tag : List ℕ) (g : Got (List ℕ)) → worded tag g ≡ wordedAs (wordOf (g .val)) tag (g .rest)
 unfolding worded wordOf wordedAs
-worded-is tag g = cond-word (spells (g .val) (text "LIST")) ListWord _ _ (cond-word (spells (g .val) (text "NAMESPACE")) Namespace _ _ (cond-word (spells (g .val) (text "LSUB")) Lsub _ _ refl))
+worded-is tag g =
+    cond-word (spells (g .val) (text "LIST")) ListWord _ _
+    (cond-word (spells (g .val) (text "NAMESPACE")) Namespace _ _
+    (cond-word (spells (g .val) (text "LSUB")) Lsub _ _
+    (cond-word (spells (g .val) (text "SUBSCRIBE")) Subscribe _ _
+    (cond-word (spells (g .val) (text "UNSUBSCRIBE")) Unsubscribe _ _ refl))))
   where
     -- one word of the table, and the rest of it
     cond-word : (b : Bool) (w v : Word) (p : Parsed) → p ≡ wordedAs v tag (g .rest) → cond b (wordedAs w tag (g .rest)) p ≡ wordedAs (cond b w v) tag (g .rest)
@@ -50,9 +55,19 @@ module _ (w : List ℕ) where
       unfolding wordOf
       word-lsub e = rw (list, namespace, e)
 
-      pub word-unknown : spells w (text "LSUB") ≡ false → wordOf w ≡ Other
-      unfolding wordOf
-      word-unknown e = rw (list, namespace, e)
+      module _ (lsub : spells w (text "LSUB") ≡ false) where
+        pub word-subscribe : spells w (text "SUBSCRIBE") ≡ true → wordOf w ≡ Subscribe
+        unfolding wordOf
+        word-subscribe e = rw (list, namespace, lsub, e)
+
+        module _ (subscribe : spells w (text "SUBSCRIBE") ≡ false) where
+          pub word-unsubscribe : spells w (text "UNSUBSCRIBE") ≡ true → wordOf w ≡ Unsubscribe
+          unfolding wordOf
+          word-unsubscribe e = rw (list, namespace, lsub, subscribe, e)
+
+          pub word-unknown : spells w (text "UNSUBSCRIBE") ≡ false → wordOf w ≡ Other
+          unfolding wordOf
+          word-unknown e = rw (list, namespace, lsub, subscribe, e)
 
 -- a word that was found is the run, and one that was not is empty
 some-same : {A : Type 0} {a b : A} → some a ≡ some b → a ≡ b

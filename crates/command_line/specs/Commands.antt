@@ -9,10 +9,10 @@ use Rattle.listing_rules.specs.Bytes.{text, isEmpty}
 use Rattle.listing_rules.specs.Tokens.{at, after}
 use Rattle.listing_rules.specs.Lists.{every}
 use Rattle.listing_rules.specs.Options.{Options as Named, lawfulOptions}
-use Rattle.listing_rules.specs.Command.{Parsed, refused, namespace, listing, rootOf, subscriptions, canonical, isSome}
+use Rattle.listing_rules.specs.Command.{Parsed, refused, namespace, listing, rootOf, subscriptions, editing, subscribe, unsubscribe, canonical, isSome}
 use Rattle.command_tokens.specs.declared.Span.{Span}
 use Rattle.command_line.specs.declared.Kind.{Kind}
-use Rattle.command_line.specs.declared.Kind.the-variants.{List, Root, Namespace, Lsub, Refused}
+use Rattle.command_line.specs.declared.Kind.the-variants.{List, Root, Namespace, Lsub, Subscribe, Unsubscribe, Refused}
 use Rattle.command_line.specs.declared.Options.{Options}
 use Rattle.command_line.specs.declared.Command.{Command}
 use Rattle.command_line.specs.declared.list_command.Arguments.{Arguments}
@@ -27,12 +27,18 @@ unfoldable pub use Rattle.command_patterns.specs.Canonical.{packedBytes}
 unfoldable pub patternsOf : Seq ℕ → Command → Seq (Seq ℕ)
 patternsOf s c = canonicalOf s (c .reference) (record { spans = c .patterns; count = c .count })
 
+-- the name of an edit, which stands in the place of the reference
+unfoldable pub nameOf : Seq ℕ → Command → Seq ℕ
+nameOf s c = spanBytes s (c .reference)
+
 -- the command by its kind
 unfoldable pub meaningAs : Kind → Seq ℕ → Command → Parsed
 meaningAs List s c = listing (spanBytes s (c .tag)) (optionsIs (c .options)) (patternsOf s c)
 meaningAs Root s c = rootOf (spanBytes s (c .tag))
 meaningAs Namespace s c = namespace (spanBytes s (c .tag))
 meaningAs Lsub s c = subscriptions (spanBytes s (c .tag)) (patternsOf s c)
+meaningAs Subscribe s c = editing (spanBytes s (c .tag)) (subscribe (nameOf s c))
+meaningAs Unsubscribe s c = editing (spanBytes s (c .tag)) (unsubscribe (nameOf s c))
 meaningAs (Refused k) s c = refused k
 
 -- the command, as document 01 has it: its number of refusal, or its values
@@ -43,17 +49,21 @@ meaning s c = meaningAs (c .kind) s c
 abbrev pub noOptions : Options
 noOptions = record { bits = 0 }
 
--- a command of which nothing but its kind and its tag is kept
-abbrev pub bareCommand : Kind → Span → Command
-bareCommand k t =
+-- a command of which its kind, its tag and a name are kept
+abbrev pub namedCommand : Kind → Span → Span → Command
+namedCommand k t n =
     record {
       kind = k;
       tag = t;
       options = noOptions;
-      reference = nowhere;
+      reference = n;
       patterns = replicate 8 nowhere;
       count = 0;
     }
+
+-- a command of which nothing but its kind and its tag is kept
+abbrev pub bareCommand : Kind → Span → Command
+bareCommand k t = namedCommand k t nowhere
 
 -- a refusal: its number, and the empty command
 abbrev pub refusedWith : ℕ → Command
@@ -71,11 +81,13 @@ withPatterns k o c =
       count = c .count;
     }
 
--- The command of which all is empty that its kind does not use: LIST uses every field, LSUB all but the options; the root line and
--- NAMESPACE use the tag alone, a refusal its number alone.
+-- The command of which all is empty that its kind does not use: LIST uses every field, LSUB all but the options; an edit uses the tag
+-- and the name, the root line and NAMESPACE the tag alone, a refusal its number alone.
 unfoldable pub usedOnly : Kind → Command → Command
 usedOnly List c = withPatterns List (c .options) c
 usedOnly Lsub c = withPatterns Lsub noOptions c
+usedOnly Subscribe c = namedCommand Subscribe (c .tag) (c .reference)
+usedOnly Unsubscribe c = namedCommand Unsubscribe (c .tag) (c .reference)
 usedOnly Root c = bareCommand Root (c .tag)
 usedOnly Namespace c = bareCommand Namespace (c .tag)
 usedOnly (Refused k) c = refusedWith k
@@ -148,3 +160,8 @@ extendedAt s first patterns rest = isSome (after (text " (") (drop first s)) || 
 pub record Answers (s : Seq ℕ) (p : Parsed) (given : Type 0) (r : Command) : Type 0 where
   pub means : meaning s r ≡ p
   pub inside : given → Inside s r
+
+-- The command r of this kind and tag has the name that was read of the text s, by a span that lies inside; with no name it is 4.
+unfoldable pub NameRead : Seq ℕ → Kind → Span → Option (Seq ℕ) → Command → Type 0
+NameRead s k t none r = r ≡ refusedWith 4
+NameRead s k t (some n) r = (name : Span) × Lies s name × (spanBytes s name ≡ n) × (r ≡ namedCommand k t name)

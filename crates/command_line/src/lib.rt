@@ -1,14 +1,15 @@
 // The command line of document 01, read from left to right, one byte at a time: `read_command` gives the command or the number of its
-// refusal, 3 to 8, and `put_patterns` the canonical patterns of a command that was read.
+// refusal, 3 to 8; of a command that was read, `put_patterns` gives the canonical patterns, and `put_name` the name of an edit.
 //
-// A command holds no bytes of its own: its tag, its reference and its patterns are spans of the line. `meaning` of specs/ says what a
-// command is in the terms of document 01. Absent: words other than LIST, NAMESPACE and LSUB.
+// A command holds no bytes of its own: its tag, its reference or name and its patterns are spans of the line. `meaning` of specs/ says
+// what a command is in the terms of document 01. Absent: words other than LIST, NAMESPACE, LSUB, SUBSCRIBE and UNSUBSCRIBE.
 
 ghost use mathlib.Core.Path.{_≡_};
 ghost use Rattle.listing_rules.specs.Command.{parsed};
 ghost use Rattle.octets.specs.Put.{Put};
-ghost use Rattle.command_line.specs.Commands.{meaning, Inside, patternsOf, packedBytes};
+ghost use Rattle.command_line.specs.Commands.{meaning, Inside, patternsOf, packedBytes, nameOf};
 
+mod edit_command;
 mod list_command;
 mod lsub_command;
 mod option_list;
@@ -17,6 +18,7 @@ mod reading;
 use command_patterns::Patterns;
 use command_shape::is_one_command;
 pub use command_tokens::Span;
+use command_tokens::put_span;
 use octets::refusals::LINE_SHAPE;
 use reading::read_text;
 use reading::refused;
@@ -32,10 +34,13 @@ pub enum Kind {
     Root,
     Namespace,
     Lsub,
+    Subscribe,
+    Unsubscribe,
     Refused(u8),
 }
 
-// A command that was read: its options, its reference and up to eight pattern places, of which the first count hold a pattern.
+// A command that was read: its options, its reference and up to eight pattern places, of which the first count hold a pattern. Of an
+// edit, SUBSCRIBE or UNSUBSCRIBE, the mailbox name stands in the place of the reference.
 pub struct Command {
     pub kind: Kind,
     pub tag: Span,
@@ -49,7 +54,7 @@ pub struct Command {
 // RECURSIVEMATCH with neither SUBSCRIBED nor SPECIAL-USE 7, too many or too long patterns 8, in this order.
 //
 // What the kind does not use is empty: a refusal is its number and else the empty command. Left free is which part of the line a span
-// of the reference or of a pattern is; it lies inside, and means the bytes that `meaning` says.
+// of the reference, of the name or of a pattern is; it lies inside, and means the bytes that `meaning` says.
 pub fn read_command(line: &[u8]) -> Command
     ensures { λ r. ⌜ meaning (now (line .entry)) r ≡ parsed (now (line .entry)) ⌝ }
     ensures inside { λ r. ⌜ Inside (now (line .entry)) r ⌝ }
@@ -72,4 +77,11 @@ pub fn put_patterns(line: &[u8], command: Command, buf: &mut [u8]) -> usize
         count: command.count,
     };
     command_patterns::put_patterns(line, command.reference, patterns, buf)
+}
+
+// The name of an edit of this line, without its quotes and escapes, from the buffer's first place on; the answer is the place after it.
+pub fn put_name(line: &[u8], command: Command, buf: &mut [u8]) -> usize
+    ensures { λ r. ⌜ Put (now (buf .entry)) (now (buf .exit)) 0 (nameOf (now (line .entry)) command) r ⌝ }
+{
+    put_span(buf, 0, line, command.reference)
 }

@@ -4,11 +4,12 @@ ghost use mathlib.Core.Path.{_≡_};
 ghost use lib.ListN.{drop};
 ghost use Rattle.listing_rules.specs.Command.{tagged};
 ghost use Rattle.command_tokens.specs.Spans.{spanBytes};
-ghost use Rattle.command_line.specs.Commands.{bareCommand, refusedWith, TagIn, Answers};
+ghost use Rattle.command_line.specs.Commands.{namedCommand, bareCommand, refusedWith, TagIn, Answers};
 ghost use Rattle.command_line.specs.Words.{wordOf, wordedAs};
 use crate::Command;
 use crate::Kind;
 use crate::Options;
+use crate::edit_command::read_edit;
 use crate::list_command::read_list;
 use crate::lsub_command::read_lsub;
 use command_patterns::Patterns;
@@ -21,15 +22,17 @@ use octets::refusals::GRAMMAR;
 use octets::refusals::WORD;
 use octets::spells_word;
 
-// The words that a command may begin with; each is read by a function of its own.
+// The words that a command may begin with.
 pub(crate) enum Word {
     List,
     Namespace,
     Lsub,
+    Subscribe,
+    Unsubscribe,
     Other,
 }
 
-// LIST, NAMESPACE or LSUB "in any case".
+// LIST, NAMESPACE, LSUB, SUBSCRIBE or UNSUBSCRIBE "in any case".
 fn word_of(name: &[u8]) -> Word
     ensures { λ r. ⌜ r ≡ wordOf (now (name .entry)) ⌝ }
 {
@@ -41,6 +44,12 @@ fn word_of(name: &[u8]) -> Word
     }
     if spells_word(name, b"LSUB") {
         return Word::Lsub;
+    }
+    if spells_word(name, b"SUBSCRIBE") {
+        return Word::Subscribe;
+    }
+    if spells_word(name, b"UNSUBSCRIBE") {
+        return Word::Unsubscribe;
     }
     Word::Other
 }
@@ -63,6 +72,8 @@ pub(crate) fn read_text(text: &[u8]) -> Command
         Word::List => read_list(text, tag, rest),
         Word::Namespace => read_namespace(text, tag, rest),
         Word::Lsub => read_lsub(text, tag, rest),
+        Word::Subscribe => read_edit(text, Kind::Subscribe, tag, rest),
+        Word::Unsubscribe => read_edit(text, Kind::Unsubscribe, tag, rest),
         Word::Other => refused(WORD),
     }
 }
@@ -77,9 +88,9 @@ fn read_namespace(text: &[u8], tag: Span, rest: Cursor) -> Command
     bare(Kind::Namespace, tag)
 }
 
-// A command of which nothing but its kind and its tag is kept.
-pub(crate) fn bare(kind: Kind, tag: Span) -> Command
-    ensures { λ r. ⌜ r ≡ bareCommand kind tag ⌝ }
+// A command of which its kind, its tag and a name are kept.
+pub(crate) fn named(kind: Kind, tag: Span, name: Span) -> Command
+    ensures { λ r. ⌜ r ≡ namedCommand kind tag name ⌝ }
 {
     let none = Patterns::none();
     let patterns = none.spans;
@@ -87,10 +98,17 @@ pub(crate) fn bare(kind: Kind, tag: Span) -> Command
         kind,
         tag,
         options: Options::NONE,
-        reference: Span::NOWHERE,
+        reference: name,
         patterns,
         count: 0,
     }
+}
+
+// A command of which nothing but its kind and its tag is kept.
+pub(crate) fn bare(kind: Kind, tag: Span) -> Command
+    ensures { λ r. ⌜ r ≡ bareCommand kind tag ⌝ }
+{
+    named(kind, tag, Span::NOWHERE)
 }
 
 pub(crate) fn refused(number: u8) -> Command

@@ -1,13 +1,15 @@
--- Laws of a quoted string without its escapes: one byte at a time.
+-- Laws of a quoted string without its escapes: one byte at a time; and that neither it nor a span means more bytes than there are.
 use mathlib.Core.Path.{_≡_}
-use mathlib.Core.Bool.{Bool, true, false, _&&_, not}
+use mathlib.Core.Bool.{Bool, true, false, cond, _&&_, not}
 use mathlib.Core.List.{List, [], _∷_}
-use Prim.Native.Nat.{ℕ, _+_, _≤_, _<_}
+use Prim.Native.Nat.{ℕ, suc, _+_, _-_, _≤_, _<_}
 use native.Mathlib.Numerals.{add-one}
+use native.Mathlib.Omega.{arith}
 use lib.Dec.{eqb}
-use lib.ListN.{length, drop, getD, drop-of-length-le}
+use lib.ListN.{length, drop, getD, drop-of-length-le, length-take, length-drop}
 use lib.Seq.{drop-cons}
-use Rattle.command_tokens.specs.Spans.{plain}
+use Rattle.command_tokens.specs.declared.Span.{Span}
+use Rattle.command_tokens.specs.Spans.{plain, rawBytes, spanBytes}
 
 module _ (s : List ℕ) (i : ℕ) (esc : Bool) where
   -- a backslash that escapes
@@ -23,3 +25,23 @@ module _ (s : List ℕ) (i : ℕ) (esc : Bool) where
   pub plain-out : length s ≤ i → plain esc (drop i s) ≡ []
   unfolding plain
   plain-out h = rw (drop-of-length-le s h)
+
+pub plain-short : (esc : Bool) (s : List ℕ) → length (plain esc s) ≤ length s
+unfolding plain
+plain-short esc [] = omega arith
+plain-short esc (x ∷ xs) = go (not esc && eqb x 92) (plain-short true xs) (plain-short false xs)
+  where
+    go : (o : Bool) → length (plain true xs) ≤ length xs → length (plain false xs) ≤ length xs → length (cond o (plain true xs) (x ∷ plain false xs)) ≤ suc (length xs)
+    go true skipped kept = omega (arith, skipped)
+    go false skipped kept = omega (arith, kept)
+
+pub span-short : (s : List ℕ) (t : Span) → length (spanBytes s t) ≤ length s
+unfolding spanBytes rawBytes
+span-short s t = go (t .quoted)
+  where
+    raw : length (rawBytes s t) ≤ length s
+    raw = omega (arith, length-take (t .end - t .start) (drop (t .start) s), length-drop (t .start) s)
+
+    go : (o : Bool) → length (cond o (plain false (rawBytes s t)) (rawBytes s t)) ≤ length s
+    go true = omega (arith, raw, plain-short false (rawBytes s t))
+    go false = raw

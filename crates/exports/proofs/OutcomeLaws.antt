@@ -20,13 +20,13 @@ use Rattle.list_line.specs.Lines.{lineIs}
 use Rattle.collector.specs.Result.{collectedIs}
 use Rattle.exports.specs.Outcomes.{outcomeOf, walkOutcome, partsOf, writtenCase, collectedCase, lineCase}
 
-pub written-done : (w : Written) (n : ℕ) → w ≡ Done n → record { number = 0; length = n; count = 0 } ≡ writtenCase w
+pub written-done : (w : Written) (count n : ℕ) → w ≡ Done n → record { number = 0; length = n; count = count } ≡ writtenCase w count
 unfolding writtenCase
-written-done w n e = sym (ap writtenCase e)
+written-done w count n e = sym (ap (λ (x : Written). writtenCase x count) e)
 
-pub written-refused : (w : Written) (k : ℕ) → w ≡ Refused k → record { number = k; length = 0; count = 0 } ≡ writtenCase w
+pub written-refused : (w : Written) (count k : ℕ) → w ≡ Refused k → record { number = k; length = 0; count = count } ≡ writtenCase w count
 unfolding writtenCase
-written-refused w k e = sym (ap writtenCase e)
+written-refused w count k e = sym (ap (λ (x : Written). writtenCase x count) e)
 
 pub collected-done : (w : Collected) (count n : ℕ) → w ≡ Walked count n → record { number = 0; length = n; count = count } ≡ collectedCase w
 unfolding collectedCase
@@ -45,10 +45,10 @@ unfolding lineCase
 parts-refused l bytes k e = λ i. lineCase (sym e i) bytes
 
 -- the cases of the entries' enums are document 01's numbers
-pub written-case : (r : Reply) → writtenCase (writtenIs r) ≡ outcomeOf r
+pub written-case : (r : Reply) (count : ℕ) → writtenCase (writtenIs r) count ≡ outcomeOf r count
 unfolding writtenCase writtenIs outcomeOf numberOf lengthOf
-written-case (refusal k) = refl
-written-case (answered a) = refl
+written-case (refusal k) count = refl
+written-case (answered a) count = refl
 
 pub collected-case : (r : WalkReply) → collectedCase (collectedIs r) ≡ walkOutcome r
 unfolding collectedCase collectedIs walkOutcome walkNumber walkCount foundLength

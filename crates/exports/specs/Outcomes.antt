@@ -14,12 +14,15 @@ use Rattle.collector.specs.declared.Collected.{Collected}
 use Rattle.collector.specs.declared.Collected.the-variants.{Done as Walked, Refused as Stopped}
 use Rattle.list_line.specs.declared.read.Line.{Line}
 use Rattle.list_line.specs.declared.read.Line.the-variants.{Parts, Refused as NoLine}
+use Rattle.server.specs.declared.Stored.{Stored}
 use Rattle.exports.specs.declared.outcomes.Outcome.{Outcome}
+use Rattle.exports.specs.declared.outcomes.Done.{Done as Ended}
 use Rattle.exports.specs.declared.outcomes.LineParts.{LineParts}
 
--- An answer into a lent buffer: document 01's number and length. "A refusal has length 0".
-unfoldable pub outcomeOf : Reply → Outcome
-outcomeOf r = record { number = numberOf r; length = lengthOf r; count = 0 }
+-- An answer into a lent buffer: document 01's number and length, and a count. "A refusal has length 0". Of a command over records the
+-- count is the number of rows, which "is passed and given back"; of the line writer it is 0.
+unfoldable pub outcomeOf : Reply → ℕ → Outcome
+outcomeOf r count = record { number = numberOf r; length = lengthOf r; count = count }
 
 -- "The result has the number of commands sent and the length of found"; "Its refusals give count 0 and length 0"
 unfoldable pub walkOutcome : WalkReply → Outcome
@@ -38,12 +41,15 @@ partsOf r =
 
 -- What a call that answers into a lent buffer owes: the reply's outcome, and the buffer's bytes before and after.
 abbrev pub Into : Reply → List ℕ → List ℕ → Outcome → Type 0
-Into reply before after r = (r ≡ outcomeOf reply) × (after ≡ bufferAfter before reply)
+Into reply before after r = (r ≡ outcomeOf reply 0) × (after ≡ bufferAfter before reply)
 
 -- The same case by case, for the enums of the entries.
-unfoldable pub writtenCase : Written → Outcome
-writtenCase (Done n) = record { number = 0; length = n; count = 0 }
-writtenCase (Refused k) = record { number = k; length = 0; count = 0 }
+unfoldable pub writtenCase : Written → ℕ → Outcome
+writtenCase (Done n) count = record { number = 0; length = n; count = count }
+writtenCase (Refused k) count = record { number = k; length = 0; count = count }
+
+unfoldable pub doneCase : Stored → Ended
+doneCase s = record { outcome = writtenCase (s .written) (s .count); from = s .from; to = s .to }
 
 unfoldable pub collectedCase : Collected → Outcome
 collectedCase (Walked count n) = record { number = 0; length = n; count = count }

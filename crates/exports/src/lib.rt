@@ -8,28 +8,34 @@ pub mod outcomes;
 use list_line::Attributes;
 use list_line::Criteria;
 use mailbox_table::check_words;
+use outcomes::Done;
 use outcomes::LineParts;
 use outcomes::Outcome;
 use outcomes::collected_outcome;
+use outcomes::command_done;
 use outcomes::line_parts;
 use outcomes::written_outcome;
 use records::Record;
+use records::copy_back;
 use records::copy_in;
 use records::no_words;
 ghost use mathlib.Core.Path.{_≡_};
 ghost use mathlib.Core.Bool.{_&&_};
+ghost use mathlib.Core.List.{map};
 ghost use lib.Dec.{leb};
-ghost use lib.ListN.{length};
+ghost use lib.ListN.{length, take};
 ghost use Rattle.listing_rules.specs.Table.{passes, packedTable};
 ghost use Rattle.listing_rules.specs.Namespaces.{namespacesPass};
 ghost use Rattle.listing_rules.specs.Match.{matches};
 ghost use Rattle.listing_rules.specs.Reader.{written, readLine};
-ghost use Rattle.listing_rules.specs.Server.{served};
+ghost use Rattle.listing_rules.specs.Server.{bufferAfter};
 ghost use Rattle.listing_rules.specs.Walk.{collected};
+ghost use Rattle.records.specs.Words.{recordOf, meant};
 ghost use Rattle.records.specs.Lent.{lentTable, wordTable};
+ghost use Rattle.records.specs.Stores.{lentCommand, wordCommand, Between};
 ghost use Rattle.list_line.specs.Members.{members};
 ghost use Rattle.collector.specs.Result.{collectedOf, scratchOf, foundOf, pendingOf, OwesDemand3};
-ghost use Rattle.exports.specs.Outcomes.{Into, walkOutcome, partsOf};
+ghost use Rattle.exports.specs.Outcomes.{outcomeOf, Into, walkOutcome, partsOf};
 
 // Check 1: whether the first `count` records pass, over the area of name bytes.
 #[no_mangle]
@@ -65,51 +71,57 @@ pub extern "C" fn luspemaro_matches(pattern: &[u8], name: &[u8]) -> bool
     pattern::matches(pattern, name)
 }
 
-// The answer to one command at the front of `out`.
+// The answer to one command at the front of `out`. SUBSCRIBE and UNSUBSCRIBE change records and area; `count` of the outcome is the
+// number of rows given back, on a refusal the one that was passed.
 #[no_mangle]
 pub extern "C" fn luspemaro_answer(
-    records: &[Record],
+    records: &mut [Record],
     count: usize,
-    area: &[u8],
+    area: &mut [u8],
     namespaces: &[u8],
     line: &[u8],
     out: &mut [u8],
 ) -> Outcome
-    ensures { λ r. ⌜ Into (served (lentTable (now (area .entry)) (now (records .entry)) count) (now (namespaces .entry)) (now (line .entry)) (now (out .entry)))
-        (now (out .entry)) (now (out .exit)) r ⌝ }
+    ensures result { λ r. ⌜ r ≡ outcomeOf
+        (lentCommand (now (records .entry)) count (now (area .entry)) (now (namespaces .entry)) (now (line .entry)) (now (out .entry)) .reply)
+        (lentCommand (now (records .entry)) count (now (area .entry)) (now (namespaces .entry)) (now (line .entry)) (now (out .entry)) .store .count) ⌝ }
+    ensures bytes { λ _. ⌜ now (out .exit) ≡ bufferAfter (now (out .entry))
+        (lentCommand (now (records .entry)) count (now (area .entry)) (now (namespaces .entry)) (now (line .entry)) (now (out .entry)) .reply) ⌝ }
+    ensures area { λ _. ⌜ now (area .exit)
+        ≡ lentCommand (now (records .entry)) count (now (area .entry)) (now (namespaces .entry)) (now (line .entry)) (now (out .entry)) .store .area ⌝ }
+    ensures records { λ _. ⌜ map meant (now (records .exit))
+        ≡ lentCommand (now (records .entry)) count (now (area .entry)) (now (namespaces .entry)) (now (line .entry)) (now (out .entry)) .store .records ⌝ }
 {
     let mut words = no_words();
-    let n = copy_in(records, count, &mut words);
-    answer_words(&words[..n], count, area, namespaces, line, out)
+    let lent = copy_in(records, records.len(), &mut words);
+    let done = answer_words(&mut words, lent, count, area, namespaces, line, out);
+    copy_back(records, done.from, done.to, &words);
+    done.outcome
 }
 
 // The same over records, each as a number.
 fn answer_words(
-    words: &[u64],
+    words: &mut [u64],
+    lent: usize,
     count: usize,
-    area: &[u8],
+    area: &mut [u8],
     namespaces: &[u8],
     line: &[u8],
     out: &mut [u8],
-) -> Outcome
-    ensures { λ r. ⌜ Into (served (wordTable (now (area .entry)) (now (words .entry)) count) (now (namespaces .entry)) (now (line .entry)) (now (out .entry)))
-        (now (out .entry)) (now (out .exit)) r ⌝ }
+) -> Done
+    ensures result { λ r. ⌜ r .outcome ≡ outcomeOf
+        (wordCommand (now (words .entry)) lent count (now (area .entry)) (now (namespaces .entry)) (now (line .entry)) (now (out .entry)) .reply)
+        (wordCommand (now (words .entry)) lent count (now (area .entry)) (now (namespaces .entry)) (now (line .entry)) (now (out .entry)) .store .count) ⌝ }
+    ensures bytes { λ _. ⌜ now (out .exit) ≡ bufferAfter (now (out .entry))
+        (wordCommand (now (words .entry)) lent count (now (area .entry)) (now (namespaces .entry)) (now (line .entry)) (now (out .entry)) .reply) ⌝ }
+    ensures area { λ _. ⌜ now (area .exit)
+        ≡ wordCommand (now (words .entry)) lent count (now (area .entry)) (now (namespaces .entry)) (now (line .entry)) (now (out .entry)) .store .area ⌝ }
+    ensures words { λ r. ⌜ (map recordOf (take lent (now (words .exit)))
+        ≡ wordCommand (now (words .entry)) lent count (now (area .entry)) (now (namespaces .entry)) (now (line .entry)) (now (out .entry)) .store .records)
+        × Between (now (words .entry)) (now (words .exit)) lent (r .from) (r .to) ⌝ }
 {
-    written_outcome(server::answer_words(words, count, area, namespaces, line, out))
-}
-
-// The same over a packed table.
-#[no_mangle]
-pub extern "C" fn luspemaro_answer_packed(
-    table: &[u8],
-    namespaces: &[u8],
-    line: &[u8],
-    out: &mut [u8],
-) -> Outcome
-    ensures { λ r. ⌜ Into (served (packedTable (now (table .entry))) (now (namespaces .entry)) (now (line .entry)) (now (out .entry)))
-        (now (out .entry)) (now (out .exit)) r ⌝ }
-{
-    written_outcome(server::answer_packed(table, namespaces, line, out))
+    let stored = server::answer_words(words, lent, count, area, namespaces, line, out);
+    command_done(stored)
 }
 
 // The whole walk: finds at the front of `found`, the names that were asked below at the front of `pending`.
@@ -204,7 +216,7 @@ pub extern "C" fn luspemaro_write_line(
 {
     let set = Attributes { bits: attributes };
     let named = Criteria { bits: criteria };
-    written_outcome(list_line::write_line(set, name, named, out))
+    written_outcome(list_line::write_line(set, name, named, out), 0)
 }
 
 // The line reader.

@@ -5,11 +5,12 @@ use collector::Collected;
 use list_line::Line;
 use list_line::Read;
 use octets::Written;
+use server::Stored;
 ghost use mathlib.Core.Path.{_≡_};
-ghost use Rattle.exports.specs.Outcomes.{writtenCase, collectedCase, lineCase};
+ghost use Rattle.exports.specs.Outcomes.{doneCase, writtenCase, collectedCase, lineCase};
 
 // What a call that writes into lent memory answers: 0 and the length of what it wrote, for a walk with the number of commands
-// sent; or the number of the refusal, length 0 and count 0.
+// sent; or the number of the refusal, length 0 and count 0. Of a command the count is the number of rows, on a refusal too.
 #[repr(C)]
 pub struct Outcome {
     pub number: u8,
@@ -28,19 +29,39 @@ pub struct LineParts {
     pub name: [u8; 200],
 }
 
-pub(crate) fn written_outcome(written: Written) -> Outcome
-    ensures { λ r. ⌜ r ≡ writtenCase written ⌝ }
+// What a command over words comes to: its outcome, and the words that changed or moved, `from` up to `to`.
+pub(crate) struct Done {
+    pub outcome: Outcome,
+    pub from: usize,
+    pub to: usize,
+}
+
+// A command's case.
+pub(crate) fn command_done(stored: Stored) -> Done
+    ensures { λ r. ⌜ r ≡ doneCase stored ⌝ }
+{
+    let written = stored.written;
+    let outcome = written_outcome(written, stored.count);
+    Done {
+        outcome,
+        from: stored.from,
+        to: stored.to,
+    }
+}
+
+pub(crate) fn written_outcome(written: Written, count: usize) -> Outcome
+    ensures { λ r. ⌜ r ≡ writtenCase written count ⌝ }
 {
     match written {
         Written::Done(length) => Outcome {
             number: 0,
             length,
-            count: 0,
+            count,
         },
         Written::Refused(number) => Outcome {
             number,
             length: 0,
-            count: 0,
+            count,
         },
     }
 }

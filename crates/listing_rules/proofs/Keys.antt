@@ -24,7 +24,7 @@ use Rattle.listing_rules.specs.Feeder.{stillOne, oneCommand}
 use Rattle.listing_rules.specs.Options.{lawfulOptions, noCriteria, isNone, lawfulCriteria, criteriaOf, criteriaNumber, criteria}
 use Rattle.listing_rules.specs.Command.{lineText, valueRest, option, parted, options, patterns, selectionPart, returnPart, isSome}
 use Rattle.listing_rules.specs.Command.{listArgs, extended, selectionWords, returnWords, knownIn, named, optionsOf, canonical}
-use Rattle.listing_rules.specs.Command.{fewPatterns, asksRoot, judged, lsubArgs, judgedLsub, orRefuse, worded, tagged, parsed}
+use Rattle.listing_rules.specs.Command.{fewPatterns, isEdit, asksRoot, judged, lsubArgs, judgedLsub, nameArg, orRefuse, worded, tagged, parsed}
 use Rattle.listing_rules.specs.Match.{anyTail, anyTailInLevel, headThen, wildMatch, matches, matchesAny}
 use Rattle.listing_rules.specs.Listing.{candidates, implied, meetsCriteria, candidateMeets, meetsBelow, meetsUnmatchedBelow}
 use Rattle.listing_rules.specs.Listing.{unselective, endsInPercent, levelAbove, listed, childInfo, hasChildren, inOrder}
@@ -33,7 +33,8 @@ use Rattle.listing_rules.specs.Lines.{attributeNames, chosen, spacedTail
 use Rattle.listing_rules.specs.Lines.{childInfoText, wordLine, listLine, rootLine, okLine}
 use Rattle.listing_rules.specs.Lsub.{isSubscribed, subscribedMatch, subscribedBelow, aboveSubscribed, lsubListed, lsubNames, lsubAttributes, lsubLine}
 use Rattle.listing_rules.specs.Server.{lineOf, listAnswer, lsubAnswer, delimiterText, entryText, classText, namespaceAnswer, answerTo, answer}
-use Rattle.listing_rules.specs.Server.{limited, bufferAfter, numberOf, lengthOf, served}
+use Rattle.listing_rules.specs.Server.{limited, bufferAfter, numberOf, isAnswered, lengthOf, served, attempted, unchangedBy, concluded, commanded}
+use Rattle.listing_rules.specs.Series.{sentTo, commandedAll, setCommanded, setSent}
 use Rattle.listing_rules.specs.Reader.{separated, readChosen, criteriaSets, readAmong, childInfoRead, readParts, orBad, readLine}
 use Rattle.listing_rules.specs.Reader.{rootAttributes, attributesRead, nameRead, childInfoOf, readNumber, nameBytes, sameBools}
 use Rattle.listing_rules.specs.Reader.{rootParts, lineFrom, written}
@@ -45,7 +46,8 @@ use Rattle.listing_rules.specs.Demand3.{walkOptions, meetingNames, meeti
 use Rattle.listing_rules.specs.Demand3.{foundTooSmall, pendingTooSmall, tooSmall, Demand3}
 use Rattle.listing_rules.specs.Frames.{digit, bytesOf, walkFrame, frameOf, readFrame, hexDigit, hex, answerLine, refusalLine}
 use Rattle.listing_rules.specs.Frames.{replyLine, walkLine, answering, addRow, addEntry, framed, step, start, fed, behind, fedAll}
-use Rattle.listing_rules.specs.Frames.{atEnd, programOutput}
+use Rattle.listing_rules.specs.Frames.{atEnd, programOutput, recordsFrom, filledTo, programStore, keptTable, keptStore}
+use Rattle.listing_rules.specs.Frames.{addRowTo, commandOver, accepted, commandStep}
 
 unfoldable pub openBytes : Unit {0}
 unfolding text slash quote backslash space crlf bit within oneOf all isEmpty same raise raised spells
@@ -96,7 +98,7 @@ unfolding lawfulOptions noCriteria isNone lawfulCriteria criteriaOf criteriaNumb
 openOptions = tt
 
 unfoldable pub openCommand : Unit {0}
-unfolding lineText valueRest option parted options patterns selectionPart returnPart isSome listArgs extended selectionWords returnWords knownIn named optionsOf canonical fewPatterns asksRoot judged lsubArgs judgedLsub orRefuse worded tagged parsed
+unfolding lineText valueRest option parted options patterns selectionPart returnPart isSome listArgs extended selectionWords returnWords knownIn named optionsOf canonical fewPatterns isEdit asksRoot judged lsubArgs judgedLsub nameArg orRefuse worded tagged parsed
 openCommand = tt
 
 unfoldable pub openMatch : Unit {0}
@@ -116,8 +118,12 @@ unfolding isSubscribed subscribedMatch subscribedBelow aboveSubscribed lsubListe
 openLsub = tt
 
 unfoldable pub openServer : Unit {0}
-unfolding lineOf listAnswer lsubAnswer delimiterText entryText classText namespaceAnswer answerTo answer limited bufferAfter numberOf lengthOf served
+unfolding lineOf listAnswer lsubAnswer delimiterText entryText classText namespaceAnswer answerTo answer limited bufferAfter numberOf isAnswered lengthOf served attempted unchangedBy concluded commanded
 openServer = tt
+
+unfoldable pub openSeries : Unit {0}
+unfolding sentTo commandedAll setCommanded setSent
+openSeries = tt
 
 unfoldable pub openReader : Unit {0}
 unfolding separated readChosen criteriaSets readAmong childInfoRead readParts orBad readLine rootAttributes attributesRead nameRead childInfoOf readNumber nameBytes sameBools rootParts lineFrom written
@@ -132,10 +138,10 @@ unfolding walkOptions meetingNames meetingAncestors declaredWalk walkAnswer scra
 openDemand3 = tt
 
 unfoldable pub openFrames : Unit {0}
-unfolding digit bytesOf walkFrame frameOf readFrame hexDigit hex answerLine refusalLine replyLine walkLine answering addRow addEntry framed step start fed behind fedAll atEnd programOutput
+unfolding digit bytesOf walkFrame frameOf readFrame hexDigit hex answerLine refusalLine replyLine walkLine recordsFrom filledTo programStore keptTable keptStore answering addRowTo addRow addEntry commandOver accepted commandStep framed step start fed behind fedAll atEnd programOutput
 openFrames = tt
 
 -- opens every definition that the cases of the two tables compute
 unfoldable pub openAll : Unit {0}
-unfolding openBytes openLists openOrders openNames openFlags openTable openRecords openSubscriptions openNamespaces openTokens openFeeder openOptions openCommand openMatch openListing openLines openLsub openServer openReader openWalk openDemand3 openFrames
+unfolding openBytes openLists openOrders openNames openFlags openTable openRecords openSubscriptions openNamespaces openTokens openFeeder openOptions openCommand openMatch openListing openLines openLsub openServer openSeries openReader openWalk openDemand3 openFrames
 openAll = tt

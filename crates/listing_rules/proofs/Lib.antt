@@ -46,3 +46,8 @@ pub mod EditLayout
 pub mod EditFlags
 pub mod EditPasses
 pub mod SubscriptionLaws
+pub mod ProgramStore
+pub mod CommandLaws
+pub mod SpareLaws
+pub mod WalkReads
+pub mod LineLength

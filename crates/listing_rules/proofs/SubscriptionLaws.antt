@@ -14,7 +14,8 @@ use Rattle.listing_rules.specs.Names.{lawfulName}
 use Rattle.listing_rules.specs.Flags.{subscribed, lawfulFlags}
 use Rattle.listing_rules.specs.Table.{Row, names, hasRow, passes}
 use Rattle.listing_rules.specs.Records.{Record, rowOf}
-use Rattle.listing_rules.specs.Subscriptions.{Edit, subscribe, unsubscribe, Store, storeTable, held, storeRows, spelled, rowsBefore, belowNoInferiors, freeRun}
+use Rattle.listing_rules.specs.Command.{Edit, subscribe, unsubscribe}
+use Rattle.listing_rules.specs.Subscriptions.{Store, storeTable, held, storeRows, spelled, rowsBefore, belowNoInferiors, freeRun}
 use Rattle.listing_rules.specs.Subscriptions.{withSubscribed, withoutSubscribed, nth, flagged, inserted, removed, Edited, denied, stored, insertion, subscribing}
 use Rattle.listing_rules.specs.Subscriptions.{unsubscribing, edited, storeAfter, isIn, subscribedNames, setEdited, setAfter, editedAll, setAll}
 use Rattle.listing_rules.proofs.Bools.{and-l, and-r}
@@ -43,7 +44,7 @@ isStored (stored t) = true
 refused-not : (k : ℕ) (t : Store) → denied k ≡ stored t → ⊥
 refused-not k t e = false≢true (ap isStored e)
 
-stored-is : (s t : Store) → stored s ≡ stored t → s ≡ t
+pub stored-is : (s t : Store) → stored s ≡ stored t → s ≡ t
 unfolding storeAfter
 stored-is s t e = ap (storeAfter s) e
 
@@ -197,7 +198,7 @@ unfolding storeAfter
 after-passes s e h (denied k) q = h
 after-passes s e h (stored t) q = edited-passes s t e h q
 
-set-alike : (has like : List ℕ → Bool) (e : Edit) (m : List ℕ) → has m ≡ like m → setEdited has e m ≡ setEdited like e m
+pub set-alike : (has like : List ℕ → Bool) (e : Edit) (m : List ℕ) → has m ≡ like m → setEdited has e m ≡ setEdited like e m
 unfolding setEdited
 set-alike has like (subscribe n) m h = ap (λ (b : Bool). same (spelled n) m || b) h
 set-alike has like (unsubscribe n) m h = ap (λ (b : Bool). not (same (spelled n) m) && b) h

@@ -7,7 +7,7 @@ use Rattle.listing_rules.specs.ExpertSheet.{sheet}
 use Rattle.listing_rules.specs.Limits.{flags-of-a-row, names-of-rows, order-of-rows, size-of-a-table, namespace-entries}
 use Rattle.listing_rules.specs.Limits.{lsub-lines, lsub-grammar}
 use Rattle.listing_rules.specs.Limits.{records-layout, records-size, records-answered}
-use Rattle.listing_rules.specs.Limits.{edits-made, edits-inbox, edits-refused, edits-layout}
+use Rattle.listing_rules.specs.Limits.{edits-made, edits-inbox, edits-refused, edits-layout, edits-commanded, edits-in-order, edits-in-series, program-edits}
 use Rattle.listing_rules.specs.Limits.{namespace-classes, uses-by-name, flags-by-name, attributes-together}
 use Rattle.listing_rules.specs.Limits.{children-and-empty-patterns, special-use-selected, quotes-and-wildcards}
 use Rattle.listing_rules.specs.Limits.{childinfo-and-uses-shown, levels-listed, levels-not-listed, levels-counted, inbox-alone}
@@ -67,6 +67,18 @@ edits-refused-hold = refl
 edits-layout-hold : failures 1 edits-layout ≡ []
 unfolding openAll
 edits-layout-hold = refl
+
+edits-commanded-hold : failures 1 edits-commanded ≡ []
+unfolding openAll
+edits-commanded-hold = refl
+
+edits-in-order-hold : failures 1 edits-in-order ≡ []
+unfolding openAll
+edits-in-order-hold = refl
+
+edits-in-series-hold : failures 1 edits-in-series ≡ []
+unfolding openAll
+edits-in-series-hold = refl
 
 namespace-entries-hold : failures 1 namespace-entries ≡ []
 unfolding openAll
@@ -188,6 +200,10 @@ program-digits-and-room-hold : failures 1 program-digits-and-room ≡ []
 unfolding openAll
 program-digits-and-room-hold = refl
 
+program-edits-hold : failures 1 program-edits ≡ []
+unfolding openAll
+program-edits-hold = refl
+
 program-answer-room-hold : failures 1 program-answer-room ≡ []
 unfolding openAll
 program-answer-room-hold = refl
@@ -249,6 +265,9 @@ pub record Limits-hold : Type 0 where
   pub edits-inbox-stand : failures 1 edits-inbox ≡ []
   pub edits-refused-stand : failures 1 edits-refused ≡ []
   pub edits-layout-stand : failures 1 edits-layout ≡ []
+  pub edits-commanded-stand : failures 1 edits-commanded ≡ []
+  pub edits-in-order-stand : failures 1 edits-in-order ≡ []
+  pub edits-in-series-stand : failures 1 edits-in-series ≡ []
   pub namespace-entries-stand : failures 1 namespace-entries ≡ []
   pub namespace-classes-stand : failures 1 namespace-classes ≡ []
   pub uses-by-name-stand : failures 1 uses-by-name ≡ []
@@ -279,6 +298,7 @@ pub record Limits-hold : Type 0 where
   pub reader-lines-stand : failures 1 reader-lines ≡ []
   pub program-frames-stand : failures 1 program-frames ≡ []
   pub program-digits-and-room-stand : failures 1 program-digits-and-room ≡ []
+  pub program-edits-stand : failures 1 program-edits ≡ []
   pub program-answer-room-stand : failures 1 program-answer-room ≡ []
   pub program-scratch-room-stand : failures 1 program-scratch-room ≡ []
   pub program-found-room-stand : failures 1 program-found-room ≡ []
@@ -306,6 +326,9 @@ limits-hold =
       edits-inbox-stand = edits-inbox-hold;
       edits-refused-stand = edits-refused-hold;
       edits-layout-stand = edits-layout-hold;
+      edits-commanded-stand = edits-commanded-hold;
+      edits-in-order-stand = edits-in-order-hold;
+      edits-in-series-stand = edits-in-series-hold;
       namespace-entries-stand = namespace-entries-hold;
       namespace-classes-stand = namespace-classes-hold;
       uses-by-name-stand = uses-by-name-hold;
@@ -336,6 +359,7 @@ limits-hold =
       reader-lines-stand = reader-lines-hold;
       program-frames-stand = program-frames-hold;
       program-digits-and-room-stand = program-digits-and-room-hold;
+      program-edits-stand = program-edits-hold;
       program-answer-room-stand = program-answer-room-hold;
       program-scratch-room-stand = program-scratch-room-hold;
       program-found-room-stand = program-found-room-hold;

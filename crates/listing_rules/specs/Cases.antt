@@ -9,17 +9,19 @@ use Rattle.listing_rules.specs.Bytes.{text, crlf, same, isEmpty}
 use Rattle.listing_rules.specs.Lists.{every, anyOf}
 use Rattle.listing_rules.specs.Table.{Table, rows, passes, packedTable}
 use Rattle.listing_rules.specs.Records.{Record, recordTable}
-use Rattle.listing_rules.specs.Subscriptions.{Edit, Store, Edited, denied as refusedEdit, stored, edited}
+use Rattle.listing_rules.specs.Command.{Edit}
+use Rattle.listing_rules.specs.Subscriptions.{Store, Edited, denied as refusedEdit, stored, edited, subscribedNames}
 use Rattle.listing_rules.specs.Namespaces.{namespacesPass}
 use Rattle.listing_rules.specs.Feeder.{Event, handed, goOn, denied, quiet, goOnLine, Feeder, reading, inLiteral, dropping, first, feedChunks}
 use Rattle.listing_rules.specs.Options.{criteriaNumber}
-use Rattle.listing_rules.specs.Server.{Reply, refusal, answered, limited, answer, served, numberOf, lengthOf, bufferAfter}
+use Rattle.listing_rules.specs.Server.{Reply, refusal, answered, limited, answer, served, numberOf, lengthOf, bufferAfter, commanded}
+use Rattle.listing_rules.specs.Series.{Sent, commandedAll}
 use Rattle.listing_rules.specs.Reader.{Read, line, root, bad, readLine, readNumber, attributesRead, childInfoOf, nameBytes, sameBools, lineFrom}
 use Rattle.listing_rules.specs.Reader.{written}
 use Rattle.listing_rules.specs.Walk.{lawfulByte, WalkReply, walkRefused, walked, walk, collected, walkNumber, walkCount, foundLength}
 use Rattle.listing_rules.specs.Walk.{scratchAfter, foundAfter, pendingAfter}
 use Rattle.listing_rules.specs.Demand3.{declaredWalk, tooSmall}
-use Rattle.listing_rules.specs.Frames.{programOutput, step, walkLine}
+use Rattle.listing_rules.specs.Frames.{Kept, bytes, records, programOutput, step, walkLine}
 
 -- a row and an entry in bytes
 abbrev pub row : ℕ → List ℕ → List ℕ
@@ -70,6 +72,12 @@ pub data Case : Type 0 where
   walksOver : Lent → ℕ → ℕ → ℕ → ℕ → WalkReply → Case
   -- these records pass, and each of these edits of them, the others not made, comes to this
   edits : Lent → List Edit → Edited → Case
+  -- records, a namespace list and each of these command lines, the others not sent, are answered so, in a buffer of this length, and
+  -- leave this
+  commands : Lent → ℕ → List ℕ → List (List ℕ) → Reply → Lent → Case
+  -- records and command lines, one after the other, each with an empty namespace list and a buffer of 64 bytes: the names subscribed then, in
+  -- the order of the rows
+  series : Lent → List (List ℕ) → List (List ℕ) → Case
   -- all of these namespace lists pass, and none of those
   spaces : List (List ℕ) → List (List ℕ) → Case
   -- the same with the answer buffer as it was lent: the number, the length, and the buffer's bytes afterwards
@@ -111,11 +119,24 @@ sameRecords [] (q ∷ qs) = false
 sameRecords (r ∷ rs) [] = false
 sameRecords (r ∷ rs) (q ∷ qs) = eqb (r .flags) (q .flags) && eqb (r .start) (q .start) && eqb (r .len) (q .len) && sameRecords rs qs
 
+abbrev pub sameStore : Store → Store → Bool
+sameStore s t = sameRecords (s .records) (t .records) && eqb (s .count) (t .count) && same (s .area) (t .area)
+
 abbrev pub sameEdited : Edited → Edited → Bool
 sameEdited (refusedEdit j) (refusedEdit k) = eqb j k
 sameEdited (refusedEdit j) (stored t) = false
 sameEdited (stored s) (refusedEdit k) = false
-sameEdited (stored s) (stored t) = sameRecords (s .records) (t .records) && eqb (s .count) (t .count) && same (s .area) (t .area)
+sameEdited (stored s) (stored t) = sameStore s t
+
+-- a line as it is sent in a series
+abbrev pub sentLine : List ℕ → Sent
+sentLine l = record { namespaces = []; line = l; buffer = times 64 0 }
+
+abbrev pub sameNames : List (List ℕ) → List (List ℕ) → Bool
+sameNames [] [] = true
+sameNames [] (m ∷ ms) = false
+sameNames (n ∷ ns) [] = false
+sameNames (n ∷ ns) (m ∷ ms) = same n m && sameNames ns ms
 
 abbrev pub sameReply : Reply → Reply → Bool
 sameReply (refusal a) (refusal b) = eqb a b
@@ -161,6 +182,11 @@ abbrev pub asDeclared : Table → ℕ → ℕ → ℕ → ℕ → WalkReply → 
 asDeclared t o s f p (walkRefused k) = not (passes t) || not (lawfulByte o) || tooSmall (rows t) o s f p
 asDeclared t o s f p (walked c fs ps) = not (tooSmall (rows t) o s f p) && sameWalk (declaredWalk t o) (walked c fs ps)
 
+-- how many packed bytes are stored: none once there are records
+abbrev pub packedLength : Kept → ℕ
+packedLength (bytes t) = length t
+packedLength (records s) = 0
+
 abbrev pub holds : Case → Bool
 holds (replies room t ns l r) = sameReply (limited room (answer (packedTable t) ns l)) r
 holds (refuses k ls) = every (λ l. sameReply (answer (packedTable []) [] l) (refusal k)) ls
@@ -170,6 +196,9 @@ holds (layouts good poor) = every passes (map lentTable good) && not (anyOf pass
 holds (repliesOver t room ns l r) = sameReply (limited room (answer (lentTable t) ns l)) r
 holds (walksOver t o s f p r) = sameWalk (walk (lentTable t) o s f p) r && asDeclared (lentTable t) o s f p r
 holds (edits t es r) = passes (lentTable t) && every (λ e. sameEdited (edited (lentStore t) e) r) es
+holds (commands t room ns ls r u) =
+    every (λ l. let c = commanded (lentStore t) ns l (times room 0) in sameReply (c .reply) r && sameStore (c .store) (lentStore u)) ls
+holds (series t ls ns) = sameNames (subscribedNames (commandedAll (lentStore t) (map sentLine ls))) ns
 holds (spaces good poor) = every namespacesPass good && not (anyOf namespacesPass poor)
 holds (answersInto d t ns l k n e) =
     let r = served (packedTable t) ns l d in
@@ -188,10 +217,10 @@ holds (gives l k bs c n) =
 holds (reads l r poor) = sameRead (readLine l) r && every (λ x. sameRead (readLine x) bad) poor
 holds (program i o) = same (programOutput i) o
 holds (steps t n l t′ n′ o) =
-    let r = step (record { table = times t 0; namespaces = times n 0 }) l in
-    eqb (length (r .stored .table)) t′ && eqb (length (r .stored .namespaces)) n′ && same (r .output) o
+    let r = step (record { table = bytes (times t 0); namespaces = times n 0 }) l in
+    eqb (packedLength (r .stored .table)) t′ && eqb (length (r .stored .namespaces)) n′ && same (r .output) o
 holds (answersFrame t l n o) =
-    let r = step (record { table = t; namespaces = [] }) l .output in
+    let r = step (record { table = bytes t; namespaces = [] }) l .output in
     eqb (length r) n && same (take (length o) r) o
 holds (counts c o) = same (walkLine (walked c [] [])) o
 holds (feeds cs es b) = let f = feedChunks first cs in same (eventBytes (f .events)) (eventBytes es) && sameFlag (isFirst (f .state)) b

@@ -150,6 +150,11 @@ canonical r (p ∷ ps) = let t = canonical r ps in cond (isEmpty p) t ((r ++ p) 
 unfoldable pub fewPatterns : ListArgs → Bool
 fewPatterns a = leb (length (a .pats)) 8 && every (λ p. leb (length p) 255) (canonical (a .reference) (a .pats))
 
+-- document 02, W6: "SUBSCRIBE and UNSUBSCRIBE with one mailbox name"
+pub data Edit : Type 0 where
+  subscribe : List ℕ → Edit
+  unsubscribe : List ℕ → Edit
+
 -- a command that is read and lawful, or the number of its refusal
 pub data Parsed : Type 0 where
   refused : ℕ → Parsed
@@ -157,6 +162,16 @@ pub data Parsed : Type 0 where
   listing : List ℕ → Options → List (List ℕ) → Parsed
   rootOf : List ℕ → Parsed
   subscriptions : List ℕ → List (List ℕ) → Parsed
+  editing : List ℕ → Edit → Parsed
+
+-- whether it is SUBSCRIBE or UNSUBSCRIBE
+unfoldable pub isEdit : Parsed → Bool
+isEdit (editing tag e) = true
+isEdit (refused k) = false
+isEdit (namespace tag) = false
+isEdit (listing tag o ps) = false
+isEdit (rootOf tag) = false
+isEdit (subscriptions tag ps) = false
 
 -- "In an extended command an empty pattern matches nothing .. In the other kind it asks for the root line": that command has one pattern
 unfoldable pub asksRoot : ListArgs → Bool
@@ -189,21 +204,32 @@ judgedLsub tag a =
     let ps = canonical (a .reference) (a .pat ∷ []) in
     cond (every (λ p. leb (length p) 255) ps) (subscriptions tag ps) (refused 8)
 
+-- what is written after the word SUBSCRIBE or UNSUBSCRIBE: "one mailbox name (an astring)"
+unfoldable pub nameArg : List ℕ → Option (List ℕ)
+nameArg t = do
+  u ← after (text " ") t
+  n ← astring u
+  cond (isEmpty (n .rest)) (some (n .val)) none
+
 -- go on with what was read, or refuse with the number
 unfoldable pub orRefuse : {A : Type 0} → ℕ → Option A → (A → Parsed) → Parsed
 orRefuse k none go = refused k
 orRefuse k (some a) go = go a
 
 -- "a word, the longest run of atom bytes: LIST or NAMESPACE in any case"; another word is 5, a rest off the grammar 4.
--- "NAMESPACE ends there." W5: "Check 5 now knows three words."
+-- "NAMESPACE ends there." W6: "Check 5 now knows five words."
 unfoldable pub worded : List ℕ → Got (List ℕ) → Parsed
 worded tag w =
     let list = orRefuse 4 (listArgs (w .rest)) (judged tag) in
     let spaces = cond (isEmpty (w .rest)) (namespace tag) (refused 4) in
     let subscribed = orRefuse 4 (lsubArgs (w .rest)) (judgedLsub tag) in
+    let adding = orRefuse 4 (nameArg (w .rest)) (λ n. editing tag (subscribe n)) in
+    let taking = orRefuse 4 (nameArg (w .rest)) (λ n. editing tag (unsubscribe n)) in
     cond (spells (w .val) (text "LIST")) list
     (cond (spells (w .val) (text "NAMESPACE")) spaces
-    (cond (spells (w .val) (text "LSUB")) subscribed (refused 5)))
+    (cond (spells (w .val) (text "LSUB")) subscribed
+    (cond (spells (w .val) (text "SUBSCRIBE")) adding
+    (cond (spells (w .val) (text "UNSUBSCRIBE")) taking (refused 5)))))
 
 -- "Tag, one space, then a word": "An empty tag or a missing space is 4"
 unfoldable pub tagged : List ℕ → Parsed

@@ -1,14 +1,18 @@
 -- The frames of the program: one frame's meaning over the stored bytes, and a whole input's meaning.
-use mathlib.Core.List.{List, [], _∷_, _++_}
-use mathlib.Core.Bool.{cond}
+use mathlib.Core.List.{List, [], _∷_, _++_, map}
+use mathlib.Core.Bool.{Bool, cond, _&&_}
 use mathlib.Core.Option.{Option, none, some}
 use lib.Dec.{eqb, leb}
-use lib.ListN.{length}
+use lib.ListN.{length, replicate}
 use Prim.Native.Nat.{ℕ, _+_, _-_, _*_, _/_, _%_}
 use Rattle.listing_rules.specs.Bytes.{within, isEmpty, LF}
-use Rattle.listing_rules.specs.Table.{packedTable}
+use Rattle.listing_rules.specs.Lists.{joined}
+use Rattle.listing_rules.specs.Table.{Row, Table, rows, packedTable}
+use Rattle.listing_rules.specs.Records.{Record}
 use Rattle.listing_rules.specs.Tokens.{_>>=_}
-use Rattle.listing_rules.specs.Server.{Reply, refusal, answered, limited, answer}
+use Rattle.listing_rules.specs.Command.{Parsed, isEdit, parsed}
+use Rattle.listing_rules.specs.Subscriptions.{Store, storeTable, zeroRecord}
+use Rattle.listing_rules.specs.Server.{Reply, refusal, answered, isAnswered, answer, Commanded, attempted, concluded}
 use Rattle.listing_rules.specs.Walk.{WalkReply, walkRefused, walked, walk}
 
 -- "Lines of hexadecimal, either case"
@@ -76,9 +80,41 @@ unfoldable pub walkLine : WalkReply → List ℕ
 walkLine (walkRefused k) = refusalLine k
 walkLine (walked c f p) = answerLine (0x57 ∷ c / 256 % 256 ∷ c % 256 ∷ f)
 
--- the stored bytes of the table and of the namespace list
+-- The table as the program keeps it: its packed bytes, and "from the first accepted edit" records (document 02, W6).
+pub data Kept : Type 0 where
+  bytes : List ℕ → Kept
+  records : Store → Kept
+
+-- "names at first in row order without gaps": the records of rows, the first name at a place
+unfoldable pub recordsFrom : ℕ → List Row → List Record
+recordsFrom at [] = []
+recordsFrom at (r ∷ rs) = record { flags = r .flags; start = at; len = length (r .name) } ∷ recordsFrom (at + length (r .name)) rs
+
+-- n of them, the others as z is
+unfoldable pub filledTo : {A : Type 0} → ℕ → A → List A → List A
+filledTo n z xs = xs ++ replicate (n - length xs) z
+
+-- "The program keeps 512 records, names at first in row order without gaps from the start of 16,384 bytes"; the others are zero
+unfoldable pub programStore : List Row → Store
+programStore rs =
+    record {
+      records = filledTo 512 zeroRecord (recordsFrom 0 rs);
+      count = length rs;
+      area = filledTo 16384 0 (joined (map (λ r. r .name) rs));
+    }
+
+unfoldable pub keptTable : Kept → Table
+keptTable (bytes t) = packedTable t
+keptTable (records s) = storeTable s
+
+-- "every edit is judged on them"
+unfoldable pub keptStore : Kept → Store
+keptStore (bytes t) = programStore (rows (packedTable t))
+keptStore (records s) = s
+
+-- the stored table and the stored bytes of the namespace list
 pub record Stored : Type 0 where
-  pub table : List ℕ
+  pub table : Kept
   pub namespaces : List ℕ
 
 -- what a frame leaves stored, and what it answers: one line or nothing
@@ -89,12 +125,17 @@ pub record Stepped : Type 0 where
 unfoldable pub answering : Stored → List ℕ → Stepped
 answering s l = record { stored = s; output = l }
 
--- "is added behind the stored bytes (16,384 and 1,024; no room: 1 or 2, nothing added) and answers nothing"
+-- "is added behind the stored bytes (16,384 and 1,024; no room: 1 or 2, nothing added) and answers nothing"; after the first accepted
+-- edit "4D then is 13"
+unfoldable pub addRowTo : Kept → List ℕ → List ℕ → Stepped
+addRowTo (records t) spaces bs = answering (record { table = records t; namespaces = spaces }) (refusalLine 13)
+addRowTo (bytes t) spaces bs =
+    cond (leb (length t + length bs) 16384)
+    (answering (record { table = bytes (t ++ bs); namespaces = spaces }) [])
+    (answering (record { table = bytes t; namespaces = spaces }) (refusalLine 1))
+
 unfoldable pub addRow : Stored → List ℕ → Stepped
-addRow s bs =
-    cond (leb (length (s .table) + length bs) 16384)
-    (answering (record { table = s .table ++ bs; namespaces = s .namespaces }) [])
-    (answering s (refusalLine 1))
+addRow s bs = addRowTo (s .table) (s .namespaces) bs
 
 unfoldable pub addEntry : Stored → List ℕ → Stepped
 addEntry s bs =
@@ -102,12 +143,32 @@ addEntry s bs =
     (answering (record { table = s .table; namespaces = s .namespaces ++ bs }) [])
     (answering s (refusalLine 2))
 
+-- a command over what is kept: its reply, and the store that an accepted edit leaves
+unfoldable pub commandOver : Kept → List ℕ → List ℕ → Commanded
+commandOver k spaces l = concluded (keptStore k) 16384 (attempted (keptStore k) (parsed l)) (answer (keptTable k) spaces l)
+
+-- an edit is accepted if it is answered OK, also where it changed no row
+unfoldable pub accepted : Parsed → Reply → Bool
+accepted p r = isEdit p && isAnswered r
+
+-- what a command answers, and what is kept after it
+unfoldable pub commandStep : Stored → List ℕ → Stepped
+commandStep s l =
+    let c = commandOver (s .table) (s .namespaces) l in
+    record {
+      stored = record {
+        table = cond (accepted (parsed l) (c .reply)) (records (c .store)) (s .table);
+        namespaces = s .namespaces;
+      };
+      output = replyLine (c .reply);
+    }
+
 -- one frame; "Buffers: answer and scratch 16,384, found and pending 8,192 each"; a bad frame "is 13, and the stored bytes stay"
 unfoldable pub framed : Stored → Frame → Stepped
 framed s (tableBytes bs) = addRow s bs
 framed s (namespaceBytes bs) = addEntry s bs
-framed s (command l) = answering s (replyLine (limited 16384 (answer (packedTable (s .table)) (s .namespaces) l)))
-framed s (walkWith o) = answering s (walkLine (walk (packedTable (s .table)) o 16384 8192 8192))
+framed s (command l) = commandStep s l
+framed s (walkWith o) = answering s (walkLine (walk (keptTable (s .table)) o 16384 8192 8192))
 framed s badFrame = answering s (refusalLine 13)
 
 -- One frame a line, given by its characters without the LF.
@@ -120,7 +181,7 @@ pub record Session : Type 0 where
   pub partial : List ℕ
 
 unfoldable pub start : Session
-start = record { stored = record { table = []; namespaces = [] }; partial = [] }
+start = record { stored = record { table = bytes []; namespaces = [] }; partial = [] }
 
 -- what a byte, or some bytes, of the input come to
 pub record Fed : Type 0 where

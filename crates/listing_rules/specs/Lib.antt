@@ -17,6 +17,7 @@ pub mod Listing
 pub mod Lines
 pub mod Lsub
 pub mod Server
+pub mod Series
 pub mod Reader
 pub mod Walk
 pub mod Demand3

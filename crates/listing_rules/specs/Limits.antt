@@ -8,15 +8,16 @@ use Prim.Native.String.{String}
 use Rattle.listing_rules.specs.Bytes.{text, crlf}
 use Rattle.listing_rules.specs.Lists.{joined}
 use Rattle.listing_rules.specs.Records.{Record}
-use Rattle.listing_rules.specs.Subscriptions.{Edit, subscribe, unsubscribe, denied as refusedEdit}
+use Rattle.listing_rules.specs.Command.{Edit, subscribe, unsubscribe}
+use Rattle.listing_rules.specs.Subscriptions.{denied as refusedEdit}
 use Rattle.listing_rules.specs.Feeder.{handed, goOn, denied}
 use Rattle.listing_rules.specs.Options.{Criteria, noCriteria}
 use Rattle.listing_rules.specs.Server.{refusal, answered}
 use Rattle.listing_rules.specs.Reader.{line, root}
 use Rattle.listing_rules.specs.Walk.{walkRefused, walked, packed}
 use Rattle.listing_rules.specs.Cases.{row, mailbox, entry, times, sends, lines, Case, replies, refuses, walks, tables, spaces, answersInto}
-use Rattle.listing_rules.specs.Cases.{walksInto, writes, writesInto, gives, reads, program, steps, answersFrame, counts, feeds, continues}
-use Rattle.listing_rules.specs.Cases.{Lent, layouts, repliesOver, walksOver, edits, leaves}
+use Rattle.listing_rules.specs.Cases.{commands, walksInto, writes, writesInto, gives, reads, program, steps, answersFrame, counts, feeds, continues}
+use Rattle.listing_rules.specs.Cases.{Lent, layouts, repliesOver, walksOver, edits, leaves, series}
 use Rattle.listing_rules.specs.ExpertSheet.{tableE}
 
 abbrev named : List ℕ → List ℕ
@@ -301,6 +302,47 @@ edits-layout =
     ∷ edits (record { area = text "a?" ++ (0 ∷ 0 ∷ text "?c"); records = at 0x0001 0 1 ∷ at 0x0001 5 1 ∷ at 0x0000 0 0 ∷ []; count = 2 }) (sub "bbbb" ∷ [])
     (leaves (lent "abbbbc" (at 0x0001 0 1 ∷ at 0x0002 1 4 ∷ at 0x0001 5 1 ∷ []) 3))
     ∷ edits (lent "???" (at 0x0000 0 0 ∷ []) 0) (sub "abc" ∷ []) (leaves (lent "abc" (at 0x0002 0 3 ∷ []) 1))
+    ∷ []
+
+-- W6 as commands: the word in any case, the name bare, quoted or a literal; the OK line alone; other commands leave everything as it is
+abbrev pub edits-commanded : List Case
+edits-commanded =
+    commands b-and-d 11 [] (lines ("a SUBSCRIBE {1}" ∷ "b" ∷ []) ∷ map sends ("a SUBSCRIBE b" ∷ "a subscribe \"b\"" ∷ [])) (answered (sends "a OK done"))
+    (lent "bd???" (at 0x0003 0 1 ∷ at 0x0001 1 1 ∷ at 0xFFFF 9 9 ∷ at 0xFFFF 0 5 ∷ []) 2)
+    ∷ commands b-alone 16384 [] (lines ("+ UNSUBSCRIBE {1}" ∷ "d" ∷ []) ∷ []) (refusal 4) b-alone
+    ∷ commands b-alone 16384 [] (lines ("z UNSUBSCRIBE {1}" ∷ "d" ∷ []) ∷ map sends ("z Unsubscribe d" ∷ "z UNSUBSCRIBE \"d\"" ∷ [])) (answered (sends "z OK done"))
+    (lent "%ad%bb%" (at 0x0013 1 1 ∷ at 0x0002 4 2 ∷ at 0x0001 2 1 ∷ at 0xFFFF 3 9 ∷ []) 3)
+    ∷ commands b-alone 16384 [] (map sends ("a LIST \"\" x" ∷ "a LSUB \"\" x" ∷ "a UNSUBSCRIBE x" ∷ "a UNSUBSCRIBE \"a%\"" ∷ "a UNSUBSCRIBE \"\"" ∷ "a SUBSCRIBE bb" ∷ []))
+    (answered (sends "a OK done")) b-alone
+    ∷ refuses 4 (map sends ("a SUBSCRIBE" ∷ "a SUBSCRIBE " ∷ "a SUBSCRIBE  b" ∷ "a SUBSCRIBE a%" ∷ "a SUBSCRIBE b " ∷ "a SUBSCRIBE b c" ∷ "a SUBSCRIBE (b)"
+    ∷ "a SUBSCRIBE \"\" b" ∷ "a UNSUBSCRIBE" ∷ "a UNSUBSCRIBE a*" ∷ "a UNSUBSCRIBE \"a" ∷ "a UNSUBSCRIBE a RETURN ()" ∷ []))
+    ∷ refuses 5 (map sends ("a SUBSCRIBED b" ∷ "a SUBSCRIB b" ∷ "a UNSUBSCRIBES b" ∷ "a UN b" ∷ []))
+    ∷ []
+
+-- 1, 2, 3, 4, 14, 15, then 9, and a refusal changes nothing
+abbrev pub edits-in-order : List Case
+edits-in-order =
+    commands (lent "a" (at 0x0001 0 1 ∷ []) 2) 0 (9 ∷ []) (text "a SUBSCRIBE a" ∷ []) (refusal 1) (lent "a" (at 0x0001 0 1 ∷ []) 2)
+    ∷ commands b-and-d 0 (9 ∷ []) (sends "a SUBSCRIBE b" ∷ sends "a SUBSCRIBE \"\"" ∷ text "a SUBSCRIBE b" ∷ []) (refusal 2) b-and-d
+    ∷ commands b-and-d 0 [] (text "a SUBSCRIBE \"\"" ∷ []) (refusal 3) b-and-d
+    ∷ commands b-and-d 0 [] (sends "a SUBSCRIBE a%" ∷ []) (refusal 4) b-and-d
+    ∷ commands (lent "b" (at 0x0011 0 1 ∷ []) 1) 0 [] (map sends ("a SUBSCRIBE \"a%\"" ∷ "a SUBSCRIBE \"\"" ∷ "a SUBSCRIBE b/c" ∷ [])) (refusal 14) (lent "b" (at 0x0011 0 1 ∷ []) 1)
+    ∷ commands (lent "b?" (at 0x0001 0 1 ∷ []) 1) 0 [] (sends "a SUBSCRIBE a" ∷ []) (refusal 15) (lent "b?" (at 0x0001 0 1 ∷ []) 1)
+    ∷ commands b-and-d 10 [] (map sends ("a SUBSCRIBE b" ∷ "a SUBSCRIBE c" ∷ "a UNSUBSCRIBE b" ∷ "a UNSUBSCRIBE x" ∷ [])) (refusal 9) b-and-d
+    ∷ []
+
+-- edits one after the other, each over what the one before left, with other commands and refusals (14, 15, and 9 for a tag of 55 bytes) between
+-- them: the names of a plain set that is given the accepted ones
+abbrev pub edits-in-series : List Case
+edits-in-series =
+    series (inbox-lent 0x0001) (map sends ("a SUBSCRIBE inbox/x" ∷ "b LIST \"\" *" ∷ "c SUBSCRIBE Inbox" ∷ "d SUBSCRIBE INBOX/y" ∷ "e UNSUBSCRIBE inbox/y" ∷ []))
+    (text "INBOX" ∷ text "INBOX/x" ∷ [])
+    ∷ series b-alone (map sends ("a UNSUBSCRIBE bb" ∷ "b SUBSCRIBE a/x" ∷ "c SUBSCRIBE \"c%\"" ∷ "d SUBSCRIBE zzzzz" ∷ "e SUBSCRIBE cccc" ∷ "f UNSUBSCRIBE d" ∷ []))
+    (text "a" ∷ text "cccc" ∷ [])
+    ∷ series b-and-d
+    ((times 55 116 ++ sends " SUBSCRIBE b") ∷ (times 54 116 ++ sends " SUBSCRIBE d") ∷ sends "a SUBSCRIBE c" ∷ sends "b SUBSCRIBE a" ∷ sends "c SUBSCRIBE e"
+    ∷ sends "d UNSUBSCRIBE a" ∷ sends "e SUBSCRIBE f" ∷ (times 55 116 ++ sends " UNSUBSCRIBE c") ∷ [])
+    (text "c" ∷ text "d" ∷ text "f" ∷ [])
     ∷ []
 
 -- namespace entries: class, prefix length, prefix bytes, delimiter
@@ -630,6 +672,20 @@ program-digits-and-room =
     ∷ steps 0 1023 (text "4E00") 0 1024 []
     ∷ steps 0 1023 (text "4E0000") 0 1023 (text "5202\n")
     ∷ counts 515 (text "570203\n")
+    ∷ []
+
+-- the program and edits: 4D goes on after refused edits and is 13 after an accepted one, also where it changed no row; 4E goes on
+abbrev pub program-edits : List Case
+program-edits =
+    program (text "4D00010161\n4361205355425343524942452022220D0A\n4D00110162\n43612053554253435249424520622F630D0A\n"
+    ++ (text "43612053554253435249424520630D0A\n4D0001017A\n4D\n4E00002F\n5700\n43612053554253435249424520610D0A\n5700\n"
+    ++ (text "436120554E53554253435249424520630D0A\n4361204C535542202222202A0D0A\n5700\n")))
+    (text "520E\n520E\n4161204F4B20646F6E650D0A\n520D\n520D\n5700010163\n4161204F4B20646F6E650D0A\n57000101610163\n"
+    ++ (text "4161204F4B20646F6E650D0A\n412A204C53554220282920222F22202261220D0A61204F4B20646F6E650D0A\n5700010161\n"))
+    ∷ program (text "436120554E53554253435249424520780D0A\n4D\n5700\n")
+    (text "4161204F4B20646F6E650D0A\n520D\n570001\n")
+    ∷ program (text "4D00010161\n4D00010161\n43612053554253435249424520610D0A\n4D\n")
+    (text "5201\n")
     ∷ []
 
 -- the program's answer buffer: an answer of 16,384 bytes, and one more

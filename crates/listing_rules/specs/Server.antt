@@ -1,6 +1,6 @@
 -- The server's answer, its refusals in order, and what they leave in the answer buffer.
 use mathlib.Core.List.{List, [], _∷_, _++_, map}
-use mathlib.Core.Bool.{cond}
+use mathlib.Core.Bool.{Bool, true, false, cond}
 use lib.Dec.{eqb, leb}
 use lib.ListN.{length, drop}
 use Prim.Native.Nat.{ℕ}
@@ -9,10 +9,11 @@ use Rattle.listing_rules.specs.Lists.{joined}
 use Rattle.listing_rules.specs.Table.{Row, Table, rows, passes}
 use Rattle.listing_rules.specs.Namespaces.{Entry, entries, namespacesPass, ofClass}
 use Rattle.listing_rules.specs.Options.{Options}
-use Rattle.listing_rules.specs.Command.{Parsed, refused, namespace, listing, rootOf, subscriptions, parsed}
+use Rattle.listing_rules.specs.Command.{Parsed, refused, namespace, listing, rootOf, subscriptions, editing, parsed}
 use Rattle.listing_rules.specs.Listing.{listedNames, attributes, childInfo}
 use Rattle.listing_rules.specs.Lines.{listLine, rootLine, okLine, quoted}
 use Rattle.listing_rules.specs.Lsub.{lsubNames, lsubLine}
+use Rattle.listing_rules.specs.Subscriptions.{Store, Edited, denied, stored, storeTable, edited}
 
 -- a number of refusal, or the bytes of an answer
 pub data Reply : Type 0 where
@@ -55,8 +56,9 @@ answerTo rs es (namespace tag) = answered (namespaceAnswer es tag)
 answerTo rs es (listing tag o ps) = answered (listAnswer rs tag o ps)
 answerTo rs es (rootOf tag) = answered (rootLine ++ okLine tag)
 answerTo rs es (subscriptions tag ps) = answered (lsubAnswer rs tag ps)
+answerTo rs es (editing tag e) = answered (okLine tag)
 
--- "Server order: 1, 2, 3, tag 4, 5, rest 4, 6, 7, 8, 9." The first eight:
+-- "Server order: 1, 2, 3, tag 4, 5, rest 4, 6, 7, 8, 9." The first eight; for an edit what is answered if it is not refused (`commanded`):
 unfoldable pub answer : Table → List ℕ → List ℕ → Reply
 answer table spaces l =
     let r = answerTo (rows table) (entries spaces) (parsed l) in
@@ -78,10 +80,43 @@ unfoldable pub numberOf : Reply → ℕ
 numberOf (refusal k) = k
 numberOf (answered a) = 0
 
+-- whether it is no refusal
+unfoldable pub isAnswered : Reply → Bool
+isAnswered (refusal k) = false
+isAnswered (answered a) = true
+
 unfoldable pub lengthOf : Reply → ℕ
 lengthOf (refusal k) = 0
 lengthOf (answered a) = length a
 
--- one command: the table, the namespace list, the line, and the answer buffer as it was lent
+-- a command that only reads: the table, the namespace list, the line, and the answer buffer as it was lent
 unfoldable pub served : Table → List ℕ → List ℕ → List ℕ → Reply
 served table spaces l buffer = limited (length buffer) (answer table spaces l)
+
+-- What a command comes to: its reply, and the store that it leaves.
+pub record Commanded : Type 0 where
+  pub reply : Reply
+  pub store : Store
+
+-- what a command makes of the store, if it is not refused elsewhere: an edit may be denied, another command leaves it as it is
+unfoldable pub attempted : Store → Parsed → Edited
+attempted s (editing tag e) = edited s e
+attempted s (refused k) = stored s
+attempted s (namespace tag) = stored s
+attempted s (listing tag o ps) = stored s
+attempted s (rootOf tag) = stored s
+attempted s (subscriptions tag ps) = stored s
+
+-- the number, and "A refusal changes nothing"
+unfoldable pub unchangedBy : Store → ℕ → Commanded
+unchangedBy s k = record { reply = refusal k; store = s }
+
+-- the refusals 1 to 8 of a reply first; then "The order is 14, 15, then 9, all before any change."
+unfoldable pub concluded : Store → ℕ → Edited → Reply → Commanded
+concluded s room e (refusal k) = unchangedBy s k
+concluded s room (denied k) (answered a) = unchangedBy s k
+concluded s room (stored t) (answered a) = cond (leb (length a) room) (record { reply = answered a; store = t }) (unchangedBy s 9)
+
+-- one command over a store: the namespace list, the line, and the answer buffer as it was lent
+unfoldable pub commanded : Store → List ℕ → List ℕ → List ℕ → Commanded
+commanded s spaces l buffer = concluded s (length buffer) (attempted s (parsed l)) (answer (storeTable s) spaces l)

@@ -10,13 +10,9 @@ use Rattle.listing_rules.specs.Lists.{anyOf, keep}
 use Rattle.listing_rules.specs.Orders.{byteOrder, isLt}
 use Rattle.listing_rules.specs.Names.{levels, inbox, lawfulName, below}
 use Rattle.listing_rules.specs.Flags.{subscribed, noInferiors}
+use Rattle.listing_rules.specs.Command.{Edit, subscribe, unsubscribe}
 use Rattle.listing_rules.specs.Table.{Row, Table, hasRow}
 use Rattle.listing_rules.specs.Records.{Record, recordRows, recordTable}
-
--- "SUBSCRIBE and UNSUBSCRIBE with one mailbox name"
-pub data Edit : Type 0 where
-  subscribe : List ℕ → Edit
-  unsubscribe : List ℕ → Edit
 
 -- The records of W4 with their count: "a row count is passed and given back, and records behind it are spare".
 pub record Store : Type 0 where

@@ -6,11 +6,11 @@ use mathlib.Core.List.{List, [], _++_}
 use Prim.Native.Nat.{ℕ, _+_, _-_, _^_, _≤_, _<_, min}
 use native.Mathlib.Omega.{arith}
 use lib.ListN.{length, take, drop, length-drop}
-use lib.Seq.{take-add, take-take, length-take-le}
-use Rattle.listing_rules.specs.Frames.{Session, Fed as Came, start, behind, fedAll, atEnd}
+use lib.Seq.{take-all, take-add, take-take, length-take-le}
+use Rattle.listing_rules.specs.Frames.{Session, Fed as Came, start, behind, fedAll}
 use Rattle.listing_rules.proofs.InputCut.{fedAll-append}
 use Rattle.session.specs.declared.State.{State}
-use Rattle.session.specs.Carrying.{Lent, lent}
+use Rattle.session.specs.Carrying.{Lent, lent, keptOf}
 use Rattle.session.specs.Feeding.{startIs, ready, readyIn, Holds, Finishes}
 use Rattle.session.proofs.FeedLaws.{sizes, ready-again, holds-start}
 use Rattle.session.proofs.Cut.{said-front}
@@ -30,7 +30,7 @@ got {room} x e = subst (GotSome room) e x
 
 -- a ready memory has room for a line
 pub room-of : (d : Lent) (line : List ℕ) (st : State) → readyIn d line st ≡ true → 32771 ≤ length (d .out)
-room-of d line st h = sizes (length (d .table)) (length (d .namespaces)) (length line) (length (d .out)) st h .out
+room-of d line st h = sizes (length (d .table)) (length (d .records)) (length (d .namespaces)) (length line) (length (d .out)) st h .out
 
 -- what was fed was sent
 pub rounds : {bytes : List ℕ} {d e : Lent} {line line′ : List ℕ} {st : State} {t : Turn} {sent : Sent} → Turns bytes d e line line′ st t → Sends (t .written) sent → Rounds bytes d e line line′ st (record { state = t .state; used = t .used; frames = t .frames; sent = sent })
@@ -51,21 +51,22 @@ ends {p = p} room f y w d line s h =
     ap (λ (n : ℕ). take n p) (y .1 w) ∙ said-front z (omega (arith, z .fits))
 
 -- the state is held whatever the output is
-other-out : {d e : Lent} {line : List ℕ} {st : State} {s : Session} → e .table ≡ d .table → e .namespaces ≡ d .namespaces → Holds d line st s → Holds e line st s
-other-out {st = st} t n h =
+other-out : {d e : Lent} {line : List ℕ} {st : State} {s : Session} → e .table ≡ d .table → e .records ≡ d .records → e .namespaces ≡ d .namespaces → Holds d line st s → Holds e line st s
+other-out {st = st} t w n h =
     record {
-      table = ap (take (st .stored .table)) t ∙ h .table;
+      table = (λ i. keptOf (st .stored) (t i) (w i)) ∙ h .table;
       namespaces = ap (take (st .stored .namespaces)) n ∙ h .namespaces;
       frame = h .frame;
     }
 
 -- Where the loop of `serve` stands: the first `at` of the bytes are answered.
-pub record Part (chunk : List ℕ) (n : ℕ) (d : Lent) (line : List ℕ) (st : State) (f : ℕ) (e : Lent) (line′ : List ℕ) (st′ : State) (f′ at : ℕ) : Type 0 where
-  pub inside : at ≤ n
-  pub counted : f′ ≡ min (f + framesIn (take at chunk)) (2 ^ 64 - 1)
-  pub holds : (s : Session) → Holds d line st s → Holds e line′ st′ (fedAll s (take at chunk) .session)
+pub record Part (bytes : List ℕ) (d : Lent) (line : List ℕ) (st : State) (f : ℕ) (e : Lent) (line′ : List ℕ) (st′ : State) (f′ at : ℕ) : Type 0 where
+  pub inside : at ≤ length bytes
+  pub counted : f′ ≡ min (f + framesIn (take at bytes)) (2 ^ 64 - 1)
+  pub holds : (s : Session) → Holds d line st s → Holds e line′ st′ (fedAll s (take at bytes) .session)
   pub ready-on : readyIn e line′ st′ ≡ true
   pub table : length (e .table) ≡ length (d .table)
+  pub records : length (e .records) ≡ length (d .records)
   pub namespaces : length (e .namespaces) ≡ length (d .namespaces)
   pub digits : length line′ ≡ length line
   pub out : length (e .out) ≡ length (d .out)
@@ -74,42 +75,46 @@ none-held : (d : Lent) (line : List ℕ) (st : State) (s : Session) → Holds d 
 unfolding fedAll
 none-held d line st s h = h
 
-pub part-none : (chunk : List ℕ) (n : ℕ) (d : Lent) (line : List ℕ) (st : State) (f : ℕ) → f < 2 ^ 64 → readyIn d line st ≡ true → Part chunk n d line st f d line st f 0
+pub part-none : (bytes : List ℕ) (d : Lent) (line : List ℕ) (st : State) (f : ℕ) → f < 2 ^ 64 → readyIn d line st ≡ true → Part bytes d line st f d line st f 0
 unfolding framesIn
-part-none chunk n d line st f k h =
-    record { inside = omega arith; counted = omega arith; holds = none-held d line st; ready-on = h; table = refl; namespaces = refl; digits = refl; out = refl }
+part-none bytes d line st f k h =
+    record { inside = omega arith; counted = omega arith; holds = none-held d line st; ready-on = h; table = refl; records = refl; namespaces = refl; digits = refl; out = refl }
 
-module _ {chunk : List ℕ} {n : ℕ} {d : Lent} {line : List ℕ} {st : State} {f : ℕ} {e : Lent} {line′ : List ℕ} {st′ : State} {f′ at : ℕ} (p : Part chunk n d line st f e line′ st′ f′ at) where
+module _ {bytes : List ℕ} {d : Lent} {line : List ℕ} {st : State} {f : ℕ} {e : Lent} {line′ : List ℕ} {st′ : State} {f′ at : ℕ} (p : Part bytes d line st f e line′ st′ f′ at) where
+  -- the bytes that are left
+  abbrev left : List ℕ
+  left = take (length bytes - at) (drop at bytes)
+
+  left-length : length left ≡ length bytes - at
+  left-length = length-take-le (length bytes - at) (drop at bytes) (omega (arith, length-drop at bytes))
+
   -- a round takes a byte at least, and none after the last
-  pub part-takes : {e′ : Lent} {line″ : List ℕ} {r : Round} → n ≤ length chunk → at < n → Rounds (take (n - at) (drop at chunk)) e e′ line′ line″ st′ r → (at + r .used ≤ n) × (0 < r .used)
-  part-takes few less x =
-      let size = length-take-le (n - at) (drop at chunk) (omega (arith, length-drop at chunk)) in
-      (omega (arith, x .inside, size), x .onward (omega (arith, size)))
+  pub part-takes : {e′ : Lent} {line″ : List ℕ} {r : Round} → at < length bytes → Rounds left e e′ line′ line″ st′ r → (at + r .used ≤ length bytes) × (0 < r .used)
+  part-takes less x = (omega (arith, x .inside, left-length), x .onward (omega (arith, left-length)))
 
-  pub part-more : (e′ : Lent) (line″ : List ℕ) (r : Round) → n ≤ length chunk → at < n → Rounds (take (n - at) (drop at chunk)) e e′ line′ line″ st′ r → length (e′ .table) ≡ length (e .table) → length (e′ .namespaces) ≡ length (e .namespaces) → length line″ ≡ length line′ → length (e′ .out) ≡ length (e .out) → (f″ : ℕ) → f″ ≡ min (f′ + r .frames) (2 ^ 64 - 1) → Part chunk n d line st f e′ line″ (r .state) f″ (at + r .used)
+  pub part-more : (e′ : Lent) (line″ : List ℕ) (r : Round) → at < length bytes → Rounds left e e′ line′ line″ st′ r → length (e′ .table) ≡ length (e .table) → length (e′ .records) ≡ length (e .records) → length (e′ .namespaces) ≡ length (e .namespaces) → length line″ ≡ length line′ → length (e′ .out) ≡ length (e .out) → (f″ : ℕ) → f″ ≡ min (f′ + r .frames) (2 ^ 64 - 1) → Part bytes d line st f e′ line″ (r .state) f″ (at + r .used)
   unfolding behind
-  part-more e′ line″ r few less x t m l o f″ q =
-      let left = take (n - at) (drop at chunk) in
-      let size : length left ≡ n - at = length-take-le (n - at) (drop at chunk) (omega (arith, length-drop at chunk)) in
-      let taken : take (at + r .used) chunk ≡ take at chunk ++ take (r .used) left = take-add at (r .used) chunk ∙ ap (λ (l : List ℕ). take at chunk ++ l) (sym (take-take (r .used) (n - at) (drop at chunk) (omega (arith, x .inside, size)))) in
+  part-more e′ line″ r less x t w m l o f″ q =
+      let taken : take (at + r .used) bytes ≡ take at bytes ++ take (r .used) left = take-add at (r .used) bytes ∙ ap (λ (l : List ℕ). take at bytes ++ l) (sym (take-take (r .used) (length bytes - at) (drop at bytes) (omega (arith, x .inside, left-length)))) in
       record {
-        inside = omega (arith, x .inside, size);
-        counted = omega (arith, q, p .counted, x .frames, ap framesIn taken, frames-append (take at chunk) (take (r .used) left));
-        holds = λ s h. subst (λ (f : Came). Holds e′ line″ (r .state) (f .session)) (sym (ap (fedAll s) taken ∙ fedAll-append s (take at chunk) (take (r .used) left))) (x .holds (fedAll s (take at chunk) .session) (p .holds s h));
+        inside = omega (arith, x .inside, left-length);
+        counted = omega (arith, q, p .counted, x .frames, ap framesIn taken, frames-append (take at bytes) (take (r .used) left));
+        holds = λ s h. subst (λ (f : Came). Holds e′ line″ (r .state) (f .session)) (sym (ap (fedAll s) taken ∙ fedAll-append s (take at bytes) (take (r .used) left))) (x .holds (fedAll s (take at bytes) .session) (p .holds s h));
         ready-on = x .ready-on;
         table = t ∙ p .table;
+        records = w ∙ p .records;
         namespaces = m ∙ p .namespaces;
         digits = l ∙ p .digits;
         out = o ∙ p .out;
       }
 
   -- all are answered
-  pub serves-all : (q : Place) → q .state ≡ st → q .frames ≡ f → n ≤ at → Serves (take n chunk) d e line line′ q (placeIs st′ f′ true false)
+  pub serves-all : (q : Place) → q .state ≡ st → q .frames ≡ f → length bytes ≤ at → Serves bytes d e line line′ q (placeIs st′ f′ true false)
   serves-all q same so-many all =
-      let end : at ≡ n = omega (arith, p .inside) in
+      let whole : take at bytes ≡ bytes = take-all at bytes all in
       record {
-        holds = λ f s h. subst (λ (l : List ℕ). Holds e line′ st′ (fedAll s l .session)) (ap (λ (k : ℕ). take k chunk) end) (p .holds s (subst (λ (y : State). Holds d line y s) same h));
-        frames = λ g. omega (arith, p .counted, so-many, ap (λ (k : ℕ). framesIn (take k chunk)) end);
+        holds = λ f s h. subst (λ (l : List ℕ). Holds e line′ st′ (fedAll s l .session)) whole (p .holds s (subst (λ (y : State). Holds d line y s) same h));
+        frames = λ g. omega (arith, p .counted, so-many, ap framesIn whole);
         going = λ m. refl;
         ready-on = p .ready-on;
       }
@@ -128,15 +133,15 @@ reads-bytes {bytes} x = record { holds = λ f. (bytes, x .holds f); going = x .g
 module _ (d : Lent) (line : List ℕ) (p : Place) (o : List ℕ) (r : readyIn d line (p .state) ≡ true) (same : length o ≡ length (d .out)) where
   -- the output may have changed
   abbrev then : Lent
-  then = lent (d .table) (d .namespaces) o
+  then = lent (d .table) (d .records) (d .namespaces) o
 
   ready-then : readyIn then line (p .state) ≡ true
-  ready-then = subst (λ (n : ℕ). ready (length (d .table)) (length (d .namespaces)) (length line) n (p .state) ≡ true) (sym same) r
+  ready-then = subst (λ (n : ℕ). ready (length (d .table)) (length (d .records)) (length (d .namespaces)) (length line) n (p .state) ≡ true) (sym same) r
 
   pub reads-end : (frames : ℕ) → ReadsOn d then line line p (placeIs (p .state) frames false false)
   reads-end frames =
       record {
-        holds = λ f. ([], λ s h. other-out {d = d} {e = then} refl refl (none-held d line (p .state) s h));
+        holds = λ f. ([], λ s h. other-out {d = d} {e = then} refl refl refl (none-held d line (p .state) s h));
         going = λ m. absurd (not-so (sym m));
         ready-on = ready-then;
       }
@@ -159,9 +164,10 @@ stands-first d line z =
     record {
       reached = λ f. ([], start-held d line);
       going = λ m. refl;
-      ready-on = ready-again (length (d .table)) (length (d .namespaces)) (length line) (length (d .out)) startIs
+      ready-on = ready-again (length (d .table)) (length (d .records)) (length (d .namespaces)) (length line) (length (d .out)) startIs
           (record {
             table = z .table;
+            records = z .records;
             namespaces = z .namespaces;
             line = z .digits;
             out = z .out;

@@ -60,12 +60,13 @@ pub record SoFar (bytes : List ℕ) (d : Lent) (line : List ℕ) (st : State) (e
   pub most : written ≤ 32771 * used
   pub ready-on : readyIn e line′ st′ ≡ true
   pub table : length (e .table) ≡ length (d .table)
+  pub records : length (e .records) ≡ length (d .records)
   pub namespaces : length (e .namespaces) ≡ length (d .namespaces)
   pub digits : length line′ ≡ length line
   pub out : length (e .out) ≡ length (d .out)
 
-sized : (d : Lent) (line : List ℕ) (st : State) → readyIn d line st ≡ true → Sizes (length (d .table)) (length (d .namespaces)) (length line) (length (d .out)) st
-sized d line st h = sizes (length (d .table)) (length (d .namespaces)) (length line) (length (d .out)) st h
+sized : (d : Lent) (line : List ℕ) (st : State) → readyIn d line st ≡ true → Sizes (length (d .table)) (length (d .records)) (length (d .namespaces)) (length line) (length (d .out)) st
+sized d line st h = sizes (length (d .table)) (length (d .records)) (length (d .namespaces)) (length line) (length (d .out)) st h
 
 none-answered : (d : Lent) (line : List ℕ) (st : State) (s : Session) → Holds d line st s → Answered (fedAll s []) d line st 0
 unfolding fedAll
@@ -83,6 +84,7 @@ so-far-none bytes d line st h =
       most = omega arith;
       ready-on = h;
       table = refl;
+      records = refl;
       namespaces = refl;
       digits = refl;
       out = refl;
@@ -96,7 +98,7 @@ module _ (s : Session) (a b : List ℕ) where
   abbrev then : Came
   then = fedAll (fedAll s a .session) b
 
-  answered-more : (o p rest : List ℕ) (e : Lent) (line : List ℕ) (st : State) (n k : ℕ) → n ≤ length o → k ≤ length p → take n o ≡ fedAll s a .output → n ≡ length (fedAll s a .output) → take k p ≡ then .output → k ≡ length (then .output) → Holds e line st (then .session) → Answered (fedAll s (a ++ b)) (lent (e .table) (e .namespaces) (take n o ++ (p ++ rest))) line st (n + k)
+  answered-more : (o p rest : List ℕ) (e : Lent) (line : List ℕ) (st : State) (n k : ℕ) → n ≤ length o → k ≤ length p → take n o ≡ fedAll s a .output → n ≡ length (fedAll s a .output) → take k p ≡ then .output → k ≡ length (then .output) → Holds e line st (then .session) → Answered (fedAll s (a ++ b)) (lent (e .table) (e .records) (e .namespaces) (take n o ++ (p ++ rest))) line st (n + k)
   unfolding behind
   answered-more o p rest e line st n k i j x m y m′ h =
       rw (fedAll-append s a b)
@@ -107,7 +109,7 @@ module _ (s : Session) (a b : List ℕ) where
       })
 
 -- One call of `feed` more: the rest of the bytes is fed, and the rest of the output takes its line.
-module _ {bytes : List ℕ} {d : Lent} {line : List ℕ} {st : State} {t n o l : List ℕ} {st₁ : State} {used frames written : ℕ} (so : SoFar bytes d line st (lent t n o) l st₁ used frames written) where
+module _ {bytes : List ℕ} {d : Lent} {line : List ℕ} {st : State} {t w n o l : List ℕ} {st₁ : State} {used frames written : ℕ} (so : SoFar bytes d line st (lent t w n o) l st₁ used frames written) where
   abbrev left : List ℕ
   left = take (length bytes - used) (drop used bytes)
 
@@ -124,18 +126,18 @@ module _ {bytes : List ℕ} {d : Lent} {line : List ℕ} {st : State} {t n o l :
   room-length = length-take-le (length o - written) (drop written o) (omega (arith, length-drop written o))
 
   -- the memory is ready for it, and so it is never refused
-  still-ready : 32771 ≤ length o - written → readyIn (lent t n room-left) l st₁ ≡ true
+  still-ready : 32771 ≤ length o - written → readyIn (lent t w n room-left) l st₁ ≡ true
   still-ready h =
-      let z = sized (lent t n o) l st₁ (so .ready-on) in
-      ready-again (length t) (length n) (length l) (length room-left) st₁
-      (record { table = z .table; namespaces = z .namespaces; line = z .line; out = omega (arith, room-length); rows = z .rows; entries = z .entries; digits = z .digits })
+      let z = sized (lent t w n o) l st₁ (so .ready-on) in
+      ready-again (length t) (length w) (length n) (length l) (length room-left) st₁
+      (record { table = z .table; records = z .records; namespaces = z .namespaces; line = z .line; out = omega (arith, room-length); rows = z .rows; entries = z .entries; digits = z .digits })
 
-  pub dead : (e : Lent) (l′ : List ℕ) (r : Fed) → 32771 ≤ length o - written → FeedIs left (lent t n room-left) e l l′ st₁ r → r ≡ Refused → ⊥
-  dead e l′ r h f q = never-refused left (lent t n room-left) e l l′ st₁ (still-ready h) (subst (λ (x : Fed). FeedIs left (lent t n room-left) e l l′ st₁ x) q f)
+  pub dead : (e : Lent) (l′ : List ℕ) (r : Fed) → 32771 ≤ length o - written → FeedIs left (lent t w n room-left) e l l′ st₁ r → r ≡ Refused → ⊥
+  dead e l′ r h f q = never-refused left (lent t w n room-left) e l l′ st₁ (still-ready h) (subst (λ (x : Fed). FeedIs left (lent t w n room-left) e l l′ st₁ x) q f)
 
-  module _ (t′ n′ p l′ : List ℕ) (x : Fed) (r : Took) (more : used < length bytes) (room : 32771 ≤ length o - written) (answer : FeedIs left (lent t n room-left) (lent t′ n′ p) l l′ st₁ x) (known : x ≡ Taken r) where
-    f : Feeds left (lent t n room-left) (lent t′ n′ p) l l′ st₁ r
-    f = subst (λ (y : Fed). FeedIs left (lent t n room-left) (lent t′ n′ p) l l′ st₁ y) known answer .1
+  module _ (t′ w′ n′ p l′ : List ℕ) (x : Fed) (r : Took) (more : used < length bytes) (room : 32771 ≤ length o - written) (answer : FeedIs left (lent t w n room-left) (lent t′ w′ n′ p) l l′ st₁ x) (known : x ≡ Taken r) where
+    f : Feeds left (lent t w n room-left) (lent t′ w′ n′ p) l l′ st₁ r
+    f = subst (λ (y : Fed). FeedIs left (lent t w n room-left) (lent t′ w′ n′ p) l l′ st₁ y) known answer .1
 
     -- it takes a byte at least, and none behind the last
     pub takes : (used + r .used ≤ length bytes) × (0 < r .used)
@@ -156,27 +158,27 @@ module _ {bytes : List ℕ} {d : Lent} {line : List ℕ} {st : State} {t n o l :
         ∙ frames-append (take used bytes) (take (throughLine left) left)
         ∙ ap (λ (k : ℕ). framesIn (take used bytes) + k) (frames-through left (omega (arith, left-length)) ∙ ap endsFrame last-byte)
 
-    came-more : length p ≡ length room-left → (s : Session) → Holds d line st s → Answered (fedAll s (take (used + r .used) bytes)) (lent t′ n′ (putMid written (length o - written) o p)) l′ (r .state) (written + r .written)
+    came-more : length p ≡ length room-left → (s : Session) → Holds d line st s → Answered (fedAll s (take (used + r .used) bytes)) (lent t′ w′ n′ (putMid written (length o - written) o p)) l′ (r .state) (written + r .written)
     came-more hp s h₀ =
         let a = so .came s h₀ in
         let h = a .holds in
         let y = f .comes (fedAll s (take used bytes) .session) (record { table = h .table; namespaces = h .namespaces; frame = h .frame }) in
         let fits = y .says .fits in
-        rw taken-bytes (answered-more s (take used bytes) (take (throughLine left) left) o p (postOf written (length o - written) o) (lent t′ n′ p) l′ (r .state) written (r .written) (so .room) (omega (arith, room-length, y .says .written, fits)) (a .answers) (a .count) (said-front (y .says) (omega (arith, room-length, fits))) (y .says .written) (y .holds))
+        rw taken-bytes (answered-more s (take used bytes) (take (throughLine left) left) o p (postOf written (length o - written) o) (lent t′ w′ n′ p) l′ (r .state) written (r .written) (so .room) (omega (arith, room-length, y .says .written, fits)) (a .answers) (a .count) (said-front (y .says) (omega (arith, room-length, fits))) (y .says .written) (y .holds))
 
     -- its line is no longer than any
     pub writes : r .written ≤ 32771
     writes =
-        let h = holds-some (lent t n room-left) l st₁ (still-ready room) in
+        let h = holds-some (lent t w n room-left) l st₁ (still-ready room) in
         let y = f .comes (h .0) (h .1) .says in
         omega (arith, y .written, y .fits)
 
-    pub so-far-more : length t′ ≡ length t → length n′ ≡ length n → length l′ ≡ length l → length p ≡ length room-left → SoFar bytes d line st (lent t′ n′ (putMid written (length o - written) o p)) l′ (r .state) (used + r .used) (frames + endsFrame (getD bytes (used + r .used - 1) 0)) (written + r .written)
-    so-far-more ht hn hl hp =
+    pub so-far-more : length t′ ≡ length t → length w′ ≡ length w → length n′ ≡ length n → length l′ ≡ length l → length p ≡ length room-left → SoFar bytes d line st (lent t′ w′ n′ (putMid written (length o - written) o p)) l′ (r .state) (used + r .used) (frames + endsFrame (getD bytes (used + r .used - 1) 0)) (written + r .written)
+    so-far-more ht hw hn hl hp =
         let out = putMid written (length o - written) o p in
         let same : length out ≡ length o = same-len-mid written (length o - written) o p hp in
-        let z = sized (lent t n o) l st₁ (so .ready-on) in
-        let y = sized (lent t n room-left) l (r .state) (f .ready-on) in
+        let z = sized (lent t w n o) l st₁ (so .ready-on) in
+        let y = sized (lent t w n room-left) l (r .state) (f .ready-on) in
         record {
           inside = takes .0;
           came = came-more hp;
@@ -185,9 +187,10 @@ module _ {bytes : List ℕ} {d : Lent} {line : List ℕ} {st : State} {t n o l :
           few = omega (arith, so .few, takes .1, ends-once (getD bytes (used + r .used - 1) 0));
           most = omega (arith, so .most, takes .1, writes);
           ready-on =
-              ready-again (length t′) (length n′) (length l′) (length out) (r .state)
+              ready-again (length t′) (length w′) (length n′) (length l′) (length out) (r .state)
               (record {
                 table = omega (arith, ht, z .table);
+                records = omega (arith, hw, z .records);
                 namespaces = omega (arith, hn, z .namespaces);
                 line = omega (arith, hl, z .line);
                 out = omega (arith, same, z .out);
@@ -196,13 +199,14 @@ module _ {bytes : List ℕ} {d : Lent} {line : List ℕ} {st : State} {t n o l :
                 digits = y .digits;
               });
           table = ht ∙ so .table;
+          records = hw ∙ so .records;
           namespaces = hn ∙ so .namespaces;
           digits = hl ∙ so .digits;
           out = same ∙ so .out;
         }
 
   -- the loop ends: no byte is left, or no room for a line
-  turns : (used ≡ length bytes) ⊎ (length o < written + 32771) → (0 < length bytes → 0 < used) → Turns bytes d (lent t n o) line l st (turnIs st₁ used frames written)
+  turns : (used ≡ length bytes) ⊎ (length o < written + 32771) → (0 < length bytes → 0 < used) → Turns bytes d (lent t w n o) line l st (turnIs st₁ used frames written)
   turns stop on =
       record {
         inside = so .inside;
@@ -214,10 +218,10 @@ module _ {bytes : List ℕ} {d : Lent} {line : List ℕ} {st : State} {t n o l :
         ready-on = so .ready-on;
       }
 
-  pub turn-ends : length bytes ≤ used → Turns bytes d (lent t n o) line l st (turnIs st₁ used frames written)
+  pub turn-ends : length bytes ≤ used → Turns bytes d (lent t w n o) line l st (turnIs st₁ used frames written)
   turn-ends h = turns (inl (omega (arith, so .inside))) (λ e. omega arith)
 
-  pub turn-full : length o - written < 32771 → Turns bytes d (lent t n o) line l st (turnIs st₁ used frames written)
+  pub turn-full : length o - written < 32771 → Turns bytes d (lent t w n o) line l st (turnIs st₁ used frames written)
   turn-full h =
-      let z = sized (lent t n o) l st₁ (so .ready-on) in
+      let z = sized (lent t w n o) l st₁ (so .ready-on) in
       turns (inr (omega (arith, so .room))) (λ e. omega (arith, so .most, z .out))

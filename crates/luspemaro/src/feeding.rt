@@ -27,14 +27,15 @@ pub(crate) fn feed_all(
     state: State,
     bytes: &[u8],
     table: &mut [u8],
+    records: &mut [u64],
     namespaces: &mut [u8],
     line: &mut [u8],
     out: &mut [u8],
 ) -> Turn
-    requires { ⌜ readyIn (lent (now table) (now namespaces) (now out)) (now line) state ≡ true ⌝ }
+    requires { ⌜ readyIn (lent (now table) (now records) (now namespaces) (now out)) (now line) state ≡ true ⌝ }
     ensures { λ r. ⌜ Turns (now (bytes .entry))
-        (lent (now (table .entry)) (now (namespaces .entry)) (now (out .entry)))
-        (lent (now (table .exit)) (now (namespaces .exit)) (now (out .exit)))
+        (lent (now (table .entry)) (now (records .entry)) (now (namespaces .entry)) (now (out .entry)))
+        (lent (now (table .exit)) (now (records .exit)) (now (namespaces .exit)) (now (out .exit)))
         (now (line .entry)) (now (line .exit)) state r ⌝ }
 {
     let mut state = state;
@@ -45,8 +46,9 @@ pub(crate) fn feed_all(
         if out.len() - written < MAX_LINE {
             return turn_of(state, used, frames, written);
         }
+        let left = &bytes[used..];
         let rest = &mut out[written..];
-        let Fed::Taken(taken) = feed(state, &bytes[used..], table, namespaces, line, rest) else {
+        let Fed::Taken(taken) = feed(state, left, table, records, namespaces, line, rest) else {
             return turn_of(state, used, frames, written);
         };
         state = taken.state;

@@ -16,7 +16,6 @@ mod calls;
 mod feeding;
 mod serving;
 
-ghost use Prim.Native.Nat.{_≤_};
 ghost use mathlib.Core.Path.{_≡_};
 ghost use lib.ListN.{length};
 ghost use Rattle.session.specs.Carrying.{lent};
@@ -29,6 +28,13 @@ fn table_area() -> [u8; 16384]
     ensures { λ r. ⌜ 16384 ≡ length r ⌝ }
 {
     [0; 16384]
+}
+
+// "The program keeps 512 records".
+fn records_area() -> [u64; 512]
+    ensures { λ r. ⌜ 512 ≡ length r ⌝ }
+{
+    [0; 512]
 }
 
 fn namespaces_area() -> [u8; 1024]
@@ -51,9 +57,17 @@ fn output_area() -> [u8; 131084]
 }
 
 // The whole input. A loop has to end: the turns are more than any input has bytes.
-fn run(table: &mut [u8], namespaces: &mut [u8], line: &mut [u8], out: &mut [u8]) -> Place
-    requires { ⌜ Sized (lent (now table) (now namespaces) (now out)) (now line) ⌝ }
-    ensures { λ r. ⌜ Reached (lent (now (table .exit)) (now (namespaces .exit)) (now (out .exit))) (now (line .exit)) r ⌝ }
+fn run(
+    table: &mut [u8],
+    records: &mut [u64],
+    namespaces: &mut [u8],
+    line: &mut [u8],
+    out: &mut [u8],
+) -> Place
+    requires { ⌜ Sized (lent (now table) (now records) (now namespaces) (now out)) (now line) ⌝ }
+    ensures { λ r. ⌜ Reached
+        (lent (now (table .exit)) (now (records .exit)) (now (namespaces .exit)) (now (out .exit)))
+        (now (line .exit)) r ⌝ }
 {
     let mut place = Place::START;
     let mut turns = u64::MAX;
@@ -61,7 +75,7 @@ fn run(table: &mut [u8], namespaces: &mut [u8], line: &mut [u8], out: &mut [u8])
         if !place.more {
             break;
         }
-        place = read_on(place, table, namespaces, line, out);
+        place = read_on(place, table, records, namespaces, line, out);
         turns -= 1;
     }
     place
@@ -69,8 +83,15 @@ fn run(table: &mut [u8], namespaces: &mut [u8], line: &mut [u8], out: &mut [u8])
 
 fn main() {
     let mut table = table_area();
+    let mut records = records_area();
     let mut namespaces = namespaces_area();
     let mut line = digits_area();
     let mut out = output_area();
-    run(&mut table, &mut namespaces, &mut line, &mut out);
+    run(
+        &mut table,
+        &mut records,
+        &mut namespaces,
+        &mut line,
+        &mut out,
+    );
 }

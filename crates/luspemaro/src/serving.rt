@@ -3,7 +3,7 @@
 ghost use Prim.Native.Nat.{_≤_};
 ghost use mathlib.Core.Path.{_≡_};
 ghost use mathlib.Core.Bool.{true, false};
-ghost use lib.ListN.{length, take};
+ghost use lib.ListN.{length};
 ghost use Rattle.session.specs.Carrying.{lent};
 ghost use Rattle.session.specs.Feeding.{readyIn};
 ghost use Rattle.luspemaro.specs.Serving.{placeIs, Rounds, Serves, Ends, ReadsOn};
@@ -47,17 +47,18 @@ fn answer_some(
     state: State,
     bytes: &[u8],
     table: &mut [u8],
+    records: &mut [u64],
     namespaces: &mut [u8],
     line: &mut [u8],
     out: &mut [u8],
 ) -> Round
-    requires { ⌜ readyIn (lent (now table) (now namespaces) (now out)) (now line) state ≡ true ⌝ }
+    requires { ⌜ readyIn (lent (now table) (now records) (now namespaces) (now out)) (now line) state ≡ true ⌝ }
     ensures { λ r. ⌜ Rounds (now (bytes .entry))
-        (lent (now (table .entry)) (now (namespaces .entry)) (now (out .entry)))
-        (lent (now (table .exit)) (now (namespaces .exit)) (now (out .exit)))
+        (lent (now (table .entry)) (now (records .entry)) (now (namespaces .entry)) (now (out .entry)))
+        (lent (now (table .exit)) (now (records .exit)) (now (namespaces .exit)) (now (out .exit)))
         (now (line .entry)) (now (line .exit)) state r ⌝ }
 {
-    let turn = feed_all(state, bytes, table, namespaces, line, out);
+    let turn = feed_all(state, bytes, table, records, namespaces, line, out);
     let sent = send(out, turn.written);
     let state = turn.state;
     Round {
@@ -68,28 +69,28 @@ fn answer_some(
     }
 }
 
-// The first n bytes of `chunk`, answered in as many writes as it takes.
+// The bytes of a read, answered in as many writes as it takes.
 fn serve(
     place: Place,
-    chunk: &[u8],
-    n: usize,
+    bytes: &[u8],
     table: &mut [u8],
+    records: &mut [u64],
     namespaces: &mut [u8],
     line: &mut [u8],
     out: &mut [u8],
 ) -> Place
-    requires { ⌜ n ≤ length (now chunk) ⌝ }
-    requires { ⌜ readyIn (lent (now table) (now namespaces) (now out)) (now line) (place .state) ≡ true ⌝ }
-    ensures { λ r. ⌜ Serves (take n (now (chunk .entry)))
-        (lent (now (table .entry)) (now (namespaces .entry)) (now (out .entry)))
-        (lent (now (table .exit)) (now (namespaces .exit)) (now (out .exit)))
+    requires { ⌜ readyIn (lent (now table) (now records) (now namespaces) (now out)) (now line) (place .state) ≡ true ⌝ }
+    ensures { λ r. ⌜ Serves (now (bytes .entry))
+        (lent (now (table .entry)) (now (records .entry)) (now (namespaces .entry)) (now (out .entry)))
+        (lent (now (table .exit)) (now (records .exit)) (now (namespaces .exit)) (now (out .exit)))
         (now (line .entry)) (now (line .exit)) place r ⌝ }
 {
     let mut state = place.state;
     let mut frames = place.frames;
     let mut at = 0;
-    while at < n {
-        let round = answer_some(state, &chunk[at..n], table, namespaces, line, out);
+    while at < bytes.len() {
+        let left = &bytes[at..];
+        let round = answer_some(state, left, table, records, namespaces, line, out);
         state = round.state;
         let sent = round.sent;
         if !sent.whole {
@@ -146,21 +147,22 @@ fn read_failed(state: State, frames: usize) -> Place
 pub(crate) fn read_on(
     place: Place,
     table: &mut [u8],
+    records: &mut [u64],
     namespaces: &mut [u8],
     line: &mut [u8],
     out: &mut [u8],
 ) -> Place
-    requires { ⌜ readyIn (lent (now table) (now namespaces) (now out)) (now line) (place .state) ≡ true ⌝ }
+    requires { ⌜ readyIn (lent (now table) (now records) (now namespaces) (now out)) (now line) (place .state) ≡ true ⌝ }
     ensures { λ r. ⌜ ReadsOn
-        (lent (now (table .entry)) (now (namespaces .entry)) (now (out .entry)))
-        (lent (now (table .exit)) (now (namespaces .exit)) (now (out .exit)))
+        (lent (now (table .entry)) (now (records .entry)) (now (namespaces .entry)) (now (out .entry)))
+        (lent (now (table .exit)) (now (records .exit)) (now (namespaces .exit)) (now (out .exit)))
         (now (line .entry)) (now (line .exit)) place r ⌝ }
 {
     let state = place.state;
     let frames = place.frames;
     let mut chunk = io::large_buffer();
     match read_some(&mut chunk) {
-        Got::Bytes(n) => serve(place, &chunk, n, table, namespaces, line, out),
+        Got::Bytes(n) => serve(place, &chunk[..n], table, records, namespaces, line, out),
         Got::End => {
             let sent = answer_end(state, out);
             if !sent.whole {

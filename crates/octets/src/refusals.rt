@@ -38,3 +38,9 @@ pub const NOT_SUCH_LINE: u8 = 12;
 
 // The program: a bad frame.
 pub const BAD_FRAME: u8 = 13;
+
+// SUBSCRIBE: an unlawful name, or one below a row with no inferiors.
+pub const UNLAWFUL_NAME: u8 = 14;
+
+// SUBSCRIBE: 512 rows, no spare record, or no free run of name bytes that is long enough.
+pub const NO_ROOM: u8 = 15;

@@ -6,3 +6,4 @@ pub mod Clauses
 pub mod Copies
 pub mod Local
 pub mod Relend
+pub mod StoreLaws

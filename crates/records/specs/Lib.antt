@@ -1,3 +1,4 @@
 -- What lent records, and the numbers that stand for them, mean.
 pub mod Words
 pub mod Lent
+pub mod Stores

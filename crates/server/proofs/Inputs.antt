@@ -18,7 +18,7 @@ use Rattle.listing_rules.specs.Bytes.{text, spells, isEmpty}
 use Rattle.listing_rules.specs.Lists.{every, joined}
 use Rattle.listing_rules.specs.Tokens.{Got, after, run, run₁, tagByte, atomByte}
 use Rattle.listing_rules.specs.Options.{Options, lawfulOptions}
-use Rattle.listing_rules.specs.Command.{Parsed, listing, refused, namespace, rootOf, subscriptions, ListArgs, LsubArgs, lsubArgs, judgedLsub, parsed, lineText, tagged, worded, judged, orRefuse, listArgs, fewPatterns, canonical, asksRoot, optionsOf, knownIn, selectionWords, returnWords}
+use Rattle.listing_rules.specs.Command.{Parsed, listing, refused, namespace, rootOf, subscriptions, editing, subscribe, unsubscribe, nameArg, ListArgs, LsubArgs, lsubArgs, judgedLsub, parsed, lineText, tagged, worded, judged, orRefuse, listArgs, fewPatterns, canonical, asksRoot, optionsOf, knownIn, selectionWords, returnWords}
 use Rattle.listing_rules.specs.Walk.{packed}
 use Rattle.listing_rules.proofs.Bools.{and-l, and-r}
 use Rattle.octets.specs.Put.{Put}
@@ -106,6 +106,7 @@ Carries (namespace tag) = Unit {0}
 Carries (listing tag o ps) = Few ps
 Carries (rootOf tag) = Unit {0}
 Carries (subscriptions tag ps) = Few ps × (length ps ≤ 1)
+Carries (editing tag e) = Unit {0}
 
 judged-few : (tag : List ℕ) (a : ListArgs) → Carries (judged tag a)
 unfolding judged
@@ -143,17 +144,28 @@ or-carries k (some a) f h = h a
 
 worded-few : (tag : List ℕ) (w : Got (List ℕ)) → Carries (worded tag w)
 unfolding worded
-worded-few tag w = go (spells (w .val) (text "LIST")) (spells (w .val) (text "NAMESPACE")) (spells (w .val) (text "LSUB")) (isEmpty (w .rest))
+worded-few tag w =
+    go (spells (w .val) (text "LIST")) (spells (w .val) (text "NAMESPACE")) (spells (w .val) (text "LSUB")) (spells (w .val) (text "SUBSCRIBE"))
+    (spells (w .val) (text "UNSUBSCRIBE")) (isEmpty (w .rest))
   where
     lsub : Parsed
     lsub = orRefuse 4 (lsubArgs (w .rest)) (judgedLsub tag)
 
-    go : (l n s e : Bool) → Carries (cond l (orRefuse 4 (listArgs (w .rest)) (judged tag)) (cond n (cond e (namespace tag) (refused 4)) (cond s lsub (refused 5))))
-    go true n s e = or-carries 4 (listArgs (w .rest)) (judged tag) (judged-few tag)
-    go false true s true = tt
-    go false true s false = tt
-    go false false true e = or-carries 4 (lsubArgs (w .rest)) (judgedLsub tag) (lsub-few tag)
-    go false false false e = tt
+    adding : Parsed
+    adding = orRefuse 4 (nameArg (w .rest)) (λ n. editing tag (subscribe n))
+
+    taking : Parsed
+    taking = orRefuse 4 (nameArg (w .rest)) (λ n. editing tag (unsubscribe n))
+
+    go : (l n s a t e : Bool)
+        → Carries (cond l (orRefuse 4 (listArgs (w .rest)) (judged tag)) (cond n (cond e (namespace tag) (refused 4)) (cond s lsub (cond a adding (cond t taking (refused 5))))))
+    go true n s a t e = or-carries 4 (listArgs (w .rest)) (judged tag) (judged-few tag)
+    go false true s a t true = tt
+    go false true s a t false = tt
+    go false false true a t e = or-carries 4 (lsubArgs (w .rest)) (judgedLsub tag) (lsub-few tag)
+    go false false false true t e = or-carries 4 (nameArg (w .rest)) (λ n. editing tag (subscribe n)) (λ n. tt)
+    go false false false false true e = or-carries 4 (nameArg (w .rest)) (λ n. editing tag (unsubscribe n)) (λ n. tt)
+    go false false false false false e = tt
 
 parsed-few : (l : List ℕ) → Carries (parsed l)
 unfolding parsed tagged

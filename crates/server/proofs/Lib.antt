@@ -1,3 +1,5 @@
--- Laws of the server: what it relies on of its inputs, and the refusals in order.
+-- Laws of the server: what it relies on of its inputs, the refusals in order, and edits.
 mod Inputs
 mod Order
+mod EditLaws
+mod AnswerLaws

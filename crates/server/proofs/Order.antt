@@ -11,13 +11,13 @@ use Rattle.listing_rules.specs.Server.{refusal, answer, answerTo, limited, serv
 use Rattle.octets.specs.Written.{writtenIs, Gives}
 use Rattle.octets.specs.declared.Written.the-variants.{Refused}
 use Rattle.command_line.specs.declared.Kind.{Kind}
-use Rattle.command_line.specs.declared.Kind.the-variants.{Root, Namespace, List as Listing, Lsub, Refused as Refusal}
+use Rattle.command_line.specs.declared.Kind.the-variants.{Root, Namespace, List as Listing, Lsub, Subscribe, Unsubscribe, Refused as Refusal}
 use Rattle.command_line.specs.declared.Command.{Command}
 use Rattle.command_line.specs.OptionSets.{optionsIs}
 use Rattle.command_line.specs.Commands.{meaning, meaningAs, patternsOf}
 use Rattle.command_line.specs.Spans.{spanBytes}
 use Rattle.mailbox_table.specs.Index.{rowsAt}
-use Rattle.server.specs.Replies.{commandReply, indexReply, spacesReply, rootReply, listingReply, subscriptionsReply, Few}
+use Rattle.server.specs.Replies.{commandReply, indexReply, spacesReply, rootReply, listingReply, subscriptionsReply, okReply, Few}
 use Rattle.server.proofs.Inputs.{listing-few, subscriptions-few}
 
 -- a number of refusal, and no byte changed
@@ -68,6 +68,14 @@ module _ (area words namespaces l : List ℕ) (c : Command) (m : meaning l c ≡
     pub reply-lsub : c .kind ≡ Lsub → subscriptionsReply area words l c tag ≡ commandReply area words namespaces l
     unfolding answerTo meaningAs
     reply-lsub e = ap (subscriptionsReply area words l c) t ∙ reply-as Lsub e
+
+    pub reply-subscribe : c .kind ≡ Subscribe → okReply tag ≡ commandReply area words namespaces l
+    unfolding answerTo meaningAs
+    reply-subscribe e = ap okReply t ∙ reply-as Subscribe e
+
+    pub reply-unsubscribe : c .kind ≡ Unsubscribe → okReply tag ≡ commandReply area words namespaces l
+    unfolding answerTo meaningAs
+    reply-unsubscribe e = ap okReply t ∙ reply-as Unsubscribe e
 
   -- what a listing asks for is few and short
   pub list-few : c .kind ≡ Listing → Few (patternsOf l c)

@@ -1,109 +1,123 @@
 // The server side: one command over a mailbox table and a namespace list, into an answer buffer, all lent. The table is a run of
-// records over an area of name bytes, or packed.
+// records over an area of name bytes, which SUBSCRIBE and UNSUBSCRIBE change.
 //
-// Refusals in document 01's order: the table 1, the namespace list 2, the command 3 to 8, the length of the answer 9. An answer is
-// measured before a byte is written, so a refusal changes no byte of the buffer.
+// Refusals in document 01's order: the table 1, the namespace list 2, the command 3 to 8, an edit 14 and 15, the length of the answer 9.
+// An answer is measured before a byte is written, and an edit is decided before it is done, so a refusal changes no byte and no record.
+mod edit;
 mod packed;
+mod reading;
 mod replies;
 
-use command_line::Kind;
 use command_line::read_command;
+use edit::edit;
+use edit::is_edit;
+use edit::unchanged;
 use mailbox_table::Indexing;
 use mailbox_table::index_words;
 use octets::Written;
+use octets::least;
 use octets::refusals::NAMESPACES;
 use octets::refusals::TABLE;
-pub use packed::answer_packed;
+pub use packed::is_edit_line;
+pub use packed::read_packed;
+pub use reading::read_words;
+use reading::respond;
 use records::Record;
+use records::copy_back;
 use records::copy_in;
 use records::no_words;
-use replies::span_of;
-use replies::write_listing;
-use replies::write_namespaces;
-use replies::write_root;
-use replies::write_subscriptions;
 ghost use mathlib.Core.Path.{_≡_};
-ghost use Rattle.listing_rules.specs.Server.{bufferAfter, served};
-ghost use Rattle.records.specs.Lent.{lentTable, wordTable};
-ghost use Rattle.octets.specs.Written.{writtenIs, Gives};
-ghost use Rattle.list_answer.specs.Index.{Index};
-ghost use Rattle.server.specs.Replies.{commandReply, indexReply};
+ghost use mathlib.Core.List.{map};
+ghost use lib.ListN.{take};
+ghost use Rattle.listing_rules.specs.Server.{bufferAfter};
+ghost use Rattle.records.specs.Words.{recordOf, meant};
+ghost use Rattle.records.specs.Stores.{lentCommand, wordCommand, Between};
+ghost use Rattle.octets.specs.Written.{writtenIs};
 
-// The answer to one command at the front of `out`, and its length; or the number of its refusal. The first `count` records are the
-// table's rows, over the area of name bytes; those after them are spare.
+// What a command comes to: the length of its answer or the number of its refusal, and how many records are rows now.
+pub struct Answered {
+    pub written: Written,
+    pub count: usize,
+}
+
+// The answer to one command at the front of `out`. The first `count` records are the table's rows, over the area of name bytes; those
+// after them are spare. SUBSCRIBE and UNSUBSCRIBE change records, area and count; a refusal, and any other command, leaves them.
 pub fn answer(
-    records: &[Record],
+    records: &mut [Record],
     count: usize,
-    area: &[u8],
+    area: &mut [u8],
     namespaces: &[u8],
     line: &[u8],
     out: &mut [u8],
-) -> Written
-    ensures result { λ r. ⌜ r ≡ writtenIs
-        (served (lentTable (now (area .entry)) (now (records .entry)) count) (now (namespaces .entry)) (now (line .entry)) (now (out .entry))) ⌝ }
+) -> Answered
+    ensures result { λ r. ⌜
+        (r .written ≡ writtenIs
+        (lentCommand (now (records .entry)) count (now (area .entry)) (now (namespaces .entry)) (now (line .entry)) (now (out .entry)) .reply))
+        × (r .count
+        ≡ lentCommand (now (records .entry)) count (now (area .entry)) (now (namespaces .entry)) (now (line .entry)) (now (out .entry)) .store .count) ⌝ }
     ensures bytes { λ _. ⌜ now (out .exit) ≡ bufferAfter (now (out .entry))
-        (served (lentTable (now (area .entry)) (now (records .entry)) count) (now (namespaces .entry)) (now (line .entry)) (now (out .entry))) ⌝ }
+        (lentCommand (now (records .entry)) count (now (area .entry)) (now (namespaces .entry)) (now (line .entry)) (now (out .entry)) .reply) ⌝ }
+    ensures area { λ _. ⌜ now (area .exit)
+        ≡ lentCommand (now (records .entry)) count (now (area .entry)) (now (namespaces .entry)) (now (line .entry)) (now (out .entry)) .store .area ⌝ }
+    ensures records { λ _. ⌜ map meant (now (records .exit))
+        ≡ lentCommand (now (records .entry)) count (now (area .entry)) (now (namespaces .entry)) (now (line .entry)) (now (out .entry)) .store .records ⌝ }
 {
     let mut words = no_words();
-    let n = copy_in(records, count, &mut words);
-    answer_words(&words[..n], count, area, namespaces, line, out)
+    let lent = copy_in(records, records.len(), &mut words);
+    let done = answer_words(&mut words, lent, count, area, namespaces, line, out);
+    copy_back(records, done.from, done.to, &words);
+    Answered {
+        written: done.written,
+        count: done.count,
+    }
 }
 
-// The same over records, each as a number (`records::word_of`): the first `count` words are the rows, over the area of names.
+// What a command over words comes to: the length of its answer or the number of its refusal, how many words are rows now, and the
+// words that changed or moved, `from` up to `to`.
+pub struct Stored {
+    pub written: Written,
+    pub count: usize,
+    pub from: usize,
+    pub to: usize,
+}
+
+// The same over records, each as a number (`records::word_of`): the first `lent` words, or all where they are fewer, are the records,
+// and the first `count` of those are the rows.
 pub fn answer_words(
-    words: &[u64],
+    words: &mut [u64],
+    lent: usize,
     count: usize,
-    area: &[u8],
+    area: &mut [u8],
     namespaces: &[u8],
     line: &[u8],
     out: &mut [u8],
-) -> Written
-    ensures result { λ r. ⌜ r ≡ writtenIs
-        (served (wordTable (now (area .entry)) (now (words .entry)) count) (now (namespaces .entry)) (now (line .entry)) (now (out .entry))) ⌝ }
+) -> Stored
+    ensures result { λ r. ⌜
+        (r .written ≡ writtenIs
+        (wordCommand (now (words .entry)) lent count (now (area .entry)) (now (namespaces .entry)) (now (line .entry)) (now (out .entry)) .reply))
+        × (r .count
+        ≡ wordCommand (now (words .entry)) lent count (now (area .entry)) (now (namespaces .entry)) (now (line .entry)) (now (out .entry)) .store .count) ⌝ }
     ensures bytes { λ _. ⌜ now (out .exit) ≡ bufferAfter (now (out .entry))
-        (served (wordTable (now (area .entry)) (now (words .entry)) count) (now (namespaces .entry)) (now (line .entry)) (now (out .entry))) ⌝ }
+        (wordCommand (now (words .entry)) lent count (now (area .entry)) (now (namespaces .entry)) (now (line .entry)) (now (out .entry)) .reply) ⌝ }
+    ensures area { λ _. ⌜ now (area .exit)
+        ≡ wordCommand (now (words .entry)) lent count (now (area .entry)) (now (namespaces .entry)) (now (line .entry)) (now (out .entry)) .store .area ⌝ }
+    ensures words { λ r. ⌜ (map recordOf (take lent (now (words .exit)))
+        ≡ wordCommand (now (words .entry)) lent count (now (area .entry)) (now (namespaces .entry)) (now (line .entry)) (now (out .entry)) .store .records)
+        × Between (now (words .entry)) (now (words .exit)) lent (r .from) (r .to) ⌝ }
 {
     let mut rows = no_words();
-    let Indexing::Rows(n) = index_words(area, words, count, &mut rows) else {
-        return Written::Refused(TABLE);
+    let n = least(lent, words.len());
+    let Indexing::Rows(m) = index_words(area, &words[..n], count, &mut rows) else {
+        return unchanged(Written::Refused(TABLE), count);
     };
-    answer_index(area, &rows[..n], namespaces, line, out)
-}
-
-// The same where the table passes: the refusals 2 to 9, over the index of the table.
-pub(crate) fn answer_index(
-    area: &[u8],
-    words: &[u64],
-    namespaces: &[u8],
-    line: &[u8],
-    out: &mut [u8],
-) -> Written
-    requires { ⌜ Index (now area) (now words) ⌝ }
-    ensures { λ r. ⌜ Gives
-        (indexReply (now (area .entry)) (now (words .entry)) (now (namespaces .entry)) (now (line .entry)))
-        (now (out .entry)) (now (out .exit)) r ⌝ }
-{
     if !namespace_list::check(namespaces) {
-        return Written::Refused(NAMESPACES);
+        return unchanged(Written::Refused(NAMESPACES), count);
     }
-    respond(area, words, namespaces, line, out)
-}
-
-// The same where the namespace list passes too: the refusals 3 to 9.
-fn respond(area: &[u8], words: &[u64], namespaces: &[u8], line: &[u8], out: &mut [u8]) -> Written
-    requires { ⌜ Index (now area) (now words) ⌝ }
-    ensures { λ r. ⌜ Gives
-        (commandReply (now (area .entry)) (now (words .entry)) (now (namespaces .entry)) (now (line .entry)))
-        (now (out .entry)) (now (out .exit)) r ⌝ }
-{
     let command = read_command(line);
     let kind = command.kind;
-    let tag = span_of(line, command.tag);
-    match kind {
-        Kind::Refused(number) => Written::Refused(number),
-        Kind::Namespace => write_namespaces(namespaces, tag, out),
-        Kind::Root => write_root(tag, out),
-        Kind::List => write_listing(area, words, line, command, tag, out),
-        Kind::Lsub => write_subscriptions(area, words, line, command, tag, out),
+    if is_edit(kind) {
+        return edit(&mut words[..n], count, area, line, command, out);
     }
+    let written = respond(area, &rows[..m], namespaces, line, command, out);
+    unchanged(written, count)
 }

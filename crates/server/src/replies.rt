@@ -17,7 +17,7 @@ ghost use Rattle.octets.specs.Written.{Gives};
 ghost use Rattle.command_line.specs.Commands.{patternsOf};
 ghost use Rattle.list_answer.specs.Index.{Index};
 ghost use Rattle.server.specs.Spans.{partOf};
-ghost use Rattle.server.specs.Replies.{spacesText, spacesReply, rootText, rootReply, listingReply, subscriptionsReply, Few};
+ghost use Rattle.server.specs.Replies.{spacesText, spacesReply, rootText, rootReply, okReply, listingReply, subscriptionsReply, Few};
 
 // The bytes of a span that is not quoted, as far as the line goes.
 pub(crate) fn span_of(line: &[u8], span: Span) -> &[u8]
@@ -72,6 +72,19 @@ pub(crate) fn write_root(tag: &[u8], out: &mut [u8]) -> Written
         return Written::Refused(SHORT_BUFFER);
     }
     let end = put_root(out, tag);
+    Written::Done(end)
+}
+
+// The tagged line alone: the answer to an edit.
+pub(crate) fn write_ok(tag: &[u8], out: &mut [u8]) -> Written
+    ensures { λ r. ⌜ Gives (okReply (now (tag .entry))) (now (out .entry)) (now (out .exit)) r ⌝ }
+{
+    let mut none = [0u8; 0];
+    let need = put_ok_line(&mut none, 0, tag);
+    if out.len() < need {
+        return Written::Refused(SHORT_BUFFER);
+    }
+    let end = put_ok_line(out, 0, tag);
     Written::Done(end)
 }
 

@@ -6,7 +6,7 @@ use mathlib.Core.List.{List, [], _∷_, _++_}
 use lib.ListN.{length, take, drop, take-append-drop}
 use lib.Seq.{sets-eq, take-at, take-append-le}
 use native.Mathlib.Omega.{arith}
-use Prim.Native.Nat.{ℕ, zero, suc, _+_, _≤_}
+use Prim.Native.Nat.{ℕ, _+_, _≤_}
 use Rattle.listing_rules.specs.Lists.{joined}
 use Rattle.listing_rules.specs.Frames.{Session, Fed as Came, behind, fedAll, start, atEnd, programOutput}
 use Rattle.listing_rules.proofs.InputCut.{fedAll-append}
@@ -53,7 +53,7 @@ lent-frame false len line line′ p room e h = (h .0 ∙ sym e, omega (arith, h 
 
 holds-again : {d e : Lent} {line line′ : List ℕ} {st : State} {s : Session} → LentAgain st d e line line′ → readyIn e line′ st ≡ true → Holds d line st s → Holds e line′ st s
 holds-again {d} {e} {line} {line′} {st} {s} a r h =
-    let z = sizes (length (e .table)) (length (e .namespaces)) (length line′) (length (e .out)) st r in
+    let z = sizes (length (e .table)) (length (e .records)) (length (e .namespaces)) (length line′) (length (e .out)) st r in
     record {
       table = a .table ∙ h .table;
       namespaces = a .namespaces ∙ h .namespaces;
@@ -86,7 +86,7 @@ calls-come (x ∷ xs) st d line s input h c t =
 
     said : take (x .answer .written) (x .after .out) ≡ fedAll s front .output
     said =
-        let z = sizes (length (x .before .table)) (length (x .before .namespaces)) (length (x .line)) (length (x .before .out)) st ready in
+        let z = sizes (length (x .before .table)) (length (x .before .records)) (length (x .before .namespaces)) (length (x .line)) (length (x .before .out)) st ready in
         said-front (w .says) (omega (arith, w .says .fits, z .out))
 
     taken : take (x .answer .used) input ≡ front

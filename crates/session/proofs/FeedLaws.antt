@@ -1,5 +1,5 @@
 -- Laws of feeding: what a ready memory is, that it holds a session always, and what a piece without a line feed and one with it
--- come to. Rests on LineLaws and CarryLaws.
+-- come to. Rests on LineLaws and LentLaws.
 use mathlib.Core.Path.{_≡_, refl, sym, ap, subst, _∙_}
 use mathlib.Core.Bool.{Bool, true, false, cond, _&&_, _||_}
 use mathlib.Core.List.{List, [], _++_}
@@ -18,15 +18,16 @@ use Rattle.session.specs.declared.State.{State}
 use Rattle.session.specs.declared.Taken.{Taken as Took}
 use Rattle.session.specs.declared.Fed.{Fed}
 use Rattle.session.specs.declared.Fed.the-variants.{Taken}
-use Rattle.session.specs.declared.carrying.Outcome.{Outcome}
+use Rattle.session.specs.declared.outcome.Outcome.{Outcome}
 use Rattle.session.specs.Carrying.{Lent, storedIn, Within, Says, Ended}
 use Rattle.session.specs.Feeding.{startIs, ready, readyIn, Holds, throughLine, beforeLine, gatheredAll, lineAfter, Comes, Feeds, FeedIs, Finishes}
 use Rattle.session.proofs.LineLaws.{before-all, through-line, holds-all, fed-before, fed-line}
-use Rattle.session.proofs.CarryLaws.{says-none}
+use Rattle.session.proofs.LentLaws.{says-none}
 
 -- what a ready memory is
-pub record Sizes (t n l o : ℕ) (st : State) : Type 0 where
+pub record Sizes (t w n l o : ℕ) (st : State) : Type 0 where
   pub table : 16384 ≤ t
+  pub records : 512 ≤ w
   pub namespaces : 1024 ≤ n
   pub line : 4100 ≤ l
   pub out : 32771 ≤ o
@@ -34,22 +35,25 @@ pub record Sizes (t n l o : ℕ) (st : State) : Type 0 where
   pub entries : st .stored .namespaces ≤ 1024
   pub digits : (st .gathered .over || leb (st .gathered .len) 4100) ≡ true
 
-pub sizes : (t n l o : ℕ) (st : State) → ready t n l o st ≡ true → Sizes t n l o st
-sizes t n l o st h =
+pub sizes : (t w n l o : ℕ) (st : State) → ready t w n l o st ≡ true → Sizes t w n l o st
+sizes t w n l o st h =
     let d = st .gathered .over || leb (st .gathered .len) 4100 in
     let e = leb (st .stored .namespaces) 1024 && d in
     let r = leb (st .stored .table) 16384 && e in
     let u = leb 32771 o && r in
     let v = leb 4100 l && u in
-    let w = leb 1024 n && v in
-    let hw = and-r (leb 16384 t) w h in
-    let hv = and-r (leb 1024 n) v hw in
+    let x = leb 1024 n && v in
+    let y = leb 512 w && x in
+    let hy = and-r (leb 16384 t) y h in
+    let hx = and-r (leb 512 w) x hy in
+    let hv = and-r (leb 1024 n) v hx in
     let hu = and-r (leb 4100 l) u hv in
     let hr = and-r (leb 32771 o) r hu in
     let he = and-r (leb (st .stored .table) 16384) e hr in
     record {
-      table = leb-true 16384 t (and-l (leb 16384 t) w h);
-      namespaces = leb-true 1024 n (and-l (leb 1024 n) v hw);
+      table = leb-true 16384 t (and-l (leb 16384 t) y h);
+      records = leb-true 512 w (and-l (leb 512 w) x hy);
+      namespaces = leb-true 1024 n (and-l (leb 1024 n) v hx);
       line = leb-true 4100 l (and-l (leb 4100 l) u hv);
       out = leb-true 32771 o (and-l (leb 32771 o) r hu);
       rows = leb-true (st .stored .table) 16384 (and-l (leb (st .stored .table) 16384) e hr);
@@ -57,14 +61,18 @@ sizes t n l o st h =
       digits = and-r (leb (st .stored .namespaces) 1024) d he;
     }
 
-pub within : (d : Lent) (line : List ℕ) (st : State) → readyIn d line st ≡ true → Within (st .stored) (d .table) (d .namespaces)
+pub within : (d : Lent) (line : List ℕ) (st : State) → readyIn d line st ≡ true → Within (st .stored) (d .table) (d .records) (d .namespaces)
 within d line st h =
-    let z = sizes (length (d .table)) (length (d .namespaces)) (length line) (length (d .out)) st h in
-    (z .rows, z .entries, z .table, z .namespaces)
+    let z = sizes (length (d .table)) (length (d .records)) (length (d .namespaces)) (length line) (length (d .out)) st h in
+    record {
+      held = record { rows = z .rows; table = z .table; records = z .records };
+      entries = z .entries;
+      namespaces = z .namespaces;
+    }
 
-pub ready-again : (t n l o : ℕ) (st : State) → Sizes t n l o st → ready t n l o st ≡ true
-ready-again t n l o st z =
-    rw (le-leb 16384 t (z .table), le-leb 1024 n (z .namespaces), le-leb 4100 l (z .line), le-leb 32771 o (z .out), le-leb (st .stored .table) 16384 (z .rows), le-leb (st .stored .namespaces) 1024 (z .entries)) (z .digits)
+pub ready-again : (t w n l o : ℕ) (st : State) → Sizes t w n l o st → ready t w n l o st ≡ true
+ready-again t w n l o st z =
+    rw (le-leb 16384 t (z .table), le-leb 512 w (z .records), le-leb 1024 n (z .namespaces), le-leb 4100 l (z .line), le-leb 32771 o (z .out), le-leb (st .stored .table) 16384 (z .rows), le-leb (st .stored .namespaces) 1024 (z .entries)) (z .digits)
 
 -- at the start any memory holds the session at its start
 pub holds-start : (d : Lent) (line : List ℕ) → Holds d line (startIs) start
@@ -78,7 +86,7 @@ frame-some false len line h e = (take len line, (refl, omega (arith, leb-true le
 
 pub holds-some : (d : Lent) (line : List ℕ) (st : State) → readyIn d line st ≡ true → (s : Session) × Holds d line st s
 holds-some d line st h =
-    let z = sizes (length (d .table)) (length (d .namespaces)) (length line) (length (d .out)) st h in
+    let z = sizes (length (d .table)) (length (d .records)) (length (d .namespaces)) (length line) (length (d .out)) st h in
     let f = frame-some (st .gathered .over) (st .gathered .len) line (z .line) (z .digits) in
     (record { stored = storedIn d (st .stored); partial = f .0 }, record { table = refl; namespaces = refl; frame = f .1 })
 
@@ -91,8 +99,8 @@ stored-is : {d : Lent} {line : List ℕ} {st : State} {s : Session} → Holds d 
 stored-is h = λ i. record { table = h .table i; namespaces = h .namespaces i }
 
 module _ (chunk : List ℕ) (d : Lent) (line line′ : List ℕ) (st : State) (g : Gathered) (h : readyIn d line st ≡ true) (run : g ≡ gatheredAll (length line) (st .gathered) (beforeLine chunk)) (bytes : line′ ≡ lineAfter line (st .gathered) (beforeLine chunk)) where
-  is-sized : Sizes (length (d .table)) (length (d .namespaces)) (length line) (length (d .out)) st
-  is-sized = sizes (length (d .table)) (length (d .namespaces)) (length line) (length (d .out)) st h
+  is-sized : Sizes (length (d .table)) (length (d .records)) (length (d .namespaces)) (length line) (length (d .out)) st
+  is-sized = sizes (length (d .table)) (length (d .records)) (length (d .namespaces)) (length line) (length (d .out)) st h
 
   -- the line holds the characters before the line feed too
   goes-on : (p : List ℕ) → HoldsFrame line (st .gathered) p → HoldsFrame line′ g (p ++ beforeLine chunk)
@@ -115,13 +123,16 @@ module _ (chunk : List ℕ) (d : Lent) (line line′ : List ℕ) (st : State) (g
               says = says-none (d .out);
             });
         table-behind = refl;
+        records-behind = refl;
+        records-stay = λ e. refl;
         namespaces-behind = refl;
         line-bytes = bytes;
         gathered = run ∙ rw (le-ltb (length (beforeLine chunk)) (length chunk) (omega arith));
         ready-on =
-            ready-again (length (d .table)) (length (d .namespaces)) (length line) (length (d .out)) (record { stored = st .stored; gathered = g })
+            ready-again (length (d .table)) (length (d .records)) (length (d .namespaces)) (length line) (length (d .out)) (record { stored = st .stored; gathered = g })
             (record {
               table = z .table;
+              records = z .records;
               namespaces = z .namespaces;
               line = z .line;
               out = z .out;
@@ -146,13 +157,16 @@ module _ (chunk : List ℕ) (d : Lent) (line line′ : List ℕ) (st : State) (g
             subst (λ (f : Came). Comes f d e line′ (record { state = record { stored = r .stored; gathered = gatheredNone }; used = used + 1; written = r .written })) (sym (ap (fedAll s) (w .1) ∙ fed-line chunk s ∙ sym (ap (λ (f : Stepped). record { session = record { stored = f .stored; partial = [] }; output = f .output }) same)))
             (record { holds = record { table = c .table; namespaces = c .namespaces; frame = holds-none line′ }; says = c .says });
         table-behind = c .table-behind;
+        records-behind = c .records-behind;
+        records-stay = c .records-stay;
         namespaces-behind = c .namespaces-behind;
         line-bytes = bytes;
         gathered = rw (lt-ltb (length (beforeLine chunk)) (length chunk) (omega arith));
         ready-on =
-            ready-again (length (d .table)) (length (d .namespaces)) (length line) (length (d .out)) (record { stored = r .stored; gathered = gatheredNone })
+            ready-again (length (d .table)) (length (d .records)) (length (d .namespaces)) (length line) (length (d .out)) (record { stored = r .stored; gathered = gatheredNone })
             (record {
               table = z .table;
+              records = z .records;
               namespaces = z .namespaces;
               line = z .line;
               out = z .out;

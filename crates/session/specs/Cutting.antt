@@ -8,7 +8,7 @@ use Rattle.listing_rules.specs.Frames.{Session, Fed, behind, fedAll}
 use Rattle.session.specs.declared.State.{State}
 use Rattle.session.specs.declared.Taken.{Taken as Took}
 use Rattle.session.specs.declared.Fed.the-variants.{Taken}
-use Rattle.session.specs.Carrying.{Lent}
+use Rattle.session.specs.Carrying.{Lent, keptIn}
 use Rattle.session.specs.Feeding.{FeedIs}
 
 -- Pieces of input fed one after the other, each to the session that the one before left; their answers joined.
@@ -25,10 +25,10 @@ pub record Call : Type 0 where
   pub line′ : List ℕ
   pub answer : Took
 
--- The memory that was `d` and `line` is lent again as `e` and `line′`: the stored bytes and the characters of the frame so far are
--- those that were left. All else may have changed.
+-- The memory that was `d` and `line` is lent again as `e` and `line′`: what is stored and the characters of the frame so far are those
+-- that were left. All else may have changed.
 pub record LentAgain (st : State) (d e : Lent) (line line′ : List ℕ) : Type 0 where
-  pub table : take (st .stored .table) (e .table) ≡ take (st .stored .table) (d .table)
+  pub table : keptIn e (st .stored) ≡ keptIn d (st .stored)
   pub namespaces : take (st .stored .namespaces) (e .namespaces) ≡ take (st .stored .namespaces) (d .namespaces)
   pub frame : take (st .gathered .len) line′ ≡ take (st .gathered .len) line
 

@@ -14,30 +14,31 @@ use Rattle.session.specs.declared.Taken.{Taken as Took}
 use Rattle.session.specs.declared.Fed.{Fed}
 use Rattle.session.specs.declared.Fed.the-variants.{Taken, Refused}
 use Rattle.session.specs.declared.gathering.Run.{Run}
-use Rattle.session.specs.Carrying.{Lent, Says}
+use Rattle.session.specs.Carrying.{Lent, keptIn, reach, Says}
 
 -- nothing stored and no frame begun
 abbrev pub startIs : State
-startIs = record { stored = record { table = 0; namespaces = 0 }; gathered = gatheredNone }
+startIs = record { stored = record { table = 0; namespaces = 0; edited = false }; gathered = gatheredNone }
 
 -- The memory is lent in document 01's sizes, and the state lies within them: stored bytes 16,384 and 1,024, digits 4,100; a line
--- of output has at most 2 digits for each of 1 + 16,384 bytes and a line feed.
-abbrev pub ready : ℕ → ℕ → ℕ → ℕ → State → Bool
-ready table namespaces line out st =
+-- of output has at most 2 digits for each of 1 + 16,384 bytes and a line feed. There are words for 512 records.
+abbrev pub ready : ℕ → ℕ → ℕ → ℕ → ℕ → State → Bool
+ready table records namespaces line out st =
     leb 16384 table
+    && (leb 512 records
     && (leb 1024 namespaces
     && (leb 4100 line
     && (leb 32771 out
     && (leb (st .stored .table) 16384
-    && (leb (st .stored .namespaces) 1024 && (st .gathered .over || leb (st .gathered .len) 4100))))))
+    && (leb (st .stored .namespaces) 1024 && (st .gathered .over || leb (st .gathered .len) 4100)))))))
 
 abbrev pub readyIn : Lent → List ℕ → State → Bool
-readyIn d line st = ready (length (d .table)) (length (d .namespaces)) (length line) (length (d .out)) st
+readyIn d line st = ready (length (d .table)) (length (d .records)) (length (d .namespaces)) (length line) (length (d .out)) st
 
--- The memory holds the session s: its stored bytes at the front of their areas, and the characters of its frame so far in the
--- line. At the start any memory holds `start`, and a ready memory holds some session always (law holds-some).
+-- The memory holds the session s: what it has stored at the front of the areas, and the characters of its frame so far in the line.
+-- At the start any memory holds `start`, and a ready memory holds some session always (law holds-some).
 pub record Holds (d : Lent) (line : List ℕ) (st : State) (s : Session) : Type 0 where
-  pub table : take (st .stored .table) (d .table) ≡ s .stored .table
+  pub table : keptIn d (st .stored) ≡ s .stored .table
   pub namespaces : take (st .stored .namespaces) (d .namespaces) ≡ s .stored .namespaces
   pub frame : HoldsFrame line (st .gathered) (s .partial)
 
@@ -81,8 +82,11 @@ pub record Feeds (chunk : List ℕ) (d e : Lent) (line line′ : List ℕ) (st :
   pub used : r .used ≡ throughLine chunk
   -- whatever session the memory held, it came to what document 01 says of these bytes
   pub comes : (s : Session) → Holds d line st s → Comes (fedAll s (take (throughLine chunk) chunk)) d e line′ r
-  -- bytes after what is stored stay; every byte of the line, and what is gathered in it, are given by a definition
-  pub table-behind : drop (r .state .stored .table) (e .table) ≡ drop (r .state .stored .table) (d .table)
+  -- bytes after what is stored stay, and so do the words after the records, and every word where no records are kept; every byte of the
+  -- line, and what is gathered in it, are given by a definition
+  pub table-behind : drop (reach (r .state .stored)) (e .table) ≡ drop (reach (r .state .stored)) (d .table)
+  pub records-behind : drop 512 (e .records) ≡ drop 512 (d .records)
+  pub records-stay : r .state .stored .edited ≡ false → e .records ≡ d .records
   pub namespaces-behind : drop (r .state .stored .namespaces) (e .namespaces) ≡ drop (r .state .stored .namespaces) (d .namespaces)
   pub line-bytes : line′ ≡ lineAfter line (st .gathered) (beforeLine chunk)
   pub gathered : r .state .gathered ≡ cond (hasLine chunk) gatheredNone (gatheredAll (length line) (st .gathered) (beforeLine chunk))

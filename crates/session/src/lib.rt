@@ -1,30 +1,38 @@
 // A session of the program: pieces of input fed as they come, cut anywhere, over lent memory that holds what is stored and the
 // frame so far; each frame is carried out at its line feed.
 //
+// The table is kept as its packed bytes until the first edit is accepted, and as records over an area of names from then on.
+//
 // A call of `feed` takes a piece through its first line feed and no further, so it has at most one line of output; the caller
 // goes on with the rest of the piece. Of a frame too long to be one nothing is kept but that it is.
 mod carrying;
+mod commands;
 mod gathering;
+mod outcome;
+mod store;
+mod walks;
 
 ghost use mathlib.Core.Path.{_≡_};
 ghost use Rattle.session.specs.Carrying.{lent};
 ghost use Rattle.session.specs.Feeding.{ready, takenIs, FeedIs, Finishes};
-use carrying::MAX_NAMESPACES;
-use carrying::MAX_TABLE;
 use carrying::end_frame;
 use frames::Gathered;
 use frames::MAX_DIGITS;
 use frames::put_refusal;
 use gathering::gather_line;
 use octets::refusals::BAD_FRAME;
+use outcome::MAX_NAMESPACES;
+use outcome::MAX_TABLE;
+use records::MAX_ROWS;
 
 // The longest line of output: two digits for each of 1 + 16,384 bytes, and a line feed.
 pub const MAX_LINE: usize = 32771;
 
-// How many bytes are stored of the table and of the namespace list.
+// How many bytes are stored of the table and of the namespace list. Once an edit was accepted, `table` is how many records are rows.
 pub struct Lengths {
     pub table: usize,
     pub namespaces: usize,
+    pub edited: bool,
 }
 
 // What is stored between two pieces of input, and what is gathered of the frame so far.
@@ -39,6 +47,7 @@ impl State {
         stored: Lengths {
             table: 0,
             namespaces: 0,
+            edited: false,
         },
         gathered: Gathered::NONE,
     };
@@ -58,36 +67,54 @@ pub enum Fed {
 }
 
 // Whether the memory has document 01's sizes and the state speaks of bytes within them.
-fn is_ready(state: State, table: usize, namespaces: usize, line: usize, out: usize) -> bool
-    ensures { λ r. ⌜ r ≡ ready table namespaces line out state ⌝ }
+fn is_ready(
+    state: State,
+    table: usize,
+    records: usize,
+    namespaces: usize,
+    line: usize,
+    out: usize,
+) -> bool
+    ensures { λ r. ⌜ r ≡ ready table records namespaces line out state ⌝ }
 {
     let stored = state.stored;
     let g = state.gathered;
     (MAX_TABLE <= table)
-        & ((MAX_NAMESPACES <= namespaces)
-            & ((MAX_DIGITS <= line)
-                & ((MAX_LINE <= out)
-                    & ((stored.table <= MAX_TABLE)
-                        & ((stored.namespaces <= MAX_NAMESPACES)
-                            & (g.over | (g.len <= MAX_DIGITS)))))))
+        & ((MAX_ROWS <= records)
+            & ((MAX_NAMESPACES <= namespaces)
+                & ((MAX_DIGITS <= line)
+                    & ((MAX_LINE <= out)
+                        & ((stored.table <= MAX_TABLE)
+                            & ((stored.namespaces <= MAX_NAMESPACES)
+                                & (g.over | (g.len <= MAX_DIGITS))))))))
 }
 
 // The bytes of the piece through its first line feed, or all if there is none. `table` and `namespaces` hold the stored bytes at
-// their front, `line` the digits of the frame so far; `out` takes the line that the frame answers.
+// their front, `line` the digits of the frame so far; `out` takes the line that the frame answers. Once an edit was accepted, the first
+// 512 of `records` are the records, each as a number (`records::word_of`), and the first 16,384 bytes of `table` are their names' area.
 pub fn feed(
     state: State,
     chunk: &[u8],
     table: &mut [u8],
+    records: &mut [u64],
     namespaces: &mut [u8],
     line: &mut [u8],
     out: &mut [u8],
 ) -> Fed
     ensures { λ r. ⌜ FeedIs (now (chunk .entry))
-        (lent (now (table .entry)) (now (namespaces .entry)) (now (out .entry)))
-        (lent (now (table .exit)) (now (namespaces .exit)) (now (out .exit)))
+        (lent (now (table .entry)) (now (records .entry)) (now (namespaces .entry)) (now (out .entry)))
+        (lent (now (table .exit)) (now (records .exit)) (now (namespaces .exit)) (now (out .exit)))
         (now (line .entry)) (now (line .exit)) state r ⌝ }
 {
-    if !is_ready(state, table.len(), namespaces.len(), line.len(), out.len()) {
+    let sized = is_ready(
+        state,
+        table.len(),
+        records.len(),
+        namespaces.len(),
+        line.len(),
+        out.len(),
+    );
+    if !sized {
         return Fed::Refused;
     }
     let so_far = state.gathered;
@@ -98,7 +125,7 @@ pub fn feed(
     if chunk.len() <= used {
         return answer_taken(stored, gathered, used, 0);
     }
-    let done = end_frame(stored, gathered, line, table, namespaces, out);
+    let done = end_frame(stored, gathered, line, table, records, namespaces, out);
     let now_stored = done.stored;
     answer_taken(now_stored, Gathered::NONE, used + 1, done.written)
 }

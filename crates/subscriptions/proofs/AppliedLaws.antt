@@ -17,7 +17,7 @@ use Rattle.subscriptions.specs.Applied.{withFlags, newWord, insertedAt, 
 use Rattle.subscriptions.proofs.FitLaws.{record-at}
 use Rattle.subscriptions.proofs.ShiftLaws.{length-middle}
 
-map-drop : (k : ℕ) (ws : List ℕ) → map recordOf (drop k ws) ≡ drop k (map recordOf ws)
+pub map-drop : (k : ℕ) (ws : List ℕ) → map recordOf (drop k ws) ≡ drop k (map recordOf ws)
 map-drop zero ws = refl
 map-drop (suc k) [] = refl
 map-drop (suc k) (w ∷ ws) = map-drop k ws
@@ -49,10 +49,10 @@ zero-told = refl
 
 -- the words that an insertion and a removal changed or moved
 module _ (ws : List ℕ) (k m : ℕ) where
-  taken-insert : (w : ℕ) (inner rest : List ℕ) → length (take k ws) ≡ k → length inner ≡ m → take (suc m) (drop k (take k ws ++ (w ∷ (inner ++ rest)))) ≡ w ∷ inner
+  pub taken-insert : (w : ℕ) (inner rest : List ℕ) → length (take k ws) ≡ k → length inner ≡ m → take (suc m) (drop k (take k ws ++ (w ∷ (inner ++ rest)))) ≡ w ∷ inner
   taken-insert w inner rest h g = rw (drop-at (take k ws) (w ∷ (inner ++ rest)) k h, take-at inner rest m g)
 
-  taken-remove : (inner rest : List ℕ) → length (take k ws) ≡ k → length inner ≡ m → take (suc m) (drop k (take k ws ++ (inner ++ (0 ∷ rest)))) ≡ inner ++ (0 ∷ [])
+  pub taken-remove : (inner rest : List ℕ) → length (take k ws) ≡ k → length inner ≡ m → take (suc m) (drop k (take k ws ++ (inner ++ (0 ∷ rest)))) ≡ inner ++ (0 ∷ [])
   taken-remove inner rest h g =
       rw (drop-at (take k ws) (inner ++ (0 ∷ rest)) k h, ← append-snoc inner 0 rest)
       (take-at (inner ++ (0 ∷ [])) rest (suc m) (length-append inner (0 ∷ []) ∙ rw g (add-one m)))

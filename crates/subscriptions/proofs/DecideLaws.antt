@@ -11,12 +11,12 @@ use Rattle.listing_rules.specs.Names.{lawfulName}
 use Rattle.listing_rules.specs.Subscriptions.{rowsBefore, belowNoInferiors, freeFrom, lowestRun}
 use Rattle.listing_rules.proofs.Bools.{and-l}
 use Rattle.records.specs.Words.{recordOf}
-use Rattle.mailbox_table.specs.Index.{nthRow, rowsAt, Indexed}
+use Rattle.mailbox_table.specs.Index.{nthRow, rowsAt}
 use Rattle.subscriptions.specs.declared.Plan.{Plan}
 use Rattle.subscriptions.specs.declared.Plan.the-variants.{Keep, Insert, Refused}
 use Rattle.subscriptions.specs.declared.free.Run.the-variants.{At, Missing}
 use Rattle.subscriptions.specs.Runs.{runIs}
-use Rattle.subscriptions.specs.Plans.{settingPlan, clearingPlan, roomPlan, freshPlan, planFor, standsAt}
+use Rattle.subscriptions.specs.Plans.{Ordered, settingPlan, clearingPlan, roomPlan, freshPlan, planFor, standsAt}
 use Rattle.subscriptions.proofs.PlaceLaws.{rows-are, flags-are, has-stands}
 
 -- what a run that is found, or not, says of the definition
@@ -78,7 +78,7 @@ pub stands-inside : (area words : List ℕ) (k : ℕ) (n : List ℕ) → standsA
 unfolding standsAt
 stands-inside area words k n e = ltb-true k (length words) (and-l (ltb k (length words)) _ e)
 
-module _ {area words : List ℕ} (x : Indexed area words) (lent : ℕ) (n : List ℕ) {k : ℕ} (place : k ≡ rowsBefore (rowsAt area words) n) where
+module _ {area words : List ℕ} (x : Ordered area words) (lent : ℕ) (n : List ℕ) {k : ℕ} (place : k ≡ rowsBefore (rowsAt area words) n) where
   module _ (e : standsAt area words k n ≡ false) where
     pub decide-fresh : planFor (map recordOf words) lent area true n ≡ freshPlan (map recordOf words) lent area k n
     unfolding planFor

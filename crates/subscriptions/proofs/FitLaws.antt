@@ -18,9 +18,8 @@ use Rattle.listing_rules.proofs.Bools.{and-l, and-r}
 use Rattle.listing_rules.proofs.LawfulNames.{good-parts}
 use Rattle.records.specs.Words.{recordOf}
 use Rattle.mailbox_table.specs.Words.{rowOfWord}
-use Rattle.mailbox_table.specs.Index.{Indexed}
 use Rattle.subscriptions.specs.declared.Plan.the-variants.{Keep, Flag, Remove, Refused}
-use Rattle.subscriptions.specs.Plans.{settingPlan, clearingPlan, roomPlan, freshPlan, planFor}
+use Rattle.subscriptions.specs.Plans.{Ordered, settingPlan, clearingPlan, roomPlan, freshPlan, planFor}
 use Rattle.subscriptions.specs.Applied.{Fits}
 use Rattle.subscriptions.proofs.PlanLaws.{before-most, before-has, record-rows-length}
 use Rattle.subscriptions.proofs.FlagLaws.{set-fits}
@@ -59,7 +58,7 @@ unfolding recordOf
 flags-small w = omega arith
 
 -- the name of a word of an index lies inside the area
-index-inside : (area ws : List ℕ) (count : ℕ) → Indexed area (take count ws) → count ≤ length ws → (k : ℕ) → k < count
+index-inside : (area ws : List ℕ) (count : ℕ) → Ordered area (take count ws) → count ≤ length ws → (k : ℕ) → k < count
     → recordOf (getD ws k 0) .start + recordOf (getD ws k 0) .len ≤ length area
 unfolding recordOf rowOfWord
 index-inside area ws count x words k h =
@@ -108,7 +107,7 @@ module _ (ws : List ℕ) (count : ℕ) (area n : List ℕ) (words : count ≤ le
             }
 
 -- The plan for an index fits the words that begin with it, with room for one word more where it inserts.
-pub plan-fits : (ws : List ℕ) (count lent : ℕ) (area : List ℕ) (b : Bool) (n : List ℕ) → Indexed area (take count ws) → count ≤ length ws → length area ≤ 32768
+pub plan-fits : (ws : List ℕ) (count lent : ℕ) (area : List ℕ) (b : Bool) (n : List ℕ) → Ordered area (take count ws) → count ≤ length ws → length area ≤ 32768
     → (count < 512 → count < lent → count < length ws) → Fits (planFor (map recordOf (take count ws)) lent area b n) ws count area n
 unfolding planFor
 plan-fits ws count lent area b n x words bound room = go (hasRow rows n) b refl

@@ -9,3 +9,4 @@ mod DecideLaws
 mod ShiftLaws
 pub mod FitLaws
 pub mod AppliedLaws
+pub mod StoredLaws

@@ -23,10 +23,10 @@ use Rattle.listing_rules.proofs.ListLaws.{same-true, same-refl}
 use Rattle.listing_rules.proofs.Order.{bytes-total}
 use Rattle.records.specs.Words.{recordOf}
 use Rattle.mailbox_table.specs.Words.{rowOfWord}
-use Rattle.mailbox_table.specs.Index.{nameAt, nthRow, nthName, rowAtWord, rowsAt, Indexed}
+use Rattle.mailbox_table.specs.Index.{nameAt, nthRow, nthName, rowAtWord, rowsAt}
 use Rattle.mailbox_table.proofs.IndexLaws.{rows-length, rows-cons}
 use Rattle.mailbox_table.proofs.SharedLaws.{order-same, order-other, order-to-nil, order-nil-cons}
-use Rattle.subscriptions.specs.Plans.{standsAt}
+use Rattle.subscriptions.specs.Plans.{Ordered, standsAt}
 use Rattle.subscriptions.proofs.PlanLaws.{before-other}
 
 -- two names compared byte by byte: what is left from a place on decides
@@ -162,7 +162,7 @@ module _ (area words n : List ℕ) (i : ℕ) where
   unfolding rowsBefore keep
   place-step h e = rw (add-one i, rows-cons area words i h, e) (omega arith)
 
-  pub place-stop : Indexed area words → i < length words → isLt (byteOrder (nthName area words i) n) ≡ false → i + rowsBefore (drop i (rowsAt area words)) n ≡ i
+  pub place-stop : Ordered area words → i < length words → isLt (byteOrder (nthName area words i) n) ≡ false → i + rowsBefore (drop i (rowsAt area words)) n ≡ i
   unfolding rowsBefore keep ascends names
   place-stop x h e = rw none (add-zero i)
     where
@@ -180,7 +180,7 @@ module _ (area words n : List ℕ) (i : ℕ) where
   place-end h = rw (drop-of-length-le (rowsAt area words) {i = i} (omega (arith, rows-length area words))) (add-zero i)
 
 -- the row at a name's place has the name, if there is one that has it
-pub has-stands : {area words : List ℕ} → Indexed area words → (n : List ℕ) (k : ℕ) → k ≡ rowsBefore (rowsAt area words) n
+pub has-stands : {area words : List ℕ} → Ordered area words → (n : List ℕ) (k : ℕ) → k ≡ rowsBefore (rowsAt area words) n
     → hasRow (rowsAt area words) n ≡ standsAt area words k n
 unfolding standsAt
 has-stands {area} {words} x n k e = has-first (rowsAt area words) n (x .ascend) ∙ rw (← e) (go (decLe (length words) k))

@@ -14,7 +14,7 @@ use Rattle.listing_rules.specs.Orders.{byteOrder, isLt}
 use Rattle.listing_rules.specs.Names.{lawfulName}
 use Rattle.listing_rules.specs.Flags.{subscribed}
 use Rattle.listing_rules.specs.Table.{Row, hasRow}
-use Rattle.listing_rules.specs.Subscriptions.{Edit, subscribe, unsubscribe}
+use Rattle.listing_rules.specs.Command.{Edit, subscribe, unsubscribe}
 use Rattle.listing_rules.specs.Records.{Record, recordRows}
 use Rattle.listing_rules.specs.Subscriptions.{Store, held, storeRows, denied, stored, edited, subscribing, unsubscribing, insertion, freeRun, spelled, rowsBefore, belowNoInferiors, freeFrom, lowestRun, withSubscribed, withoutSubscribed, zeroRecord, nth, flagged, inserted, removed}
 use Rattle.listing_rules.proofs.ListLaws.{same-true}

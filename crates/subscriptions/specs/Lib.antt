@@ -2,3 +2,4 @@
 pub mod Plans
 pub mod Runs
 pub mod Applied
+pub mod Stored

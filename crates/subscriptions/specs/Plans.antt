@@ -1,21 +1,28 @@
 -- What an edit comes to, before anything is touched: the cases of SUBSCRIBE and UNSUBSCRIBE as plans, and what a plan makes of a store.
+use mathlib.Core.Path.{_≡_}
 use mathlib.Core.List.{List}
 use mathlib.Core.Bool.{Bool, true, false, cond, _&&_, not}
 use mathlib.Core.Option.{Option, none, some}
 use lib.Dec.{eqb, ltb}
 use lib.ListN.{length}
-use Prim.Native.Nat.{ℕ}
+use Prim.Native.Nat.{ℕ, _+_, _≤_, _<_}
 use Rattle.listing_rules.specs.Bytes.{same}
 use Rattle.listing_rules.specs.Names.{lawfulName, below}
 use Rattle.listing_rules.specs.Flags.{subscribed, noInferiors}
-use Rattle.listing_rules.specs.Table.{Row, hasRow}
-use Rattle.listing_rules.specs.Subscriptions.{Edit, subscribe, unsubscribe}
+use Rattle.listing_rules.specs.Orders.{ascends}
+use Rattle.listing_rules.specs.Table.{Row, names, hasRow}
+use Rattle.listing_rules.specs.Command.{Edit, subscribe, unsubscribe}
 use Rattle.listing_rules.specs.Records.{Record, recordRows}
 use Rattle.listing_rules.specs.Subscriptions.{Store, Edited, denied, stored, spelled, nth, flagged, inserted, removed}
 use Rattle.listing_rules.specs.Subscriptions.{rowsBefore, belowNoInferiors, freeFrom, lowestRun, withSubscribed, withoutSubscribed}
-use Rattle.mailbox_table.specs.Index.{nthName}
+use Rattle.mailbox_table.specs.Index.{rowsAt, nthRow, nthName}
 use Rattle.subscriptions.specs.declared.Plan.{Plan}
 use Rattle.subscriptions.specs.declared.Plan.the-variants.{Keep, Flag, Insert, Remove, Refused}
+
+-- The words of a table that passes: the names of the rows ascend by bytes and lie inside the area.
+pub record Ordered (area words : List ℕ) : Type 0 where
+  pub ascend : ascends (names (rowsAt area words)) ≡ true
+  pub inside : (k : ℕ) → k < length words → nthRow words k .start + nthRow words k .len ≤ length area
 
 -- an edit taken apart: whether it is SUBSCRIBE, and its name, spelled
 unfoldable pub subscribes : Edit → Bool

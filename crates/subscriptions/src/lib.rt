@@ -19,6 +19,8 @@ use inferiors::below_no_inferiors;
 use mailbox_table::flags::Flags;
 use mailbox_table::rows::Row;
 use names::lawful_name;
+use octets::refusals::NO_ROOM;
+use octets::refusals::UNLAWFUL_NAME;
 use order::place_of;
 use order::stands_at;
 ghost use mathlib.Core.Path.{_≡_};
@@ -26,17 +28,10 @@ ghost use mathlib.Core.List.{map};
 ghost use Prim.Native.Nat.{_≤_};
 ghost use lib.ListN.{length};
 ghost use Rattle.records.specs.Words.{recordOf};
-ghost use Rattle.mailbox_table.specs.Index.{Indexed};
-ghost use Rattle.subscriptions.specs.Plans.{planFor, settingPlan, clearingPlan, freshPlan};
+ghost use Rattle.subscriptions.specs.Plans.{Ordered, planFor, settingPlan, clearingPlan, freshPlan};
 ghost use Rattle.subscriptions.specs.Applied.{Fits, wordsAfter, areaAfter, changeOf};
 
 const MAX_ROWS: usize = 512;
-
-// An unlawful name, or one below a row with no inferiors.
-const UNLAWFUL_NAME: u8 = 14;
-
-// 512 rows, no spare record, or no free run of name bytes that is long enough.
-const NO_ROOM: u8 = 15;
 
 // What an edit comes to: nothing changes; row k has these flags; a row 0002 stands at place k, its name at a start; row k goes; or the
 // number of its refusal.
@@ -55,10 +50,10 @@ pub struct Change {
     pub count: usize,
 }
 
-// What an edit of this name, spelled, comes to, over the index of the rows; `lent` records hold them and the spare ones. The index is
-// one that `mailbox_table` made, whose promise is the requirement.
+// What an edit of this name, spelled, comes to, over the words of the rows; `lent` records hold them and the spare ones. The rows are
+// those of a table that passes.
 pub fn decide(area: &[u8], words: &[u64], lent: usize, subscribe: bool, name: &[u8]) -> Plan
-    requires { ⌜ Indexed (now area) (now words) × (length (now words) ≤ 512) × (length (now area) ≤ 32768) ⌝ }
+    requires { ⌜ Ordered (now area) (now words) × (length (now words) ≤ 512) × (length (now area) ≤ 32768) ⌝ }
     ensures { λ r. ⌜ r ≡ planFor (map recordOf (now (words .entry))) lent (now (area .entry)) subscribe (now (name .entry)) ⌝ }
 {
     let k = place_of(area, words, name);

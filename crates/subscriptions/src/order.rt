@@ -6,12 +6,12 @@ use octets::same_bytes;
 ghost use mathlib.Core.Path.{_≡_};
 ghost use Rattle.listing_rules.specs.Orders.{byteOrder, isLt};
 ghost use Rattle.listing_rules.specs.Subscriptions.{rowsBefore};
-ghost use Rattle.mailbox_table.specs.Index.{Indexed, rowsAt};
-ghost use Rattle.subscriptions.specs.Plans.{standsAt};
+ghost use Rattle.mailbox_table.specs.Index.{rowsAt};
+ghost use Rattle.subscriptions.specs.Plans.{Ordered, standsAt};
 
 // How many rows come before the name: the place of its row, or of the first row after it.
 pub(crate) fn place_of(area: &[u8], words: &[u64], name: &[u8]) -> usize
-    requires { ⌜ Indexed (now area) (now words) ⌝ }
+    requires { ⌜ Ordered (now area) (now words) ⌝ }
     ensures { λ r. ⌜ r ≡ rowsBefore (rowsAt (now (area .entry)) (now (words .entry))) (now (name .entry)) ⌝ }
 {
     let mut i = 0;

@@ -2,6 +2,7 @@
 
 use compare::records::Layout;
 use compare::tables::{table_bytes, NewRow};
+use second::name::MAX_NAME;
 use second::namespaces::Entry;
 use second::table::Flags;
 use second::Record;
@@ -13,11 +14,37 @@ pub const SIZES: [usize; 4] = [64, 128, 256, 512];
 #[derive(Clone, Copy)]
 pub enum Call {
     Check,
-    /// A command line without its CR LF.
+    /// A command line without its CR LF, which changes nothing.
     Command(Command),
     /// A walk with this option byte.
     Walk(u8),
+    Edit(Edit),
 }
+
+/// An edit of the rows.
+#[derive(Clone, Copy)]
+pub struct Edit {
+    /// The command line without its CR LF.
+    pub line: &'static str,
+    /// What makes the rows again what they were, after each call; it is not measured.
+    pub undo: Option<&'static str>,
+    /// What it is refused with.
+    pub refusal: Option<u8>,
+    /// Whether the last of the records is spare.
+    pub has_spare: bool,
+}
+
+/// What the proved library's time is also divided by: its own for something else over the same rows.
+#[derive(Clone, Copy, PartialEq)]
+pub enum Beside {
+    /// The same call over the packed form.
+    Packed,
+    /// A LIST that lists nothing.
+    Listing,
+}
+
+/// Of no mailbox here, so that nothing is listed.
+pub const LISTING: &str = "a LIST \"\" nothing";
 
 #[derive(Clone, Copy)]
 pub enum Command {
@@ -52,43 +79,103 @@ pub struct Case {
     pub call: Call,
 }
 
-pub const CASES: [Case; 13] = [
-    packed_case("check of the table", Table::Tree, Call::Check),
+pub const CASES: [Case; 16] = [
+    packed_case("check of the table", Call::Check),
     text_case(r#"`LIST "" "*"`"#, r#"a LIST "" "*""#),
     text_case(r#"`LIST "" "%"`"#, r#"a LIST "" "%""#),
     text_case(
         r#"`LIST (SUBSCRIBED RECURSIVEMATCH) "" "%"`"#,
         r#"a LIST (SUBSCRIBED RECURSIVEMATCH) "" "%""#,
     ),
-    packed_case(
+    records_case(
         "eight patterns of forty `*`",
         Table::Tree,
         Call::Command(Command::Stars { patterns: 8, length: 40 }),
     ),
-    packed_case("`%a` twenty times, then `b`", Table::ManyA, Call::Command(Command::PercentA(20))),
+    records_case("`%a` twenty times, then `b`", Table::ManyA, Call::Command(Command::PercentA(20))),
     text_case(r#"`LIST "" "*" RETURN (CHILDREN)`"#, r#"a LIST "" "*" RETURN (CHILDREN)"#),
     text_case("`NAMESPACE`", "a NAMESPACE"),
-    packed_case("a whole walk", Table::Tree, Call::Walk(0)),
-    records_case("check of records", Call::Check),
-    records_case(r#"`LIST "" "*"` over records"#, text_call(r#"a LIST "" "*""#)),
-    records_case(r#"`LIST "" "%"` over records"#, text_call(r#"a LIST "" "%""#)),
-    records_case("a whole walk over records", Call::Walk(0)),
+    packed_case("a whole walk", Call::Walk(0)),
+    records_case("check of records", Table::Tree, Call::Check),
+    records_case("a whole walk over records", Table::Tree, Call::Walk(0)),
+    edit_case(
+        "`SUBSCRIBE`, a flag set",
+        undone_edit(
+            r#"a SUBSCRIBE "Customer 00/Folder 2""#,
+            r#"a UNSUBSCRIBE "Customer 00/Folder 2""#,
+            false,
+        ),
+    ),
+    edit_case(
+        "`SUBSCRIBE`, a row inserted",
+        undone_edit(
+            r#"a SUBSCRIBE "Customer 00/Folder 9""#,
+            r#"a UNSUBSCRIBE "Customer 00/Folder 9""#,
+            true,
+        ),
+    ),
+    edit_case(
+        "`UNSUBSCRIBE`, a row removed",
+        undone_edit(
+            r#"a UNSUBSCRIBE "Customer 00/Folder 4""#,
+            r#"a SUBSCRIBE "Customer 00/Folder 4""#,
+            false,
+        ),
+    ),
+    edit_case("`SUBSCRIBE`, refused with 14", refused_edit(r#"a SUBSCRIBE "Customer 00//x""#, 14)),
+    edit_case("`SUBSCRIBE`, refused with 15", refused_edit(r#"a SUBSCRIBE "Customer 00/x""#, 15)),
 ];
 
-const fn packed_case(title: &'static str, table: Table, call: Call) -> Case {
-    Case { title, table, form: Form::Packed, call }
+const fn packed_case(title: &'static str, call: Call) -> Case {
+    Case { title, table: Table::Tree, form: Form::Packed, call }
+}
+
+const fn records_case(title: &'static str, table: Table, call: Call) -> Case {
+    Case { title, table, form: Form::Records, call }
 }
 
 const fn text_case(title: &'static str, line: &'static str) -> Case {
-    packed_case(title, Table::Tree, text_call(line))
+    records_case(title, Table::Tree, Call::Command(Command::Text(line)))
 }
 
-const fn records_case(title: &'static str, call: Call) -> Case {
-    Case { title, table: Table::Tree, form: Form::Records, call }
+const fn edit_case(title: &'static str, edit: Edit) -> Case {
+    records_case(title, Table::Tree, Call::Edit(edit))
 }
 
-const fn text_call(line: &'static str) -> Call {
-    Call::Command(Command::Text(line))
+const fn undone_edit(line: &'static str, undo: &'static str, has_spare: bool) -> Edit {
+    Edit { line, undo: Some(undo), refusal: None, has_spare }
+}
+
+const fn refused_edit(line: &'static str, number: u8) -> Edit {
+    Edit { line, undo: None, refusal: Some(number), has_spare: false }
+}
+
+impl Case {
+    /// Commands are answered over records alone.
+    pub fn beside(&self) -> Option<Beside> {
+        match (self.form, self.call) {
+            (Form::Records, Call::Edit(_)) => Some(Beside::Listing),
+            (Form::Records, Call::Check | Call::Walk(_)) => Some(Beside::Packed),
+            _ => None,
+        }
+    }
+
+    /// The records of so many rows. For an insertion the last of them is spare; edits have free bytes
+    /// for a name after all names.
+    pub fn layout(&self, rows: usize) -> Layout {
+        let Call::Edit(edit) = self.call else {
+            return self.table.layout(rows);
+        };
+        let mut layout = self.table.layout(rows - usize::from(edit.has_spare));
+        layout.records.resize(rows, Record::default());
+        layout.area.resize(layout.area.len() + MAX_NAME, UNUSED);
+        layout
+    }
+}
+
+/// A command line with its CR LF.
+pub fn line_of(text: &str) -> Vec<u8> {
+    format!("{text}\r\n").into_bytes()
 }
 
 impl Command {
@@ -100,7 +187,7 @@ impl Command {
             }
             Command::PercentA(count) => format!("a LIST \"\" {}b", "%a".repeat(count)),
         };
-        (text + "\r\n").into_bytes()
+        line_of(&text)
     }
 }
 
@@ -117,7 +204,7 @@ impl Table {
     }
 
     /// The same rows as records: the names lie in another order, with an unused byte before each.
-    pub fn layout(self, rows: usize) -> Layout {
+    fn layout(self, rows: usize) -> Layout {
         let rows = self.rows(rows);
         let mut records = vec![Record::default(); rows.len()];
         let mut area = Vec::new();

@@ -1,21 +1,23 @@
 //! `bench DOCS`
 //!
 //! Measures every case at every size, prints the table, and writes it into DOCS/PERFORMANCE.md and
-//! the plot to DOCS/performance.svg. Status 1 is a difference between the two libraries, or a check of
-//! records that takes too long beside that of the packed form.
+//! the plot to DOCS/performance.svg. Status 1 is a difference between the two libraries, a check of
+//! records that takes too long beside that of the packed form, or an edit that takes too long beside a
+//! LIST that lists nothing.
 
 use std::env;
 use std::fs;
 use std::path::PathBuf;
 use std::process::ExitCode;
 
-use bench::inputs::{Call, Case, Form, CASES, SIZES};
+use bench::inputs::{Beside, Call, Case, CASES, SIZES};
 use bench::measure::{measure, Measured};
 use bench::page::{with_table, Measures};
 use bench::plot::plot;
 
-/// What the check of the most records may take, by that of the packed form of the same rows.
-const MOST_BY_PACKED: f64 = 1.5;
+/// What the check of the most records may take, by that of the packed form of the same rows; and an
+/// edit of the most rows, by a LIST that lists nothing.
+const MOST_BY_BESIDE: f64 = 1.5;
 
 fn main() -> ExitCode {
     match run() {
@@ -43,35 +45,48 @@ fn run() -> Result<(), String> {
         .ok_or("PERFORMANCE.md has no place for the table")?;
     fs::write(page, text).map_err(told)?;
     fs::write(docs.join("performance.svg"), plot(&measures)).map_err(told)?;
-    check_by_packed(&measures)
+    check_beside(&measures)
 }
 
-/// The check of records beside that of the packed form, at the most rows.
-fn check_by_packed(measures: &Measures) -> Result<(), String> {
-    let is_meant = |case: &Case| case.form == Form::Records && matches!(case.call, Call::Check);
-    for (case, measured) in CASES.iter().zip(measures).filter(|(case, _)| is_meant(case)) {
-        let ratio = measured[SIZES.len() - 1].by_packed;
-        let text = format!("{}: {ratio:.2} of the packed form", case.title);
-        println!("{text}, at most {MOST_BY_PACKED}");
-        if ratio > MOST_BY_PACKED {
-            return Err(format!("{text}, which is more than {MOST_BY_PACKED}"));
+/// The checks of records and the edits at the most rows, each beside what it is measured beside.
+fn check_beside(measures: &Measures) -> Result<(), String> {
+    let mut too_long = Vec::new();
+    for (case, measured) in CASES.iter().zip(measures) {
+        let ratio = measured[SIZES.len() - 1].by_beside;
+        let Some(ratio) = ratio.filter(|_| matches!(case.call, Call::Check | Call::Edit(_))) else {
+            continue;
+        };
+        let text = format!("{}: {ratio:.2}{}", case.title, beside_text(case));
+        println!("{text}, at most {MOST_BY_BESIDE}");
+        if ratio > MOST_BY_BESIDE {
+            too_long.push(format!("{text}, which is more than {MOST_BY_BESIDE}"));
         }
     }
-    Ok(())
+    if too_long.is_empty() {
+        Ok(())
+    } else {
+        Err(too_long.join("\n"))
+    }
+}
+
+fn beside_text(case: &Case) -> &'static str {
+    match case.beside() {
+        Some(Beside::Packed) => " of the packed form",
+        Some(Beside::Listing) => " of a LIST that lists nothing",
+        None => "",
+    }
 }
 
 fn shown(case: &Case, rows: usize, one: &Measured) -> String {
-    let packed = match case.form {
-        Form::Packed => String::new(),
-        Form::Records => format!(", {:.2} of the packed form", one.by_packed),
-    };
+    let beside = one.by_beside.map(|ratio| format!(", {ratio:.2}{}", beside_text(case)));
     format!(
-        "{:42} {rows:4} rows: {:5.2} of the second program, {:7.1} floors by bytes, {:6.0} by blocks, {:4.1} times 64 rows, {:8.1} us{packed}",
+        "{:42} {rows:4} rows: {:5.2} of the second program, {:7.1} floors by bytes, {:6.0} by blocks, {:4.1} times 64 rows, {:8.1} us{}",
         case.title,
         one.by_second,
         one.by_byte_floor,
         one.by_block_floor,
         one.growth,
-        one.seconds * 1e6
+        one.seconds * 1e6,
+        beside.unwrap_or_default()
     )
 }

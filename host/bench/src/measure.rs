@@ -7,21 +7,23 @@ use compare::library::both::{Lent, Mailboxes, ANSWER, CHECK_TABLE, COLLECT, PROV
 
 use crate::clock::seconds_of_one;
 use crate::floor;
-use crate::inputs::{namespaces, Call, Case, Form, SIZES};
+use crate::inputs::{line_of, namespaces, Beside, Call, Case, Edit, Form, LISTING, SIZES};
 
 /// More than any answer to these cases.
 const ROOM: usize = 65_536;
+/// More than the OK line.
+const UNDO_ROOM: usize = 64;
 /// A sample repeats a call for about so long.
 const SAMPLE_SECONDS: f64 = 0.000_5;
 /// In a round each contender has one sample at each size, one behind the other.
 const ROUNDS: usize = 41;
 
 /// Who is measured: the two libraries, by their places in `both`, the two floors, and the proved
-/// library over the packed form of the same rows.
+/// library beside itself.
 const CONTENDERS: usize = 5;
 const BYTE_FLOOR: usize = 2;
 const BLOCK_FLOOR: usize = 3;
-const PACKED: usize = 4;
+const BESIDE: usize = 4;
 
 /// Medians over the rounds.
 pub struct Measured {
@@ -31,8 +33,8 @@ pub struct Measured {
     pub by_byte_floor: f64,
     /// The same with the widest loads and stores there are.
     pub by_block_floor: f64,
-    /// The same by its own over the packed form of the same rows.
-    pub by_packed: f64,
+    /// The same by its own for what the case is measured beside, if it is.
+    pub by_beside: Option<f64>,
     /// The proved library's time by its own at the first size.
     pub growth: f64,
     /// Seconds of one call of the proved library.
@@ -42,6 +44,7 @@ pub struct Measured {
 /// The result of a call, and the lent memory behind it.
 #[derive(PartialEq)]
 struct Done {
+    /// Count and length.
     result: Result<(usize, usize), u8>,
     lent: Buffers,
 }
@@ -59,7 +62,11 @@ struct Inputs {
     form: Form,
     namespaces: Vec<u8>,
     line: Vec<u8>,
+    /// What makes the records again what they were.
+    undo: Option<Vec<u8>>,
     call: Call,
+    beside: Option<Beside>,
+    listing: Vec<u8>,
 }
 
 /// What is measured at one size, and how many calls make a sample.
@@ -72,12 +79,12 @@ struct Prepared {
 /// The seconds of one call, by size and contender.
 type Round = [[f64; CONTENDERS]; SIZES.len()];
 
-/// Measures a case at every size. The error is a difference or a refusal.
+/// Measures a case at every size. The error is a difference, or a refusal that is not meant.
 pub fn measure(case: &Case) -> Result<[Measured; SIZES.len()], String> {
     let mut lent = Buffers::new();
     let mut prepared = Vec::new();
     for rows in SIZES {
-        let inputs = Inputs::new(case, rows);
+        let mut inputs = Inputs::new(case, rows);
         let told = |text| format!("{}, {rows} rows: {text}", case.title);
         let done = inputs.verified().map_err(told)?;
         let calls = array::from_fn(|who| inputs.calls(who, &done, &mut lent));
@@ -85,17 +92,17 @@ pub fn measure(case: &Case) -> Result<[Measured; SIZES.len()], String> {
     }
     let rounds: Vec<Round> =
         (0..ROUNDS).map(|_| array::from_fn(|size| prepared[size].seconds(&mut lent))).collect();
-    Ok(array::from_fn(|size| medians(&rounds, size)))
+    Ok(array::from_fn(|size| medians(&rounds, size, case.beside().is_some())))
 }
 
-fn medians(rounds: &[Round], size: usize) -> Measured {
+fn medians(rounds: &[Round], size: usize, has_beside: bool) -> Measured {
     let median_of = |value: &dyn Fn(&Round) -> f64| median(rounds.iter().map(value).collect());
     let by = |who: usize| median_of(&|round| round[size][PROVED] / round[size][who]);
     Measured {
         by_second: by(SECOND),
         by_byte_floor: by(BYTE_FLOOR),
         by_block_floor: by(BLOCK_FLOOR),
-        by_packed: by(PACKED),
+        by_beside: has_beside.then(|| by(BESIDE)),
         growth: median_of(&|round| round[size][PROVED] / round[0][PROVED]),
         seconds: median_of(&|round| round[size][PROVED]),
     }
@@ -103,47 +110,73 @@ fn medians(rounds: &[Round], size: usize) -> Measured {
 
 impl Prepared {
     /// One sample of each contender.
-    fn seconds(&self, lent: &mut Buffers) -> [f64; CONTENDERS] {
+    fn seconds(&mut self, lent: &mut Buffers) -> [f64; CONTENDERS] {
         array::from_fn(|who| self.inputs.seconds(who, self.calls[who], &self.done, lent))
     }
 }
 
 impl Inputs {
     fn new(case: &Case, rows: usize) -> Inputs {
-        let line = match case.call {
-            Call::Command(command) => command.line(),
-            Call::Check | Call::Walk(_) => Vec::new(),
+        let (line, undo) = match case.call {
+            Call::Command(command) => (command.line(), None),
+            Call::Edit(Edit { line, undo, .. }) => (line_of(line), undo.map(line_of)),
+            Call::Check | Call::Walk(_) => (Vec::new(), None),
         };
-        let (packed, records) = (case.table.bytes(rows), Mailboxes::new(case.table.layout(rows)));
-        let Case { form, call, .. } = *case;
-        Inputs { packed, records, form, namespaces: namespaces(), line, call }
+        Inputs {
+            packed: case.table.bytes(rows),
+            records: Mailboxes::new(case.layout(rows)),
+            form: case.form,
+            namespaces: namespaces(),
+            line,
+            undo,
+            call: case.call,
+            beside: case.beside(),
+            listing: line_of(LISTING),
+        }
     }
 
-    /// The table in its form, or in the packed one.
+    /// The table for reading, in its form, or in the packed one.
     fn table(&self, who: usize) -> Lent<'_> {
         match self.form {
-            Form::Records if who != PACKED => Lent::Records(&self.records),
+            Form::Records if who != BESIDE => Lent::Records(&self.records),
             _ => Lent::Packed(&self.packed),
         }
     }
 
-    /// What both libraries give, and the proved one over the packed form, if it is the same and no
-    /// refusal.
-    fn verified(&self) -> Result<Done, String> {
-        let [proved, second, packed] = [PROVED, SECOND, PACKED].map(|who| {
-            let mut lent = Buffers::new();
-            Done { result: self.run(who, &mut lent), lent }
-        });
-        match proved.result {
-            Err(number) => Err(format!("refused with {number}")),
-            Ok(_) if proved != second => Err("the two libraries differ".to_string()),
-            Ok(_) if proved != packed => Err("the two forms differ".to_string()),
-            Ok(_) => Ok(proved),
+    /// What both libraries give, and the proved one over the packed form, if it is the same and refused
+    /// only as it is meant to be. After an edit, and after what undoes it, both have the same rows.
+    fn verified(&mut self) -> Result<Done, String> {
+        let [proved, second] = [PROVED, SECOND].map(|who| self.done(who));
+        self.verify_rows()?;
+        [PROVED, SECOND].into_iter().for_each(|who| self.undo(who));
+        self.verify_rows()?;
+        let meant = match self.call {
+            Call::Edit(edit) => edit.refusal,
+            _ => None,
+        };
+        if proved.result.err() != meant {
+            return Err(format!("it gives {:?}", proved.result));
         }
+        if proved != second {
+            return Err("the two libraries differ".to_string());
+        }
+        if self.beside == Some(Beside::Packed) && proved != self.done(BESIDE) {
+            return Err("the two forms differ".to_string());
+        }
+        Ok(proved)
+    }
+
+    fn verify_rows(&self) -> Result<(), String> {
+        self.records.difference().map_or(Ok(()), |text| Err(format!("the rows differ: {text}")))
+    }
+
+    fn done(&mut self, who: usize) -> Done {
+        let mut lent = Buffers::new();
+        Done { result: self.run(who, &mut lent), lent }
     }
 
     /// How many calls of a contender take about one sample's time.
-    fn calls(&self, who: usize, done: &Done, lent: &mut Buffers) -> usize {
+    fn calls(&mut self, who: usize, done: &Done, lent: &mut Buffers) -> usize {
         let mut calls = 1;
         while self.seconds(who, calls, done, lent) * (calls as f64) < SAMPLE_SECONDS {
             calls *= 2;
@@ -151,25 +184,54 @@ impl Inputs {
         calls
     }
 
-    /// Seconds of one call of a contender, from so many.
-    fn seconds(&self, who: usize, calls: usize, done: &Done, lent: &mut Buffers) -> f64 {
-        seconds_of_one(calls, || match who {
-            BYTE_FLOOR => self.run_floor(floor::byte_by_byte, done, lent),
-            BLOCK_FLOOR => self.run_floor(floor::by_blocks, done, lent),
-            _ => _ = black_box(self.run(black_box(who), lent)),
-        })
+    /// Seconds of one call of a contender, from so many; no number where there is no such contender.
+    fn seconds(&mut self, who: usize, calls: usize, done: &Done, lent: &mut Buffers) -> f64 {
+        match (who, self.call) {
+            (BESIDE, _) if self.beside.is_none() => f64::NAN,
+            (BYTE_FLOOR, _) => {
+                seconds_of_one(calls, || self.run_floor(floor::byte_by_byte, done, lent))
+            }
+            (BLOCK_FLOOR, _) => {
+                seconds_of_one(calls, || self.run_floor(floor::by_blocks, done, lent))
+            }
+            (_, Call::Edit(_)) => self.seconds_of_edits(who, calls, lent),
+            _ => seconds_of_one(calls, || _ = black_box(self.run(black_box(who), lent))),
+        }
     }
 
-    fn run(&self, who: usize, lent: &mut Buffers) -> Result<(usize, usize), u8> {
+    /// Each call is timed by itself, and what undoes it is not; the listing beside it is timed so too.
+    fn seconds_of_edits(&mut self, who: usize, calls: usize, lent: &mut Buffers) -> f64 {
+        let mut seconds = 0.0;
+        for _ in 0..calls {
+            seconds += seconds_of_one(1, || _ = black_box(self.run(black_box(who), lent)));
+            if who != BESIDE {
+                self.undo(who);
+            }
+        }
+        seconds / calls as f64
+    }
+
+    fn run(&mut self, who: usize, lent: &mut Buffers) -> Result<(usize, usize), u8> {
         let Buffers { out, found, pending } = lent;
-        let table = self.table(who);
         let library = if who == SECOND { SECOND } else { PROVED };
         match self.call {
-            Call::Check => CHECK_TABLE[library](table).then_some((0, 0)).ok_or(1),
-            Call::Command(_) => {
-                ANSWER[library](table, &self.namespaces, &self.line, out).map(|length| (0, length))
+            Call::Check => CHECK_TABLE[library](self.table(who)).then_some((0, 0)).ok_or(1),
+            Call::Walk(option) => COLLECT[library](self.table(who), option, out, found, pending),
+            Call::Command(_) | Call::Edit(_) => {
+                let is_listing = who == BESIDE && self.beside == Some(Beside::Listing);
+                let line = if is_listing { &self.listing } else { &self.line };
+                let answered = ANSWER[library](&mut self.records, &self.namespaces, line, out);
+                answered.map(|(length, count)| (count, length))
             }
-            Call::Walk(option) => COLLECT[library](table, option, out, found, pending),
+        }
+    }
+
+    /// Makes the rows again what they were before an edit.
+    fn undo(&mut self, who: usize) {
+        if let Some(undo) = &self.undo {
+            let undone =
+                ANSWER[who](&mut self.records, &self.namespaces, undo, &mut [0; UNDO_ROOM]);
+            assert!(undone.is_ok(), "what undoes an edit is refused: {undone:?}");
         }
     }
 
@@ -178,7 +240,7 @@ impl Inputs {
         let length = done.result.map_or(0, |(_, length)| length);
         let (from, to) = match self.call {
             Call::Walk(_) => (&done.lent.found, &mut lent.found),
-            Call::Check | Call::Command(_) => (&done.lent.out, &mut lent.out),
+            _ => (&done.lent.out, &mut lent.out),
         };
         floor(black_box(&self.packed), black_box(&from[..length]), &mut to[..length]);
         black_box(to);

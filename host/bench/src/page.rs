@@ -1,6 +1,6 @@
 //! The table of docs/PERFORMANCE.md.
 
-use crate::inputs::{Form, CASES, SIZES};
+use crate::inputs::{Beside, CASES, SIZES};
 use crate::measure::Measured;
 
 /// The lines of the page between which the table stands.
@@ -19,18 +19,21 @@ pub fn with_table(page: &str, measures: &Measures) -> Option<String> {
 
 fn table(measures: &Measures) -> String {
     let sizes = SIZES.map(|rows| format!(" {rows} rows |")).concat();
-    let mut text = format!("| Call |{sizes} floor, by bytes | floor, by blocks | packed |\n");
-    text += &format!("|---|{}\n", "---:|".repeat(SIZES.len() + 3));
+    let mut text =
+        format!("| Call |{sizes} floor, by bytes | floor, by blocks | packed | `LIST` |\n");
+    text += &format!("|---|{}\n", "---:|".repeat(SIZES.len() + 4));
     for (case, measured) in CASES.iter().zip(measures) {
         let ratios: String =
             measured.iter().map(|one| format!(" {:.2} |", one.by_second)).collect();
         let full = &measured[SIZES.len() - 1];
         let floors = format!(" {:.1} | {:.0} |", full.by_byte_floor, full.by_block_floor);
-        let packed = match case.form {
-            Form::Packed => " |".to_string(),
-            Form::Records => format!(" {:.2} |", full.by_packed),
-        };
-        text += &format!("| {} |{ratios}{floors}{packed}\n", case.title);
+        let beside: String = [Beside::Packed, Beside::Listing]
+            .map(|column| match full.by_beside.filter(|_| case.beside() == Some(column)) {
+                Some(ratio) => format!(" {ratio:.2} |"),
+                None => " |".to_string(),
+            })
+            .concat();
+        text += &format!("| {} |{ratios}{floors}{beside}\n", case.title);
     }
     text
 }

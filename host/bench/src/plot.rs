@@ -13,7 +13,7 @@ const LEGEND_TOP: f64 = 390.0;
 const FRAME: &str = "fill=\"none\" stroke=\"#999\"";
 const COLOURS: [&str; CASES.len()] = [
     "#1b9e77", "#d95f02", "#7570b3", "#e7298a", "#66a61e", "#e6ab02", "#a6761d", "#666666",
-    "#1f78b4", "#8dd3c7", "#fdb462", "#bebada", "#80b1d3",
+    "#1f78b4", "#8dd3c7", "#fdb462", "#bebada", "#80b1d3", "#b3de69", "#fb8072", "#bc80bd",
 ];
 
 /// One of the two panels: what it shows, between which values, and a line to compare with.
@@ -52,9 +52,9 @@ const PANELS: [Panel; 2] = [
 /// The whole picture.
 pub fn plot(measures: &Measures) -> String {
     let mut text = String::from(concat!(
-        r#"<svg xmlns="http://www.w3.org/2000/svg" viewBox="0 0 1000 510" "#,
+        r#"<svg xmlns="http://www.w3.org/2000/svg" viewBox="0 0 1000 540" "#,
         r#"font-family="sans-serif" font-size="12">"#,
-        "\n<rect width=\"1000\" height=\"510\" fill=\"white\"/>\n"
+        "\n<rect width=\"1000\" height=\"540\" fill=\"white\"/>\n"
     ));
     for panel in &PANELS {
         text += &panel.frame();

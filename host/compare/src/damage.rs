@@ -137,7 +137,7 @@ fn odd_flags(random: &mut Random, flags: Flags) -> Flags {
     })
 }
 
-fn odd_name(random: &mut Random, name: &[u8]) -> Vec<u8> {
+pub fn odd_name(random: &mut Random, name: &[u8]) -> Vec<u8> {
     match random.below(12) {
         0 => Vec::new(),
         1 => [name, b"/"].concat(),

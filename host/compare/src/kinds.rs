@@ -9,6 +9,7 @@ use second::table::Flags;
 
 use crate::commands::{command, damaged, hostile_pattern, push_value};
 use crate::damage::{damaged_table, namespace_list};
+use crate::edit_sessions;
 use crate::levels::levels_above;
 use crate::limits;
 use crate::literals;
@@ -42,7 +43,7 @@ pub fn kinds() -> impl Iterator<Item = Kind> {
     GENERATORS.into_iter().map(|(name, generator)| Kind { name, generator })
 }
 
-const GENERATORS: [(&str, Generator); 27] = [
+const GENERATORS: [(&str, Generator); 32] = [
     ("a table and commands", commands_over_a_table),
     ("a growing table", growing_table),
     ("a damaged table", damaged_tables),
@@ -70,6 +71,11 @@ const GENERATORS: [(&str, Generator); 27] = [
     ("limits of answers with CHILDINFO", limits::answers_with_childinfo),
     ("subscribed names by LSUB", lsub::subscribed_names),
     ("limits of answers with LSUB", limits::answers_with_lsub),
+    ("series of edits", edit_sessions::series),
+    ("edits of full tables", edit_sessions::full_tables),
+    ("edits of names in pieces", edit_sessions::names_in_pieces),
+    ("rows and entries around edits", edit_sessions::rows_and_entries),
+    ("refusals of edits", edit_sessions::refusals),
 ];
 
 fn commands_over_a_table(random: &mut Random) -> Vec<SentFrame> {

@@ -6,6 +6,9 @@
 
 pub mod commands;
 pub mod damage;
+pub mod edit_series;
+mod edit_sessions;
+pub mod edits;
 mod kinds;
 mod levels;
 #[cfg(feature = "library")]

@@ -10,7 +10,7 @@ use second::frames::{
 use second::name::{self, MAX_LEVELS, MAX_NAME};
 use second::shape::MAX_LINE;
 use second::table::{Flags, MAX_ROWS, ROW_HEAD};
-use second::{answer, Table};
+use second::{answer_reading, Table};
 
 use crate::random::Random;
 use crate::sending::Sending;
@@ -280,7 +280,8 @@ fn pending_length(rows: &[NewRow]) -> usize {
 
 /// The length of an answer that is not refused.
 fn answer_length(table: &[u8], line: &str) -> usize {
-    answer(Table::Packed(table), &[], line.as_bytes(), &mut vec![0; AMPLE_ROOM]).unwrap_or(0)
+    answer_reading(Table::Packed(table), &[], line.as_bytes(), &mut vec![0; AMPLE_ROOM])
+        .unwrap_or(0)
 }
 
 /// Rows of one length, ascending: a number of three digits and filling.

@@ -4,19 +4,15 @@
 use std::ops::Range;
 
 use second::name;
-use second::records::{packed_records, Record, Records, MAX_AREA};
+use second::records::{packed_records, Record, MAX_AREA};
+use second::Store;
 
 use crate::damage::damaged_rows;
 use crate::random::Random;
 use crate::tables::{level, rows_named, NewRow};
 
 /// What is lent of a table of records.
-#[derive(Clone)]
-pub struct Layout {
-    pub records: Vec<Record>,
-    pub count: usize,
-    pub area: Vec<u8>,
-}
+pub type Layout = Store;
 
 /// Bytes that lie side by side in an area, and the rows whose names lie in them, by number and place.
 struct Piece {
@@ -30,17 +26,11 @@ const UNUSED: usize = 40;
 const LAST_START: usize = u16::MAX as usize;
 const LONGEST: u8 = u8::MAX;
 
-impl Layout {
-    /// The records of a packed table, over its bytes; none if its rows do not fill it, or it has too
-    /// many bytes.
-    pub fn of_packed(table: &[u8]) -> Option<Layout> {
-        let records = packed_records(table)?;
-        Some(Layout { count: records.len(), records, area: table.to_vec() })
-    }
-
-    pub fn records(&self) -> Records<'_> {
-        Records { records: &self.records, count: self.count, area: &self.area }
-    }
+/// The records of a packed table, over its bytes; none if its rows do not fill it, or it has too many
+/// bytes.
+pub fn in_place(table: &[u8]) -> Option<Layout> {
+    let records = packed_records(table)?;
+    Some(Layout { count: records.len(), records, area: table.to_vec() })
 }
 
 /// A layout of the rows of a good table, or of nearly these: right, with a damaged row, with an

@@ -5,7 +5,13 @@ use std::io;
 use child::SentFrame;
 use second::fault::Fault;
 use second::frames::{Frame, Program};
+use second::Record;
 use session::{show_answer, show_frame, show_namespaces, show_table, Shown};
+
+use crate::records::Layout;
+
+/// Equal bytes at an end that are counted, not shown.
+const FEWEST_COUNTED: usize = 8;
 
 /// A frame that is answered differently: what was sent, and both answers.
 pub fn difference_text(
@@ -38,12 +44,13 @@ pub fn explanation_text(
 /// The frame, and what was sent before it.
 fn sent_text(session: &[SentFrame], at: usize, second: &Program) -> String {
     let before: String =
-        session[..at].iter().filter(|frame| !is_stored(frame)).map(shown).collect();
+        session[..at].iter().filter(|frame| !is_stored(frame)).map(frame_text).collect();
     parts_text(&[
         ("The stored table", shown_if_any(&second.table, show_table)),
+        ("The records, since an edit", second.store.as_ref().map(show_held).unwrap_or_default()),
         ("The stored namespace list", shown_if_any(&second.namespaces, show_namespaces)),
         ("The frames before it, without rows and entries", before),
-        ("The frame", shown(&session[at])),
+        ("The frame", frame_text(&session[at])),
     ])
 }
 
@@ -63,7 +70,7 @@ fn is_stored(frame: &SentFrame) -> bool {
     matches!(Frame::decode(&frame.text), Ok(Frame::Row(_) | Frame::Entry(_)))
 }
 
-fn shown(frame: &SentFrame) -> String {
+fn frame_text(frame: &SentFrame) -> String {
     show_frame(frame).to_string()
 }
 
@@ -90,4 +97,33 @@ fn answer_text(line: &[u8]) -> String {
         Some(answer) => show_answer(answer).to_string(),
         None => format!("{}without LF\n", show_answer(line)),
     }
+}
+
+/// The records, spare ones too, and the area, a line each.
+pub fn show_layout(Layout { records, count, area }: &Layout) -> String {
+    let mut text = format!("{count} of {} records over {} bytes\n", records.len(), area.len());
+    for Record { flags, start, len } in records {
+        text += &format!("    flags {flags:04X}, start {start}, length {len}\n");
+    }
+    text + &format!("    area {}\n", shown(area))
+}
+
+/// The same without spare records.
+fn show_held(layout: &Layout) -> String {
+    let mut held = layout.clone();
+    held.records.truncate(held.count);
+    show_layout(&held)
+}
+
+/// Bytes as text in quotes; the equal bytes that they end with are counted instead.
+pub fn shown(bytes: &[u8]) -> String {
+    let Some(&last) = bytes.last() else {
+        return "\"\"".to_string();
+    };
+    let rest = bytes.iter().rposition(|&byte| byte != last).map_or(0, |at| at + 1);
+    let times = bytes.len() - rest;
+    if times < FEWEST_COUNTED {
+        return format!("\"{}\"", bytes.escape_ascii());
+    }
+    format!("\"{}\" and {times} times \"{}\"", bytes[..rest].escape_ascii(), last.escape_ascii())
 }

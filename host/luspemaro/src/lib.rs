@@ -2,21 +2,29 @@
 //!
 //! Every function takes any slices. The archive's functions are proved to stay inside of what they
 //! are lent, with no condition on the caller but that what is written overlaps nothing else, which
-//! exclusive references see to. A refusal changes no byte of an answer buffer.
+//! exclusive references see to. A refusal changes no byte of an answer buffer and no row.
 //!
-//! A mailbox table is lent in one of two forms: as `Records` over an area of name bytes, or packed,
-//! rows without a gap, to the functions whose name says so. Both forms of the same rows give the same
-//! answers.
+//! A mailbox table is lent as records over an area of name bytes, of which so many as a count says are
+//! rows. `answer` may change them: SUBSCRIBE and UNSUBSCRIBE edit the table and give the new count
+//! back. The packed form, rows without a gap, is for reading: it is checked and walked by the functions
+//! whose name says so.
 //!
 //! ```
-//! use luspemaro::{answer, Record, Records};
+//! use luspemaro::{answer, Answered, Record};
 //!
-//! // Exists and is subscribed.
-//! let records = [Record { flags: 3, start: 0, len: 13 }];
-//! let table = Records { records: &records, count: 1, area: b"Customers/ABC" };
+//! // One mailbox that exists, and a spare record; its name, and three bytes that no name uses.
+//! let mut records = [Record { flags: 1, start: 0, len: 13 }, Record::default()];
+//! let mut area = *b"Customers/ABC   ";
 //! let mut out = [0; 1_000];
-//! let length = answer(table, b"", b"a LIST \"\" *\r\n", &mut out).expect("an answer");
-//! assert_eq!(out[..length], *b"* LIST () \"/\" \"Customers/ABC\"\r\na OK done\r\n");
+//!
+//! // A new subscription is inserted as a row.
+//! let answered = answer(&mut records, 1, &mut area, b"", b"a SUBSCRIBE Moo\r\n", &mut out);
+//! assert_eq!(answered, Ok(Answered { length: 11, count: 2 }));
+//! assert_eq!(records[1], Record { flags: 2, start: 13, len: 3 });
+//!
+//! let answered = answer(&mut records, 2, &mut area, b"", b"a LSUB \"\" *\r\n", &mut out);
+//! let length = answered.expect("an answer").length;
+//! assert_eq!(out[..length], *b"* LSUB () \"/\" \"Moo\"\r\na OK done\r\n");
 //! ```
 //!
 //! `rt staticlib exports` makes the archive; the build script finds it.
@@ -28,7 +36,7 @@ mod refusal;
 
 pub use feeder::{feed, put_go_on, Event, Fed, Feeder, Happening, COMMAND_ROOM};
 pub use line::{read_line, write_line, write_parts, Criteria, Line};
-pub use raw::{FeederState, Record, Records, Walked, NAME_ROOM};
+pub use raw::{Answered, FeederState, Record, Records, Walked, NAME_ROOM};
 pub use refusal::Refusal;
 
 /// Check 1: whether a packed mailbox table passes.
@@ -51,25 +59,20 @@ pub fn matches(pattern: &[u8], name: &[u8]) -> bool {
     raw::matches(pattern, name)
 }
 
-/// Answers one command line, LIST, LSUB or NAMESPACE, at the front of `out`, and gives the answer's
-/// length.
+/// Answers one command line, LIST, LSUB, NAMESPACE, SUBSCRIBE or UNSUBSCRIBE, at the front of `out`.
+///
+/// The first `count` records are the rows; those after them are spare. An edit that is accepted changes
+/// the records, the area and the count; where it is refused, and for every other command, all of them
+/// stay. A new row takes the first spare record and the lowest free bytes of the area.
 pub fn answer(
-    table: Records,
+    records: &mut [Record],
+    count: usize,
+    area: &mut [u8],
     namespaces: &[u8],
     line: &[u8],
     out: &mut [u8],
-) -> Result<usize, Refusal> {
-    raw::answer(table, namespaces, line, out).written()
-}
-
-/// `answer` over a packed table.
-pub fn answer_packed(
-    table: &[u8],
-    namespaces: &[u8],
-    line: &[u8],
-    out: &mut [u8],
-) -> Result<usize, Refusal> {
-    raw::answer_packed(table, namespaces, line, out).written()
+) -> Result<Answered, Refusal> {
+    raw::answer(records, count, area, namespaces, line, out).answered(count)
 }
 
 /// The walk of a table. Found and pending hold their names afterwards, each with a length byte.

@@ -14,6 +14,15 @@ pub struct Outcome {
     pub count: usize,
 }
 
+/// What comes of a command that is not refused.
+#[derive(Clone, Copy, Debug, PartialEq, Eq)]
+pub struct Answered {
+    /// The length of the answer at the front of the buffer.
+    pub length: usize,
+    /// How many of the records are rows now.
+    pub count: usize,
+}
+
 /// What a walk of the collector gives.
 #[derive(Clone, Copy, Debug, PartialEq, Eq)]
 pub struct Walked {
@@ -96,21 +105,11 @@ extern "C" {
         name_len: usize,
     ) -> bool;
     fn luspemaro_answer(
-        records: *const Record,
+        records: *mut Record,
         records_len: usize,
         count: usize,
-        area: *const u8,
+        area: *mut u8,
         area_len: usize,
-        namespaces: *const u8,
-        namespaces_len: usize,
-        line: *const u8,
-        line_len: usize,
-        out: *mut u8,
-        out_len: usize,
-    ) -> Outcome;
-    fn luspemaro_answer_packed(
-        table: *const u8,
-        table_len: usize,
         namespaces: *const u8,
         namespaces_len: usize,
         line: *const u8,
@@ -185,30 +184,21 @@ pub fn matches(pattern: &[u8], name: &[u8]) -> bool {
     unsafe { luspemaro_matches(pattern.as_ptr(), pattern.len(), name.as_ptr(), name.len()) }
 }
 
-pub fn answer(table: Records, namespaces: &[u8], line: &[u8], out: &mut [u8]) -> Outcome {
-    let Records { records, count, area } = table;
+pub fn answer(
+    records: &mut [Record],
+    count: usize,
+    area: &mut [u8],
+    namespaces: &[u8],
+    line: &[u8],
+    out: &mut [u8],
+) -> Outcome {
     unsafe {
         luspemaro_answer(
-            records.as_ptr(),
+            records.as_mut_ptr(),
             records.len(),
             count,
-            area.as_ptr(),
+            area.as_mut_ptr(),
             area.len(),
-            namespaces.as_ptr(),
-            namespaces.len(),
-            line.as_ptr(),
-            line.len(),
-            out.as_mut_ptr(),
-            out.len(),
-        )
-    }
-}
-
-pub fn answer_packed(table: &[u8], namespaces: &[u8], line: &[u8], out: &mut [u8]) -> Outcome {
-    unsafe {
-        luspemaro_answer_packed(
-            table.as_ptr(),
-            table.len(),
             namespaces.as_ptr(),
             namespaces.len(),
             line.as_ptr(),
@@ -289,20 +279,29 @@ pub fn put_go_on(out: &mut [u8], at: usize) -> usize {
 }
 
 impl Outcome {
-    /// A refusal has length 0 and count 0.
-    pub fn result(&self) -> Result<(), Refusal> {
-        let result = Refusal::check(self.number);
-        assert!(result.is_ok() || (self.length, self.count) == (0, 0), "a refusal with a length");
+    /// A refusal has length 0 and this count.
+    fn result(&self, refused_count: usize) -> Result<(), Refusal> {
+        let Outcome { number, length, count } = *self;
+        let result = Refusal::check(number);
+        assert!(
+            result.is_ok() || (length, count) == (0, refused_count),
+            "refused with {number}, length {length}, count {count} for {refused_count}"
+        );
         result
+    }
+
+    /// What a command over so many rows gives; a refusal gives their count back.
+    pub fn answered(&self, count: usize) -> Result<Answered, Refusal> {
+        self.result(count).map(|()| Answered { length: self.length, count: self.count })
     }
 
     /// What a walk gives.
     pub fn walked(&self) -> Result<Walked, Refusal> {
-        self.result().map(|()| Walked { commands: self.count, found: self.length })
+        self.result(0).map(|()| Walked { commands: self.count, found: self.length })
     }
 
     /// The length of what was written.
     pub fn written(&self) -> Result<usize, Refusal> {
-        self.result().map(|()| self.length)
+        self.result(0).map(|()| self.length)
     }
 }

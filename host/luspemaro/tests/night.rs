@@ -1,18 +1,19 @@
 //! The night of Customers/ABC, called from Rust.
 
 use luspemaro::{
-    answer, answer_packed, check_namespaces, check_records, check_table, collect, collect_packed,
-    matches, put_go_on, read_line, write_line, Criteria, Event, Feeder, Record, Records, Walked,
+    answer, check_namespaces, check_records, check_table, collect, collect_packed, matches,
+    put_go_on, read_line, write_line, Answered, Criteria, Event, Feeder, Record, Records, Refusal,
+    Walked,
 };
 
 /// Flags 0003, length 13, the name.
 const PACKED: &[u8] = b"\0\x03\x0DCustomers/ABC";
 /// The same mailbox; the second record is spare.
-const TABLE: Records = Records {
-    records: &[Record { flags: 3, start: 2, len: 13 }, Record { flags: 9, start: 9, len: 9 }],
-    count: 1,
-    area: b"%%Customers/ABC%",
-};
+const RECORDS: [Record; 2] =
+    [Record { flags: 3, start: 2, len: 13 }, Record { flags: 9, start: 9, len: 9 }];
+const AREA: [u8; 16] = *b"%%Customers/ABC%";
+const TABLE: Records = Records { records: &RECORDS, count: 1, area: &AREA };
+const OK: &[u8] = b"a OK done\r\n";
 const LINE: &[u8] =
     b"* LIST (\\NonExistent) \"/\" \"Customers\" (\"CHILDINFO\" (\"SUBSCRIBED\"))\r\n";
 const NON_EXISTENT: u16 = 1 << 6;
@@ -25,24 +26,88 @@ fn checks_and_matches() {
     assert!(matches(b"C%/*", b"Customers/ABC") && !matches(b"C%", b"Customers/ABC"));
 }
 
+/// A table that is lent to be changed.
+struct Lent {
+    records: [Record; 2],
+    count: usize,
+    area: [u8; 16],
+}
+
+impl Lent {
+    fn new() -> Lent {
+        Lent { records: RECORDS, count: 1, area: AREA }
+    }
+
+    /// The answer, and the count given back.
+    fn answer(&mut self, line: &[u8], room: usize) -> Result<Vec<u8>, Refusal> {
+        let mut out = vec![b'.'; room];
+        let Lent { records, count, area } = self;
+        let answered = answer(records, *count, area, b"", line, &mut out);
+        match answered {
+            Ok(Answered { length, count: given }) => {
+                *count = given;
+                assert!(out[length..].iter().all(|&byte| byte == b'.'));
+                out.truncate(length);
+                Ok(out)
+            }
+            Err(refusal) => {
+                assert!(out.iter().all(|&byte| byte == b'.'));
+                Err(refusal)
+            }
+        }
+    }
+
+    fn is_as_lent(&self) -> bool {
+        (self.records, self.count, self.area) == (RECORDS, 1, AREA)
+    }
+}
+
 #[test]
 fn an_answer_and_refusals() {
     let command = b"a LIST (SUBSCRIBED RECURSIVEMATCH) \"\" \"%\"\r\n";
-    let mut out = [0; 200];
-    let length = answer(TABLE, b"", command, &mut out).expect("an answer");
-    assert_eq!(out[..length], [LINE, b"a OK done\r\n"].concat());
-    let mut packed_out = [0; 200];
-    assert_eq!(answer_packed(PACKED, b"", command, &mut packed_out), Ok(length));
-    assert_eq!(packed_out, out);
+    let expected = [LINE, OK].concat();
+    let mut lent = Lent::new();
+    assert_eq!(lent.answer(command, 200).expect("an answer"), expected);
     for (line, number) in [("a LIST (RECURSIVEMATCH) \"\" %\r\n", 7), ("a NOOP\r\n", 5), ("", 3)] {
-        let mut out = [b'.'; 200];
-        let refusal = answer(TABLE, b"", line.as_bytes(), &mut out).expect_err(line);
-        assert_eq!((refusal.number(), out), (number, [b'.'; 200]), "{line}");
+        let refusal = lent.answer(line.as_bytes(), 200).expect_err(line);
+        assert_eq!(refusal.number(), number, "{line}");
     }
-    let refusal = answer(TABLE, b"", command, &mut out[..length - 1]).expect_err("a short buffer");
+    let refusal = lent.answer(command, expected.len() - 1).expect_err("a short buffer");
     assert_eq!(refusal.to_string(), "refused with 9");
-    let past_the_area = Records { area: b"Customers", ..TABLE };
-    assert_eq!(answer(past_the_area, b"", command, &mut out).expect_err("no area").number(), 1);
+    assert!(lent.is_as_lent());
+    let mut records = RECORDS;
+    let past_the_area = answer(&mut records, 1, &mut [b'C'; 9], b"", command, &mut [0; 200]);
+    assert_eq!(past_the_area.expect_err("no area").number(), 1);
+    assert_eq!(records, RECORDS);
+}
+
+/// Names subscribed and unsubscribed: flags, an insertion, a removal, and every byte of them.
+#[test]
+fn edits() {
+    let mut lent = Lent::new();
+    for (line, number) in [
+        ("a SUBSCRIBE \"\"\r\n", 14),
+        ("a SUBSCRIBE abc\r\n", 15),
+        ("a SUBSCRIBE ab%\r\n", 4),
+        ("a SUBSCRIBED ab\r\n", 5),
+    ] {
+        assert_eq!(lent.answer(line.as_bytes(), 200).expect_err(line).number(), number, "{line}");
+    }
+    let short = lent.answer(b"a SUBSCRIBE ab\r\n", OK.len() - 1).expect_err("a short buffer");
+    assert_eq!(short.number(), 9);
+    assert!(lent.is_as_lent());
+
+    assert_eq!(lent.answer(b"a SUBSCRIBE ab\r\n", 200), Ok(OK.to_vec()));
+    assert_eq!((lent.count, &lent.area), (2, b"abCustomers/ABC%"));
+    assert_eq!(lent.records, [RECORDS[0], Record { flags: 2, start: 0, len: 2 }]);
+    assert_eq!(lent.answer(b"a UNSUBSCRIBE Customers/ABC\r\n", 200), Ok(OK.to_vec()));
+    let row = Record { flags: 1, ..RECORDS[0] };
+    assert_eq!(lent.records, [row, Record { flags: 2, start: 0, len: 2 }]);
+    let listed = lent.answer(b"a LSUB \"\" *\r\n", 200).expect("an answer");
+    assert_eq!(listed, [b"* LSUB () \"/\" \"ab\"\r\n", OK].concat());
+    assert_eq!(lent.answer(b"a UNSUBSCRIBE ab\r\n", 200), Ok(OK.to_vec()));
+    assert_eq!((lent.count, &lent.area), (1, b"\0\0Customers/ABC%"));
+    assert_eq!(lent.records, [row, Record::default()]);
 }
 
 #[test]

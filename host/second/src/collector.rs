@@ -5,7 +5,7 @@ use crate::line::{read_line, Attributes, Criteria, Line};
 use crate::name::descendant_prefix;
 use crate::quoted::push_quoted;
 use crate::refusal::Refusal;
-use crate::server::answer;
+use crate::server::answer_reading;
 use crate::table::{checked_rows, Table};
 
 /// The option byte: 1 asks for REMOTE, 2 for SPECIAL-USE, 4 drops SUBSCRIBED.
@@ -78,7 +78,7 @@ fn walk(
     let mut asked = 0;
     let mut count = 0;
     loop {
-        let length = answer(table, NO_NAMESPACES, &options.command(&reference), scratch)?;
+        let length = answer_reading(table, NO_NAMESPACES, &options.command(&reference), scratch)?;
         count += 1;
         take_lines(&scratch[..length], options, found, pending)?;
         let Some((name, behind)) = pending.name_at(asked) else {

@@ -1,4 +1,4 @@
-//! The command line: its shape, tag, word, options and patterns, and refusals 3 to 8.
+//! The command line: its shape, tag, word, options, patterns and names, and refusals 3 to 8.
 //!
 //! With its literals (document 02, W2) a command is one line or more, and is still called its line.
 
@@ -29,6 +29,7 @@ pub enum Request {
     Root,
     List(ListRequest),
     Lsub(LsubRequest),
+    Edit(EditRequest),
 }
 
 /// A LIST for names. An empty pattern has no canonical form and is not kept.
@@ -42,6 +43,21 @@ pub struct ListRequest {
 /// form here either, and lists nothing.
 pub struct LsubRequest {
     pub canonical_pattern: Option<Vec<u8>>,
+}
+
+/// "SUBSCRIBE and UNSUBSCRIBE with one mailbox name (an astring)" (document 02, W6)
+pub struct EditRequest {
+    pub edit: Edit,
+    /// As it is written, not spelled in any other way.
+    pub name: Vec<u8>,
+    /// The place of the name in the line.
+    pub name_at: usize,
+}
+
+#[derive(Clone, Copy, Debug, PartialEq, Eq)]
+pub enum Edit {
+    Subscribe,
+    Unsubscribe,
 }
 
 /// The selection options given. "A repeat counts once."
@@ -80,17 +96,16 @@ pub fn read_command(line: &[u8]) -> Result<Command<'_>, LineFault> {
     let tag = cursor.tag()?;
     cursor.space()?;
     let at = cursor.place();
-    let word = cursor.word();
-    let request = if word.eq_ignore_ascii_case(b"LIST") {
-        judge(read_list(cursor)?)?
-    } else if word.eq_ignore_ascii_case(b"LSUB") {
-        Request::Lsub(read_lsub(cursor)?)
-    } else if word.eq_ignore_ascii_case(b"NAMESPACE") {
-        cursor.end()?;
-        Request::Namespace
-    } else {
-        let rule = "the word is LIST, LSUB or NAMESPACE";
-        return Err(LineFault { refusal: Refusal::Word, at, rule });
+    let request = match cursor.word().to_ascii_uppercase().as_slice() {
+        b"LIST" => judge(read_list(cursor)?)?,
+        b"LSUB" => Request::Lsub(read_lsub(cursor)?),
+        b"NAMESPACE" => cursor.end().map(|()| Request::Namespace)?,
+        b"SUBSCRIBE" => Request::Edit(read_edit(Edit::Subscribe, cursor)?),
+        b"UNSUBSCRIBE" => Request::Edit(read_edit(Edit::Unsubscribe, cursor)?),
+        _ => {
+            let rule = "the word is LIST, LSUB, NAMESPACE, SUBSCRIBE or UNSUBSCRIBE";
+            return Err(LineFault { refusal: Refusal::Word, at, rule });
+        }
     };
     Ok(Command { tag, request })
 }
@@ -140,6 +155,16 @@ fn read_lsub(mut cursor: Cursor) -> Result<LsubRequest, LineFault> {
     cursor.end()?;
     let canonical = canonical_patterns(&reference, &[pattern], pattern_at)?;
     Ok(LsubRequest { canonical_pattern: canonical.into_iter().next() })
+}
+
+/// The rest of a SUBSCRIBE or UNSUBSCRIBE: SP mailbox. What the name is refused for hangs on the
+/// table.
+fn read_edit(edit: Edit, mut cursor: Cursor) -> Result<EditRequest, LineFault> {
+    cursor.space()?;
+    let name_at = cursor.place();
+    let name = cursor.mailbox()?;
+    cursor.end()?;
+    Ok(EditRequest { edit, name, name_at })
 }
 
 /// Refusals 6, 7 and 8, in this order, over the whole command.

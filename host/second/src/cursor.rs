@@ -88,6 +88,11 @@ impl<'l, 's> Cursor<'l, 's> {
         self.astring()
     }
 
+    /// mailbox = astring
+    pub fn mailbox(&mut self) -> Token<Vec<u8>> {
+        self.astring()
+    }
+
     /// patterns = pattern / "(" pattern *(SP pattern) ")"
     pub fn patterns(&mut self) -> Token<Vec<Vec<u8>>> {
         if self.sees(b'(') {

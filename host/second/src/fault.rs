@@ -16,11 +16,20 @@ pub struct ListFault {
 /// A place of a command line that breaks a rule.
 #[derive(Clone, Copy, Debug, PartialEq, Eq)]
 pub struct LineFault {
-    /// From 3 to 8.
+    /// From 3 to 8; of the name of an edit, 14 or 15.
     pub refusal: Refusal,
     /// The byte of the line, from 0 on; the line's length is its end.
     pub at: usize,
     pub rule: &'static str,
+}
+
+/// An edit that is refused for its name.
+#[derive(Clone, Copy, Debug, PartialEq, Eq)]
+pub struct EditFault {
+    /// The place of the name in the line; the refusal is 14 or 15.
+    pub name: LineFault,
+    /// The number of the row below which the name would lie.
+    pub above: Option<usize>,
 }
 
 /// Stored bytes that have no room for more.
@@ -40,6 +49,7 @@ pub enum Fault {
     Namespaces(ListFault),
     NamespacesRoom(RoomFault),
     Line(LineFault),
+    Edit(EditFault),
     /// The option byte of a walk.
     OptionByte(&'static str),
     Frame(&'static str),
@@ -52,6 +62,7 @@ impl Fault {
             Fault::Table(_) | Fault::TableRoom(_) => Refusal::Table,
             Fault::Namespaces(_) | Fault::NamespacesRoom(_) => Refusal::Namespaces,
             Fault::Line(fault) => fault.refusal,
+            Fault::Edit(fault) => fault.name.refusal,
             Fault::OptionByte(_) => Refusal::UnknownOption,
             Fault::Frame(_) => Refusal::Frame,
         }

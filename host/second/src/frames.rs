@@ -1,6 +1,7 @@
 //! The program: frames of hexadecimal in, answers of hexadecimal out (document 01, 'Frames of
-//! the program').
+//! the program'; document 02, W6).
 
+use std::borrow::Cow;
 use std::io::{self, BufRead, BufReader, BufWriter, Read, Write};
 use std::process::ExitCode;
 use std::slice;
@@ -9,7 +10,8 @@ use crate::collector::{collect, walk_fault};
 use crate::fault::{Fault, RoomFault};
 use crate::refusal::Refusal;
 use crate::server::{answer, command_fault};
-use crate::table::Table;
+use crate::store::Store;
+use crate::table::{checked_rows, Table};
 
 /// First byte of a frame that adds to the table.
 pub const ROW: u8 = 0x4D;
@@ -52,11 +54,16 @@ pub enum Answer {
     Refused(Refusal),
 }
 
+/// Document 02, W6: "4D then is 13."
+const ROW_AFTER_EDIT: &str = "no row is added after the first SUBSCRIBE or UNSUBSCRIBE that was OK";
+
 /// The program between two frames: the stored bytes of its rows and of its entries.
 #[derive(Default)]
 pub struct Program {
     pub table: Vec<u8>,
     pub namespaces: Vec<u8>,
+    /// What it keeps in place of the table "from the first accepted edit".
+    pub store: Option<Store>,
 }
 
 /// The program: frames on standard input, answers on standard output. Input or output that fails is
@@ -101,24 +108,30 @@ impl Program {
 
     /// Adds the bytes of a frame of 4D, unlooked-at, or refuses and adds nothing.
     pub fn store_row(&mut self, row: &[u8]) -> Result<(), Fault> {
-        store(&mut self.table, row, TABLE_ROOM).map_err(Fault::TableRoom)
+        self.check_row(row)?;
+        self.table.extend_from_slice(row);
+        Ok(())
     }
 
     /// Adds the bytes of a frame of 4E, unlooked-at, or refuses and adds nothing.
     pub fn store_entry(&mut self, entry: &[u8]) -> Result<(), Fault> {
-        store(&mut self.namespaces, entry, NAMESPACES_ROOM).map_err(Fault::NamespacesRoom)
+        self.check_entry(entry)?;
+        self.namespaces.extend_from_slice(entry);
+        Ok(())
     }
 
     /// Why a frame is refused as things stand, or none if it is not, or if a buffer is too small.
     pub fn fault(&self, text: &[u8]) -> Option<Fault> {
         match Frame::decode(text) {
             Err(rule) => Some(Fault::Frame(rule)),
-            Ok(Frame::Row(row)) => room(&self.table, &row, TABLE_ROOM).err().map(Fault::TableRoom),
-            Ok(Frame::Entry(entry)) => {
-                room(&self.namespaces, &entry, NAMESPACES_ROOM).err().map(Fault::NamespacesRoom)
-            }
-            Ok(Frame::Command(line)) => command_fault(self.stored(), &self.namespaces, &line),
-            Ok(Frame::Walk(option)) => walk_fault(self.stored(), option),
+            Ok(Frame::Row(row)) => self.check_row(&row).err(),
+            Ok(Frame::Entry(entry)) => self.check_entry(&entry).err(),
+            Ok(Frame::Command(line)) => self.records().map_or_else(Some, |store| {
+                command_fault(Table::Records(store.as_records()), &self.namespaces, &line)
+            }),
+            Ok(Frame::Walk(option)) => self
+                .records()
+                .map_or_else(Some, |store| walk_fault(Table::Records(store.as_records()), option)),
         }
     }
 
@@ -131,15 +144,39 @@ impl Program {
         }
     }
 
-    /// The stored rows, in the packed form.
-    fn stored(&self) -> Table<'_> {
-        Table::Packed(&self.table)
+    /// "no room: 1 or 2, nothing added"
+    fn check_row(&self, row: &[u8]) -> Result<(), Fault> {
+        match self.store {
+            Some(_) => Err(Fault::Frame(ROW_AFTER_EDIT)),
+            None => room(&self.table, row, TABLE_ROOM).map_err(Fault::TableRoom),
+        }
     }
 
-    fn answer_command(&self, line: &[u8]) -> Result<Answer, Refusal> {
+    fn check_entry(&self, entry: &[u8]) -> Result<(), Fault> {
+        room(&self.namespaces, entry, NAMESPACES_ROOM).map_err(Fault::NamespacesRoom)
+    }
+
+    /// The records that it keeps, or those that it would make from the stored rows: "every edit is
+    /// judged on them". Rows that do not pass have none.
+    pub fn records(&self) -> Result<Cow<'_, Store>, Fault> {
+        match &self.store {
+            Some(store) => Ok(Cow::Borrowed(store)),
+            None => {
+                let rows = checked_rows(Table::Packed(&self.table)).map_err(Fault::Table)?;
+                Ok(Cow::Owned(Store::of_rows(&rows)))
+            }
+        }
+    }
+
+    /// An edit that is accepted, also one that changes no row, makes the program keep the records.
+    fn answer_command(&mut self, line: &[u8]) -> Result<Answer, Refusal> {
         let mut out = vec![0; ANSWER_ROOM];
-        let length = answer(self.stored(), &self.namespaces, line, &mut out)?;
-        out.truncate(length);
+        let mut store = self.records().map_err(Fault::refusal)?.into_owned();
+        let answered = store.lend(|lent| answer(lent, &self.namespaces, line, &mut out))?;
+        if answered.is_edit {
+            self.store = Some(store);
+        }
+        out.truncate(answered.length);
         Ok(Answer::Lines(out))
     }
 
@@ -147,8 +184,9 @@ impl Program {
         let mut scratch = vec![0; SCRATCH_ROOM];
         let mut found = vec![0; FOUND_ROOM];
         let mut pending = vec![0; PENDING_ROOM];
-        let (count, length) =
-            collect(self.stored(), option, &mut scratch, &mut found, &mut pending)?;
+        let store = self.records().map_err(Fault::refusal)?;
+        let table = Table::Records(store.as_records());
+        let (count, length) = collect(table, option, &mut scratch, &mut found, &mut pending)?;
         found.truncate(length);
         // At most 4,097: each command but the first took two bytes or more of pending.
         Ok(Answer::Walked { count: count as u16, found })
@@ -200,13 +238,6 @@ impl Answer {
         line.push(b'\n');
         line
     }
-}
-
-/// "no room: 1 or 2, nothing added"
-fn store(stored: &mut Vec<u8>, added: &[u8], most: usize) -> Result<(), RoomFault> {
-    room(stored, added, most)?;
-    stored.extend_from_slice(added);
-    Ok(())
 }
 
 fn room(stored: &[u8], added: &[u8], room: usize) -> Result<(), RoomFault> {

@@ -1,10 +1,11 @@
 //! The second program of the listing rules: written from the papers alone, document 01 and of
-//! document 02 requests W1 to W5, to be compared with the proved program and to be the plain
+//! document 02 requests W1 to W6, to be compared with the proved program and to be the plain
 //! measure of its speed.
 //!
 //! The entries are those of document 01: the two checks, the command entry, the line writer,
 //! the line reader, the collector and the frames of the program; and W2's feeder. A table is given
-//! in either of its forms. Left out, as there: login, SELECT, FETCH, modified UTF-7, sockets.
+//! in either of its forms, and as records for the command entry, which edits them. Left out, as
+//! there: login, SELECT, FETCH, modified UTF-7, sockets.
 
 pub mod collector;
 pub mod command;
@@ -24,6 +25,8 @@ pub mod records;
 pub mod refusal;
 mod server;
 pub mod shape;
+pub mod store;
+mod subscriptions;
 pub mod table;
 
 pub use collector::collect;
@@ -31,7 +34,8 @@ pub use feeder::{Event, Feeder};
 pub use line::{read_line, write_line, write_parts, Criteria, Line};
 pub use namespaces::check_namespaces;
 pub use pattern::matches;
-pub use records::{Record, Records};
+pub use records::{Record, Records, RecordsMut};
 pub use refusal::Refusal;
-pub use server::answer;
+pub use server::{answer, answer_reading, Answered};
+pub use store::Store;
 pub use table::{check_table, Table};

@@ -38,6 +38,15 @@ pub fn broken_rule(name: &[u8]) -> Option<&'static str> {
     }
 }
 
+/// Document 02, W6: "A name whose first level is INBOX in any case of letters is first spelled
+/// INBOX."
+pub fn spelled(name: &[u8]) -> Vec<u8> {
+    match levels(name).next() {
+        Some(first) if first.eq_ignore_ascii_case(INBOX) => [INBOX, &name[first.len()..]].concat(),
+        _ => name.to_vec(),
+    }
+}
+
 /// "A name's proper ancestors are what stands before each of its "/"", shortest first.
 pub fn ancestors(name: &[u8]) -> impl Iterator<Item = &[u8]> {
     (0..name.len()).filter(|&at| name[at] == DELIMITER).map(|at| &name[..at])

@@ -1,4 +1,4 @@
-//! Mailboxes as records beside their names (document 02, W4).
+//! Mailboxes as records beside their names (document 02, W4), and the records of a packed table.
 
 use std::ops::Range;
 
@@ -23,6 +23,21 @@ pub struct Records<'t> {
     /// How many of the records are rows. Those after them are spare and not looked at.
     pub count: usize,
     pub area: &'t [u8],
+}
+
+/// Records and their area, lent to be changed by edits (W6).
+#[derive(Debug)]
+pub struct RecordsMut<'t> {
+    pub records: &'t mut [Record],
+    /// "a row count is passed and given back"
+    pub count: usize,
+    pub area: &'t mut [u8],
+}
+
+impl RecordsMut<'_> {
+    pub fn as_records(&self) -> Records<'_> {
+        Records { records: self.records, count: self.count, area: self.area }
+    }
 }
 
 impl Record {

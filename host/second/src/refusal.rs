@@ -1,4 +1,4 @@
-//! The refusals, as document 01 lists them under 'Numbers of refusal'.
+//! The refusals, as document 01 lists them under 'Numbers of refusal', and those of document 02.
 
 use std::fmt;
 
@@ -14,7 +14,7 @@ pub enum Refusal {
     LineShape = 3,
     /// The tag, or the rest after a known word, is off the grammar.
     Grammar = 4,
-    /// The word is none of LIST, LSUB and NAMESPACE.
+    /// The word is none of LIST, LSUB, NAMESPACE, SUBSCRIBE and UNSUBSCRIBE.
     Word = 5,
     /// An unknown option, an option with a value, or an unlawful option byte.
     UnknownOption = 6,
@@ -32,13 +32,17 @@ pub enum Refusal {
     Line = 12,
     /// Program only: a bad frame.
     Frame = 13,
+    /// SUBSCRIBE: the name is unlawful, or lies below a row with no inferiors.
+    UnlawfulName = 14,
+    /// SUBSCRIBE: there is no room for the row that would be inserted.
+    NoRoom = 15,
 }
 
 use Refusal::*;
 
 impl Refusal {
     /// All of them, by their numbers.
-    pub const ALL: [Refusal; 13] = [
+    pub const ALL: [Refusal; 15] = [
         Table,
         Namespaces,
         LineShape,
@@ -52,19 +56,21 @@ impl Refusal {
         PendingRoom,
         Line,
         Frame,
+        UnlawfulName,
+        NoRoom,
     ];
 
-    /// Document 01's number, from 1 on.
+    /// The papers' number, from 1 on.
     pub const fn number(self) -> u8 {
         self as u8
     }
 
-    /// The refusal of a number, or none for a number that document 01 does not have.
+    /// The refusal of a number, or none for a number that the papers do not have.
     pub fn from_number(number: u8) -> Option<Refusal> {
         Refusal::ALL.into_iter().find(|refusal| refusal.number() == number)
     }
 
-    /// What it means, in the words of document 01's table.
+    /// What it means, in the words of the papers.
     pub const fn meaning(self) -> &'static str {
         match self {
             Table => "the table does not pass, or no room for a row",
@@ -80,6 +86,8 @@ impl Refusal {
             PendingRoom => "pending name does not fit",
             Line => "not a LIST line, or not the parts of one",
             Frame => "bad frame",
+            UnlawfulName => "unlawful name, or below a row with no inferiors",
+            NoRoom => "no room to insert a row",
         }
     }
 }

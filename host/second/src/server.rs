@@ -1,4 +1,5 @@
-//! The server side's command entry: the order of refusals, and the answer in a lent buffer.
+//! The server side's command entry: the order of refusals, the answer in a lent buffer, and the
+//! edit of a lent table.
 
 use crate::command::{read_command, Command, Request};
 use crate::fault::Fault;
@@ -6,34 +7,73 @@ use crate::line::{put_answer, ROOT_LINE};
 use crate::listing::list_lines;
 use crate::lsub::lsub_lines;
 use crate::namespaces::{checked_entries, namespace_line, Entry};
+use crate::records::RecordsMut;
 use crate::refusal::Refusal;
+use crate::subscriptions::{edited, Edited};
 use crate::table::{checked_rows, Row, Table};
 
-/// Answers one command line and gives the answer's length.
+/// What comes of a command that is not refused.
+#[derive(Clone, Copy, Debug, PartialEq, Eq)]
+pub struct Answered {
+    /// The answer's length.
+    pub length: usize,
+    /// Whether it was an edit, be it one that changed no row.
+    pub is_edit: bool,
+}
+
+/// Answers one command line. An edit that is accepted changes the table and its count.
 ///
 /// "Server order: 1, 2, 3, tag 4, 5, rest 4, 6, 7, 8, 9. A refusal has length 0 and no buffer
-/// byte changes; on success the bytes behind the answer stay as they were."
+/// byte changes; on success the bytes behind the answer stay as they were." Of an edit, "The order
+/// is 14, 15, then 9, all before any change." (document 02, W6)
 pub fn answer(
+    table: &mut RecordsMut,
+    namespaces: &[u8],
+    line: &[u8],
+    out: &mut [u8],
+) -> Result<Answered, Refusal> {
+    let (answered, edited) = decide(Table::Records(table.as_records()), namespaces, line, out)?;
+    if let Some(edited) = edited {
+        edited.store(table);
+    }
+    Ok(answered)
+}
+
+/// The same over a table that is lent for reading, in either form: an edit is judged and answered,
+/// and changes nothing. A packed table has no record that is spare.
+pub fn answer_reading(
     table: Table,
     namespaces: &[u8],
     line: &[u8],
     out: &mut [u8],
 ) -> Result<usize, Refusal> {
+    decide(table, namespaces, line, out).map(|(answered, _)| answered.length)
+}
+
+/// Why a command is refused with 1 to 8, 14 or 15, or none if it is not.
+pub fn command_fault(table: Table, namespaces: &[u8], line: &[u8]) -> Option<Fault> {
+    checked(table, namespaces, line).err()
+}
+
+/// Every refusal, then the answer; what an edit leaves is not stored yet.
+fn decide(
+    table: Table,
+    namespaces: &[u8],
+    line: &[u8],
+    out: &mut [u8],
+) -> Result<(Answered, Option<Edited>), Refusal> {
     let checked = checked(table, namespaces, line).map_err(Fault::refusal)?;
     let mut text = match &checked.command.request {
         Request::Namespace => namespace_line(&checked.entries),
         Request::Root => ROOT_LINE.to_vec(),
         Request::List(request) => list_lines(&checked.rows, request),
         Request::Lsub(request) => lsub_lines(&checked.rows, request),
+        Request::Edit(_) => Vec::new(),
     };
     text.extend_from_slice(checked.command.tag);
     text.extend_from_slice(b" OK done\r\n");
-    put_answer(&text, out)
-}
-
-/// Why a command is refused with 1 to 8, or none if it is not.
-pub fn command_fault(table: Table, namespaces: &[u8], line: &[u8]) -> Option<Fault> {
-    checked(table, namespaces, line).err()
+    let length = put_answer(&text, out)?;
+    Ok((Answered { length, is_edit: checked.edited.is_some() }, checked.edited))
 }
 
 /// What a command is answered from.
@@ -41,6 +81,8 @@ struct Checked<'i> {
     rows: Vec<Row<'i>>,
     entries: Vec<Entry<'i>>,
     command: Command<'i>,
+    /// What an edit leaves.
+    edited: Option<Edited>,
 }
 
 fn checked<'i>(
@@ -51,5 +93,9 @@ fn checked<'i>(
     let rows = checked_rows(table).map_err(Fault::Table)?;
     let entries = checked_entries(namespaces).map_err(Fault::Namespaces)?;
     let command = read_command(line).map_err(Fault::Line)?;
-    Ok(Checked { rows, entries, command })
+    let edited = match &command.request {
+        Request::Edit(request) => Some(edited(table, request).map_err(Fault::Edit)?),
+        _ => None,
+    };
+    Ok(Checked { rows, entries, command, edited })
 }

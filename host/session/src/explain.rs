@@ -1,15 +1,17 @@
-//! Why a frame is refused, as the second program sees it: the proved program decides, and says no
-//! more than the number.
+//! Why a frame is refused, and what an edit does, as the second program sees it: the proved program
+//! decides, and says no more than the number, or OK.
 
-use second::fault::{Fault, LineFault, ListFault, RoomFault};
-use second::frames::{hex_of, Frame, Program};
+use second::command::{read_command, Request};
+use second::fault::{EditFault, Fault, LineFault, ListFault, RoomFault};
+use second::frames::{hex_of, Answer, Frame, Program};
+use second::name;
 use second::namespaces::entry_at;
-use second::table::row_at;
-use second::Refusal;
+use second::table::{checked_rows, row_at, Flags};
+use second::{Refusal, Table};
 
 use crate::item::Sent;
-use crate::show::refusal_text;
-use crate::text::{line_text, shortened};
+use crate::show::{beside, refusal_text};
+use crate::text::{line_text, name_text, shortened};
 
 /// Beside every explanation.
 pub const UNPROVED: &str = "explained by the second program, not proved";
@@ -17,7 +19,8 @@ pub const UNPROVED: &str = "explained by the second program, not proved";
 /// Of bytes that are no row or entry no more digits than this are shown.
 const MOST_OF_BYTES: usize = 40;
 
-/// What a program has stored after the frames so far, and from which line each byte of it is.
+/// What a program has stored after the frames so far, and from which line each byte of it is; from the
+/// first accepted edit on, its records.
 #[derive(Default)]
 pub struct Stored {
     program: Program,
@@ -43,6 +46,29 @@ impl Stored {
             }
             _ => false,
         }
+    }
+
+    /// Follows a command that was answered: an edit is made here too, and what it does is told.
+    pub fn follow(&mut self, sent: &Sent, frame: Option<&Frame>) -> Option<String> {
+        let Some(Frame::Command(line)) = frame else {
+            return None;
+        };
+        let Request::Edit(edit) = read_command(line).ok()?.request else {
+            return None;
+        };
+        let name = name::spelled(&edit.name);
+        let before = self.flags_of(&name);
+        Some(match self.program.answer(&sent.frame.text) {
+            Some(Answer::Lines(_)) => effect_text(&name, before, self.flags_of(&name)),
+            _ => "the programs differ: the second one refuses this".to_string(),
+        })
+    }
+
+    /// The flags of the row of a name, if it has one.
+    fn flags_of(&self, name: &[u8]) -> Option<Flags> {
+        let store = self.program.records().ok()?;
+        let rows = checked_rows(Table::Records(store.as_records())).ok()?;
+        rows.iter().find(|row| row.name == name).map(|row| row.flags)
     }
 
     /// Why a frame was refused with a number. A buffer that is too small needs no explanation.
@@ -73,8 +99,20 @@ impl Stored {
             Fault::Namespaces(fault) => fault_text(fault, |at| self.entry_text(at)),
             Fault::TableRoom(room) | Fault::NamespacesRoom(room) => room_text(room),
             Fault::Line(fault) => line_fault_text(&sent.frame.text, fault),
+            Fault::Edit(fault) => self.edit_fault_text(&sent.frame.text, fault),
             Fault::OptionByte(rule) | Fault::Frame(rule) => rule.to_string(),
         }
+    }
+
+    /// The place of the name in the command, and the row below which it would lie.
+    fn edit_fault_text(&self, frame: &[u8], EditFault { name, above }: EditFault) -> String {
+        let text = line_fault_text(frame, name);
+        let above = above.and_then(|number| {
+            let store = self.program.records().ok()?;
+            let name = store.area.get(store.records.get(number)?.place())?;
+            Some(format!(" (beside {})", in_quotes(name)))
+        });
+        text + &above.unwrap_or_default()
     }
 
     /// The line and the name of the row at a place of the table.
@@ -89,6 +127,25 @@ impl Stored {
         let list = &self.program.namespaces;
         let prefix = entry_at(list, at).map(|entry| in_quotes(entry.prefix));
         origin_text(&self.entries, at) + &prefix.unwrap_or_else(|| rest_text(list, at))
+    }
+}
+
+/// What an edit does to the subscription of a name, and to its row.
+fn effect_text(name: &[u8], before: Option<Flags>, after: Option<Flags>) -> String {
+    let name = name_text(name) + &beside(name);
+    let is_subscribed =
+        |flags: Option<Flags>| flags.is_some_and(|flags| flags.has(Flags::SUBSCRIBED));
+    match (is_subscribed(before), is_subscribed(after)) {
+        (true, true) => format!("none: {name} was subscribed already"),
+        (false, false) => format!("none: {name} was not subscribed"),
+        (false, true) if before.is_none() => {
+            format!("{name} is subscribed now; there is no such mailbox, so a row was added for it")
+        }
+        (false, true) => format!("{name} is subscribed now"),
+        (true, false) if after.is_none() => {
+            format!("{name} is not subscribed any more; its row, of no mailbox, is gone")
+        }
+        (true, false) => format!("{name} is not subscribed any more"),
     }
 }
 

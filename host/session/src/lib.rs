@@ -9,6 +9,7 @@
 //! | a namespace entry | `namespace personal "" "/"`, `namespace shared "#mh/" NIL` |
 //! | a command; CR LF is added | `command a LIST "" "*"` |
 //! | a command with literals | `command a LIST "" {3}`, and in the next line `+ Foo RETURN ()` |
+//! | an edit, sent as a command | `subscribe Foo/Baz`, `unsubscribe "a b"` |
 //! | a walk | `walk`, `walk remote`, `walk special-use without-subscribed`, `walk 6` |
 //! | a frame as it is sent | `frame 57FF` |
 //! | what the item before is refused with | `expect 7` |
@@ -20,7 +21,8 @@
 //! literal that has CR LF in it has several such lines.
 //!
 //! Rows are sent by the bytes of their names, among those that stand between two items which are
-//! answered; entries in the order in which they stand.
+//! answered; entries in the order in which they stand. After an edit that was answered, the program
+//! takes no row.
 //!
 //! A file whose first line is a frame is a file of frames, and its lines are sent as they stand.
 

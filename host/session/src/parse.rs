@@ -3,7 +3,7 @@
 use second::frames::Frame;
 use second::line::CRLF;
 use second::namespaces::Entry;
-use second::quoted::read_quoted;
+use second::quoted::{push_quoted, read_quoted};
 use second::table::Row;
 use second::Refusal;
 
@@ -26,8 +26,8 @@ pub enum Parsed {
 /// The bytes of a string, and what comes after it.
 type StringAndRest<'t> = (Vec<u8>, &'t [u8]);
 
-const ITEM_WORDS: &str =
-    "mailbox, namespace, command, walk, frame, expect, order, or # for a comment";
+const ITEM_WORDS: &str = "mailbox, namespace, command, subscribe, unsubscribe, walk, frame, \
+                          expect, order, or # for a comment";
 const LONE_CONTINUATION: &str = "+ goes on with a command, which stands in the line before";
 const LONE_EXPECTATION: &str = "expect says what the item in the line before is refused with";
 const ORDERS: &str = "the one order is as-given; without it mailbox lines are sorted";
@@ -48,6 +48,8 @@ pub fn parse_line(line: &[u8]) -> Result<Parsed, String> {
         b"mailbox" => parse_mailbox(rest),
         b"namespace" => parse_namespace(rest),
         b"command" => Ok(other(&Frame::Command([rest, CRLF].concat()))),
+        b"subscribe" => parse_edit("s SUBSCRIBE ", rest),
+        b"unsubscribe" => parse_edit("u UNSUBSCRIBE ", rest),
         b"walk" => parse_walk(rest),
         b"frame" => Ok(Parsed::Frame(rest.to_vec(), Origin::Other)),
         b"order" if rest.trim_ascii() == b"as-given" => Ok(Parsed::AsGiven),
@@ -79,7 +81,7 @@ pub fn expectation_of(line: &[u8]) -> Option<Result<Refusal, String>> {
 fn parse_expectation(text: &[u8]) -> Result<Refusal, String> {
     let number = words_of(text)?.parse().ok();
     let refusal = number.and_then(Refusal::from_number);
-    refusal.ok_or_else(|| "expect takes the number of a refusal, 1 to 13".to_string())
+    refusal.ok_or_else(|| "expect takes the number of a refusal, 1 to 15".to_string())
 }
 
 /// The word that a line starts with, and what comes after it and one space or tab.
@@ -129,6 +131,23 @@ fn parse_namespace(text: &[u8]) -> Result<Parsed, String> {
     let entry = Entry { class, prefix: &prefix, delimiter }.to_bytes();
     let entry = entry.ok_or("a prefix has at most 255 bytes in an entry")?;
     Ok(Parsed::Frame(Frame::Entry(entry).encode(), Origin::Namespace))
+}
+
+/// NAME, sent in quotes, or as a literal where it has bytes that quotes may not hold
+fn parse_edit(start: &str, text: &[u8]) -> Result<Parsed, String> {
+    const SHAPE: &str = "one name is subscribed or unsubscribed, in quotes if it has spaces";
+    let (name, rest) = parse_string(text)?.ok_or(SHAPE)?;
+    if !rest.trim_ascii().is_empty() {
+        return Err(SHAPE.to_string());
+    }
+    let mut line = start.as_bytes().to_vec();
+    if name.iter().all(|&byte| byte.is_ascii() && byte != b'\r') {
+        push_quoted(&mut line, &name);
+    } else {
+        line.extend_from_slice(format!("{{{}}}\r\n", name.len()).as_bytes());
+        line.extend_from_slice(&name);
+    }
+    Ok(other(&Frame::Command([&line, CRLF].concat())))
 }
 
 /// *(remote / special-use / without-subscribed / NUMBER)

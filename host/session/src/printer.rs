@@ -110,6 +110,12 @@ impl<'o, W: Write> Printer<'o, W> {
         }
     }
 
+    /// What an edit that was answered does.
+    pub fn print_effect(&mut self, text: &str) -> io::Result<()> {
+        let lines = vec![text.to_string(), format!("({UNPROVED})")];
+        self.print_shown(&Shown::new("Effect", lines))
+    }
+
     /// The last line of the text.
     pub fn print_summary(&mut self, summary: &Summary) -> io::Result<()> {
         if self.form == Form::Text && self.previous.is_some() {

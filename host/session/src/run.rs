@@ -100,9 +100,16 @@ impl<W: Write> Run<'_, '_, W> {
             Some(Reply::Refused(number)) => self.stored.explanation(sent, number),
             _ => None,
         };
+        let effect = match reply {
+            Some(Reply::Lines(_)) => self.stored.follow(sent, frame.as_ref()),
+            _ => None,
+        };
         let (reply, explanation) = (reply.as_ref(), explanation.as_deref());
         self.summary.count_reply(line, sent, reply, explanation);
         self.printer.print_reply(sent, reply, explanation).map_err(RunError::Output)?;
+        if let Some(effect) = effect {
+            self.printer.print_effect(&effect).map_err(RunError::Output)?;
+        }
         self.progress.count();
         match reply {
             Some(Reply::Unreadable(_)) => Err(program_error("what it answers is no answer")),

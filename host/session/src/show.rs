@@ -141,7 +141,7 @@ fn entry_text(entry: &Entry) -> String {
 }
 
 /// What a name says in modified UTF-7, to stand beside its bytes, if it says something else.
-fn beside(name: &[u8]) -> String {
+pub fn beside(name: &[u8]) -> String {
     decoded(name).map(|text| format!("  = {}", quoted_text(&text))).unwrap_or_default()
 }
 

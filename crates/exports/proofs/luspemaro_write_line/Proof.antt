@@ -2,6 +2,7 @@
 use mathlib.Core.Path.{ap, _∙_}
 use borrow.Author.Needs.{needs}
 use Rattle.listing_rules.specs.Reader.{written}
+use Rattle.octets.specs.declared.Written.{Written}
 use Rattle.exports.specs.Outcomes.{writtenCase}
 use Rattle.exports.proofs.OutcomeLaws.{written-case}
 use Rattle.exports.proofs.luspemaro_write_line.Statement.{statement}
@@ -11,7 +12,7 @@ returns : tie.Need-returns
 unfolding written
 returns c =
     let line = c .before .before .before .write-line .ensures in
-    (c .written-outcome .ensures ∙ ap writtenCase (line .0) ∙ written-case _, line .1)
+    (c .written-outcome .ensures ∙ ap (λ (w : Written). writtenCase w 0) (line .0) ∙ written-case _ 0, line .1)
 
 pub luspemaro-write-line-spec : {M : Type 1} → statement M
 luspemaro-write-line-spec =

@@ -1,8 +1,10 @@
 //! The command entry.
 
+use second::{answer_reading, Refusal, Table};
 use session::show_namespaces;
 
-use super::both::{Lent, ANSWER, PROVED, SECOND};
+use super::both::{Lent, Mailboxes, ANSWER, PROVED, SECOND};
+use super::compared::Compared;
 use super::tally::{shown, Tally, Text, SEED};
 use crate::commands::{command, damaged};
 use crate::damage::{damaged_table, namespace_list};
@@ -24,13 +26,14 @@ pub fn commands(tally: &mut Tally) {
         let names: Vec<Vec<u8>> = rows.iter().map(|row| row.name.clone()).collect();
         let bad = random.percent(5);
         let table = if bad { damaged_table(&mut random, rows) } else { table_bytes(&rows) };
+        let mut table = Compared::packed(table);
         let list = if random.percent(30) { namespace_list(&mut random) } else { Vec::new() };
         for _ in 0..COMMANDS_A_TABLE {
             let mut line = command(&mut random, &names);
             if random.percent(30) {
                 line = damaged(&mut random, line);
             }
-            answer_in_rooms(tally, [Lent::Packed(&table); 2], &list, &line);
+            answer_in_rooms(tally, &mut table, &list, &line);
         }
     }
 }
@@ -42,44 +45,80 @@ pub fn lsub(tally: &mut Tally) {
         let count = random.below(20);
         let rows = subscriptions(&mut random, count);
         let names = names_of(&rows);
-        let table = table_bytes(&rows);
+        let mut table = Compared::packed(table_bytes(&rows));
         for _ in 0..COMMANDS_A_TABLE {
             let mut line = lsub_command(&mut random, &names);
             if random.percent(20) {
                 line = damaged(&mut random, line);
             }
-            answer_in_rooms(tally, [Lent::Packed(&table); 2], b"", &line);
+            answer_in_rooms(tally, &mut table, b"", &line);
         }
     }
 }
 
-/// Answers in a buffer with room enough, and in buffers on both sides of the answer's length.
-pub fn answer_in_rooms(tally: &mut Tally, tables: [Lent; 2], list: &[u8], line: &[u8]) {
-    let need = answer_both(tally, tables, list, line, ROOM);
+/// Answers in a buffer with room enough, and in buffers on both sides of the answer's length; a command
+/// that is no edit.
+pub fn answer_in_rooms(tally: &mut Tally, table: &mut Compared, list: &[u8], line: &[u8]) {
+    let need = answer_over(tally, table, list, line, ROOM);
     for room in [0, need.saturating_sub(1), need, need + 1] {
-        answer_both(tally, tables, list, line, room);
+        answer_over(tally, table, list, line, room);
     }
 }
 
-/// Answers by both libraries, each over its form of the table, and gives the length of the answer, 0
-/// if it was refused.
+/// Answers by both libraries over records, or by the second program over a packed table and by the
+/// proved one over its records, and gives the length of the answer, 0 if it was refused. A packed table
+/// that has no records is not answered.
+pub fn answer_over(
+    tally: &mut Tally,
+    table: &mut Compared,
+    list: &[u8],
+    line: &[u8],
+    room: usize,
+) -> usize {
+    match table {
+        Compared::Records(records) => answer_both(tally, records, list, line, room),
+        Compared::Packed { records: None, .. } => 0,
+        Compared::Packed { table, records: Some(records) } => {
+            let mut out = [PROVED, SECOND].map(|_| vec![FILL; room]);
+            let proved = ANSWER[PROVED](records, list, line, &mut out[PROVED]);
+            let table = Table::Packed(table);
+            let second = answer_reading(table, list, line, &mut out[SECOND]);
+            let second = second.map_err(Refusal::number);
+            let results = [proved.map(|(length, _)| length), second];
+            let [proved_out, second_out] = out.map(Text);
+            let given = [
+                (results[PROVED], proved_out, records.difference()),
+                (results[SECOND], second_out, None),
+            ];
+            tally.same(|| call_text(records, list, line, room), given);
+            second.unwrap_or(0)
+        }
+    }
+}
+
+/// Answers by both libraries, each over its own records, which an edit changes. Result, count, buffer,
+/// every record and every byte of the area are compared.
 pub fn answer_both(
     tally: &mut Tally,
-    tables: [Lent; 2],
+    table: &mut Mailboxes,
     list: &[u8],
     line: &[u8],
     room: usize,
 ) -> usize {
     let given = [PROVED, SECOND].map(|who| {
         let mut out = vec![FILL; room];
-        let result = ANSWER[who](tables[who], list, line, &mut out);
+        let result = ANSWER[who](table, list, line, &mut out);
         (result, Text(out))
     });
-    let length = given[SECOND].0.unwrap_or(0);
-    let call = || {
-        let (line, table, list) = (shown(line), tables[PROVED], show_namespaces(list));
-        format!("answer: line {line}, room {room}, table and namespace list\n{table}{list}")
-    };
-    tally.same(call, given);
+    let length = given[SECOND].0.map_or(0, |(length, _)| length);
+    let [(proved, proved_out), (second, second_out)] = given;
+    let given = [(proved, proved_out, table.difference()), (second, second_out, None)];
+    tally.same(|| call_text(table, list, line, room), given);
     length
+}
+
+/// The call, with the table as it is after it.
+fn call_text(table: &Mailboxes, list: &[u8], line: &[u8], room: usize) -> String {
+    let (line, table, list) = (shown(line), Lent::Records(table), show_namespaces(list));
+    format!("answer: line {line}, room {room}, table afterwards and namespace list\n{table}{list}")
 }

@@ -6,29 +6,36 @@ use std::fmt;
 use second::{Refusal, Table};
 use session::show_table;
 
-use super::tally::shown;
 use crate::records::Layout;
+use crate::report::show_layout;
 
 pub const PROVED: usize = 0;
 pub const SECOND: usize = 1;
 
-/// A mailbox table as it is lent, in either form.
+/// A mailbox table as it is lent for reading, in either form.
 #[derive(Clone, Copy)]
 pub enum Lent<'m> {
     Packed(&'m [u8]),
     Records(&'m Mailboxes),
 }
 
-/// Records over an area, for each of the two libraries.
+/// Records over an area, for each of the two libraries a table of its own, which its edits change.
 pub struct Mailboxes {
-    layout: Layout,
-    proved: Vec<luspemaro::Record>,
+    proved: ProvedTable,
+    second: Layout,
+}
+
+struct ProvedTable {
+    records: Vec<luspemaro::Record>,
+    count: usize,
+    area: Vec<u8>,
 }
 
 pub type Check = fn(Lent) -> bool;
 pub type CheckList = fn(&[u8]) -> bool;
 pub type Matches = fn(&[u8], &[u8]) -> bool;
-pub type Answer = fn(Lent, &[u8], &[u8], &mut [u8]) -> Result<usize, u8>;
+/// Of a command, the answer's length and the count that is given back.
+pub type Answer = fn(&mut Mailboxes, &[u8], &[u8], &mut [u8]) -> Result<(usize, usize), u8>;
 pub type Collect = fn(Lent, u8, &mut [u8], &mut [u8], &mut [u8]) -> Result<(usize, usize), u8>;
 pub type WriteLine = fn(u16, &[u8], u8, &mut [u8]) -> Result<usize, u8>;
 
@@ -45,14 +52,16 @@ pub const MATCHES: [Matches; 2] = [luspemaro::matches, second::matches];
 
 pub const ANSWER: [Answer; 2] = [
     |table, list, line, out| {
-        let answered = match table {
-            Lent::Packed(bytes) => luspemaro::answer_packed(bytes, list, line, out),
-            Lent::Records(mailboxes) => luspemaro::answer(mailboxes.proved(), list, line, out),
-        };
-        answered.map_err(luspemaro::Refusal::number)
+        let ProvedTable { records, count, area } = &mut table.proved;
+        let answered = luspemaro::answer(records, *count, area, list, line, out)
+            .map_err(luspemaro::Refusal::number)?;
+        *count = answered.count;
+        Ok((answered.length, answered.count))
     },
     |table, list, line, out| {
-        second::answer(table.second(), list, line, out).map_err(Refusal::number)
+        let answered = table.second.lend(|lent| second::answer(lent, list, line, out));
+        let answered = answered.map_err(Refusal::number)?;
+        Ok((answered.length, table.second.count))
     },
 ];
 
@@ -86,38 +95,59 @@ impl Lent<'_> {
     fn second(&self) -> Table<'_> {
         match self {
             Lent::Packed(bytes) => Table::Packed(bytes),
-            Lent::Records(mailboxes) => Table::Records(mailboxes.layout.records()),
+            Lent::Records(mailboxes) => Table::Records(mailboxes.second.as_records()),
         }
     }
 }
 
 impl Mailboxes {
-    pub fn new(layout: Layout) -> Mailboxes {
-        let proved = |record: &second::Record| {
-            let second::Record { flags, start, len } = *record;
-            luspemaro::Record { flags, start, len }
-        };
-        let proved = layout.records.iter().map(proved).collect();
-        Mailboxes { layout, proved }
+    pub fn new(second: Layout) -> Mailboxes {
+        let records = second.records.iter().map(proved_record).collect();
+        let proved = ProvedTable { records, count: second.count, area: second.area.clone() };
+        Mailboxes { proved, second }
+    }
+
+    /// The table as the second program has it.
+    pub fn layout(&self) -> &Layout {
+        &self.second
+    }
+
+    /// Sets how many of the records are rows.
+    pub fn set_count(&mut self, count: usize) {
+        self.proved.count = count;
+        self.second.count = count;
+    }
+
+    /// The first place in which the two tables differ: count, record or byte of the area.
+    pub fn difference(&self) -> Option<String> {
+        let (proved, second) = (&self.proved, &self.second);
+        if proved.count != second.count {
+            return Some(format!("count {}, and {} by the second", proved.count, second.count));
+        }
+        let mut records = proved.records.iter().zip(&second.records).enumerate();
+        if let Some((at, pair)) = records.find(|(_, (one, other))| **one != proved_record(other)) {
+            return Some(format!("record {at}: {pair:?}"));
+        }
+        let mut bytes = proved.area.iter().zip(&second.area).enumerate();
+        let (at, pair) = bytes.find(|(_, (one, other))| one != other)?;
+        Some(format!("byte {at} of the area: {pair:?}"))
     }
 
     fn proved(&self) -> luspemaro::Records<'_> {
-        let Layout { count, area, .. } = &self.layout;
-        luspemaro::Records { records: &self.proved, count: *count, area }
+        let ProvedTable { records, count, area } = &self.proved;
+        luspemaro::Records { records, count: *count, area }
     }
+}
+
+fn proved_record(&second::Record { flags, start, len }: &second::Record) -> luspemaro::Record {
+    luspemaro::Record { flags, start, len }
 }
 
 impl fmt::Display for Lent<'_> {
     fn fmt(&self, formatter: &mut fmt::Formatter) -> fmt::Result {
-        let layout = match self {
-            Lent::Packed(bytes) => return write!(formatter, "{}", show_table(bytes)),
-            Lent::Records(mailboxes) => &mailboxes.layout,
-        };
-        let Layout { records, count, area } = layout;
-        writeln!(formatter, "{count} of {} records over {} bytes", records.len(), area.len())?;
-        for second::Record { flags, start, len } in records {
-            writeln!(formatter, "    flags {flags:04X}, start {start}, length {len}")?;
+        match self {
+            Lent::Packed(bytes) => write!(formatter, "{}", show_table(bytes)),
+            Lent::Records(mailboxes) => write!(formatter, "{}", show_layout(mailboxes.layout())),
         }
-        writeln!(formatter, "    area {}", shown(area))
     }
 }

@@ -5,6 +5,8 @@
 
 mod answers;
 pub mod both;
+mod compared;
+mod edits;
 mod feeding;
 mod lines;
 mod matching;
@@ -19,7 +21,7 @@ pub use tally::Tally;
 /// A name, and what compares.
 pub type Group = (&'static str, fn(&mut Tally));
 
-pub const GROUPS: [Group; 22] = [
+pub const GROUPS: [Group; 23] = [
     ("every set of attributes, written and read back", lines::every_set),
     ("every number of a set of criteria", lines::every_criteria_byte),
     ("names at the limits, buffers on both sides of the line's length", lines::names_and_rooms),
@@ -39,6 +41,7 @@ pub const GROUPS: [Group; 22] = [
     ("LSUB over records and over packed tables", records::lsub),
     ("records at every place of small areas", records::small_areas),
     ("records at the limits", records::limits),
+    ("series of edits over lent records and areas", edits::series),
     ("streams for the feeder, chunk by chunk", feeding::streams),
     ("memory and states that the feeder does not take", feeding::not_taken),
     ("the continuation line at any place of a buffer", feeding::continuation),

@@ -5,11 +5,11 @@ use std::ops::RangeInclusive;
 use second::records::{Record, MAX_AREA};
 use second::table::{Flags, MAX_ROWS};
 
-use super::answers::{answer_both, answer_in_rooms};
-use super::both::{Lent, Mailboxes};
-use super::tables::{check_both, numbered};
+use super::answers::{answer_in_rooms, answer_over};
+use super::compared::Compared;
+use super::tables::numbered;
 use super::tally::Tally;
-use super::walks::{collect_both, Rooms, OPTIONS};
+use super::walks::{Rooms, OPTIONS};
 use crate::commands::{command, damaged};
 use crate::damage::{damaged_bytes, damaged_table, namespace_list};
 use crate::lsub::{lsub_command, subscriptions};
@@ -33,15 +33,15 @@ pub fn layouts(tally: &mut Tally) {
         let mut random = Random::of("library: records", seed);
         let count = random.below(FEW);
         let rows = good_table(&mut random, count);
-        let mailboxes = Mailboxes::new(some_layout(&mut random, &rows));
-        let records = [Lent::Records(&mailboxes); 2];
-        check_both(tally, records);
-        calls(tally, &mut random, &[records], &rows);
+        let mut table = Compared::records(some_layout(&mut random, &rows));
+        table.check(tally);
+        calls(tally, &mut random, &mut table, &rows);
     });
 }
 
-/// A packed table, good or damaged: its records and itself, by the proved library, and itself by the
-/// second program, give the same. One whose rows do not fill it has no records.
+/// A packed table, good or damaged: its records, by the proved library, and itself, by the second
+/// program, give the same answers; checks and walks of itself by both do too. One whose rows do not fill
+/// it has no records.
 pub fn of_packed(tally: &mut Tally) {
     tally.for_each_seed(|tally, seed| {
         let mut random = Random::of("library: records of packed tables", seed);
@@ -52,10 +52,9 @@ pub fn of_packed(tally: &mut Tally) {
             2 => damaged_bytes(&mut random, table_bytes(&rows)),
             _ => table_bytes(&rows),
         };
-        let mailboxes = Layout::of_packed(&table).map(Mailboxes::new);
-        let forms = forms_of(&table, mailboxes.as_ref());
-        forms.iter().for_each(|&form| check_both(tally, form));
-        calls(tally, &mut random, &forms, &rows);
+        let mut table = Compared::packed(table);
+        table.check(tally);
+        calls(tally, &mut random, &mut table, &rows);
     });
 }
 
@@ -68,25 +67,15 @@ pub fn lsub(tally: &mut Tally) {
         let rows = subscriptions(&mut random, count);
         let line = lsub_command(&mut random, &names_of(&rows));
         let layouts = [laid_out(&mut random, &rows), some_layout(&mut random, &rows)];
-        for mailboxes in layouts.map(Mailboxes::new) {
-            answer_in_rooms(tally, [Lent::Records(&mailboxes); 2], b"", &line);
-        }
-        let table = table_bytes(&rows);
-        let mailboxes = Layout::of_packed(&table).map(Mailboxes::new);
-        for form in forms_of(&table, mailboxes.as_ref()) {
-            answer_in_rooms(tally, form, b"", &line);
+        let packed = Compared::packed(table_bytes(&rows));
+        for mut table in layouts.map(Compared::records).into_iter().chain([packed]) {
+            answer_in_rooms(tally, &mut table, b"", &line);
         }
     });
 }
 
-/// A packed table by both libraries, and its records, if it has any, by the proved one beside it.
-fn forms_of<'m>(table: &'m [u8], records: Option<&'m Mailboxes>) -> Vec<[Lent<'m>; 2]> {
-    let packed = Lent::Packed(table);
-    [packed].into_iter().chain(records.map(Lent::Records)).map(|form| [form, packed]).collect()
-}
-
-/// A command in buffers on both sides of the answer's length, or a walk, or neither, over each form.
-fn calls(tally: &mut Tally, random: &mut Random, forms: &[[Lent; 2]], rows: &[NewRow]) {
+/// A command in buffers on both sides of the answer's length, or a walk, or neither.
+fn calls(tally: &mut Tally, random: &mut Random, table: &mut Compared, rows: &[NewRow]) {
     match random.below(10) {
         0..3 => {
             let names: Vec<Vec<u8>> = rows.iter().map(|row| row.name.clone()).collect();
@@ -95,16 +84,12 @@ fn calls(tally: &mut Tally, random: &mut Random, forms: &[[Lent; 2]], rows: &[Ne
                 line = damaged(random, line);
             }
             let list = if random.percent(10) { namespace_list(random) } else { Vec::new() };
-            for &form in forms {
-                answer_in_rooms(tally, form, &list, &line);
-            }
+            answer_in_rooms(tally, table, &list, &line);
         }
         3..5 => {
             let option = random.below(usize::from(OPTIONS)) as u8;
-            for &form in forms {
-                let need = collect_both(tally, form, option, Rooms::AMPLE);
-                collect_both(tally, form, option, need.near(random));
-            }
+            let need = table.collect(tally, option, Rooms::AMPLE);
+            table.collect(tally, option, need.near(random));
         }
         _ => {}
     }
@@ -138,7 +123,7 @@ fn check_choices(
 ) {
     if more == 0 {
         let layout = Layout { records: chosen.clone(), count: chosen.len(), area: area.to_vec() };
-        return check_both(tally, [Lent::Records(&Mailboxes::new(layout)); 2]);
+        return Compared::records(layout).check(tally);
     }
     for &record in places {
         chosen.push(record);
@@ -155,7 +140,7 @@ pub fn limits(tally: &mut Tally) {
             for turned in [false, true] {
                 for size in [0, MAX_AREA - 1, MAX_AREA, MAX_AREA + 1] {
                     let layout = side_by_side(&subscribed(count, length), turned, size);
-                    every_call(tally, [Lent::Records(&Mailboxes::new(layout)); 2]);
+                    every_call(tally, Compared::records(layout));
                 }
             }
         }
@@ -166,15 +151,12 @@ pub fn limits(tally: &mut Tally) {
         for count in (0..=4).chain(high.clone()).chain(high.map(|bit| bit + records)) {
             let records = layout.records[..records].to_vec();
             let layout = Layout { records, count, area: layout.area.clone() };
-            every_call(tally, [Lent::Records(&Mailboxes::new(layout)); 2]);
+            every_call(tally, Compared::records(layout));
         }
     }
     for count in [MAX_ROWS - 1, MAX_ROWS, MAX_ROWS + 1] {
         for length in [4, 60, 61, 62] {
-            let table = table_bytes(&subscribed(count, length));
-            let mailboxes = Layout::of_packed(&table).map(Mailboxes::new);
-            let forms = forms_of(&table, mailboxes.as_ref());
-            forms.into_iter().for_each(|form| every_call(tally, form));
+            every_call(tally, Compared::packed(table_bytes(&subscribed(count, length))));
         }
     }
 }
@@ -205,15 +187,15 @@ fn subscribed(rows: usize, length: usize) -> Vec<NewRow> {
     rows
 }
 
-/// Check 1, commands, walks, and refusals after 1, each library over its form of the table.
-fn every_call(tally: &mut Tally, tables: [Lent; 2]) {
-    check_both(tally, tables);
+/// Check 1, commands, walks, and refusals after 1.
+fn every_call(tally: &mut Tally, mut table: Compared) {
+    table.check(tally);
     for line in COMMANDS {
-        answer_both(tally, tables, b"", line, MAX_ANSWER);
+        answer_over(tally, &mut table, b"", line, MAX_ANSWER);
     }
-    answer_both(tally, tables, b"\x09", b"", 0);
+    answer_over(tally, &mut table, b"\x09", b"", 0);
     for option in [1, OPTIONS] {
-        collect_both(tally, tables, option, MAX_ROOMS);
+        table.collect(tally, option, MAX_ROOMS);
     }
 }
 

@@ -2,12 +2,12 @@
 
 use std::fmt::{self, Debug, Formatter};
 
+pub use crate::report::shown;
+
 /// The seed of every stream of inputs, which are the same in every run.
 pub const SEED: u64 = 0;
 /// Differences of one group that are printed; the others are counted.
 const MOST_SHOWN: u64 = 3;
-/// Equal bytes at an end that are counted, not shown.
-const FEWEST_COUNTED: usize = 8;
 
 /// The comparisons of one group.
 pub struct Tally {
@@ -54,17 +54,4 @@ impl Debug for Text {
     fn fmt(&self, formatter: &mut Formatter) -> fmt::Result {
         write!(formatter, "{}", shown(&self.0))
     }
-}
-
-/// Bytes as text in quotes; the equal bytes that a buffer ends with are counted instead.
-pub fn shown(bytes: &[u8]) -> String {
-    let Some(&last) = bytes.last() else {
-        return "\"\"".to_string();
-    };
-    let rest = bytes.iter().rposition(|&byte| byte != last).map_or(0, |at| at + 1);
-    let times = bytes.len() - rest;
-    if times < FEWEST_COUNTED {
-        return format!("\"{}\"", bytes.escape_ascii());
-    }
-    format!("\"{}\" and {times} times \"{}\"", bytes[..rest].escape_ascii(), last.escape_ascii())
 }

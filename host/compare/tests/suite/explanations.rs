@@ -1,5 +1,5 @@
-//! Explanations on generated damage: what is refused with 1 to 8 or 13 is explained, and nothing
-//! else is.
+//! Explanations on generated damage: what is refused with 1 to 8 or 13 to 15 is explained, and
+//! nothing else is.
 
 use std::collections::BTreeMap;
 
@@ -10,7 +10,7 @@ use session::{run_session, Form, Session, Source};
 use crate::second;
 
 /// Kinds of sessions with something wrong in them.
-const DAMAGED: [&str; 7] = [
+const DAMAGED: [&str; 9] = [
     "a damaged table",
     "namespace lists",
     "damaged commands",
@@ -18,6 +18,8 @@ const DAMAGED: [&str; 7] = [
     "limits of stored bytes",
     "limits of tables",
     "bad frames",
+    "rows and entries around edits",
+    "refusals of edits",
 ];
 /// Of each kind.
 const SEEDS: u64 = 12;
@@ -58,7 +60,7 @@ fn refusals_are_explained_and_answers_are_not() {
             }
         }
     }
-    for number in [1, 2, 3, 4, 13] {
+    for number in [1, 2, 3, 4, 13, 14, 15] {
         assert!(refused.get(&number).is_some_and(|&count| count > 20), "{number}: {refused:?}");
     }
     assert!(answered > 100, "{answered}");

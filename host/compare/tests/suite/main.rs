@@ -4,8 +4,11 @@ use std::env;
 use std::path::PathBuf;
 
 mod comparison;
+mod edit_series;
+mod edits;
 mod explanations;
 mod lsub;
+mod reached;
 mod records;
 mod streams;
 

@@ -4,7 +4,7 @@
 use std::collections::BTreeMap;
 
 use compare::random::Random;
-use compare::records::{laid_out, overlapping, some_layout, Layout};
+use compare::records::{in_place, laid_out, overlapping, some_layout, Layout};
 use compare::tables::{good_table, table_bytes};
 use second::table::checked_rows;
 use second::{check_table, Table};
@@ -14,7 +14,7 @@ const OVERLAP: &str = "names do not overlap";
 
 /// The rule that a layout breaks, or what passes is said to break none.
 fn rule_of(layout: &Layout) -> &'static str {
-    checked_rows(Table::Records(layout.records())).map_or_else(|fault| fault.rule, |_| "none")
+    checked_rows(Table::Records(layout.as_records())).map_or_else(|fault| fault.rule, |_| "none")
 }
 
 #[test]
@@ -29,8 +29,8 @@ fn lawful_layouts_pass() {
         in_order += usize::from(held.is_sorted_by_key(|record| record.start));
         let used: usize = held.iter().map(|record| usize::from(record.len)).sum();
         with_gaps += usize::from(used < layout.area.len());
-        let in_place = Layout::of_packed(&table_bytes(&rows)).expect("rows that fill it");
-        assert!(check_table(Table::Records(in_place.records())), "seed {seed}");
+        let in_place = in_place(&table_bytes(&rows)).expect("rows that fill it");
+        assert!(check_table(Table::Records(in_place.as_records())), "seed {seed}");
     }
     let total = SEEDS.end as usize;
     assert!(total / 10 < in_order && in_order < total / 2, "{in_order}");

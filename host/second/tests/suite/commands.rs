@@ -1,6 +1,6 @@
 //! The command line: refusals 3 to 9, and what is lawful beside them.
 
-use second::{answer, Refusal, Table};
+use second::{answer_reading, Refusal, Table};
 
 use crate::common::{check, Exchange, Rows};
 
@@ -26,7 +26,8 @@ fn line_shapes() {
         (b"\r\n", Err(4)),
     ];
     for (line, expected) in lines {
-        let result = answer(Table::EMPTY, &[], line, &mut [0; 100]).map_err(Refusal::number);
+        let result =
+            answer_reading(Table::EMPTY, &[], line, &mut [0; 100]).map_err(Refusal::number);
         assert_eq!(result, expected, "{line:?}");
     }
 }
@@ -224,10 +225,10 @@ fn canonical_lengths() {
 #[test]
 fn short_buffers() {
     let line = b"a LIST \"\" \"\"\r\n";
-    let whole = answer(Table::EMPTY, &[], line, &mut [0; 100]).expect("an answer");
+    let whole = answer_reading(Table::EMPTY, &[], line, &mut [0; 100]).expect("an answer");
     for room in 0..=whole + 1 {
         let mut out = vec![b'.'; room];
-        let result = answer(Table::EMPTY, &[], line, &mut out);
+        let result = answer_reading(Table::EMPTY, &[], line, &mut out);
         if room < whole {
             assert_eq!((result, out), (Err(Refusal::AnswerRoom), vec![b'.'; room]));
         } else {

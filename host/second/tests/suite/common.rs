@@ -3,10 +3,12 @@
 use second::namespaces::Entry;
 use second::records::packed_records;
 use second::table::{Flags, Row};
-use second::{answer, check_table, collect, frames, Record, Records, Refusal, Table};
+use second::{
+    answer, answer_reading, check_table, collect, frames, Record, Records, Refusal, Store, Table,
+};
 
 /// What a lent buffer holds before a call.
-const FILL: u8 = 0xA5;
+pub const FILL: u8 = 0xA5;
 
 /// Rows, each as a name and its flags in words or in four digits.
 pub type Rows<'a> = [(&'a str, &'a str)];
@@ -55,6 +57,16 @@ impl Forms {
         Forms { packed, in_place, turned, area }
     }
 
+    /// The forms of records, to be lent to be changed.
+    pub fn stores(&self) -> [Store; 2] {
+        let count = self.in_place.len();
+        [(&self.in_place, &self.packed), (&self.turned, &self.area)].map(|(records, area)| Store {
+            records: records.clone(),
+            count,
+            area: area.clone(),
+        })
+    }
+
     pub fn tables(&self) -> [Table<'_>; 3] {
         let count = self.in_place.len();
         let records = |records, area| Table::Records(Records { records, count, area });
@@ -83,20 +95,33 @@ pub fn check_dialogue(rows: &Rows, entries: &Entries, dialogue: &str) {
     }
 }
 
-/// Runs each command over every form of the same table and the same list, and checks its answer,
-/// the bytes behind it, and on refusal every byte of the buffer.
+/// Runs each command, no edit, over every form of the same table and the same list, and checks its
+/// answer, the bytes behind it, and on refusal every byte of the buffer. Records stay as they are.
 pub fn check(rows: &Rows, entries: &Entries, exchanges: &[Exchange]) {
     let namespaces: Vec<u8> = entries.iter().flat_map(entry_bytes).collect();
-    for table in Forms::of(rows).tables() {
-        check_table_answers(table, &namespaces, exchanges);
+    let forms = Forms::of(rows);
+    for table in forms.tables() {
+        check_answers(exchanges, |line, out| answer_reading(table, &namespaces, line, out));
+    }
+    for mut store in forms.stores() {
+        let before = store.clone();
+        check_answers(exchanges, |line, out| {
+            let answered = store.lend(|lent| answer(lent, &namespaces, line, out))?;
+            assert!(!answered.is_edit);
+            Ok(answered.length)
+        });
+        assert_eq!(store, before);
     }
 }
 
-fn check_table_answers(table: Table, namespaces: &[u8], exchanges: &[Exchange]) {
+fn check_answers(
+    exchanges: &[Exchange],
+    mut answer: impl FnMut(&[u8], &mut [u8]) -> Result<usize, Refusal>,
+) {
     for (command, expected) in exchanges {
         let line = format!("{command}\r\n");
         let mut out = vec![FILL; frames::ANSWER_ROOM];
-        let result = answer(table, namespaces, line.as_bytes(), &mut out).map_err(Refusal::number);
+        let result = answer(line.as_bytes(), &mut out).map_err(Refusal::number);
         let (text, behind) = out.split_at(result.unwrap_or(0));
         let text = str::from_utf8(text).expect("an answer of ASCII");
         let lines: Vec<&str> = text.split_terminator("\r\n").collect();

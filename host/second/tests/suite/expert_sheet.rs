@@ -1,6 +1,6 @@
 //! E1 to E8 of the expert's sheet (document 01), E3 with the line that W1 (document 02) adds.
 
-use second::{answer, Refusal, Table};
+use second::{answer_reading, Refusal, Table};
 
 use crate::common::{check, check_dialogue, check_walk, rows_pass, Rows};
 
@@ -144,7 +144,7 @@ fn e8_lengths_of_lines() {
     for (length, expected) in [(2_048, Ok(())), (2_049, Err(Refusal::LineShape))] {
         let rest = " NAMESPACE\r\n";
         let line = "t".repeat(length - rest.len()) + rest;
-        let result = answer(Table::EMPTY, &[], line.as_bytes(), &mut [0; ROOM]);
+        let result = answer_reading(Table::EMPTY, &[], line.as_bytes(), &mut [0; ROOM]);
         assert_eq!(result.map(drop), expected, "a line of {length} bytes");
     }
 }

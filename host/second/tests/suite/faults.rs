@@ -1,10 +1,10 @@
 //! Faults: which rule is broken, and where.
 
-use second::fault::{Fault, LineFault, ListFault, RoomFault};
+use second::fault::{EditFault, Fault, LineFault, ListFault, RoomFault};
 use second::frames::{hex_of, Program, COMMAND, ROW, TABLE_ROOM, WALK};
 use second::namespaces::checked_entries;
 use second::table::{checked_rows, row_at};
-use second::{Record, Records, Refusal, Table};
+use second::{Record, Records, Refusal, Store, Table};
 
 use crate::common::{table_of, Rows};
 
@@ -113,7 +113,7 @@ fn lines() {
         ("a LIST {1}\r\nx \n\r\n", 3, 14, "a line holds bytes 01 to 7F"),
         ("+ LIST\r\n", 4, 0, "a tag is"),
         ("a\r\n", 4, 1, "one space is expected"),
-        ("a SELECT x\r\n", 5, 2, "the word is LIST, LSUB or NAMESPACE"),
+        ("a SELECT x\r\n", 5, 2, "the word is LIST, LSUB, NAMESPACE, SUBSCRIBE or UNSUBSCRIBE"),
         ("a NAMESPACE \r\n", 4, 11, "the end of the line is expected"),
         ("a LIST \"\"\r\n", 4, 9, "one space is expected"),
         ("a LIST \"\" \r\n", 4, 10, "a pattern is"),
@@ -135,7 +135,7 @@ fn lines() {
 #[test]
 fn lines_of_lsub() {
     check_lines(&[
-        ("a LSUBS \"\" *\r\n", 5, 2, "the word is LIST, LSUB or NAMESPACE"),
+        ("a LSUBS \"\" *\r\n", 5, 2, "the word is LIST, LSUB, NAMESPACE, SUBSCRIBE or UNSUBSCRIBE"),
         ("a LSUB \"\"\r\n", 4, 9, "one space is expected"),
         ("a LSUB () \"\" *\r\n", 4, 7, "a quoted string, a literal or an atom is expected"),
         ("a LSUB \"\" (*)\r\n", 4, 10, "a pattern is"),
@@ -149,6 +149,62 @@ fn lines_of_lsub() {
         ),
     ]);
     assert_eq!(fault_of(COMMAND, b"a LSUB \"\" {1}\r\nx\r\n"), None);
+}
+
+/// The same of SUBSCRIBE and UNSUBSCRIBE (document 02, W6).
+#[test]
+fn lines_of_edits() {
+    check_lines(&[
+        ("a SUBSCRIBES x\r\n", 5, 2, "the word is LIST,"),
+        ("a SUBSCRIBE\r\n", 4, 11, "one space is expected"),
+        ("a SUBSCRIBE \r\n", 4, 12, "a quoted string, a literal or an atom is expected"),
+        ("a SUBSCRIBE a%\r\n", 4, 13, "the end of the line is expected"),
+        ("a UNSUBSCRIBE a b\r\n", 4, 15, "the end of the line is expected"),
+    ]);
+    assert_eq!(fault_of(COMMAND, b"a SUBSCRIBE {1}\r\nx\r\n"), None);
+    assert_eq!(fault_of(COMMAND, b"a UNSUBSCRIBE \"\"\r\n"), None);
+}
+
+/// What an edit is refused for hangs on the table: the place of the name, the rule, and the row with
+/// no inferiors, by its number.
+#[test]
+fn names_of_edits() {
+    let table = table_of(&[("A", "0001"), ("b", "0011"), ("c/d", "0011")]);
+    let mut program = Program { table, ..Program::default() };
+    let fault = |program: &Program, line: &str| {
+        program.fault(&hex_of(&[&[COMMAND], line.as_bytes(), b"\r\n"].concat()))
+    };
+    let edit_fault = |refusal, at, rule, above| {
+        Some(Fault::Edit(EditFault { name: LineFault { refusal, at, rule }, above }))
+    };
+    let below = "no name lies below a row with no inferiors";
+    let unlawful = |at, rule, above| edit_fault(Refusal::UnlawfulName, at, rule, above);
+    for (line, expected) in [
+        ("a SUBSCRIBE \"\"", unlawful(12, "a name has 1 to 200 bytes", None)),
+        ("a subscribe inbox/", unlawful(12, "no level of a name is empty", None)),
+        ("a SUBSCRIBE b/x/y", unlawful(12, below, Some(1))),
+        ("tag SUBSCRIBE \"c/d/e\"", unlawful(14, below, Some(2))),
+        ("a SUBSCRIBE b", None),
+        ("a UNSUBSCRIBE b/x", None),
+    ] {
+        assert_eq!(fault(&program, line), expected, "{line}");
+    }
+    let mut store = Store::of_rows(&checked_rows(Table::Packed(&program.table)).expect("rows"));
+    let no_room = |rule| edit_fault(Refusal::NoRoom, 12, rule, None);
+    store.area.truncate(6);
+    program.store = Some(store.clone());
+    let run = "a row is inserted where a free run of name bytes is long enough";
+    assert_eq!(fault(&program, "a SUBSCRIBE xy"), no_room(run));
+    assert_eq!(fault(&program, "a SUBSCRIBE x"), None);
+    store.records.truncate(3);
+    program.store = Some(store);
+    let spare = "a row is inserted where a record is spare";
+    assert_eq!(fault(&program, "a SUBSCRIBE x"), no_room(spare));
+    let rows: Vec<u8> =
+        (0..512).flat_map(|n| [b"\0\x01\x03", row_name(n).as_bytes()].concat()).collect();
+    let program = Program { table: rows, ..Program::default() };
+    let most = "a row is inserted where there are under 512";
+    assert_eq!(fault(&program, "a SUBSCRIBE x"), no_room(most));
 }
 
 fn check_lines(lines: &[(&str, u8, usize, &str)]) {
@@ -168,7 +224,7 @@ fn fault_of(first: u8, bytes: &[u8]) -> Option<Fault> {
 
 #[test]
 fn frames_and_rooms() {
-    let program = Program { table: vec![0; TABLE_ROOM - 1], namespaces: Vec::new() };
+    let program = Program { table: vec![0; TABLE_ROOM - 1], ..Program::default() };
     let frame = |bytes: &[u8]| program.fault(&hex_of(bytes));
     let room = RoomFault { stored: TABLE_ROOM - 1, added: 2, room: TABLE_ROOM };
     assert_eq!(frame(&[ROW, 0, 0]), Some(Fault::TableRoom(room)));
@@ -185,4 +241,9 @@ fn frames_and_rooms() {
     ] {
         assert_eq!(program.fault(text.as_bytes()), Some(Fault::Frame(rule)), "{text}");
     }
+    let mut edited = Program::default();
+    edited.answer(&hex_of(&[&[COMMAND], b"a UNSUBSCRIBE x\r\n".as_slice()].concat()));
+    let rule = "no row is added after the first SUBSCRIBE or UNSUBSCRIBE that was OK";
+    assert_eq!(edited.fault(b"4D"), Some(Fault::Frame(rule)));
+    assert_eq!(edited.fault(b"4E"), None);
 }

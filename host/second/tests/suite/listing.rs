@@ -1,7 +1,7 @@
 //! What is listed, beside the RFCs' examples: implied names, remote names, order, attributes, and
 //! the levels of W1 (document 02).
 
-use second::{answer, Refusal, Table};
+use second::{answer_reading, Refusal, Table};
 
 use crate::common::{check_dialogue, table_of, Rows};
 
@@ -293,7 +293,10 @@ fn levels_count_for_the_buffer() {
         [(expected.len(), Ok(expected.len())), (expected.len() - 1, Err(Refusal::AnswerRoom))]
     {
         let mut out = vec![0; room];
-        assert_eq!(answer(Table::Packed(&table), &[], b"a LIST \"\" %\r\n", &mut out), result);
+        assert_eq!(
+            answer_reading(Table::Packed(&table), &[], b"a LIST \"\" %\r\n", &mut out),
+            result
+        );
         assert_eq!(out == expected, result.is_ok());
     }
 }

@@ -1,7 +1,7 @@
 //! Literals in commands (document 02, W2), by the sentences of the request.
 
 use second::frames::{self, hex_of};
-use second::{answer, Refusal, Table};
+use second::{answer_reading, Refusal, Table};
 
 use crate::common::{check, table_of, Exchange, Rows};
 
@@ -13,7 +13,7 @@ const ROOT: Result<&[&str], u8> = Ok(&[r#"* LIST (\Noselect) "/" """#, "a OK don
 /// The number that a command of any bytes is refused with, 0 if it is answered.
 fn number_of(command: &[u8]) -> u8 {
     let table = table_of(ONE_ROW);
-    let result = answer(Table::Packed(&table), &[], command, &mut [0; 4_096]);
+    let result = answer_reading(Table::Packed(&table), &[], command, &mut [0; 4_096]);
     result.err().map_or(0, Refusal::number)
 }
 

@@ -1,6 +1,6 @@
 //! LSUB (document 02, W5), beside RFC 3501's examples: its grammar, what it lists, its lines.
 
-use second::{answer, read_line, Refusal, Table};
+use second::{answer_reading, read_line, Refusal, Table};
 
 use crate::common::{check, check_dialogue, table_of, Rows};
 
@@ -293,7 +293,7 @@ fn short_buffers() {
     let expected = b"* LSUB (\\Noselect) \"/\" \"b\"\r\na OK done\r\n";
     for room in 0..=expected.len() {
         let mut out = vec![b'.'; room];
-        let result = answer(Table::Packed(&table), &[], b"a LSUB \"\" %\r\n", &mut out);
+        let result = answer_reading(Table::Packed(&table), &[], b"a LSUB \"\" %\r\n", &mut out);
         if room < expected.len() {
             assert_eq!((result, out), (Err(Refusal::AnswerRoom), vec![b'.'; room]));
         } else {

@@ -5,14 +5,14 @@ use std::io::{self, Read, Write};
 use second::frames::{self, hex_of};
 
 /// The program's output for an input, both as text.
-fn output_of(input: &str) -> String {
+pub fn output_of(input: &str) -> String {
     let mut output = Vec::new();
     frames::run(input.as_bytes(), &mut output).expect("no error in memory");
     String::from_utf8(output).expect("hexadecimal")
 }
 
 /// A frame of a first byte and the bytes behind it, with its LF.
-fn frame(first: u8, behind: &[u8]) -> String {
+pub fn frame(first: u8, behind: &[u8]) -> String {
     let digits = hex_of(&[&[first], behind].concat());
     String::from_utf8(digits).expect("hexadecimal") + "\n"
 }
@@ -20,7 +20,7 @@ fn frame(first: u8, behind: &[u8]) -> String {
 const NAMESPACE: &str = "4361204E414D4553504143450D0A\n";
 const NAMESPACE_ANSWER: &str =
     "412A204E414D455350414345204E494C204E494C204E494C0D0A61204F4B20646F6E650D0A\n";
-const BAD_FRAME: &str = "520D\n";
+pub const BAD_FRAME: &str = "520D\n";
 
 #[test]
 fn the_session_of_document_01() {

@@ -2,7 +2,7 @@
 
 use second::records::{packed_records, MAX_AREA};
 use second::table::MAX_ROWS;
-use second::{answer, check_table, collect, Record, Records, Table};
+use second::{answer_reading, check_table, collect, Record, Records, Table};
 
 /// A record of an existing mailbox.
 const fn at(start: u16, len: u8) -> Record {
@@ -193,7 +193,7 @@ fn refusals_of_records_first() {
     for table in [two_for_one, past_the_area, overlapping].map(Table::Records) {
         for line in ["", "a NAMESPACE\r\n", "a LIST \"\" *\r\n"] {
             let mut out = [b'.'; 9];
-            let result = answer(table, b"\x09", line.as_bytes(), &mut out);
+            let result = answer_reading(table, b"\x09", line.as_bytes(), &mut out);
             assert_eq!((result.map_err(|refusal| refusal.number()), out), (Err(1), [b'.'; 9]));
         }
         for option in [0, 9] {

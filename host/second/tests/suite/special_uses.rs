@@ -1,6 +1,6 @@
 //! W3 (document 02), sentence by sentence: special uses by tree.
 
-use second::{answer, collect, Table};
+use second::{answer_reading, collect, Table};
 
 use crate::common::{check, check_dialogue, check_walk, table_of, Rows, Walked};
 
@@ -174,7 +174,7 @@ fn scratch_of_each_walk() {
     for (option, selection, references) in walks {
         let length = |reference: &&str| {
             let line = format!("w LIST ({selection}) \"{reference}\" \"%\"\r\n");
-            answer(Table::Packed(&table_of(TREE)), &[], line.as_bytes(), &mut [0; ROOM])
+            answer_reading(Table::Packed(&table_of(TREE)), &[], line.as_bytes(), &mut [0; ROOM])
                 .expect("an answer")
         };
         let longest = references.iter().map(length).max().expect("a command");

@@ -1,6 +1,6 @@
 //! The collector's walk: its order, its finds, its buffers and its refusals.
 
-use second::{answer, Table};
+use second::{answer_reading, Table};
 
 use crate::common::{check_dialogue, check_walk, table_of, Rows};
 
@@ -102,6 +102,6 @@ fn the_first_answer_of_a_walk() {
 
 fn answer_length(command: &str) -> usize {
     let line = format!("{command}\r\n");
-    answer(Table::Packed(&table_of(NESTED)), &[], line.as_bytes(), &mut [0; ROOM])
+    answer_reading(Table::Packed(&table_of(NESTED)), &[], line.as_bytes(), &mut [0; ROOM])
         .expect("an answer")
 }

@@ -77,12 +77,12 @@ fn expectations() {
             "Command    a NOOP {1}\n",
             "           + x\n",
             "Refused    5: other word (as expected)\n",
-            "Explained  byte 3 of the command, 'N': the word is LIST, LSUB or NAMESPACE\n",
+            "Explained  byte 3 of the command, 'N': the word is LIST, LSUB, NAMESPACE, SUBSCRIBE or UNSUBSCRIBE\n",
             "           (explained by the second program, not proved)\n",
             "\n",
             "Command    a NOOP\n",
             "Refused    5: other word\n",
-            "Explained  byte 3 of the command, 'N': the word is LIST, LSUB or NAMESPACE\n",
+            "Explained  byte 3 of the command, 'N': the word is LIST, LSUB, NAMESPACE, SUBSCRIBE or UNSUBSCRIBE\n",
             "           (explained by the second program, not proved)\n",
             "Expected   4: tag, or the rest after a known word, off the grammar; and it was refused ",
             "with 5: other word\n",
@@ -111,7 +111,7 @@ fn expectations_that_are_not_met() {
         concat!(
             "standard input: line 1: refusal 1 was expected, and it was kept\n",
             "standard input: line 6: refusal 4 was expected, and it was refused with 5: other word; ",
-            "byte 3 of the command, 'N': the word is LIST, LSUB or NAMESPACE (explained by the second ",
+            "byte 3 of the command, 'N': the word is LIST, LSUB, NAMESPACE, SUBSCRIBE or UNSUBSCRIBE (explained by the second ",
             "program, not proved)\n",
             "standard input: line 8: refusal 6 was expected, and it was answered\n",
             "standard input: line 10: refusal 2 was expected, and it was kept\n",
@@ -119,7 +119,7 @@ fn expectations_that_are_not_met() {
     );
 }
 
-/// An expectation stands in the line after its item, and names a refusal of document 01.
+/// An expectation stands in the line after its item, and names a refusal of the papers.
 #[test]
 fn lone_expectations() {
     for source in [
@@ -130,7 +130,7 @@ fn lone_expectations() {
         "order as-given\nexpect 6\n",
         "walk\nexpect\n",
         "walk\nexpect 0\n",
-        "walk\nexpect 14\n",
+        "walk\nexpect 16\n",
         "walk\nexpect six\n",
     ] {
         let output = run_on(source);

@@ -90,6 +90,51 @@ fn places_of_lines() {
     }
 }
 
+/// Names of edits: the place, the rule, and the row below which a name would lie, before an edit that is
+/// accepted and after one.
+#[test]
+fn names_of_edits() {
+    let rows = "mailbox INBOX exists noinferiors\nmailbox a exists\n";
+    let below =
+        "byte 13 of the command, '\"': no name lies below a row with no inferiors (beside 'INBOX')";
+    let edits = [
+        ("subscribe inbox/x\n", below),
+        ("subscribe A\nsubscribe Inbox/x/y\n", below),
+        ("subscribe \"\"\n", "byte 13 of the command, '\"': a name has 1 to 200 bytes"),
+        (
+            "command a SUBSCRIBE {1}\n+ %\n",
+            "byte 13 of the command, '{': name bytes are 20 to 7E (hex), without % and *",
+        ),
+    ];
+    for (edit, expected) in edits {
+        assert_eq!(explained(&format!("{rows}{edit}")), expected, "{edit}");
+    }
+    let full: String = (0..512).map(|number| format!("mailbox {number:03} exists\n")).collect();
+    assert_eq!(
+        explained(&(full + "subscribe x\n")),
+        "byte 13 of the command, '\"': a row is inserted where there are under 512"
+    );
+}
+
+/// A row after an edit that was accepted is a bad frame, and one after a refused edit is kept.
+#[test]
+fn rows_after_edits() {
+    let rule = "no row is added after the first SUBSCRIBE or UNSUBSCRIBE that was OK";
+    for source in [
+        "unsubscribe x\nmailbox a exists\n",
+        "mailbox a exists\nsubscribe a\nframe 4D\n",
+        "43612053554253435249424520780D0A\n4D00010161\n",
+    ] {
+        assert_eq!(explained(source), rule, "{source}");
+    }
+    let refused = "mailbox a exists\nsubscribe a//b\nexpect 14\nmailbox b exists\nwalk\n";
+    let text = printed(refused, Form::Text);
+    assert!(text.contains("Mailbox    b                            exists\n\nWalk"), "{text}");
+    // What comes after a row that is refused is answered as it should be.
+    let text = printed("subscribe a\nmailbox b exists\nexpect 13\nwalk\n", Form::Text);
+    assert!(text.ends_with("Answer     1 command sent, 1 mailbox found\n           a\n"), "{text}");
+}
+
 /// What is answered has no explanation, and a buffer that is too small needs none.
 #[test]
 fn nothing_to_explain() {

@@ -90,3 +90,17 @@ fn refused_before_it_failed() {
     assert!(lines[0].starts_with("standard input: line 1: refused with 6: "), "{told}");
     assert!(lines[1].ends_with("program-half: after 2 of 3 items: exit status: 1"), "{told}");
 }
+
+/// A program that takes an edit which the second one refuses: what it does is not told as if it were
+/// known.
+#[test]
+fn programs_that_differ_in_an_edit() {
+    let ok = "4173204F4B20646F6E650D0A";
+    let program = script("takes-all", &format!("while read x; do echo {ok}; done"));
+    let output = run_with(&program, "subscribe \"\"\n");
+    assert_eq!(output.status.code(), Some(0), "{}", told(&output));
+    let text = String::from_utf8(output.stdout).expect("text");
+    let effect =
+        "Answer     s OK done\nEffect     the programs differ: the second one refuses this\n";
+    assert!(text.contains(effect), "{text}");
+}

@@ -15,7 +15,7 @@ fn bad_lines(source: impl AsRef<[u8]>) -> Vec<(u64, String)> {
 }
 
 /// Items, each with its frame.
-const ITEMS: [(&str, &str); 30] = [
+const ITEMS: [(&str, &str); 36] = [
     ("mailbox Foo exists", "4D000103466F6F"),
     ("mailbox \"a \\\"b\" subscribed", "4D00020461202262"),
     ("mailbox x 00ff", "4D00FF0178"),
@@ -36,6 +36,12 @@ const ITEMS: [(&str, &str); 30] = [
     ("command x\r\n  +  y \r\n+\r\n+ z", "43780D0A2079200D0A0D0A7A0D0A"),
     ("command {1}\n+ +", "437B317D0D0A2B0D0A"),
     ("command\n+ x\n+", "430D0A780D0A0D0A"),
+    ("subscribe Foo", "4373205355425343524942452022466F6F220D0A"),
+    ("subscribe \t Foo \t", "4373205355425343524942452022466F6F220D0A"),
+    ("subscribe \"a \\\"b\"", "437320535542534352494245202261205C2262220D0A"),
+    ("unsubscribe \"\"", "437520554E5355425343524942452022220D0A"),
+    ("unsubscribe a\\", "437520554E5355425343524942452022615C5C220D0A"),
+    ("subscribe \u{e9}", "437320535542534352494245207B327D0D0AC3A90D0A"),
     ("walk", "5700"),
     ("walk remote", "5701"),
     ("walk special-use remote", "5703"),
@@ -65,7 +71,7 @@ fn items_and_their_frames() {
 }
 
 /// Lines, each with the start of what is wrong with it.
-const NO_ITEMS: [(&str, &str); 24] = [
+const NO_ITEMS: [(&str, &str); 30] = [
     ("mailbix Foo exists", "unknown item \"mailbix\"; known are mailbox, namespace, "),
     ("Mailbox Foo exists", "unknown item \"Mailbox\""),
     ("mailbox\u{a0}Foo exists", "unknown item \"mailbox\\xC2\\xA0Foo\""),
@@ -83,6 +89,12 @@ const NO_ITEMS: [(&str, &str); 24] = [
     ("namespace shared \"\"", "a namespace has"),
     ("namespace shared \"\" \"//\"", "a delimiter is one byte"),
     ("namespace shared \"\" \"/\" x", "a delimiter is one byte"),
+    ("subscribe", "one name is subscribed or unsubscribed"),
+    ("unsubscribe \t", "one name is subscribed or unsubscribed"),
+    ("subscribe Foo Bar", "one name is subscribed or unsubscribed"),
+    ("unsubscribe \"Foo\"Bar", "one name is subscribed or unsubscribed"),
+    ("subscribe \"Foo", "a quoted string"),
+    ("Subscribe Foo", "unknown item \"Subscribe\""),
     ("walk local", "unknown option of a walk \"local\"; known are remote, special-use, without-"),
     ("walk subscribed", "unknown option of a walk \"subscribed\""),
     ("walk 256", "unknown option of a walk \"256\""),

@@ -11,6 +11,7 @@ const REFUSALS: &str = include_str!("../../../sessions/refusals.session");
 const LITERALS: &str = include_str!("../../../sessions/literals.session");
 const LSUB: &str = include_str!("../../../sessions/lsub.session");
 const SPECIAL_FOLDERS: &str = include_str!("../../../sessions/special-folders.session");
+const REVIEW: &str = include_str!("../../../sessions/review.session");
 const README: &str = include_str!("../../../../README.md");
 
 #[test]
@@ -186,6 +187,76 @@ fn a_retired_mail_program() {
     check_parts(&text, &parts);
 }
 
+/// W6: what is subscribed and unsubscribed, what is refused, and the walks before and after.
+#[test]
+fn a_review() {
+    let text = printed(REVIEW, Form::Text);
+    let unproved = "           (explained by the second program, not proved)\n";
+    let effect = |text: &str| format!("Effect     {text}\n{unproved}");
+    let added = "is subscribed now; there is no such mailbox, so a row was added for it";
+    let parts = [
+        concat!(
+            "Walk       option byte 0\n",
+            "Answer     2 commands sent, 2 mailboxes found\n",
+            "           Newsletters\n",
+            "           Customers/ABC\n",
+        )
+        .to_string(),
+        "Command    s SUBSCRIBE \"Customers/DEF\"\nAnswer     s OK done\n".to_string(),
+        effect("Customers/DEF is subscribed now"),
+        "Command    s SUBSCRIBE \"inbox/Contracts\"\nAnswer     s OK done\n".to_string(),
+        effect("INBOX/Contracts is subscribed now"),
+        effect(&format!("Customers/XYZ {added}")),
+        "Command    u UNSUBSCRIBE \"Newsletters\"\nAnswer     u OK done\n".to_string(),
+        effect("Newsletters is not subscribed any more"),
+        effect("none: Customers/DEF was subscribed already"),
+        effect("none: INBOX was not subscribed"),
+        effect("none: \"Customers/no such name\" was not subscribed"),
+        "Command    a1 SUBSCRIBE \"Customers/Old\"\nAnswer     a1 OK done\n".to_string(),
+        effect(&format!("Customers/Old {added}")),
+        effect("Customers/Old is not subscribed any more; its row, of no mailbox, is gone"),
+        concat!(
+            "Refused    14: unlawful name, or below a row with no inferiors (as expected)\n",
+            "Explained  byte 13 of the command, '\"': no name lies below a row with no inferiors ",
+            "(beside 'Letters')\n",
+        )
+        .to_string(),
+        "Explained  byte 13 of the command, '\"': no level of a name is empty\n".to_string(),
+        concat!(
+            "Mailbox    Zebra                        exists\n",
+            "Refused    13: bad frame (as expected)\n",
+            "Explained  no row is added after the first SUBSCRIBE or UNSUBSCRIBE that was OK\n",
+        )
+        .to_string(),
+        concat!(
+            "Answer     * LSUB () \"/\" \"Customers/ABC\"\n",
+            "           * LSUB () \"/\" \"Customers/DEF\"\n",
+            "           * LSUB () \"/\" \"Customers/XYZ\"\n",
+            "           * LSUB () \"/\" \"INBOX/Contracts\"\n",
+            "           b1 OK done\n",
+        )
+        .to_string(),
+        concat!(
+            "           * LIST () \"/\" \"INBOX\"\n",
+            "           * LIST (\\Subscribed) \"/\" \"INBOX/Contracts\"\n",
+            "           * LIST (\\NoInferiors) \"/\" \"Letters\"\n",
+            "           * LIST () \"/\" \"Newsletters\"\n",
+            "           b2 OK done\n",
+        )
+        .to_string(),
+        concat!(
+            "Walk       option byte 0\n",
+            "Answer     3 commands sent, 4 mailboxes found\n",
+            "           Customers/ABC\n",
+            "           Customers/DEF\n",
+            "           Customers/XYZ\n",
+            "           INBOX/Contracts\n",
+        )
+        .to_string(),
+    ];
+    check_parts(&text, &parts.each_ref().map(String::as_str));
+}
+
 /// The session that the README shows gives the output that it shows.
 #[test]
 fn the_session_of_the_readme() {
@@ -213,7 +284,7 @@ fn every_refusal() {
             given.insert(refusal);
         }
     }
-    assert_eq!(given, (1..=13).filter(|&number| number != 12).collect());
+    assert_eq!(given, (1..=15).filter(|&number| number != 12).collect());
 }
 
 /// Each bundled session ends well, and says what it sent and what was refused.
@@ -224,7 +295,8 @@ fn the_bundled_sessions_end_well() {
         (LITERALS, "3 of 3 rows and 0 of 0 entries kept; 10 commands, 0 walks; 6 refused, 6 of them as expected"),
         (LSUB, "7 of 7 rows and 0 of 0 entries kept; 10 commands, 0 walks; 2 refused, 2 of them as expected"),
         (SPECIAL_FOLDERS, "6 of 6 rows and 0 of 0 entries kept; 3 commands, 4 walks; 2 refused, 2 of them as expected"),
-        (REFUSALS, "51 of 51 rows and 3 of 3 entries kept; 11 commands, 4 walks, 5 bad frames; 20 refused, 20 of them as expected"),
+ (REVIEW, "6 of 7 rows and 0 of 0 entries kept; 13 commands, 2 walks; 3 refused, 3 of them as expected"),
+        (REFUSALS, "52 of 53 rows and 4 of 4 entries kept; 51 commands, 4 walks, 5 bad frames; 28 refused, 28 of them as expected"),
     ];
     for (session, expected) in sessions {
         assert_eq!(summary(session), expected);

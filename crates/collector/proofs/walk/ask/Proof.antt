@@ -1,10 +1,13 @@
 -- `ask` meets its contract: the command stands in the line, the answer in scratch, and its lines are taken in (`AskLaws`).
-use mathlib.Core.Path.{_≡_}
-use Prim.Native.Nat.{_+_, _≤_}
+use mathlib.Core.Path.{_≡_, ap, _∙_}
+use mathlib.Core.List.{List}
+use Prim.Native.Nat.{ℕ, _+_, _≤_}
 use native.Mathlib.Omega.{arith}
 use lib.ListN.{length, take, length-take}
 use borrow.Author.Needs.{needs}
+use Rattle.listing_rules.specs.Command.{isEdit, parsed}
 use Rattle.listing_rules.specs.Walk.{go, commandLine}
+use Rattle.listing_rules.proofs.WalkReads.{walk-command-reads}
 use Rattle.collector.specs.Options.{byteOf}
 use Rattle.collector.specs.Held.{heldTable}
 use Rattle.collector.specs.Rooms.{commandRoom}
@@ -31,8 +34,16 @@ sent c =
 array-share-prefix-line : tie.Need-array-share-prefix-line
 array-share-prefix-line c = sent c .inside
 
-slice-aggregate-answer-words-2 : tie.Need-slice-aggregate-answer-words-2
-slice-aggregate-answer-words-2 c = simp length-take (omega (arith, sent (c .before) .inside))
+slice-aggregate-read-words-2 : tie.Need-slice-aggregate-read-words-2
+slice-aggregate-read-words-2 c = simp length-take (omega (arith, sent (c .before) .inside))
+
+-- and is no edit
+read-words-requires : tie.Need-read-words-requires
+read-words-requires c κs =
+    let written = c .before .before in
+    let put = written .before .before .put-command in
+    let args = written .before .before .before .before .before .before .before .before .before .before .before .before .before .args in
+    ap (λ (l : List ℕ). isEdit (parsed l)) (sent written .bytes) ∙ walk-command-reads (byteOf (args .asking .options)) (args .reference .now)
 
 -- the answer stands at the front of scratch
 answered-so : (c : tie.After-known-told) →
@@ -40,7 +51,7 @@ answered-so : (c : tie.After-known-told) →
     let put = answered .before .before .before .before .before .put-command in
     let args = answered .before .before .before .before .before .before .before .before .before .before .before .before .before .before .before .before .args in
     let len = c .before .len .given .0 .0 in
-    let scratch = answered .answer-words .last .1 .1 .1 .1 .1 .0 in
+    let scratch = answered .read-words .last .1 .1 .1 .1 .1 .0 in
     (len ≤ length scratch) × (reply (heldTable (args .area .now) (args .words .now)) (take (put .result) (put .last .0)) (args .scratch .now) ≡ go (take len scratch))
 answered-so c =
     let stage-2 = c .before .before .before .before .before in
@@ -49,7 +60,7 @@ answered-so c =
     let put = answered .before .before .before .before .before .put-command in
     let args = answered .before .before .before .before .before .before .before .before .before .before .before .before .before .before .before .before .args in
     let told = c .before .len .given in
-    server-done (heldTable (args .area .now) (args .words .now)) (take (put .result) (put .last .0)) (args .scratch .now) (answered .answer-words .last .1 .1 .1 .1 .1 .0) (told .0 .0) (answered .answer-words .ensures .0) (told .1) (answered .answer-words .ensures .1)
+    server-done (heldTable (args .area .now) (args .words .now)) (take (put .result) (put .last .0)) (args .scratch .now) (answered .read-words .last .1 .1 .1 .1 .1 .0) (told .0 .0) (answered .read-words .ensures .0) (told .1) (answered .read-words .ensures .1)
 
 add-count : tie.Need-add-count
 add-count c =
@@ -92,7 +103,7 @@ returns-2 c =
     let written = answered .before .before .before in
     let args = written .before .before .before .before .before .before .before .before .before .before .before .before .before .args in
     λ s h.
-    asked-refused (heldTable (args .area .now) (args .words .now)) (args .asking .options) (args .reference .now) (args .scratch .now) (sent written) (answered .answer-words .ensures .0) (c .before .number .given .1) (args .found .now) (args .pending .now) s
+    asked-refused (heldTable (args .area .now) (args .words .now)) (args .asking .options) (args .reference .now) (args .scratch .now) (sent written) (answered .read-words .ensures .0) (c .before .number .given .1) (args .found .now) (args .pending .now) s
 
 pub ask-spec : {M : Type 1} → statement M
 ask-spec =
@@ -103,8 +114,8 @@ ask-spec =
     (λ c κs. search needs)
     (λ c. search needs)
     array-share-prefix-line
-    slice-aggregate-answer-words-2
-    (λ c κs. search needs)
+    slice-aggregate-read-words-2
+    read-words-requires
     (λ c. search needs)
     add-count
     slice-reshare-prefix-take-lines

@@ -1,4 +1,4 @@
--- `read_text`: the tag, the space and the word, and then what the word asks for. Rests on Wording and Judging.
+-- `read_text`: the tag, the space and the word, and then what the word asks for. Rests on Wording, Judging and Edits.
 use mathlib.Core.Path.{_≡_, sym, ap, _∙_}
 use mathlib.Core.List.{List as Seq}
 use mathlib.Core.Option.{some}
@@ -14,6 +14,7 @@ use Rattle.command_line.specs.declared.reading.Word.{Word}
 use Rattle.command_line.specs.Words.{wordOf, wordedAs}
 use Rattle.command_line.specs.Commands.{TagIn, Answers}
 use Rattle.command_line.proofs.Judging.{refuses, answers-as}
+use Rattle.command_line.proofs.Edits.{asks-subscribe, asks-unsubscribe}
 use Rattle.command_line.proofs.Wording.{tag-in, tag-off, space-off, space-read, word-off, word-read, other-word}
 use Rattle.command_line.proofs.reading.read_text.Statement.{statement}
 use Rattle.command_line.proofs.reading.read_text.Tie as tie
@@ -96,7 +97,13 @@ returns-6 : tie.Need-returns-6
 returns-6 c = arm (c .before .before .before) _ (c .before .enum-told6 .given .1) (c .read-lsub .ensures)
 
 returns-7 : tie.Need-returns-7
-returns-7 c = refuses _ 5 (c .refused4 .ensures) (by-word (c .before .before .before) _ (c .before .enum-told7 .given .1) ∙ other-word _ _)
+returns-7 c = arm (c .before .before .before) _ (c .before .enum-told7 .given .1) (asks-subscribe _ _ _ (c .read-edit .ensures))
+
+returns-8 : tie.Need-returns-8
+returns-8 c = arm (c .before .before .before) _ (c .before .enum-told8 .given .1) (asks-unsubscribe _ _ _ (c .read-edit2 .ensures))
+
+returns-9 : tie.Need-returns-9
+returns-9 c = refuses _ 5 (c .refused4 .ensures) (by-word (c .before .before .before) _ (c .before .enum-told9 .given .1) ∙ other-word _ _)
 
 pub read-text-spec : {M : Type 1} → statement M
 read-text-spec =
@@ -127,7 +134,13 @@ read-text-spec =
     (λ c κs. search needs)
     (λ c. search needs)
     (λ c κs. search needs)
+    (λ c. search needs)
+    (λ c κs. search needs)
+    (λ c. search needs)
+    (λ c κs. search needs)
     returns-4
     returns-5
     returns-6
-    returns-7)
+    returns-7
+    returns-8
+    returns-9)

@@ -3,7 +3,7 @@ use mathlib.Core.Path.{_≡_, sym, _∙_}
 use mathlib.Core.Bool.{false}
 use borrow.Author.Needs.{needs}
 use Rattle.listing_rules.specs.Bytes.{text, spells}
-use Rattle.command_line.proofs.Wording.{word-list, word-namespace, word-lsub, word-unknown}
+use Rattle.command_line.proofs.Wording.{word-list, word-namespace, word-lsub, word-subscribe, word-unsubscribe, word-unknown}
 use Rattle.command_line.proofs.reading.word_of.Statement.{statement}
 use Rattle.command_line.proofs.reading.word_of.Tie as tie
 
@@ -16,6 +16,14 @@ not-list c = sym (c .before .spells-word .ensures) ∙ c .if1 .left
 not-namespace : (c : tie.Else2) → spells (c .before .before .before .before .before .before .before .args .name .now) (text "NAMESPACE") ≡ false
 unfolding text
 not-namespace c = sym (c .before .spells-word2 .ensures) ∙ c .if2 .left
+
+not-lsub : (c : tie.Else3) → spells (c .before .before .before .before .before .before .before .before .before .before .args .name .now) (text "LSUB") ≡ false
+unfolding text
+not-lsub c = sym (c .before .spells-word3 .ensures) ∙ c .if3 .left
+
+not-subscribe : (c : tie.Else4) → spells (c .before .before .before .before .before .before .before .before .before .before .before .before .before .args .name .now) (text "SUBSCRIBE") ≡ false
+unfolding text
+not-subscribe c = sym (c .before .spells-word4 .ensures) ∙ c .if4 .left
 
 -- ---- the words
 
@@ -36,8 +44,25 @@ returns-3 c =
 returns-4 : tie.Need-returns-4
 unfolding text
 returns-4 c =
-    let second = c .before .before .before in
-    sym (word-unknown _ (not-list (second .before .before .before)) (not-namespace second) (sym (c .before .spells-word3 .ensures) ∙ c .if3 .left))
+    let third = c .before .before .before in
+    let second = third .before .before .before in
+    sym (word-subscribe _ (not-list (second .before .before .before)) (not-namespace second) (not-lsub third) (sym (c .before .spells-word4 .ensures) ∙ c .if4 .taken))
+
+returns-5 : tie.Need-returns-5
+unfolding text
+returns-5 c =
+    let fourth = c .before .before .before in
+    let third = fourth .before .before .before in
+    let second = third .before .before .before in
+    sym (word-unsubscribe _ (not-list (second .before .before .before)) (not-namespace second) (not-lsub third) (not-subscribe fourth) (sym (c .before .spells-word5 .ensures) ∙ c .if5 .taken))
+
+returns-6 : tie.Need-returns-6
+unfolding text
+returns-6 c =
+    let fourth = c .before .before .before in
+    let third = fourth .before .before .before in
+    let second = third .before .before .before in
+    sym (word-unknown _ (not-list (second .before .before .before)) (not-namespace second) (not-lsub third) (not-subscribe fourth) (sym (c .before .spells-word5 .ensures) ∙ c .if5 .left))
 
 pub word-of-spec : {M : Type 1} → statement M
 word-of-spec =
@@ -52,4 +77,10 @@ word-of-spec =
     (λ c. search needs)
     (λ c κs. search needs)
     returns-3
-    returns-4)
+    (λ c. search needs)
+    (λ c κs. search needs)
+    returns-4
+    (λ c. search needs)
+    (λ c κs. search needs)
+    returns-5
+    returns-6)

@@ -13,13 +13,11 @@ sized c = ap length (c .frame-buffer .ensures) ∙ length-replicate {A = ℕ} 20
 
 returns : tie.Need-returns
 returns c =
-    let after-carry-out = c .before .before .before .before .before .before in
-    let after-read-gathered = after-carry-out .before .before .before .before .before .before in
+    let after-carry-out = c .before .before .before .before .before .before .before .before in
+    let after-read-gathered = after-carry-out .before .before .before .before .before .before .before in
     let stage = after-read-gathered .before .before in
-    let made = stage in
     let read = after-read-gathered .read-gathered in
-    let carried = after-carry-out .carry-out in
-    record { frame = _; read = λ p h. read .ensures .means (omega (arith, sized made)) p h; carried = carried .ensures }
+    record { frame = _; read = λ p h. read .ensures .means (omega (arith, sized stage)) p h; carried = after-carry-out .carry-out .ensures }
 
 pub end-frame-spec : {M : Type 1} → statement M
 end-frame-spec =
@@ -30,6 +28,7 @@ end-frame-spec =
     (λ c κs. search needs)
     (λ c. search needs)
     (λ c κs. search needs)
+    (λ c. search needs)
     (λ c. search needs)
     (λ c. search needs)
     (λ c. search needs)

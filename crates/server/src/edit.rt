@@ -1,0 +1,151 @@
+// SUBSCRIBE and UNSUBSCRIBE: decided, measured, then done.
+use super::Stored;
+use super::replies::span_of;
+use super::replies::write_ok;
+use command_line::Command;
+use command_line::Kind;
+use command_line::put_name;
+use names::spell;
+use octets::Written;
+use subscriptions::Plan;
+use subscriptions::carry_out;
+use subscriptions::decide;
+ghost use mathlib.Core.Path.{_≡_};
+ghost use mathlib.Core.Bool.{true};
+ghost use Prim.Native.Nat.{_≤_};
+ghost use lib.ListN.{length, replicate};
+ghost use Rattle.listing_rules.specs.Table.{passes};
+ghost use Rattle.listing_rules.specs.Subscriptions.{storeTable, spelled};
+ghost use Rattle.command_line.specs.Commands.{Inside, nameOf};
+ghost use Rattle.subscriptions.specs.Stored.{wholeStore};
+ghost use Rattle.octets.specs.Written.{Gives};
+ghost use Rattle.server.specs.Edits.{Fronts, planReply, Leaves, memory, Reads, editKind, subscribeKind, editCommand};
+
+// Room for the name of any command line.
+const NAME_ROOM: usize = 2048;
+
+fn no_name() -> [u8; NAME_ROOM]
+    ensures { λ r. ⌜ r ≡ replicate 2048 0 ⌝ }
+{
+    [0u8; NAME_ROOM]
+}
+
+// A command that left the words as they were.
+pub(crate) fn unchanged(written: Written, count: usize) -> Stored
+    ensures { λ r. ⌜ r ≡ record { written = written; count = count; from = 0; to = 0 } ⌝ }
+{
+    Stored {
+        written,
+        count,
+        from: 0,
+        to: 0,
+    }
+}
+
+pub(crate) fn is_edit(kind: Kind) -> bool
+    ensures { λ r. ⌜ r ≡ editKind kind ⌝ }
+{
+    match kind {
+        Kind::Subscribe => true,
+        Kind::Unsubscribe => true,
+        Kind::List => false,
+        Kind::Root => false,
+        Kind::Namespace => false,
+        Kind::Lsub => false,
+        Kind::Refused(_) => false,
+    }
+}
+
+fn is_subscribe(kind: Kind) -> bool
+    ensures { λ r. ⌜ r ≡ subscribeKind kind ⌝ }
+{
+    match kind {
+        Kind::Subscribe => true,
+        Kind::Unsubscribe => false,
+        Kind::List => false,
+        Kind::Root => false,
+        Kind::Namespace => false,
+        Kind::Lsub => false,
+        Kind::Refused(_) => false,
+    }
+}
+
+// The answer to an edit by its plan: the number of its refusal, or the OK line.
+fn verdict(plan: Plan, tag: &[u8], out: &mut [u8]) -> Written
+    ensures { λ r. ⌜ Gives (planReply plan (now (tag .entry))) (now (out .entry)) (now (out .exit)) r ⌝ }
+{
+    match plan {
+        Plan::Keep => write_ok(tag, out),
+        Plan::Flag(_, _) => write_ok(tag, out),
+        Plan::Insert(_, _) => write_ok(tag, out),
+        Plan::Remove(_) => write_ok(tag, out),
+        Plan::Refused(number) => Written::Refused(number),
+    }
+}
+
+// The name of an edit, spelled, at the front of `name`, and its length.
+fn put_spelled(line: &[u8], command: Command, name: &mut [u8]) -> usize
+    requires { ⌜ length (nameOf (now line) command) ≤ length (now name) ⌝ }
+    ensures { λ r. ⌜ Fronts (spelled (nameOf (now (line .entry)) command)) (now (name .exit)) r ⌝ }
+{
+    let end = put_name(line, command, name);
+    spell(&mut name[..end]);
+    end
+}
+
+// The edit of a command that was read, over words whose table passes: 14, 15, then 9, all before any change.
+pub(crate) fn edit(
+    words: &mut [u64],
+    count: usize,
+    area: &mut [u8],
+    line: &[u8],
+    command: Command,
+    out: &mut [u8],
+) -> Stored
+    requires { ⌜ passes (storeTable (wholeStore (now words) count (now area))) ≡ true ⌝ }
+    requires { ⌜ Reads (now line) command × (editKind (command .kind) ≡ true) ⌝ }
+    ensures { λ r. ⌜ Leaves
+        (editCommand (wholeStore (now (words .entry)) count (now (area .entry))) (now (line .entry)) command (now (out .entry)))
+        (memory (now (words .entry)) (now (area .entry)) (now (out .entry)))
+        (memory (now (words .exit)) (now (area .exit)) (now (out .exit))) r ⌝ }
+{
+    let mut name = no_name();
+    let n = put_spelled(line, command, &mut name);
+    edit_named(words, count, area, &name[..n], line, command, out)
+}
+
+// The same where its name is at hand, spelled.
+fn edit_named(
+    words: &mut [u64],
+    count: usize,
+    area: &mut [u8],
+    name: &[u8],
+    line: &[u8],
+    command: Command,
+    out: &mut [u8],
+) -> Stored
+    requires { ⌜ passes (storeTable (wholeStore (now words) count (now area))) ≡ true ⌝ }
+    requires { ⌜ Inside (now line) command ⌝ }
+    requires { ⌜ now name ≡ spelled (nameOf (now line) command) ⌝ }
+    ensures { λ r. ⌜ Leaves
+        (editCommand (wholeStore (now (words .entry)) count (now (area .entry))) (now (line .entry)) command (now (out .entry)))
+        (memory (now (words .entry)) (now (area .entry)) (now (out .entry)))
+        (memory (now (words .exit)) (now (area .exit)) (now (out .exit))) r ⌝ }
+{
+    let kind = command.kind;
+    let subscribe = is_subscribe(kind);
+    let lent = words.len();
+    let plan = decide(area, &words[..count], lent, subscribe, name);
+    match verdict(plan, span_of(line, command.tag), out) {
+        Written::Refused(number) => unchanged(Written::Refused(number), count),
+        Written::Done(length) => {
+            let change = carry_out(plan, words, count, area, name);
+            Stored {
+                written: Written::Done(length),
+                count: change.count,
+                from: change.from,
+                to: change.to,
+            }
+        },
+    }
+}

@@ -1,0 +1,223 @@
+-- Laws of the store that packed bytes become: names placed one after the other, as the loop of `place_names` meets them, words copied,
+-- and the whole store. Rests on listing_rules' ProgramStore.
+use mathlib.Core.Path.{_≡_, refl, sym, ap, subst, _∙_}
+use mathlib.Core.Bool.{Bool, true, false, cond, _&&_}
+use mathlib.Core.List.{List, [], _∷_, _++_, map, append-assoc, append-nil}
+use Prim.Native.Nat.{ℕ, zero, suc, _+_, _-_, _≤_, _<_}
+use native.Mathlib.Omega.{arith}
+use lib.Dec.{leb}
+use lib.ListN.{length, take, drop, getD, set, replicate, length-append, length-replicate, length-set, length-take, length-map, length-drop, drop-of-length-le}
+use lib.Seq.{length-take-le, sets, sets-eq, paste, paste-suc, take-all, drop-cons, take-suc-set, drop-set-lt, drop-drop}
+use borrow.Author.Tests.{le-leb}
+use Rattle.listing_rules.specs.Lists.{joined}
+use Rattle.listing_rules.specs.Table.{Row, rows, names, passes, packedTable}
+use Rattle.listing_rules.specs.Records.{Record as Meant}
+use Rattle.listing_rules.specs.Subscriptions.{Store, zeroRecord}
+use Rattle.listing_rules.specs.Frames.{recordsFrom, filledTo, programStore}
+use Rattle.listing_rules.proofs.Passes.{passes-parts}
+use Rattle.listing_rules.proofs.ProgramStore.{count-from, packed-names-fit}
+use Rattle.octets.specs.Put.{Put}
+use Rattle.octets.proofs.Puts.{sets-append}
+use Rattle.records.specs.Words.{recordOf, meant}
+use Rattle.mailbox_table.specs.declared.rows.Row.{Row as CodeRow}
+use Rattle.mailbox_table.specs.Words.{rowOfWord}
+use Rattle.mailbox_table.specs.Index.{nameAt, rowAtWord, rowsAt, indexingOf, Found, Rest, Indexes}
+use Rattle.mailbox_table.specs.declared.Indexing.{Indexing}
+use Rattle.mailbox_table.specs.declared.Indexing.the-variants.{Rows, Fails}
+use Rattle.session.specs.Laying.{Short, Blank, Lays}
+
+-- Where the loop of `place_names` stands: the first i words, which were those of `ws₀`, are the records of their rows, and the names lie in
+-- the area, which was `a₀`. What is left gives the records and the names of the whole.
+pub record Placing (table ws₀ a₀ ws a : List ℕ) (at i : ℕ) : Type 0 where
+  pub inside : i ≤ length ws₀
+  pub size : length ws ≡ length ws₀
+  pub left : drop i ws ≡ drop i ws₀
+  pub records : map recordOf (take i ws) ++ recordsFrom at (rowsAt table (drop i ws₀)) ≡ recordsFrom 0 (rowsAt table ws₀)
+  pub done : List ℕ
+  pub bytes : a ≡ sets a₀ 0 done
+  pub place : at ≡ length done
+  pub named : done ++ joined (names (rowsAt table (drop i ws₀))) ≡ joined (names (rowsAt table ws₀))
+
+pub placing-none : (table ws a : List ℕ) → Placing table ws a ws a 0 0
+placing-none table ws a =
+    record { inside = omega arith; size = refl; left = refl; records = refl; done = []; bytes = refl; place = refl; named = refl }
+
+-- the name of a word's row, which is short
+name-is : (table : List ℕ) (w : ℕ) (row : CodeRow) (n : List ℕ) → row ≡ rowOfWord w → n ≡ take (row .len) (drop (row .start) table) → n ≡ nameAt table w
+unfolding nameAt
+name-is table w row n read named = named ∙ ap (λ (r : CodeRow). take (r .len) (drop (r .start) table)) read
+
+pub name-short : (table : List ℕ) (w : ℕ) (row : CodeRow) (n : List ℕ) → row ≡ rowOfWord w → n ≡ take (row .len) (drop (row .start) table) → length n < 256
+unfolding rowOfWord
+name-short table w row n read named =
+    omega (arith, ap length named, length-take (row .len) (drop (row .start) table), ap (λ (r : CodeRow). r .len) read)
+
+-- the record of a row at a place
+abbrev placedAt : ℕ → Row → Meant
+placedAt at r = record { flags = r .flags; start = at; len = length (r .name) }
+
+map-append : (ws vs : List ℕ) → map recordOf (ws ++ vs) ≡ map recordOf ws ++ map recordOf vs
+map-append [] vs = refl
+map-append (w ∷ ws) vs = ap (λ (l : List Meant). recordOf w ∷ l) (map-append ws vs)
+
+module _ {table ws₀ a₀ ws a : List ℕ} {at i : ℕ} (p : Placing table ws₀ a₀ ws a at i) where
+  -- the names have room, and so has each
+  pub placing-room : Short (rowsAt table ws₀) → at ≤ 16384
+  placing-room h =
+      omega (arith, h, p .place, ap length (p .named), length-append (p .done) (joined (names (rowsAt table (drop i ws₀)))))
+
+  next : i < length ws → drop i ws₀ ≡ getD ws i 0 ∷ drop (i + 1) ws₀
+  next h =
+      let same : drop (i + 1) ws ≡ drop (i + 1) ws₀ = sym (drop-drop 1 i ws) ∙ ap (drop 1) (p .left) ∙ drop-drop 1 i ws₀ in
+      let one : suc i ≡ i + 1 = omega arith in
+      sym (p .left) ∙ drop-cons ws i 0 h ∙ ap (λ (k : ℕ). getD ws i 0 ∷ drop k ws) one ∙ ap (λ (l : List ℕ). getD ws i 0 ∷ l) same
+
+  -- a name more: its word tells the record at the place, and the bytes lie there
+  grows : i < length ws → (a′ : List ℕ) (v at′ : ℕ) → recordOf v ≡ placedAt at (rowAtWord table (getD ws i 0)) → Short (rowsAt table ws₀) → Put a a′ at (nameAt table (getD ws i 0)) at′ → Placing table ws₀ a₀ (set ws i v) a′ at′ (i + 1)
+  unfolding recordsFrom joined names
+  grows h a′ v at′ told short put =
+      let name = nameAt table (getD ws i 0) in
+      let rest = rowsAt table (drop (i + 1) ws₀) in
+      let cut = ap (rowsAt table) (next h) in
+      let whole = sym (ap (λ (rs : List Row). p .done ++ joined (names rs)) cut) ∙ p .named in
+      let grown = append-assoc (p .done) name (joined (names rest)) ∙ whole in
+      let before = map recordOf (take i ws) in
+      let one : i + 1 ≡ suc i = omega arith in
+      let here : at ≡ 0 + length (p .done) = omega (arith, p .place) in
+      let far : at′ ≡ at + length name = omega (arith, put .place, put .fits, short, p .place, ap length grown, length-append (p .done ++ name) (joined (names rest)), length-append (p .done) name) in
+      record {
+        inside = omega (arith, p .size);
+        size = length-set ws i v ∙ p .size;
+        left = drop-set-lt (i + 1) ws i v (omega arith) ∙ sym (drop-drop 1 i ws) ∙ ap (drop 1) (p .left) ∙ drop-drop 1 i ws₀;
+        records =
+            ap (λ (l : List ℕ). map recordOf l ++ recordsFrom at′ rest) (ap (λ (k : ℕ). take k (set ws i v)) one ∙ take-suc-set ws i v h)
+            ∙ ap (λ (l : List Meant). l ++ recordsFrom at′ rest) (map-append (take i ws) (v ∷ []))
+            ∙ append-assoc before (recordOf v ∷ []) (recordsFrom at′ rest)
+            ∙ (λ j. before ++ (told j ∷ recordsFrom (far j) rest))
+            ∙ sym (ap (λ (rs : List Row). before ++ recordsFrom at rs) cut)
+            ∙ p .records;
+        done = p .done ++ name;
+        bytes = put .bytes ∙ (λ j. sets (p .bytes j) (here j) name) ∙ sym (sets-append a₀ 0 (p .done) name);
+        place = omega (arith, far, p .place, length-append (p .done) name);
+        named = grown;
+      }
+
+  pub placing-more : i < length ws → Short (rowsAt table ws₀) → (row : CodeRow) (n a′ : List ℕ) (v at′ : ℕ) → row ≡ rowOfWord (getD ws i 0) → n ≡ take (row .len) (drop (row .start) table) → recordOf v ≡ meant (record { flags = row .flags .bits; start = at; len = length n }) → Put a a′ at n at′ → Placing table ws₀ a₀ (set ws i v) a′ at′ (i + 1)
+  unfolding meant
+  placing-more h short row n a′ v at′ read named told put =
+      let is = name-is table (getD ws i 0) row n read named in
+      grows h a′ v at′ (told ∙ (λ j. record { flags = read j .flags .bits; start = at; len = length (is j) })) short (rw is at put)
+
+  pub placing-all : length ws ≤ i → (map recordOf ws ≡ recordsFrom 0 (rowsAt table ws₀)) × (a ≡ sets a₀ 0 (joined (names (rowsAt table ws₀))))
+  unfolding recordsFrom joined names
+  placing-all h =
+      let none : drop i ws₀ ≡ [] = drop-of-length-le ws₀ {i = i} (omega (arith, p .size)) in
+      let named : p .done ≡ joined (names (rowsAt table ws₀)) = sym (append-nil (p .done)) ∙ sym (ap (λ (l : List ℕ). p .done ++ joined (names (rowsAt table l))) none) ∙ p .named in
+      let told = sym (append-nil (map recordOf (take i ws))) ∙ sym (ap (λ (l : List ℕ). map recordOf (take i ws) ++ recordsFrom at (rowsAt table l)) none) ∙ p .records in
+      (sym (ap (map recordOf) (take-all i ws h)) ∙ told, p .bytes ∙ ap (sets a₀ 0) named)
+
+-- Words copied one by one.
+pub copied-more : (d s : List ℕ) (i : ℕ) → i < length s → length s ≤ length d → set (paste d 0 s i) i (getD s i 0) ≡ paste d 0 s (i + 1)
+copied-more d s i h few =
+    let here : i ≡ 0 + i = omega arith in
+    let one : suc i ≡ i + 1 = omega arith in
+    ap (λ (k : ℕ). set (paste d 0 s i) k (getD s i 0)) here ∙ paste-suc d 0 s i 0 (omega arith) h ∙ ap (paste d 0 s) one
+
+-- Zeros at the end of words and area.
+abbrev zeros : ℕ → List ℕ
+zeros n = replicate n 0
+
+drop-zeros : (n m : ℕ) → drop n (zeros m) ≡ zeros (m - n)
+drop-zeros zero m = let w : m ≡ m - zero = omega arith in ap zeros w
+drop-zeros (suc n) zero = let w : zero ≡ zero - suc n = omega arith in ap zeros w
+drop-zeros (suc n) (suc m) = let w : m - n ≡ suc m - suc n = omega arith in drop-zeros n m ∙ ap zeros w
+
+zero-records : (n : ℕ) → map recordOf (zeros n) ≡ replicate n zeroRecord
+unfolding recordOf zeroRecord
+zero-records zero = refl
+zero-records (suc n) = ap (λ (l : List Meant). zeroRecord ∷ l) (zero-records n)
+
+names-filled : (m : ℕ) (ns : List ℕ) → length ns ≤ m → sets (zeros m) 0 ns ≡ filledTo m 0 ns
+unfolding filledTo
+names-filled m ns h =
+    let w : m - (0 + length ns) ≡ m - length ns = omega arith in
+    sets-eq ns (zeros m) 0 (omega (arith, length-replicate {A = ℕ} m 0))
+    ∙ ap (λ (l : List ℕ). ns ++ l) (drop-zeros (0 + length ns) m ∙ ap zeros w)
+
+-- n words that tell these records, and zeros after them up to m
+records-filled : (m n : ℕ) (vs : List ℕ) (rs : List Meant) → map recordOf vs ≡ rs → length rs ≡ n → n ≤ m → map recordOf (take m (vs ++ drop n (zeros m))) ≡ filledTo m zeroRecord rs
+unfolding filledTo
+records-filled m n vs rs told size few =
+    let zs = drop n (zeros m) in
+    let same : length vs ≡ n = sym (length-map vs recordOf) ∙ ap length told ∙ size in
+    let w : m - n ≡ m - length rs = omega (arith, size) in
+    let rest : map recordOf zs ≡ replicate (m - length rs) zeroRecord = ap (map recordOf) (drop-zeros n m) ∙ zero-records (m - n) ∙ ap (λ (k : ℕ). replicate k zeroRecord) w in
+    ap (map recordOf) (take-all m (vs ++ zs) (omega (arith, length-append vs zs, same, length-drop n (zeros m), length-replicate {A = ℕ} m 0, few)))
+    ∙ map-append vs zs
+    ∙ (λ i. told i ++ rest i)
+
+-- A table's index, with room for 512 rows: its rows are found exactly if it passes.
+module _ {t ws us : List ℕ} {r : Indexing} (x : Indexes t (packedTable t) ws us r) (h : length ws ≡ 512) where
+  roomy : passes (packedTable t) ≡ true → leb (length (rows (packedTable t))) 512 ≡ true
+  roomy e = le-leb (length (rows (packedTable t))) 512 (passes-parts (packedTable t) e .few)
+
+  answer-is : r ≡ indexingOf (packedTable t) 512
+  answer-is = x .answer ∙ ap (indexingOf (packedTable t)) h
+
+  pub lays-fails : r ≡ Fails → passes (packedTable t) ≡ false
+  unfolding indexingOf
+  lays-fails e = go (passes (packedTable t)) refl (sym e ∙ answer-is)
+    where
+      go : (b : Bool) → passes (packedTable t) ≡ b → Fails ≡ cond (b && leb (length (rows (packedTable t))) 512) (Rows (length (rows (packedTable t)))) Fails → b ≡ false
+      go true f g = let w : Fails ≡ Rows (length (rows (packedTable t))) = g ∙ ap (λ (c : Bool). cond c (Rows (length (rows (packedTable t)))) Fails) (roomy f) in cc
+      go false f g = refl
+
+  module _ (n : ℕ) (e : r ≡ Rows n) where
+    index-passes : passes (packedTable t) ≡ true
+    unfolding indexingOf
+    index-passes = go (passes (packedTable t)) (sym e ∙ answer-is)
+      where
+        go : (b : Bool) → Rows n ≡ cond (b && leb (length (rows (packedTable t))) 512) (Rows (length (rows (packedTable t)))) Fails → b ≡ true
+        go true g = refl
+        go false g = cc
+
+    found : Found t (rows (packedTable t)) us (Rows n)
+    found = subst (Found t (rows (packedTable t)) us) e (x .found)
+
+    rest : Rest ws us (Rows n)
+    rest = subst (Rest ws us) e (x .rest)
+
+    pub rows-inside : n ≤ length us
+    rows-inside = omega (arith, found .0, passes-parts (packedTable t) index-passes .few, x .room, h)
+
+    pub rows-size : n ≡ length (take n us)
+    rows-size = sym (length-take-le n us rows-inside)
+
+    pub rows-short : length t ≤ 16384 → Short (rowsAt t (take n us))
+    rows-short s = omega (arith, s, packed-names-fit t, ap (λ (rs : List Row). length (joined (names rs))) (found .1))
+
+    -- the names placed, and zeros after them
+    pub lays-rows : (a b vs : List ℕ) → Blank t ws a → map recordOf vs ≡ recordsFrom 0 (rowsAt t (take n us)) → b ≡ sets a 0 (joined (names (rowsAt t (take n us)))) → Lays t (vs ++ drop n us) b (Rows n)
+    unfolding programStore names
+    lays-rows a b vs blank told put =
+        let rs = rows (packedTable t) in
+        let recorded = told ∙ ap (recordsFrom 0) (found .1) in
+        let few : n ≤ 512 = omega (arith, rows-inside, x .room, h) in
+        let spare : drop n us ≡ drop n (zeros 512) = rest ∙ ap (drop n) (blank .words) in
+        let named = ap (λ (l : List Row). joined (names l)) (found .1) in
+        let records-are = ap (λ (l : List ℕ). map recordOf (take 512 (vs ++ l))) spare ∙ records-filled 512 n vs (recordsFrom 0 rs) recorded (count-from 0 rs ∙ sym (found .0)) few in
+        let area-is = put ∙ (λ i. sets (blank .area i) 0 (named i)) ∙ names-filled 16384 (joined (names rs)) (omega (arith, blank .table, packed-names-fit t)) in
+        (index-passes, λ i. record { records = records-are i; count = found .0 i; area = area-is i })
+
+-- no more rows than records
+pub laid-few : (t ws a : List ℕ) (count : ℕ) → Lays t ws a (Rows count) → count ≤ 512
+unfolding programStore
+laid-few t ws a count x = omega (arith, ap (λ (s : Store). s .count) (x .1), passes-parts (packedTable t) (x .0) .few)
+
+-- the answer tells which
+module _ (t ws a : List ℕ) {r : Indexing} where
+  pub laid-not : Lays t ws a r → r ≡ Fails → passes (packedTable t) ≡ false
+  laid-not x e = subst (Lays t ws a) e x
+
+  pub laid-rows : {n : ℕ} → Lays t ws a r → r ≡ Rows n → Lays t ws a (Rows n)
+  laid-rows x e = subst (Lays t ws a) e x

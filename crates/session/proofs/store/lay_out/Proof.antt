@@ -1,0 +1,59 @@
+-- `session::store::lay_out` meets its contract: the table does not pass, or its names are placed. Rests on LayLaws.
+use mathlib.Core.Path.{_≡_, ap, _∙_}
+use Prim.Native.Nat.{ℕ}
+use lib.ListN.{length, length-replicate}
+use Rattle.session.proofs.LayLaws.{lays-fails, rows-inside, rows-size, rows-short, lays-rows}
+use borrow.Author.Needs.{needs}
+use Rattle.session.proofs.store.lay_out.Statement.{statement}
+use Rattle.session.proofs.store.lay_out.Tie as tie
+
+-- room for 512 rows
+sized : (start : tie.Start) → length (start .args .words .now) ≡ 512
+sized start = ap length (start .pre .words) ∙ length-replicate {A = ℕ} 512 0
+
+returns : tie.Need-returns
+returns c =
+    let after-index = c .before .before .before .before in
+    let start = after-index .before .before .before .before .before in lays-fails (after-index .index .ensures) (sized start) (c .enum-told .given .1)
+
+slice-relend-prefix-place-names : tie.Need-slice-relend-prefix-place-names
+slice-relend-prefix-place-names c =
+    let after-index = c .before .before .before .before .before in
+    let stage = after-index .before .before .before .before .before in
+    rows-inside (after-index .index .ensures) (sized stage) _ (c .before .n .given .1)
+
+slice-aggregate-place-names : tie.Need-slice-aggregate-place-names
+slice-aggregate-place-names c =
+    let after-index = c .before .before .before .before .before .before in
+    let stage = after-index .before .before .before .before .before in
+    rows-size (after-index .index .ensures) (sized stage) _ (c .before .before .n .given .1)
+
+place-names-requires : tie.Need-place-names-requires
+place-names-requires c κs =
+    let after-index = c .before .before .before .before .before .before .before in
+    let start = after-index .before .before .before .before .before in rows-short (after-index .index .ensures) (sized start) _ (c .before .before .before .n .given .1) (start .pre .table)
+
+returns-2 : tie.Need-returns-2
+returns-2 c =
+    let after-place-names = c .before .before .before .before in
+    let after-n = after-place-names .before .before .before .before in
+    let after-index = after-n .before .before .before .before in
+    let start = after-index .before .before .before .before .before in
+    let placed = after-place-names .place-names .ensures in
+    lays-rows (after-index .index .ensures) (sized start) _ (after-n .n .given .1) _ _ (after-place-names .place-names .last .1 .0) (start .pre) (placed .0) (placed .1)
+
+pub lay-out-spec : {M : Type 1} → statement M
+lay-out-spec =
+    tie.close
+    (tie.spec
+    (λ c κs. search needs)
+    (λ c. search needs)
+    (λ c. search needs)
+    (λ c. search needs)
+    returns
+    slice-relend-prefix-place-names
+    slice-aggregate-place-names
+    place-names-requires
+    (λ c. search needs)
+    (λ c. search needs)
+    returns-2)

@@ -1,0 +1,60 @@
+-- `session::walks::collect_kept` meets its contract: records, or packed bytes. Rests on WalkLaws.
+use mathlib.Core.Path.{_≡_, ap, _∙_}
+use Rattle.listing_rules.specs.Table.{Table}
+use Rattle.collector.specs.Result.{collectedOf, foundOf}
+use Rattle.session.proofs.LentLaws.{whole-table, whole-area, whole-records}
+use Rattle.session.proofs.WalkLaws.{walks-records, walks-packed}
+use borrow.Author.Needs.{needs}
+use Rattle.session.proofs.walks.collect_kept.Statement.{statement}
+use Rattle.session.proofs.walks.collect_kept.Tie as tie
+
+slice-aggregate-words : tie.Need-slice-aggregate-words
+slice-aggregate-words c =
+    let start = c .before .before .before .before .before .before .before in
+    whole-records (start .pre)
+
+slice-aggregate-collect-words : tie.Need-slice-aggregate-collect-words
+slice-aggregate-collect-words c =
+    let start = c .before .before .before .before .before .before .before .before in
+    whole-area (start .pre)
+
+returns : tie.Need-returns
+returns c =
+    let after-collect-words = c .before .before .before .before .before .before in
+    let at-if1 = after-collect-words .before .before .before .before .before .before in
+    let start = at-if1 .before .before .before .before .before .before in
+    let walked = after-collect-words .collect-words .ensures in
+    let same = walks-records (start .args .stored) (start .args .table .now) (start .args .records .now) (at-if1 .if1 .taken) in
+    (walked .0 ∙ ap (λ (t : Table). collectedOf t (start .args .option) (start .args .scratch .now) (start .args .found .now) (start .args .pending .now)) same, walked .1 .1 .0 ∙ ap (λ (t : Table). foundOf t (start .args .option) (start .args .scratch .now) (start .args .found .now) (start .args .pending .now)) same)
+
+slice-aggregate-collect-packed : tie.Need-slice-aggregate-collect-packed
+slice-aggregate-collect-packed c =
+    let start = c .before .before .before .before .before .before .before in
+    whole-table (start .pre)
+
+returns-2 : tie.Need-returns-2
+returns-2 c =
+    let after-collect-packed = c .before .before .before .before .before .before in
+    let at-if1 = after-collect-packed .before .before .before .before .before in
+    let start = at-if1 .before .before .before .before .before .before in
+    let walked = after-collect-packed .collect-packed .ensures in
+    let same = walks-packed (start .args .stored) (start .args .table .now) (start .args .records .now) (at-if1 .if1 .left) in
+    (walked .0 ∙ ap (λ (t : Table). collectedOf t (start .args .option) (start .args .scratch .now) (start .args .found .now) (start .args .pending .now)) same, walked .1 .1 .0 ∙ ap (λ (t : Table). foundOf t (start .args .option) (start .args .scratch .now) (start .args .found .now) (start .args .pending .now)) same)
+
+pub collect-kept-spec : {M : Type 1} → statement M
+collect-kept-spec =
+    tie.close
+    (tie.spec
+    slice-aggregate-words
+    slice-aggregate-collect-words
+    (λ c κs. search needs)
+    (λ c. search needs)
+    (λ c. search needs)
+    (λ c. search needs)
+    returns
+    slice-aggregate-collect-packed
+    (λ c κs. search needs)
+    (λ c. search needs)
+    (λ c. search needs)
+    (λ c. search needs)
+    returns-2)

@@ -1,0 +1,101 @@
+//! What series of calls over lent records reach (document 02, W6).
+
+use std::collections::BTreeMap;
+
+use compare::edit_series::{some_call, some_table, Call, Command};
+use compare::edits::free_runs;
+use compare::random::Random;
+use second::records::MAX_AREA;
+use second::table::MAX_ROWS;
+use second::{answer, Refusal, Store};
+
+const SEEDS: u64 = 1_500;
+const CALLS: usize = 40;
+
+/// What a call comes to.
+fn outcome(table: &mut Store, command: &Command) -> String {
+    let (before, mut out) = (table.clone(), vec![0; command.room]);
+    table.count = command.count;
+    let result = table.lend(|lent| answer(lent, &command.namespaces, &command.line, &mut out));
+    match result.map_err(Refusal::number) {
+        Err(number) => {
+            table.count = before.count;
+            assert_eq!(*table, before);
+            format!("refused with {number}")
+        }
+        Ok(answered) if !answered.is_edit => "read".to_string(),
+        Ok(_) if table.count > command.count => insertion(&before, table).to_string(),
+        Ok(_) if table.count < command.count => "removed".to_string(),
+        Ok(_) if table.records != before.records => "flag changed".to_string(),
+        Ok(_) => "nothing changed".to_string(),
+    }
+}
+
+/// Into which free run a name went.
+fn insertion(before: &Store, after: &Store) -> &'static str {
+    let used = |store: &Store| -> usize { free_runs(store).iter().map(|run| run.len()).sum() };
+    let (runs, length) = (free_runs(before), used(before).saturating_sub(used(after)));
+    let is_filled = free_runs(after).len() < runs.len();
+    match runs.iter().position(|run| run.len() >= length) {
+        Some(0) if is_filled => "inserted into the first run, filling it",
+        Some(0) => "inserted into the first run",
+        _ if is_filled => "inserted into a later run, filling it",
+        _ => "inserted into a later run",
+    }
+}
+
+#[test]
+fn what_the_series_reach() {
+    let mut reached: BTreeMap<String, usize> = BTreeMap::new();
+    let mut count = |what: &str| *reached.entry(what.to_string()).or_default() += 1;
+    for seed in 0..SEEDS {
+        let mut random = Random::of("library: edits", seed);
+        let (mut table, mut names) = some_table(&mut random);
+        for _ in 0..CALLS {
+            match some_call(&mut random, &table, &mut names) {
+                Call::Walk(_) => count("a walk"),
+                Call::Answer(command) => {
+                    count(&outcome(&mut table, &command));
+                    if command.count > table.records.len() {
+                        count("a count above the records");
+                    }
+                }
+            }
+        }
+        for (what, holds) in [
+            ("512 rows", table.count == MAX_ROWS),
+            ("the largest area", table.area.len() == MAX_AREA),
+            ("no spare record", table.count == table.records.len()),
+        ] {
+            if holds {
+                count(what);
+            }
+        }
+    }
+    for (what, least) in [
+        ("refused with 1", 800),
+        ("refused with 2", 50),
+        ("refused with 3", 20),
+        ("refused with 4", 100),
+        ("refused with 5", 50),
+        ("refused with 9", 2_000),
+        ("refused with 14", 500),
+        ("refused with 15", 2_000),
+        ("inserted into the first run", 300),
+        ("inserted into the first run, filling it", 300),
+        ("inserted into a later run", 300),
+        ("inserted into a later run, filling it", 300),
+        ("removed", 1_000),
+        ("flag changed", 500),
+        ("nothing changed", 1_000),
+        ("read", 2_000),
+        ("a walk", 1_000),
+        ("a count above the records", 300),
+        ("512 rows", 30),
+        ("the largest area", 10),
+        ("no spare record", 100),
+    ] {
+        let times = reached.get(what).copied().unwrap_or(0);
+        assert!(times >= least, "{what}: {times}\n{reached:#?}");
+    }
+}

@@ -1,0 +1,245 @@
+"""Writes the walks of the entries that write records: they copy lent records into words of their own, lend these to a core that may
+change them, and copy back what changed.
+
+An entry is `fn NAME(records: &mut [Record], count: usize, ..) -> R` with the body
+    let mut words = no_words();
+    let lent = copy_in(records, records.len(), &mut words);
+    let done = CORE(&mut words, lent, count, ..);
+    copy_back(records, done.from, done.to, &words);
+    R { FIELD: done.FIELD, .. }    or    done.FIELD
+and the core, which is covered, has the same parameters after `&mut [u64]` and how many words are lent. What it promises of `wordCommand`
+the entry promises of `lentCommand`; where the core tells of the words at exit, the entry tells of the records.
+"""
+from entry import Lender, US, declared, nested, number_made, path
+from head import capital, dashed, proofs_of, specs_of, write
+from walk import Walk
+
+VS = 'z3 .0'  # the words as the core left them
+RUN = '(r .from) (r .to)'  # those of them that became others, by its result
+
+
+class Done:
+    """The struct that a core returns, by the names of its fields; `gives` are those that the entry returns in a struct, or the one that
+    it returns as it is."""
+
+    def __init__(self, crate, name, own, fields, gives):
+        self.result = declared(crate, name, own, enum=False, short='D')
+        self.fields, self.gives = fields, gives
+
+    def field(self, name):
+        return self.fields.index(name)
+
+    def given(self):
+        return f'r .{self.gives}' if isinstance(self.gives, str) else 'record { %s }' % '; '.join(f'{g} = r .{g}' for g in self.gives)
+
+    def shown(self):
+        """That its machine value is that of its fields, out of what is known of the fields of r (`h`)."""
+        if isinstance(self.gives, str):
+            return f'h {path(self.field(self.gives))}'
+        return f'LL.owes R.the-type R′.the-laws (given r) {nested(["h " + path(self.field(g)) for g in self.gives])}'
+
+    def value(self, w, local):
+        if isinstance(self.gives, str):
+            return 'of-opd ! ' + w.ldf(local, self.field(self.gives))
+        operands = '(no-more !)'
+        for g in reversed(self.gives):
+            operands = f'(and-then ! {w.ldf(local, self.field(g))} {operands})'
+        return f'agg ! {operands}'
+
+
+class EditEntry(Lender):
+    """As an entry that reads; a clause says of the command `c` what the core promises of the command over words and the entry of the
+    one over records, and is moved from `e` by `a`, that the one comes to what the other does."""
+
+    def __init__(self, crate, fn, core, rest, done, result, clauses, uses):
+        super().__init__(crate, fn, core, [('records', 'no_words'), ('records', 'copy_in'), core, ('records', 'copy_back')],
+                         [('records', 'mut records'), ('count', 'usize')] + rest, result, clauses, uses, 'own_given')
+        self.result_of_core = done
+        # the locals: the result, the parameters, the words, how many are lent, the core's result, and what the compiler adds for each operand
+        self.lent, self.done, self.made, self.copying, self.lending = (self.p + k for k in (2, 3, 4, 5, 10))
+        self.copied_back = self.lending + 2 + 2 * len(self.bytes)
+        self.locals = self.copied_back + 5
+        # texts
+        names = ' '.join(p.name for p in self.params[1:])
+        self.over_records = f'lentCommand records {names}'
+        self.over_words = f'wordCommand ({US}) n {names}'
+        self.last = ''.join(f' (z3 {path(m.place + 1)})' for m in self.bytes)
+        self.answers = (f'(answers records xs ({US}) ({VS}) n {RUN} (is0 .1 .0 .1) (is2 .1 .0 .1) (is4 .1 .0 .1) e1 {names}'
+                        ' (s-words .0) (s-words .1) (z5 .0) e5)')
+        self.given = ''.join(f' s-{c.name}' for c in clauses) + self.lengths
+
+    # ---- The walk.
+
+    def copies(self, w):
+        at, r, first = self.place, self.records, self.copying
+        again = f'T.the-row {r.block} {r.offset} {r.kappa} {r.share} {r.ghost}'
+        self.passed_on(w, first, r)
+        w.set(first + 2, 'of-opd ! ' + w.ldf(1, 1), f'(tt, record {{ fits = {r.good} .0 }})')
+        self.whole_words(w, first + 3)
+        w.say('-- copy_in has the records lent as `&` and the words as `&mut`, for two lifetimes of the call')
+        self.parts(w)
+        w.opens('lft-new ! tt (λ ν.', [], ['lftν']).opens('lft-new ! tt (λ μ.', [], ['lftμ'])
+        w.move('records', 'lft0').opens(
+            f'use2 W (later (some (λ (δ : GName). ‵ (ShrSlice (named 0) (ν ∷ []) T.the-row .own (shown δ) (at .0)) ⊛ ‵ (SharedAgain {again} (ν ∷ []) records))))'
+            f' (shares-again {again} 𝓤 H A W (named 0) records (ν ∷ []) (named 0)) $ await ! tt $ pick ! (λ δ₀. split ! $', ['records', 'lft0'], ['shared', 'again'])
+        self.lends(w, 'own_xs', 'μ', 'xs', 'v0', 'δ₁')
+        w.step(number_made('usize', '(length records)', f'{r.good} .0'), [], ['length'])
+        to = f'(to-copy {at} ν μ δ₀ δ₁ xs)'
+        self.hands(w, 'copy_in', to, ['shared', 'length', 'msl'], ['lftν', 'lftμ'])
+        w.call('copy-in', to, [w.ld_later(first + 1), w.ld_later(first + 2), w.ld_later(first + 4)], 'v1')
+        w.told('copy-in', '(ν ∷ [], (μ ∷ [], tt))', '(‵ (flft (ν ∷ []) fullShare) ⊛ ‵ (flft (μ ∷ []) fullShare) ⊛ ‵ ftrue)', 'usize', 'ℕ',
+               f'(shown δ₀, (length records, (words {at} δ₁ xs, tt)))', 'n', 'v1', [('e1', f'Copied records xs ({US}) n')], 'z1')
+        self.counted(w, self.lent)
+        w.split('fsplit', 'lasts', 'a0', 'a1', 'a2', 'a3').split('fsplit', 'a2', 'fin', 'len').split('split', 'toks', 'lftν', 'lftμ', 'true1')
+        w.say('-- and both come back')
+        self.had_back(w, 'μ', 'δ₁', f'({US})', 'v2', 'own2', 'is2')
+        self.ends(w, 'ν')
+        w.move('dead', 'again').step(
+            f'use2 W (later (‵ ({r.type} .own (x .0) (at .0)) ⊛ ‵ (flft {r.kappa} {r.share}))) (again-back {again} 𝓤 H A W (named 0) records (ν ∷ [])) $ await ! tt $ split ! $',
+            ['dead', 'again'], ['records', 'lft0'])
+
+    def core_args(self, words, lent):
+        return nested([words, lent] + ['x ' + p.path for p in self.params[1:]])
+
+    def calls_core(self, w):
+        self.whole_words(w, self.lending)
+        for k, m in enumerate(self.bytes):
+            self.passed_on(w, self.lending + 2 + 2 * k, m)
+        w.say('-- the core has the words lent as `&mut` for a lifetime of the call, and the bytes that are lent as `&mut` for good')
+        w.opens('lft-new ! tt (λ ξ.', [], ['lftξ'])
+        self.lends(w, 'own2', 'ξ', f'({US})', 'v2', 'δ₂')
+        w.step(number_made('usize', 'n', 'is1 .1'), [], ['lent2'])
+        owns, operands = self.hands_params(w, lambda p: self.lending + 3 + 2 * self.bytes.index(p))
+        callee, r = dashed(self.core[1]), self.result_of_core.result
+        to = f'(to-core {self.place} ξ δ₂ ({US}) n)'
+        self.hands(w, self.core[1], to, ['msl', 'lent2'] + owns, ['lftξ'] + self.tokens[1:])
+        w.call(callee, to, [w.ld_later(self.lending + 1), w.ld_later(self.lent)] + operands, 'v3')
+        told = [('s-' + c.name, f'Says-{c.name} ({self.over_words}) (given r){self.last}') for c in self.clauses]
+        told.append(('s-words', f'(map recordOf (take n ({VS})) ≡ {self.over_words} .store .records) × Between ({US}) ({VS}) n {RUN}'))
+        w.told(callee, self.core_lifetimes('ξ ∷ []'), self.core_tokens('ξ'), r.row, r.denot, self.core_args(f'words {self.place} δ₂ ({US})', 'n'), 'r', 'v3', told, 'z3')
+        w.opens(f'peeks ! {r.row} (Is {r.row}) (shows 𝓤 H A {r.row}) r (v3 ∷ []) (λ is3.', [], [])
+        w.say(f'land ! (from ! (stop !)) (init ! {w.at(self.done)} refl ({r.lawful} .typed r _ is3 .0)) $')
+        w.rewrite(self.done, f'λ (u : Val). ‵ (fat fullShare D′.mir l{self.done} 0 u)', 'ap only (D′.lowers .val-is r _ is3)')
+        w.split('fsplit', 'lasts', *['c%d' % k for k in range(self.p + 1)], 'none3').split('fsplit', 'c0', 'fin', 'len4')
+        for m in self.bytes:
+            self.last_list(w, 'c%d' % (m.place + 1), m)
+        w.split('split', 'toks', 'lftξ', *self.tokens[1:], 'true3')
+        self.had_back(w, 'ξ', 'δ₂', f'({VS})', 'v4', 'own4', 'is4')
+
+    def copies_back(self, w):
+        at, r, first, done = self.place, self.records, self.copied_back, self.result_of_core
+        self.passed_on(w, first + 1, r)
+        self.whole_words(w, first + 3)
+        w.say('-- copy_back has the words lent as `&` for a lifetime of the call, and the records for good')
+        self.shares_words(w, 'own4', 1, 'ρ', f'({VS})', 'v4', 'δ₃')
+        for name in ('from', 'to'):
+            w.step(number_made('usize', f'(r .{name})', f'field-{name} r v3 is3'), [], [name])
+        to = f'(to-back {at} ρ δ₃ ({VS}) {RUN})'
+        self.hands(w, 'copy_back', to, ['records', 'from', 'to', 'wsl'], ['lft0', 'lftρ'])
+        w.call('copy-back', to, [w.ld_later(first + 2)] + [lambda name=name: w.ldf(self.done, done.field(name)) for name in ('from', 'to')] + [w.ld_later(first + 4)], 'v5')
+        w.told('copy-back', f'({r.kappa}, (ρ ∷ [], tt))', f'(‵ (flft {r.kappa} {r.share}) ⊛ ‵ (flft (ρ ∷ []) fullShare) ⊛ ‵ ftrue)', 'Nothing', 'Unit {0}',
+               f'(x .0, (r .from, (r .to, (words {at} δ₃ ({VS}), tt))))', 'u', 'v5', [('e5', f'CopiedBack records ({VS}) {RUN} (z5 .0)')], 'z5')
+        w.opens('peeks ! Nothing (Is Nothing) (shows 𝓤 H A Nothing) u (v5 ∷ []) (λ is5.', [], [])
+        w.say(f'land ! (from ! (stop !)) (init ! {w.at(first)} refl (unit-typed v5 (ap only is5))) $')
+        w.split('fsplit', 'lasts', 'lasts5', 'rest5')
+        self.last_list(w, 'lasts5', r)
+        w.split('split', 'toks', 'lft0', 'lftρ', 'true5')
+        self.shared_back(w, 'ρ', f'({VS})', 'v6', 'own6')
+
+    def gives(self, w):
+        """The entry's result, out of the fields of the core's."""
+        r = self.result
+        w.set(0, self.result_of_core.value(w, self.done), f'({r.lawful} .typed (given r) _ (given-is r v3 is3) .0)')
+        w.step(f'owned ! {r.row} (Is {r.row}) (LL.makes R.the-type R′.the-plain 𝓤 H A) (given r) _ (given-is r v3 is3) $', [], ['own_given'])
+
+    def walk(self):
+        w = Walk(self.locals, ['tok', 'own'])
+        self.enters(w, self.made)
+        for part in (self.copies, self.calls_core, self.copies_back, self.gives, self.leaves):
+            part(w)
+        w.keep(*self.had)
+        w.say(f'by ! (exits (given r) (R′.lowered (given r)) (z5 .0){self.last} ({self.over_words}) {self.answers}{self.given})' + ')' * (w.open + self.locals))
+        return w.text(8)
+
+    # ---- The file.
+
+    def results(self):
+        done = self.result_of_core
+        core = done.result.denot
+        fits = '\n'.join(f'''field-{name} : (r : {core}) (v : Val) → Is D.the-row r (v ∷ []) → r .{name} < 2 ^ 64
+field-{name} r v is = LL.owed D.the-type D′.the-laws r (v ∷ []) is {path(done.field(name))} .1
+''' for name in ('from', 'to'))
+        return f'''
+unit-typed : (v : Val) → v ≡ vunit → Holds (hasTy tyUnit v) × WT v
+unit-typed v e = subst (λ (u : Val). Holds (hasTy tyUnit u) × WT u) (sym e) (tt, tt)
+
+-- what is returned of the core's result, and its machine value
+abbrev given : {core} → {self.result.denot}
+given r = {done.given()}
+
+given-is : (r : {core}) (v : Val) → Is D.the-row r (v ∷ []) → Is R.the-row (given r) (R′.lowered (given r) ∷ [])
+given-is r v is = subst (λ (vs : List Val). Is R.the-row (given r) vs) (R′.lowers .val-is (given r) _ holds) holds
+  where
+    holds : Is R.the-row (given r) (LL.vals R.the-type R′.the-laws (given r))
+    holds = let h = LL.owed D.the-type D′.the-laws r (v ∷ []) is in {done.shown()}
+
+{fits}'''
+
+    def facts(self):
+        kept = '\n'.join(f'''  abbrev Says-{c.name} : Commanded → {self.result.denot} → {'List ℕ → ' * len(self.bytes)}Type 0
+  Says-{c.name} c r{self.primes} = {c.says}
+''' for c in self.clauses)
+        moved = '\n'.join(f'''    moved-{c.name} : Says-{c.name} c r{self.primes} → Says-{c.name} d r{self.primes}
+    moved-{c.name} e = {c.moves}
+''' for c in self.clauses)
+        return f'''  -- the records under another ghost name
+  abbrev shown : GName → RefT (List Record)
+  shown δ = {self.records.ref.replace(self.records.ghost, 'δ')}
+
+  -- what is promised of a command, and that it is so of one that comes to the same
+{kept}
+  module _ (c d : Commanded) (records′ : List Record) (a : Answers c d records′) (r : {self.result.denot}){self.lists} where
+{moved}'''
+
+    def told_type(self):
+        premises = ''.join(f'Says-{c.name} c r{self.primes} → ' for c in self.clauses) + ''.join(f'length {m.name}′ ≡ length {m.name} → ' for m in self.muts)
+        return f'(r : {self.result.denot}) (v : Val) (records′ : List Record){self.lists} (c : Commanded) → Answers c ({self.over_records}) records′ → {premises}'
+
+    def told_names(self):
+        return f'r v records′{self.primes} c a{self.given}'
+
+    def stated(self):
+        return self.each_stated([f'(Says-{c.name} ({self.over_records}) r{self.primes})' for c in self.clauses] + [f'(map meant records′ ≡ {self.over_records} .store .records)'],
+                                [f'moved-{c.name} c ({self.over_records}) records′ a r{self.primes} s-{c.name}' for c in self.clauses] + ['a .records'])
+
+    def to_callees(self):
+        r, core = self.records, capital(self.core[1])
+        return f'''  abbrev to-copy : ℕ → ℕ → ℕ → GName → GName → List ℕ → CopyIn 𝓤 H A mem run .Ghost
+  to-copy l ν μ δ₀ δ₁ xs = (((ν ∷ [], (μ ∷ [], tt)), (fullShare, (fullShare, tt)), tt, (shown δ₀, (length records, (words l δ₁ xs, tt))), (at .0, (vint w64 (length records) ∷ [], (sliceVal (l, 0) 512 ∷ [], tt)))), tt)
+
+  abbrev to-core : ℕ → ℕ → GName → List ℕ → ℕ → {core} 𝓤 H A mem run .Ghost
+  to-core l ξ δ us n = (({self.core_lifetimes('ξ ∷ []')}, {nested(['fullShare'] + [p.share for p in self.slices[1:]])}, tt, {self.core_args('words l δ us', 'n')}, {nested(['sliceVal (l, 0) 512 ∷ []', 'vint w64 n ∷ []'] + ['at ' + p.path for p in self.params[1:]])}), tt)
+
+  abbrev to-back : ℕ → ℕ → GName → List ℕ → ℕ → ℕ → CopyBack 𝓤 H A mem run .Ghost
+  to-back l ρ δ vs start to = ((({r.kappa}, (ρ ∷ [], tt)), ({r.share}, (fullShare, tt)), tt, (x .0, (start, (to, (words l δ vs, tt)))), (at .0, (vint w64 start ∷ [], (vint w64 to ∷ [], (sliceVal (l, 0) 512 ∷ [], tt))))), tt)
+'''
+
+    def text(self):
+        doc = f'''-- `{self.crate}::{self.fn.replace('.', '::')}` meets its contract: a walk of its MIR, by hand. The records are lent as `&` to `copy_in`, and come back; the local array is lent to each callee
+-- for a lifetime of the call, and comes back; `{self.core[1].split('.')[-1]}` has the bytes for good, and `copy_back` the records. All that the proof knows of the callees is that they
+-- meet their contracts; that these give what is promised is `answers` of StoreLaws.'''
+        specs, proofs = specs_of('records', self.crate), proofs_of('records', self.crate)
+        return self.file(doc, f'''use denote.Plain.{{Nothing}}
+use Rattle.listing_rules.specs.Server.{{Commanded}}
+use {specs}.declared.Record.{{Record}}
+use {specs}.Words.{{recordOf, meant}}
+use {specs}.Stores.{{lentCommand, wordCommand, Between}}
+use {proofs}.Relend.{{SharedAgain, shares-again, again-back}}
+use {proofs}.StoreLaws.{{Copied, CopiedBack, Answers, answers}}
+use {proofs}.Clauses.{{says-each}}
+{self.result_of_core.result.uses}''')
+
+
+def edit_entry(crate, fn, core, rest, done, result, clauses, uses):
+    """Writes the walk of an entry that writes records; `uses` are the imports that its clauses need."""
+    write(crate, fn, EditEntry(crate, fn, core, rest, done, result, clauses, uses).text())

@@ -1,4 +1,5 @@
--- Proper ancestors: the test `below` and the list `properAncestors` agree; candidates are closed under proper ancestors. Rests on Sorted.
+-- Proper ancestors: the test `below` and the list `properAncestors` agree; candidates are closed under proper ancestors. Rests on Sorted and
+-- ListLaws.
 use mathlib.Core.Path.{_≡_, refl, _∙_, subst}
 use mathlib.Core.Logic.{_⊎_, inl, inr, ⊎-elim}
 use mathlib.Core.Bool.{Bool, true, false, cond, false≢true}

@@ -1,4 +1,4 @@
--- The lines of an answer are split again as they were joined. Rests on TokenLaws.
+-- The lines of an answer are split again as they were joined. Rests on TokenLaws and LawfulNames.
 use mathlib.Core.Path.{_≡_, refl, sym, ap, _∙_}
 use mathlib.Core.Bool.{Bool, true, false, not}
 use mathlib.Core.List.{List, [], _∷_, _++_, map, append-assoc}
@@ -67,7 +67,8 @@ body-notLF bs n c h =
     child false false = refl
 
 -- any lines, each with one LF at its end
-pub lines-joined : {A : Type 0} (f g : A → List ℕ) → ((a : A) → f a ≡ g a ++ (10 ∷ [])) → (l : List A) (t : List ℕ) → every (λ a. all notLF (g a)) l ≡ true → linesOf (joined (map f l) ++ t) ≡ map f l ++ linesOf t
+pub lines-joined : {A : Type 0} (f g : A → List ℕ) → ((a : A) → f a ≡ g a ++ (10 ∷ [])) → (l : List A) (t : List ℕ)
+    → every (λ a. all notLF (g a)) l ≡ true → linesOf (joined (map f l) ++ t) ≡ map f l ++ linesOf t
 unfolding joined every
 lines-joined f g e [] t h = refl
 lines-joined f g e (a ∷ rest) t h =

@@ -1,4 +1,5 @@
--- One command of the collector: what its answer adds to found and pending, if there is room for it. Rests on Sent, AnswerLines, ReaderWriter and Outcome.
+-- One command of the collector: what its answer adds to found and pending, if there is room for it. Rests on Sent, AnswerLines, ReaderWriter,
+-- Passes and Outcome.
 use mathlib.Core.Path.{_≡_, refl, sym, ap, _∙_}
 use mathlib.Core.Bool.{Bool, true, false, cond, not}
 use mathlib.Core.List.{List, [], _∷_, _++_, map, append-assoc, append-nil}
@@ -52,7 +53,7 @@ abbrev pub listsOf : List Name → List Name → Lists
 listsOf f a = record { finds = f; asks = a }
 
 abbrev pub Sizes : ℕ → ℕ → List Name → List Name → Type 0
-Sizes room₁ room₂ f a = (length (packed f) ≤ room₁) × (length (packed a) ≤ room₂)
+Sizes found pending f a = (length (packed f) ≤ found) × (length (packed a) ≤ pending)
 
 fits-cases : (k room : ℕ) (ns : List Name) → Short k → Outcome (fits k room ns) ns (length (packed ns) ≤ room)
 unfolding fits
@@ -71,22 +72,24 @@ answer-cases scratch a = pick (leb (length a) scratch) refl
     pick false e = stopped 9 scratch-short refl (λ h. omega (arith, leb-false (length a) scratch e))
 
 -- the lines of an answer, taken in one after the other
-module _ (o room₁ room₂ : ℕ) (L : Name → List ℕ) (B : Name → List Bool) (C : Name → Criteria) (reads : (n : Name) → lawfulName n ≡ true → readLine (L n) ≡ line (B n) n (C n)) where
-  abbrev found : List Name → List Name
-  found ns = keep (λ n. isFind o (B n)) ns
+module _ (o found pending : ℕ) (L : Name → List ℕ) (B : Name → List Bool) (C : Name → Criteria) (reads : (n : Name) → lawfulName n ≡ true → readLine (L n) ≡ line (B n) n (C n)) where
+  abbrev findsAmong : List Name → List Name
+  findsAmong ns = keep (λ n. isFind o (B n)) ns
 
   abbrev named : Name → Bool
   named n = not (isNone (C n))
 
-  pub taken-cases : (ns f a : List Name) → every lawfulName ns ≡ true → Sizes room₁ room₂ f a → Outcome (takenAll o room₁ room₂ (listsOf f a) (map L ns ++ (okLine (text "w") ∷ []))) (listsOf (f ++ found ns) (a ++ keep named ns)) (Sizes room₁ room₂ (f ++ found ns) (a ++ keep named ns))
+  pub taken-cases : (ns f a : List Name) → every lawfulName ns ≡ true → Sizes found pending f a
+      → Outcome (takenAll o found pending (listsOf f a) (map L ns ++ (okLine (text "w") ∷ []))) (listsOf (f ++ findsAmong ns) (a ++ keep named ns))
+      (Sizes found pending (f ++ findsAmong ns) (a ++ keep named ns))
   unfolding takenAll takenIn openBytes openLists openLines openTokens openReader
   taken-cases [] f a g h = rw (append-nil f, append-nil a) (went (unfold _>>=_ in refl) h)
   taken-cases (n ∷ ns) f a g h =
       rw (reads n (and-l (lawfulName n) (every lawfulName ns) g), ← with-keep (λ n. isFind o (B n)) n f ns, ← with-keep named n a ns)
       (then-step _
-      (then-step _ (fits-cases 10 room₁ f′ found-short) (λ h₁. then-step _ (fits-cases 11 room₂ a′ pending-short) (λ h₂. went refl (h₁, h₂)) (λ s. s .1)) (λ s. s .0))
+      (then-step _ (fits-cases 10 found f′ found-short) (λ h₁. then-step _ (fits-cases 11 pending a′ pending-short) (λ h₂. went refl (h₁, h₂)) (λ s. s .1)) (λ s. s .0))
       (λ s. taken-cases ns f′ a′ (and-r (lawfulName n) (every lawfulName ns) g) s)
-      (λ s. (packed-le f′ (found ns) room₁ (s .0), packed-le a′ (keep named ns) room₂ (s .1))))
+      (λ s. (packed-le f′ (findsAmong ns) found (s .0), packed-le a′ (keep named ns) pending (s .1))))
     where
       f′ : List Name
       f′ = withName (isFind o (B n)) n f
@@ -94,8 +97,9 @@ module _ (o room₁ room₂ : ℕ) (L : Name → List ℕ) (B : Name → List Bo
       a′ : List Name
       a′ = withName (named n) n a
 
-  pub taken-all : (ns f a : List Name) → every lawfulName ns ≡ true → Sizes room₁ room₂ (f ++ found ns) (a ++ keep named ns) → takenAll o room₁ room₂ (listsOf f a) (map L ns ++ (okLine (text "w") ∷ [])) ≡ go (listsOf (f ++ found ns) (a ++ keep named ns))
-  taken-all ns f a g h = went-to (taken-cases ns f a g (packed-le f (found ns) room₁ (h .0), packed-le a (keep named ns) room₂ (h .1))) h
+  pub taken-all : (ns f a : List Name) → every lawfulName ns ≡ true → Sizes found pending (f ++ findsAmong ns) (a ++ keep named ns)
+      → takenAll o found pending (listsOf f a) (map L ns ++ (okLine (text "w") ∷ [])) ≡ go (listsOf (f ++ findsAmong ns) (a ++ keep named ns))
+  taken-all ns f a g h = went-to (taken-cases ns f a g (packed-le f (findsAmong ns) found (h .0), packed-le a (keep named ns) pending (h .1))) h
 
 -- the collector's line of a name
 module _ (t : Table) (o : ℕ) (ref : List ℕ) where
@@ -142,13 +146,23 @@ module _ (t : Table) (o : ℕ) (ref : List ℕ) where
   abbrev pub asks : List Name
   asks = keep (λ n. not (isNone (childOf n))) names-listed
 
-  pub asked-cases : (scratch room₁ room₂ : ℕ) → lawfulByte o ≡ true → passes t ≡ true → all lineByte ref ≡ true → length ref ≤ 254 → (f a : List Name) → Sizes room₁ room₂ f a → Outcome (asked t o scratch room₁ room₂ (listsOf f a) ref) (listsOf (f ++ finds) (a ++ asks)) (Answer-fits scratch × Sizes room₁ room₂ (f ++ finds) (a ++ asks))
+  pub asked-cases : (scratch found pending : ℕ) → lawfulByte o ≡ true → passes t ≡ true → all lineByte ref ≡ true → length ref ≤ 254
+      → (f a : List Name) → Sizes found pending f a
+      → Outcome (asked t o scratch found pending (listsOf f a) ref) (listsOf (f ++ finds) (a ++ asks))
+      (Answer-fits scratch × Sizes found pending (f ++ finds) (a ++ asks))
   unfolding asked
-  asked-cases scratch room₁ room₂ y ok b l f a h = rw (answer-is y ok b l) (then-step _ (answer-cases scratch (listAnswer (rows t) (text "w") (walkOptions o) pats)) (λ k. with-fact (λ s. (k, s)) (λ w. w .1) (rw (lines-are ok) taken)) (λ w. w .0))
+  asked-cases scratch found pending y ok b l f a h =
+      rw (answer-is y ok b l) (then-step _ (answer-cases scratch (listAnswer (rows t) (text "w") (walkOptions o) pats))
+      (λ k. with-fact (λ s. (k, s)) (λ w. w .1) (rw (lines-are ok) taken)) (λ w. w .0))
     where
-      taken : Outcome (takenAll o room₁ room₂ (listsOf f a) (map (λ n. listLine (attrsOf n) n (childOf n)) names-listed ++ (okLine (text "w") ∷ []))) (listsOf (f ++ finds) (a ++ asks)) (Sizes room₁ room₂ (f ++ finds) (a ++ asks))
-      taken = taken-cases o room₁ room₂ (λ n. listLine (attrsOf n) n (childOf n)) attrsOf childOf (λ n g. readLine-written (attrsOf n) n (childOf n) (sixteen n) g) names-listed f a (good-listed ok) h
+      taken : Outcome (takenAll o found pending (listsOf f a)
+          (map (λ n. listLine (attrsOf n) n (childOf n)) names-listed ++ (okLine (text "w") ∷ []))) (listsOf (f ++ finds) (a ++ asks))
+          (Sizes found pending (f ++ finds) (a ++ asks))
+      taken = taken-cases o found pending (λ n. listLine (attrsOf n) n (childOf n)) attrsOf childOf
+          (λ n g. readLine-written (attrsOf n) n (childOf n) (sixteen n) g) names-listed f a (good-listed ok) h
 
-  pub asked-is : (scratch room₁ room₂ : ℕ) → lawfulByte o ≡ true → passes t ≡ true → all lineByte ref ≡ true → length ref ≤ 254 → (f a : List Name) → Answer-fits scratch → Sizes room₁ room₂ (f ++ finds) (a ++ asks) → asked t o scratch room₁ room₂ (listsOf f a) ref ≡ go (listsOf (f ++ finds) (a ++ asks))
-  asked-is scratch room₁ room₂ y ok b l f a k h =
-      went-to (asked-cases scratch room₁ room₂ y ok b l f a (packed-le f finds room₁ (h .0), packed-le a asks room₂ (h .1))) (k, h)
+  pub asked-is : (scratch found pending : ℕ) → lawfulByte o ≡ true → passes t ≡ true → all lineByte ref ≡ true → length ref ≤ 254 → (f a : List Name)
+      → Answer-fits scratch → Sizes found pending (f ++ finds) (a ++ asks)
+      → asked t o scratch found pending (listsOf f a) ref ≡ go (listsOf (f ++ finds) (a ++ asks))
+  asked-is scratch found pending y ok b l f a k h =
+      went-to (asked-cases scratch found pending y ok b l f a (packed-le f finds found (h .0), packed-le a asks pending (h .1))) (k, h)

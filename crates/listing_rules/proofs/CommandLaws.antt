@@ -43,7 +43,7 @@ abbrev bytesIn : Reply → List ℕ
 bytesIn (refusal k) = []
 bytesIn (answered a) = a
 
-refusal-not : (k : ℕ) (a : List ℕ) → refusal k ≡ answered a → ⊥
+pub refusal-not : (k : ℕ) (a : List ℕ) → refusal k ≡ answered a → ⊥
 refusal-not k a e = false≢true (ap isRefusal (sym e))
 
 -- "A refusal changes nothing"
@@ -90,11 +90,13 @@ module _ (s : Store) (spaces l buffer : List ℕ) (h : isEdit (parsed l) ≡ fal
   reader-answered = ap (λ (c : Commanded). c .reply) reader-ends
 
 -- a command that is answered: it makes what is stored then, and no refusal 1 to 8 stands before it
-answered-made : (s : Store) (spaces l buffer a : List ℕ) → commanded s spaces l buffer .reply ≡ answered a → (attempted s (parsed l) ≡ stored (commanded s spaces l buffer .store)) × (answer (storeTable s) spaces l ≡ answered a)
+answered-made : (s : Store) (spaces l buffer a : List ℕ) → commanded s spaces l buffer .reply ≡ answered a
+    → (attempted s (parsed l) ≡ stored (commanded s spaces l buffer .store)) × (answer (storeTable s) spaces l ≡ answered a)
 unfolding unchangedBy
 answered-made s spaces l buffer a e = go (commanded s spaces l buffer) (command-ends s spaces l buffer) e
   where
-    go : (c : Commanded) → Ending s (attempted s (parsed l)) (answer (storeTable s) spaces l) c → c .reply ≡ answered a → (attempted s (parsed l) ≡ stored (c .store)) × (answer (storeTable s) spaces l ≡ answered a)
+    go : (c : Commanded) → Ending s (attempted s (parsed l)) (answer (storeTable s) spaces l) c → c .reply ≡ answered a
+        → (attempted s (parsed l) ≡ stored (c .store)) × (answer (storeTable s) spaces l ≡ answered a)
     go c (left k q) e = absurd (refusal-not k a (sym (ap (λ (d : Commanded). d .reply) q) ∙ e))
     go c (made t b x r q) e = (x ∙ ap (λ (d : Commanded). stored (d .store)) (sym q), r ∙ sym (ap (λ (d : Commanded). d .reply) q) ∙ e)
 
@@ -152,7 +154,8 @@ attempted-passes s t p h q = go p q
     go (subscriptions tag ps) q = stays q
     go (editing tag e) q = edited-passes s t e h q
 
-attempted-set : (s t : Store) (p : Parsed) (a : List ℕ) → passes (storeTable s) ≡ true → attempted s p ≡ stored t → (m : List ℕ) → isIn (subscribedNames t) m ≡ setCommanded (isIn (subscribedNames s)) p (answered a) m
+attempted-set : (s t : Store) (p : Parsed) (a : List ℕ) → passes (storeTable s) ≡ true → attempted s p ≡ stored t → (m : List ℕ)
+    → isIn (subscribedNames t) m ≡ setCommanded (isIn (subscribedNames s)) p (answered a) m
 unfolding attempted setCommanded
 attempted-set s t p a h q m = go p q
   where
@@ -186,7 +189,9 @@ command-passes s spaces l buffer h = go (commanded s spaces l buffer) (command-e
     go c (left k q) = ap (λ (d : Commanded). passes (storeTable (d .store))) q ∙ h
     go c (made t a x r q) = ap (λ (d : Commanded). passes (storeTable (d .store))) q ∙ attempted-passes s t (parsed l) h x
 
-pub command-set : (s : Store) (spaces l buffer m : List ℕ) → isIn (subscribedNames (commanded s spaces l buffer .store)) m ≡ setCommanded (isIn (subscribedNames s)) (parsed l) (commanded s spaces l buffer .reply) m
+pub command-set : (s : Store) (spaces l buffer m : List ℕ)
+    → isIn (subscribedNames (commanded s spaces l buffer .store)) m
+    ≡ setCommanded (isIn (subscribedNames s)) (parsed l) (commanded s spaces l buffer .reply) m
 command-set s spaces l buffer m = sound (passes (storeTable s)) refl
   where
     Given : Commanded → Type 0
@@ -234,5 +239,7 @@ pub sent-set : (s : Store) (cs : List Sent) (m : List ℕ) → isIn (subscribedN
 sent-set s cs m = series-set s (isIn (subscribedNames s)) cs (λ n. refl) m
 
 -- The same of a table that passes, which then passes after them.
-pub plain-set-sent : (s : Store) (cs : List Sent) → passes (storeTable s) ≡ true → (passes (storeTable (commandedAll s cs)) ≡ true) × ((m : List ℕ) → isIn (subscribedNames (commandedAll s cs)) m ≡ setSent s (isIn (subscribedNames s)) cs m)
+pub plain-set-sent : (s : Store) (cs : List Sent) → passes (storeTable s) ≡ true
+    → (passes (storeTable (commandedAll s cs)) ≡ true)
+    × ((m : List ℕ) → isIn (subscribedNames (commandedAll s cs)) m ≡ setSent s (isIn (subscribedNames s)) cs m)
 plain-set-sent s cs h = (sent-passes s cs h, sent-set s cs)

@@ -48,7 +48,7 @@ module _ (t : Table) (o scratch found pending : ℕ) (wk : Walks t o) where
 
   room-fits : Room t o wk scratch found pending → tooSmall (rows t) o scratch found pending ≡ true → ⊥
   unfolding tooSmall scratchTooSmall foundTooSmall pendingTooSmall
-  room-fits R e = ⊎-elim buffers (λ g. omega (arith, ltb-true pending pendingSize g, R .pending)) (or-cases ((firstShort || nextShort) || foundShort) (ltb pending pendingSize) e)
+  room-fits R e = ⊎-elim buffers (λ g. omega (arith, ltb-true pending pendingSize g, R .pending-fits)) (or-cases ((firstShort || nextShort) || foundShort) (ltb pending pendingSize) e)
     where
       next : nextShort ≡ true → ⊥
       next g =
@@ -59,7 +59,7 @@ module _ (t : Table) (o scratch found pending : ℕ) (wk : Walks t o) where
       answers f = ⊎-elim (λ g. omega (arith, ltb-true scratch (answerSize []) g, R .first)) next (or-cases firstShort nextShort f)
 
       buffers : ((firstShort || nextShort) || foundShort) ≡ true → ⊥
-      buffers f = ⊎-elim answers (λ g. omega (arith, ltb-true found foundSize g, R .found)) (or-cases (firstShort || nextShort) foundShort f)
+      buffers f = ⊎-elim answers (λ g. omega (arith, ltb-true found foundSize g, R .found-fits)) (or-cases (firstShort || nextShort) foundShort f)
 
   fits-room : tooSmall (rows t) o scratch found pending ≡ false → Room t o wk scratch found pending
   unfolding tooSmall scratchTooSmall foundTooSmall pendingTooSmall
@@ -68,9 +68,10 @@ module _ (t : Table) (o scratch found pending : ℕ) (wk : Walks t o) where
       let e₂ = or-none-l (firstShort || nextShort) foundShort e₁ in
       record {
         first = ltb-false scratch (answerSize []) (or-none-l firstShort nextShort e₂);
-        next = λ a m. ltb-false scratch (answerSize (a ++ (slash ∷ []))) (none-mem (λ a. ltb scratch (answerSize (a ++ (slash ∷ [])))) (meetingAncestors (rows t) o) (or-none-r firstShort nextShort e₂) a m);
-        found = ltb-false found foundSize (or-none-r (firstShort || nextShort) foundShort e₁);
-        pending = ltb-false pending pendingSize (or-none-r ((firstShort || nextShort) || foundShort) (ltb pending pendingSize) e);
+        next = λ a m. ltb-false scratch (answerSize (a ++ (slash ∷ [])))
+            (none-mem (λ a. ltb scratch (answerSize (a ++ (slash ∷ [])))) (meetingAncestors (rows t) o) (or-none-r firstShort nextShort e₂) a m);
+        found-fits = ltb-false found foundSize (or-none-r (firstShort || nextShort) foundShort e₁);
+        pending-fits = ltb-false pending pendingSize (or-none-r ((firstShort || nextShort) || foundShort) (ltb pending pendingSize) e);
       }
 
 pub demand-3-holds : (t : Table) (o scratch found pending : ℕ) → passes t ≡ true → lawfulByte o ≡ true → Demand3 t o scratch found pending (walk t o scratch found pending)
@@ -80,7 +81,10 @@ demand-3-holds t o scratch found pending ok lw = pick (tooSmall (rows t) o scrat
     R : Type 0
     R = Room t o (ok, lw) scratch found pending
 
-    pick : (b : Bool) → tooSmall (rows t) o scratch found pending ≡ b → (R × (walk t o scratch found pending ≡ declaredWalk t o)) ⊎ ((R → ⊥) × ((k : ℕ) × Short k × (walk t o scratch found pending ≡ walkRefused k))) → Demand3 t o scratch found pending (walk t o scratch found pending)
+    pick : (b : Bool) → tooSmall (rows t) o scratch found pending ≡ b
+        → (R × (walk t o scratch found pending ≡ declaredWalk t o))
+        ⊎ ((R → ⊥) × ((k : ℕ) × Short k × (walk t o scratch found pending ≡ walkRefused k)))
+        → Demand3 t o scratch found pending (walk t o scratch found pending)
     pick true e (inl w) = absurd (room-fits t o scratch found pending (ok, lw) (w .0) e)
     pick false e (inl w) = rw (w .1) (e, refl, refl, refl)
     pick true e (inr w) = rw (w .1 .2) (e, short-number (w .1 .0) (w .1 .1))

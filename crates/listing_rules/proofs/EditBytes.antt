@@ -1,5 +1,5 @@
 -- Name bytes that are written over (W6): the area keeps its length, names apart from them stay, and what is written is read; a free run is apart
--- from every name. Rests on FreeRuns.
+-- from every name. Rests on FreeRuns and ListLaws.
 use mathlib.Core.Path.{_≡_, refl, sym, ap, _∙_}
 use mathlib.Core.Logic.{_⊎_, inl, inr, ⊎-elim}
 use mathlib.Core.Bool.{Bool, true, false, _||_, false≢true}

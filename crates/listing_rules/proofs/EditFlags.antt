@@ -62,7 +62,8 @@ module _ (f : ℕ) where
   unfolding lawfulFlags
   lawful-exists l e =
       ⊎-elim (λ q. q) (λ q. absurd (false≢true (sym e ∙ q)))
-      (or-cases (exists f) (eqb f 2) (and-r (not (bit 7 f) && not (bit 15 f)) (exists f || eqb f 2) (and-l ((not (bit 7 f) && not (bit 15 f)) && (exists f || eqb f 2)) (not (marked f && unmarked f)) l)))
+      (or-cases (exists f) (eqb f 2) (and-r (not (bit 7 f) && not (bit 15 f)) (exists f || eqb f 2)
+      (and-l ((not (bit 7 f) && not (bit 15 f)) && (exists f || eqb f 2)) (not (marked f && unmarked f)) l)))
 
   not-two : subscribed f ≡ false → eqb f 2 ≡ false
   unfolding subscribed bit

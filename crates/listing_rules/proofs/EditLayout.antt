@@ -1,5 +1,5 @@
 -- Records of which one is put in or taken out (W6): the others stay without overlap; what `flagged`, `inserted` and `removed` make of the records,
--- as the parts before and after the place, and the spare ones. Rests on EditBytes.
+-- as the parts before and after the place, and the spare ones. Rests on EditBytes and EditLists.
 use mathlib.Core.Path.{_≡_, refl, sym, ap, _∙_}
 use mathlib.Core.Bool.{Bool, true, _&&_}
 use mathlib.Core.List.{List, [], _∷_, _++_, append-assoc}
@@ -76,12 +76,15 @@ inside-alike : (area new : List ℕ) → length new ≡ length area → (rs : Li
 unfolding liesInside
 inside-alike area new e rs h = mem-every (liesInside new) rs (λ r m. ap (leb (r .start + r .len)) e ∙ every-mem (liesInside area) rs h r m)
 
-pub laid-put : (area new : List ℕ) → length new ≡ length area → (a : List Record) (w : Record) (b : List Record) → LaidParts area (a ++ b) → liesInside area w ≡ true → every (apart w) (a ++ b) ≡ true → LaidParts new (a ++ (w ∷ b))
+pub laid-put : (area new : List ℕ) → length new ≡ length area → (a : List Record) (w : Record) (b : List Record) → LaidParts area (a ++ b)
+    → liesInside area w ≡ true → every (apart w) (a ++ b) ≡ true → LaidParts new (a ++ (w ∷ b))
 unfolding every
 laid-put area new e a w b p i h =
     record {
       small = omega (arith, e, p .small);
-      inside = inside-alike area new e (a ++ (w ∷ b)) (every-append (liesInside area) a (w ∷ b) (every-left (liesInside area) a b (p .inside)) (and-i (liesInside area w) (every (liesInside area) b) i (every-right (liesInside area) a b (p .inside))));
+      inside = inside-alike area new e (a ++ (w ∷ b))
+          (every-append (liesInside area) a (w ∷ b) (every-left (liesInside area) a b (p .inside))
+          (and-i (liesInside area w) (every (liesInside area) b) i (every-right (liesInside area) a b (p .inside))));
       apart-all = apart-put a w b (p .apart-all) h;
     }
 
@@ -142,11 +145,13 @@ unfolding nth
 parts-nth s front it back spare p = ap (λ (l : List Record). getD l (length front) zeroRecord) (p .all-records) ∙ getD-append-seam front it (back ++ spare) zeroRecord
 
 -- "sets the flag", "clears the flag": the record at the place has other flags
-pub parts-flagged : (s : Store) (front : List Record) (it : Record) (back spare : List Record) (f : ℕ) → Parts s front (it ∷ []) back spare → Parts (flagged s (length front) f) front (record { flags = f; start = it .start; len = it .len } ∷ []) back spare
+pub parts-flagged : (s : Store) (front : List Record) (it : Record) (back spare : List Record) (f : ℕ) → Parts s front (it ∷ []) back spare
+    → Parts (flagged s (length front) f) front (record { flags = f; start = it .start; len = it .len } ∷ []) back spare
 unfolding flagged
 parts-flagged s front it back spare f p =
     record {
-      all-records = λ i. parts-front s front (it ∷ []) back spare p i ++ (record { flags = f; start = parts-nth s front it back spare p i .start; len = parts-nth s front it back spare p i .len } ∷ rest i);
+      all-records = λ i. parts-front s front (it ∷ []) back spare p i
+          ++ (record { flags = f; start = parts-nth s front it back spare p i .start; len = parts-nth s front it back spare p i .len } ∷ rest i);
       all-rows = p .all-rows;
     }
   where
@@ -154,7 +159,9 @@ parts-flagged s front it back spare f p =
     rest = ap (drop (suc (length front))) (p .all-records) ∙ drop-past front it (back ++ spare)
 
 -- "inserts a row 0002"
-pub parts-inserted : (s : Store) (front back : List Record) (x : Record) (spare : List Record) (start : ℕ) (n : List ℕ) → Parts s front [] back (x ∷ spare) → Parts (inserted s (length front) start n) front (record { flags = 0x0002; start = start; len = length n } ∷ []) back spare
+pub parts-inserted : (s : Store) (front back : List Record) (x : Record) (spare : List Record) (start : ℕ) (n : List ℕ)
+    → Parts s front [] back (x ∷ spare)
+    → Parts (inserted s (length front) start n) front (record { flags = 0x0002; start = start; len = length n } ∷ []) back spare
 unfolding inserted
 parts-inserted s front back x spare start n p =
     record {
@@ -171,7 +178,8 @@ parts-inserted s front back x spare start n p =
         ap (λ (k : ℕ). drop k (s .records)) e ∙ sym (drop-drop 1 (s .count) (s .records)) ∙ ap (drop 1) (parts-spare s front [] back (x ∷ spare) p)
 
 -- "removes a row 0002 entirely"; "A freed record .. become zero"
-pub parts-removed : (s : Store) (front : List Record) (it : Record) (back spare : List Record) → Parts s front (it ∷ []) back spare → Parts (removed s (length front)) front [] back (zeroRecord ∷ spare)
+pub parts-removed : (s : Store) (front : List Record) (it : Record) (back spare : List Record) → Parts s front (it ∷ []) back spare
+    → Parts (removed s (length front)) front [] back (zeroRecord ∷ spare)
 unfolding removed
 parts-removed s front it back spare p =
     record {

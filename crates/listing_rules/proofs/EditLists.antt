@@ -50,6 +50,11 @@ module _ {A : Type 0} (p : A → Bool) where
   keep-none [] f = refl
   keep-none (x ∷ l) f = rw (f x (List·Memᴰ·head refl)) (keep-none l (λ z m. f z (List·Memᴰ·tail m)))
 
+  pub keep-all : (l : List A) → every p l ≡ true → keep p l ≡ l
+  unfolding keep every
+  keep-all [] h = refl
+  keep-all (x ∷ l) h = rw (and-l (p x) (every p l) h) (ap (λ (k : List A). x ∷ k) (keep-all l (and-r (p x) (every p l) h)))
+
   -- a middle part put in the place of another
   pub every-swapped : (a old new b : List A) → every p (a ++ (old ++ b)) ≡ true → every p new ≡ true → every p (a ++ (new ++ b)) ≡ true
   every-swapped a old new b h g =
@@ -58,7 +63,9 @@ module _ {A : Type 0} (p : A → Bool) where
 
 module _ {A : Type 0} where
   pub mem-swapped : (a old new b : List A) (z : A) → List·Memᴰ z (a ++ (new ++ b)) → List·Memᴰ z new ⊎ List·Memᴰ z (a ++ (old ++ b))
-  mem-swapped a old new b z m = ⊎-elim (λ k. inr (Memᴰ·append-left _ k)) (λ k. ⊎-elim inl (λ j. inr (Memᴰ·append-right a (Memᴰ·append-right old j))) (List·Memᴰ·append-cases new k)) (List·Memᴰ·append-cases a m)
+  mem-swapped a old new b z m =
+      ⊎-elim (λ k. inr (Memᴰ·append-left _ k))
+      (λ k. ⊎-elim inl (λ j. inr (Memᴰ·append-right a (Memᴰ·append-right old j))) (List·Memᴰ·append-cases new k)) (List·Memᴰ·append-cases a m)
 
 -- ascending lists in parts, and the test
 module _ {A : Type 0} (cmp : A → A → Ordering) where

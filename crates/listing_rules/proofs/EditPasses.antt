@@ -1,7 +1,7 @@
--- A store that passes, after the flag of a row is set or cleared, a row 0002 is put in, or one is taken out (W6): it passes, has the same sizes, and
--- differs in the row of that name alone. Rests on EditRows, EditPlaces, EditLayout and EditFlags.
+-- A store that passes, after the flag of a row is set or cleared, a row 0002 is put in, or one is taken out (W6): it passes, has the same sizes,
+-- and differs in the row of that name alone. Rests on EditRows, EditPlaces and EditLayout.
 use mathlib.Core.Path.{_≡_, refl, sym, ap, _∙_, subst}
-use mathlib.Core.Bool.{Bool, true, false, cond, _&&_, _||_, not, false≢true, or-false}
+use mathlib.Core.Bool.{Bool, true, false, cond, _&&_, _||_, not, false≢true}
 use mathlib.Core.List.{List, [], _∷_, _++_, map, map-append, List·Memᴰ, List·Memᴰ·head, List·Memᴰ·not-nil, List·Memᴰ·cases-cons, Memᴰ·append-right}
 use mathlib.Core.Logic.{⊎-elim}
 use mathlib.Core.Option.{none, some}
@@ -15,7 +15,7 @@ use Rattle.listing_rules.specs.Bytes.{same}
 use Rattle.listing_rules.specs.Lists.{every, anyOf}
 use Rattle.listing_rules.specs.Orders.{byteOrder}
 use Rattle.listing_rules.specs.Names.{lawfulName, below}
-use Rattle.listing_rules.specs.Flags.{subscribed, noInferiors, lawfulFlags}
+use Rattle.listing_rules.specs.Flags.{noInferiors, lawfulFlags}
 use Rattle.listing_rules.specs.Table.{Row, names, noneBelow, passes}
 use Rattle.listing_rules.specs.Records.{Record, rowOf, recordRows, liesInside, apart, laidOut, recordTable}
 use Rattle.listing_rules.specs.Subscriptions.{Store, storeTable, held, storeRows, belowNoInferiors, overwritten, zeroRecord, flagged, inserted, removed}
@@ -30,7 +30,8 @@ use Rattle.listing_rules.proofs.EditRows.{Change, Sound, still-parts}
 use Rattle.listing_rules.proofs.EditPlaces.{allLower, allHigher, Found, Gap}
 use Rattle.listing_rules.proofs.EditBytes.{length-overwritten, read-overwritten, rows-stay, free-apart}
 use Rattle.listing_rules.proofs.EditLists.{every-right}
-use Rattle.listing_rules.proofs.EditLayout.{LaidParts, laid-parts, parts-laid, laid-put, laid-taken, apart-others, Parts, parts-held, parts-length, parts-whole, parts-nth, parts-flagged, parts-inserted, parts-removed}
+use Rattle.listing_rules.proofs.EditLayout.{LaidParts, laid-parts, parts-laid, laid-put, laid-taken, apart-others, Parts, parts-held}
+use Rattle.listing_rules.proofs.EditLayout.{parts-length, parts-whole, parts-nth, parts-flagged, parts-inserted, parts-removed}
 
 -- the parts of check 1 of a store
 pub record StoreParts (s : Store) : Type 0 where
@@ -42,7 +43,8 @@ pub store-parts : (s : Store) → passes (storeTable s) ≡ true → StoreParts 
 unfolding storeTable recordTable passes storeRows held
 store-parts s h = go (leb (s .count) (length (s .records)) && laidOut (s .area) (take (s .count) (s .records))) refl h
   where
-    go : (b : Bool) → (leb (s .count) (length (s .records)) && laidOut (s .area) (take (s .count) (s .records))) ≡ b → passes (cond b (some (recordRows (s .area) (take (s .count) (s .records)))) none) ≡ true → StoreParts s
+    go : (b : Bool) → (leb (s .count) (length (s .records)) && laidOut (s .area) (take (s .count) (s .records))) ≡ b
+        → passes (cond b (some (recordRows (s .area) (take (s .count) (s .records)))) none) ≡ true → StoreParts s
     go true e k =
         record {
           counted = leb-true (s .count) (length (s .records)) (and-l (leb (s .count) (length (s .records))) (laidOut (s .area) (take (s .count) (s .records))) e);
@@ -53,7 +55,8 @@ store-parts s h = go (leb (s .count) (length (s .records)) && laidOut (s .area) 
 
 pub parts-store : (s : Store) → StoreParts s → passes (storeTable s) ≡ true
 unfolding storeTable recordTable passes storeRows held
-parts-store s p = rw (le-leb (s .count) (length (s .records)) (p .counted), parts-laid (s .area) (take (s .count) (s .records)) (p .laid)) (parts-pass (recordRows (s .area) (take (s .count) (s .records))) (p .parts))
+parts-store s p = rw (le-leb (s .count) (length (s .records)) (p .counted), parts-laid (s .area) (take (s .count) (s .records)) (p .laid))
+    (parts-pass (recordRows (s .area) (take (s .count) (s .records))) (p .parts))
 
 -- as many rows as the count says
 pub rows-count : (s : Store) → s .count ≤ length (s .records) → length (storeRows s) ≡ s .count
@@ -64,26 +67,25 @@ rows-in-parts : (area : List ℕ) (a b d : List Record) → recordRows area (a +
 unfolding recordRows
 rows-in-parts area a b d = map-append (rowOf area) a (b ++ d) ∙ ap (λ (l : List Row). map (rowOf area) a ++ l) (map-append (rowOf area) b d)
 
--- what an accepted edit of the name n does; afterwards n is subscribed or not
-pub record Done (s t : Store) (n : List ℕ) (has : Bool) : Type 0 where
+-- what an accepted edit of the name n does; afterwards n has this row, or none
+pub record Done (s t : Store) (n : List ℕ) (row : List Row) : Type 0 where
   pub same-records : length (t .records) ≡ length (s .records)
   pub same-area : length (t .area) ≡ length (s .area)
   pub after : StoreParts t
   pub change : Change (storeRows s) (storeRows t) n
-  pub row-after : anyOf (λ (r : Row). subscribed (r .flags)) (change .new) ≡ has
+  pub row-after : change .new ≡ row
 
 -- the row, or none, that the name n has afterwards
-record NewRows (s : Store) (n : List ℕ) (new : List Row) (has : Bool) : Type 0 where
+record NewRows (s : Store) (n : List ℕ) (new : List Row) : Type 0 where
   own-name : every (λ (r : Row). same (r .name) n) new ≡ true
   lawful-names : every (λ (r : Row). lawfulName (r .name)) new ≡ true
   lawful-flags : every (λ (r : Row). lawfulFlags (r .flags)) new ≡ true
   single : Asc byteOrder (names new)
   open-above : (r : Row) → List·Memᴰ r (storeRows s) → noInferiors (r .flags) ≡ true → (q : Row) → List·Memᴰ q new → below (r .name) (q .name) ≡ false
   shut-before : (r : Row) → List·Memᴰ r new → noInferiors (r .flags) ≡ true → (o : Row) × List·Memᴰ o (storeRows s) × (o .name ≡ r .name) × (noInferiors (o .flags) ≡ true)
-  subscribed-now : anyOf (λ (r : Row). subscribed (r .flags)) new ≡ has
 
-no-row : (s : Store) (n : List ℕ) → NewRows s n [] false
-unfolding every anyOf names
+no-row : (s : Store) (n : List ℕ) → NewRows s n []
+unfolding every names
 no-row s n =
     record {
       own-name = refl;
@@ -92,11 +94,13 @@ no-row s n =
       single = tt;
       open-above = λ r m e q k. absurd (List·Memᴰ·not-nil k);
       shut-before = λ r m e. absurd (List·Memᴰ·not-nil m);
-      subscribed-now = refl;
     }
 
-one-row : (s : Store) (n : List ℕ) (f : ℕ) → lawfulName n ≡ true → lawfulFlags f ≡ true → ((r : Row) → List·Memᴰ r (storeRows s) → noInferiors (r .flags) ≡ true → below (r .name) n ≡ false) → (noInferiors f ≡ true → (o : Row) × List·Memᴰ o (storeRows s) × (o .name ≡ n) × (noInferiors (o .flags) ≡ true)) → NewRows s n (record { flags = f; name = n } ∷ []) (subscribed f)
-unfolding every anyOf names
+one-row : (s : Store) (n : List ℕ) (f : ℕ) → lawfulName n ≡ true → lawfulFlags f ≡ true
+    → ((r : Row) → List·Memᴰ r (storeRows s) → noInferiors (r .flags) ≡ true → below (r .name) n ≡ false)
+    → (noInferiors f ≡ true → (o : Row) × List·Memᴰ o (storeRows s) × (o .name ≡ n) × (noInferiors (o .flags) ≡ true))
+    → NewRows s n (record { flags = f; name = n } ∷ [])
+unfolding every names
 one-row s n f l g above shut =
     record {
       own-name = and-i (same n n) true (same-refl n) refl;
@@ -105,7 +109,6 @@ one-row s n f l g above shut =
       single = (tt, tt);
       open-above = λ r m e q k. ap (λ (x : Row). below (r .name) (x .name)) (only q k) ∙ above r m e;
       shut-before = λ r m e. let w = shut (ap (λ (x : Row). noInferiors (x .flags)) (sym (only r m)) ∙ e) in (w .0, w .1, w .2 ∙ ap (λ (x : Row). x .name) (sym (only r m)), w .3);
-      subscribed-now = or-false (subscribed f);
     }
   where
     only : (q : Row) → List·Memᴰ q (record { flags = f; name = n } ∷ []) → q ≡ record { flags = f; name = n }
@@ -113,9 +116,13 @@ one-row s n f l g above shut =
 
 -- an edit, from the records before and after it
 module _ (s t : Store) (n : List ℕ) (sp : StoreParts s) (front mid mid′ back spare spare′ : List Record) (p : Parts s front mid back spare) (q : Parts t front mid′ back spare′) where
-  done : (new : List Row) (has : Bool) → length mid + length spare ≡ length mid′ + length spare′ → length (t .area) ≡ length (s .area) → recordRows (t .area) front ≡ recordRows (s .area) front → recordRows (t .area) back ≡ recordRows (s .area) back → recordRows (t .area) mid′ ≡ new → allLower (recordRows (s .area) front) n → allHigher (recordRows (s .area) back) n → every (λ (r : Row). same (r .name) n) (recordRows (s .area) mid) ≡ true → NewRows s n new has → LaidParts (t .area) (front ++ (mid′ ++ back)) → t .count ≤ 512 → Done s t n has
+  done : (new : List Row) → length mid + length spare ≡ length mid′ + length spare′ → length (t .area) ≡ length (s .area)
+      → recordRows (t .area) front ≡ recordRows (s .area) front → recordRows (t .area) back ≡ recordRows (s .area) back
+      → recordRows (t .area) mid′ ≡ new → allLower (recordRows (s .area) front) n → allHigher (recordRows (s .area) back) n
+      → every (λ (r : Row). same (r .name) n) (recordRows (s .area) mid) ≡ true → NewRows s n new → LaidParts (t .area) (front ++ (mid′ ++ back))
+      → t .count ≤ 512 → Done s t n new
   unfolding storeRows
-  done new has lengths areas rows-front rows-back rows-mid low high own w laid few =
+  done new lengths areas rows-front rows-back rows-mid low high own w laid few =
       record {
         same-records = omega (arith, parts-length s front mid back spare p, parts-length t front mid′ back spare′ q, p .all-rows, q .all-rows, lengths);
         same-area = areas;
@@ -126,7 +133,7 @@ module _ (s t : Store) (n : List ℕ) (sp : StoreParts s) (front mid mid′ back
               parts = still-parts (storeRows s) (storeRows t) n change sound (sp .parts);
             };
         change = change;
-        row-after = w .subscribed-now;
+        row-after = refl;
       }
     where
       counted : t .count ≤ length (t .records)
@@ -177,7 +184,8 @@ row-open s sp q k r m e = none-mem (λ (x : Row). below (r .name) (x .name)) (st
     none : anyOf (λ (x : Row). below (r .name) (x .name)) (storeRows s) ≡ false
     none =
         not-true (anyOf (λ (x : Row). below (r .name) (x .name)) (storeRows s))
-        (subst (λ (o : Bool). (not o || not (anyOf (λ (x : Row). below (r .name) (x .name)) (storeRows s))) ≡ true) e (every-mem (λ r. noneBelow (storeRows s) r) (storeRows s) (sp .parts .inferiors) r m))
+        (subst (λ (o : Bool). (not o || not (anyOf (λ (x : Row). below (r .name) (x .name)) (storeRows s))) ≡ true) e
+        (every-mem (λ r. noneBelow (storeRows s) r) (storeRows s) (sp .parts .inferiors) r m))
 
 -- a name of a store that passes has bytes
 has-bytes : (s : Store) → StoreParts s → (r : Record) → List·Memᴰ r (held s) → 1 ≤ r .len
@@ -200,10 +208,10 @@ empty-row : (n : List ℕ) → every (λ (r : Row). same (r .name) n) [] ≡ tru
 unfolding every
 empty-row n = refl
 
--- flags 0002: subscribed, lawful, and with inferiors
-two : (subscribed 0x0002 ≡ true) × (lawfulFlags 0x0002 ≡ true) × (noInferiors 0x0002 ≡ false)
+-- flags 0002: lawful, and with inferiors
+two : (lawfulFlags 0x0002 ≡ true) × (noInferiors 0x0002 ≡ false)
 unfolding openFlags openBytes
-two = (refl, refl, refl)
+two = (refl, refl)
 
 module _ (s : Store) (n : List ℕ) (sp : StoreParts s) where
   -- the name's own record
@@ -231,12 +239,12 @@ module _ (s : Store) (n : List ℕ) (sp : StoreParts s) where
         (and-l (liesInside (s .area) (w .it)) (every (liesInside (s .area)) (w .back)) (every-right (liesInside (s .area)) (w .front) (w .it ∷ w .back) (own-laid .inside)))
 
     -- "sets the flag", "clears the flag"
-    pub flagged-done : (f : ℕ) → lawfulFlags f ≡ true → noInferiors f ≡ noInferiors (w .it .flags) → Done s (flagged s (length (w .front)) f) n (subscribed f)
+    pub flagged-done : (f : ℕ) → lawfulFlags f ≡ true → noInferiors f ≡ noInferiors (w .it .flags) → Done s (flagged s (length (w .front)) f) n (record { flags = f; name = n } ∷ [])
     unfolding flagged recordRows rowOf apart
     flagged-done f l e =
         done s (flagged s (length (w .front)) f) n sp (w .front) (w .it ∷ []) (it′ ∷ []) (w .back) (drop (s .count) (s .records)) (drop (s .count) (s .records)) own-parts
         (parts-flagged s (w .front) (w .it) (w .back) (drop (s .count) (s .records)) f own-parts)
-        (record { flags = f; name = n } ∷ []) (subscribed f) refl refl refl refl named (w .lower) (w .higher) own-row
+        (record { flags = f; name = n } ∷ []) refl refl refl refl named (w .lower) (w .higher) own-row
         (one-row s n f own-lawful l open-above shut-before) (laid (apart-others (w .front) (w .it) (w .back) (own-laid .apart-all))) (few-rows s sp)
       where
         it′ : Record
@@ -255,13 +263,14 @@ module _ (s : Store) (n : List ℕ) (sp : StoreParts s) where
         laid a = laid-put (s .area) (s .area) refl (w .front) it′ (w .back) (laid-taken (s .area) (s .area) refl (w .front) (w .it) (w .back) own-laid) (inside-area (s .area) it′ own-inside) a
 
     -- "removes a row 0002 entirely"
-    pub removed-done : Done s (removed s (length (w .front))) n false
+    pub removed-done : Done s (removed s (length (w .front))) n []
     unfolding removed recordRows
     removed-done =
         done s (removed s (length (w .front))) n sp (w .front) (w .it ∷ []) [] (w .back) (drop (s .count) (s .records)) (zeroRecord ∷ drop (s .count) (s .records)) own-parts
         (parts-removed s (w .front) (w .it) (w .back) (drop (s .count) (s .records)) own-parts)
-        [] false (omega arith) (ap length area-is ∙ length-overwritten (s .area) (w .it .start) zeros fits)
-        (stay (w .front) (every-left (apart (w .it)) (w .front) (w .back) others)) (stay (w .back) (every-right (apart (w .it)) (w .front) (w .back) others)) refl (w .lower) (w .higher) own-row (no-row s n)
+        [] (omega arith) (ap length area-is ∙ length-overwritten (s .area) (w .it .start) zeros fits)
+        (stay (w .front) (every-left (apart (w .it)) (w .front) (w .back) others))
+        (stay (w .back) (every-right (apart (w .it)) (w .front) (w .back) others)) refl (w .lower) (w .higher) own-row (no-row s n)
         (laid-taken (s .area) (removed s (length (w .front)) .area) (ap length area-is ∙ length-overwritten (s .area) (w .it .start) zeros fits) (w .front) (w .it) (w .back) own-laid)
         (omega (arith, few-rows s sp))
       where
@@ -281,7 +290,9 @@ module _ (s : Store) (n : List ℕ) (sp : StoreParts s) where
         stay rs a = ap (λ (x : List ℕ). recordRows x rs) area-is ∙ rows-stay (s .area) (w .it .start) zeros fits (w .it) rs refl (sym (length-replicate {A = ℕ} (w .it .len) 0)) a
 
   -- "inserts a row 0002", its name in free bytes
-  pub inserted-done : (w : Gap (s .area) (held s) n) (start : ℕ) → lawfulName n ≡ true → belowNoInferiors (storeRows s) n ≡ false → FreeAt s (length n) start → s .count < 512 → s .count < length (s .records) → Done s (inserted s (length (w .front)) start n) n true
+  pub inserted-done : (w : Gap (s .area) (held s) n) (start : ℕ) → lawfulName n ≡ true → belowNoInferiors (storeRows s) n ≡ false
+      → FreeAt s (length n) start → s .count < 512 → s .count < length (s .records)
+      → Done s (inserted s (length (w .front)) start n) n (record { flags = 0x0002; name = n } ∷ [])
   unfolding inserted recordRows rowOf
   inserted-done w start l b f few room = go (drop (s .count) (s .records)) (parts-whole s (w .front) [] (w .back) (sp .counted) (w .whole))
     where
@@ -289,7 +300,9 @@ module _ (s : Store) (n : List ℕ) (sp : StoreParts s) where
       it = record { flags = 0x0002; start = start; len = length n }
 
       others : every (apart it) (w .front ++ w .back) ≡ true
-      others = mem-every (apart it) (w .front ++ w .back) (λ r m. free-apart s it f (good-parts n l .least) r (subst (λ (k : List Record). List·Memᴰ r k) (sym (w .whole)) m) (has-bytes s sp r (subst (λ (k : List Record). List·Memᴰ r k) (sym (w .whole)) m)))
+      others = mem-every (apart it) (w .front ++ w .back)
+          (λ r m. free-apart s it f (good-parts n l .least) r (subst (λ (k : List Record). List·Memᴰ r k) (sym (w .whole)) m)
+          (has-bytes s sp r (subst (λ (k : List Record). List·Memᴰ r k) (sym (w .whole)) m)))
 
       lengths : length (overwritten (s .area) start n) ≡ length (s .area)
       lengths = length-overwritten (s .area) start n (f .inside)
@@ -297,15 +310,15 @@ module _ (s : Store) (n : List ℕ) (sp : StoreParts s) where
       named : recordRows (overwritten (s .area) start n) (it ∷ []) ≡ record { flags = 0x0002; name = n } ∷ []
       named = λ i. record { flags = 0x0002; name = read-overwritten (s .area) start n (f .inside) i } ∷ []
 
-      row : NewRows s n (record { flags = 0x0002; name = n } ∷ []) true
-      row = subst (NewRows s n (record { flags = 0x0002; name = n } ∷ [])) (two .0) (one-row s n 0x0002 l (two .1) (open-for s n b) (λ e. absurd (false≢true (sym (two .2) ∙ e))))
+      row : NewRows s n (record { flags = 0x0002; name = n } ∷ [])
+      row = one-row s n 0x0002 l (two .0) (open-for s n b) (λ e. absurd (false≢true (sym (two .1) ∙ e)))
 
-      go : (spare : List Record) → Parts s (w .front) [] (w .back) spare → Done s (inserted s (length (w .front)) start n) n true
+      go : (spare : List Record) → Parts s (w .front) [] (w .back) spare → Done s (inserted s (length (w .front)) start n) n (record { flags = 0x0002; name = n } ∷ [])
       go [] p = absurd (omega (arith, parts-length s (w .front) [] (w .back) [] p))
       go (x ∷ spare) p =
           done s (inserted s (length (w .front)) start n) n sp (w .front) [] (it ∷ []) (w .back) (x ∷ spare) spare p
           (parts-inserted s (w .front) (w .back) x spare start n p)
-          (record { flags = 0x0002; name = n } ∷ []) true (omega arith) lengths
+          (record { flags = 0x0002; name = n } ∷ []) (omega arith) lengths
           (rows-stay (s .area) start n (f .inside) it (w .front) refl refl (every-left (apart it) (w .front) (w .back) others))
           (rows-stay (s .area) start n (f .inside) it (w .back) refl refl (every-right (apart it) (w .front) (w .back) others))
           named (w .lower) (w .higher) (empty-row n) row
@@ -313,9 +326,9 @@ module _ (s : Store) (n : List ℕ) (sp : StoreParts s) where
           (omega arith)
 
   -- a name with no row, and none afterwards
-  pub unchanged-done : Gap (s .area) (held s) n → Done s s n false
+  pub unchanged-done : Gap (s .area) (held s) n → Done s s n []
   unfolding recordRows
   unchanged-done w =
       let p = parts-whole s (w .front) [] (w .back) (sp .counted) (w .whole) in
-      done s s n sp (w .front) [] [] (w .back) (drop (s .count) (s .records)) (drop (s .count) (s .records)) p p [] false refl refl refl refl refl (w .lower) (w .higher) (empty-row n) (no-row s n)
+      done s s n sp (w .front) [] [] (w .back) (drop (s .count) (s .records)) (drop (s .count) (s .records)) p p [] refl refl refl refl refl (w .lower) (w .higher) (empty-row n) (no-row s n)
       (subst (LaidParts (s .area)) (w .whole) (sp .laid)) (few-rows s sp)

@@ -48,7 +48,9 @@ pub record Gap (area : List ℕ) (hs : List Record) (n : List ℕ) : Type 0 wher
 -- rows above a name that is n or above it are above n
 higher-rows : (rs : List Row) (x n : List ℕ) → Above byteOrder x (names rs) → (byteOrder n x ≡ Ordering·eq) ⊎ (byteOrder n x ≡ Ordering·lt) → allHigher rs n
 unfolding names isLt
-higher-rows rs x n a o = mem-every (λ (r : Row). isLt (byteOrder n (r .name))) rs (λ r m. ap isLt (go o r (above-mem byteOrder bytes-total x (r .name) (names rs) a (mem-map (λ (q : Row). q .name) m))))
+higher-rows rs x n a o =
+    mem-every (λ (r : Row). isLt (byteOrder n (r .name))) rs
+    (λ r m. ap isLt (go o r (above-mem byteOrder bytes-total x (r .name) (names rs) a (mem-map (λ (q : Row). q .name) m))))
   where
     go : (byteOrder n x ≡ Ordering·eq) ⊎ (byteOrder n x ≡ Ordering·lt) → (r : Row) → byteOrder x (r .name) ≡ Ordering·lt → byteOrder n (r .name) ≡ Ordering·lt
     go (inl e) r h = subst (λ (z : List ℕ). byteOrder z (r .name) ≡ Ordering·lt) (sym (bytes-total .equal n x e)) h
@@ -57,7 +59,9 @@ higher-rows rs x n a o = mem-every (λ (r : Row). isLt (byteOrder n (r .name))) 
 -- no name above n is below n, nor n itself
 none-lower : (rs : List Row) (n : List ℕ) → allHigher rs n → rowsBefore rs n ≡ 0
 unfolding rowsBefore isLt
-none-lower rs n h = ap length (keep-none (λ (r : Row). isLt (byteOrder (r .name) n)) rs (λ r m. ap isLt (turned (r .name) (lt-true (byteOrder n (r .name)) (every-mem (λ (q : Row). isLt (byteOrder n (q .name))) rs h r m)))))
+none-lower rs n h =
+    ap length (keep-none (λ (r : Row). isLt (byteOrder (r .name) n)) rs
+    (λ r m. ap isLt (turned (r .name) (lt-true (byteOrder n (r .name)) (every-mem (λ (q : Row). isLt (byteOrder n (q .name))) rs h r m)))))
   where
     turned : (x : List ℕ) → byteOrder n x ≡ Ordering·lt → byteOrder x n ≡ Ordering·gt
     turned x e = bytes-total .turned n x ∙ ap swap e

@@ -3,7 +3,7 @@
 use mathlib.Core.Path.{_≡_, refl, sym, ap, _∙_, subst}
 use mathlib.Core.Logic.{_⊎_, inl, inr, ⊎-elim}
 use mathlib.Core.Bool.{Bool, true, false, cond, _&&_, _||_, not, false≢true, or-false, and-true}
-use mathlib.Core.List.{List, [], _∷_, _++_, map, map-append, List·Memᴰ, List·Memᴰ·head, List·Memᴰ·tail, List·Memᴰ·append-cases}
+use mathlib.Core.List.{List, [], _∷_, _++_, map, map-append, List·Memᴰ, List·Memᴰ·head, List·Memᴰ·tail, List·Memᴰ·append-cases, append-nil}
 use Prim.Native.Nat.{ℕ, _≤_, Ordering·lt}
 use lib.ListN.{length}
 use borrow.Author.Tests.{not-true}
@@ -18,7 +18,7 @@ use Rattle.listing_rules.proofs.ListLaws.{every-mem, mem-every, none-me
 use Rattle.listing_rules.proofs.Order.{bytes-total}
 use Rattle.listing_rules.proofs.Sorted.{Asc, asc-append, irrefl, lt-true, ascends-asc}
 use Rattle.listing_rules.proofs.Passes.{TableParts}
-use Rattle.listing_rules.proofs.EditLists.{any-append, mem-none, keep-append, keep-none, every-swapped, mem-swapped, asc-left, asc-right, asc-ascends}
+use Rattle.listing_rules.proofs.EditLists.{any-append, mem-none, keep-append, keep-none, keep-all, every-swapped, mem-swapped, asc-left, asc-right, asc-ascends}
 
 -- Rows before and after an edit of the name n: those of lower and of higher names stay, in their order.
 pub record Change (rs qs : List Row) (n : List ℕ) : Type 0 where
@@ -32,6 +32,10 @@ pub record Change (rs qs : List Row) (n : List ℕ) : Type 0 where
   pub upper-names : every (λ (r : Row). isLt (byteOrder n (r .name))) upper ≡ true
   pub old-names : every (λ (r : Row). same (r .name) n) old ≡ true
   pub new-names : every (λ (r : Row). same (r .name) n) new ≡ true
+
+-- the rows of lower names, the row of the name n or none, and the rows of higher names
+unfoldable pub rowsWith : List Row → List ℕ → List Row → List Row
+rowsWith rs n row = keep (λ r. isLt (byteOrder (r .name) n)) rs ++ (row ++ keep (λ r. isLt (byteOrder n (r .name))) rs)
 
 -- what of a change the check asks: the new row is lawful, and lies below no row with no inferiors; if it has none itself, so had the old one
 pub record Sound (rs qs : List Row) (n : List ℕ) (c : Change rs qs n) : Type 0 where
@@ -63,7 +67,9 @@ subscribed-test (r ∷ rs) m = go (subscribed (r .flags)) (subscribed-test rs m)
     rest : Bool
     rest = anyOf (λ (q : Row). subscribed (q .flags) && same m (q .name)) rs
 
-    go : (o : Bool) → subscribedIn rs m ≡ rest → isIn (map (λ q. q .name) (cond o (r ∷ keep (λ q. subscribed (q .flags)) rs) (keep (λ q. subscribed (q .flags)) rs))) m ≡ ((o && same m (r .name)) || rest)
+    go : (o : Bool) → subscribedIn rs m ≡ rest
+        → isIn (map (λ q. q .name) (cond o (r ∷ keep (λ q. subscribed (q .flags)) rs) (keep (λ q. subscribed (q .flags)) rs))) m
+        ≡ ((o && same m (r .name)) || rest)
     go true e = ap (λ (b : Bool). same m (r .name) || b) e
     go false e = e
 
@@ -107,7 +113,9 @@ module _ (rs qs : List Row) (n : List ℕ) (c : Change rs qs n) where
       named r e = ap not (ap (λ (x : List ℕ). same x n) e ∙ same-refl n)
 
       parts : (mid : List Row) → ((r : Row) → List·Memᴰ r mid → other r ≡ false) → keep other (c .lower ++ (mid ++ c .upper)) ≡ keep other (c .lower) ++ keep other (c .upper)
-      parts mid f = keep-append other (c .lower) (mid ++ c .upper) ∙ ap (λ (l : List Row). keep other (c .lower) ++ l) (keep-append other mid (c .upper) ∙ ap (λ (l : List Row). l ++ keep other (c .upper)) (keep-none other mid f))
+      parts mid f = keep-append other (c .lower) (mid ++ c .upper)
+          ∙ ap (λ (l : List Row). keep other (c .lower) ++ l)
+          (keep-append other mid (c .upper) ∙ ap (λ (l : List Row). l ++ keep other (c .upper)) (keep-none other mid f))
 
   -- the names still ascend
   still-ascends : Asc byteOrder (names (c .new)) → Asc byteOrder (names rs) → Asc byteOrder (names qs)
@@ -168,6 +176,45 @@ module _ (rs qs : List Row) (n : List ℕ) (c : Change rs qs n) where
       judge r m true e = ap not (mem-none (λ (q : Row). below (r .name) (q .name)) qs (none-under r e (back r m)))
       judge r m false e = refl
 
+  -- the rows before it and the name's own row decide the rows after it
+  pub changed-rows : qs ≡ rowsWith rs n (c .new)
+  unfolding rowsWith
+  changed-rows = c .is ∙ sym (λ i. (ap (keep low) (c .was) ∙ lower-kept) i ++ (c .new ++ (ap (keep high) (c .was) ∙ upper-kept) i))
+    where
+      low : Row → Bool
+      low r = isLt (byteOrder (r .name) n)
+
+      high : Row → Bool
+      high r = isLt (byteOrder n (r .name))
+
+      not-lt : (x y : List ℕ) → (byteOrder x y ≡ Ordering·lt → ⊥) → isLt (byteOrder x y) ≡ false
+      not-lt x y f = go (isLt (byteOrder x y)) refl
+        where
+          go : (b : Bool) → isLt (byteOrder x y) ≡ b → b ≡ false
+          go true e = absurd (f (lt-true (byteOrder x y) e))
+          go false e = refl
+
+      own : (x y : List ℕ) → x ≡ y → byteOrder x y ≡ Ordering·lt → ⊥
+      own x y e l = irrefl byteOrder bytes-total y (subst (λ (z : List ℕ). byteOrder z y ≡ Ordering·lt) e l)
+
+      turned : (x y : List ℕ) → byteOrder y x ≡ Ordering·lt → byteOrder x y ≡ Ordering·lt → ⊥
+      turned x y l k = irrefl byteOrder bytes-total x (bytes-total .trans x y x k l)
+
+      lower-kept : keep low (c .lower ++ (c .old ++ c .upper)) ≡ c .lower
+      lower-kept =
+          keep-append low (c .lower) (c .old ++ c .upper)
+          ∙ (λ i. keep-all low (c .lower) (c .lower-names) i ++ keep-none low (c .old ++ c .upper)
+          (λ r m. ⊎-elim (λ k. not-lt (r .name) n (own (r .name) n (old-is r k))) (λ k. not-lt (r .name) n (turned (r .name) n (upper-lt r k)))
+          (List·Memᴰ·append-cases (c .old) m)) i)
+          ∙ append-nil (c .lower)
+
+      upper-kept : keep high (c .lower ++ (c .old ++ c .upper)) ≡ c .upper
+      upper-kept =
+          keep-append high (c .lower) (c .old ++ c .upper)
+          ∙ (λ i. keep-none high (c .lower) (λ r k. not-lt n (r .name) (turned n (r .name) (lower-lt r k))) i ++ keep high (c .old ++ c .upper))
+          ∙ keep-append high (c .old) (c .upper)
+          ∙ (λ i. keep-none high (c .old) (λ r k. not-lt n (r .name) (own n (r .name) (sym (old-is r k)))) i ++ keep-all high (c .upper) (c .upper-names) i)
+
   -- the rows still pass
   pub still-parts : Sound rs qs n c → TableParts rs → TableParts qs
   still-parts d p =
@@ -190,7 +237,9 @@ module _ (rs qs : List Row) (n : List ℕ) (c : Change rs qs n) where
       test r = subscribed (r .flags) && same m (r .name)
 
       other : (mid : List Row) → ((r : Row) → List·Memᴰ r mid → r .name ≡ n) → same n m ≡ false → anyOf test (c .lower ++ (mid ++ c .upper)) ≡ (anyOf test (c .lower) || anyOf test (c .upper))
-      other mid f e = any-append test (c .lower) (mid ++ c .upper) ∙ ap (λ (b : Bool). anyOf test (c .lower) || b) (any-append test mid (c .upper) ∙ ap (λ (b : Bool). b || anyOf test (c .upper)) (mem-none test mid away))
+      other mid f e = any-append test (c .lower) (mid ++ c .upper)
+          ∙ ap (λ (b : Bool). anyOf test (c .lower) || b)
+          (any-append test mid (c .upper) ∙ ap (λ (b : Bool). b || anyOf test (c .upper)) (mem-none test mid away))
         where
           away : (r : Row) → List·Memᴰ r mid → test r ≡ false
           away r k = false-right (subscribed (r .flags)) (same m (r .name)) (same-other n m (r .name) (f r k) e)

@@ -1,5 +1,5 @@
--- The feeder: how its bytes are cut into chunks does not matter; and a line that announces no literal has document 01's shape. Rests on
--- TokenLaws.
+-- The feeder: how its bytes are cut into chunks does not matter; and a line that announces no literal has document 01's shape. Rests on TokenLaws
+-- and ListLaws.
 use mathlib.Core.Path.{_≡_, refl, sym, ap, _∙_}
 use mathlib.Core.Bool.{Bool, true, false, cond, _&&_, _||_, not, or-false, false≢true}
 use mathlib.Core.List.{List, [], _∷_, _++_, append-assoc, append-nil}
@@ -14,7 +14,9 @@ use Rattle.listing_rules.specs.Bytes.{text, crlf, same, all, within, isE
 use Rattle.listing_rules.proofs.Keys.{openBytes}
 use Rattle.listing_rules.specs.Lists.{joined}
 use Rattle.listing_rules.specs.Tokens.{got, run₁, digitByte, decimal, number, lineByte}
-use Rattle.listing_rules.specs.Feeder.{Step, stillOne, gives, offends, refusing, lineEnded, textByte, endsLine, lastIs, announcedAt, orElse, announced, Event, quiet, handed, goOn, denied, Feeder, reading, first, fedByte, Feeding, saying, feedAll, feedChunks, allowed, oneCommand}
+use Rattle.listing_rules.specs.Feeder.{Step, stillOne, gives, offends, refusing, lineEnded, textByte, endsLine, lastIs, announcedAt, orElse}
+use Rattle.listing_rules.specs.Feeder.{announced, Event, quiet, handed, goOn, denied, Feeder, reading, first, fedByte, Feeding, saying, feedAll}
+use Rattle.listing_rules.specs.Feeder.{feedChunks, allowed, oneCommand}
 use Rattle.listing_rules.specs.Command.{lineText}
 use Rattle.listing_rules.proofs.Bools.{and-l, and-r}
 use Rattle.listing_rules.proofs.ListLaws.{same-true}
@@ -80,7 +82,10 @@ ends-snoc (x ∷ []) c = pair (eqb x 13) (eqb c 10) (eqb c 13)
     pair true false false = refl
     pair false b true = refl
     pair false b false = refl
-ends-snoc (x ∷ y ∷ l) c = ap (λ (o : Bool). (eqb x 13 && (eqb y 10 && same (l ++ (c ∷ [])) [])) || o) (ends-snoc (y ∷ l) c) ∙ ap (λ (o : Bool). (eqb x 13 && (eqb y 10 && o)) || (lastIs 13 (y ∷ l) && eqb c 10)) (more l) ∙ none-here (eqb x 13) (eqb y 10) (lastIs 13 (y ∷ l) && eqb c 10)
+ends-snoc (x ∷ y ∷ l) c =
+    ap (λ (o : Bool). (eqb x 13 && (eqb y 10 && same (l ++ (c ∷ [])) [])) || o) (ends-snoc (y ∷ l) c)
+    ∙ ap (λ (o : Bool). (eqb x 13 && (eqb y 10 && o)) || (lastIs 13 (y ∷ l) && eqb c 10)) (more l)
+    ∙ none-here (eqb x 13) (eqb y 10) (lastIs 13 (y ∷ l) && eqb c 10)
   where
     more : (m : List ℕ) → same (m ++ (c ∷ [])) [] ≡ false
     more [] = refl
@@ -101,7 +106,8 @@ line-byte-parts b h =
     (no13, no10, ne-eqb b 0 (λ e. omega (arith, low)))
 
 -- a byte of text that ends no line, and one that ends the last
-text-goes-on : (kept line : List ℕ) (c : ℕ) (t : List ℕ) → allowed (reading kept line) c ≡ true → offends kept c ≡ false → endsLine (line ++ (c ∷ [])) ≡ false → oneCommand (reading kept line) (c ∷ t) ≡ oneCommand (reading (kept ++ (c ∷ [])) (line ++ (c ∷ []))) t
+text-goes-on : (kept line : List ℕ) (c : ℕ) (t : List ℕ) → allowed (reading kept line) c ≡ true → offends kept c ≡ false
+    → endsLine (line ++ (c ∷ [])) ≡ false → oneCommand (reading kept line) (c ∷ t) ≡ oneCommand (reading (kept ++ (c ∷ [])) (line ++ (c ∷ []))) t
 unfolding oneCommand stillOne gives
 text-goes-on kept line c t a o e =
     ap (λ (r : Step). allowed (reading kept line) c && stillOne (r .event) (isEmpty t) (oneCommand (r .state) t)) quiet-step ∙ rw a
@@ -109,7 +115,8 @@ text-goes-on kept line c t a o e =
     quiet-step : fedByte (reading kept line) c ≡ gives (reading (kept ++ (c ∷ [])) (line ++ (c ∷ []))) quiet
     quiet-step = unfold fedByte textByte in rw (o, e)
 
-text-ends : (kept line : List ℕ) (c : ℕ) → allowed (reading kept line) c ≡ true → offends kept c ≡ false → endsLine (line ++ (c ∷ [])) ≡ true → announced (line ++ (c ∷ [])) ≡ none → oneCommand (reading kept line) (c ∷ []) ≡ true
+text-ends : (kept line : List ℕ) (c : ℕ) → allowed (reading kept line) c ≡ true → offends kept c ≡ false → endsLine (line ++ (c ∷ [])) ≡ true
+    → announced (line ++ (c ∷ [])) ≡ none → oneCommand (reading kept line) (c ∷ []) ≡ true
 unfolding oneCommand stillOne gives isEmpty
 text-ends kept line c a o e n =
     ap (λ (r : Step). allowed (reading kept line) c && stillOne (r .event) true (oneCommand (r .state) [])) last-step ∙ rw a
@@ -122,7 +129,8 @@ unfolding offends
 within-room kept c h e = rw (le-leb (suc (length kept)) 2048 h, e)
 
 -- text, then CR LF, where nothing is announced
-run-out : (kept line x : List ℕ) → all lineByte x ≡ true → lastIs 13 line ≡ false → length kept + length x + 2 ≤ 2048 → announced ((line ++ x) ++ crlf) ≡ none → oneCommand (reading kept line) (x ++ crlf) ≡ true
+run-out : (kept line x : List ℕ) → all lineByte x ≡ true → lastIs 13 line ≡ false → length kept + length x + 2 ≤ 2048
+    → announced ((line ++ x) ++ crlf) ≡ none → oneCommand (reading kept line) (x ++ crlf) ≡ true
 unfolding crlf all allowed lineByte within
 run-out kept line [] h n s a =
     text-goes-on kept line 13 (10 ∷ []) (rw n) (within-room kept 13 (omega arith) refl) (ends-snoc line 13 ∙ ap (λ (o : Bool). o && false) n)
@@ -131,7 +139,8 @@ run-out kept line [] h n s a =
     (ap announced (append-assoc line (13 ∷ []) (10 ∷ []) ∙ ap (λ (l : List ℕ). l ++ crlf) (sym (append-nil line))) ∙ a)
 run-out kept line (c ∷ x) h n s a =
     text-goes-on kept line c (x ++ crlf) (rw (n, this)) (within-room kept c (omega arith) (p .2)) (ends-snoc line c ∙ ap (λ (o : Bool). o && eqb c 10) n)
-    ∙ run-out (kept ++ (c ∷ [])) (line ++ (c ∷ [])) x (and-r (lineByte c) (all lineByte x) h) (last-snoc 13 line c ∙ p .0) (omega (arith, length-append kept (c ∷ []))) (ap (λ (l : List ℕ). announced (l ++ crlf)) (append-assoc line (c ∷ []) x) ∙ a)
+    ∙ run-out (kept ++ (c ∷ [])) (line ++ (c ∷ [])) x (and-r (lineByte c) (all lineByte x) h) (last-snoc 13 line c ∙ p .0)
+    (omega (arith, length-append kept (c ∷ []))) (ap (λ (l : List ℕ). announced (l ++ crlf)) (append-assoc line (c ∷ []) x) ∙ a)
   where
     this : lineByte c ≡ true
     this = and-l (lineByte c) (all lineByte x) h
@@ -182,7 +191,8 @@ next-parts kept line c t e = (and-l (allowed (reading kept line) c) (more (fedBy
 
     go : (o : Bool) → offends kept c ≡ o → o ≡ false
     go false o = refl
-    go true o = absurd (false≢true (sym (ap (λ (v : Event). stillOne v (isEmpty t) (oneCommand (fedByte (reading kept line) c .state) t)) (denies o)) ∙ and-r (allowed (reading kept line) c) (more (fedByte (reading kept line) c)) e))
+    go true o = absurd (false≢true (sym (ap (λ (v : Event). stillOne v (isEmpty t) (oneCommand (fedByte (reading kept line) c .state) t)) (denies o))
+        ∙ and-r (allowed (reading kept line) c) (more (fedByte (reading kept line) c)) e))
 
 room-left : (kept : List ℕ) (c : ℕ) → offends kept c ≡ false → suc (length kept) ≤ 2048
 unfolding offends
@@ -197,12 +207,14 @@ quiet-step : (kept line : List ℕ) (c : ℕ) → offends kept c ≡ false → e
 unfolding fedByte textByte
 quiet-step kept line c o e = rw (o, e)
 
-quiet-on : (kept line : List ℕ) (c : ℕ) (t : List ℕ) → offends kept c ≡ false → endsLine (line ++ (c ∷ [])) ≡ false → feedAll (reading kept line) (c ∷ t) ≡ feedAll (reading (kept ++ (c ∷ [])) (line ++ (c ∷ []))) t
+quiet-on : (kept line : List ℕ) (c : ℕ) (t : List ℕ) → offends kept c ≡ false → endsLine (line ++ (c ∷ [])) ≡ false
+    → feedAll (reading kept line) (c ∷ t) ≡ feedAll (reading (kept ++ (c ∷ [])) (line ++ (c ∷ []))) t
 unfolding feedAll gives saying
 quiet-on kept line c t o e = ap (λ (r : Step). saying (r .event) (feedAll (r .state) t)) (quiet-step kept line c o e)
 
 -- after CR only the LF of the last line is left
-after-cr : (x t : List ℕ) → oneCommand (reading (x ++ (13 ∷ [])) (x ++ (13 ∷ []))) t ≡ true → asks (feedAll (reading (x ++ (13 ∷ [])) (x ++ (13 ∷ []))) t .events) ≡ false → (t ≡ 10 ∷ []) × (length x + 1 + length t ≤ 2048)
+after-cr : (x t : List ℕ) → oneCommand (reading (x ++ (13 ∷ [])) (x ++ (13 ∷ []))) t ≡ true
+    → asks (feedAll (reading (x ++ (13 ∷ [])) (x ++ (13 ∷ []))) t .events) ≡ false → (t ≡ 10 ∷ []) × (length x + 1 + length t ≤ 2048)
 after-cr x [] e a = absurd (false≢true (unfold oneCommand in e))
 after-cr x (c ∷ t) e a = go (announced (kept ++ (c ∷ []))) refl
   where
@@ -265,12 +277,15 @@ shaped-from x (c ∷ t) h e a = go (shaped-from (x ++ (c ∷ [])) t) (eqb c 13) 
     said-on = sym (ap (λ (f : Feeding). asks (f .events)) (quiet-on x x c t (parts .1) open-line)) ∙ a
 
     of-line : eqb c 13 ≡ false → lineByte c ≡ true
-    of-line n = sym (or-false (lineByte c)) ∙ sym (ap (λ (b : Bool). lineByte c || b) n) ∙ sym (ap (λ (b : Bool). cond b (eqb c 10) (lineByte c || eqb c 13)) (last-of-text x h)) ∙ (unfold allowed in parts .0)
+    of-line n = sym (or-false (lineByte c)) ∙ sym (ap (λ (b : Bool). lineByte c || b) n)
+        ∙ sym (ap (λ (b : Bool). cond b (eqb c 10) (lineByte c || eqb c 13)) (last-of-text x h)) ∙ (unfold allowed in parts .0)
 
     size : length (x ++ (c ∷ [])) ≡ length x + 1
     size = length-append x (c ∷ [])
 
-    go : (all lineByte (x ++ (c ∷ [])) ≡ true → oneCommand (reading (x ++ (c ∷ [])) (x ++ (c ∷ []))) t ≡ true → asks (feedAll (reading (x ++ (c ∷ [])) (x ++ (c ∷ []))) t .events) ≡ false → Shaped (x ++ (c ∷ [])) t) → (b : Bool) → eqb c 13 ≡ b → Shaped x (c ∷ t)
+    go : (all lineByte (x ++ (c ∷ [])) ≡ true → oneCommand (reading (x ++ (c ∷ [])) (x ++ (c ∷ []))) t ≡ true
+        → asks (feedAll (reading (x ++ (c ∷ [])) (x ++ (c ∷ []))) t .events) ≡ false → Shaped (x ++ (c ∷ [])) t) → (b : Bool)
+        → eqb c 13 ≡ b → Shaped x (c ∷ t)
     go rest true b =
         let cr = eqb-true c 13 b in
         let w = after-cr x t (rw cr at on) (rw cr at said-on) in

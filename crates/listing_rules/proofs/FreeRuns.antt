@@ -1,5 +1,5 @@
--- The free bytes of an area (W6): what `freeRun` gives is free from its start for the whole length, no lower start has as many free bytes, and
--- it gives none exactly if no start has. Rests on Bools.
+-- The free bytes of an area (W6): what `freeRun` gives is free from its start for the whole length, no lower start has as many free bytes, and it
+-- gives none exactly if no start has. Rests on the library alone.
 use mathlib.Core.Path.{_≡_, refl, sym, ap, _∙_, subst}
 use mathlib.Core.Bool.{Bool, true, false, cond, not, false≢true}
 use mathlib.Core.List.{List, [], _∷_}
@@ -81,7 +81,8 @@ unfolding lowestRun
 lowest-none len k [] e h g = absurd (omega arith)
 lowest-none len k (b ∷ bs) e h g = go (leb len (freeFront (b ∷ bs))) refl e h g (lowest-none len (suc k) bs)
   where
-    go : (o : Bool) → leb len (freeFront (b ∷ bs)) ≡ o → cond o (some k) (lowestRun len (suc k) bs) ≡ none → (h : ℕ) → h < suc (length bs) → (lowestRun len (suc k) bs ≡ none → (i : ℕ) → i < length bs → freeFront (drop i bs) < len) → freeFront (drop h (b ∷ bs)) < len
+    go : (o : Bool) → leb len (freeFront (b ∷ bs)) ≡ o → cond o (some k) (lowestRun len (suc k) bs) ≡ none → (h : ℕ) → h < suc (length bs)
+        → (lowestRun len (suc k) bs ≡ none → (i : ℕ) → i < length bs → freeFront (drop i bs) < len) → freeFront (drop h (b ∷ bs)) < len
     go true l q h g ih = absurd (Option·none-ne-some k (sym q))
     go false l q zero g ih = leb-false len (freeFront (b ∷ bs)) l
     go false l q (suc h) g ih = ih q h (omega arith)

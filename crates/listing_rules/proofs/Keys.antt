@@ -1,5 +1,5 @@
--- Keys that open the definitions of a file of specs/ for a proof by computation: a proof that unfolds a key unfolds every definition
--- that the key names.
+-- Keys that open the definitions of a file of specs/ for a proof by computation: a proof that unfolds a key unfolds every definition that the key
+-- names. Rests on the definitions alone.
 use Rattle.listing_rules.specs.Bytes.{text, slash, quote, backslash, space, crlf, bit, within, oneOf, all, isEmpty, same, raise}
 use Rattle.listing_rules.specs.Bytes.{raised, spells}
 use Rattle.listing_rules.specs.Lists.{every, anyOf, keep, joined, onFirst}
@@ -35,6 +35,7 @@ use Rattle.listing_rules.specs.Lsub.{isSubscribed, subscribedMatch, subs
 use Rattle.listing_rules.specs.Server.{lineOf, listAnswer, lsubAnswer, delimiterText, entryText, classText, namespaceAnswer, answerTo, answer}
 use Rattle.listing_rules.specs.Server.{limited, bufferAfter, numberOf, isAnswered, lengthOf, served, attempted, unchangedBy, concluded, commanded}
 use Rattle.listing_rules.specs.Series.{sentTo, commandedAll, setCommanded, setSent}
+use Rattle.listing_rules.specs.Compaction.{usedFrom, placeAfter, moved, compacted, compaction}
 use Rattle.listing_rules.specs.Reader.{separated, readChosen, criteriaSets, readAmong, childInfoRead, readParts, orBad, readLine}
 use Rattle.listing_rules.specs.Reader.{rootAttributes, attributesRead, nameRead, childInfoOf, readNumber, nameBytes, sameBools}
 use Rattle.listing_rules.specs.Reader.{rootParts, lineFrom, written}
@@ -78,7 +79,9 @@ unfolding rowOf recordRows liesInside apart allApart laidOut recordTable records
 openRecords = tt
 
 unfoldable pub openSubscriptions : Unit {0}
-unfolding storeTable held storeRows spelledAs spelled rowsBefore belowNoInferiors usesByte freeFrom freeFront lowestRun freeRun overwritten withSubscribed withoutSubscribed zeroRecord nth flagged inserted removed insertion subscribing unsubscribing edited storeAfter isIn subscribedNames setEdited setAfter editedAll setAll
+unfolding storeTable held storeRows spelledAs spelled rowsBefore belowNoInferiors usesByte freeFrom freeFront lowestRun freeRun overwritten
+    withSubscribed withoutSubscribed zeroRecord nth flagged inserted removed insertion subscribing unsubscribing edited storeAfter isIn
+    subscribedNames setEdited setAfter editedAll setAll
 openSubscriptions = tt
 
 unfoldable pub openNamespaces : Unit {0}
@@ -98,7 +101,8 @@ unfolding lawfulOptions noCriteria isNone lawfulCriteria criteriaOf criteriaNumb
 openOptions = tt
 
 unfoldable pub openCommand : Unit {0}
-unfolding lineText valueRest option parted options patterns selectionPart returnPart isSome listArgs extended selectionWords returnWords knownIn named optionsOf canonical fewPatterns isEdit asksRoot judged lsubArgs judgedLsub nameArg orRefuse worded tagged parsed
+unfolding lineText valueRest option parted options patterns selectionPart returnPart isSome listArgs extended selectionWords returnWords knownIn named
+    optionsOf canonical fewPatterns isEdit asksRoot judged lsubArgs judgedLsub nameArg orRefuse worded tagged parsed
 openCommand = tt
 
 unfoldable pub openMatch : Unit {0}
@@ -118,19 +122,26 @@ unfolding isSubscribed subscribedMatch subscribedBelow aboveSubscribed lsubListe
 openLsub = tt
 
 unfoldable pub openServer : Unit {0}
-unfolding lineOf listAnswer lsubAnswer delimiterText entryText classText namespaceAnswer answerTo answer limited bufferAfter numberOf isAnswered lengthOf served attempted unchangedBy concluded commanded
+unfolding lineOf listAnswer lsubAnswer delimiterText entryText classText namespaceAnswer answerTo answer limited bufferAfter numberOf isAnswered
+    lengthOf served attempted unchangedBy concluded commanded
 openServer = tt
 
 unfoldable pub openSeries : Unit {0}
 unfolding sentTo commandedAll setCommanded setSent
 openSeries = tt
 
+unfoldable pub openCompaction : Unit {0}
+unfolding usedFrom placeAfter moved compacted compaction
+openCompaction = tt
+
 unfoldable pub openReader : Unit {0}
-unfolding separated readChosen criteriaSets readAmong childInfoRead readParts orBad readLine rootAttributes attributesRead nameRead childInfoOf readNumber nameBytes sameBools rootParts lineFrom written
+unfolding separated readChosen criteriaSets readAmong childInfoRead readParts orBad readLine rootAttributes attributesRead nameRead childInfoOf
+    readNumber nameBytes sameBools rootParts lineFrom written
 openReader = tt
 
 unfoldable pub openWalk : Unit {0}
-unfolding wantsRemote wantsSpecial dropsSubscribed lawfulByte when commandLine linesOf packed _then_ attr useAttr isFind withName fits takenIn takenAll replied asked walkFrom walkAll ended walk walkNumber walkCount foundLength zeroBehind foundAfter pendingAfter scratchAfter collected
+unfolding wantsRemote wantsSpecial dropsSubscribed lawfulByte when commandLine linesOf packed _then_ attr useAttr isFind withName fits takenIn
+    takenAll replied asked walkFrom walkAll ended walk walkNumber walkCount foundLength zeroBehind foundAfter pendingAfter scratchAfter collected
 openWalk = tt
 
 unfoldable pub openDemand3 : Unit {0}
@@ -138,10 +149,12 @@ unfolding walkOptions meetingNames meetingAncestors declaredWalk walkAnswer scra
 openDemand3 = tt
 
 unfoldable pub openFrames : Unit {0}
-unfolding digit bytesOf walkFrame frameOf readFrame hexDigit hex answerLine refusalLine replyLine walkLine recordsFrom filledTo programStore keptTable keptStore answering addRowTo addRow addEntry commandOver accepted commandStep framed step start fed behind fedAll atEnd programOutput
+unfolding digit bytesOf walkFrame frameOf readFrame hexDigit hex answerLine refusalLine replyLine walkLine recordsFrom filledTo programStore keptTable
+    keptStore answering addRowTo addRow addEntry commandOver accepted commandStep framed step start fed behind fedAll atEnd programOutput
 openFrames = tt
 
 -- opens every definition that the cases of the two tables compute
 unfoldable pub openAll : Unit {0}
-unfolding openBytes openLists openOrders openNames openFlags openTable openRecords openSubscriptions openNamespaces openTokens openFeeder openOptions openCommand openMatch openListing openLines openLsub openServer openSeries openReader openWalk openDemand3 openFrames
+unfolding openBytes openLists openOrders openNames openFlags openTable openRecords openSubscriptions openNamespaces openTokens openFeeder openOptions
+    openCommand openMatch openListing openLines openLsub openServer openSeries openCompaction openReader openWalk openDemand3 openFrames
 openAll = tt

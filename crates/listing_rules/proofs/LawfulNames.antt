@@ -1,4 +1,4 @@
--- A proper ancestor of a lawful name is lawful. Rests on Levels.
+-- A proper ancestor of a lawful name is lawful. Rests on Levels and ListLaws.
 use mathlib.Core.Path.{_≡_, ap, subst}
 use mathlib.Core.Bool.{true, _&&_, not, false≢true}
 use mathlib.Core.List.{List, [], _∷_, _++_}

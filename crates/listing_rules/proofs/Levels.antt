@@ -39,7 +39,8 @@ unfolding levels slash
 levels-append [] m = refl
 levels-append (b ∷ a) m = go (eqb b slash) (levels-append a m)
   where
-    go : (o : Bool) → levels (a ++ (slash ∷ m)) ≡ levels a ++ levels m → cond o ([] ∷ levels (a ++ (slash ∷ m))) (onFirst b (levels (a ++ (slash ∷ m)))) ≡ cond o ([] ∷ levels a) (onFirst b (levels a)) ++ levels m
+    go : (o : Bool) → levels (a ++ (slash ∷ m)) ≡ levels a ++ levels m
+        → cond o ([] ∷ levels (a ++ (slash ∷ m))) (onFirst b (levels (a ++ (slash ∷ m)))) ≡ cond o ([] ∷ levels a) (onFirst b (levels a)) ++ levels m
     go true ih = ap (λ (x : List (List ℕ)). [] ∷ x) ih
     go false ih = ap (onFirst b) ih ∙ onFirst-append b (levels a) (levels m) (levels-cons a)
 
@@ -87,7 +88,8 @@ lex-snoc cmp [] (b ∷ q) x y e = absurd (omega arith)
 lex-snoc cmp (a ∷ p) [] x y e = absurd (omega arith)
 lex-snoc cmp (a ∷ p) (b ∷ q) x y e = go (cmp a b) (lex-snoc cmp p q x y (omega arith))
   where
-    go : (o : Ordering) → lexBy cmp (p ++ (x ∷ [])) (q ++ (y ∷ [])) ≡ thenBy (lexBy cmp p q) (cmp x y) → thenBy o (lexBy cmp (p ++ (x ∷ [])) (q ++ (y ∷ []))) ≡ thenBy (thenBy o (lexBy cmp p q)) (cmp x y)
+    go : (o : Ordering) → lexBy cmp (p ++ (x ∷ [])) (q ++ (y ∷ [])) ≡ thenBy (lexBy cmp p q) (cmp x y)
+        → thenBy o (lexBy cmp (p ++ (x ∷ [])) (q ++ (y ∷ []))) ≡ thenBy (thenBy o (lexBy cmp p q)) (cmp x y)
     go Ordering·lt ih = refl
     go Ordering·eq ih = ih
     go Ordering·gt ih = refl
@@ -102,7 +104,8 @@ pub walk-same-depth : (a b : List ℕ) → length (levels a) ≡ length (levels 
 unfolding walkOrder thenBy
 walk-same-depth a b e = rw (e, eq-compare (length (levels b)))
 
-pub walk-children : (a b x y : List ℕ) → length (levels a) ≡ length (levels b) → oneLevel x ≡ true → oneLevel y ≡ true → walkOrder (child a x) (child b y) ≡ thenBy (levelOrder (levels a) (levels b)) (byteOrder x y)
+pub walk-children : (a b x y : List ℕ) → length (levels a) ≡ length (levels b) → oneLevel x ≡ true → oneLevel y ≡ true
+    → walkOrder (child a x) (child b y) ≡ thenBy (levelOrder (levels a) (levels b)) (byteOrder x y)
 unfolding levelOrder
 walk-children a b x y e h k =
     walk-same-depth (child a x) (child b y) (ap length (levels-child a x h) ∙ depth ∙ sym (ap length (levels-child b y k)))

@@ -49,5 +49,8 @@ pub mod SubscriptionLaws
 pub mod ProgramStore
 pub mod CommandLaws
 pub mod SpareLaws
+pub mod UsedBytes
+pub mod CompactionLaws
+pub mod CompactionCommands
 pub mod WalkReads
 pub mod LineLength

@@ -1,4 +1,4 @@
--- A line that is one command has at most 2,048 bytes. Assumes nothing.
+-- A line that is one command has at most 2,048 bytes. Rests on Bools.
 use mathlib.Core.Path.{_≡_, refl, _∙_, sym}
 use mathlib.Core.Bool.{Bool, true, false, cond, not, _||_, false≢true}
 use mathlib.Core.List.{List, [], _∷_, _++_}
@@ -11,7 +11,8 @@ use lib.ListN.{length, take, length-append}
 use borrow.Author.Tests.{leb-true}
 use Rattle.listing_rules.specs.Bytes.{isEmpty}
 use Rattle.listing_rules.specs.Command.{lineText, parsed, orRefuse, isEdit, tagged}
-use Rattle.listing_rules.specs.Feeder.{Feeder, reading, inLiteral, dropping, first, Step, quiet, goOn, denied, gives, offends, refusing, awaiting, lineEnded, textByte, fedByte, endsLine, announced, allowed, stillOne, oneCommand}
+use Rattle.listing_rules.specs.Feeder.{Feeder, reading, inLiteral, dropping, first, Step, quiet, goOn, denied, gives, offends, refusing}
+use Rattle.listing_rules.specs.Feeder.{awaiting, lineEnded, textByte, fedByte, endsLine, announced, allowed, stillOne, oneCommand}
 use Rattle.listing_rules.proofs.Bools.{and-r}
 
 -- the bytes of the command so far

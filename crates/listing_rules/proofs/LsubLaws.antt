@@ -43,7 +43,8 @@ module _ (rs : List Row) (n : List ℕ) where
 -- Going down level by level: under a pattern that ends in "%", each name that matches above a subscribed name that does not match is
 -- listed. So a client that asks for a level at a time misses nothing (RFC 3501, 6.3.9).
 
-module _ (rs : List Row) (p a d : List ℕ) (level : endsInPercent p ≡ true) (m : List·Memᴰ d (candidates rs)) (s : isSubscribed rs d ≡ true) (out : matches p d ≡ false) (b : below a d ≡ true) (k : matches p a ≡ true) where
+module _ (rs : List Row) (p a d : List ℕ) (level : endsInPercent p ≡ true) (m : List·Memᴰ d (candidates rs)) (s : isSubscribed rs d ≡ true)
+    (out : matches p d ≡ false) (b : below a d ≡ true) (k : matches p a ≡ true) where
   below-subscribed : subscribedBelow rs (p ∷ []) a ≡ true
   unfolding subscribedBelow matchesAny anyOf
   below-subscribed = mem-some (λ z. below a z && isSubscribed rs z && not (matchesAny (p ∷ []) z)) (candidates rs) d m (rw (b, s, out))
@@ -171,7 +172,9 @@ module _ (rs : List Row) where
       plain true false b = refl
       plain false m b = sym (and-false m)
 
-      go : (e : Bool) → ((isSubscribed rs n && (matches p n || false)) || ((not (isSubscribed rs n) && anyOf (λ q. matches q n) (cond e (p ∷ []) [])) && subscribedBelow rs (p ∷ []) n)) ≡ ((matches p n || false) && (isSubscribed rs n || ((e || false) && subscribedBelow rs (p ∷ []) n)))
+      go : (e : Bool) → ((isSubscribed rs n && (matches p n || false))
+          || ((not (isSubscribed rs n) && anyOf (λ q. matches q n) (cond e (p ∷ []) [])) && subscribedBelow rs (p ∷ []) n))
+          ≡ ((matches p n || false) && (isSubscribed rs n || ((e || false) && subscribedBelow rs (p ∷ []) n)))
       go true = level (isSubscribed rs n) (matches p n || false) (subscribedBelow rs (p ∷ []) n)
       go false = plain (isSubscribed rs n) (matches p n || false) (subscribedBelow rs (p ∷ []) n)
   lsub-test (p ∷ q ∷ ps) n h = absurd (omega arith)

@@ -107,7 +107,8 @@ module _ (rs : List Row) (h : ascends (names rs) ≡ true) where
   unfolding meetsBelow candidateMeets
   meetsBelow-rows o n = tested-rows (λ d f. below n d && meetsCriteria o f) (λ d. rw (meets-zero o) (and-false (below n d)))
 
-  pub meetsUnmatchedBelow-rows : (o : Options) (ps : List (List ℕ)) (n : List ℕ) → meetsUnmatchedBelow rs o ps n ≡ anyOf (λ r. below n (r .name) && meetsCriteria o (r .flags) && not (matchesAny ps (r .name))) rs
+  pub meetsUnmatchedBelow-rows : (o : Options) (ps : List (List ℕ)) (n : List ℕ)
+      → meetsUnmatchedBelow rs o ps n ≡ anyOf (λ r. below n (r .name) && meetsCriteria o (r .flags) && not (matchesAny ps (r .name))) rs
   unfolding meetsUnmatchedBelow candidateMeets
   meetsUnmatchedBelow-rows o ps n = tested-rows (λ d f. below n d && meetsCriteria o f && not (matchesAny ps d)) (λ d. rw (meets-zero o, and-false (below n d)))
 
@@ -115,12 +116,16 @@ module _ (rs : List Row) (h : ascends (names rs) ≡ true) where
   pub level-has-children : (o : Options) (ps : List (List ℕ)) (n : List ℕ) → levelAbove rs o ps n ≡ true → hasChildren rs o n ≡ true
   unfolding levelAbove hasChildren
   level-has-children o ps n e =
-      sym (any-cong (λ r. below n (r .name) && meetsCriteria o (r .flags)) (λ r. below n (r .name) && exists (r .flags) && (not (remote (r .flags)) || o .selRemote)) (λ r. same-child (below n (r .name)) (r .flags)) rs)
+      sym (any-cong (λ r. below n (r .name) && meetsCriteria o (r .flags))
+      (λ r. below n (r .name) && exists (r .flags) && (not (remote (r .flags)) || o .selRemote))
+      (λ r. same-child (below n (r .name)) (r .flags)) rs)
       ∙ sym (meetsBelow-rows o n)
       ∙ and-r (unselective o && not (exists (flagsOf rs n)) && matchesAny (keep endsInPercent ps) n) (meetsBelow rs o n) e
     where
       free : unselective o ≡ true
-      free = and-l (unselective o) (not (exists (flagsOf rs n))) (and-l (unselective o && not (exists (flagsOf rs n))) (matchesAny (keep endsInPercent ps) n) (and-l (unselective o && not (exists (flagsOf rs n)) && matchesAny (keep endsInPercent ps) n) (meetsBelow rs o n) e))
+      free = and-l (unselective o) (not (exists (flagsOf rs n)))
+          (and-l (unselective o && not (exists (flagsOf rs n))) (matchesAny (keep endsInPercent ps) n)
+          (and-l (unselective o && not (exists (flagsOf rs n)) && matchesAny (keep endsInPercent ps) n) (meetsBelow rs o n) e))
 
       same-child : (b : Bool) (f : ℕ) → (b && meetsCriteria o f) ≡ (b && exists f && (not (remote f) || o .selRemote))
       same-child b f = ap (λ (m : Bool). b && m) (plain-criteria o f free) ∙ sym (and-assoc b (exists f) (not (remote f) || o .selRemote))

@@ -126,7 +126,9 @@ module _ {A : Type 0} (cmp : A → A → Ordering) (L : Total cmp) where
   lex-trans (x ∷ xs) (y ∷ ys) [] p q = cc
   lex-trans (x ∷ xs) (y ∷ ys) (z ∷ zs) p q = go (cmp x y) (cmp y z) refl refl p q (lex-trans xs ys zs)
     where
-      go : (o u : Ordering) → cmp x y ≡ o → cmp y z ≡ u → thenBy o (lexBy cmp xs ys) ≡ Ordering·lt → thenBy u (lexBy cmp ys zs) ≡ Ordering·lt → (lexBy cmp xs ys ≡ Ordering·lt → lexBy cmp ys zs ≡ Ordering·lt → lexBy cmp xs zs ≡ Ordering·lt) → thenBy (cmp x z) (lexBy cmp xs zs) ≡ Ordering·lt
+      go : (o u : Ordering) → cmp x y ≡ o → cmp y z ≡ u → thenBy o (lexBy cmp xs ys) ≡ Ordering·lt → thenBy u (lexBy cmp ys zs) ≡ Ordering·lt
+          → (lexBy cmp xs ys ≡ Ordering·lt → lexBy cmp ys zs ≡ Ordering·lt → lexBy cmp xs zs ≡ Ordering·lt)
+          → thenBy (cmp x z) (lexBy cmp xs zs) ≡ Ordering·lt
       go Ordering·lt Ordering·lt d e p q ih = rw (L .trans x y z d e)
       go Ordering·lt Ordering·eq d e p q ih = rw (← L .equal y z e, d)
       go Ordering·lt Ordering·gt d e p q ih = cc

@@ -79,7 +79,12 @@ option-shorter t g e =
     let w = bind-some (atom t) _ g e in
     omega (arith, atom-shorter t (w .0) (w .1), value (w .0) (after (text " (") (w .0 .rest)) refl (w .2))
   where
-    value : (a : Got (List ℕ)) (o : Option (List ℕ)) → after (text " (") (a .rest) ≡ o → Path (Option (Got Opt)) (elim o [ none ↦ some (got (record { word = a .val; valued = false }) (a .rest)) | some u ↦ valueRest (length u) u >>= λ v. some (got (record { word = a .val; valued = true }) v) ]) (some g) → length (g .rest) ≤ length (a .rest)
+    value : (a : Got (List ℕ)) (o : Option (List ℕ)) → after (text " (") (a .rest) ≡ o
+        → Path (Option (Got Opt)) (elim o [
+          | none ↦ some (got (record { word = a .val; valued = false }) (a .rest))
+          | some u ↦ valueRest (length u) u >>= λ v. some (got (record { word = a .val; valued = true }) v)
+        ]) (some g)
+        → length (g .rest) ≤ length (a .rest)
     value a none f k = let q : a .rest ≡ g .rest = cc in omega (arith, ap length q)
     value a (some u) f k =
         let w = bind-some (valueRest (length u) u) _ g k in

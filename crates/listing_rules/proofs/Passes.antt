@@ -78,7 +78,8 @@ packed-whole : (t : List ℕ) → passes (packedTable t) ≡ true → ((leb (len
 unfolding packedTable passes
 packed-whole t h = go (leb (length t) 32768 && rowsFill 0 t) refl h
   where
-    go : (b : Bool) → (leb (length t) 32768 && rowsFill 0 t) ≡ b → passes (cond b (some (packedRows t)) none) ≡ true → ((leb (length t) 32768 && rowsFill 0 t) ≡ true) × (rowsPass (packedRows t) ≡ true)
+    go : (b : Bool) → (leb (length t) 32768 && rowsFill 0 t) ≡ b → passes (cond b (some (packedRows t)) none) ≡ true
+        → ((leb (length t) 32768 && rowsFill 0 t) ≡ true) × (rowsPass (packedRows t) ≡ true)
     go true e k = (e, k)
     go false e k = absurd (false≢true k)
 
@@ -130,7 +131,9 @@ use-exists t h n u = go (hasRow (rows t) n) refl
     lawful f l u = ⊎-elim (λ e. e) (λ e. no-use f (eqb-true f 2 e) u) (or-cases (exists f) (eqb f 2) (there l))
       where
         there : lawfulFlags f ≡ true → (exists f || eqb f 2) ≡ true
-        there k = unfold lawfulFlags in and-r (not (bit 7 f) && not (bit 15 f)) (exists f || eqb f 2) (and-l ((not (bit 7 f) && not (bit 15 f)) && (exists f || eqb f 2)) (not (marked f && unmarked f)) k)
+        there k = unfold lawfulFlags in
+            and-r (not (bit 7 f) && not (bit 15 f)) (exists f || eqb f 2)
+            (and-l ((not (bit 7 f) && not (bit 15 f)) && (exists f || eqb f 2)) (not (marked f && unmarked f)) k)
 
     go : (b : Bool) → hasRow (rows t) n ≡ b → exists (flagsOf (rows t) n) ≡ true
     go true e =

@@ -1,11 +1,13 @@
--- The places of the attributes that the collector asks for are those of their names.
+-- The places of the attributes that the collector asks for are those of their names, and the root line's one attribute is \Noselect. Rests on
+-- Keys alone: each is computed.
 use mathlib.Core.Path.{_≡_, refl}
 use mathlib.Core.List.{List, [], _∷_, map}
 use Prim.Native.Nat.{ℕ}
 use lib.ListN.{getD}
-use Rattle.listing_rules.specs.Bytes.{text}
+use Rattle.listing_rules.specs.Bytes.{text, same}
 use Rattle.listing_rules.specs.Lines.{attributeNames, remotePlace, subscribedPlace, allPlace, archivePlace, draftsPlace, flaggedPlace, junkPlace, sentPlace, trashPlace}
-use Rattle.listing_rules.proofs.Keys.{openBytes, openLines}
+use Rattle.listing_rules.specs.Reader.{rootAttributes}
+use Rattle.listing_rules.proofs.Keys.{openBytes, openLines, openReader}
 
 abbrev places : List ℕ
 places = remotePlace ∷ subscribedPlace ∷ allPlace ∷ archivePlace ∷ draftsPlace ∷ flaggedPlace ∷ junkPlace ∷ sentPlace ∷ trashPlace ∷ []
@@ -17,3 +19,7 @@ spelled =
 pub places-named : map (λ k. getD attributeNames k []) places ≡ spelled
 unfolding openBytes openLines
 places-named = refl
+
+pub root-named : rootAttributes ≡ map (λ n. same n (text "\\Noselect")) attributeNames
+unfolding openBytes openLines openReader
+root-named = refl

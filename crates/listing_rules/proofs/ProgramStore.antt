@@ -32,7 +32,8 @@ rows-at area [] at z e = refl
 rows-at area (r ∷ rs) at z e =
     let whole = e ∙ append-assoc (r .name) (joined (names rs)) z in
     let first : take (length (r .name)) (drop at area) ≡ r .name = ap (take (length (r .name))) whole ∙ take-append-seam (r .name) (joined (names rs) ++ z) in
-    let after : drop (at + length (r .name)) area ≡ joined (names rs) ++ z = sym (drop-drop (length (r .name)) at area) ∙ ap (drop (length (r .name))) whole ∙ drop-append-seam (r .name) (joined (names rs) ++ z) in
+    let after : drop (at + length (r .name)) area ≡ joined (names rs) ++ z = sym (drop-drop (length (r .name)) at area)
+    ∙ ap (drop (length (r .name))) whole ∙ drop-append-seam (r .name) (joined (names rs) ++ z) in
     let rest = rows-at area rs (at + length (r .name)) z after in
     λ i. record { flags = r .flags; name = first i } ∷ rest i
 

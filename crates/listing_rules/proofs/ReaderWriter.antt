@@ -1,4 +1,4 @@
--- The reader takes exactly the root line and the writer's lines, and reads their parts. Rests on TokenLaws.
+-- The reader takes exactly the root line and the writer's lines, and reads their parts. Rests on TokenLaws and ListLaws.
 use mathlib.Core.Path.{_≡_, refl, sym, ap, _∙_, subst}
 use mathlib.Core.Logic.{_⊎_, inl, inr}
 use mathlib.Core.Bool.{Bool, true, false, cond, _&&_}
@@ -32,7 +32,8 @@ abbrev pub apart : List (List ℕ) → Bool
 apart [] = true
 apart (n ∷ ns) = clash n (41 ∷ []) && clashes n ns && apart ns
 
-miss : (first : Bool) (n : List ℕ) (ns : List (List ℕ)) (bs : List Bool) (t : List ℕ) → clash n (41 ∷ []) ≡ true → clashes n ns ≡ true → after (separated first n) (tailText first (chosen bs ns) ++ (41 ∷ t)) ≡ none
+miss : (first : Bool) (n : List ℕ) (ns : List (List ℕ)) (bs : List Bool) (t : List ℕ) → clash n (41 ∷ []) ≡ true → clashes n ns ≡ true
+    → after (separated first n) (tailText first (chosen bs ns) ++ (41 ∷ t)) ≡ none
 unfolding openBytes openLists openLines openTokens openReader
 miss true n ns [] t c h = after-clash n (41 ∷ []) t c
 miss false n ns [] t c h = refl
@@ -42,7 +43,8 @@ miss first n (m ∷ ns) (false ∷ bs) t c h = miss first n ns bs t c (and-r (cl
 miss true n (m ∷ ns) (true ∷ bs) t c h = rw append-assoc (after-clash n m _ (and-l (clash n m) (clashes n ns) h))
 miss false n (m ∷ ns) (true ∷ bs) t c h = rw append-assoc (after-clash n m _ (and-l (clash n m) (clashes n ns) h))
 
-pub readChosen-written : (first : Bool) (ns : List (List ℕ)) (bs : List Bool) (t : List ℕ) → apart ns ≡ true → length bs ≡ length ns → readChosen first ns (tailText first (chosen bs ns) ++ (41 ∷ t)) ≡ got bs (41 ∷ t)
+pub readChosen-written : (first : Bool) (ns : List (List ℕ)) (bs : List Bool) (t : List ℕ) → apart ns ≡ true → length bs ≡ length ns
+    → readChosen first ns (tailText first (chosen bs ns) ++ (41 ∷ t)) ≡ got bs (41 ∷ t)
 unfolding openBytes openLines openTokens openReader
 readChosen-written true [] [] t a e = refl
 readChosen-written false [] [] t a e = refl
@@ -62,11 +64,16 @@ readChosen-written false (n ∷ ns) (true ∷ bs) t a e =
 pub readParts-written : (bs : List Bool) (n : List ℕ) (c : Criteria) → length bs ≡ 16 → lawfulName n ≡ true → readParts (listLine bs n c) ≡ some (line bs n c)
 unfolding openBytes openLists openLines openTokens openOptions openReader
 readParts-written bs n c h g =
-    rw
-    (readChosen-written true attributeNames bs (text " \"/\" " ++ (quoted n ++ (childInfoText c ++ crlf))) refl h, append-assoc (escaped n) (quote ∷ []) (childInfoText c ++ crlf), unquoted-escaped n (childInfoText c ++ crlf))
+    rw (
+      readChosen-written true attributeNames bs (text " \"/\" " ++ (quoted n ++ (childInfoText c ++ crlf))) refl h,
+      append-assoc (escaped n) (quote ∷ []) (childInfoText c ++ crlf),
+      unquoted-escaped n (childInfoText c ++ crlf),
+    )
     (tail (c .subscribed) (c .special))
   where
-    tail : (a b : Bool) → (childInfoRead (childInfoText (record { subscribed = a; special = b }) ++ crlf) >>= λ e. cond (lawfulName n) (some (line bs n e)) none) ≡ some (line bs n (record { subscribed = a; special = b }))
+    tail : (a b : Bool)
+        → (childInfoRead (childInfoText (record { subscribed = a; special = b }) ++ crlf) >>= λ e. cond (lawfulName n) (some (line bs n e)) none)
+        ≡ some (line bs n (record { subscribed = a; special = b }))
     tail true true = rw g
     tail true false = rw g
     tail false true = rw g
@@ -98,7 +105,8 @@ readChosen-off true [] t = (refl, refl)
 readChosen-off false [] t = (refl, refl)
 readChosen-off first (n ∷ ns) t = go first (after (separated first n) t) refl (readChosen-off first ns t) (readChosen-off false ns)
   where
-    go : (first : Bool) (o : Option (List ℕ)) → after (separated first n) t ≡ o → ReadOff first ns t (readChosen first ns t) → ((u : List ℕ) → ReadOff false ns u (readChosen false ns u)) → ReadOff first (n ∷ ns) t (readChosen first (n ∷ ns) t)
+    go : (first : Bool) (o : Option (List ℕ)) → after (separated first n) t ≡ o → ReadOff first ns t (readChosen first ns t)
+        → ((u : List ℕ) → ReadOff false ns u (readChosen false ns u)) → ReadOff first (n ∷ ns) t (readChosen first (n ∷ ns) t)
     go first none e ih jh = rw (e, readChosen) (ih .0, ap suc (ih .1))
     go true (some u) e ih jh =
         rw (e, readChosen) (after-some n t u e ∙ ap (λ (x : List ℕ). n ++ x) (jh u .0) ∙ sym (append-assoc n _ _), ap suc (jh u .1))
@@ -128,7 +136,10 @@ pub record Taken (l : List ℕ) (r : Read) : Type 0 where
   pub good : lawfulName name ≡ true
   pub text-is : l ≡ listLine attrs name child
 
-finish : (l t u : List ℕ) (g : Got (List ℕ)) (c : Criteria) (r : Read) → l ≡ text "* LIST (" ++ t → (readChosen true attributeNames t) .rest ≡ text ") \"/\" \"" ++ u → u ≡ escaped (g .val) ++ (quote ∷ g .rest) → g .rest ≡ childInfoText c ++ crlf → cond (lawfulName (g .val)) (some (line ((readChosen true attributeNames t) .val) (g .val) c)) none ≡ some r → Taken l r
+finish : (l t u : List ℕ) (g : Got (List ℕ)) (c : Criteria) (r : Read) → l ≡ text "* LIST (" ++ t
+    → (readChosen true attributeNames t) .rest ≡ text ") \"/\" \"" ++ u → u ≡ escaped (g .val) ++ (quote ∷ g .rest)
+    → g .rest ≡ childInfoText c ++ crlf
+    → cond (lawfulName (g .val)) (some (line ((readChosen true attributeNames t) .val) (g .val) c)) none ≡ some r → Taken l r
 unfolding openBytes openLines
 finish l t u g c r p₁ p₂ p₃ p₄ k = go (lawfulName (g .val)) refl k
   where

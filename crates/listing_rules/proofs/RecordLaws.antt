@@ -1,5 +1,5 @@
--- A packed table turned into records: its records mean its rows and pass where it passes, so every command and every walk is answered alike.
--- Rests on Passes.
+-- A packed table turned into records: its records mean its rows and pass where it passes, so every command and every walk is answered alike. Rests
+-- on Passes and Rows.
 use mathlib.Core.Path.{_≡_, refl, sym, ap, _∙_}
 use mathlib.Core.Bool.{true, false, _||_, false≢true}
 use mathlib.Core.List.{List, [], _∷_, map}

@@ -33,7 +33,16 @@ module _ (t : List ℕ) (at : ℕ) where
       let a : suc at + 0 ≡ at + 1 = omega arith in
       let b : suc at + 1 ≡ at + 2 = omega arith in
       let c : suc at + suc (suc (getD t (at + 2) 0)) ≡ at + 3 + getD t (at + 2) 0 = omega arith in
-      rw (drop-cons t at 0 h, getD-drop (suc at) t 0 0, getD-drop (suc at) t 1 0, a, b, records-drop (suc (suc (getD t (at + 2) 0))) (suc at) (drop (suc at) t), drop-drop (suc (suc (getD t (at + 2) 0))) (suc at) t, c)
+      rw (
+        drop-cons t at 0 h,
+        getD-drop (suc at) t 0 0,
+        getD-drop (suc at) t 1 0,
+        a,
+        b,
+        records-drop (suc (suc (getD t (at + 2) 0))) (suc at) (drop (suc at) t),
+        drop-drop (suc (suc (getD t (at + 2) 0))) (suc at) t,
+        c,
+      )
 
 -- of two names, neither is the first
 pub apart-turned : (r q : Record) → apart r q ≡ apart q r

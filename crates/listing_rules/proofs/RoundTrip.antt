@@ -122,7 +122,8 @@ read-is-written l h = go (readLine-only l)
     taken : (T : Taken l (readLine l)) → lineFrom (T .attrs) (T .name) (criteriaNumber (T .child)) ≡ answered l
     taken T = unfold lineFrom in rw (number-lawful (T .child), criteria-number (T .child), T .good) (ap answered (sym (T .text-is)))
 
-    go : (readLine l ≡ bad) ⊎ ((l ≡ rootLine) × (readLine l ≡ root)) ⊎ Taken l (readLine l) → lineFrom (attributesRead (readLine l)) (nameRead (readLine l)) (criteriaNumber (childInfoOf (readLine l))) ≡ answered l
+    go : (readLine l ≡ bad) ⊎ ((l ≡ rootLine) × (readLine l ≡ root)) ⊎ Taken l (readLine l)
+        → lineFrom (attributesRead (readLine l)) (nameRead (readLine l)) (criteriaNumber (childInfoOf (readLine l))) ≡ answered l
     go (inl e) = absurd (omega (arith, ap readNumber e))
     go (inr (inl w)) = rw (w .1) (root-written ∙ ap answered (sym (w .0)))
     go (inr (inr T)) = rw (T .is) (taken T)

@@ -1,4 +1,4 @@
--- The collector's commands are read as what they mean. Rests on TokenLaws.
+-- The collector's commands are read as what they mean. Rests on FeederLaws and LawfulNames.
 use mathlib.Core.Path.{_≡_, refl, sym, ap, _∙_}
 use mathlib.Core.Bool.{Bool, true, false, _||_, not, false≢true}
 use mathlib.Core.List.{List, [], _∷_, _++_, append-assoc}
@@ -86,7 +86,10 @@ line-is : (o : ℕ) (n : List ℕ) → commandLine o n ≡ body (dropsSubscribed
 unfolding openBytes openLines commandLine when
 line-is o n = go (dropsSubscribed o) (wantsSpecial o) (wantsRemote o)
   where
-    go : (d s r : Bool) → (text "w LIST (" ++ (when (not d) (text "SUBSCRIBED ") ++ (text "RECURSIVEMATCH" ++ (when s (text " SPECIAL-USE") ++ (when r (text " REMOTE") ++ (text ") " ++ (quoted n ++ (text " \"%\"" ++ crlf)))))))) ≡ body d s r n ++ crlf
+    go : (d s r : Bool)
+        → (text "w LIST (" ++ (when (not d) (text "SUBSCRIBED ")
+        ++ (text "RECURSIVEMATCH" ++ (when s (text " SPECIAL-USE")
+        ++ (when r (text " REMOTE") ++ (text ") " ++ (quoted n ++ (text " \"%\"" ++ crlf)))))))) ≡ body d s r n ++ crlf
     go false true true = simp append-assoc
     go false true false = simp append-assoc
     go false false true = simp append-assoc
@@ -110,7 +113,11 @@ short true false false n h = simp length-append (omega (arith, length-escaped n)
 -- its last byte is a quote, so it announces no literal
 announces-none : (d s r : Bool) (n : List ℕ) → announced (body d s r n ++ crlf) ≡ none
 unfolding openBytes
-announces-none d s r n = ap announced (append-assoc (before d s r) (escaped n ++ text "\" \"%\"") crlf ∙ ap (λ (l : List ℕ). before d s r ++ l) (append-assoc (escaped n) (text "\" \"%\"") crlf) ∙ sym (append-assoc (before d s r) (escaped n) _) ∙ sym (append-assoc (before d s r ++ escaped n) (text "\" \"%") (34 ∷ crlf))) ∙ quote-announces-none ((before d s r ++ escaped n) ++ text "\" \"%")
+announces-none d s r n =
+    ap announced (append-assoc (before d s r) (escaped n ++ text "\" \"%\"") crlf
+    ∙ ap (λ (l : List ℕ). before d s r ++ l) (append-assoc (escaped n) (text "\" \"%\"") crlf) ∙ sym (append-assoc (before d s r) (escaped n) _)
+    ∙ sym (append-assoc (before d s r ++ escaped n) (text "\" \"%") (34 ∷ crlf)))
+    ∙ quote-announces-none ((before d s r ++ escaped n) ++ text "\" \"%")
 
 pub sent : (o : ℕ) (n : List ℕ) → lawfulByte o ≡ true → all lineByte n ≡ true → length n ≤ 254 → parsed (commandLine o n) ≡ listing (text "w") (walkOptions o) ((n ++ text "%") ∷ [])
 unfolding parsed orRefuse walkOptions lawfulByte

@@ -1,7 +1,9 @@
--- The queue stands at the front of what is served; that is closed under children; the queue runs empty; the finds of what is served ascend. Rests on Bfs.
+-- The queue stands at the front of what is served; that is closed under children; the queue runs empty; the finds of what is served ascend. Rests
+-- on Bfs and ListLaws.
 use mathlib.Core.Path.{_≡_, refl, sym, ap, _∙_, subst}
 use mathlib.Core.Logic.{⊎-elim}
-use mathlib.Core.List.{List, [], _∷_, _++_, map, append-assoc, List·Memᴰ, List·Memᴰ·head, List·Memᴰ·tail, List·Memᴰ·not-nil, List·Memᴰ·cases-cons, List·Memᴰ·append-cases, Memᴰ·append-left, Memᴰ·append-right, nil≢cons}
+use mathlib.Core.List.{List, [], _∷_, _++_, map, append-assoc, List·Memᴰ, List·Memᴰ·head, List·Memᴰ·tail, List·Memᴰ·not-nil, List·Memᴰ·cases-cons}
+use mathlib.Core.List.{List·Memᴰ·append-cases, Memᴰ·append-left, Memᴰ·append-right, nil≢cons}
 use Prim.Native.Nat.{ℕ, zero, suc, _<_, Ordering·lt}
 use native.Mathlib.Omega.{arith}
 use lib.ListN.{length}
@@ -41,7 +43,8 @@ module _ (kids : Name → List Name) where
       (List·Memᴰ·cases-cons m)
 
   -- nothing else is served
-  pub served-only : (P : Name → Type 0) → ((a z : Name) → P a → List·Memᴰ z (kids a) → P z) → (k : ℕ) (q : List Name) → ((z : Name) → List·Memᴰ z q → P z) → (z : Name) → List·Memᴰ z (served kids k q) → P z
+  pub served-only : (P : Name → Type 0) → ((a z : Name) → P a → List·Memᴰ z (kids a) → P z) → (k : ℕ) (q : List Name)
+      → ((z : Name) → List·Memᴰ z q → P z) → (z : Name) → List·Memᴰ z (served kids k q) → P z
   unfolding served
   served-only P c zero q h z m = absurd (List·Memᴰ·not-nil m)
   served-only P c (suc k) [] h z m = absurd (List·Memᴰ·not-nil m)
@@ -69,7 +72,8 @@ module _ (kids : Name → List Name) where
 
 module _ (kids : Name → List Name) (kidsAsc : (a : Name) → Asc walkOrder (kids a)) (kidsShape : (a e : Name) → List·Memᴰ e (kids a) → ChildOf a e) where
   -- so the queue runs empty if all that can be served stands in an ascending list shorter than the fuel
-  pub runs-empty : (k : ℕ) (q m : List Name) → Good q → Asc walkOrder m → ((a z : Name) → List·Memᴰ a m → List·Memᴰ z (kids a) → List·Memᴰ z m) → ((z : Name) → List·Memᴰ z q → List·Memᴰ z m) → length m < k → left kids k q ≡ []
+  pub runs-empty : (k : ℕ) (q m : List Name) → Good q → Asc walkOrder m → ((a z : Name) → List·Memᴰ a m → List·Memᴰ z (kids a) → List·Memᴰ z m)
+      → ((z : Name) → List·Memᴰ z q → List·Memᴰ z m) → length m < k → left kids k q ≡ []
   runs-empty k q m g s c h f = go (left kids k q) refl
     where
       go : (l : List Name) → left kids k q ≡ l → left kids k q ≡ []

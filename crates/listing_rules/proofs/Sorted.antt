@@ -151,9 +151,11 @@ module _ {A : Type 0} (cmp : A → A → Ordering) (L : Total cmp) where
   pigeons (x ∷ xs) [] s t f = absurd (List·Memᴰ·not-nil (f x (List·Memᴰ·head refl)))
   pigeons (x ∷ xs) (y ∷ ys) s t f = go (List·Memᴰ·cases-cons (f x (List·Memᴰ·head refl))) (pigeons xs ys (s .1) (t .1)) (pigeons (x ∷ xs) ys s (t .1))
     where
-      go : (x ≡ y) ⊎ List·Memᴰ x ys → (((z : A) → List·Memᴰ z xs → List·Memᴰ z ys) → length xs ≤ length ys) → (((z : A) → List·Memᴰ z (x ∷ xs) → List·Memᴰ z ys) → suc (length xs) ≤ length ys) → suc (length xs) ≤ suc (length ys)
+      go : (x ≡ y) ⊎ List·Memᴰ x ys → (((z : A) → List·Memᴰ z xs → List·Memᴰ z ys) → length xs ≤ length ys)
+          → (((z : A) → List·Memᴰ z (x ∷ xs) → List·Memᴰ z ys) → suc (length xs) ≤ length ys) → suc (length xs) ≤ suc (length ys)
       go (inl e) ih jh =
-          let r = ih (λ z m. ⊎-elim (λ p. absurd (irrefl x (subst (λ (w : A). cmp x w ≡ Ordering·lt) (p ∙ sym e) (above-mem x z xs (s .0) m)))) (λ k. k) (List·Memᴰ·cases-cons (f z (List·Memᴰ·tail m)))) in
+          let r = ih (λ z m. ⊎-elim (λ p. absurd (irrefl x (subst (λ (w : A). cmp x w ≡ Ordering·lt) (p ∙ sym e) (above-mem x z xs (s .0) m))))
+          (λ k. k) (List·Memᴰ·cases-cons (f z (List·Memᴰ·tail m)))) in
           omega arith
       go (inr k) ih jh =
           let y<x = above-mem y x ys (t .0) k in

@@ -27,6 +27,7 @@ use Rattle.listing_rules.proofs.ListLaws.{same-true}
 use Rattle.listing_rules.proofs.Order.{bytes-total}
 use Rattle.listing_rules.proofs.Sorted.{irrefl, lt-true}
 use Rattle.listing_rules.proofs.EditPasses.{store-parts, rows-count}
+use Rattle.listing_rules.proofs.SubscriptionLaws.{roomForRow, insertedAt}
 use Rattle.listing_rules.proofs.CommandLaws.{unsound-refused}
 
 -- a store with more spare records at its end; what an edit, and a command, comes to with them
@@ -62,7 +63,8 @@ before-fewer (r ∷ rs) n h = go (isLt (byteOrder (r .name) n)) refl (λ q. befo
     later : isLt (byteOrder (r .name) n) ≡ true → hasRow rs n ≡ true
     later e = ⊎-elim (λ q. absurd (not-before (r .name) n q e)) (λ q. q) (or-cases (same (r .name) n) (hasRow rs n) h)
 
-    go : (o : Bool) → isLt (byteOrder (r .name) n) ≡ o → (hasRow rs n ≡ true → rowsBefore rs n < length rs) → length (cond o (r ∷ keep (λ q. isLt (byteOrder (q .name) n)) rs) (keep (λ q. isLt (byteOrder (q .name) n)) rs)) < suc (length rs)
+    go : (o : Bool) → isLt (byteOrder (r .name) n) ≡ o → (hasRow rs n ≡ true → rowsBefore rs n < length rs)
+        → length (cond o (r ∷ keep (λ q. isLt (byteOrder (q .name) n)) rs) (keep (λ q. isLt (byteOrder (q .name) n)) rs)) < suc (length rs)
     go true e f = omega (arith, f (later e))
     go false e f = omega (arith, before-most rs n)
 
@@ -111,9 +113,11 @@ module _ (s : Store) (z : List Record) (full : length (s .records) ≡ 512) (few
         let moved : List Record = drop (suc k) (held s) in
         let first : take k (s .records ++ z) ≡ take k (s .records) = take-append-le k (s .records) z (omega (arith, full, low)) in
         let rest : drop (s .count) (s .records ++ z) ≡ drop (s .count) (s .records) ++ z = drop-append-le (s .count) (s .records) z inside in
-        let whole : take k (s .records ++ z) ++ (drop (suc k) (held (withSpare s z)) ++ (zeroRecord ∷ drop (s .count) (s .records ++ z))) ≡ (take k (s .records) ++ (moved ++ (zeroRecord ∷ drop (s .count) (s .records)))) ++ z =
+        let whole : take k (s .records ++ z) ++ (drop (suc k) (held (withSpare s z)) ++ (zeroRecord ∷ drop (s .count) (s .records ++ z)))
+        ≡ (take k (s .records) ++ (moved ++ (zeroRecord ∷ drop (s .count) (s .records)))) ++ z =
         (λ i. first i ++ (drop (suc k) (held-spare i) ++ (zeroRecord ∷ rest i)))
-        ∙ sym (append-assoc (take k (s .records)) (moved ++ (zeroRecord ∷ drop (s .count) (s .records))) z ∙ ap (λ (l : List Record). take k (s .records) ++ l) (append-assoc moved (zeroRecord ∷ drop (s .count) (s .records)) z)) in
+        ∙ sym (append-assoc (take k (s .records)) (moved ++ (zeroRecord ∷ drop (s .count) (s .records))) z
+        ∙ ap (λ (l : List Record). take k (s .records) ++ l) (append-assoc moved (zeroRecord ∷ drop (s .count) (s .records)) z)) in
         λ i. record { records = whole i; count = s .count - 1; area = overwritten (s .area) (nth-spare i .start) (replicate (nth-spare i .len) 0) }
 
   inserted-spare : (k start : ℕ) (n : List ℕ) → k ≤ s .count → s .count < 512 → inserted (withSpare s z) k start n ≡ withSpare (inserted s k start n) z
@@ -137,7 +141,7 @@ module _ (s : Store) (z : List Record) (full : length (s .records) ≡ 512) (few
   place-low n h = omega (arith, before-fewer (storeRows s) n h, rows-count s inside, few)
 
   -- "with 512 rows, no spare record": the same, since a record is spare among 512 where there are fewer rows
-  room-spare : (ltb (s .count) 512 && ltb (s .count) (length (s .records ++ z))) ≡ (ltb (s .count) 512 && ltb (s .count) (length (s .records)))
+  room-spare : roomForRow (withSpare s z) ≡ roomForRow s
   room-spare = go (ltb (s .count) 512) refl
     where
       go : (o : Bool) → ltb (s .count) 512 ≡ o → (o && ltb (s .count) (length (s .records ++ z))) ≡ (o && ltb (s .count) (length (s .records)))
@@ -155,18 +159,23 @@ module _ (s : Store) (z : List Record) (full : length (s .records) ≡ 512) (few
       k : ℕ
       k = rowsBefore (storeRows s) n
 
-      made : (start : ℕ) (o : Bool) → (ltb (s .count) 512 && ltb (s .count) (length (s .records))) ≡ o → cond o (stored (inserted (withSpare s z) k start n)) (denied 15) ≡ editedWith z (cond o (stored (inserted s k start n)) (denied 15))
+      made : (start : ℕ) (o : Bool) → roomForRow s ≡ o
+          → cond o (stored (inserted (withSpare s z) k start n)) (denied 15) ≡ editedWith z (cond o (stored (inserted s k start n)) (denied 15))
       made start true e = ap stored (inserted-spare k start n (place-most n) (ltb-true (s .count) 512 (and-l (ltb (s .count) 512) (ltb (s .count) (length (s .records))) e)))
       made start false e = refl
 
-      run : (r : Option ℕ) → (elim r [ none ↦ denied 15 | some start ↦ cond (ltb (s .count) 512 && ltb (s .count) (length (s .records))) (stored (inserted (withSpare s z) k start n)) (denied 15) ]) ≡ editedWith z (elim r [ none ↦ denied 15 | some start ↦ cond (ltb (s .count) 512 && ltb (s .count) (length (s .records))) (stored (inserted s k start n)) (denied 15) ])
+      run : (r : Option ℕ)
+          → (elim r [ none ↦ denied 15 | some start ↦ cond (roomForRow s) (stored (inserted (withSpare s z) k start n)) (denied 15) ])
+          ≡ editedWith z (insertedAt s n r)
       run none = refl
-      run (some start) = made start (ltb (s .count) 512 && ltb (s .count) (length (s .records))) refl
+      run (some start) = made start (roomForRow s) refl
 
   subscribing-spare : (n : List ℕ) → subscribing (withSpare s z) n ≡ editedWith z (subscribing s n)
   unfolding subscribing
   subscribing-spare n =
-      (λ i. let k = rowsBefore (rows-spare i) n in cond (hasRow (rows-spare i) n) (stored (flagged (withSpare s z) k (withSubscribed (nth (s .records ++ z) k .flags)))) (cond (lawfulName n && not (belowNoInferiors (rows-spare i) n)) (insertion-spare n i) (denied 14)))
+      (λ i. let k = rowsBefore (rows-spare i) n in
+      cond (hasRow (rows-spare i) n) (stored (flagged (withSpare s z) k (withSubscribed (nth (s .records ++ z) k .flags))))
+      (cond (lawfulName n && not (belowNoInferiors (rows-spare i) n)) (insertion-spare n i) (denied 14)))
       ∙ go (hasRow (storeRows s) n) refl
     where
       k : ℕ
@@ -176,7 +185,11 @@ module _ (s : Store) (z : List Record) (full : length (s .records) ≡ 512) (few
       fresh true = refl
       fresh false = refl
 
-      go : (o : Bool) → hasRow (storeRows s) n ≡ o → cond o (stored (flagged (withSpare s z) k (withSubscribed (nth (s .records ++ z) k .flags)))) (cond (lawfulName n && not (belowNoInferiors (storeRows s) n)) (editedWith z (insertion s n)) (denied 14)) ≡ editedWith z (cond o (stored (flagged s k (withSubscribed (nth (s .records) k .flags)))) (cond (lawfulName n && not (belowNoInferiors (storeRows s) n)) (insertion s n) (denied 14)))
+      go : (o : Bool) → hasRow (storeRows s) n ≡ o
+          → cond o (stored (flagged (withSpare s z) k (withSubscribed (nth (s .records ++ z) k .flags))))
+          (cond (lawfulName n && not (belowNoInferiors (storeRows s) n)) (editedWith z (insertion s n)) (denied 14))
+          ≡ editedWith z (cond o (stored (flagged s k (withSubscribed (nth (s .records) k .flags))))
+          (cond (lawfulName n && not (belowNoInferiors (storeRows s) n)) (insertion s n) (denied 14)))
       go true h =
           let low = place-low n h in
           ap (λ (r : Record). stored (flagged (withSpare s z) k (withSubscribed (r .flags)))) (nth-spare k low) ∙ ap stored (flagged-spare k low (withSubscribed (nth (s .records) k .flags)))
@@ -185,17 +198,25 @@ module _ (s : Store) (z : List Record) (full : length (s .records) ≡ 512) (few
   unsubscribing-spare : (n : List ℕ) → unsubscribing (withSpare s z) n ≡ editedWith z (unsubscribing s n)
   unfolding unsubscribing
   unsubscribing-spare n =
-      (λ i. let k = rowsBefore (rows-spare i) n in let f = nth (s .records ++ z) k .flags in cond (hasRow (rows-spare i) n) (cond (eqb f 0x0002) (stored (removed (withSpare s z) k)) (stored (flagged (withSpare s z) k (withoutSubscribed f)))) (stored (withSpare s z)))
+      (λ i. let k = rowsBefore (rows-spare i) n in let f = nth (s .records ++ z) k .flags in
+      cond (hasRow (rows-spare i) n) (cond (eqb f 0x0002) (stored (removed (withSpare s z) k))
+      (stored (flagged (withSpare s z) k (withoutSubscribed f)))) (stored (withSpare s z)))
       ∙ go (hasRow (storeRows s) n) refl
     where
       k : ℕ
       k = rowsBefore (storeRows s) n
 
-      own : (low : k < 512) (f : ℕ) (o : Bool) → cond o (stored (removed (withSpare s z) k)) (stored (flagged (withSpare s z) k (withoutSubscribed f))) ≡ editedWith z (cond o (stored (removed s k)) (stored (flagged s k (withoutSubscribed f))))
+      -- what UNSUBSCRIBE makes of a store whose record at the place has flags f; o says that it is a row 0002
+      cleared : Store → ℕ → Bool → Edited
+      cleared v f o = cond o (stored (removed v k)) (stored (flagged v k (withoutSubscribed f)))
+
+      own : (low : k < 512) (f : ℕ) (o : Bool) → cleared (withSpare s z) f o ≡ editedWith z (cleared s f o)
       own low f true = ap stored (removed-spare k low)
       own low f false = ap stored (flagged-spare k low (withoutSubscribed f))
 
-      go : (o : Bool) → hasRow (storeRows s) n ≡ o → (let f = nth (s .records ++ z) k .flags in cond o (cond (eqb f 0x0002) (stored (removed (withSpare s z) k)) (stored (flagged (withSpare s z) k (withoutSubscribed f)))) (stored (withSpare s z))) ≡ editedWith z (let f = nth (s .records) k .flags in cond o (cond (eqb f 0x0002) (stored (removed s k)) (stored (flagged s k (withoutSubscribed f)))) (stored s))
+      go : (o : Bool) → hasRow (storeRows s) n ≡ o
+          → (let f = nth (s .records ++ z) k .flags in cond o (cleared (withSpare s z) f (eqb f 0x0002)) (stored (withSpare s z)))
+          ≡ editedWith z (let f = nth (s .records) k .flags in cond o (cleared s f (eqb f 0x0002)) (stored s))
       go true h =
           let low = place-low n h in
           ap (λ (r : Record). cond (eqb (r .flags) 0x0002) (stored (removed (withSpare s z) k)) (stored (flagged (withSpare s z) k (withoutSubscribed (r .flags))))) (nth-spare k low)
@@ -218,7 +239,8 @@ concluded-spare s z room x (refusal k) = refl
 concluded-spare s z room (denied k) (answered a) = refl
 concluded-spare s z room (stored t) (answered a) = go (leb (length a) room)
   where
-    go : (b : Bool) → cond b (record { reply = answered a; store = withSpare t z }) (unchangedBy (withSpare s z) 9) ≡ commandedWith z (cond b (record { reply = answered a; store = t }) (unchangedBy s 9))
+    go : (b : Bool) → cond b (record { reply = answered a; store = withSpare t z }) (unchangedBy (withSpare s z) 9)
+        ≡ commandedWith z (cond b (record { reply = answered a; store = t }) (unchangedBy s 9))
     go true = refl
     go false = refl
 
@@ -235,7 +257,9 @@ beyond : (s : Store) (z : List Record) → length (s .records) ≡ 512 → (spac
 unfolding commanded
 beyond s z full spaces l buffer = go (leb (s .count) 512) refl
   where
-    few : s .count ≤ 512 → concluded (withSpare s z) (length buffer) (attempted (withSpare s z) (parsed l)) (answer (storeTable (withSpare s z)) spaces l) ≡ commandedWith z (concluded s (length buffer) (attempted s (parsed l)) (answer (storeTable s) spaces l))
+    few : s .count ≤ 512
+        → concluded (withSpare s z) (length buffer) (attempted (withSpare s z) (parsed l)) (answer (storeTable (withSpare s z)) spaces l)
+        ≡ commandedWith z (concluded s (length buffer) (attempted s (parsed l)) (answer (storeTable s) spaces l))
     few h =
         (λ i. concluded (withSpare s z) (length buffer) (attempted-spare s z full h (parsed l) i) (answer (table-spare s z full h i) spaces l))
         ∙ concluded-spare s z (length buffer) (attempted s (parsed l)) (answer (storeTable s) spaces l)
@@ -267,7 +291,9 @@ same-of s t z spaces l buffer e =
     }
 
 -- An entry looks at no more than 512 records.
-pub same-front : (rs : List Record) (n : ℕ) → n ≡ min (length rs) 512 → (count : ℕ) (area spaces l buffer : List ℕ) → SameFront (record { records = rs; count = count; area = area }) (record { records = take n rs; count = count; area = area }) (drop n rs) spaces l buffer
+pub same-front : (rs : List Record) (n : ℕ) → n ≡ min (length rs) 512 → (count : ℕ) (area spaces l buffer : List ℕ)
+    → SameFront (record { records = rs; count = count; area = area }) (record { records = take n rs; count = count; area = area })
+    (drop n rs) spaces l buffer
 same-front rs n e count area spaces l buffer = same-of (over rs) (over (take n rs)) (drop n rs) spaces l buffer (go (leb (length rs) 512) refl)
   where
     over : List Record → Store

@@ -8,6 +8,7 @@ use Rattle.listing_rules.specs.Limits.{flags-of-a-row, names-of-rows, or
 use Rattle.listing_rules.specs.Limits.{lsub-lines, lsub-grammar}
 use Rattle.listing_rules.specs.Limits.{records-layout, records-size, records-answered}
 use Rattle.listing_rules.specs.Limits.{edits-made, edits-inbox, edits-refused, edits-layout, edits-commanded, edits-in-order, edits-in-series, program-edits}
+use Rattle.listing_rules.specs.Limits.{compactions, compactions-size, compactions-make-room}
 use Rattle.listing_rules.specs.Limits.{namespace-classes, uses-by-name, flags-by-name, attributes-together}
 use Rattle.listing_rules.specs.Limits.{children-and-empty-patterns, special-use-selected, quotes-and-wildcards}
 use Rattle.listing_rules.specs.Limits.{childinfo-and-uses-shown, levels-listed, levels-not-listed, levels-counted, inbox-alone}
@@ -79,6 +80,18 @@ edits-in-order-hold = refl
 edits-in-series-hold : failures 1 edits-in-series ≡ []
 unfolding openAll
 edits-in-series-hold = refl
+
+compactions-hold : failures 1 compactions ≡ []
+unfolding openAll
+compactions-hold = refl
+
+compactions-size-hold : failures 1 compactions-size ≡ []
+unfolding openAll
+compactions-size-hold = refl
+
+compactions-make-room-hold : failures 1 compactions-make-room ≡ []
+unfolding openAll
+compactions-make-room-hold = refl
 
 namespace-entries-hold : failures 1 namespace-entries ≡ []
 unfolding openAll
@@ -268,6 +281,9 @@ pub record Limits-hold : Type 0 where
   pub edits-commanded-stand : failures 1 edits-commanded ≡ []
   pub edits-in-order-stand : failures 1 edits-in-order ≡ []
   pub edits-in-series-stand : failures 1 edits-in-series ≡ []
+  pub compactions-stand : failures 1 compactions ≡ []
+  pub compactions-size-stand : failures 1 compactions-size ≡ []
+  pub compactions-make-room-stand : failures 1 compactions-make-room ≡ []
   pub namespace-entries-stand : failures 1 namespace-entries ≡ []
   pub namespace-classes-stand : failures 1 namespace-classes ≡ []
   pub uses-by-name-stand : failures 1 uses-by-name ≡ []
@@ -329,6 +345,9 @@ limits-hold =
       edits-commanded-stand = edits-commanded-hold;
       edits-in-order-stand = edits-in-order-hold;
       edits-in-series-stand = edits-in-series-hold;
+      compactions-stand = compactions-hold;
+      compactions-size-stand = compactions-size-hold;
+      compactions-make-room-stand = compactions-make-room-hold;
       namespace-entries-stand = namespace-entries-hold;
       namespace-classes-stand = namespace-classes-hold;
       uses-by-name-stand = uses-by-name-hold;

@@ -9,7 +9,8 @@ use lib.Dec.{eqb, leb}
 use lib.ListN.{length, take, drop, length-append, length-drop}
 use borrow.Author.Tests.{eqb-true, eq-eqb}
 use Rattle.listing_rules.specs.Bytes.{text, crlf, quote, backslash, all, isEmpty}
-use Rattle.listing_rules.specs.Tokens.{Got, got, _>>=_, after, withFirst, run, unlessEmpty, run₁, atomByte, astringByte, patternByte, atom, unquoted, lineByte, quotedText, digitByte, decimal, number, literal, stringOr, astring, pattern}
+use Rattle.listing_rules.specs.Tokens.{Got, got, _>>=_, after, withFirst, run, unlessEmpty, run₁, atomByte, astringByte, patternByte, atom}
+use Rattle.listing_rules.specs.Tokens.{unquoted, lineByte, quotedText, digitByte, decimal, number, literal, stringOr, astring, pattern}
 use Rattle.listing_rules.specs.Lines.{escaped}
 use Rattle.listing_rules.proofs.Keys.{openBytes, openTokens, openLines}
 use Rattle.listing_rules.proofs.Bools.{and-l, and-r, and-i}
@@ -126,7 +127,8 @@ unfolding openBytes openTokens openLines
 unquoted-escaped [] t = refl
 unquoted-escaped (b ∷ n) t = go (eqb b quote) (eqb b backslash) refl refl (unquoted-escaped n t)
   where
-    go : (o p : Bool) → eqb b quote ≡ o → eqb b backslash ≡ p → unquoted false (escaped n ++ (quote ∷ t)) ≡ some (got n t) → unquoted false (cond (o || p) (backslash ∷ b ∷ escaped n) (b ∷ escaped n) ++ (quote ∷ t)) ≡ some (got (b ∷ n) t)
+    go : (o p : Bool) → eqb b quote ≡ o → eqb b backslash ≡ p → unquoted false (escaped n ++ (quote ∷ t)) ≡ some (got n t)
+        → unquoted false (cond (o || p) (backslash ∷ b ∷ escaped n) (b ∷ escaped n) ++ (quote ∷ t)) ≡ some (got (b ∷ n) t)
     go true p e f ih = simp (e, ih)
     go false true e f ih = simp (e, f, ih)
     go false false e f ih = simp (e, f, ih)
@@ -141,7 +143,8 @@ unfolding escaped got unquoted withFirst
 unquoted-some e [] g k = absurd (none≢some k)
 unquoted-some true (b ∷ t) g k = go (eqb b quote || eqb b backslash) refl k (unquoted-some false t)
   where
-    go : (o : Bool) → (eqb b quote || eqb b backslash) ≡ o → cond o (unquoted false t >>= λ g. some (withFirst b g)) none ≡ some g → ((g : Got (List ℕ)) → unquoted false t ≡ some g → Unq false t g) → Unq true (b ∷ t) g
+    go : (o : Bool) → (eqb b quote || eqb b backslash) ≡ o → cond o (unquoted false t >>= λ g. some (withFirst b g)) none ≡ some g
+        → ((g : Got (List ℕ)) → unquoted false t ≡ some g → Unq false t g) → Unq true (b ∷ t) g
     go false f k ih = absurd (none≢some k)
     go true f k ih =
         let w = bind-some (unquoted false t) (λ g. some (withFirst b g)) g k in
@@ -150,7 +153,10 @@ unquoted-some true (b ∷ t) g k = go (eqb b quote || eqb b backslash) refl k (u
         subst (λ (x : Got (List ℕ)). Unq true (b ∷ t) x) v (rw f (ap (λ (x : List ℕ). backslash ∷ b ∷ x) u))
 unquoted-some false (b ∷ t) g k = go (eqb b backslash) (eqb b quote) refl refl k (unquoted-some true t) (unquoted-some false t)
   where
-    go : (o p : Bool) → eqb b backslash ≡ o → eqb b quote ≡ p → cond o (unquoted true t) (cond p (some (got [] t)) (unquoted false t >>= λ g. some (withFirst b g))) ≡ some g → ((g : Got (List ℕ)) → unquoted true t ≡ some g → Unq true t g) → ((g : Got (List ℕ)) → unquoted false t ≡ some g → Unq false t g) → Unq false (b ∷ t) g
+    go : (o p : Bool) → eqb b backslash ≡ o → eqb b quote ≡ p
+        → cond o (unquoted true t) (cond p (some (got [] t)) (unquoted false t >>= λ g. some (withFirst b g))) ≡ some g
+        → ((g : Got (List ℕ)) → unquoted true t ≡ some g → Unq true t g) → ((g : Got (List ℕ)) → unquoted false t ≡ some g → Unq false t g)
+        → Unq false (b ∷ t) g
     go true p e f k ih jh = rw (eqb-true b backslash e) (ih g k)
     go false true e f k ih jh =
         let v : got [] t ≡ g = cc in

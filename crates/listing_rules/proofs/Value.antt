@@ -79,5 +79,7 @@ value-fuel (suc k) (suc j) t h g =
     value-is k t
     ∙ ap (λ (x : Option (List ℕ)). x >>= rest-item (valueRest k)) (first-cong (valueRest k) (valueRest j) t (λ v l. value-fuel k j v (omega arith) (omega arith)))
     ∙ bind-cong (first (valueRest j) t) (rest-item (valueRest k)) (rest-item (valueRest j))
-    (λ u e. rest-cong (valueRest k) (valueRest j) u (λ v l. value-fuel k j v (omega (arith, first-shorter (valueRest j) (value-shorter j) t u e)) (omega (arith, first-shorter (valueRest j) (value-shorter j) t u e))))
+    (λ u e. rest-cong (valueRest k) (valueRest j) u
+    (λ v l. value-fuel k j v (omega (arith, first-shorter (valueRest j) (value-shorter j) t u e))
+    (omega (arith, first-shorter (valueRest j) (value-shorter j) t u e))))
     ∙ sym (value-is j t)

@@ -34,12 +34,16 @@ module _ (t : Table) (o scratch found pending : ℕ) where
   stepAt k done s l =
       elim l [ [] ↦ go (record { count = suc done; lists = s }) | n ∷ ns ↦ (asked t o scratch found pending s (n ++ (slash ∷ [])) >>= λ u. walkFrom t o scratch found pending k (suc done) u) ]
 
-  from-more : (k done : ℕ) (s : Lists) → (walkFrom t o scratch found pending k done s ≡ stop 0 → ⊥) → walkFrom t o scratch found pending (suc k) done s ≡ walkFrom t o scratch found pending k done s
+  abbrev Steady : ℕ → ℕ → Lists → Type 0
+  Steady k done s = (walkFrom t o scratch found pending k done s ≡ stop 0 → ⊥)
+      → walkFrom t o scratch found pending (suc k) done s ≡ walkFrom t o scratch found pending k done s
+
+  from-more : (k done : ℕ) (s : Lists) → Steady k done s
   unfolding walkFrom stepAt
   from-more zero done s n = absurd (n refl)
   from-more (suc k) done s n = pick (drop done (s .asks)) (λ u. from-more k (suc done) u) n
     where
-      pick : (l : List (List ℕ)) → ((u : Lists) → (walkFrom t o scratch found pending k (suc done) u ≡ stop 0 → ⊥) → walkFrom t o scratch found pending (suc k) (suc done) u ≡ walkFrom t o scratch found pending k (suc done) u) → (stepAt k done s l ≡ stop 0 → ⊥) → stepAt (suc k) done s l ≡ stepAt k done s l
+      pick : (l : List (List ℕ)) → ((u : Lists) → Steady k (suc done) u) → (stepAt k done s l ≡ stop 0 → ⊥) → stepAt (suc k) done s l ≡ stepAt k done s l
       pick [] ih n = refl
       pick (a ∷ l) ih n = bind-more (asked t o scratch found pending s (a ++ (slash ∷ []))) _ _ ih n
 
@@ -47,6 +51,7 @@ module _ (t : Table) (o scratch found pending : ℕ) where
   unfolding walkAll
   all-more k n = bind-more (asked t o scratch found pending (record { finds = []; asks = [] }) []) _ _ (from-more k 0) n
 
-pub walk-fuel : (t : Table) (o scratch found pending k : ℕ) → Walks t o → suc (suc (length (candidates (rows t)))) ≤ k → walkAll t o scratch found pending k ≡ walkAll t o scratch found pending (suc (suc (length (candidates (rows t)))))
+pub walk-fuel : (t : Table) (o scratch found pending k : ℕ) → Walks t o → suc (suc (length (candidates (rows t)))) ≤ k
+    → walkAll t o scratch found pending k ≡ walkAll t o scratch found pending (suc (suc (length (candidates (rows t)))))
 walk-fuel t o scratch found pending k wk h =
     steady (walkAll t o scratch found pending) (suc (suc (length (candidates (rows t))))) (all-more t o scratch found pending) (walk-ends t o wk scratch found pending) k h

@@ -25,7 +25,8 @@ use Rattle.listing_rules.proofs.Bfs.{depth, depth-child, walk-deeper, G
 use Rattle.listing_rules.proofs.Served.{left, queue-served, kids-served, served-only, runs-empty, finds-asc}
 use Rattle.listing_rules.proofs.Asked.{finds, asks}
 use Rattle.listing_rules.proofs.WalkSets.{Walks}
-use Rattle.listing_rules.proofs.WalkMembers.{M, Low, cands, find-to, find-from, ask-to, ask-from, hit-top, top-hit, hit-below, below-hit, top-deeper, below-deeper, finds-bytes, asks-bytes, tops-asc, kids-asc, Hit}
+use Rattle.listing_rules.proofs.WalkMembers.{M, Low, cands, find-to, find-from, ask-to, ask-from, hit-top, top-hit, hit-below, below-hit}
+use Rattle.listing_rules.proofs.WalkMembers.{top-deeper, below-deeper, finds-bytes, asks-bytes, tops-asc, kids-asc, Hit}
 
 -- what a command gives below a name; nothing below what is no name
 abbrev pub under : (Name → List Name) → Name → List Name
@@ -195,7 +196,9 @@ module _ (t : Table) (o : ℕ) (wk : Walks t o) where
             let b : below (w .0) z ≡ true = subst (λ (y : Name). below (w .0) y ≡ true) (sym (w .2)) (below-child (w .0) (w .1)) in
             let l : Low t o (w .0) = (z, c, b, m) in
             let g = cand-bytes (w .0) (low-cand (w .0) l) in
-            let hit = subst (λ (y : Name). List·Memᴰ y (finds t o (w .0 ++ (slash ∷ [])))) (sym (w .2)) (find-from t o wk (w .0 ++ (slash ∷ [])) (child (w .0) (w .1)) (subst (λ (y : Name). List·Memᴰ y (cands t o)) (w .2) c) (below-hit t o (w .0) (w .1) g (w .3)) (subst (λ (y : Name). M t o y ≡ true) (w .2) m)) in
+            let hit = subst (λ (y : Name). List·Memᴰ y (finds t o (w .0 ++ (slash ∷ [])))) (sym (w .2))
+            (find-from t o wk (w .0 ++ (slash ∷ [])) (child (w .0) (w .1)) (subst (λ (y : Name). List·Memᴰ y (cands t o)) (w .2) c)
+            (below-hit t o (w .0) (w .1) g (w .3)) (subst (λ (y : Name). M t o y ≡ true) (w .2) m)) in
             Memᴰ·append-right (finds t o []) (mem-joined z (mem-under (finds t o) (w .0) z g hit) (mem-map finds′ (P-has (w .0) l)))
 
     -- so both are what the paper says
@@ -221,6 +224,7 @@ module _ (t : Table) (o : ℕ) (wk : Walks t o) where
     pub P-is : P ≡ meetingAncestors (rows t) o
     unfolding meetingAncestors
     P-is =
-        decided walkOrder walk-total P (sorted walkOrder (joined (map properAncestors (meetingNames (rows t) o)))) P-asc (asc-sorted walkOrder walk-total (joined (map properAncestors (meetingNames (rows t) o))))
+        decided walkOrder walk-total P (sorted walkOrder (joined (map properAncestors (meetingNames (rows t) o)))) P-asc
+        (asc-sorted walkOrder walk-total (joined (map properAncestors (meetingNames (rows t) o))))
         (λ z m. sorted-mem walkOrder walk-total z (joined (map properAncestors (meetingNames (rows t) o))) (low-met z (P-low z m)))
         (λ z m. P-has z (met-low z (mem-sorted walkOrder walk-total z (joined (map properAncestors (meetingNames (rows t) o))) m)))

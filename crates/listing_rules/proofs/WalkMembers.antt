@@ -71,8 +71,11 @@ module _ (t : Table) (o : ℕ) where
   ask-to wk ref z m =
       let w = keep-mem (asksBelow ref) (names-listed t o ref) z m in
       let v = keep-mem (listed (rows t) (walkOptions o) (pats t o ref)) cands z (w .0) in
-      let s = some-mem (λ d. below z d && M d) cands (sym (walk-asks (rows t) o (wk .1) z) ∙ w .1) in
-      (v .0, and-l (matchesAny (pats t o ref) z) _ (sym (walk-listed (rows t) o (pats t o ref) z) ∙ v .1), (s .0, s .1, and-l (below z (s .0)) (M (s .0)) (s .2), and-r (below z (s .0)) (M (s .0)) (s .2)))
+      let s = some-mem (λ d. below z d && M d) cands (sym (walk-asks (rows t) o (wk .1) z) ∙ w .1) in (
+        v .0,
+        and-l (matchesAny (pats t o ref) z) _ (sym (walk-listed (rows t) o (pats t o ref) z) ∙ v .1),
+        (s .0, s .1, and-l (below z (s .0)) (M (s .0)) (s .2), and-r (below z (s .0)) (M (s .0)) (s .2)),
+      )
 
   pub ask-from : Walks t o → (ref z : Name) → ((d : Name) → below z d ≡ true → Hit ref d → ⊥) → List·Memᴰ z cands → Hit ref z → Low z → List·Memᴰ z (asks t o ref)
   unfolding listedNames candidateMeets meetsBelow meetsUnmatchedBelow walkOptions

@@ -38,7 +38,8 @@ module _ {A B C : Type 0} (c : B → B → Ordering) (d : C → C → Ordering) 
       turn Ordering·eq u = refl
       turn Ordering·gt u = refl
 
-      tr : (x y z : A) (o u : Ordering) → c (f x) (f y) ≡ o → c (f y) (f z) ≡ u → thenBy o (d (g x) (g y)) ≡ Ordering·lt → thenBy u (d (g y) (g z)) ≡ Ordering·lt → thenBy (c (f x) (f z)) (d (g x) (g z)) ≡ Ordering·lt
+      tr : (x y z : A) (o u : Ordering) → c (f x) (f y) ≡ o → c (f y) (f z) ≡ u → thenBy o (d (g x) (g y)) ≡ Ordering·lt
+          → thenBy u (d (g y) (g z)) ≡ Ordering·lt → thenBy (c (f x) (f z)) (d (g x) (g z)) ≡ Ordering·lt
       tr x y z Ordering·lt Ordering·lt h k p q = rw (L .trans (f x) (f y) (f z) h k)
       tr x y z Ordering·lt Ordering·eq h k p q = rw (← L .equal (f y) (f z) k, h)
       tr x y z Ordering·lt Ordering·gt h k p q = cc

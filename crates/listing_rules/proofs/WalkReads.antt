@@ -1,4 +1,5 @@
--- The walk's commands only read (W6): each begins with the word LIST, so whatever its reference and its shape come to, it is no edit.
+-- The walk's commands only read (W6): each begins with the word LIST, so whatever its reference and its shape come to, it is no edit. Rests on Keys
+-- alone.
 use mathlib.Core.Path.{_≡_, refl, ap, _∙_}
 use mathlib.Core.Bool.{Bool, true, false, cond, _&&_, not}
 use mathlib.Core.List.{List, _++_}
@@ -23,7 +24,9 @@ unfolding judged isEdit
 judged-reads tag a =
     go (every (knownIn selectionWords) (a .selection) && every (knownIn returnWords) (a .returns)) (lawfulOptions (optionsOf a)) (fewPatterns a) (asksRoot a)
   where
-    go : (known lawful few asks : Bool) → isEdit (cond known (cond lawful (cond few (cond asks (rootOf tag) (listing tag (optionsOf a) (canonical (a .reference) (a .pats)))) (refused 8)) (refused 7)) (refused 6)) ≡ false
+    go : (known lawful few asks : Bool)
+        → isEdit (cond known (cond lawful (cond few (cond asks (rootOf tag) (listing tag (optionsOf a) (canonical (a .reference) (a .pats))))
+        (refused 8)) (refused 7)) (refused 6)) ≡ false
     go true true true true = refl
     go true true true false = refl
     go true true false k = refl

@@ -1,4 +1,4 @@
--- What a command of the collector matches, and that a line is a find exactly if its name meets the criteria. Rests on Percent.
+-- What a command of the collector matches, and that a line is a find exactly if its name meets the criteria. Rests on Percent and Passes.
 use mathlib.Core.Path.{_≡_, refl, sym, ap, _∙_, subst}
 use mathlib.Core.Logic.{_↔_}
 use mathlib.Core.Bool.{and-true, and-false, or-true, or-false, or-assoc, and-comm, Bool, true, false, cond, _&&_, _||_, not, false≢true}
@@ -24,8 +24,17 @@ use Rattle.listing_rules.proofs.Percent.{oneLevel, takes-percent, takes
 use Rattle.listing_rules.proofs.Levels.{child, ChildOf}
 use Rattle.listing_rules.proofs.Passes.{use-exists}
 
+-- one of the seven uses, as `hasUse` asks it of flags, and as `isFind` asks it of attributes where s says that uses are shown
+abbrev used : Bool → Bool → Bool → Bool → Bool → Bool → Bool → Bool
+used b₈ b₉ b₁₀ b₁₁ b₁₂ b₁₃ b₁₄ = b₈ || (b₉ || (b₁₀ || (b₁₁ || (b₁₂ || (b₁₃ || (b₁₄ || false))))))
+
+abbrev shown : Bool → Bool → Bool → Bool → Bool → Bool → Bool → Bool → Bool
+shown s b₈ b₉ b₁₀ b₁₁ b₁₂ b₁₃ b₁₄ = (((((b₈ && s || b₉ && s) || b₁₀ && s) || b₁₁ && s) || b₁₂ && s) || b₁₃ && s) || b₁₄ && s
+
 -- "A line is a find if ..": exactly if the name meets the criteria
-find-bools : (S s x e b₈ b₉ b₁₀ b₁₁ b₁₂ b₁₃ b₁₄ : Bool) → (((s && true) && x) && (not S || ((((((b₈ && (S || false) || b₉ && (S || false)) || b₁₀ && (S || false)) || b₁₁ && (S || false)) || b₁₂ && (S || false)) || b₁₃ && (S || false)) || b₁₄ && (S || false)))) ≡ ((((e || true) && x) && s) && (not S || (b₈ || (b₉ || (b₁₀ || (b₁₁ || (b₁₂ || (b₁₃ || (b₁₄ || false)))))))))
+find-bools : (S s x e b₈ b₉ b₁₀ b₁₁ b₁₂ b₁₃ b₁₄ : Bool)
+    → (((s && true) && x) && (not S || shown (S || false) b₈ b₉ b₁₀ b₁₁ b₁₂ b₁₃ b₁₄))
+    ≡ ((((e || true) && x) && s) && (not S || used b₈ b₉ b₁₀ b₁₁ b₁₂ b₁₃ b₁₄))
 find-bools true s x e b₈ b₉ b₁₀ b₁₁ b₁₂ b₁₃ b₁₄ = simp (and-true, or-true, or-false, or-assoc) (ap (λ (y : Bool). y && (b₈ || (b₉ || (b₁₀ || (b₁₁ || (b₁₂ || (b₁₃ || b₁₄))))))) (and-comm s x))
 find-bools false s x e b₈ b₉ b₁₀ b₁₁ b₁₂ b₁₃ b₁₄ = simp (and-true, or-true) (and-comm s x)
 
@@ -34,8 +43,9 @@ find-dropped : (x e u : Bool) → (u ≡ true → e ≡ true) → (x && u) ≡ (
 find-dropped x e true h = rw (h refl) (sym (and-true (x && true)))
 find-dropped x e false h = and-false x ∙ sym (and-false (((e || false) && x) && true))
 
-find-uses : (x e b₈ b₉ b₁₀ b₁₁ b₁₂ b₁₃ b₁₄ : Bool) → ((b₈ || (b₉ || (b₁₀ || (b₁₁ || (b₁₂ || (b₁₃ || (b₁₄ || false))))))) ≡ true → e ≡ true) → (x && ((((((b₈ && true || b₉ && true) || b₁₀ && true) || b₁₁ && true) || b₁₂ && true) || b₁₃ && true) || b₁₄ && true)) ≡ ((((e || false) && x) && true) && (b₈ || (b₉ || (b₁₀ || (b₁₁ || (b₁₂ || (b₁₃ || (b₁₄ || false))))))))
-find-uses x e b₈ b₉ b₁₀ b₁₁ b₁₂ b₁₃ b₁₄ h = ap (λ (u : Bool). x && u) (simp (and-true, or-false, or-assoc)) ∙ find-dropped x e (b₈ || (b₉ || (b₁₀ || (b₁₁ || (b₁₂ || (b₁₃ || (b₁₄ || false))))))) h
+find-uses : (x e b₈ b₉ b₁₀ b₁₁ b₁₂ b₁₃ b₁₄ : Bool) → (used b₈ b₉ b₁₀ b₁₁ b₁₂ b₁₃ b₁₄ ≡ true → e ≡ true)
+    → (x && shown true b₈ b₉ b₁₀ b₁₁ b₁₂ b₁₃ b₁₄) ≡ ((((e || false) && x) && true) && used b₈ b₉ b₁₀ b₁₁ b₁₂ b₁₃ b₁₄)
+find-uses x e b₈ b₉ b₁₀ b₁₁ b₁₂ b₁₃ b₁₄ h = ap (λ (u : Bool). x && u) (simp (and-true, or-false, or-assoc)) ∙ find-dropped x e (used b₈ b₉ b₁₀ b₁₁ b₁₂ b₁₃ b₁₄) h
 
 -- a table that passes is walked with a lawful option byte
 abbrev pub Walks : Table → ℕ → Type 0
@@ -55,7 +65,15 @@ find-met t o w ps n = go (dropsSubscribed o) (wantsSpecial o) (beside o (w .1)) 
     x : Bool
     x = not (remote f) || wantsRemote o
 
-    go : (D S : Bool) → (not D || S) ≡ true → ((bit 8 f || (bit 9 f || (bit 10 f || (bit 11 f || (bit 12 f || (bit 13 f || (bit 14 f || false))))))) ≡ true → exists f ≡ true) → (((D || (subscribed f && (not D || false))) && x) && (not S || ((((((bit 8 f && (S || false) || bit 9 f && (S || false)) || bit 10 f && (S || false)) || bit 11 f && (S || false)) || bit 12 f && (S || false)) || bit 13 f && (S || false)) || bit 14 f && (S || false)))) ≡ ((((exists f || not D) && x) && (not (not D) || subscribed f)) && (not S || (bit 8 f || (bit 9 f || (bit 10 f || (bit 11 f || (bit 12 f || (bit 13 f || (bit 14 f || false)))))))))
+    any-use : Bool
+    any-use = used (bit 8 f) (bit 9 f) (bit 10 f) (bit 11 f) (bit 12 f) (bit 13 f) (bit 14 f)
+
+    use-shown : Bool → Bool
+    use-shown s = shown s (bit 8 f) (bit 9 f) (bit 10 f) (bit 11 f) (bit 12 f) (bit 13 f) (bit 14 f)
+
+    go : (D S : Bool) → (not D || S) ≡ true → (any-use ≡ true → exists f ≡ true)
+        → (((D || (subscribed f && (not D || false))) && x) && (not S || use-shown (S || false)))
+        ≡ ((((exists f || not D) && x) && (not (not D) || subscribed f)) && (not S || any-use))
     go false S l u = find-bools S (subscribed f) x (exists f) (bit 8 f) (bit 9 f) (bit 10 f) (bit 11 f) (bit 12 f) (bit 13 f) (bit 14 f)
     go true true l u = find-uses x (exists f) (bit 8 f) (bit 9 f) (bit 10 f) (bit 11 f) (bit 12 f) (bit 13 f) (bit 14 f) u
     go true false l u = absurd (false≢true l)
@@ -70,7 +88,8 @@ walk-asks rs o h n = go (meetsBelow rs (walkOptions o) n)
     go false = refl
 
 -- a walk selects RECURSIVEMATCH, so no level is listed for a final "%" alone
-pub walk-listed : (rs : List Row) (o : ℕ) (ps : List (List ℕ)) (n : List ℕ) → listed rs (walkOptions o) ps n ≡ (matchesAny ps n && (candidateMeets rs (walkOptions o) n || meetsUnmatchedBelow rs (walkOptions o) ps n))
+pub walk-listed : (rs : List Row) (o : ℕ) (ps : List (List ℕ)) (n : List ℕ)
+    → listed rs (walkOptions o) ps n ≡ (matchesAny ps n && (candidateMeets rs (walkOptions o) n || meetsUnmatchedBelow rs (walkOptions o) ps n))
 unfolding listed levelAbove unselective walkOptions
 walk-listed rs o ps n = or-false _
 

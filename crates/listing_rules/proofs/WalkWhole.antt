@@ -31,7 +31,7 @@ use Rattle.listing_rules.proofs.WalkLists.{kids, finds′, fuel, P, F, 
 abbrev pub result : List Name → List Name → Walked
 result f p = record { count = suc (length p); lists = listsOf f p }
 
-module _ (t : Table) (o : ℕ) (wk : Walks t o) (scratch room₁ room₂ : ℕ) where
+module _ (t : Table) (o : ℕ) (wk : Walks t o) (scratch found pending : ℕ) where
   ok : passes t ≡ true
   ok = wk .0
 
@@ -43,7 +43,7 @@ module _ (t : Table) (o : ℕ) (wk : Walks t o) (scratch room₁ room₂ : ℕ) 
   All-fit l = (a : Name) → List·Memᴰ a l → Fits (a ++ (slash ∷ []))
 
   abbrev Fit : List Name → List Name → Type 0
-  Fit f a = Sizes room₁ room₂ f a
+  Fit f a = Sizes found pending f a
 
   -- what a name adds to pending and to found, and what is served from a queue
   abbrev K : Name → List Name
@@ -56,8 +56,10 @@ module _ (t : Table) (o : ℕ) (wk : Walks t o) (scratch room₁ room₂ : ℕ) 
   S k q = served K k q
 
   -- one command below a name that is served
-  step-cases : (a : Name) → List·Memᴰ a (P t o wk) → (f w : List Name) → Fit f w → Outcome (asked t o scratch room₁ room₂ (listsOf f w) (a ++ (slash ∷ []))) (listsOf (f ++ G a) (w ++ K a)) (Fits (a ++ (slash ∷ [])) × Fit (f ++ G a) (w ++ K a))
-  step-cases a m f w h = rw bytes (asked-cases t o (a ++ (slash ∷ [])) scratch room₁ room₂ (wk .1) ok line-ok (omega (arith, length-append a (slash ∷ []), good-parts a good .most)) f w h)
+  step-cases : (a : Name) → List·Memᴰ a (P t o wk) → (f w : List Name) → Fit f w
+      → Outcome (asked t o scratch found pending (listsOf f w) (a ++ (slash ∷ []))) (listsOf (f ++ G a) (w ++ K a))
+      (Fits (a ++ (slash ∷ [])) × Fit (f ++ G a) (w ++ K a))
+  step-cases a m f w h = rw bytes (asked-cases t o (a ++ (slash ∷ [])) scratch found pending (wk .1) ok line-ok (omega (arith, length-append a (slash ∷ []), good-parts a good .most)) f w h)
     where
       good : lawfulName a ≡ true
       good = candidate-good t ok a (low-cand t o wk a (P-low t o wk a m))
@@ -68,20 +70,24 @@ module _ (t : Table) (o : ℕ) (wk : Walks t o) (scratch room₁ room₂ : ℕ) 
       line-ok : all lineByte (a ++ (slash ∷ [])) ≡ true
       line-ok = all-append lineByte a (slash ∷ []) (all-imp nameByte lineByte name-line a bytes) (unfold lineByte all within openBytes in refl)
 
-  -- the walk from a place of the queue on
-  none-left : (k : ℕ) (f done : List Name) → Fit f (done ++ []) → Outcome (walkFrom t o scratch room₁ room₂ (suc k) (length done) (listsOf f (done ++ []))) (result (f ++ []) (done ++ [])) (All-fit [] × Fit (f ++ []) (done ++ []))
+  -- the walk with f found and w pending, of which d were asked: it asks the names of ns too and ends with f′ and w′, if that fits
+  abbrev Ends : ℕ → ℕ → List Name → List Name → List Name → List Name → List Name → Type 0
+  Ends k d f w ns f′ w′ = Outcome (walkFrom t o scratch found pending (suc k) d (listsOf f w)) (result f′ w′) (All-fit ns × Fit f′ w′)
+
+  none-left : (k : ℕ) (f done : List Name) → Fit f (done ++ []) → Ends k (length done) f (done ++ []) [] (f ++ []) (done ++ [])
   unfolding walkFrom
   none-left k f done h =
       went (rw (drop-at done [] (length done) refl, walkFrom, append-nil f, append-nil done)) (λ a m. absurd (List·Memᴰ·not-nil m), (rw (append-nil f) (h .0), h .1))
 
-  run-cases : (k : ℕ) (done q f : List Name) → left K k q ≡ [] → ((a : Name) → List·Memᴰ a (S k q) → List·Memᴰ a (P t o wk)) → Fit f (done ++ q) → Outcome (walkFrom t o scratch room₁ room₂ (suc k) (length done) (listsOf f (done ++ q))) (result (f ++ joined (map G (S k q))) (done ++ S k q)) (All-fit (S k q) × Fit (f ++ joined (map G (S k q))) (done ++ S k q))
+  run-cases : (k : ℕ) (done q f : List Name) → left K k q ≡ [] → ((a : Name) → List·Memᴰ a (S k q) → List·Memᴰ a (P t o wk)) → Fit f (done ++ q)
+      → Ends k (length done) f (done ++ q) (S k q) (f ++ joined (map G (S k q))) (done ++ S k q)
   unfolding left served joined walkFrom
   run-cases zero done [] f e m h = none-left 0 f done h
   run-cases zero done (a ∷ q) f e m h = absurd (nil≢cons (sym e))
   run-cases (suc k) done [] f e m h = none-left (suc k) f done h
   run-cases (suc k) done (a ∷ q) f e m h =
       rw (drop-at done (a ∷ q) (length done) refl, walkFrom)
-      (then-step (λ u. walkFrom t o scratch room₁ room₂ (suc k) (suc (length done)) u) (step-cases a (m a (List·Memᴰ·head refl)) f (done ++ (a ∷ q)) h)
+      (then-step (λ u. walkFrom t o scratch found pending (suc k) (suc (length done)) u) (step-cases a (m a (List·Memᴰ·head refl)) f (done ++ (a ∷ q)) h)
       (next (run-cases k (done ++ (a ∷ [])) (q ++ K a) (f ++ G a) e (λ z n. m z (List·Memᴰ·tail n))))
       back)
     where
@@ -103,7 +109,12 @@ module _ (t : Table) (o : ℕ) (wk : Walks t o) (scratch room₁ room₂ : ℕ) 
       both-fit : Fits (a ++ (slash ∷ [])) → All-fit T → All-fit (a ∷ T)
       both-fit x y z n = ⊎-elim (λ p. subst (λ (b : Name). Fits (b ++ (slash ∷ []))) (sym p) x) (y z) (List·Memᴰ·cases-cons n)
 
-      next : (Fit (f ++ G a) ((done ++ (a ∷ [])) ++ (q ++ K a)) → Outcome (walkFrom t o scratch room₁ room₂ (suc k) (length (done ++ (a ∷ []))) (listsOf (f ++ G a) ((done ++ (a ∷ [])) ++ (q ++ K a)))) (result ((f ++ G a) ++ joined (map G T)) ((done ++ (a ∷ [])) ++ T)) (All-fit T × Fit ((f ++ G a) ++ joined (map G T)) ((done ++ (a ∷ [])) ++ T))) → Fits (a ++ (slash ∷ [])) × Fit (f ++ G a) ((done ++ (a ∷ q)) ++ K a) → Outcome (walkFrom t o scratch room₁ room₂ (suc k) (suc (length done)) (listsOf (f ++ G a) ((done ++ (a ∷ q)) ++ K a))) (result (f ++ (G a ++ joined (map G T))) (done ++ (a ∷ T))) (All-fit (a ∷ T) × Fit (f ++ (G a ++ joined (map G T))) (done ++ (a ∷ T)))
+      Later : Type 0
+      Later = Fit (f ++ G a) ((done ++ (a ∷ [])) ++ (q ++ K a))
+          → Ends k (length (done ++ (a ∷ []))) (f ++ G a) ((done ++ (a ∷ [])) ++ (q ++ K a)) T ((f ++ G a) ++ joined (map G T)) ((done ++ (a ∷ [])) ++ T)
+
+      next : Later → Fits (a ++ (slash ∷ [])) × Fit (f ++ G a) ((done ++ (a ∷ q)) ++ K a)
+          → Ends k (suc (length done)) (f ++ G a) ((done ++ (a ∷ q)) ++ K a) (a ∷ T) (f ++ (G a ++ joined (map G T))) (done ++ (a ∷ T))
       next ih w =
           rw (e₂, e₁, ← e₃, ← e₄) (with-fact (λ v. (both-fit (w .0) (v .0), v .1)) (λ v. (λ b n. v .0 b (List·Memᴰ·tail n), v .1)) (ih (subst (λ (x : List Name). Fit (f ++ G a) x) e₁ (w .1))))
 
@@ -118,24 +129,30 @@ module _ (t : Table) (o : ℕ) (wk : Walks t o) (scratch room₁ room₂ : ℕ) 
       back v = (
         v .0 a (List·Memᴰ·head refl),
         (
-          packed-le (f ++ G a) (joined (map G T)) room₁ (subst (λ (x : List Name). length (packed x) ≤ room₁) (sym e₃) (v .1 .0)),
-          packed-le ((done ++ (a ∷ q)) ++ K a) (w .0) room₂ (subst (λ (x : List Name). length (packed x) ≤ room₂) e₅ (v .1 .1)),
+          packed-le (f ++ G a) (joined (map G T)) found (subst (λ (x : List Name). length (packed x) ≤ found) (sym e₃) (v .1 .0)),
+          packed-le ((done ++ (a ∷ q)) ++ K a) (w .0) pending (subst (λ (x : List Name). length (packed x) ≤ pending) e₅ (v .1 .1)),
         ),
       )
 
   -- the whole walk
-  walk-cases : Outcome (walkAll t o scratch room₁ room₂ (suc (fuel t o wk))) (result (F t o wk) (P t o wk)) (Fits [] × (All-fit (P t o wk) × Fit (F t o wk) (P t o wk)))
+  walk-cases : Outcome (walkAll t o scratch found pending (suc (fuel t o wk))) (result (F t o wk) (P t o wk)) (Fits [] × (All-fit (P t o wk) × Fit (F t o wk) (P t o wk)))
   unfolding walkAll
   walk-cases =
-      then-step _ (asked-cases t o [] scratch room₁ room₂ (wk .1) ok (unfold all in refl) (omega arith) [] [] (unfold packed joined in (omega arith, omega arith)))
+      then-step _ (asked-cases t o [] scratch found pending (wk .1) ok (unfold all in refl) (omega arith) [] [] (unfold packed joined in (omega arith, omega arith)))
       (λ h. with-fact (λ v. (h .0, v)) (λ v. v .1) (run-cases (fuel t o wk) [] (asks t o []) (finds t o []) (P-ends t o wk) (λ a m. m) (h .1)))
-      (λ v. (v .0, (packed-le (finds t o []) (joined (map G (P t o wk))) room₁ (v .1 .1 .0), packed-le (asks t o []) (w .0) room₂ (subst (λ (x : List Name). length (packed x) ≤ room₂) (w .1) (v .1 .1 .1)))))
+      (λ v. (
+        v .0,
+        (
+          packed-le (finds t o []) (joined (map G (P t o wk))) found (v .1 .1 .0),
+          packed-le (asks t o []) (w .0) pending (subst (λ (x : List Name). length (packed x) ≤ pending) (w .1) (v .1 .1 .1)),
+        ),
+      ))
     where
       w : (r : List Name) × (P t o wk ≡ asks t o [] ++ r)
       w = front K (fuel t o wk) (asks t o []) (P-ends t o wk)
 
   -- the steps suffice
-  pub walk-ends : walkAll t o scratch room₁ room₂ (suc (fuel t o wk)) ≡ stop 0 → ⊥
+  pub walk-ends : walkAll t o scratch found pending (suc (fuel t o wk)) ≡ stop 0 → ⊥
   walk-ends e = no-stop walk-cases
     where
       no-number : (k : ℕ) → Short k → k ≡ 0 → ⊥
@@ -143,7 +160,7 @@ module _ (t : Table) (o : ℕ) (wk : Walks t o) (scratch room₁ room₂ : ℕ) 
       no-number k found-short z = omega arith
       no-number k pending-short z = omega arith
 
-      no-stop : {u : Walked} {H : Type 0} → Outcome (walkAll t o scratch room₁ room₂ (suc (fuel t o wk))) u H → ⊥
+      no-stop : {u : Walked} {H : Type 0} → Outcome (walkAll t o scratch found pending (suc (fuel t o wk))) u H → ⊥
       no-stop (went d h) = let z : _≡_ {A = ℕ} 0 1 = cc in omega arith
       no-stop (stopped k s d n) = no-number k s (cc)
 
@@ -151,34 +168,36 @@ module _ (t : Table) (o : ℕ) (wk : Walks t o) (scratch room₁ room₂ : ℕ) 
   pub record Room : Type 0 where
     pub first : length (walkAnswer (rows t) o []) ≤ scratch
     pub next : (a : Name) → List·Memᴰ a (meetingAncestors (rows t) o) → length (walkAnswer (rows t) o (a ++ (slash ∷ []))) ≤ scratch
-    pub found : length (packed (meetingNames (rows t) o)) ≤ room₁
-    pub pending : length (packed (meetingAncestors (rows t) o)) ≤ room₂
+    pub found-fits : length (packed (meetingNames (rows t) o)) ≤ found
+    pub pending-fits : length (packed (meetingAncestors (rows t) o)) ≤ pending
 
-  room-cases : Outcome (walkAll t o scratch room₁ room₂ (suc (fuel t o wk))) (result (meetingNames (rows t) o) (meetingAncestors (rows t) o)) Room
+  room-cases : Outcome (walkAll t o scratch found pending (suc (fuel t o wk))) (result (meetingNames (rows t) o) (meetingAncestors (rows t) o)) Room
   unfolding walkAnswer
   room-cases = with-fact to from (rw (F-is t o wk ok, P-is t o wk ok) at walk-cases)
     where
       to : Fits [] × (All-fit (meetingAncestors (rows t) o) × Fit (meetingNames (rows t) o) (meetingAncestors (rows t) o)) → Room
-      to h = record { first = h .0; next = h .1 .0; found = h .1 .1 .0; pending = h .1 .1 .1 }
+      to h = record { first = h .0; next = h .1 .0; found-fits = h .1 .1 .0; pending-fits = h .1 .1 .1 }
 
       from : Room → Fits [] × (All-fit (meetingAncestors (rows t) o) × Fit (meetingNames (rows t) o) (meetingAncestors (rows t) o))
-      from R = (R .first, (R .next, (R .found, R .pending)))
+      from R = (R .first, (R .next, (R .found-fits, R .pending-fits)))
 
   -- with room the walk comes to what the paper says, and it is refused exactly if there is none, by 9, 10 or 11
-  pub demand-3-whole : (Room × (walk t o scratch room₁ room₂ ≡ declaredWalk t o)) ⊎ ((Room → ⊥) × ((k : ℕ) × Short k × (walk t o scratch room₁ room₂ ≡ walkRefused k)))
+  pub demand-3-whole : (Room × (walk t o scratch found pending ≡ declaredWalk t o)) ⊎ ((Room → ⊥) × ((k : ℕ) × Short k × (walk t o scratch found pending ≡ walkRefused k)))
   unfolding walk ended declaredWalk
   demand-3-whole = pick room-cases
     where
       e : suc (length (meetingAncestors (rows t) o)) ≡ 1 + length (meetingAncestors (rows t) o)
       e = omega arith
 
-      pick : Outcome (walkAll t o scratch room₁ room₂ (suc (fuel t o wk))) (result (meetingNames (rows t) o) (meetingAncestors (rows t) o)) Room → (Room × (walk t o scratch room₁ room₂ ≡ declaredWalk t o)) ⊎ ((Room → ⊥) × ((k : ℕ) × Short k × (walk t o scratch room₁ room₂ ≡ walkRefused k)))
+      pick : Outcome (walkAll t o scratch found pending (suc (fuel t o wk))) (result (meetingNames (rows t) o) (meetingAncestors (rows t) o)) Room
+          → (Room × (walk t o scratch found pending ≡ declaredWalk t o))
+          ⊎ ((Room → ⊥) × ((k : ℕ) × Short k × (walk t o scratch found pending ≡ walkRefused k)))
       pick (went d R) = inl (R, rw (ok, wk .1, d) (ap (λ (n : ℕ). walked n (packed (meetingNames (rows t) o)) (packed (meetingAncestors (rows t) o))) e))
       pick (stopped k s d n) = inr (n, (k, s, rw (ok, wk .1, d)))
 
   -- the same, where there is room
-  pub walk-is : Room → walkAll t o scratch room₁ room₂ (suc (fuel t o wk)) ≡ go (result (meetingNames (rows t) o) (meetingAncestors (rows t) o))
+  pub walk-is : Room → walkAll t o scratch found pending (suc (fuel t o wk)) ≡ go (result (meetingNames (rows t) o) (meetingAncestors (rows t) o))
   walk-is R = went-to room-cases R
 
-  pub demand-3 : Room → walk t o scratch room₁ room₂ ≡ declaredWalk t o
+  pub demand-3 : Room → walk t o scratch found pending ≡ declaredWalk t o
   demand-3 R = ⊎-elim (λ w. w .1) (λ w. absurd (w .0 R)) demand-3-whole

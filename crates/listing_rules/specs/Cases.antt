@@ -16,6 +16,7 @@ use Rattle.listing_rules.specs.Feeder.{Event, handed, goOn, denied, quie
 use Rattle.listing_rules.specs.Options.{criteriaNumber}
 use Rattle.listing_rules.specs.Server.{Reply, refusal, answered, limited, answer, served, numberOf, lengthOf, bufferAfter, commanded}
 use Rattle.listing_rules.specs.Series.{Sent, commandedAll}
+use Rattle.listing_rules.specs.Compaction.{compaction}
 use Rattle.listing_rules.specs.Reader.{Read, line, root, bad, readLine, readNumber, attributesRead, childInfoOf, nameBytes, sameBools, lineFrom}
 use Rattle.listing_rules.specs.Reader.{written}
 use Rattle.listing_rules.specs.Walk.{lawfulByte, WalkReply, walkRefused, walked, walk, collected, walkNumber, walkCount, foundLength}
@@ -78,6 +79,8 @@ pub data Case : Type 0 where
   -- records and command lines, one after the other, each with an empty namespace list and a buffer of 64 bytes: the names subscribed then, in
   -- the order of the rows
   series : Lent → List (List ℕ) → List (List ℕ) → Case
+  -- names moved together: the number, and what is left
+  compacts : Lent → ℕ → Lent → Case
   -- all of these namespace lists pass, and none of those
   spaces : List (List ℕ) → List (List ℕ) → Case
   -- the same with the answer buffer as it was lent: the number, the length, and the buffer's bytes afterwards
@@ -199,6 +202,7 @@ holds (edits t es r) = passes (lentTable t) && every (λ e. sameEdited (edited (
 holds (commands t room ns ls r u) =
     every (λ l. let c = commanded (lentStore t) ns l (times room 0) in sameReply (c .reply) r && sameStore (c .store) (lentStore u)) ls
 holds (series t ls ns) = sameNames (subscribedNames (commandedAll (lentStore t) (map sentLine ls))) ns
+holds (compacts t k u) = let c = compaction (lentStore t) in eqb (c .number) k && sameStore (c .store) (lentStore u)
 holds (spaces good poor) = every namespacesPass good && not (anyOf namespacesPass poor)
 holds (answersInto d t ns l k n e) =
     let r = served (packedTable t) ns l d in

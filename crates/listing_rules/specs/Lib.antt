@@ -18,6 +18,7 @@ pub mod Lines
 pub mod Lsub
 pub mod Server
 pub mod Series
+pub mod Compaction
 pub mod Reader
 pub mod Walk
 pub mod Demand3

@@ -17,7 +17,7 @@ use Rattle.listing_rules.specs.Reader.{line, root}
 use Rattle.listing_rules.specs.Walk.{walkRefused, walked, packed}
 use Rattle.listing_rules.specs.Cases.{row, mailbox, entry, times, sends, lines, Case, replies, refuses, walks, tables, spaces, answersInto}
 use Rattle.listing_rules.specs.Cases.{commands, walksInto, writes, writesInto, gives, reads, program, steps, answersFrame, counts, feeds, continues}
-use Rattle.listing_rules.specs.Cases.{Lent, layouts, repliesOver, walksOver, edits, leaves, series}
+use Rattle.listing_rules.specs.Cases.{Lent, layouts, repliesOver, walksOver, edits, leaves, series, compacts}
 use Rattle.listing_rules.specs.ExpertSheet.{tableE}
 
 abbrev named : List ℕ → List ℕ
@@ -132,6 +132,10 @@ pairs n bad = record { area = pair-names n 0; records = pair-records (n - 1) 0 b
 -- Moo before Foo/Bar in the area, rubbish between them, and a spare record
 abbrev moo-and-foo : Lent
 moo-and-foo = lent "Moo%%Foo/Bar" (at 0x0003 5 7 ∷ at 0x0001 0 3 ∷ at 0xFFFF 0 255 ∷ []) 2
+
+-- records over the bytes of a text with so many zeros after it
+abbrev together : String → ℕ → List Record → ℕ → Lent
+together a zeros rs n = record { area = text a ++ times zeros 0; records = rs; count = n }
 
 -- an edit of a text, and of several
 abbrev sub : String → Edit
@@ -345,6 +349,42 @@ edits-in-series =
     (text "c" ∷ text "d" ∷ text "f" ∷ [])
     ∷ []
 
+-- W7: rubbish before, between and after names, and copies of names in it; names that lie in another order than that of the records; spare records with
+-- rubbish, over names and past the area; no rows; an area that is full, and one that is in order already; 1 for a table that does not pass
+abbrev pub compactions : List Case
+compactions =
+    compacts (lent "??a?b??" (at 0x0003 2 1 ∷ at 0x0002 4 1 ∷ []) 2) 0 (together "ab" 5 (at 0x0003 0 1 ∷ at 0x0002 1 1 ∷ []) 2)
+    ∷ compacts (lent "ab?ab" (at 0x0001 3 1 ∷ at 0x0001 1 1 ∷ []) 2) 0 (together "ba" 3 (at 0x0001 1 1 ∷ at 0x0001 0 1 ∷ []) 2)
+    ∷ compacts moo-and-foo 0 (together "MooFoo/Bar" 2 (at 0x0003 3 7 ∷ at 0x0001 0 3 ∷ at 0xFFFF 0 255 ∷ []) 2)
+    ∷ compacts (lent "c?INBOX?bb" (at 0x7F3D 2 5 ∷ at 0x0001 8 2 ∷ at 0x0002 0 1 ∷ []) 3) 0 (together "cINBOXbb" 2 (at 0x7F3D 1 5 ∷ at 0x0001 6 2 ∷ at 0x0002 0 1 ∷ []) 3)
+    ∷ compacts b-alone 0 (together "adbb" 3 (at 0x0013 0 1 ∷ at 0x0002 2 2 ∷ at 0x0003 1 1 ∷ at 0xFFFF 3 9 ∷ []) 3)
+    ∷ compacts b-and-d 0 (together "bd" 3 (at 0x0001 0 1 ∷ at 0x0001 1 1 ∷ at 0xFFFF 9 9 ∷ at 0xFFFF 0 5 ∷ []) 2)
+    ∷ compacts (lent "???" (at 0xFFFF 1 1 ∷ []) 0) 0 (together "" 3 (at 0xFFFF 1 1 ∷ []) 0)
+    ∷ compacts (lent "" [] 0) 0 (lent "" [] 0)
+    ∷ compacts (lent "MooINBOX" (at 0x0001 3 5 ∷ at 0x0001 0 3 ∷ []) 2) 0 (lent "MooINBOX" (at 0x0001 3 5 ∷ at 0x0001 0 3 ∷ []) 2)
+    ∷ compacts (together "ba" 3 (at 0x0001 1 1 ∷ at 0x0001 0 1 ∷ []) 2) 0 (together "ba" 3 (at 0x0001 1 1 ∷ at 0x0001 0 1 ∷ []) 2)
+    ∷ compacts (lent "?abc" (at 0x0001 1 2 ∷ at 0x0001 2 2 ∷ []) 2) 1 (lent "?abc" (at 0x0001 1 2 ∷ at 0x0001 2 2 ∷ []) 2)
+    ∷ compacts (lent "?a" (at 0x0001 1 1 ∷ []) 2) 1 (lent "?a" (at 0x0001 1 1 ∷ []) 2)
+    ∷ compacts (lent "?ba" (at 0x0001 1 1 ∷ at 0x0001 2 1 ∷ []) 2) 1 (lent "?ba" (at 0x0001 1 1 ∷ at 0x0001 2 1 ∷ []) 2)
+    ∷ compacts (lent "?a" (at 0x0000 1 1 ∷ []) 1) 1 (lent "?a" (at 0x0000 1 1 ∷ []) 1)
+    ∷ []
+
+-- a long name far behind; an area of one byte too many
+abbrev pub compactions-size : List Case
+compactions-size =
+    compacts (over-area 2000 (at 0x0001 1800 200 ∷ []) 1) 0 (record { area = times 200 97 ++ times 1800 0; records = at 0x0001 0 200 ∷ []; count = 1 })
+    ∷ compacts (over-area 32769 [] 0) 1 (over-area 32769 [] 0)
+    ∷ []
+
+-- SUBSCRIBE before and after: the free bytes in all, and one more
+abbrev pub compactions-make-room : List Case
+compactions-make-room =
+    edits (lent "?b??d?" (at 0x0001 1 1 ∷ at 0x0001 4 1 ∷ at 0x0000 0 0 ∷ []) 2) (subs ("aaa" ∷ "aaaa" ∷ "aaaaa" ∷ [])) (refusedEdit 15)
+    ∷ compacts (lent "?b??d?" (at 0x0001 1 1 ∷ at 0x0001 4 1 ∷ at 0x0000 0 0 ∷ []) 2) 0 (together "bd" 4 (at 0x0001 0 1 ∷ at 0x0001 1 1 ∷ at 0x0000 0 0 ∷ []) 2)
+    ∷ edits (together "bd" 4 (at 0x0001 0 1 ∷ at 0x0001 1 1 ∷ at 0x0000 0 0 ∷ []) 2) (sub "aaaa" ∷ []) (leaves (lent "bdaaaa" (at 0x0002 2 4 ∷ at 0x0001 0 1 ∷ at 0x0001 1 1 ∷ []) 3))
+    ∷ edits (together "bd" 4 (at 0x0001 0 1 ∷ at 0x0001 1 1 ∷ at 0x0000 0 0 ∷ []) 2) (sub "aaaaa" ∷ []) (refusedEdit 15)
+    ∷ []
+
 -- namespace entries: class, prefix length, prefix bytes, delimiter
 abbrev pub namespace-entries : List Case
 namespace-entries =
@@ -389,7 +429,9 @@ attributes-together =
     replies 16384
     (joined (mailbox 0x7F3F "a" ∷ mailbox 0x0001 "b" ∷ mailbox 0x0007 "b/r" ∷ mailbox 0x0002 "c/s" ∷ []))
     [] (sends "a LIST (REMOTE) \"\" (% b/r c/s) RETURN (SUBSCRIBED CHILDREN SPECIAL-USE)")
-    (answered (lines ("* LIST (\\Marked \\Noselect \\NoInferiors \\Remote \\Subscribed \\All \\Archive \\Drafts \\Flagged \\Junk \\Sent \\Trash) \"/\" \"a\"" ∷ "* LIST (\\HasChildren) \"/\" \"b\"" ∷ "* LIST (\\Remote \\Subscribed \\HasNoChildren) \"/\" \"b/r\"" ∷ "a OK done" ∷ [])))
+    (answered (lines (
+    "* LIST (\\Marked \\Noselect \\NoInferiors \\Remote \\Subscribed \\All \\Archive \\Drafts \\Flagged \\Junk \\Sent \\Trash) \"/\" \"a\""
+    ∷ "* LIST (\\HasChildren) \"/\" \"b\"" ∷ "* LIST (\\Remote \\Subscribed \\HasNoChildren) \"/\" \"b/r\"" ∷ "a OK done" ∷ [])))
     ∷ replies 16384 (joined (mailbox 0x0001 "b" ∷ mailbox 0x0007 "b/r" ∷ mailbox 0x0002 "c/s" ∷ [])) []
     (sends "a LIST (SUBSCRIBED) \"\" (% c/s b/r) RETURN (CHILDREN)")
     (answered (lines ("* LIST (\\Subscribed \\NonExistent \\HasNoChildren) \"/\" \"c/s\"" ∷ "a OK done" ∷ [])))

@@ -64,7 +64,7 @@ orBad (some r) = r
 unfoldable pub readLine : List ℕ → Read
 readLine l = cond (same l rootLine) root (orBad (readParts l))
 
--- The root line is read as `\Noselect`, the empty name and no CHILDINFO: the third of the sixteen.
+-- The root line is read as `\Noselect`, the empty name and no CHILDINFO: of the sixteen, that one alone (law `root-named`).
 unfoldable pub rootAttributes : List Bool
 rootAttributes = false ∷ false ∷ true ∷ replicate 13 false
 

@@ -8,8 +8,8 @@ the function's needs. Where an error fits two lists, the first one holds.
 That an edit makes the program wrong is for its author to know. `b & a` for `a & b` is right, and its proof, which fits, leaves an
 equation that does not hold by computing: that is a fact too.
 
-`refused_together` reads what was printed of a crate with several edits. Each edit has functions of its own, and is judged by the
-errors of these alone, in the same way.
+`refused_together` reads what was printed of a crate with several edits. Each edit has proofs of its own, and is judged by the errors in
+these alone, in the same way.
 """
 import re
 
@@ -44,7 +44,7 @@ FACTS = (
     r'`search` does not close',
     r'`cc`(?: met a bound of its own before the equations had joined|: the equations do not join)',
     r'`(?:rw|simp)` has no last argument, so what it leaves must be a path whose two ends are equal, and `Path ',
-    r'computed as far as they go, the two (?:types|values|sides) (?:first differ|differ only) where',
+    r'(?:computed as far as they go|compared part by part), the two (?:types|values|sides) (?:first differ|differ only) where',
     r'as printed, the two (?:types|values|sides) (?:first differ|differ only) where one has `[^`]*`\s+\(\w+\), right after',
 )
 
@@ -163,12 +163,12 @@ def proof_of(place):
     return file[1] if file else name[1][2:].replace('::', '/') if name else None
 
 
-def refused_together(status, output, parts):
-    """Of the edits of one check, given by the folders of proofs that each alone can break, those that are refused for a fact: the
-    place of each among them, and the error that decides. None at all where the check says what belongs to no edit."""
-    found = [error for error in errors(output) if kind(*error) != 'follows']
-    owners = [[n for n, part in enumerate(parts) if proof_of(place) in part] for place, _ in found]
-    if status != 1 or not re.search('^logic=not-proved', output, re.MULTILINE) or any(len(owner) != 1 for owner in owners):
+def refused_together(status, output, copies):
+    """Of the edits of one check those that are refused for a fact: the number of each, and the error that decides. Each is given by two sets
+    of folders of proofs, those that are its own and those that must be proved. None is refused where an error is in no such folder."""
+    found = [(proof_of(place), (place, text)) for place, text in errors(output) if kind(place, text) != 'follows']
+    folders = {folder for folder, _ in found}
+    if status != 1 or not re.search('^logic=not-proved', output, re.MULTILINE) or not folders <= set().union(*(o | p for o, p in copies)):
         return {}
-    said = {n: judged([error for error, owner in zip(found, owners) if owner == [n]]) for n in range(len(parts))}
+    said = {n: judged([error for folder, error in found if folder in own]) for n, (own, proved) in enumerate(copies) if not folders & proved}
     return {n: line for n, (word, line) in said.items() if word == 'refused'}

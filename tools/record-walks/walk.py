@@ -156,7 +156,7 @@ class Walk:
     def text(self, indent):
         lines, line = [], ''
         for s in self.out + [None]:
-            if line and (s is None or s.startswith('--') or len(line) + len(s) > 190):
+            if line and (s is None or s.startswith('--') or indent + len(line) + 1 + len(s) > 150):
                 lines.append(line)
                 line = ''
             if s is not None and s.startswith('--'):

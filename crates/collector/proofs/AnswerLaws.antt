@@ -43,7 +43,8 @@ module _ {w : WalkOptions} {answer : List ℕ} {p : Progress} {d b d₁ b₁ : L
         (ap (λ (y : Step Lists). y >>= answerStep w (drop end answer) d b)
         ((λ i. takenIn (byteOf w) (sym (T .found-long) i) (sym (T .pending-long) i) u (readLine (take (end - at) (drop at answer)))) ∙ g))
 
-    pub taking-line : {d₂ b₂ : List ℕ} {r : Progress} → Goes (lineStep w (take (end - at) (drop at answer)) d₁ b₁) (q .count) d₁ b₁ q d₂ b₂ r → length d₂ ≡ length d₁ → length b₂ ≡ length b₁ → Taking w answer p d b d₂ b₂ r end
+    pub taking-line : {d₂ b₂ : List ℕ} {r : Progress} → Goes (lineStep w (take (end - at) (drop at answer)) d₁ b₁) (q .count) d₁ b₁ q d₂ b₂ r →
+        length d₂ ≡ length d₁ → length b₂ ≡ length b₁ → Taking w answer p d b d₂ b₂ r end
     unfolding _>>=_
     taking-line g l₁ l₂ =
         record {

@@ -109,7 +109,8 @@ module _ (table : Table) (l scratch : List ℕ) where
       pick (refusal j) z = let y : j ≡ k = cc in ap stop y
       pick (answered a) z = cc
 
-  pub server-done : {r : Written} (scratch′ : List ℕ) (len : ℕ) → r ≡ writtenIs (served table [] l scratch) → r ≡ Done len → scratch′ ≡ bufferAfter scratch (served table [] l scratch) → (len ≤ length scratch′) × (reply table l scratch ≡ go (take len scratch′))
+  pub server-done : {r : Written} (scratch′ : List ℕ) (len : ℕ) → r ≡ writtenIs (served table [] l scratch) → r ≡ Done len →
+      scratch′ ≡ bufferAfter scratch (served table [] l scratch) → (len ≤ length scratch′) × (reply table l scratch ≡ go (take len scratch′))
   unfolding served writtenIs replied bufferAfter
   server-done scratch′ len a e g = pick (served table [] l scratch) (sym a ∙ e) g
     where
@@ -121,20 +122,26 @@ module _ (table : Table) (l scratch : List ℕ) where
 
 -- one command, by its line at the front of a buffer
 module _ (table : Table) (w : WalkOptions) (reference scratch : List ℕ) {line : List ℕ} {n : ℕ} (F : Fronts line n (commandLine (byteOf w) reference)) where
-  asks-as : (found pending : List ℕ) (s : Lists) (x : Step (List ℕ)) → reply table (take n line) scratch ≡ x → commandStep table w reference scratch found pending s ≡ (x >>= λ a. answerStep w a found pending s)
+  asks-as : (found pending : List ℕ) (s : Lists) (x : Step (List ℕ)) → reply table (take n line) scratch ≡ x →
+      commandStep table w reference scratch found pending s ≡ (x >>= λ a. answerStep w a found pending s)
   unfolding asked
   asks-as found pending s x e = ap (λ (y : Step (List ℕ)). y >>= λ a. answerStep w a found pending s) (ap (λ (l : List ℕ). reply table l scratch) (sym (F .bytes)) ∙ e)
 
-  pub asked-refused : {r : Written} {k : ℕ} → r ≡ writtenIs (served table [] (take n line) scratch) → r ≡ Refused k → (found pending : List ℕ) (s : Lists) → commandStep table w reference scratch found pending s ≡ stop k
+  pub asked-refused : {r : Written} {k : ℕ} → r ≡ writtenIs (served table [] (take n line) scratch) → r ≡ Refused k →
+      (found pending : List ℕ) (s : Lists) → commandStep table w reference scratch found pending s ≡ stop k
   unfolding _>>=_
   asked-refused {k} a e found pending s = asks-as found pending s (stop k) (server-refused table (take n line) scratch k a e)
 
-  pub asked-done : {a : List ℕ} → reply table (take n line) scratch ≡ go a → (found pending : List ℕ) (s : Lists) → commandStep table w reference scratch found pending s ≡ answerStep w a found pending s
+  pub asked-done : {a : List ℕ} → reply table (take n line) scratch ≡ go a → (found pending : List ℕ) (s : Lists) →
+      commandStep table w reference scratch found pending s ≡ answerStep w a found pending s
   unfolding _>>=_
   asked-done {a} e found pending s = asks-as found pending s (go a) e
 
 -- another name for a step, which begins with another count
-pub takes-step : (step step′ : Lists → Step Lists) (count n : ℕ) (p : Progress) (found pending found′ pending′ : List ℕ) (r : Taken) → ((s : Lists) → step′ s ≡ step s) → Takes step count (record { count = n; found = p .found; pending = p .pending }) found pending found′ pending′ r → Takes step′ count p found pending found′ pending′ r
+pub takes-step : (step step′ : Lists → Step Lists) (count n : ℕ) (p : Progress) (found pending found′ pending′ : List ℕ) (r : Taken) →
+    ((s : Lists) → step′ s ≡ step s) →
+    Takes step count (record { count = n; found = p .found; pending = p .pending }) found pending found′ pending′ r →
+    Takes step′ count p found pending found′ pending′ r
 takes-step step step′ count n p found pending found′ pending′ (All q) e t =
     record {
       inside = t .inside;

@@ -59,7 +59,9 @@ first-line (b ∷ c ∷ t) h = go (eqb b 10) (first-line (c ∷ t) (omega arith)
     L : ℕ
     L = lineLength (c ∷ t)
 
-    go : (o : Bool) → linesOf (c ∷ t) ≡ take L (c ∷ t) ∷ linesOf (drop L (c ∷ t)) → cond o ((b ∷ []) ∷ linesOf (c ∷ t)) (onFirst b (linesOf (c ∷ t))) ≡ take (cond o 1 (suc L)) (b ∷ c ∷ t) ∷ linesOf (drop (cond o 1 (suc L)) (b ∷ c ∷ t))
+    go : (o : Bool) → linesOf (c ∷ t) ≡ take L (c ∷ t) ∷ linesOf (drop L (c ∷ t)) →
+        cond o ((b ∷ []) ∷ linesOf (c ∷ t)) (onFirst b (linesOf (c ∷ t))) ≡ take (cond o 1 (suc L)) (b ∷ c ∷ t) ∷
+        linesOf (drop (cond o 1 (suc L)) (b ∷ c ∷ t))
     go true ih = refl
     go false ih = ap (onFirst b) ih
 

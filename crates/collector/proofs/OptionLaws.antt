@@ -35,7 +35,8 @@ has-dropped o = contains-bit 2 o
 abbrev pub these : WalkCriteria → Bool → WalkOptions
 these k r = record { criteria = k; remote = r }
 
-pub each : (P : WalkOptions → Type 0) → P (these Subscribed false) → P (these Subscribed true) → P (these Both false) → P (these Both true) → P (these SpecialUse false) → P (these SpecialUse true) → (w : WalkOptions) → P w
+pub each : (P : WalkOptions → Type 0) → P (these Subscribed false) → P (these Subscribed true) → P (these Both false) → P (these Both true) →
+    P (these SpecialUse false) → P (these SpecialUse true) → (w : WalkOptions) → P w
 each P p₀ p₁ p₂ p₃ p₆ p₇ w = go (w .criteria) (w .remote)
   where
     go : (k : WalkCriteria) (r : Bool) → P (these k r)

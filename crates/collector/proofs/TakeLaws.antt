@@ -52,10 +52,13 @@ asksWith c n s = withName c n (s .asks)
 pub record ReadAs (l : List ℕ) (t : Attributes) (n : ℕ) (c : Bool) (name : List ℕ) : Type 0 where
   pub short : n ≤ 200
   pub inside : n ≤ length name
-  pub taken : (w : WalkOptions) (found pending : ℕ) (s : Lists) → length (packed (s .finds)) ≤ found → length (packed (s .asks)) ≤ pending → takenIn (byteOf w) found pending s (readLine l) ≡ bothFit found pending (findsWith w t (take n name) s) (asksWith c (take n name) s)
+  pub taken : (w : WalkOptions) (found pending : ℕ) (s : Lists) → length (packed (s .finds)) ≤ found → length (packed (s .asks)) ≤ pending →
+      takenIn (byteOf w) found pending s (readLine l) ≡ bothFit found pending (findsWith w t (take n name) s) (asksWith c (take n name) s)
 
 module _ (l : List ℕ) (t : Attributes) (n : ℕ) (k : Set) (name : List ℕ) where
-  as-line : (bs : List Bool) (m : List ℕ) (d : Criteria) → readLine l ≡ line bs m d → length bs ≡ 16 → length m ≤ 200 → Parts (record { bits = setOf bs }) (length m) (record { bits = criteriaNumber d }) ≡ Parts t n k → name ≡ nameBytes (line bs m d) → ReadAs l t n (parentOf k) name
+  as-line : (bs : List Bool) (m : List ℕ) (d : Criteria) → readLine l ≡ line bs m d → length bs ≡ 16 → length m ≤ 200 →
+      Parts (record { bits = setOf bs }) (length m) (record { bits = criteriaNumber d }) ≡ Parts t n k → name ≡ nameBytes (line bs m d) →
+      ReadAs l t n (parentOf k) name
   unfolding nameBytes nameRead takenIn
   as-line bs m d r h f e g =
       record {
@@ -115,7 +118,8 @@ read-bad l {k} e = pick (readLine l) e
     pick root z = cc
     pick bad z = refl
 
-pub line-skipped : (l : List ℕ) (w : WalkOptions) {r : Line} {k : ℕ} {d b : List ℕ} {p : Progress} → r ≡ lineIs (readLine l) → r ≡ Refused k → Inside d b p → Goes (lineStep w l d b) (p .count) d b p d b p
+pub line-skipped : (l : List ℕ) (w : WalkOptions) {r : Line} {k : ℕ} {d b : List ℕ} {p : Progress} → r ≡ lineIs (readLine l) → r ≡ Refused k →
+    Inside d b p → Goes (lineStep w l d b) (p .count) d b p d b p
 unfolding takenIn
 line-skipped l w a e h = record { inside = h; counted = refl; lists = λ s g. (s, rw (read-bad l (sym a ∙ e)), g) }
 
@@ -128,7 +132,8 @@ module _ {l : List ℕ} {t : Attributes} {n : ℕ} {c : Bool} {name : List ℕ} 
   parts-step : {s : Lists} → Holds s d b p → lineStep w l d b s ≡ bothFit (length d) (length b) (findsWith w t (take n name) s) (asksWith c (take n name) s)
   parts-step {s} h = R .taken w (length d) (length b) s (omega (arith, h .finds .counted, h .finds .room)) (omega (arith, h .asks .counted, h .asks .room))
 
-  pub find-full : {v : Bool} {r : Kept} (d′ : List ℕ) → v ≡ isFind (byteOf w) (members (t .bits)) → r ≡ Full → Keeps v (take n name) d (p .found) d′ r → (s : Lists) → Holds s d b p → lineStep w l d b s ≡ stop 10
+  pub find-full : {v : Bool} {r : Kept} (d′ : List ℕ) → v ≡ isFind (byteOf w) (members (t .bits)) → r ≡ Full →
+      Keeps v (take n name) d (p .found) d′ r → (s : Lists) → Holds s d b p → lineStep w l d b s ≡ stop 10
   unfolding _>>=_
   find-full d′ a e k s h =
       let full = keeps-as (take n name) d (p .found) d′ a e k in
@@ -146,7 +151,8 @@ module _ {l : List ℕ} {t : Attributes} {n : ℕ} {c : Bool} {name : List ℕ} 
         let full = keeps-as (take n name) b (p .pending) b′ a′ e′ k′ in
         parts-step h ∙ rw (found-fits h, fits-stop 11 (length b) (asksWith c (take n name) s) (full (s .asks) (h .asks)))
 
-    pub line-taken : {u : Bool} {q : Kept} {g : ℕ} (b′ : List ℕ) → u ≡ c → q ≡ To g → Keeps u (take n name) b (p .pending) b′ q → length b′ ≡ length b → Goes (lineStep w l d b) (p .count) d b p d′ b′ (record { count = p .count; found = f; pending = g })
+    pub line-taken : {u : Bool} {q : Kept} {g : ℕ} (b′ : List ℕ) → u ≡ c → q ≡ To g → Keeps u (take n name) b (p .pending) b′ q →
+        length b′ ≡ length b → Goes (lineStep w l d b) (p .count) d b p d′ b′ (record { count = p .count; found = f; pending = g })
     unfolding _>>=_
     line-taken b′ a′ e′ k′ same′ =
         let finds = keeps-as (take n name) d (p .found) d′ a e k in

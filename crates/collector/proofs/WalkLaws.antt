@@ -36,7 +36,8 @@ abbrev pub noProgress : Progress
 noProgress = record { count = 0; found = 0; pending = 0 }
 
 -- the walk of a table that passes, with any bound on the steps that is large enough
-walks : (table : Table) (w : WalkOptions) (scratch found pending k : ℕ) → passes table ≡ true → stepsOf table ≤ k → walk table (byteOf w) scratch found pending ≡ ended (walkAll table (byteOf w) scratch found pending k)
+walks : (table : Table) (w : WalkOptions) (scratch found pending k : ℕ) → passes table ≡ true → stepsOf table ≤ k →
+    walk table (byteOf w) scratch found pending ≡ ended (walkAll table (byteOf w) scratch found pending k)
 unfolding walk
 walks table w scratch found pending k ok h =
     rw (ok, byte-lawful w) (ap ended (sym (walk-fuel table (byteOf w) scratch found pending k (ok, byte-lawful w) h)))
@@ -51,7 +52,8 @@ module _ (table : Table) (w : WalkOptions) (s : List ℕ) {d b : List ℕ} (ok :
   holds-none : Holds noLists d b noProgress
   holds-none = record { finds = packs-none d zd; asks = packs-none b zb }
 
-  first-step : (k : ℕ) (x : Step Lists) → commandStep table w [] s d b noLists ≡ x → stepsOf table ≤ k → ended (x >>= λ u. walkFrom table (byteOf w) (length s) (length d) (length b) k 0 u) ≡ collected table (byteOf w) s d b
+  first-step : (k : ℕ) (x : Step Lists) → commandStep table w [] s d b noLists ≡ x → stepsOf table ≤ k →
+      ended (x >>= λ u. walkFrom table (byteOf w) (length s) (length d) (length b) k 0 u) ≡ collected table (byteOf w) s d b
   unfolding walkAll collected
   first-step k x e h =
       ap (λ (y : Step Lists). ended (y >>= λ u. walkFrom table (byteOf w) (length s) (length d) (length b) k 0 u)) (sym e)
@@ -61,7 +63,8 @@ module _ (table : Table) (w : WalkOptions) (s : List ℕ) {d b : List ℕ} (ok :
   unfolding _>>=_ ended
   walk-refused {k} f = sym (first-step (stepsOf table) (stop k) (f noLists holds-none) (omega arith))
 
-  pub walking-begins : (s′ : List ℕ) {d′ b′ : List ℕ} {q : Progress} → Goes (commandStep table w [] s d b) 1 d b noProgress d′ b′ q → length s′ ≡ length s → length d′ ≡ length d → length b′ ≡ length b → Walking table w (length s′) (length d′) (length b′) s′ d′ b′ q 0
+  pub walking-begins : (s′ : List ℕ) {d′ b′ : List ℕ} {q : Progress} → Goes (commandStep table w [] s d b) 1 d b noProgress d′ b′ q →
+      length s′ ≡ length s → length d′ ≡ length d → length b′ ≡ length b → Walking table w (length s′) (length d′) (length b′) s′ d′ b′ q 0
   unfolding _>>=_ collected
   walking-begins s′ g l₀ l₁ l₂ =
       let u = g .lists noLists holds-none in
@@ -124,7 +127,9 @@ module _ {table : Table} {w : WalkOptions} {scratch found pending : ℕ} {s d b 
     abbrev nextStep : Lists → Step Lists
     nextStep = commandStep table w (nameAt (record { from = at + 1; end = end }) b ++ (slash ∷ [])) s d b
 
-    walk-on : (x : Step Lists) → nextStep (W .lists) ≡ x → ended (x >>= λ u. walkFrom table (byteOf w) scratch found pending (W .fuel - 1) (suc (W .done)) u) ≡ walk table (byteOf w) scratch found pending
+    walk-on : (x : Step Lists) → nextStep (W .lists) ≡ x →
+        ended (x >>= λ u. walkFrom table (byteOf w) scratch found pending (W .fuel - 1) (suc (W .done)) u) ≡ walk table (byteOf w) scratch found
+        pending
     unfolding walkFrom
     walk-on x g =
         ap (λ (y : Step Lists). ended (y >>= λ u. walkFrom table (byteOf w) scratch found pending (W .fuel - 1) (suc (W .done)) u)) (sym (same-step ∙ g))
@@ -137,7 +142,8 @@ module _ {table : Table} {w : WalkOptions} {scratch found pending : ℕ} {s d b 
     unfolding _>>=_ ended
     walking-refused {k} f = sym (walk-on (stop k) (f (W .lists) (W .holds)))
 
-    pub walking-step : (s′ : List ℕ) {d′ b′ : List ℕ} {q : Progress} → Goes nextStep (p .count + 1) d b p d′ b′ q → length s′ ≡ length s → length d′ ≡ length d → length b′ ≡ length b → Walking table w scratch found pending s′ d′ b′ q end
+    pub walking-step : (s′ : List ℕ) {d′ b′ : List ℕ} {q : Progress} → Goes nextStep (p .count + 1) d b p d′ b′ q → length s′ ≡ length s →
+        length d′ ≡ length d → length b′ ≡ length b → Walking table w scratch found pending s′ d′ b′ q end
     unfolding _>>=_
     walking-step s′ g l₀ l₁ l₂ =
         let u = g .lists (W .lists) (W .holds) in

@@ -50,7 +50,8 @@ module _ (table : Table) (o : ℕ) (scratch found pending : List ℕ) where
       × ((f ≡ foundOf table o scratch found pending)
       × ((p ≡ pendingOf table o scratch found pending) × OwesDemand3 table o scratch found pending r f p)))
 
-  promised : (r : Collected) (s f p : List ℕ) → r ≡ collectedOf table o scratch found pending → s ≡ scratchOf table o scratch found pending → f ≡ foundOf table o scratch found pending → p ≡ pendingOf table o scratch found pending → Promise r s f p
+  promised : (r : Collected) (s f p : List ℕ) → r ≡ collectedOf table o scratch found pending → s ≡ scratchOf table o scratch found pending →
+      f ≡ foundOf table o scratch found pending → p ≡ pendingOf table o scratch found pending → Promise r s f p
   unfolding collected
   promised r s f p er es ef ep = (er, (es, (ef, (ep, whole))))
     where

@@ -51,7 +51,8 @@ pub(crate) fn walk_table(
     requires { ⌜ passes (heldTable (now area) (now words)) ≡ true ⌝ }
     requires { ⌜ now found ≡ replicate (length (now found)) 0 ⌝ }
     requires { ⌜ now pending ≡ replicate (length (now pending)) 0 ⌝ }
-    ensures { λ r. ⌜ Ends (collected (heldTable (now (area .entry)) (now (words .entry))) (byteOf options) (now (scratch .entry)) (now (found .entry)) (now (pending .entry)))
+    ensures { λ r. ⌜ Ends
+        (collected (heldTable (now (area .entry)) (now (words .entry))) (byteOf options) (now (scratch .entry)) (now (found .entry)) (now (pending .entry)))
         (now (found .exit)) (now (pending .exit)) r ⌝ }
 {
     let none = [0u8; 0];
@@ -77,7 +78,8 @@ fn ask_pending(
 ) -> Collected
     requires { ⌜ Walking (heldTable (now area) (now words)) options (length (now scratch)) (length (now found)) (length (now pending))
         (now scratch) (now found) (now pending) first 0 ⌝ }
-    ensures { λ r. ⌜ Ends (collected (heldTable (now (area .entry)) (now (words .entry))) (byteOf options) (now (scratch .entry)) (now (found .entry)) (now (pending .entry)))
+    ensures { λ r. ⌜ Ends
+        (collected (heldTable (now (area .entry)) (now (words .entry))) (byteOf options) (now (scratch .entry)) (now (found .entry)) (now (pending .entry)))
         (now (found .exit)) (now (pending .exit)) r ⌝ }
 {
     let mut progress = first;

@@ -69,7 +69,9 @@ module _ (s : Seq ℕ) (k : Kind) (t : Span) {x : Option (Seq ℕ)} {r : Command
 
 -- the command with the name, where its kind means an edit and uses the name
 module _ (s : Seq ℕ) (t : Span) (k : Kind) (edit : Seq ℕ → Edit) where
-  asks-edit : ((n : Span) → meaning s (namedCommand k t n) ≡ editing (spanBytes s t) (edit (spanBytes s n))) → ((n : Span) → namedCommand k t n ≡ usedOnly k (namedCommand k t n)) → (x : Option (Seq ℕ)) {r : Command} → NameRead s k t x r → Answers s (orRefuse 4 x (λ n. editing (spanBytes s t) (edit n))) (TagIn s t) r
+  asks-edit : ((n : Span) → meaning s (namedCommand k t n) ≡ editing (spanBytes s t) (edit (spanBytes s n))) →
+      ((n : Span) → namedCommand k t n ≡ usedOnly k (namedCommand k t n)) → (x : Option (Seq ℕ)) {r : Command} → NameRead s k t x r →
+      Answers s (orRefuse 4 x (λ n. editing (spanBytes s t) (edit n))) (TagIn s t) r
   unfolding NameRead orRefuse
   asks-edit m u none w = refuses s 4 w refl
   asks-edit m u (some n) w =

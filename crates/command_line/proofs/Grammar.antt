@@ -115,7 +115,14 @@ module _ (tag t : List ℕ) where
       }
 
   module _ (s : Got (List Opt)) (r : Got (List ℕ)) (v : List ℕ) (p : Got (List (List ℕ))) where
-    judged-is : (e : List Opt) → judged tag (args s r v p e) ≡ decided tag (record { known = sel s .known && marked Return noMarks e .known; set = optionsIs (record { bits = union (sel s .set) (marked Return noMarks e .set) }); extended = isSome (after (text " (") t) || at 40 v || not (isEmpty (p .rest)); reference = r .val; pats = eight (p .val) })
+    judged-is : (e : List Opt) →
+        judged tag (args s r v p e) ≡ decided tag (record {
+          known = sel s .known && marked Return noMarks e .known;
+          set = optionsIs (record { bits = union (sel s .set) (marked Return noMarks e .set) });
+          extended = isSome (after (text " (") t) || at 40 v || not (isEmpty (p .rest));
+          reference = r .val;
+          pats = eight (p .val);
+        })
     unfolding keptOf args extended sel
     judged-is e = judged-decided tag (args s r v p e) ∙ ap (decided tag) (λ i. record { known = known-is i; set = set-is i; extended = isSome (after (text " (") t) || at 40 v || not (isEmpty (p .rest)); reference = r .val; pats = eight (p .val) })
       where

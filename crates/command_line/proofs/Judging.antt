@@ -121,7 +121,9 @@ inside-refused s k = inside-bare s (Refused k) nowhere (record { lies = lies-now
 unfoldable pub commandOf : Kind → Options → Span → Span → Patterns → Command
 commandOf k o t r p = record { kind = k; tag = t; options = o; reference = r; patterns = p .spans; count = p .count }
 
-inside-parts : (s : Seq ℕ) (c : Command) → TagIn s (c .tag) → c .options .bits < 128 → Lies s (c .reference) → Placed s (record { spans = c .patterns; count = c .count }) → c .count ≤ 8 → usedOnly (c .kind) c ≡ withPatterns (c .kind) (c .options) c → Inside s c
+inside-parts : (s : Seq ℕ) (c : Command) → TagIn s (c .tag) → c .options .bits < 128 → Lies s (c .reference) →
+    Placed s (record { spans = c .patterns; count = c .count }) → c .count ≤ 8 → usedOnly (c .kind) c ≡ withPatterns (c .kind) (c .options) c →
+    Inside s c
 inside-parts s c t o r p h e =
     record {
       tag = t .lies;

@@ -94,7 +94,8 @@ unfolding knownIn
 known-is p k v w = rw (member-known p w) (and-assoc k (not v) (not (eqb (memberOf p w) 0)))
 
 -- what the code keeps with one option more
-pub marking-is : (p : Place) (m : Marks) (v : Bool) (w : List ℕ) (member set : ℕ) → member ≡ memberOf p w → set ≡ union (m .set) member → record { set = set; known = m .known && not v && not (eqb member 0) } ≡ marking p m (record { word = w; valued = v })
+pub marking-is : (p : Place) (m : Marks) (v : Bool) (w : List ℕ) (member set : ℕ) → member ≡ memberOf p w → set ≡ union (m .set) member →
+    record { set = set; known = m .known && not v && not (eqb member 0) } ≡ marking p m (record { word = w; valued = v })
 marking-is p m v w member set e f = λ i. record { set = (f ∙ ap (union (m .set)) e) i; known = (ap (λ (x : ℕ). m .known && not v && not (eqb x 0)) e ∙ known-is p (m .known) v w) i }
 
 -- one option goes from the list to what is kept

@@ -58,7 +58,8 @@ module _ (s : List ℕ) (r t : Span) (p : Patterns) (placed : p ≡ withSpan noP
   pub one-counts : p .count ≤ 8
   one-counts = omega (arith, filled .count)
 
-  judged-as : (tag : List ℕ) (o : Bool) → every short (canonicalOf s r p) ≡ o → judgedLsub tag (record { reference = spanBytes s r; pat = spanBytes s t }) ≡ cond o (subscriptions tag (canonicalOf s r p)) (refused 8)
+  judged-as : (tag : List ℕ) (o : Bool) → every short (canonicalOf s r p) ≡ o →
+      judgedLsub tag (record { reference = spanBytes s r; pat = spanBytes s t }) ≡ cond o (subscriptions tag (canonicalOf s r p)) (refused 8)
   unfolding judgedLsub
   judged-as tag o e = ap (λ (ps : List (List ℕ)). cond (every short (canonical (spanBytes s r) ps)) (subscriptions tag (canonical (spanBytes s r) ps)) (refused 8)) (sym (filled .bytes (omega arith))) ∙ rw e
 

@@ -74,7 +74,9 @@ apart w a b h e = spells-as w a b e ∙ h
 
 -- the bits that a word of the selection list sets
 module _ (w : List ℕ) where
-  selected-is : (k : ℕ) → bit k (selected w) ≡ cond (spells w (text "SUBSCRIBED")) (bit k 1) (cond (spells w (text "REMOTE")) (bit k 2) (cond (spells w (text "RECURSIVEMATCH")) (bit k 4) (cond (spells w (text "SPECIAL-USE")) (bit k 8) (bit k 0))))
+  selected-is : (k : ℕ) → bit k (selected w) ≡ cond (spells w (text "SUBSCRIBED")) (bit k 1)
+      (cond (spells w (text "REMOTE")) (bit k 2) (cond (spells w (text "RECURSIVEMATCH")) (bit k 4)
+      (cond (spells w (text "SPECIAL-USE")) (bit k 8) (bit k 0))))
   unfolding selected
   selected-is k = go (spells w (text "SUBSCRIBED")) (spells w (text "REMOTE")) (spells w (text "RECURSIVEMATCH")) (spells w (text "SPECIAL-USE"))
     where
@@ -209,7 +211,9 @@ module _ (os rs : List Opt) where
   unfolding named
   from-return k word z h g = sym (both-bit k z ∙ rw (any-never (λ o. bit k (selected (o .word))) (λ o. h (o .word)) os, any-cong (λ o. bit k (returned (o .word))) (λ o. spells (o .word) word) (λ o. g (o .word)) rs))
 
-  pub options-named : (h p r : Bool) (ref : List ℕ) (ps : List (List ℕ)) → optionsOf (record { selection = os; hasSelection = h; reference = ref; pats = ps; inParens = p; returns = rs; hasReturn = r }) ≡ optionsIs (record { bits = union (marked Selection noMarks os .set) (marked Return noMarks rs .set) })
+  pub options-named : (h p r : Bool) (ref : List ℕ) (ps : List (List ℕ)) →
+      optionsOf (record { selection = os; hasSelection = h; reference = ref; pats = ps; inParens = p; returns = rs; hasReturn = r }) ≡ optionsIs
+      (record { bits = union (marked Selection noMarks os .set) (marked Return noMarks rs .set) })
   unfolding optionsOf optionsIs both bit
   options-named h p r ref ps = λ i.
       record {

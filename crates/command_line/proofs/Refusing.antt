@@ -54,7 +54,9 @@ pub referred : List ℕ → (List ℕ → List ℕ → Parsed) → Parsed
 referred t next = orRefuse 4 (argument t) (afterReference next)
 
 -- so it is in document 01
-pub referred-is : {B : Type 0} (t : List ℕ) (f : Got (List ℕ) → List ℕ → Option B) (go : B → Parsed) (next : List ℕ → List ℕ → Parsed) → ((r : Got (List ℕ)) (v : List ℕ) → orRefuse 4 (f r v) go ≡ next (r .val) v) → orRefuse 4 (after (text " ") t >>= λ u. astring u >>= λ r. after (text " ") (r .rest) >>= f r) go ≡ referred t next
+pub referred-is : {B : Type 0} (t : List ℕ) (f : Got (List ℕ) → List ℕ → Option B) (go : B → Parsed) (next : List ℕ → List ℕ → Parsed) →
+    ((r : Got (List ℕ)) (v : List ℕ) → orRefuse 4 (f r v) go ≡ next (r .val) v) →
+    orRefuse 4 (after (text " ") t >>= λ u. astring u >>= λ r. after (text " ") (r .rest) >>= f r) go ≡ referred t next
 unfolding referred afterReference argument
 referred-is t f go next h =
     refuse-bind (after (text " ") t) _ go

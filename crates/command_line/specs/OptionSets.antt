@@ -10,8 +10,6 @@ use Rattle.listing_rules.specs.Tokens.{Got, got, _>>=_}
 use Rattle.listing_rules.specs.Options.{Options as Named}
 use Rattle.listing_rules.specs.Command.{Opt, selectionWords, returnWords, knownIn}
 use Rattle.octets.specs.Sets.{union}
-use Rattle.command_tokens.specs.declared.Span.{Span}
-use Rattle.command_tokens.specs.declared.Cursor.{Cursor}
 use Rattle.command_line.specs.declared.Options.{Options}
 use Rattle.command_line.specs.declared.option_list.Place.{Place}
 use Rattle.command_line.specs.declared.option_list.Place.the-variants.{Selection, Return}

@@ -39,7 +39,8 @@ pub(crate) struct Arguments {
 
 // list = "LIST" [selection] SP astring SP patterns [return], after the word
 pub(crate) fn read_list(text: &[u8], tag: Span, first: Cursor) -> Command
-    ensures { λ r. ⌜ Answers (now (text .entry)) (wordedAs ListWord (spanBytes (now (text .entry)) tag) (drop (first .at) (now (text .entry)))) (TagIn (now (text .entry)) tag) r ⌝ }
+    ensures { λ r. ⌜ Answers (now (text .entry))
+        (wordedAs ListWord (spanBytes (now (text .entry)) tag) (drop (first .at) (now (text .entry)))) (TagIn (now (text .entry)) tag) r ⌝ }
 {
     let Listed::Read(selected, known, second) = read_selection(text, first) else {
         return refused(GRAMMAR);
@@ -81,7 +82,8 @@ fn is_extended(text: &[u8], first: Cursor, patterns: Cursor, rest: Cursor) -> bo
 
 // 6, then 7, then 8; then the root line or the list.
 fn judge(text: &[u8], tag: Span, a: Arguments) -> Command
-    ensures { λ r. ⌜ Answers (now (text .entry)) (decided (spanBytes (now (text .entry)) tag) (argumentsIs (now (text .entry)) a)) (Given (now (text .entry)) tag a) r ⌝ }
+    ensures { λ r. ⌜ Answers (now (text .entry))
+        (decided (spanBytes (now (text .entry)) tag) (argumentsIs (now (text .entry)) a)) (Given (now (text .entry)) tag a) r ⌝ }
 {
     if !a.known {
         return refused(OPTION);

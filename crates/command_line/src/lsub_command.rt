@@ -21,7 +21,8 @@ use octets::refusals::PATTERNS;
 
 // lsub = "LSUB" SP astring SP pattern, after the word
 pub(crate) fn read_lsub(text: &[u8], tag: Span, first: Cursor) -> Command
-    ensures { λ r. ⌜ Answers (now (text .entry)) (wordedAs LsubWord (spanBytes (now (text .entry)) tag) (drop (first .at) (now (text .entry)))) (TagIn (now (text .entry)) tag) r ⌝ }
+    ensures { λ r. ⌜ Answers (now (text .entry))
+        (wordedAs LsubWord (spanBytes (now (text .entry)) tag) (drop (first .at) (now (text .entry)))) (TagIn (now (text .entry)) tag) r ⌝ }
 {
     let Token::Found(reference, second) = first.argument(text) else {
         return refused(GRAMMAR);

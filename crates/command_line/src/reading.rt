@@ -80,7 +80,8 @@ pub(crate) fn read_text(text: &[u8]) -> Command
 
 // "NAMESPACE ends there."
 fn read_namespace(text: &[u8], tag: Span, rest: Cursor) -> Command
-    ensures { λ r. ⌜ Answers (now (text .entry)) (wordedAs Word.Namespace (spanBytes (now (text .entry)) tag) (drop (rest .at) (now (text .entry)))) (TagIn (now (text .entry)) tag) r ⌝ }
+    ensures { λ r. ⌜ Answers (now (text .entry))
+        (wordedAs Word.Namespace (spanBytes (now (text .entry)) tag) (drop (rest .at) (now (text .entry)))) (TagIn (now (text .entry)) tag) r ⌝ }
 {
     if rest.at < text.len() {
         return refused(GRAMMAR);

@@ -82,7 +82,8 @@ pub fn put_patterns(line: &[u8], reference: Span, patterns: Patterns, buf: &mut 
 
 // One canonical pattern: a length byte, the reference and the pattern, without escapes.
 fn put_canonical(buf: &mut [u8], at: usize, line: &[u8], reference: Span, pattern: Span) -> usize
-    ensures { λ r. ⌜ Put (now (buf .entry)) (now (buf .exit)) at (packedOne (spanBytes (now (line .entry)) reference ++ spanBytes (now (line .entry)) pattern)) r ⌝ }
+    ensures { λ r. ⌜ Put (now (buf .entry)) (now (buf .exit)) at
+        (packedOne (spanBytes (now (line .entry)) reference ++ spanBytes (now (line .entry)) pattern)) r ⌝ }
 {
     let head = span_len(line, reference);
     let tail = span_len(line, pattern);

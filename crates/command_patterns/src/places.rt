@@ -43,7 +43,8 @@ impl Patterns {
 
 // pattern *(SP pattern) ")", after the opening parenthesis
 fn read_parted(text: &[u8], first: Cursor) -> PatternList
-    ensures { λ r. ⌜ patternsIs (now (text .entry)) r ≡ upToEight (parted pattern (length (drop (first .at) (now (text .entry)))) (drop (first .at) (now (text .entry)))) ⌝ }
+    ensures { λ r. ⌜ patternsIs (now (text .entry)) r
+        ≡ upToEight (parted pattern (length (drop (first .at) (now (text .entry)))) (drop (first .at) (now (text .entry)))) ⌝ }
     ensures { λ r. ⌜ Placed (now (text .entry)) (r .patterns) ⌝ }
 {
     let mut found = Patterns::none();

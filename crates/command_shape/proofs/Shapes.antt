@@ -60,7 +60,8 @@ module _ (s : Feeder) (c : ℕ) (t : List ℕ) where
   unfolding oneCommand
   step-bad q = go (allowed s c) (sym (shape-is s c) ∙ q)
     where
-      go : (o : Bool) → cond o (shapingAs (signalOf (fedByte s c .event)) (machineOf (fedByte s c .state))) Bad ≡ Bad → (o && stillOne (fedByte s c .event) (isEmpty t) (oneCommand (fedByte s c .state) t)) ≡ false
+      go : (o : Bool) → cond o (shapingAs (signalOf (fedByte s c .event)) (machineOf (fedByte s c .state))) Bad ≡ Bad →
+          (o && stillOne (fedByte s c .event) (isEmpty t) (oneCommand (fedByte s c .state) t)) ≡ false
       go true e = still-bad t (fedByte s c .state) (fedByte s c .event) e
       go false e = refl
 
@@ -68,7 +69,8 @@ module _ (s : Feeder) (c : ℕ) (t : List ℕ) where
   unfolding oneCommand
   step-last q = go (allowed s c) (sym (shape-is s c) ∙ q)
     where
-      go : (o : Bool) → cond o (shapingAs (signalOf (fedByte s c .event)) (machineOf (fedByte s c .state))) Bad ≡ Last → (o && stillOne (fedByte s c .event) (isEmpty t) (oneCommand (fedByte s c .state) t)) ≡ isEmpty t
+      go : (o : Bool) → cond o (shapingAs (signalOf (fedByte s c .event)) (machineOf (fedByte s c .state))) Bad ≡ Last →
+          (o && stillOne (fedByte s c .event) (isEmpty t) (oneCommand (fedByte s c .state) t)) ≡ isEmpty t
       go true e = still-last t (fedByte s c .state) (fedByte s c .event) e
       go false e = cc
 
@@ -76,7 +78,9 @@ module _ (s : Feeder) (c : ℕ) (t : List ℕ) where
   unfolding oneCommand
   step-further m q = go (allowed s c) (sym (shape-is s c) ∙ q)
     where
-      go : (o : Bool) → cond o (shapingAs (signalOf (fedByte s c .event)) (machineOf (fedByte s c .state))) Bad ≡ Further m → ((o && stillOne (fedByte s c .event) (isEmpty t) (oneCommand (fedByte s c .state) t)) ≡ oneCommand (fedByte s c .state) t) × (machineOf (fedByte s c .state) ≡ m)
+      go : (o : Bool) → cond o (shapingAs (signalOf (fedByte s c .event)) (machineOf (fedByte s c .state))) Bad ≡ Further m →
+          ((o && stillOne (fedByte s c .event) (isEmpty t) (oneCommand (fedByte s c .state) t)) ≡ oneCommand (fedByte s c .state) t) ×
+          (machineOf (fedByte s c .state) ≡ m)
       go true e = still-further t (fedByte s c .state) (fedByte s c .event) m e
       go false e = (cc, cc)
 

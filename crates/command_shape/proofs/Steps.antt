@@ -81,7 +81,8 @@ unfolding endedIs lineEnded gives signalOf announcedIs
 ended-is kept none = ap (λ (m : Machine). steps m Whole) first-is
 ended-is kept (some n) = go (leb n 1024)
   where
-    go : (o : Bool) → cond o (steps (standing (awaitingIs n) (length kept + 1) 10) GoOn) (steps firstIs Refused) ≡ steppedOf (cond o (gives (awaiting (kept ++ (10 ∷ [])) n) goOn) (gives first (denied 3)))
+    go : (o : Bool) → cond o (steps (standing (awaitingIs n) (length kept + 1) 10) GoOn) (steps firstIs Refused) ≡ steppedOf
+        (cond o (gives (awaiting (kept ++ (10 ∷ [])) n) goOn) (gives first (denied 3)))
     go true = ap (λ (m : Machine). steps m GoOn) (awaiting-is kept 10 n)
     go false = ap (λ (m : Machine). steps m Refused) first-is
 
@@ -106,7 +107,10 @@ text-is kept line c = line-is tail size c ∙ ap (λ (o : Bool). cond (o && eqb 
         (ended-is kept (endValue tail)
         ∙ ap steppedOf (sym (ended-capped (kept ++ (10 ∷ [])) (endValue tail)) ∙ ap (lineEnded (kept ++ (10 ∷ []))) (sym (announced-is line)) ∙ ended-capped (kept ++ (10 ∷ [])) (announced (line ++ (10 ∷ [])))))
 
-    go : (o : Bool) → (lastIs 13 line && eqb c 10) ≡ o → cond o (endedIs (endValue tail) size) (textIs tail size c) ≡ steppedOf (cond (endsLine (line ++ (c ∷ []))) (lineEnded (kept ++ (c ∷ [])) (announced (line ++ (c ∷ [])))) (gives (reading (kept ++ (c ∷ [])) (line ++ (c ∷ []))) quiet))
+    go : (o : Bool) → (lastIs 13 line && eqb c 10) ≡ o →
+        cond o (endedIs (endValue tail) size) (textIs tail size c) ≡ steppedOf
+        (cond (endsLine (line ++ (c ∷ []))) (lineEnded (kept ++ (c ∷ [])) (announced (line ++ (c ∷ []))))
+        (gives (reading (kept ++ (c ∷ [])) (line ++ (c ∷ []))) quiet))
     go true e = rw (ends-snoc line c ∙ e) (ends (and-r (lastIs 13 line) (eqb c 10) e))
     go false e = rw (ends-snoc line c ∙ e) (reading-is kept line c)
 

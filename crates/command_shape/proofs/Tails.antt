@@ -193,7 +193,9 @@ announced-step t c l m = go (eqb c 123) refl
     brace : c ≡ 123 → header t (c ∷ l) ≡ none
     brace e = ap (λ (x : ℕ). header t (x ∷ l)) e ∙ header-open t l
 
-    go : (o : Bool) → eqb c 123 ≡ o → cappedOption (orElse (header t (c ∷ l)) (cond o (orElse (announcedAt l) (announced l)) (announced l))) ≡ cappedOption (orElse (header (cond o Open (tailAs t c)) l) (announced l))
+    go : (o : Bool) → eqb c 123 ≡ o →
+        cappedOption (orElse (header t (c ∷ l)) (cond o (orElse (announcedAt l) (announced l)) (announced l))) ≡ cappedOption
+        (orElse (header (cond o Open (tailAs t c)) l) (announced l))
     go true e = rw (brace (eqb-true c 123 e)) (unfold header in refl)
     go false e =
         capped-else (header t (c ∷ l)) (announced l)

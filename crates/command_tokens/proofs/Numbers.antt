@@ -64,7 +64,8 @@ module _ (t : List ℕ) where
       literal-whole h k = let same : decimal 0 v ≡ n = omega arith in behind ∙ rw (same, le-leb n 1024 h, le-leb n (length u) k)
 
 -- the number of the digits that a bare token holds
-pub digits-number : (s : List ℕ) (at : ℕ) {r : Token} {t : Span} {c : Cursor} → BareIn s at r → r ≡ Found t c → {n : ℕ} {b : List ℕ} → n ≡ min (decimal 0 b) 1025 → b ≡ rawBytes s t → n ≡ min (decimal 0 (spanBytes s t)) 1025
+pub digits-number : (s : List ℕ) (at : ℕ) {r : Token} {t : Span} {c : Cursor} → BareIn s at r → r ≡ Found t c → {n : ℕ} {b : List ℕ} →
+    n ≡ min (decimal 0 b) 1025 → b ≡ rawBytes s t → n ≡ min (decimal 0 (spanBytes s t)) 1025
 digits-number s at {t} h q e f = e ∙ ap (λ (x : List ℕ). min (decimal 0 x) 1025) (f ∙ sym (bare-bytes s t (bare-ahead s at h q .bare)))
 
 -- n bytes from a place on, as a token

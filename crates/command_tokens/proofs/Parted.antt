@@ -77,7 +77,9 @@ pub parting-first : {A B : Type 0} (item : List ℕ → Option (Got A)) (go : Go
 parting-first item go s i = record { steps = length (drop i s); enough = omega (arith, length-drop i s); is = refl }
 
 -- after an item and a space: the item is kept in what is made of the rest
-pub parting-space : {A B : Type 0} (item : List ℕ → Option (Got A)) (go go′ : Got (List A) → Option B) (s : List ℕ) (i : ℕ) (whole : Option B) → Parting item go s i whole → (a : A) (to : ℕ) → item (drop i s) ≡ some (got a (drop to s)) → i < to → to ≤ length s → getD s to 0 ≡ 32 → ((r : Got (List A)) → go (withFirst a r) ≡ go′ r) → Parting item go′ s (to + 1) whole
+pub parting-space : {A B : Type 0} (item : List ℕ → Option (Got A)) (go go′ : Got (List A) → Option B) (s : List ℕ) (i : ℕ) (whole : Option B) →
+    Parting item go s i whole → (a : A) (to : ℕ) → item (drop i s) ≡ some (got a (drop to s)) → i < to → to ≤ length s → getD s to 0 ≡ 32 →
+    ((r : Got (List A)) → go (withFirst a r) ≡ go′ r) → Parting item go′ s (to + 1) whole
 unfolding _>>=_
 parting-space {A = A} item go go′ s i whole p a to e past within h same =
     record {

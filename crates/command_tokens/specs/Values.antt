@@ -1,11 +1,11 @@
 -- An option's value, read without a bound on the steps: the bytes that are left are steps enough.
-use mathlib.Core.Bool.{Bool, cond}
+use mathlib.Core.Bool.{cond}
 use mathlib.Core.List.{List}
 use mathlib.Core.Option.{Option, some}
 use Prim.Native.Nat.{ℕ}
 use lib.ListN.{length}
 use Rattle.listing_rules.specs.Bytes.{text}
-use Rattle.listing_rules.specs.Tokens.{Got, _>>=_, at, after, astring}
+use Rattle.listing_rules.specs.Tokens.{_>>=_, at, after, astring}
 use Rattle.listing_rules.specs.Command.{valueRest}
 
 -- what is left of the line behind the value whose opening parenthesis stands just before

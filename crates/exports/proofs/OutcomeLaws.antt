@@ -36,7 +36,8 @@ pub collected-refused : (w : Collected) (k : ℕ) → w ≡ Stopped k → record
 unfolding collectedCase
 collected-refused w k e = sym (ap collectedCase e)
 
-pub parts-read : (l : Line) (bytes : List ℕ) (a : Attributes) (n : ℕ) (c : Criteria) → l ≡ Parts a n c → record { number = 0; criteria = c .bits; attributes = a .bits; length = n; name = bytes } ≡ lineCase l bytes
+pub parts-read : (l : Line) (bytes : List ℕ) (a : Attributes) (n : ℕ) (c : Criteria) → l ≡ Parts a n c →
+    record { number = 0; criteria = c .bits; attributes = a .bits; length = n; name = bytes } ≡ lineCase l bytes
 unfolding lineCase
 parts-read l bytes a n c e = λ i. lineCase (sym e i) bytes
 

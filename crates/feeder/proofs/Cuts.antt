@@ -47,7 +47,8 @@ first-held d = (first-as, refl)
     first-as = first-is
 
 -- from any state that is held
-pub calls-say : (xs : List Call) (m : Machine) (d : List ℕ) (s : Feeder) (stream : List ℕ) → m .size ≤ 2048 → Holds d m s → Calls m d xs → Through stream xs → (saidBy xs ≡ feedAll s stream .events) × (stateAfter m xs ≡ machineOf (feedAll s stream .state))
+pub calls-say : (xs : List Call) (m : Machine) (d : List ℕ) (s : Feeder) (stream : List ℕ) → m .size ≤ 2048 → Holds d m s → Calls m d xs →
+    Through stream xs → (saidBy xs ≡ feedAll s stream .events) × (stateAfter m xs ≡ machineOf (feedAll s stream .state))
 unfolding saidBy stateAfter
 calls-say [] m d s stream b h c t = rw t (feed-none s m (h .0))
 calls-say (x ∷ xs) m d s stream b h c t =
@@ -68,20 +69,26 @@ calls-say (x ∷ xs) m d s stream b h c t =
     whole : feedAll s stream ≡ then-fed (feedAll s front .events) (feedAll (feedAll s front .state) (drop (x .answer .used) stream))
     whole = ap (feedAll s) cut ∙ feed-append s front (drop (x .answer .used) stream)
 
-    then : (saidBy xs ≡ feedAll (feedAll s front .state) (drop (x .answer .used) stream) .events) × (stateAfter (x .answer .state) xs ≡ machineOf (feedAll (feedAll s front .state) (drop (x .answer .used) stream) .state)) → (eventsOf (x .after) (x .answer .event) ++ saidBy xs ≡ feedAll s stream .events) × (stateAfter (x .answer .state) xs ≡ machineOf (feedAll s stream .state))
+    then : (saidBy xs ≡ feedAll (feedAll s front .state) (drop (x .answer .used) stream) .events) ×
+        (stateAfter (x .answer .state) xs ≡ machineOf (feedAll (feedAll s front .state) (drop (x .answer .used) stream) .state)) →
+        (eventsOf (x .after) (x .answer .event) ++ saidBy xs ≡ feedAll s stream .events) ×
+        (stateAfter (x .answer .state) xs ≡ machineOf (feedAll s stream .state))
     then ih = (ap (λ (es : List Meant). es ++ saidBy xs) (sym (w .events)) ∙ ap (λ (es : List Meant). feedAll s front .events ++ es) (ih .0) ∙ ap (λ (f : Feeding). f .events) (sym whole), ih .1 ∙ ap (λ (f : Feeding). machineOf (f .state)) (sym whole))
 
 -- From the first state, whatever the memory holds.
-pub however-cut : (xs : List Call) (d stream : List ℕ) → Calls firstIs d xs → Through stream xs → (saidBy xs ≡ feedAll first stream .events) × (stateAfter firstIs xs ≡ machineOf (feedAll first stream .state))
+pub however-cut : (xs : List Call) (d stream : List ℕ) → Calls firstIs d xs → Through stream xs →
+    (saidBy xs ≡ feedAll first stream .events) × (stateAfter firstIs xs ≡ machineOf (feedAll first stream .state))
 however-cut xs d stream c t = calls-say xs firstIs d first stream first-small (first-held d) c t
 
 -- So two ways to cut one stream say the same, and end in the same state.
-pub cuts-agree : (xs ys : List Call) (d e stream : List ℕ) → Calls firstIs d xs → Calls firstIs e ys → Through stream xs → Through stream ys → (saidBy xs ≡ saidBy ys) × (stateAfter firstIs xs ≡ stateAfter firstIs ys)
+pub cuts-agree : (xs ys : List Call) (d e stream : List ℕ) → Calls firstIs d xs → Calls firstIs e ys → Through stream xs → Through stream ys →
+    (saidBy xs ≡ saidBy ys) × (stateAfter firstIs xs ≡ stateAfter firstIs ys)
 cuts-agree xs ys d e stream c k t u =
     let a = however-cut xs d stream c t in
     let b = however-cut ys e stream k u in
     (a .0 ∙ sym (b .0), a .1 ∙ sym (b .1))
 
 -- And they say what document 02's chunks do, one after the other.
-pub chunks-agree : (xs : List Call) (d : List ℕ) (chunks : List (List ℕ)) → Calls firstIs d xs → Through (joined chunks) xs → (saidBy xs ≡ feedChunks first chunks .events) × (stateAfter firstIs xs ≡ machineOf (feedChunks first chunks .state))
+pub chunks-agree : (xs : List Call) (d : List ℕ) (chunks : List (List ℕ)) → Calls firstIs d xs → Through (joined chunks) xs →
+    (saidBy xs ≡ feedChunks first chunks .events) × (stateAfter firstIs xs ≡ machineOf (feedChunks first chunks .state))
 chunks-agree xs d chunks c t = rw (cut-anywhere first chunks) (however-cut xs d (joined chunks) c t)

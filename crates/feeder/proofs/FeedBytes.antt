@@ -136,7 +136,9 @@ unfolding feedFrom outcome answers byteIs
 feed-size [] used m d h = h
 feed-size (c ∷ t) used m d h = go (isQuiet (eventIs (stepIs m c .signal) (nextPlace (m .size)))) (feed-size t (used + 1) (stepIs m c .machine) (storedIs m d c) (step-size m c h))
   where
-    go : (o : Bool) → feedFrom (used + 1) (stepIs m c .machine) (storedIs m d c) t .fed .state .size ≤ 2048 → cond o (feedFrom (used + 1) (stepIs m c .machine) (storedIs m d c) t) (outcome (stepIs m c .machine) (used + 1) (eventIs (stepIs m c .signal) (nextPlace (m .size))) (storedIs m d c)) .fed .state .size ≤ 2048
+    go : (o : Bool) → feedFrom (used + 1) (stepIs m c .machine) (storedIs m d c) t .fed .state .size ≤ 2048 →
+        cond o (feedFrom (used + 1) (stepIs m c .machine) (storedIs m d c) t)
+        (outcome (stepIs m c .machine) (used + 1) (eventIs (stepIs m c .signal) (nextPlace (m .size))) (storedIs m d c)) .fed .state .size ≤ 2048
     go true ih = ih
     go false ih = step-size m c h
 
@@ -156,7 +158,10 @@ feed-used (c ∷ t) used m d = go (isQuiet (eventIs (stepIs m c .signal) (nextPl
     more : Outcome
     more = feedFrom (used + 1) (stepIs m c .machine) (storedIs m d c) t
 
-    go : (o : Bool) → (used + 1 ≤ more .fed .used) × (more .fed .used ≤ used + 1 + length t) → (used ≤ cond o more (outcome (stepIs m c .machine) (used + 1) (eventIs (stepIs m c .signal) (nextPlace (m .size))) (storedIs m d c)) .fed .used) × (cond o more (outcome (stepIs m c .machine) (used + 1) (eventIs (stepIs m c .signal) (nextPlace (m .size))) (storedIs m d c)) .fed .used ≤ used + suc (length t))
+    go : (o : Bool) → (used + 1 ≤ more .fed .used) × (more .fed .used ≤ used + 1 + length t) →
+        (used ≤ cond o more (outcome (stepIs m c .machine) (used + 1) (eventIs (stepIs m c .signal) (nextPlace (m .size)))
+        (storedIs m d c)) .fed .used) × (cond o more (outcome (stepIs m c .machine) (used + 1) (eventIs (stepIs m c .signal) (nextPlace (m .size)))
+        (storedIs m d c)) .fed .used ≤ used + suc (length t))
     go true ih = (omega (arith, ih .0), omega (arith, ih .1))
     go false ih = (omega arith, omega arith)
 
@@ -194,7 +199,10 @@ memory-is (c ∷ t) used m d = go (isQuiet (eventIs (stepIs m c .signal) (nextPl
     d′ : List ℕ
     d′ = storedIs m d c
 
-    go : (o : Bool) → isQuiet (eventIs (stepIs m c .signal) (nextPlace (m .size))) ≡ o → feedFrom (used + 1) m′ d′ t .memory ≡ sets d′ (startOf m′) (putFrom m′ t) → Way m c → cond o (feedFrom (used + 1) m′ d′ t) (outcome m′ (used + 1) (eventIs (stepIs m c .signal) (nextPlace (m .size))) d′) .memory ≡ sets d (startOf m) (cond (takes m c) (c ∷ cond o (putFrom m′ t) []) (cond o (putFrom m′ t) []))
+    go : (o : Bool) → isQuiet (eventIs (stepIs m c .signal) (nextPlace (m .size))) ≡ o →
+        feedFrom (used + 1) m′ d′ t .memory ≡ sets d′ (startOf m′) (putFrom m′ t) → Way m c →
+        cond o (feedFrom (used + 1) m′ d′ t) (outcome m′ (used + 1) (eventIs (stepIs m c .signal) (nextPlace (m .size))) d′) .memory ≡ sets d
+        (startOf m) (cond (takes m c) (c ∷ cond o (putFrom m′ t) []) (cond o (putFrom m′ t) []))
     go true q ih (taken k s n e) = ih ∙ ap (λ (x : ℕ). sets d′ x (putFrom m′ t)) (e .1 (quiet-any (stepIs m c .signal) (m .size + 1) (nextPlace (m .size)) ∙ q) ∙ add-one (m .size)) ∙ put-taken m d c (putFrom m′ t) k s
     go true q ih (dropped k s e) = ih ∙ ap (λ (x : ℕ). sets d′ x (putFrom m′ t)) (dropped-next (m .cr) c (stepIs m c) quietly e ∙ sym s) ∙ put-left m d c (startOf m) (putFrom m′ t) k
     go true q ih (refused k e) = absurd (false≢true (sym (loud-refused (nextPlace (m .size))) ∙ refused-loud (m .cr) c (stepIs m c) (nextPlace (m .size)) e ∙ q))

@@ -23,7 +23,8 @@ use Rattle.command_shape.proofs.Steps.{step-is, offending-is}
 
 -- ---- the code, byte by byte
 
-pub fed-byte : (m : Machine) (d e : List ℕ) (c : ℕ) (s : Stepped) (ev : Event) (n : ℕ) → s ≡ stepIs m c → e ≡ storedIs m d c → n ≡ min (m .size + 1) (2 ^ 64 - 1) → ev ≡ eventIs (s .signal) n → FedByte m d e c (record { state = s .machine; used = 1; event = ev })
+pub fed-byte : (m : Machine) (d e : List ℕ) (c : ℕ) (s : Stepped) (ev : Event) (n : ℕ) → s ≡ stepIs m c → e ≡ storedIs m d c →
+    n ≡ min (m .size + 1) (2 ^ 64 - 1) → ev ≡ eventIs (s .signal) n → FedByte m d e c (record { state = s .machine; used = 1; event = ev })
 unfolding byteIs answers nextPlace
 fed-byte m d e c s ev n p q r k = record { answer = rw (k, r, p); bytes = q }
 
@@ -187,7 +188,8 @@ room-left kept c e = go (leb (suc (length kept)) 2048) refl e
     go true h g = omega (arith, leb-true (suc (length kept)) 2048 h)
     go false h g = let z : _≡_ {A = ℕ} 0 1 = cc in omega arith
 
-pub follows-byte : (s : Feeder) (d : List ℕ) (c : ℕ) → Front d (keptOf s) → length (keptOf s) ≤ 2048 → 2048 ≤ length d → Follows (storedIs (machineOf s) d c) (nextPlace (machineOf s .size)) (fedByte s c)
+pub follows-byte : (s : Feeder) (d : List ℕ) (c : ℕ) → Front d (keptOf s) → length (keptOf s) ≤ 2048 → 2048 ≤ length d →
+    Follows (storedIs (machineOf s) d c) (nextPlace (machineOf s .size)) (fedByte s c)
 unfolding fedByte keptOf machineOf
 follows-byte (reading kept line) d c f b h = rw (stored-reading kept line d c, next-place (length kept) b) (go (offends kept c) refl)
   where
@@ -268,7 +270,8 @@ unfolding outcome answers throughEvent feedAll eventsOf
 follow-end used s d f = record { used = sym (add-zero used); events = refl; holds = held-is s d f }
 
 -- something comes of the byte
-follow-stop : (used : ℕ) (s : Feeder) (c : ℕ) (t d : List ℕ) (n : ℕ) → Follows d n (fedByte s c) → nothing (fedByte s c .event) ≡ false → Follow used s (c ∷ t) (outcome (machineOf (fedByte s c .state)) (used + 1) (eventIs (signalOf (fedByte s c .event)) n) d)
+follow-stop : (used : ℕ) (s : Feeder) (c : ℕ) (t d : List ℕ) (n : ℕ) → Follows d n (fedByte s c) → nothing (fedByte s c .event) ≡ false →
+    Follow used s (c ∷ t) (outcome (machineOf (fedByte s c .state)) (used + 1) (eventIs (signalOf (fedByte s c .event)) n) d)
 unfolding outcome answers
 follow-stop used s c t d n g e =
     record {
@@ -324,6 +327,8 @@ feed-follows (c ∷ t) used s d f b h = rw (byte-is s c) (step (nothing (fedByte
     g : Follows (storedIs (machineOf s) d c) n (fedByte s c)
     g = follows-byte s d c f b h
 
-    step : (o : Bool) → nothing (fedByte s c .event) ≡ o → Follow (used + 1) (fedByte s c .state) t (feedFrom (used + 1) (machineOf (fedByte s c .state)) (storedIs (machineOf s) d c) t) → Follow used s (c ∷ t) (byteWay used s c t (storedIs (machineOf s) d c) n)
+    step : (o : Bool) → nothing (fedByte s c .event) ≡ o →
+        Follow (used + 1) (fedByte s c .state) t (feedFrom (used + 1) (machineOf (fedByte s c .state)) (storedIs (machineOf s) d c) t) →
+        Follow used s (c ∷ t) (byteWay used s c t (storedIs (machineOf s) d c) n)
     step true e ih = step-on used s c t (storedIs (machineOf s) d c) n e ih
     step false e ih = step-stop used s c t (storedIs (machineOf s) d c) n e g

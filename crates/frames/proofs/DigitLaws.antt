@@ -71,7 +71,8 @@ hex-is (h ∷ l ∷ t) = rw parity (go (eqb (length t % 2) 0) (digit h) (digit l
     parity : suc (suc (length t)) % 2 ≡ length t % 2
     parity = omega arith
 
-    go : (p : Bool) (x y : Option ℕ) (z : Option (List ℕ)) → isSome z ≡ (p && all isDigit t) → isSome (x >>= λ a. y >>= λ b. z >>= λ bs. some ((16 * a + b) ∷ bs)) ≡ (p && (isSome x && (isSome y && all isDigit t)))
+    go : (p : Bool) (x y : Option ℕ) (z : Option (List ℕ)) → isSome z ≡ (p && all isDigit t) →
+        isSome (x >>= λ a. y >>= λ b. z >>= λ bs. some ((16 * a + b) ∷ bs)) ≡ (p && (isSome x && (isSome y && all isDigit t)))
     go p none y z ih = sym (and-false p)
     go p (some a) none z ih = sym (and-false p)
     go p (some a) (some b) none ih = ih
@@ -104,7 +105,9 @@ bytes-are [] e = refl
 bytes-are (h ∷ []) e = cc
 bytes-are (h ∷ l ∷ t) e = go (digit h) (digit l) (bytesOf t) (bytes-are t) e
   where
-    go : (x y : Option ℕ) (z : Option (List ℕ)) → (isSome z ≡ true → z ≡ some (decoded t)) → isSome (x >>= λ a. y >>= λ b. z >>= λ bs. some ((16 * a + b) ∷ bs)) ≡ true → (x >>= λ a. y >>= λ b. z >>= λ bs. some ((16 * a + b) ∷ bs)) ≡ some ((16 * Option·getD x 0 + Option·getD y 0) ∷ decoded t)
+    go : (x y : Option ℕ) (z : Option (List ℕ)) → (isSome z ≡ true → z ≡ some (decoded t)) →
+        isSome (x >>= λ a. y >>= λ b. z >>= λ bs. some ((16 * a + b) ∷ bs)) ≡ true →
+        (x >>= λ a. y >>= λ b. z >>= λ bs. some ((16 * a + b) ∷ bs)) ≡ some ((16 * Option·getD x 0 + Option·getD y 0) ∷ decoded t)
     go none y z ih q = cc
     go (some a) none z ih q = cc
     go (some a) (some b) none ih q = cc

@@ -51,7 +51,9 @@ module _ (k : ℕ) where
   unfolding frameOf behindKind walkFrame
   kind-holds bs = go (eqb k 0x4D) (eqb k 0x4E) (eqb k 0x43) (eqb k 0x57) bs
     where
-      go : (m n c w : Bool) (xs : List ℕ) → (cond m (tableBytes xs) (cond n (namespaceBytes xs) (cond c (command xs) (cond w (walkFrame xs) badFrame))) ≡ badFrame) ⊎ (behindKind (cond m (tableBytes xs) (cond n (namespaceBytes xs) (cond c (command xs) (cond w (walkFrame xs) badFrame)))) ≡ xs)
+      go : (m n c w : Bool) (xs : List ℕ) →
+          (cond m (tableBytes xs) (cond n (namespaceBytes xs) (cond c (command xs) (cond w (walkFrame xs) badFrame))) ≡ badFrame) ⊎
+          (behindKind (cond m (tableBytes xs) (cond n (namespaceBytes xs) (cond c (command xs) (cond w (walkFrame xs) badFrame)))) ≡ xs)
       go true n c w xs = inr refl
       go false true c w xs = inr refl
       go false false true w xs = inr refl
@@ -65,7 +67,10 @@ module _ (k : ℕ) where
   unfolding frameOf answerIs walkFrame kindIs
   kind-answer bs o = go (eqb k 0x4D) (eqb k 0x4E) (eqb k 0x43) (eqb k 0x57) bs
     where
-      go : (m n c w : Bool) (xs : List ℕ) → (length xs ≡ 1 → o ≡ getD xs 0 0) → cond m (Table (length xs)) (cond n (Namespaces (length xs)) (cond c (Command (length xs)) (cond w (cond (eqb (length xs) 1) (Walk o) Bad) Bad))) ≡ answerIs (cond m (tableBytes xs) (cond n (namespaceBytes xs) (cond c (command xs) (cond w (walkFrame xs) badFrame))))
+      go : (m n c w : Bool) (xs : List ℕ) → (length xs ≡ 1 → o ≡ getD xs 0 0) →
+          cond m (Table (length xs)) (cond n (Namespaces (length xs))
+          (cond c (Command (length xs)) (cond w (cond (eqb (length xs) 1) (Walk o) Bad) Bad))) ≡ answerIs
+          (cond m (tableBytes xs) (cond n (namespaceBytes xs) (cond c (command xs) (cond w (walkFrame xs) badFrame))))
       go true n c w xs h = refl
       go false true c w xs h = refl
       go false false true w xs h = refl

@@ -22,12 +22,15 @@ pub holds-none : (line : List ℕ) → Holds line gatheredNone []
 holds-none line = (refl, omega arith, omega arith)
 
 -- one character more, in a line of 4,100 bytes or more
-holds-more : (over : Bool) (len : ℕ) (d p : List ℕ) (c : ℕ) → 4100 ≤ length d → HoldsIf over len d p → Holds (gatheredLine d (record { len = len; over = over }) c) (gatheredIs (length d) (record { len = len; over = over })) (p ++ (c ∷ []))
+holds-more : (over : Bool) (len : ℕ) (d p : List ℕ) (c : ℕ) → 4100 ≤ length d → HoldsIf over len d p →
+    Holds (gatheredLine d (record { len = len; over = over }) c) (gatheredIs (length d) (record { len = len; over = over })) (p ++ (c ∷ []))
 unfolding gatheredLine gatheredIs hasRoom
 holds-more true len d p c room h = omega (arith, length-append p (c ∷ []))
 holds-more false len d p c room h = go (ltb len 4100) refl
   where
-    go : (o : Bool) → ltb len 4100 ≡ o → Holds (cond (o && ltb len (length d)) (set d len c) d) (cond (o && ltb len (length d)) (record { len = len + 1; over = false }) (record { len = len; over = true })) (p ++ (c ∷ []))
+    go : (o : Bool) → ltb len 4100 ≡ o →
+        Holds (cond (o && ltb len (length d)) (set d len c) d)
+        (cond (o && ltb len (length d)) (record { len = len + 1; over = false }) (record { len = len; over = true })) (p ++ (c ∷ []))
     go true e =
         let inside : len < length d = omega (arith, ltb-true len 4100 e) in
         rw (lt-ltb len (length d) inside) (rw (h .0, add-one) (sym (take-suc-set d len c inside)), omega (arith, length-set d len c), omega (arith, ltb-true len 4100 e))

@@ -49,7 +49,8 @@ module _ (d : List ℕ) (used limit : ℕ) (bs : List ℕ) where
   stores-over h = stores d d used limit bs NoRoom (rw (lt-leb (used + length bs) limit h, and-false)) (rw (lt-leb (used + length bs) limit h, and-false))
 
 -- what an answer says: the bytes are stored behind the others
-pub stored-now : {d e : List ℕ} {used limit : ℕ} {bs : List ℕ} {r : Stored} {u : ℕ} → Stores d e used limit bs r → r ≡ Now u → (leb (used + length bs) limit ≡ true) × (u ≡ used + length bs) × (take u e ≡ take used d ++ bs)
+pub stored-now : {d e : List ℕ} {used limit : ℕ} {bs : List ℕ} {r : Stored} {u : ℕ} → Stores d e used limit bs r → r ≡ Now u →
+    (leb (used + length bs) limit ≡ true) × (u ≡ used + length bs) × (take u e ≡ take used d ++ bs)
 unfolding hasPlace
 stored-now {d} {e} {used} {limit} {bs} {r} {u} s a = go (hasPlace (length d) used limit (length bs)) refl
   where

@@ -75,7 +75,8 @@ abbrev pub noRow : Row
 noRow = record { flags = 0; name = [] }
 
 -- what comes after the row before place i comes after all rows before it
-pub before-less : (rs : List Row) → Asc byteOrder (names rs) → (i : ℕ) (p : List ℕ) → i ≤ length rs → ((j : ℕ) → i ≡ suc j → Less (getD rs j noRow .name) p) → (q : Row) → List·Memᴰ q (take i rs) → Less (q .name) p
+pub before-less : (rs : List Row) → Asc byteOrder (names rs) → (i : ℕ) (p : List ℕ) → i ≤ length rs →
+    ((j : ℕ) → i ≡ suc j → Less (getD rs j noRow .name) p) → (q : Row) → List·Memᴰ q (take i rs) → Less (q .name) p
 before-less rs a zero p h g q m = absurd (List·Memᴰ·not-nil m)
 before-less rs a (suc j) p h g q m =
     ⊎-elim (λ k. bytes-total .trans (q .name) (getD rs j noRow .name) p (earlier-less rs a j (getD rs j noRow) (drop (suc j) rs) (drop-cons rs j noRow (omega arith)) q k) (g j refl))

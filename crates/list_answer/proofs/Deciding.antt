@@ -52,7 +52,9 @@ meets-whole o true f = refl
 meets-whole o false f = meets-zero o
 
 -- a test of the rows, by their marks
-any-marked : (area p : List ℕ) (f : Row → Bool) (m : ℕ) (ws : List ℕ) → ((k : ℕ) → k < length ws → contains (marksOf (getD ws k 0)) m ≡ f (rowAtWord area (getD ws k 0))) → anyOf (λ r. below p (r .name) && f r) (rowsAt area ws) ≡ anyOf (markedBelow area m p) ws
+any-marked : (area p : List ℕ) (f : Row → Bool) (m : ℕ) (ws : List ℕ) →
+    ((k : ℕ) → k < length ws → contains (marksOf (getD ws k 0)) m ≡ f (rowAtWord area (getD ws k 0))) →
+    anyOf (λ r. below p (r .name) && f r) (rowsAt area ws) ≡ anyOf (markedBelow area m p) ws
 unfolding anyOf
 any-marked area p f m [] e = refl
 any-marked area p f m (w ∷ ws) e = rw (e 0 (omega arith), any-marked area p f m ws (λ k h. e (suc k) (omega arith)))
@@ -147,7 +149,9 @@ module _ (area words : List ℕ) (x : Indexed area words) (b : Beginning) (a : A
 
   module _ (o : Options) (ps : List (List ℕ)) (marked : Marked area words o ps) where
     -- what lies below it lies from the row on
-    scan-here : (f : Row → Bool) (m : ℕ) → ((k : ℕ) → k < length words → contains (marksOf (getD words k 0)) m ≡ f (rowAtWord area (getD words k 0))) → anyOf (λ r. below n (r .name) && f r) table ≡ foundBelow area words m b
+    scan-here : (f : Row → Bool) (m : ℕ) →
+        ((k : ℕ) → k < length words → contains (marksOf (getD words k 0)) m ≡ f (rowAtWord area (getD words k 0))) →
+        anyOf (λ r. below n (r .name) && f r) table ≡ foundBelow area words m b
     scan-here f m e = any-marked area n f m words e ∙ sym (scan-whole begins-here m (a .beyond))
 
     pub meets-below : meetsBelow (rowsAt area words) o (begun area words b) ≡ foundBelow area words 1 b
@@ -183,7 +187,8 @@ module _ (area words : List ℕ) (x : Indexed area words) (b : Beginning) (a : A
         ∙ meets-whole o whole (row .flags)
         ∙ ap (λ (c : Bool). whole && c) (sym (has-meeting area words o ps marked (b .row) (a .row)))
 
-    pub right-here : (own deep : Bool) → own ≡ (eqb (nthRow words (b .row) .len) (b .len) && contains (marksOf (getD words (b .row) 0)) 1) → deep ≡ ((o .selRecursive && not own) && foundBelow area words 2 b) → (own || deep) ≡ byRight (rowsAt area words) o ps (begun area words b)
+    pub right-here : (own deep : Bool) → own ≡ (eqb (nthRow words (b .row) .len) (b .len) && contains (marksOf (getD words (b .row) 0)) 1) →
+        deep ≡ ((o .selRecursive && not own) && foundBelow area words 2 b) → (own || deep) ≡ byRight (rowsAt area words) o ps (begun area words b)
     right-here own deep e d =
         same-test own (o .selRecursive) (foundBelow area words 2 b) deep d
         ∙ (λ i. (e ∙ sym own-meets) i || sym unmatched-below i)
@@ -194,7 +199,9 @@ module _ (area words : List ℕ) (x : Indexed area words) (b : Beginning) (a : A
         same-test false false s dp f = f
 
     -- whether it matches: the row's whole name by the row's mark, where it is listed if it matches
-    pub matched-whole : eqb (nthRow words (b .row) .len) (b .len) ≡ true → (byRight (rowsAt area words) o ps (begun area words b) || asLevel (rowsAt area words) o ps (begun area words b)) ≡ true → contains (marksOf (getD words (b .row) 0)) 8 ≡ matchesFor (rowsAt area words) o ps (begun area words b)
+    pub matched-whole : eqb (nthRow words (b .row) .len) (b .len) ≡ true →
+        (byRight (rowsAt area words) o ps (begun area words b) || asLevel (rowsAt area words) o ps (begun area words b)) ≡ true →
+        contains (marksOf (getD words (b .row) 0)) 8 ≡ matchesFor (rowsAt area words) o ps (begun area words b)
     unfolding candidateMeets
     matched-whole e h =
         has-matched area words o ps marked (b .row) (a .row)

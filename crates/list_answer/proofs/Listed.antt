@@ -101,6 +101,7 @@ module _ (rs : List Row) (o : Options) (ps : List (List ℕ)) where
         cand-asc = unfold candidates in asc-sorted byteOrder bytes-total (joined (map (λ r. r .name ∷ properAncestors (r .name)) rs))
 
 -- The text of the beginnings that are looked at is that of the listed names.
-pub answer-text : (w : LineWord) (rs : List Row) (o : Options) (ps : List (List ℕ)) → Lawful rs → ascends (names rs) ≡ true → joined (map (shownText w rs o ps) (prefixes rs)) ≡ joined (map (lineOn w rs o ps) (listedNames rs o ps))
+pub answer-text : (w : LineWord) (rs : List Row) (o : Options) (ps : List (List ℕ)) → Lawful rs → ascends (names rs) ≡ true →
+    joined (map (shownText w rs o ps) (prefixes rs)) ≡ joined (map (lineOn w rs o ps) (listedNames rs o ps))
 unfolding shownText
 answer-text w rs o ps law a = sym (joined-shown (listed rs o ps) (lineOn w rs o ps) (prefixes rs)) ∙ ap (λ (l : List (List ℕ)). joined (map (lineOn w rs o ps) l)) (listed-prefixes rs o ps law a)

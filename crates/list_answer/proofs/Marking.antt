@@ -59,7 +59,10 @@ module _ (o : Options) (ps : List (List ℕ)) (r : Row) where
       go false f = refl
 
 -- the match that the code asks for, of a name that it has looked up
-pub matched-is : (o : Options) (ps : List (List ℕ)) (area : List ℕ) (w : ℕ) (meeting recursive level : Bool) (n : List ℕ) → meeting ≡ meetsMark o (rowAtWord area w) → recursive ≡ o .selRecursive → level ≡ levelOnly o ps (rowAtWord area w .flags) → n ≡ nameAt area w → (m : Bool) → m ≡ (((meeting || recursive) || level) && (leb (length n) 255 && matchesAny (chosen level ps) n)) → m ≡ matchedMark o ps (rowAtWord area w)
+pub matched-is : (o : Options) (ps : List (List ℕ)) (area : List ℕ) (w : ℕ) (meeting recursive level : Bool) (n : List ℕ) →
+    meeting ≡ meetsMark o (rowAtWord area w) → recursive ≡ o .selRecursive → level ≡ levelOnly o ps (rowAtWord area w .flags) → n ≡ nameAt area w →
+    (m : Bool) → m ≡ (((meeting || recursive) || level) && (leb (length n) 255 && matchesAny (chosen level ps) n)) →
+    m ≡ matchedMark o ps (rowAtWord area w)
 matched-is o ps area w meeting recursive level n em er el en m e =
     e
     ∙ (λ i. ((em i || er i) || el i) && (leb (length (en i)) 255 && matchesAny (chosen (el i) ps) (en i)))

@@ -46,7 +46,10 @@ unfolding growing
 growing-mem done [] p m = absurd (List·Memᴰ·not-nil m)
 growing-mem done (b ∷ rest) p m = go (List·Memᴰ·cases-cons m) (λ k. growing-mem (done ++ (b ∷ [])) rest p k)
   where
-    go : (p ≡ done ++ (b ∷ [])) ⊎ List·Memᴰ p (growing (done ++ (b ∷ [])) rest) → (List·Memᴰ p (growing (done ++ (b ∷ [])) rest) → (c : ℕ) × (q : List ℕ) × (r : List ℕ) × (p ≡ (done ++ (b ∷ [])) ++ (c ∷ q)) × (rest ≡ c ∷ (q ++ r))) → (c : ℕ) × (q : List ℕ) × (r : List ℕ) × (p ≡ done ++ (c ∷ q)) × (Path (List ℕ) (b ∷ rest) (c ∷ (q ++ r)))
+    go : (p ≡ done ++ (b ∷ [])) ⊎ List·Memᴰ p (growing (done ++ (b ∷ [])) rest) →
+        (List·Memᴰ p (growing (done ++ (b ∷ [])) rest) →
+        (c : ℕ) × (q : List ℕ) × (r : List ℕ) × (p ≡ (done ++ (b ∷ [])) ++ (c ∷ q)) × (rest ≡ c ∷ (q ++ r))) →
+        (c : ℕ) × (q : List ℕ) × (r : List ℕ) × (p ≡ done ++ (c ∷ q)) × (Path (List ℕ) (b ∷ rest) (c ∷ (q ++ r)))
     go (inl e) ih = (b, [], rest, e, refl)
     go (inr k) ih =
         let w = ih k in
@@ -77,7 +80,10 @@ shared-less (x ∷ a) [] h b q r e = cc
 shared-less (x ∷ a) (y ∷ n) h b q r e = go (eqb x y) refl e (view x y) h (λ k. shared-less a n k b q r)
   where
     -- the bytes are the same, and what follows decides
-    go : (o : Bool) → eqb x y ≡ o → drop {A = ℕ} (cond o (suc (sharedLen a n)) 0) (y ∷ n) ≡ b ∷ (q ++ r) → View x y → thenBy (compare x y) (lexBy compare a n) ≡ Ordering·lt → (Less a n → drop (sharedLen a n) n ≡ b ∷ (q ++ r) → Less a (take (sharedLen a n) n ++ (b ∷ q))) → Less (x ∷ a) (take {A = ℕ} (cond o (suc (sharedLen a n)) 0) (y ∷ n) ++ (b ∷ q))
+    go : (o : Bool) → eqb x y ≡ o → drop {A = ℕ} (cond o (suc (sharedLen a n)) 0) (y ∷ n) ≡ b ∷ (q ++ r) → View x y →
+        thenBy (compare x y) (lexBy compare a n) ≡ Ordering·lt →
+        (Less a n → drop (sharedLen a n) n ≡ b ∷ (q ++ r) → Less a (take (sharedLen a n) n ++ (b ∷ q))) →
+        Less (x ∷ a) (take {A = ℕ} (cond o (suc (sharedLen a n)) 0) (y ∷ n) ++ (b ∷ q))
     go true f e (less c l) h ih = rw c
     go true f e (equal c l) h ih = rw c (ih (rw c at h) e)
     go true f e (more c l) h ih = absurd (omega (arith, eqb-true x y f))
@@ -92,7 +98,8 @@ shared-begins a [] s h = (a, refl)
 shared-begins [] (b ∷ p) s h = absurd (omega arith)
 shared-begins (x ∷ a) (b ∷ p) s h = go (eqb x b) refl h (λ k. shared-begins a p s k)
   where
-    go : (o : Bool) → eqb x b ≡ o → suc (length p) ≤ cond o (suc (sharedLen a (p ++ s))) 0 → (length p ≤ sharedLen a (p ++ s) → (t : List ℕ) × (a ≡ p ++ t)) → (t : List ℕ) × (Path (List ℕ) (x ∷ a) (b ∷ (p ++ t)))
+    go : (o : Bool) → eqb x b ≡ o → suc (length p) ≤ cond o (suc (sharedLen a (p ++ s))) 0 →
+        (length p ≤ sharedLen a (p ++ s) → (t : List ℕ) × (a ≡ p ++ t)) → (t : List ℕ) × (Path (List ℕ) (x ∷ a) (b ∷ (p ++ t)))
     go true f h ih = let w = ih (omega arith) in let e : x ≡ b = eqb-true x b f in let g : a ≡ p ++ w .0 = w .1 in (w .0, cc)
     go false f h ih = absurd (omega arith)
 
@@ -104,7 +111,8 @@ longer-has k p s h =
     (rw (take-append-le k p s (omega arith), drop-append-le k p s (omega arith), drop-cons p k 0 h) (mem-growing (take k p) (drop (suc k) p) s (getD p k 0)))
 
 -- every non-empty beginning of a row's name is looked at, or begins the name before the first row
-prefixes-after : (prev : List ℕ) (rs : List Row) (r : Row) (b : ℕ) (p s : List ℕ) → List·Memᴰ r rs → r .name ≡ (b ∷ p) ++ s → List·Memᴰ (b ∷ p) (prefixesAfter prev rs) ⊎ ((t : List ℕ) × (prev ≡ (b ∷ p) ++ t))
+prefixes-after : (prev : List ℕ) (rs : List Row) (r : Row) (b : ℕ) (p s : List ℕ) → List·Memᴰ r rs → r .name ≡ (b ∷ p) ++ s →
+    List·Memᴰ (b ∷ p) (prefixesAfter prev rs) ⊎ ((t : List ℕ) × (prev ≡ (b ∷ p) ++ t))
 unfolding prefixesAfter
 prefixes-after prev [] r b p s m e = absurd (List·Memᴰ·not-nil m)
 prefixes-after prev (q ∷ rs) r b p s m e = ⊎-elim (λ i. here s (ap (λ (x : Row). x .name) (sym i) ∙ e)) (λ k. later (prefixes-after (q .name) rs r b p s k e)) (List·Memᴰ·cases-cons m)
@@ -146,7 +154,8 @@ longer-between prev n p h m = (rw (w .3) (shared-less prev n h (w .0) (w .1) (w 
     upper (c ∷ r) e = inr (rw (whole (c ∷ r) e) (prefix-less p r c))
 
 -- the beginnings of one row, before those of the rows after it
-row-above : (prev n : List ℕ) (there : List (List ℕ)) → Less prev n → Asc byteOrder there × ((z : List ℕ) → List·Memᴰ z there → Less n z) → Asc byteOrder (longer (sharedLen prev n) n ++ there) × ((z : List ℕ) → List·Memᴰ z (longer (sharedLen prev n) n ++ there) → Less prev z)
+row-above : (prev n : List ℕ) (there : List (List ℕ)) → Less prev n → Asc byteOrder there × ((z : List ℕ) → List·Memᴰ z there → Less n z) →
+    Asc byteOrder (longer (sharedLen prev n) n ++ there) × ((z : List ℕ) → List·Memᴰ z (longer (sharedLen prev n) n ++ there) → Less prev z)
 row-above prev n there h ih = (asc-append byteOrder here there (unfold longer in growing-asc (take k n) (drop k n)) (ih .0) across, λ z m. ⊎-elim (first z) (λ u. bytes-total .trans prev n z h (ih .1 z u)) (List·Memᴰ·append-cases here m))
   where
     k : ℕ
@@ -162,7 +171,8 @@ row-above prev n there h ih = (asc-append byteOrder here there (unfold longer in
     across x y m u = ⊎-elim (λ e. rw e (ih .1 y u)) (λ l. bytes-total .trans x n y l (ih .1 y u)) (longer-between prev n x h m .1)
 
 -- all beginnings to look at lie after the name before, and ascend
-prefixes-above : (prev : List ℕ) (rs : List Row) → Above byteOrder prev (names rs) → Asc byteOrder (names rs) → Asc byteOrder (prefixesAfter prev rs) × ((z : List ℕ) → List·Memᴰ z (prefixesAfter prev rs) → Less prev z)
+prefixes-above : (prev : List ℕ) (rs : List Row) → Above byteOrder prev (names rs) → Asc byteOrder (names rs) →
+    Asc byteOrder (prefixesAfter prev rs) × ((z : List ℕ) → List·Memᴰ z (prefixesAfter prev rs) → Less prev z)
 unfolding prefixesAfter names
 prefixes-above prev [] a s = (tt, λ z m. absurd (List·Memᴰ·not-nil m))
 prefixes-above prev (r ∷ rs) a s = row-above prev (r .name) (prefixesAfter (r .name) rs) (a .0) (prefixes-above (r .name) rs (s .0) (s .1))

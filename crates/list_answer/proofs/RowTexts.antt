@@ -67,7 +67,9 @@ module _ (area words : List ℕ) (x : Indexed area words) where
     abbrev start : Bool → ℕ
     start deep = cond deep shared (len - 1)
 
-    pub first-range : (deep : Bool) → (nthRow words i .shared ≤ cond deep (nthRow words i .shared) (nthRow words i .len - 1)) × (cond deep (nthRow words i .shared) (nthRow words i .len - 1) ≤ nthRow words i .len)
+    pub first-range : (deep : Bool) →
+        (nthRow words i .shared ≤ cond deep (nthRow words i .shared) (nthRow words i .len - 1)) ×
+        (cond deep (nthRow words i .shared) (nthRow words i .len - 1) ≤ nthRow words i .len)
     first-range true = (omega arith, omega (arith, shares-less x i h))
     first-range false = (omega (arith, shares-less x i h), omega arith)
 
@@ -79,7 +81,9 @@ module _ (area words : List ℕ) (x : Indexed area words) where
         e
 
     -- so the whole name is the first to look at
-    pub first-shown : (deep : Bool) → deep ≡ (o .selRecursive || levelsAsked o ps) → beyond (shownText w (rowsAt area words) o ps) (nthName area words i) (cond deep (nthRow words i .shared) (nthRow words i .len - 1)) ≡ beyond (shownText w (rowsAt area words) o ps) (nthName area words i) (nthRow words i .shared)
+    pub first-shown : (deep : Bool) → deep ≡ (o .selRecursive || levelsAsked o ps) →
+        beyond (shownText w (rowsAt area words) o ps) (nthName area words i) (cond deep (nthRow words i .shared) (nthRow words i .len - 1)) ≡ beyond
+        (shownText w (rowsAt area words) o ps) (nthName area words i) (nthRow words i .shared)
     first-shown true e = refl
     first-shown false e =
         sym

@@ -83,7 +83,8 @@ module _ (w : LineWord) (rs : List Row) (o : Options) (ps : List (List ℕ)) (n 
       shown-unmatched f = out (listed-for rs o ps n ∙ ap (λ (b : Bool). b && (byRight rs o ps n || asLevel rs o ps n)) (match-is ∙ f))
 
       -- what matches is shown, with what stands on a line with this word
-      line : m ≡ true → (bits : Attributes) → setOf (attributesOn w rs o ps n) ≡ bits .bits → (named : CriteriaBits) → criteriaNumber (criteriaOn w rs o n) ≡ named .bits → Line bits named ≡ shownIs w rs o ps n
+      line : m ≡ true → (bits : Attributes) → setOf (attributesOn w rs o ps n) ≡ bits .bits → (named : CriteriaBits) →
+          criteriaNumber (criteriaOn w rs o n) ≡ named .bits → Line bits named ≡ shownIs w rs o ps n
       unfolding shownIs
       line f bits eb named en =
           sym
@@ -93,7 +94,10 @@ module _ (w : LineWord) (rs : List Row) (o : Options) (ps : List (List ℕ)) (n 
           shows : listed rs o ps n ≡ true
           shows = listed-for rs o ps n ∙ (λ i. (match-is ∙ f) i && (sym counts-are ∙ e) i)
 
-      pub shown-list : w ≡ OfList → m ≡ true → (flags : ℕ) → flags ≡ flagsOf rs n → (children : Bool) → children ≡ (o .retChildren && hasChildren rs o n) → (bits : Attributes) → bits .bits ≡ setOf (attributesFor flags o children level) → (info : Bool) → info ≡ (o .selRecursive && meetsBelow rs o n) → (named : CriteriaBits) → named .bits ≡ criteriaNumber (cond info (criteria o) noCriteria) → Line bits named ≡ shownIs w rs o ps n
+      pub shown-list : w ≡ OfList → m ≡ true → (flags : ℕ) → flags ≡ flagsOf rs n → (children : Bool) →
+          children ≡ (o .retChildren && hasChildren rs o n) → (bits : Attributes) → bits .bits ≡ setOf (attributesFor flags o children level) →
+          (info : Bool) → info ≡ (o .selRecursive && meetsBelow rs o n) → (named : CriteriaBits) →
+          named .bits ≡ criteriaNumber (cond info (criteria o) noCriteria) → Line bits named ≡ shownIs w rs o ps n
       shown-list ew f flags ef children ek bits eb info ei named en = line f bits shown-bits named shown-info
         where
           above : levelAbove rs o ps n ≡ level
@@ -107,7 +111,9 @@ module _ (w : LineWord) (rs : List Row) (o : Options) (ps : List (List ℕ)) (n 
           shown-info : criteriaNumber (criteriaOn w rs o n) ≡ named .bits
           shown-info = ap criteriaNumber (list-criteria ew ∙ ap (λ (b : Bool). cond b (criteria o) noCriteria) (sym ei)) ∙ sym en
 
-      pub shown-lsub : w ≡ OfLsub → m ≡ true → (flags : ℕ) → flags ≡ flagsOf rs n → (bits : Attributes) → bits .bits ≡ setOf (lsubAttributes (not (subscribed flags))) → (named : CriteriaBits) → named .bits ≡ 0 → Line bits named ≡ shownIs w rs o ps n
+      pub shown-lsub : w ≡ OfLsub → m ≡ true → (flags : ℕ) → flags ≡ flagsOf rs n → (bits : Attributes) →
+          bits .bits ≡ setOf (lsubAttributes (not (subscribed flags))) → (named : CriteriaBits) → named .bits ≡ 0 →
+          Line bits named ≡ shownIs w rs o ps n
       unfolding noCriteria criteriaNumber
       shown-lsub ew f flags ef bits eb named en =
           line f bits (ap setOf (lsub-shows ew ∙ ap (λ (k : ℕ). lsubAttributes (not (subscribed k))) (sym ef)) ∙ sym eb)
@@ -133,7 +139,8 @@ module _ (w : LineWord) (rs : List Row) (o : Options) (ps : List (List ℕ)) (n 
   unfolding shownIs shownText
   text-none e = go (listed rs o ps n) e
     where
-      go : (b : Bool) → cond b (Line (record { bits = setOf (attributesOn w rs o ps n) }) (record { bits = criteriaNumber (criteriaOn w rs o n) })) Nothing ≡ Nothing → cond b (lineOn w rs o ps n) [] ≡ []
+      go : (b : Bool) → cond b (Line (record { bits = setOf (attributesOn w rs o ps n) }) (record { bits = criteriaNumber (criteriaOn w rs o n) }))
+          Nothing ≡ Nothing → cond b (lineOn w rs o ps n) [] ≡ []
       go true f = cc
       go false f = refl
 
@@ -148,7 +155,9 @@ module _ (w : LineWord) (rs : List Row) (o : Options) (ps : List (List ℕ)) (n 
   unfolding shownIs shownText lineOn
   text-line a c e = go (listed rs o ps n) e
     where
-      go : (b : Bool) → cond b (Line (record { bits = setOf (attributesOn w rs o ps n) }) (record { bits = criteriaNumber (criteriaOn w rs o n) })) Nothing ≡ Line a c → cond b (wordLine (startOf w) (attributesOn w rs o ps n) n (criteriaOn w rs o n)) [] ≡ wordLine (startOf w) (members (a .bits)) n (criteriaOf (c .bits))
+      go : (b : Bool) → cond b (Line (record { bits = setOf (attributesOn w rs o ps n) }) (record { bits = criteriaNumber (criteriaOn w rs o n) }))
+          Nothing ≡ Line a c → cond b (wordLine (startOf w) (attributesOn w rs o ps n) n (criteriaOn w rs o n)) [] ≡ wordLine (startOf w)
+          (members (a .bits)) n (criteriaOf (c .bits))
       go true f =
           let g : record { bits = setOf (attributesOn w rs o ps n) } ≡ a = cc in
           let h : record { bits = criteriaNumber (criteriaOn w rs o n) } ≡ c = cc in

@@ -163,7 +163,8 @@ module _ (bs : List Bool) where
       go (some g) m = end-unlawful (g .val) (g .rest) (long-unlawful (g .val) (omega (arith, m g refl, ap length z, length-replicate {A = ℕ} 200 0)))
 
   module _ (n l : List ℕ) (j : ℕ) where
-    pub end-read : (s : CriteriaBits) → tailIs (childInfoRead (take (length l - j) (drop j l))) ≡ ChildInfo s → fromEnd bs n (drop j l) ≡ cond (lawfulName n) (some (line bs n (criteriaOf (s .bits)))) none
+    pub end-read : (s : CriteriaBits) → tailIs (childInfoRead (take (length l - j) (drop j l))) ≡ ChildInfo s →
+        fromEnd bs n (drop j l) ≡ cond (lawfulName n) (some (line bs n (criteriaOf (s .bits)))) none
     unfolding fromEnd _>>=_
     end-read s e = rw (tail-some s (childInfoRead (drop j l)) (rw (rest-from l j) at e))
 
@@ -177,7 +178,10 @@ module _ (l : List ℕ) where
   unfolding orBad
   parts-refused e = rw e
 
-  pub parts-taken : (bs : List Bool) (s : List ℕ) (c : CriteriaBits) (bits n : ℕ) (d e : List ℕ) → readParts l ≡ some (line bs s (criteriaOf (c .bits))) → criteriaNumber (criteriaOf (c .bits)) ≡ c .bits → bits ≡ setOf bs → n ≡ length s → n ≤ 200 → d ≡ replicate 200 0 → e ≡ sets d 0 s → (Parts (record { bits = bits }) n c ≡ lineIs (orBad (readParts l))) × (e ≡ nameBytes (orBad (readParts l)))
+  pub parts-taken : (bs : List Bool) (s : List ℕ) (c : CriteriaBits) (bits n : ℕ) (d e : List ℕ) →
+      readParts l ≡ some (line bs s (criteriaOf (c .bits))) → criteriaNumber (criteriaOf (c .bits)) ≡ c .bits → bits ≡ setOf bs → n ≡ length s →
+      n ≤ 200 → d ≡ replicate 200 0 → e ≡ sets d 0 s →
+      (Parts (record { bits = bits }) n c ≡ lineIs (orBad (readParts l))) × (e ≡ nameBytes (orBad (readParts l)))
   unfolding orBad lineIs nameBytes nameRead
   parts-taken bs s c bits n d e p k b m h z w = rw p ((λ i. Parts (record { bits = b i }) (m i) (record { bits = sym k i })), w ∙ named d s z (omega arith))
 

@@ -55,14 +55,16 @@ unfolding nameBytes
 name-front r = take-append-seam (nameRead r) (replicate (200 - length (nameRead r)) 0)
 
 -- What the line writer writes, the reader gives back: the same three parts, the name in 200 bytes, zero after it.
-pub writer-then-reader : (a k : ℕ) (n l : List ℕ) → a < 65536 → lineFrom (members a) n k ≡ answered l → (lineIs (readLine l) ≡ partsCase a (length n) k) × (nameBytes (readLine l) ≡ n ++ replicate (200 - length n) 0)
+pub writer-then-reader : (a k : ℕ) (n l : List ℕ) → a < 65536 → lineFrom (members a) n k ≡ answered l →
+    (lineIs (readLine l) ≡ partsCase a (length n) k) × (nameBytes (readLine l) ≡ n ++ replicate (200 - length n) 0)
 writer-then-reader a k n l h e =
     let w = written-is-read (members a) n k l (length-members a) e in
     let is : setOf (attributesRead (readLine l)) ≡ a = ap setOf (w .1) ∙ setOf-members a h in
     (read-case (readLine l) (w .0) ∙ (λ i. partsCase (is i) (length (w .2 i)) (w .3 i)), unfold nameBytes in ap (λ (m : List ℕ). m ++ replicate (200 - length m) 0) (w .2))
 
 -- What the reader takes, the line writer writes again from the parts that the reader gave.
-pub reader-then-writer : (l : List ℕ) (a : Attributes) (m : ℕ) (k : CriteriaSet) → lineIs (readLine l) ≡ Parts a m k → lineFrom (members (a .bits)) (take m (nameBytes (readLine l))) (k .bits) ≡ answered l
+pub reader-then-writer : (l : List ℕ) (a : Attributes) (m : ℕ) (k : CriteriaSet) → lineIs (readLine l) ≡ Parts a m k →
+    lineFrom (members (a .bits)) (take m (nameBytes (readLine l))) (k .bits) ≡ answered l
 reader-then-writer l a m k e = (λ i. lineFrom (bs i) (name i) (set i)) ∙ read-is-written l read
   where
     read : readNumber (readLine l) ≡ 0

@@ -32,7 +32,8 @@ pub(crate) const ATTRIBUTE_COUNT: usize = 16;
 
 // The attributes' names in document 01's order, each behind a space.
 pub(crate) const NAMES: [u8; 152] =
-    *b" \\Marked \\Unmarked \\Noselect \\NoInferiors \\Remote \\Subscribed \\NonExistent \\All \\Archive \\Drafts \\Flagged \\Junk \\Sent \\Trash \\HasChildren \\HasNoChildren";
+    *b" \\Marked \\Unmarked \\Noselect \\NoInferiors \\Remote \\Subscribed \\NonExistent \
+     \\All \\Archive \\Drafts \\Flagged \\Junk \\Sent \\Trash \\HasChildren \\HasNoChildren";
 
 // Where the space before each name stands, and the end of the last.
 pub(crate) const PLACES: [u8; 17] = [

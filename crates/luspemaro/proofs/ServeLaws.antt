@@ -33,7 +33,8 @@ pub room-of : (d : Lent) (line : List ℕ) (st : State) → readyIn d line st �
 room-of d line st h = sizes (length (d .table)) (length (d .records)) (length (d .namespaces)) (length line) (length (d .out)) st h .out
 
 -- what was fed was sent
-pub rounds : {bytes : List ℕ} {d e : Lent} {line line′ : List ℕ} {st : State} {t : Turn} {sent : Sent} → Turns bytes d e line line′ st t → Sends (t .written) sent → Rounds bytes d e line line′ st (record { state = t .state; used = t .used; frames = t .frames; sent = sent })
+pub rounds : {bytes : List ℕ} {d e : Lent} {line line′ : List ℕ} {st : State} {t : Turn} {sent : Sent} → Turns bytes d e line line′ st t →
+    Sends (t .written) sent → Rounds bytes d e line line′ st (record { state = t .state; used = t .used; frames = t .frames; sent = sent })
 rounds {e = e} {t = t} x y =
     record {
       inside = x .inside;
@@ -92,7 +93,10 @@ module _ {bytes : List ℕ} {d : Lent} {line : List ℕ} {st : State} {f : ℕ} 
   pub part-takes : {e′ : Lent} {line″ : List ℕ} {r : Round} → at < length bytes → Rounds left e e′ line′ line″ st′ r → (at + r .used ≤ length bytes) × (0 < r .used)
   part-takes less x = (omega (arith, x .inside, left-length), x .onward (omega (arith, left-length)))
 
-  pub part-more : (e′ : Lent) (line″ : List ℕ) (r : Round) → at < length bytes → Rounds left e e′ line′ line″ st′ r → length (e′ .table) ≡ length (e .table) → length (e′ .records) ≡ length (e .records) → length (e′ .namespaces) ≡ length (e .namespaces) → length line″ ≡ length line′ → length (e′ .out) ≡ length (e .out) → (f″ : ℕ) → f″ ≡ min (f′ + r .frames) (2 ^ 64 - 1) → Part bytes d line st f e′ line″ (r .state) f″ (at + r .used)
+  pub part-more : (e′ : Lent) (line″ : List ℕ) (r : Round) → at < length bytes → Rounds left e e′ line′ line″ st′ r →
+      length (e′ .table) ≡ length (e .table) → length (e′ .records) ≡ length (e .records) → length (e′ .namespaces) ≡ length (e .namespaces) →
+      length line″ ≡ length line′ → length (e′ .out) ≡ length (e .out) → (f″ : ℕ) → f″ ≡ min (f′ + r .frames) (2 ^ 64 - 1) →
+      Part bytes d line st f e′ line″ (r .state) f″ (at + r .used)
   unfolding behind
   part-more e′ line″ r less x t w m l o f″ q =
       let taken : take (at + r .used) bytes ≡ take at bytes ++ take (r .used) left = take-add at (r .used) bytes ∙ ap (λ (l : List ℕ). take at bytes ++ l) (sym (take-take (r .used) (length bytes - at) (drop at bytes) (omega (arith, x .inside, left-length)))) in
@@ -123,7 +127,8 @@ module _ {bytes : List ℕ} {d : Lent} {line : List ℕ} {st : State} {f : ℕ} 
 not-so : true ≡ false → ⊥
 not-so e = let z : _≡_ {A = ℕ} 0 1 = cc in absurd (omega arith)
 
-pub serves-none : {e : Lent} {line′ : List ℕ} {st : State} (bytes : List ℕ) (d : Lent) (line : List ℕ) (q : Place) (frames : ℕ) → readyIn e line′ st ≡ true → Serves bytes d e line line′ q (placeIs st frames false true)
+pub serves-none : {e : Lent} {line′ : List ℕ} {st : State} (bytes : List ℕ) (d : Lent) (line : List ℕ) (q : Place) (frames : ℕ) →
+    readyIn e line′ st ≡ true → Serves bytes d e line line′ q (placeIs st frames false true)
 serves-none bytes d line q frames r = record { holds = λ f. absurd (not-so f); frames = λ f. absurd (not-so f); going = λ m. absurd (not-so (sym m)); ready-on = r }
 
 -- one read: its bytes, the end of the input, or a failure

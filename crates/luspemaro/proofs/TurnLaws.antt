@@ -42,7 +42,9 @@ unfolding framesIn throughLine
 frames-through [] h = absurd (omega arith)
 frames-through (c ∷ t) h = go (eqb c 10) refl t (frames-through t) (through-less t)
   where
-    go : (o : Bool) → eqb c 10 ≡ o → (u : List ℕ) → (0 < length u → framesIn (take (throughLine u) u) ≡ endsFrame (getD u (throughLine u - 1) 0)) → length u - throughLine u ≤ length u - 1 → framesIn (take (cond o 1 (suc (throughLine u))) (c ∷ u)) ≡ endsFrame (getD (c ∷ u) (cond o 1 (suc (throughLine u)) - 1) 0)
+    go : (o : Bool) → eqb c 10 ≡ o → (u : List ℕ) → (0 < length u → framesIn (take (throughLine u) u) ≡ endsFrame (getD u (throughLine u - 1) 0)) →
+        length u - throughLine u ≤ length u - 1 →
+        framesIn (take (cond o 1 (suc (throughLine u))) (c ∷ u)) ≡ endsFrame (getD (c ∷ u) (cond o 1 (suc (throughLine u)) - 1) 0)
     go true e u ih l = omega arith
     go false e [] ih l = omega arith
     go false e (x ∷ v) ih l =
@@ -98,7 +100,10 @@ module _ (s : Session) (a b : List ℕ) where
   abbrev then : Came
   then = fedAll (fedAll s a .session) b
 
-  answered-more : (o p rest : List ℕ) (e : Lent) (line : List ℕ) (st : State) (n k : ℕ) → n ≤ length o → k ≤ length p → take n o ≡ fedAll s a .output → n ≡ length (fedAll s a .output) → take k p ≡ then .output → k ≡ length (then .output) → Holds e line st (then .session) → Answered (fedAll s (a ++ b)) (lent (e .table) (e .records) (e .namespaces) (take n o ++ (p ++ rest))) line st (n + k)
+  answered-more : (o p rest : List ℕ) (e : Lent) (line : List ℕ) (st : State) (n k : ℕ) → n ≤ length o → k ≤ length p →
+      take n o ≡ fedAll s a .output → n ≡ length (fedAll s a .output) → take k p ≡ then .output → k ≡ length (then .output) →
+      Holds e line st (then .session) →
+      Answered (fedAll s (a ++ b)) (lent (e .table) (e .records) (e .namespaces) (take n o ++ (p ++ rest))) line st (n + k)
   unfolding behind
   answered-more o p rest e line st n k i j x m y m′ h =
       rw (fedAll-append s a b)
@@ -158,7 +163,9 @@ module _ {bytes : List ℕ} {d : Lent} {line : List ℕ} {st : State} {t w n o l
         ∙ frames-append (take used bytes) (take (throughLine left) left)
         ∙ ap (λ (k : ℕ). framesIn (take used bytes) + k) (frames-through left (omega (arith, left-length)) ∙ ap endsFrame last-byte)
 
-    came-more : length p ≡ length room-left → (s : Session) → Holds d line st s → Answered (fedAll s (take (used + r .used) bytes)) (lent t′ w′ n′ (putMid written (length o - written) o p)) l′ (r .state) (written + r .written)
+    came-more : length p ≡ length room-left → (s : Session) → Holds d line st s →
+        Answered (fedAll s (take (used + r .used) bytes)) (lent t′ w′ n′ (putMid written (length o - written) o p)) l′ (r .state)
+        (written + r .written)
     came-more hp s h₀ =
         let a = so .came s h₀ in
         let h = a .holds in
@@ -173,7 +180,9 @@ module _ {bytes : List ℕ} {d : Lent} {line : List ℕ} {st : State} {t w n o l
         let y = f .comes (h .0) (h .1) .says in
         omega (arith, y .written, y .fits)
 
-    pub so-far-more : length t′ ≡ length t → length w′ ≡ length w → length n′ ≡ length n → length l′ ≡ length l → length p ≡ length room-left → SoFar bytes d line st (lent t′ w′ n′ (putMid written (length o - written) o p)) l′ (r .state) (used + r .used) (frames + endsFrame (getD bytes (used + r .used - 1) 0)) (written + r .written)
+    pub so-far-more : length t′ ≡ length t → length w′ ≡ length w → length n′ ≡ length n → length l′ ≡ length l → length p ≡ length room-left →
+        SoFar bytes d line st (lent t′ w′ n′ (putMid written (length o - written) o p)) l′ (r .state) (used + r .used)
+        (frames + endsFrame (getD bytes (used + r .used - 1) 0)) (written + r .written)
     so-far-more ht hw hn hl hp =
         let out = putMid written (length o - written) o p in
         let same : length out ≡ length o = same-len-mid written (length o - written) o p hp in

@@ -189,7 +189,8 @@ pub ascends-from : (ns : List (List ℕ)) (k : ℕ) → ascends ns ≡ true → 
 ascends-from ns k l h = rw (add-one k) (from-at ns k l h)
 
 -- Names before the first that begins with p do not lie below it.
-pub earlier-below : (p : List ℕ) (ns : List (List ℕ)) (i : ℕ) → ascends ns ≡ true → i < length ns → starts p (getD ns i []) ≡ true → ((k : ℕ) → k + 1 ≡ i → sharedLen (getD ns k []) (getD ns i []) < length p) → (k : ℕ) → k < i → below p (getD ns k []) ≡ false
+pub earlier-below : (p : List ℕ) (ns : List (List ℕ)) (i : ℕ) → ascends ns ≡ true → i < length ns → starts p (getD ns i []) ≡ true →
+    ((k : ℕ) → k + 1 ≡ i → sharedLen (getD ns k []) (getD ns i []) < length p) → (k : ℕ) → k < i → below p (getD ns k []) ≡ false
 earlier-below p ns i l h e f k g = before-below p (getD ns k []) (go (decLe (k + 2) i))
   where
     last : (j : ℕ) → j + 1 ≡ i → isLt (byteOrder (getD ns j []) p) ≡ true

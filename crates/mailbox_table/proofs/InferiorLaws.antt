@@ -40,7 +40,8 @@ any-row area p [] = refl
 any-row area p (w ∷ ws) = rw (and-zero-r (marksOf w), and-true (below p (nameAt area w)), any-row area p ws)
 
 -- so what is found from row i on below its name is all that lies below it
-pub below-anywhere : {area words : List ℕ} → Indexed area words → (i : ℕ) → i < length words → belowFrom area words 0 (prefixOf area words i (nthRow words i .len)) i ≡ anyOf (λ q. below (nthName area words i) (q .name)) (rowsAt area words)
+pub below-anywhere : {area words : List ℕ} → Indexed area words → (i : ℕ) → i < length words →
+    belowFrom area words 0 (prefixOf area words i (nthRow words i .len)) i ≡ anyOf (λ q. below (nthName area words i) (q .name)) (rowsAt area words)
 below-anywhere {area} {words} x i g =
     scan-whole begins 0 (shares-less x i g) ∙ rw (prefix-whole area words i) (any-row area (nthName area words i) words)
   where

@@ -21,7 +21,8 @@ module _ {A B : Type 0} (f : A → B) (d : List B) where
       ap (λ (k : ℕ). set (paste d 0 (map f s) j) k (f (getD s j z))) (sym (zero-add j)) ∙ step 0 s z j (subst (λ (k : ℕ). k < length d) (sym (zero-add j)) hd) hs
 
   -- the same place in both lists
-  pub same-step : (at : ℕ) (s : List A) (z : A) (j : ℕ) → at + j < length d → j < length (drop at s) → set (paste d at (map f (drop at s)) j) (at + j) (f (getD s (at + j) z)) ≡ paste d at (map f (drop at s)) (j + 1)
+  pub same-step : (at : ℕ) (s : List A) (z : A) (j : ℕ) → at + j < length d → j < length (drop at s) →
+      set (paste d at (map f (drop at s)) j) (at + j) (f (getD s (at + j) z)) ≡ paste d at (map f (drop at s)) (j + 1)
   same-step at s z j hd hs = ap (λ (v : A). set (paste d at (map f (drop at s)) j) (at + j) (f v)) (sym (getD-drop at s j z)) ∙ step at (drop at s) z j hd hs
 
   pub copy-length : (at : ℕ) (s : List A) (n : ℕ) → at + n ≤ length d → n ≤ length s → length (paste d at (map f s) n) ≡ length d
@@ -48,5 +49,6 @@ module _ {A B C : Type 0} (f : A → B) (g : B → C) (h : A → C) where
       let more : map g (take (suc j) (map f s)) ≡ map h (take (suc j) s) = told-suc s z j (le-of-suc-le-suc l) e rest in
       cc
 
-  pub told-step : (s : List A) (z : A) (j : ℕ) → j < length s → g (f (getD s j z)) ≡ h (getD s j z) → map g (take j (map f s)) ≡ map h (take j s) → map g (take (j + 1) (map f s)) ≡ map h (take (j + 1) s)
+  pub told-step : (s : List A) (z : A) (j : ℕ) → j < length s → g (f (getD s j z)) ≡ h (getD s j z) → map g (take j (map f s)) ≡ map h (take j s) →
+      map g (take (j + 1) (map f s)) ≡ map h (take (j + 1) s)
   told-step s z j l e p = subst (λ (k : ℕ). map g (take k (map f s)) ≡ map h (take k s)) (sym (add-one j)) (told-suc s z j l e p)

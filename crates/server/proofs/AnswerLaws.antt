@@ -53,7 +53,8 @@ module _ (ws : List ℕ) (lent count : ℕ) (area spaces l out : List ℕ) where
       rw h
       ((f, ap (λ (t : Store). t .count) (sym e)), (g, (ap (λ (t : Store). t .area) (sym e), (ap (λ (t : Store). t .records) (sym e), record { order = omega arith; lent-only = omega arith; within = omega arith; size = refl; others = paste-zero ws 0 ws }))))
 
-  pub alone-refused : (k : ℕ) (r : Stored) → D ≡ unchangedBy (wordStore ws lent count area) k → r ≡ record { written = Refused k; count = count; from = 0; to = 0 } → Clauses D lent ws ws area out out r
+  pub alone-refused : (k : ℕ) (r : Stored) → D ≡ unchangedBy (wordStore ws lent count area) k →
+      r ≡ record { written = Refused k; count = count; from = 0; to = 0 } → Clauses D lent ws ws area out out r
   unfolding unchangedBy writtenIs bufferAfter
   alone-refused k r e h =
       alone (Refused k) out r (ap (λ (d : Commanded). d .store) e) (ap (λ (d : Commanded). writtenIs (d .reply)) (sym e)) (ap (λ (d : Commanded). bufferAfter out (d .reply)) (sym e)) h

@@ -99,7 +99,8 @@ module _ (s : Store) (spaces l out : List ℕ) where
   stays (refusal k) = refl
   stays (answered a) = go (leb (length a) (length out))
     where
-      go : (b : Bool) → _≡_ {A = Commanded} (cond b (record { reply = answered a; store = s }) (record { reply = refusal 9; store = s })) (record { reply = cond b (answered a) (refusal 9); store = s })
+      go : (b : Bool) → _≡_ {A = Commanded} (cond b (record { reply = answered a; store = s }) (record { reply = refusal 9; store = s }))
+          (record { reply = cond b (answered a) (refusal 9); store = s })
       go true = refl
       go false = refl
 

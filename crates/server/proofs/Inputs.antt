@@ -113,7 +113,9 @@ unfolding judged
 judged-few tag a =
     go (every (knownIn selectionWords) (a .selection) && every (knownIn returnWords) (a .returns)) (lawfulOptions (optionsOf a)) (fewPatterns a) refl (asksRoot a)
   where
-    go : (k l f : Bool) → fewPatterns a ≡ f → (r : Bool) → Carries (cond k (cond l (cond f (cond r (rootOf tag) (listing tag (optionsOf a) (canonical (a .reference) (a .pats)))) (refused 8)) (refused 7)) (refused 6))
+    go : (k l f : Bool) → fewPatterns a ≡ f → (r : Bool) →
+        Carries (cond k (cond l (cond f (cond r (rootOf tag) (listing tag (optionsOf a) (canonical (a .reference) (a .pats)))) (refused 8))
+        (refused 7)) (refused 6))
     go false l f e r = tt
     go true false f e r = tt
     go true true false e r = tt

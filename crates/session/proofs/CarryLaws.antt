@@ -63,7 +63,9 @@ added limit number area bs stored =
     record { stored = stored (cond room (area ++ bs) area); output = cond room [] (refusalLine number) }
 
 -- with room for them or without
-adding : (b : Bool) (number : ℕ) (area bs : List ℕ) (stored : List ℕ → Stored) → _≡_ {A = Stepped} (cond b (answering (stored (area ++ bs)) []) (answering (stored area) (refusalLine number))) (record { stored = stored (cond b (area ++ bs) area); output = cond b [] (refusalLine number) })
+adding : (b : Bool) (number : ℕ) (area bs : List ℕ) (stored : List ℕ → Stored) →
+    _≡_ {A = Stepped} (cond b (answering (stored (area ++ bs)) []) (answering (stored area) (refusalLine number)))
+    (record { stored = stored (cond b (area ++ bs) area); output = cond b [] (refusalLine number) })
 unfolding answering
 adding true number area bs stored = refl
 adding false number area bs stored = refl
@@ -78,7 +80,9 @@ entry-added s bs = adding (leb (length (s .namespaces) + length bs) 1024) 2 (s .
 
 -- A row: 13 where records are kept, else added or not for want of room.
 module _ (n : Lengths) (row t o : List ℕ) (rows : n .table ≤ 16384) where
-  row-refused : n .edited ≡ true → (w spaces : List ℕ) → addRow (record { table = keptOf n t w; namespaces = spaces }) row ≡ answering (record { table = keptOf n t w; namespaces = spaces }) (refusalLine 13)
+  row-refused : n .edited ≡ true → (w spaces : List ℕ) →
+      addRow (record { table = keptOf n t w; namespaces = spaces }) row ≡ answering (record { table = keptOf n t w; namespaces = spaces })
+      (refusalLine 13)
   unfolding addRow addRowTo
   row-refused e w spaces = rw e
 
@@ -86,7 +90,8 @@ module _ (n : Lengths) (row t o : List ℕ) (rows : n .table ≤ 16384) where
   adds-not p k e put w m entries =
       rw (row-refused e w (take (n .namespaces) m)) (carries-said (lent t w m o) n rows entries (refusalLine 13) p k (says-refusal 13 put))
 
-  pub adds-row : (u p : List ℕ) (r : Added) → n .edited ≡ false → 16384 ≤ length t → Keeps 16384 1 (n .table) row t u o p r → AddsRow n row t u o p (outcomeIs (lengthsIs (r .len) (n .namespaces) (n .edited)) (r .written))
+  pub adds-row : (u p : List ℕ) (r : Added) → n .edited ≡ false → 16384 ≤ length t → Keeps 16384 1 (n .table) row t u o p r →
+      AddsRow n row t u o p (outcomeIs (lengthsIs (r .len) (n .namespaces) (n .edited)) (r .written))
   adds-row u p r e room x w m entries =
       rw (e, row-added (take (n .table) t) (take (n .namespaces) m) row, length-take-le (n .table) t (omega (arith, rows, room))) (record {
         table = ap bytes (x .front);
@@ -106,7 +111,9 @@ module _ (d : Lent) (n : Lengths) (w : Within n (d .table) (d .records) (d .name
   unfolding framed frameIs
   kind-row size t o r e x = rw e (x (d .records) (d .namespaces) (w .entries))
 
-  pub kind-entry : (size : ℕ) (m o : List ℕ) (k : Added) → f ≡ Namespaces size → Keeps 1024 2 (n .namespaces) (take size bs) (d .namespaces) m (d .out) o k → CarriesOut n bs f d (lent (d .table) (d .records) m o) (outcomeIs (lengthsIs (n .table) (k .len) (n .edited)) (k .written))
+  pub kind-entry : (size : ℕ) (m o : List ℕ) (k : Added) → f ≡ Namespaces size →
+      Keeps 1024 2 (n .namespaces) (take size bs) (d .namespaces) m (d .out) o k →
+      CarriesOut n bs f d (lent (d .table) (d .records) m o) (outcomeIs (lengthsIs (n .table) (k .len) (n .edited)) (k .written))
   unfolding framed frameIs
   kind-entry size m o k e x =
       rw (e, entry-added (storedIn d n) (take size bs), length-take-le (n .namespaces) (d .namespaces) (omega (arith, w .entries, w .namespaces))) (record {
@@ -125,7 +132,9 @@ module _ (d : Lent) (n : Lengths) (w : Within n (d .table) (d .records) (d .name
   unfolding framed frameIs
   kind-command size t v o r e x = rw e x
 
-  pub kind-walk : (option : ℕ) (o : List ℕ) (k : ℕ) → f ≡ Walk option → Says (walkLine (walk (keptTable (keptIn d n)) option 16384 8192 8192)) (d .out) o k → CarriesOut n bs f d (lent (d .table) (d .records) (d .namespaces) o) (outcomeIs n k)
+  pub kind-walk : (option : ℕ) (o : List ℕ) (k : ℕ) → f ≡ Walk option →
+      Says (walkLine (walk (keptTable (keptIn d n)) option 16384 8192 8192)) (d .out) o k →
+      CarriesOut n bs f d (lent (d .table) (d .records) (d .namespaces) o) (outcomeIs n k)
   unfolding framed frameIs
   kind-walk option o k e x = rw e (carries-said d n (w .held .rows) (w .entries) (walkLine (walk (keptTable (keptIn d n)) option 16384 8192 8192)) o k x)
 

@@ -69,7 +69,8 @@ unfolding fedAll
 none-fed s d line st h = (refl, (d, (line, h)))
 
 -- from any session that the memory holds
-pub calls-come : (xs : List Call) (st : State) (d : Lent) (line : List ℕ) (s : Session) (input : List ℕ) → Holds d line st s → Calls st d line xs → Through input xs → Come (fedAll s input) (saidBy xs) (stateAfter st xs)
+pub calls-come : (xs : List Call) (st : State) (d : Lent) (line : List ℕ) (s : Session) (input : List ℕ) → Holds d line st s → Calls st d line xs →
+    Through input xs → Come (fedAll s input) (saidBy xs) (stateAfter st xs)
 unfolding saidBy stateAfter behind
 calls-come [] st d line s input h c t = rw t (none-fed s d line st h)
 calls-come (x ∷ xs) st d line s input h c t =
@@ -101,12 +102,14 @@ calls-come (x ∷ xs) st d line s input h c t =
     whole : fedAll s input ≡ behind (fedAll s front .output) (fedAll (fedAll s front .session) (drop (x .answer .used) input))
     whole = ap (fedAll s) cut ∙ fedAll-append s front (drop (x .answer .used) input)
 
-    then : Come (fedAll (fedAll s front .session) (drop (x .answer .used) input)) (saidBy xs) (stateAfter (x .answer .state) xs) → Come (fedAll s input) (take (x .answer .written) (x .after .out) ++ saidBy xs) (stateAfter (x .answer .state) xs)
+    then : Come (fedAll (fedAll s front .session) (drop (x .answer .used) input)) (saidBy xs) (stateAfter (x .answer .state) xs) →
+        Come (fedAll s input) (take (x .answer .written) (x .after .out) ++ saidBy xs) (stateAfter (x .answer .state) xs)
     then ih = rw whole (ap (λ (l : List ℕ). l ++ saidBy xs) said ∙ ap (λ (l : List ℕ). fedAll s front .output ++ l) (ih .0), ih .1)
 
 -- Theorem: from the start, whatever the memory holds and however the input is cut, the lines that the calls of `feed` hand out, joined,
 -- and then that of `finish`, are the program's output.
-pub however-cut : (xs : List Call) (d : Lent) (line input o p : List ℕ) (r : ℕ) → Calls startIs d line xs → Through input xs → 32771 ≤ length o → Finishes o p (stateAfter startIs xs) r → saidBy xs ++ take r p ≡ programOutput input
+pub however-cut : (xs : List Call) (d : Lent) (line input o p : List ℕ) (r : ℕ) → Calls startIs d line xs → Through input xs → 32771 ≤ length o →
+    Finishes o p (stateAfter startIs xs) r → saidBy xs ++ take r p ≡ programOutput input
 unfolding programOutput
 however-cut xs d line input o p r c t room f =
     let w = calls-come xs startIs d line start input (holds-start d line) c t in

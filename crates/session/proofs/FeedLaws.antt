@@ -107,7 +107,8 @@ module _ (chunk : List ℕ) (d : Lent) (line line′ : List ℕ) (st : State) (g
   goes-on p x = rw (run, bytes) (holds-all (beforeLine chunk) line (st .gathered) p (is-sized .line) x)
 
   -- a piece without a line feed
-  pub feeds-part : (used : ℕ) → used ≡ length (beforeLine chunk) → length chunk ≤ used → Feeds chunk d d line line′ st (record { state = record { stored = st .stored; gathered = g }; used = used; written = 0 })
+  pub feeds-part : (used : ℕ) → used ≡ length (beforeLine chunk) → length chunk ≤ used →
+      Feeds chunk d d line line′ st (record { state = record { stored = st .stored; gathered = g }; used = used; written = 0 })
   feeds-part used u all =
       let w = before-all chunk (omega arith) in
       let whole : take (throughLine chunk) chunk ≡ beforeLine chunk = take-all (throughLine chunk) chunk (omega (arith, w .1)) ∙ sym (w .0) in
@@ -143,7 +144,8 @@ module _ (chunk : List ℕ) (d : Lent) (line line′ : List ℕ) (st : State) (g
       }
 
   -- a piece with a line feed, at which the frame was carried out
-  pub feeds-line : (e : Lent) (used : ℕ) (r : Outcome) → used ≡ length (beforeLine chunk) → used < length chunk → Ended line′ g (st .stored) d e r → Feeds chunk d e line line′ st (record { state = record { stored = r .stored; gathered = gatheredNone }; used = used + 1; written = r .written })
+  pub feeds-line : (e : Lent) (used : ℕ) (r : Outcome) → used ≡ length (beforeLine chunk) → used < length chunk → Ended line′ g (st .stored) d e r →
+      Feeds chunk d e line line′ st (record { state = record { stored = r .stored; gathered = gatheredNone }; used = used + 1; written = r .written })
   unfolding step
   feeds-line e used r u less x =
       let w = through-line chunk (omega arith) in
@@ -177,7 +179,8 @@ module _ (chunk : List ℕ) (d : Lent) (line line′ : List ℕ) (st : State) (g
       }
 
 -- an answer by the piece that was taken
-pub feed-taken : {chunk : List ℕ} {d e : Lent} {line line′ : List ℕ} {st : State} {r : Fed} (t : Took) → r ≡ Taken t → readyIn d line st ≡ true → Feeds chunk d e line line′ st t → FeedIs chunk d e line line′ st r
+pub feed-taken : {chunk : List ℕ} {d e : Lent} {line line′ : List ℕ} {st : State} {r : Fed} (t : Took) → r ≡ Taken t → readyIn d line st ≡ true →
+    Feeds chunk d e line line′ st t → FeedIs chunk d e line line′ st r
 feed-taken {chunk} {d} {e} {line} {line′} {st} t q so f = subst (λ (x : Fed). FeedIs chunk d e line line′ st x) (sym q) (so, f)
 
 -- the end of the input: nothing was gathered, or a frame without its line feed

@@ -73,7 +73,8 @@ module _ {table ws₀ a₀ ws a : List ℕ} {at i : ℕ} (p : Placing table ws�
       sym (p .left) ∙ drop-cons ws i 0 h ∙ ap (λ (k : ℕ). getD ws i 0 ∷ drop k ws) one ∙ ap (λ (l : List ℕ). getD ws i 0 ∷ l) same
 
   -- a name more: its word tells the record at the place, and the bytes lie there
-  grows : i < length ws → (a′ : List ℕ) (v at′ : ℕ) → recordOf v ≡ placedAt at (rowAtWord table (getD ws i 0)) → Short (rowsAt table ws₀) → Put a a′ at (nameAt table (getD ws i 0)) at′ → Placing table ws₀ a₀ (set ws i v) a′ at′ (i + 1)
+  grows : i < length ws → (a′ : List ℕ) (v at′ : ℕ) → recordOf v ≡ placedAt at (rowAtWord table (getD ws i 0)) → Short (rowsAt table ws₀) →
+      Put a a′ at (nameAt table (getD ws i 0)) at′ → Placing table ws₀ a₀ (set ws i v) a′ at′ (i + 1)
   unfolding recordsFrom joined names
   grows h a′ v at′ told short put =
       let name = nameAt table (getD ws i 0) in
@@ -102,7 +103,9 @@ module _ {table ws₀ a₀ ws a : List ℕ} {at i : ℕ} (p : Placing table ws�
         named = grown;
       }
 
-  pub placing-more : i < length ws → Short (rowsAt table ws₀) → (row : CodeRow) (n a′ : List ℕ) (v at′ : ℕ) → row ≡ rowOfWord (getD ws i 0) → n ≡ take (row .len) (drop (row .start) table) → recordOf v ≡ meant (record { flags = row .flags .bits; start = at; len = length n }) → Put a a′ at n at′ → Placing table ws₀ a₀ (set ws i v) a′ at′ (i + 1)
+  pub placing-more : i < length ws → Short (rowsAt table ws₀) → (row : CodeRow) (n a′ : List ℕ) (v at′ : ℕ) → row ≡ rowOfWord (getD ws i 0) →
+      n ≡ take (row .len) (drop (row .start) table) → recordOf v ≡ meant (record { flags = row .flags .bits; start = at; len = length n }) →
+      Put a a′ at n at′ → Placing table ws₀ a₀ (set ws i v) a′ at′ (i + 1)
   unfolding meant
   placing-more h short row n a′ v at′ read named told put =
       let is = name-is table (getD ws i 0) row n read named in
@@ -197,7 +200,8 @@ module _ {t ws us : List ℕ} {r : Indexing} (x : Indexes t (packedTable t) ws u
     rows-short s = omega (arith, s, packed-names-fit t, ap (λ (rs : List Row). length (joined (names rs))) (found .1))
 
     -- the names placed, and zeros after them
-    pub lays-rows : (a b vs : List ℕ) → Blank t ws a → map recordOf vs ≡ recordsFrom 0 (rowsAt t (take n us)) → b ≡ sets a 0 (joined (names (rowsAt t (take n us)))) → Lays t (vs ++ drop n us) b (Rows n)
+    pub lays-rows : (a b vs : List ℕ) → Blank t ws a → map recordOf vs ≡ recordsFrom 0 (rowsAt t (take n us)) →
+        b ≡ sets a 0 (joined (names (rowsAt t (take n us)))) → Lays t (vs ++ drop n us) b (Rows n)
     unfolding programStore names
     lays-rows a b vs blank told put =
         let rs = rows (packedTable t) in

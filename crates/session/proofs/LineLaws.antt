@@ -37,7 +37,9 @@ unfolding beforeLine throughLine
 before-all [] h = (refl, refl)
 before-all (c ∷ t) h = go (eqb c 10) h (before-all t)
   where
-    go : (o : Bool) → suc (length t) ≤ length (cond o [] (c ∷ beforeLine t)) → (length t ≤ length (beforeLine t) → (beforeLine t ≡ t) × (throughLine t ≡ length t)) → (cond o [] (c ∷ beforeLine t) ≡ c ∷ t) × (cond o 1 (suc (throughLine t)) ≡ suc (length t))
+    go : (o : Bool) → suc (length t) ≤ length (cond o [] (c ∷ beforeLine t)) →
+        (length t ≤ length (beforeLine t) → (beforeLine t ≡ t) × (throughLine t ≡ length t)) →
+        (cond o [] (c ∷ beforeLine t) ≡ c ∷ t) × (cond o 1 (suc (throughLine t)) ≡ suc (length t))
     go true g ih = absurd (omega arith)
     go false g ih = let w = ih (omega arith) in (ap (λ (l : List ℕ). c ∷ l) (w .0), ap suc (w .1))
 
@@ -47,7 +49,10 @@ unfolding beforeLine throughLine
 through-line [] h = absurd (omega arith)
 through-line (c ∷ t) h = go (eqb c 10) refl h (through-line t)
   where
-    go : (o : Bool) → eqb c 10 ≡ o → length (cond o [] (c ∷ beforeLine t)) < suc (length t) → (length (beforeLine t) < length t → (throughLine t ≡ length (beforeLine t) + 1) × (take (throughLine t) t ≡ beforeLine t ++ (10 ∷ []))) → (cond o 1 (suc (throughLine t)) ≡ length (cond o [] (c ∷ beforeLine t)) + 1) × (take (cond o 1 (suc (throughLine t))) (c ∷ t) ≡ cond o [] (c ∷ beforeLine t) ++ (10 ∷ []))
+    go : (o : Bool) → eqb c 10 ≡ o → length (cond o [] (c ∷ beforeLine t)) < suc (length t) →
+        (length (beforeLine t) < length t → (throughLine t ≡ length (beforeLine t) + 1) × (take (throughLine t) t ≡ beforeLine t ++ (10 ∷ []))) →
+        (cond o 1 (suc (throughLine t)) ≡ length (cond o [] (c ∷ beforeLine t)) + 1) ×
+        (take (cond o 1 (suc (throughLine t))) (c ∷ t) ≡ cond o [] (c ∷ beforeLine t) ++ (10 ∷ []))
     go true e g ih = (refl, ap (λ (x : ℕ). x ∷ []) (eqb-true c 10 e))
     go false e g ih = let w = ih (omega arith) in (omega (arith, w .0), ap (λ (l : List ℕ). c ∷ l) (w .1))
 
@@ -85,13 +90,20 @@ unfolding beforeLine fedAll fed behind
 fed-before [] s = rw (append-nil (s .partial))
 fed-before (c ∷ t) s = go (eqb c 10) refl (fed-before t)
   where
-    go : (o : Bool) → eqb c 10 ≡ o → ((u : Session) → fedAll u (beforeLine t) ≡ record { session = record { stored = u .stored; partial = u .partial ++ beforeLine t }; output = [] }) → fedAll s (cond o [] (c ∷ beforeLine t)) ≡ record { session = record { stored = s .stored; partial = s .partial ++ cond o [] (c ∷ beforeLine t) }; output = [] }
+    go : (o : Bool) → eqb c 10 ≡ o →
+        ((u : Session) → fedAll u (beforeLine t) ≡ record
+        { session = record { stored = u .stored; partial = u .partial ++ beforeLine t }; output = [] }) →
+        fedAll s (cond o [] (c ∷
+        beforeLine t)) ≡ record { session = record { stored = s .stored; partial = s .partial ++ cond o [] (c ∷ beforeLine t) }; output = [] }
     go true e ih = rw (append-nil (s .partial))
     go false e ih =
         rw (e, ih (record { stored = s .stored; partial = s .partial ++ (c ∷ []) }), append-assoc (s .partial) (c ∷ []) (beforeLine t))
 
 -- and the line feed carries the frame out
-pub fed-line : (chunk : List ℕ) (s : Session) → fedAll s (beforeLine chunk ++ (10 ∷ [])) ≡ record { session = record { stored = step (s .stored) (s .partial ++ beforeLine chunk) .stored; partial = [] }; output = step (s .stored) (s .partial ++ beforeLine chunk) .output }
+pub fed-line : (chunk : List ℕ) (s : Session) →
+    fedAll s (beforeLine chunk ++ (10 ∷
+    [])) ≡ record
+    { session = record { stored = step (s .stored) (s .partial ++ beforeLine chunk) .stored; partial = [] }; output = step (s .stored) (s .partial ++ beforeLine chunk) .output }
 unfolding fedAll fed behind
 fed-line chunk s =
     fedAll-append s (beforeLine chunk) (10 ∷ [])

@@ -113,7 +113,10 @@ module _ (s : Store) (spaces l b : List ℕ) (size : length b ≡ 16384) where
   unfolding answering
   step-records = go (isEdit (parsed l)) refl
     where
-      stays : done .store ≡ s → commandStep (record { table = records s; namespaces = spaces }) l ≡ record { stored = record { table = records s; namespaces = spaces }; output = replyLine (commandOver (records s) spaces l .reply) } → commandStep (record { table = records s; namespaces = spaces }) l ≡ leaves done
+      stays : done .store ≡ s →
+          commandStep (record { table = records s; namespaces = spaces }) l ≡ record
+          { stored = record { table = records s; namespaces = spaces }; output = replyLine (commandOver (records s) spaces l .reply) } →
+          commandStep (record { table = records s; namespaces = spaces }) l ≡ leaves done
       stays e x = x ∙ (λ i. record { stored = record { table = records (sym e i); namespaces = spaces }; output = replyLine (same i .reply) })
 
       judged : isEdit (parsed l) ≡ true → (r : Reply) → done .reply ≡ r → commandStep (record { table = records s; namespaces = spaces }) l ≡ leaves done
@@ -151,7 +154,8 @@ module _ (t spaces l : List ℕ) where
           ∙ sym (ap (λ (c : Commanded). c .reply) (command-over-bytes t short p spaces l b size))
       go false p = unfold limited in ap (limited (length b)) (table-refused (packedTable t) spaces l p) ∙ sym (table-fails p)
 
-  pub reads-line : (b a o p : List ℕ) (w : Written) (r : ℕ) → length b ≡ 16384 → length t ≤ 16384 → isEdit (parsed l) ≡ false → w ≡ writtenIs (served (packedTable t) spaces l b) → a ≡ bufferAfter b (served (packedTable t) spaces l b)
+  pub reads-line : (b a o p : List ℕ) (w : Written) (r : ℕ) → length b ≡ 16384 → length t ≤ 16384 → isEdit (parsed l) ≡ false →
+      w ≡ writtenIs (served (packedTable t) spaces l b) → a ≡ bufferAfter b (served (packedTable t) spaces l b)
       → Says (writtenLine w a) o p r → Says (commandLine (bytes t) spaces l) o p r
   reads-line b a o p w r size short e i m x =
       subst (λ (line : List ℕ). Says line o p r) (ap replyLine (reads-packed b size short e)) (reply-says (served (packedTable t) spaces l b) b a i m x)
@@ -177,15 +181,18 @@ module _ (d : Lent) (n : Lengths) (x : Within n (d .table) (d .records) (d .name
   kept-records e = ap (λ (b : Bool). keptAs b (n .table) (d .table) (d .records)) e
 
   -- nothing but the output changes where it is no edit, and where it is refused
-  pub obeys-read : (o : List ℕ) (k : ℕ) → n .edited ≡ false → isEdit (parsed l) ≡ false → Says (commandLine (bytes packed) spaces l) (d .out) o k → Obeys n l d (lent (d .table) (d .records) (d .namespaces) o) (outcomeIs n k)
+  pub obeys-read : (o : List ℕ) (k : ℕ) → n .edited ≡ false → isEdit (parsed l) ≡ false → Says (commandLine (bytes packed) spaces l) (d .out) o k →
+      Obeys n l d (lent (d .table) (d .records) (d .namespaces) o) (outcomeIs n k)
   obeys-read o k e r s = rw (step-read (storedIn d n) l r) (carries-said d n (x .held .rows) (x .entries) (commandLine (keptIn d n) spaces l) o k (rw (kept-bytes e) s))
 
-  pub obeys-refused : (j : ℕ) (o : List ℕ) (k : ℕ) → n .edited ≡ false → commandOver (bytes packed) spaces l .reply ≡ refusal j → Says (commandLine (bytes packed) spaces l) (d .out) o k → Obeys n l d (lent (d .table) (d .records) (d .namespaces) o) (outcomeIs n k)
+  pub obeys-refused : (j : ℕ) (o : List ℕ) (k : ℕ) → n .edited ≡ false → commandOver (bytes packed) spaces l .reply ≡ refusal j →
+      Says (commandLine (bytes packed) spaces l) (d .out) o k → Obeys n l d (lent (d .table) (d .records) (d .namespaces) o) (outcomeIs n k)
   obeys-refused j o k e r s =
       rw (step-refused (storedIn d n) l j (rw (kept-bytes e) r)) (carries-said d n (x .held .rows) (x .entries) (commandLine (keptIn d n) spaces l) o k (rw (kept-bytes e) s))
 
   -- an edit of a table that does not pass
-  pub first-fails : (o : List ℕ) (k : ℕ) → n .edited ≡ false → passes (packedTable packed) ≡ false → Put (d .out) o 0 (refusalLine 1) k → Obeys n l d (lent (d .table) (d .records) (d .namespaces) o) (outcomeIs n k)
+  pub first-fails : (o : List ℕ) (k : ℕ) → n .edited ≡ false → passes (packedTable packed) ≡ false → Put (d .out) o 0 (refusalLine 1) k →
+      Obeys n l d (lent (d .table) (d .records) (d .namespaces) o) (outcomeIs n k)
   unfolding replyLine
   first-fails o k e f put =
       let r = table-fails packed spaces l f in
@@ -246,7 +253,8 @@ module _ (d : Lent) (n : Lengths) (x : Within n (d .table) (d .records) (d .name
     over-made = first-over packed spaces l ws a b count size (omega (arith, length-take (n .table) (d .table), x .held .rows)) laid
 
     -- it is refused
-    pub first-refused : (j : ℕ) (o : List ℕ) (k : ℕ) → made .reply ≡ refusal j → Says (replyLine (made .reply)) (d .out) o k → Obeys n l d (lent (d .table) (d .records) (d .namespaces) o) (outcomeIs n k)
+    pub first-refused : (j : ℕ) (o : List ℕ) (k : ℕ) → made .reply ≡ refusal j → Says (replyLine (made .reply)) (d .out) o k →
+        Obeys n l d (lent (d .table) (d .records) (d .namespaces) o) (outcomeIs n k)
     first-refused j o k r s =
         obeys-refused j o k e (ap (λ (c : Commanded). c .reply) over-made ∙ r) (rw over-made s)
 

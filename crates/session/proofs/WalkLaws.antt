@@ -30,7 +30,8 @@ module _ (n : Lengths) (t w : List ℕ) where
   walks-packed e = sym (ap (λ (b : Bool). keptTable (keptAs b (n .table) t w)) e)
 
 -- a walk by the collector's answer: what was found lies at the front of its buffer
-known-walked : (r : WalkReply) (e : List ℕ) (room c k : ℕ) → length e ≡ room → collectedIs r ≡ Done c k → e ≡ foundAfter room r → (k ≤ room) × (length (take k e) ≡ k) × (walkLine r ≡ answerLine (0x57 ∷ c / 256 % 256 ∷ c % 256 ∷ take k e))
+known-walked : (r : WalkReply) (e : List ℕ) (room c k : ℕ) → length e ≡ room → collectedIs r ≡ Done c k → e ≡ foundAfter room r →
+    (k ≤ room) × (length (take k e) ≡ k) × (walkLine r ≡ answerLine (0x57 ∷ c / 256 % 256 ∷ c % 256 ∷ take k e))
 unfolding collectedIs foundAfter zeroBehind walkLine
 known-walked (walkRefused j) e room c k h w m = let z : _≡_ {A = ℕ} 0 1 = cc in absurd (omega arith)
 known-walked (walked c′ f p) e room c k h w m =

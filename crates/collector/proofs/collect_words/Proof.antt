@@ -13,9 +13,7 @@ use Rattle.collector.proofs.collect_words.Tie as tie
 
 run-requires : tie.Need-run-requires
 run-requires c κs =
-    let stage-2 = c .before .before .before .before .before in
-    let stage = stage-2 in
-    let pending = stage in
+    let pending = c .before .before .before .before .before in
     let found = pending .before .before .before .before in
     let args = found .before .before .before .before .before .before .before .args in
     (cleared (args .found .now) (sym (found .clear .kept .0)) (found .clear .ensures), cleared (args .pending .now) (sym (pending .clear2 .kept .0)) (pending .clear2 .ensures))
@@ -27,19 +25,15 @@ same-reply : (c : tie.After-run) →
     let args = found .before .before .before .before .before .before .before .args in
     collected (wordTable (args .area .now) (args .words .now) (args .count)) (args .option) (args .scratch .now) (found .clear .last .0) (pending .clear2 .last .0) ≡ collected (wordTable (args .area .now) (args .words .now) (args .count)) (args .option) (args .scratch .now) (args .found .now) (args .pending .now)
 same-reply c =
-    let stage-2 = c .before .before .before .before .before .before in
-    let stage = stage-2 in
-    let pending = stage in
+    let pending = c .before .before .before .before .before .before in
     let found = pending .before .before .before .before in
     let args = found .before .before .before .before .before .before .before .args in
     collected-long (wordTable (args .area .now) (args .words .now) (args .count)) (args .option) (args .scratch .now) (args .found .now) (args .pending .now) (args .scratch .now) (found .clear .last .0) (pending .clear2 .last .0) refl (found .clear .kept .0) (pending .clear2 .kept .0)
 
 returns : tie.Need-returns
 returns c =
-    let stage-2 = c .before .before .before .before .before .before in
-    let after-clear4 = stage-2 in
-    let stage = after-clear4 .before .before .before in
-    let told = stage in
+    let after-clear4 = c .before .before .before .before .before .before in
+    let told = after-clear4 .before .before .before in
     let scratch = told .before .before .before .before in
     let ran = scratch .before .before .before .before .before .before .before .before in
     let args = ran .before .before .before .before .before .before .before .before .before .before .before .before .before .before .before .before .before .args in
@@ -53,10 +47,8 @@ returns c =
 
 returns-2 : tie.Need-returns-2
 returns-2 c =
-    let stage-2 = c .before .before .before .before in
-    let stage = stage-2 in
+    let scratch = c .before .before .before .before in
     let told = c .enum-told .given in
-    let scratch = stage in
     let ran = scratch .before .before .before .before .before .before .before .before in
     let args = ran .before .before .before .before .before .before .before .before .before .before .before .before .before .before .before .before .before .args in
     let last = ran .run .last .1 .1 .1 .1 in
@@ -72,21 +64,6 @@ returns-2 c =
 
 pub collect-words-spec : {M : Type 1} → statement M
 collect-words-spec =
-    tie.close
-    (tie.spec
-    (λ c κs. search needs)
-    (λ c κs. search needs)
-    run-requires
-    (λ c κs. search needs)
-    (λ c. search needs)
-    (λ c κs. search needs)
-    (λ c κs. search needs)
-    (λ c. search needs)
-    (λ c. search needs)
-    (λ c. search needs)
-    returns
-    (λ c. search needs)
-    (λ c. search needs)
-    (λ c. search needs)
-    (λ c. search needs)
-    returns-2)
+    tie.close (tie.spec (λ c κs. search needs) (λ c κs. search needs) run-requires (λ c κs. search needs) (λ c. search needs) (λ c κs. search needs)
+    (λ c κs. search needs) (λ c. search needs) (λ c. search needs) (λ c. search needs) returns (λ c. search needs) (λ c. search needs)
+    (λ c. search needs) (λ c. search needs) returns-2)

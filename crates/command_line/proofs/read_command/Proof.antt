@@ -21,8 +21,7 @@ one c = sym (c .before .is-one-command .ensures) ∙ not-false _ (c .if1 .left)
 
 returns : tie.Need-returns
 returns c =
-    let stage = c .before .before .before .before in
-    let start = stage in
+    let start = c .before .before .before .before in
     let off : Answers (start .args .line .now) (parsed (start .args .line .now)) Unit (c .refused .result) = refuses _ 3 (c .refused .ensures) (line-off (start .args .line .now) (sym (c .before .before .is-one-command .ensures) ∙ not-true _ (c .before .if1 .taken))) in
     (off .means, off .inside tt)
 
@@ -45,12 +44,4 @@ returns-2 c =
 
 pub read-command-spec : {M : Type 1} → statement M
 read-command-spec =
-    tie.close
-    (tie.spec
-    (λ c κs. search needs)
-    (λ c κs. search needs)
-    returns
-    sub-n
-    slice-aggregate-read-text
-    (λ c κs. search needs)
-    returns-2)
+    tie.close (tie.spec (λ c κs. search needs) (λ c κs. search needs) returns sub-n slice-aggregate-read-text (λ c κs. search needs) returns-2)

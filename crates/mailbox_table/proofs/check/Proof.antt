@@ -14,8 +14,7 @@ use Rattle.mailbox_table.proofs.check.Tie as tie
 returns : tie.Need-returns
 returns c =
     let after-no-words = c .before .before .before .before .before in
-    let stage = after-no-words .before .before in
-    let start = stage in
+    let start = after-no-words .before .before in
     let no-words = after-no-words .no-words in
     let index = c .before .before .before .index in
     sym (index-held (subst (λ (r : Indexing). Indexes (start .args .table .now) (packedTable (start .args .table .now)) (no-words .result) (index .last .1 .0) r) (c .enum-told .given .1) (index .ensures)) .table-passes)
@@ -23,8 +22,7 @@ returns c =
 returns-2 : tie.Need-returns-2
 returns-2 c =
     let after-no-words = c .before .before .before .before .before in
-    let stage = after-no-words .before .before in
-    let start = stage in
+    let start = after-no-words .before .before in
     let no-words = after-no-words .no-words in
     let index = c .before .before .before .index in
     sym
@@ -33,12 +31,4 @@ returns-2 c =
 
 pub check-spec : {M : Type 1} → statement M
 check-spec =
-    tie.close
-    (tie.spec
-    (λ c κs. search needs)
-    (λ c. search needs)
-    (λ c κs. search needs)
-    (λ c. search needs)
-    (λ c. search needs)
-    returns
-    returns-2)
+    tie.close (tie.spec (λ c κs. search needs) (λ c. search needs) (λ c κs. search needs) (λ c. search needs) (λ c. search needs) returns returns-2)

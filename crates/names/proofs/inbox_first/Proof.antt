@@ -44,13 +44,5 @@ returns-4 c =
 
 pub inbox-first-spec : {M : Type 1} → statement M
 inbox-first-spec =
-    tie.close
-    (tie.spec
-    returns
-    slice-aggregate-spells-word
-    (λ c. search needs)
-    (λ c κs. search needs)
-    returns-2
-    returns-3
-    (λ c. search needs)
+    tie.close (tie.spec returns slice-aggregate-spells-word (λ c. search needs) (λ c κs. search needs) returns-2 returns-3 (λ c. search needs)
     returns-4)

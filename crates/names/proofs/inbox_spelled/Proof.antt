@@ -34,11 +34,4 @@ returns-2 c =
 
 pub inbox-spelled-spec : {M : Type 1} → statement M
 inbox-spelled-spec =
-    tie.close
-    (tie.spec
-    (λ c κs. search needs)
-    returns
-    slice-aggregate-same-bytes
-    (λ c. search needs)
-    (λ c κs. search needs)
-    returns-2)
+    tie.close (tie.spec (λ c κs. search needs) returns slice-aggregate-same-bytes (λ c. search needs) (λ c κs. search needs) returns-2)

@@ -15,32 +15,27 @@ returns-2 c = sym (not-long (c .before .before .before .args .name .now) (c .if2
 
 returns-3 : tie.Need-returns-3
 returns-3 c =
-    let stage = c .before .before .before .before .before in
-    let start = stage in
+    let start = c .before .before .before .before .before in
     sym (not-bytes (start .args .name .now) (sym (c .before .name-bytes .ensures) ∙ not-true _ (c .if3 .taken)))
 
 returns-4 : tie.Need-returns-4
 returns-4 c =
-    let stage = c .before .before .before .before .before .before .before in
-    let start = stage in
+    let start = c .before .before .before .before .before .before .before in
     sym (not-few (start .args .name .now) (omega (arith, c .before .slashes .ensures)))
 
 returns-5 : tie.Need-returns-5
 returns-5 c =
-    let stage = c .before .before .before .before .before .before .before .before .before in
-    let start = stage in
+    let start = c .before .before .before .before .before .before .before .before .before in
     sym (not-first (start .args .name .now) (omega arith) (c .if5 .taken))
 
 returns-6 : tie.Need-returns-6
 returns-6 c =
-    let stage = c .before .before .before .before .before .before .before .before .before .before .before in
-    let start = stage in
+    let start = c .before .before .before .before .before .before .before .before .before .before .before in
     sym (not-last (start .args .name .now) (omega arith) (c .if6 .taken))
 
 returns-7 : tie.Need-returns-7
 returns-7 c =
-    let stage = c .before .before .before .before .before .before .before .before .before .before .before .before .before in
-    let start = stage in
+    let start = c .before .before .before .before .before .before .before .before .before .before .before .before .before in
     sym (not-pair (start .args .name .now) (omega arith) (sym (c .before .no-pair .ensures) ∙ not-true _ (c .if7 .taken)))
 
 returns-8 : tie.Need-returns-8
@@ -49,8 +44,7 @@ returns-8 c =
     let after-slashes = at-if5 .before .before .before in
     let at-if3 = after-slashes .before in
     let after-name-bytes = at-if3 .before in
-    let stage = after-name-bytes .before .before .before .before in
-    let start = stage in
+    let start = after-name-bytes .before .before .before .before in
     let name-bytes = after-name-bytes .name-bytes in
     let if3 = at-if3 .if3 in
     let slashes = after-slashes .slashes in
@@ -69,20 +63,5 @@ returns-8 c =
 
 pub lawful-name-spec : {M : Type 1} → statement M
 lawful-name-spec =
-    tie.close
-    (tie.spec
-    returns
-    returns-2
-    (λ c κs. search needs)
-    returns-3
-    (λ c κs. search needs)
-    returns-4
-    (λ c. search needs)
-    returns-5
-    (λ c. search needs)
-    (λ c. search needs)
-    returns-6
-    (λ c κs. search needs)
-    returns-7
-    (λ c κs. search needs)
-    returns-8)
+    tie.close (tie.spec returns returns-2 (λ c κs. search needs) returns-3 (λ c κs. search needs) returns-4 (λ c. search needs) returns-5
+    (λ c. search needs) (λ c. search needs) returns-6 (λ c κs. search needs) returns-7 (λ c κs. search needs) returns-8)

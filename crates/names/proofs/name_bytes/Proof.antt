@@ -21,8 +21,7 @@ loop-holds c = refl
 
 loop-again : tie.Need-loop-again Inv-loop μ-loop
 loop-again c =
-    let stage = c .before .before .before .before .before in
-    let start = stage in
+    let start = c .before .before .before .before .before in
     let turn = c .before .before .before .loop in
     rw (c .name-byte .ensures) (kept-step nameByte (start .args .name .now) (turn .i) (turn .ok) (c .before .before .loop-test .taken) ∙ turn .inv)
 
@@ -34,14 +33,5 @@ returns c =
 
 pub name-bytes-spec : {M : Type 1} → statement M
 name-bytes-spec =
-    tie.close
-    (tie.spec
-    Inv-loop
-    μ-loop
-    loop-holds
-    (λ c. search needs)
-    (λ c κs. search needs)
-    (λ c. search needs)
-    (λ c. search needs)
-    loop-again
+    tie.close (tie.spec Inv-loop μ-loop loop-holds (λ c. search needs) (λ c κs. search needs) (λ c. search needs) (λ c. search needs) loop-again
     returns)

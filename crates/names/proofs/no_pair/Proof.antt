@@ -21,8 +21,7 @@ loop-holds c = (omega arith, refl)
 
 loop-again : tie.Need-loop-again Inv-loop μ-loop
 loop-again c =
-    let stage = c .before .before .before .before in
-    let start = stage in
+    let start = c .before .before .before .before in
     let turn = c .before .before .before .loop in
     let s = start .args .name .now in
     (omega arith, pair-more s (turn .ok) (turn .i) (turn .inv .0) (c .before .before .loop-test .taken) ∙ turn .inv .1)
@@ -34,15 +33,5 @@ returns c =
 
 pub no-pair-spec : {M : Type 1} → statement M
 no-pair-spec =
-    tie.close
-    (tie.spec
-    Inv-loop
-    μ-loop
-    loop-holds
-    (λ c. search needs)
-    (λ c. search needs)
-    (λ c. search needs)
-    (λ c. search needs)
-    (λ c. search needs)
-    loop-again
-    returns)
+    tie.close (tie.spec Inv-loop μ-loop loop-holds (λ c. search needs) (λ c. search needs) (λ c. search needs) (λ c. search needs) (λ c. search needs)
+    loop-again returns)

@@ -33,15 +33,5 @@ returns c = omega (arith, slash-end (c .before .before .args .name .now) (c .bef
 
 pub slashes-spec : {M : Type 1} → statement M
 slashes-spec =
-    tie.close
-    (tie.spec
-    Inv-loop
-    μ-loop
-    loop-holds
-    (λ c. search needs)
-    (λ c. search needs)
-    add-n
-    (λ c. search needs)
-    (λ c. search needs)
-    loop-again
+    tie.close (tie.spec Inv-loop μ-loop loop-holds (λ c. search needs) (λ c. search needs) add-n (λ c. search needs) (λ c. search needs) loop-again
     returns)

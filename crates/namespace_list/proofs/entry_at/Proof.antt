@@ -12,8 +12,7 @@ returns : tie.Need-returns
 returns c =
     let after-wide = c .before .before .before .before in
     let after-byte-at = after-wide .before in
-    let stage = after-byte-at .before .before in
-    let start = stage in
+    let start = after-byte-at .before .before in
     let byte-at = after-byte-at .byte-at in
     let wide = after-wide .wide in
     let l = start .args .list .now in
@@ -23,16 +22,5 @@ returns c =
 
 pub entry-at-spec : {M : Type 1} → statement M
 entry-at-spec =
-    tie.close
-    (tie.spec
-    (λ c. search needs)
-    (λ c. search needs)
-    (λ c κs. search needs)
-    (λ c κs. search needs)
-    (λ c. search needs)
-    (λ c. search needs)
-    (λ c κs. search needs)
-    (λ c κs. search needs)
-    (λ c κs. search needs)
-    (λ c. search needs)
-    returns)
+    tie.close (tie.spec (λ c. search needs) (λ c. search needs) (λ c κs. search needs) (λ c κs. search needs) (λ c. search needs) (λ c. search needs)
+    (λ c κs. search needs) (λ c κs. search needs) (λ c κs. search needs) (λ c. search needs) returns)

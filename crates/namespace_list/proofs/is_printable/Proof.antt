@@ -21,16 +21,14 @@ loop-holds c = refl
 returns : tie.Need-returns Inv-loop μ-loop
 unfolding within
 returns c =
-    let stage = c .before .before .before .before in
-    let start = stage in
+    let start = c .before .before .before .before in
     let turn = c .before .before .before .loop in
     sym (all-stop (within 32 126) (start .args .s .now) (turn .i) (c .before .before .loop-test .taken) (not-true _ (c .if1 .taken))) ∙ turn .inv
 
 loop-again : tie.Need-loop-again Inv-loop μ-loop
 unfolding within
 loop-again c =
-    let stage = c .before .before .before .before in
-    let start = stage in
+    let start = c .before .before .before .before in
     let turn = c .before .before .before .loop in
     sym (all-step (within 32 126) (start .args .s .now) (turn .i) (c .before .before .loop-test .taken) (not-false _ (c .if1 .left))) ∙ turn .inv
 
@@ -41,14 +39,4 @@ returns-2 c =
 
 pub is-printable-spec : {M : Type 1} → statement M
 is-printable-spec =
-    tie.close
-    (tie.spec
-    Inv-loop
-    μ-loop
-    loop-holds
-    (λ c. search needs)
-    returns
-    (λ c. search needs)
-    (λ c. search needs)
-    loop-again
-    returns-2)
+    tie.close (tie.spec Inv-loop μ-loop loop-holds (λ c. search needs) returns (λ c. search needs) (λ c. search needs) loop-again returns-2)

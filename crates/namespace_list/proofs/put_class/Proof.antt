@@ -12,8 +12,7 @@ returns : tie.Need-returns
 unfolding text
 returns c =
     let after-count-of = c .before .before .before .before .before .before in
-    let stage = after-count-of .before .before .before in
-    let start = stage in
+    let start = after-count-of .before .before .before in
     let count-of = after-count-of .count-of in
     rw (class-none (ofClass (start .args .class) (entries (start .args .list .now))) (omega (arith, count-of .ensures))) (c .before .before .put-all .ensures)
 
@@ -23,8 +22,7 @@ returns-2 c =
     let after-put-entries = c .before .before .before .before .before .before in
     let after-put-all2 = after-put-entries .before .before .before .before in
     let after-count-of = after-put-all2 .before .before .before .before in
-    let stage = after-count-of .before .before .before in
-    let start = stage in
+    let start = after-count-of .before .before .before in
     let count-of = after-count-of .count-of in
     let put-all2 = after-put-all2 .put-all2 in
     let put-entries = after-put-entries .put-entries in
@@ -33,16 +31,5 @@ returns-2 c =
 
 pub put-class-spec : {M : Type 1} → statement M
 put-class-spec =
-    tie.close
-    (tie.spec
-    (λ c κs. search needs)
-    (λ c. search needs)
-    (λ c κs. search needs)
-    (λ c. search needs)
-    returns
-    (λ c. search needs)
-    (λ c κs. search needs)
-    (λ c κs. search needs)
-    (λ c κs. search needs)
-    (λ c. search needs)
-    returns-2)
+    tie.close (tie.spec (λ c κs. search needs) (λ c. search needs) (λ c κs. search needs) (λ c. search needs) returns (λ c. search needs)
+    (λ c κs. search needs) (λ c κs. search needs) (λ c κs. search needs) (λ c. search needs) returns-2)

@@ -10,8 +10,7 @@ returns : tie.Need-returns
 unfolding text delimiterText
 returns c =
     let at-if1 = c .before .before .before .before .before in
-    let stage = at-if1 .before .before in
-    let start = stage in
+    let start = at-if1 .before .before in
     let if1 = at-if1 .if1 in
     rw (eq-eqb (start .args .delimiter) 0 (if1 .taken)) (c .before .before .put-all .ensures)
 
@@ -19,20 +18,11 @@ returns-2 : tie.Need-returns-2
 unfolding delimiterText
 returns-2 c =
     let at-if1 = c .before .before .before .before .before in
-    let stage = at-if1 .before .before in
-    let start = stage in
+    let start = at-if1 .before .before in
     let if1 = at-if1 .if1 in
     rw (ne-eqb (start .args .delimiter) 0 (if1 .left)) (c .before .before .put-quoted .ensures)
 
 pub put-delimiter-spec : {M : Type 1} → statement M
 put-delimiter-spec =
-    tie.close
-    (tie.spec
-    (λ c. search needs)
-    (λ c κs. search needs)
-    (λ c. search needs)
-    returns
-    (λ c. search needs)
-    (λ c κs. search needs)
-    (λ c. search needs)
-    returns-2)
+    tie.close (tie.spec (λ c. search needs) (λ c κs. search needs) (λ c. search needs) returns (λ c. search needs) (λ c κs. search needs)
+    (λ c. search needs) returns-2)

@@ -30,8 +30,7 @@ loop-again c =
     let at-if1 = c .before .before .before .before .before in
     let after-entry-at = at-if1 .before .before in
     let turn-2 = after-entry-at .before .before in
-    let stage = turn-2 .before .before .before in
-    let start = stage in
+    let start = turn-2 .before .before .before in
     let turn = turn-2 .loop in
     let entry = after-entry-at .entry-at .ensures in
     let here = at-if1 .if1 .taken in
@@ -40,8 +39,7 @@ loop-again c =
 loop-again-2 : tie.Need-loop-again-2 Inv-loop μ-loop
 loop-again-2 c =
     let turn-2 = c .before .before .before .before in
-    let stage = turn-2 .before .before .before in
-    let start = stage in
+    let start = turn-2 .before .before .before in
     let turn = turn-2 .loop in
     let entry = c .before .before .entry-at .ensures in
     putting-on (turn .inv) (ap (λ (x : List Entry). entriesText x) (class-other entry (start .args .class) (c .if1 .left)))
@@ -51,25 +49,10 @@ same-length c = put-length (c .before .loop .inv .put)
 
 returns : tie.Need-returns Inv-loop μ-loop
 returns c =
-    let stage = c .before .before .before .before in
-    let start = stage in
+    let start = c .before .before .before .before in
     putting-all (c .before .loop .inv) (text-end (start .args .list .now) (c .before .loop .i) (start .args .class) (c .loop-test .left))
 
 pub put-entries-spec : {M : Type 1} → statement M
 put-entries-spec =
-    tie.close
-    (tie.spec
-    Inv-loop
-    μ-loop
-    loop-holds
-    (λ c κs. search needs)
-    (λ c. search needs)
-    (λ c. search needs)
-    (λ c. search needs)
-    (λ c κs. search needs)
-    (λ c. search needs)
-    loop-again
-    (λ c. search needs)
-    loop-again-2
-    same-length
-    returns)
+    tie.close (tie.spec Inv-loop μ-loop loop-holds (λ c κs. search needs) (λ c. search needs) (λ c. search needs) (λ c. search needs)
+    (λ c κs. search needs) (λ c. search needs) loop-again (λ c. search needs) loop-again-2 same-length returns)

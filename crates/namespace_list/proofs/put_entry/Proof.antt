@@ -12,8 +12,7 @@ returns c =
     let after-put-delimiter = c .before .before .before .before .before .before in
     let after-put2 = after-put-delimiter .before .before .before .before in
     let after-put-quoted = after-put2 .before .before .before .before in
-    let stage = after-put-quoted .before .before .before .before in
-    let start = stage in
+    let start = after-put-quoted .before .before .before .before in
     let put-quoted = after-put-quoted .put-quoted in
     let put2 = after-put2 .put2 in
     let put-delimiter = after-put-delimiter .put-delimiter in
@@ -21,12 +20,5 @@ returns c =
 
 pub put-entry-spec : {M : Type 1} → statement M
 put-entry-spec =
-    tie.close
-    (tie.spec
-    (λ c κs. search needs)
-    (λ c κs. search needs)
-    (λ c κs. search needs)
-    (λ c κs. search needs)
-    (λ c κs. search needs)
-    (λ c. search needs)
-    returns)
+    tie.close (tie.spec (λ c κs. search needs) (λ c κs. search needs) (λ c κs. search needs) (λ c κs. search needs) (λ c κs. search needs)
+    (λ c. search needs) returns)

@@ -12,8 +12,7 @@ returns c =
     let after-put-class3 = c .before .before .before .before .before .before .before in
     let after-put-class2 = after-put-class3 .before .before .before .before in
     let after-put-class = after-put-class2 .before .before .before .before in
-    let stage = after-put-class .before .before .before .before in
-    let start = stage in
+    let start = after-put-class .before .before .before .before in
     let put-class = after-put-class .put-class in
     let put-class2 = after-put-class2 .put-class2 in
     let put-class3 = after-put-class3 .put-class3 in
@@ -21,14 +20,5 @@ returns c =
 
 pub put-namespaces-spec : {M : Type 1} → statement M
 put-namespaces-spec =
-    tie.close
-    (tie.spec
-    (λ c. search needs)
-    (λ c κs. search needs)
-    (λ c κs. search needs)
-    (λ c κs. search needs)
-    (λ c κs. search needs)
-    (λ c. search needs)
-    (λ c κs. search needs)
-    (λ c. search needs)
-    returns)
+    tie.close (tie.spec (λ c. search needs) (λ c κs. search needs) (λ c κs. search needs) (λ c κs. search needs) (λ c κs. search needs)
+    (λ c. search needs) (λ c κs. search needs) (λ c. search needs) returns)

@@ -22,8 +22,7 @@ loop-holds c = (omega arith, omega arith, omega arith)
 
 loop-again : tie.Need-loop-again Inv-loop μ-loop
 loop-again c =
-    let stage = c .before .before .before .before in
-    let start = stage in
+    let start = c .before .before .before .before in
     let s = start .args .s .now in
     let i = c .before .before .before .loop .i in
     let b = getD s i 0 in
@@ -39,14 +38,4 @@ returns c = omega (arith, ap length (escaped-end (c .before .before .args .s .no
 
 pub escapes-spec : {M : Type 1} → statement M
 escapes-spec =
-    tie.close
-    (tie.spec
-    Inv-loop
-    μ-loop
-    loop-holds
-    (λ c. search needs)
-    (λ c. search needs)
-    (λ c. search needs)
-    (λ c. search needs)
-    loop-again
-    returns)
+    tie.close (tie.spec Inv-loop μ-loop loop-holds (λ c. search needs) (λ c. search needs) (λ c. search needs) (λ c. search needs) loop-again returns)

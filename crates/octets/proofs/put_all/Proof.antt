@@ -18,8 +18,7 @@ abbrev μ-loop : tie.MeasureT-loop
 -- the stores keep the length
 written : (c : tie.At-loop Inv-loop μ-loop) → length (c .loop .buf) ≡ length (c .before .before .before .before .args .buf .now)
 written c =
-    let stage = c .before .before .before .before in
-    let start = stage in
+    let start = c .before .before .before .before in
     ap length (c .loop .inv .2) ∙ length-sets (start .args .buf .now) (start .args .at) (take (c .loop .i) (start .args .s .now))
 
 loop-holds : tie.Need-loop-holds Inv-loop μ-loop
@@ -30,8 +29,7 @@ slice-write-buf c = omega (arith, written (c .before .before))
 
 loop-again : tie.Need-loop-again Inv-loop μ-loop
 loop-again c =
-    let stage = c .before .before .before .before .before .before in
-    let start = stage in
+    let start = c .before .before .before .before .before .before in
     let turn = c .before .before .loop in
     (omega arith, turn .inv .1, rw (turn .inv .2) (sets-more (start .args .buf .now) (start .args .s .now) (start .args .at) (turn .i) (omega arith)))
 
@@ -40,8 +38,7 @@ same-length c = written (c .before .before)
 
 returns : tie.Need-returns Inv-loop μ-loop
 returns c =
-    let stage = c .before .before .before .before .before .before in
-    let start = stage in
+    let start = c .before .before .before .before .before .before in
     let turn = c .before .before .loop in
     let w : turn .i ≡ c .before .before .before .room-for .result = omega arith in
     record {
@@ -52,18 +49,5 @@ returns c =
 
 pub put-all-spec : {M : Type 1} → statement M
 put-all-spec =
-    tie.close
-    (tie.spec
-    Inv-loop
-    μ-loop
-    (λ c κs. search needs)
-    loop-holds
-    (λ c. search needs)
-    (λ c. search needs)
-    slice-write-buf
-    (λ c. search needs)
-    (λ c. search needs)
-    loop-again
-    (λ c κs. search needs)
-    same-length
-    returns)
+    tie.close (tie.spec Inv-loop μ-loop (λ c κs. search needs) loop-holds (λ c. search needs) (λ c. search needs) slice-write-buf (λ c. search needs)
+    (λ c. search needs) loop-again (λ c κs. search needs) same-length returns)

@@ -7,25 +7,16 @@ use Rattle.octets.proofs.put_escape.Tie as tie
 returns : tie.Need-returns
 returns c =
     let after-put = c .before .before .before .before .before .before in
-    let stage = after-put .before .before in
-    let start = stage in
+    let start = after-put .before .before in
     let put = after-put .put in
     rw (start .if1 .taken) (put-then (put .ensures) (c .before .before .put2 .ensures))
 
 returns-2 : tie.Need-returns-2
 returns-2 c =
-    let stage = c .before .before .before .before in
-    let start = stage in
+    let start = c .before .before .before .before in
     rw (start .if1 .left) (c .before .before .put3 .ensures)
 
 pub put-escape-spec : {M : Type 1} → statement M
 put-escape-spec =
-    tie.close
-    (tie.spec
-    (λ c κs. search needs)
-    (λ c κs. search needs)
-    (λ c. search needs)
-    returns
-    (λ c κs. search needs)
-    (λ c. search needs)
+    tie.close (tie.spec (λ c κs. search needs) (λ c κs. search needs) (λ c. search needs) returns (λ c κs. search needs) (λ c. search needs)
     returns-2)

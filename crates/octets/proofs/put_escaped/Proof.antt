@@ -8,19 +8,11 @@ use Rattle.octets.proofs.put_escaped.Tie as tie
 returns : tie.Need-returns
 returns c =
     let after-escapes = c .before .before .before .before .before in
-    let stage = after-escapes .before .before .before in
-    let start = stage in
+    let start = after-escapes .before .before .before in
     let escapes = after-escapes .escapes in
     rw (escaped-plain (start .args .s .now) (omega (arith, escapes .ensures))) (c .before .before .put-all .ensures)
 
 pub put-escaped-spec : {M : Type 1} → statement M
 put-escaped-spec =
-    tie.close
-    (tie.spec
-    (λ c κs. search needs)
-    (λ c κs. search needs)
-    (λ c. search needs)
-    returns
-    (λ c κs. search needs)
-    (λ c. search needs)
+    tie.close (tie.spec (λ c κs. search needs) (λ c κs. search needs) (λ c. search needs) returns (λ c κs. search needs) (λ c. search needs)
     (λ c. search needs))

@@ -21,8 +21,7 @@ loop-again : tie.Need-loop-again Inv-loop μ-loop
 loop-again c =
     let at-loop-test = c .before .before .before .before .before in
     let turn-2 = at-loop-test .before in
-    let stage = turn-2 .before .before .before in
-    let start = stage in
+    let start = turn-2 .before .before .before in
     let turn = turn-2 .loop in
     let inside = at-loop-test .loop-test .taken in
     putting-more (turn .inv) (escaped-at (start .args .s .now) (turn .i) inside) (c .before .before .put-escape .ensures)
@@ -32,21 +31,10 @@ same-length c = put-length (c .before .loop .inv .put)
 
 returns : tie.Need-returns Inv-loop μ-loop
 returns c =
-    let stage = c .before .before .before .before in
-    let start = stage in
+    let start = c .before .before .before .before in
     putting-all (c .before .loop .inv) (escaped-end (start .args .s .now) (c .before .loop .i) (c .loop-test .left))
 
 pub put-escapes-spec : {M : Type 1} → statement M
 put-escapes-spec =
-    tie.close
-    (tie.spec
-    Inv-loop
-    μ-loop
-    loop-holds
-    (λ c. search needs)
-    (λ c κs. search needs)
-    (λ c. search needs)
-    (λ c. search needs)
-    loop-again
-    same-length
-    returns)
+    tie.close (tie.spec Inv-loop μ-loop loop-holds (λ c. search needs) (λ c κs. search needs) (λ c. search needs) (λ c. search needs) loop-again
+    same-length returns)

@@ -10,8 +10,7 @@ returns : tie.Need-returns
 unfolding quoted quote
 returns c =
     let after-put-escaped = c .before .before .before .before .before .before in
-    let stage = after-put-escaped .before .before .before .before in
-    let start = stage in
+    let start = after-put-escaped .before .before .before .before in
     let put-escaped = after-put-escaped .put-escaped in
     put-then (put-then (start .put .ensures) (put-escaped .ensures)) (c .before .before .put2 .ensures)
 

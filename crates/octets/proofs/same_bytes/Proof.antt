@@ -24,16 +24,14 @@ loop-holds c = (c .if1 .left, omega arith, refl)
 returns-2 : tie.Need-returns-2 Inv-loop μ-loop
 returns-2 c =
     let turn-2 = c .before .before .before .before in
-    let stage = turn-2 .before .before in
-    let start = stage in
+    let start = turn-2 .before .before in
     let turn = turn-2 .loop in
     sym (same-differ (start .args .a .now) (start .args .b .now) (turn .i) (omega arith) (omega arith) (c .if2 .taken)) ∙ turn .inv .2
 
 loop-again : tie.Need-loop-again Inv-loop μ-loop
 loop-again c =
     let turn-2 = c .before .before .before .before in
-    let stage = turn-2 .before .before in
-    let start = stage in
+    let start = turn-2 .before .before in
     let turn = turn-2 .loop in
     (turn .inv .0, omega arith, sym (same-step (start .args .a .now) (start .args .b .now) (turn .i) (omega arith) (omega arith) (c .if2 .left)) ∙ turn .inv .2)
 
@@ -44,16 +42,5 @@ returns-3 c =
 
 pub same-bytes-spec : {M : Type 1} → statement M
 same-bytes-spec =
-    tie.close
-    (tie.spec
-    Inv-loop
-    μ-loop
-    returns
-    loop-holds
-    (λ c. search needs)
-    (λ c. search needs)
-    returns-2
-    (λ c. search needs)
-    (λ c. search needs)
-    loop-again
-    returns-3)
+    tie.close (tie.spec Inv-loop μ-loop returns loop-holds (λ c. search needs) (λ c. search needs) returns-2 (λ c. search needs) (λ c. search needs)
+    loop-again returns-3)

@@ -26,38 +26,23 @@ loop-holds c = (c .if1 .left, omega arith, refl)
 returns-2 : tie.Need-returns-2 Inv-loop μ-loop
 returns-2 c =
     let turn-2 = c .before .before .before .before .before in
-    let stage = turn-2 .before .before .before .before in
-    let start = stage in
+    let start = turn-2 .before .before .before .before in
     let turn = turn-2 .loop in
     sym (spells-differ (start .args .s .now) (start .args .word .now) (turn .i) (omega arith) (omega arith) (λ e. c .if2 .taken (c .before .before .raised-byte .ensures ∙ e))) ∙ turn .inv .2
 
 loop-again : tie.Need-loop-again Inv-loop μ-loop
 loop-again c =
     let turn-2 = c .before .before .before .before .before in
-    let stage = turn-2 .before .before .before .before in
-    let start = stage in
+    let start = turn-2 .before .before .before .before in
     let turn = turn-2 .loop in
     (turn .inv .0, omega arith, sym (spells-step (start .args .s .now) (start .args .word .now) (turn .i) (omega arith) (omega arith) (sym (c .before .before .raised-byte .ensures) ∙ c .if2 .left)) ∙ turn .inv .2)
 
 returns-3 : tie.Need-returns-3 Inv-loop μ-loop
 returns-3 c =
-    let stage = c .before .before .before .before .before in
-    let start = stage in
+    let start = c .before .before .before .before .before in
     sym (spells-end (start .args .s .now) (start .args .word .now) (c .before .loop .i) (omega arith) (omega arith)) ∙ c .before .loop .inv .2
 
 pub spells-word-spec : {M : Type 1} → statement M
 spells-word-spec =
-    tie.close
-    (tie.spec
-    Inv-loop
-    μ-loop
-    returns
-    loop-holds
-    (λ c. search needs)
-    (λ c κs. search needs)
-    (λ c. search needs)
-    returns-2
-    (λ c. search needs)
-    (λ c. search needs)
-    loop-again
-    returns-3)
+    tie.close (tie.spec Inv-loop μ-loop returns loop-holds (λ c. search needs) (λ c κs. search needs) (λ c. search needs) returns-2
+    (λ c. search needs) (λ c. search needs) loop-again returns-3)

@@ -7,14 +7,12 @@ use Rattle.pattern.proofs.chosen_match.Tie as tie
 
 returns : tie.Need-returns
 returns c =
-    let stage = c .before .before .before .before in
-    let start = stage in
+    let start = c .before .before .before .before in
     chosen-out (start .args .levels) _ _ _ (c .before .ends-in-percent .ensures) (c .if1 .taken)
 
 returns-2 : tie.Need-returns-2
 returns-2 c =
-    let stage = c .before .before .before .before .before in
-    let start = stage in
+    let start = c .before .before .before .before .before in
     c .wild-match .ensures ∙ chosen-in (start .args .levels) _ _ _ (c .before .before .ends-in-percent .ensures) (c .before .if1 .left)
 
 pub chosen-match-spec : {M : Type 1} → statement M

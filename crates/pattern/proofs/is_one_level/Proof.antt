@@ -28,8 +28,7 @@ loop-holds c = refl
 returns : tie.Need-returns Inv-loop μ-loop
 unfolding noSlash slash
 returns c =
-    let stage = c .before .before .before .before in
-    let start = stage in
+    let start = c .before .before .before .before in
     let turn = c .before .before .before .loop in
     let name = start .args .name .now in
     sym (all-stop other name (turn .i) (c .before .before .loop-test .taken) (ap not (eq-eqb (getD name (turn .i) 0) 47 (c .if1 .taken)))) ∙ turn .inv
@@ -37,8 +36,7 @@ returns c =
 loop-again : tie.Need-loop-again Inv-loop μ-loop
 unfolding noSlash slash
 loop-again c =
-    let stage = c .before .before .before .before in
-    let start = stage in
+    let start = c .before .before .before .before in
     let turn = c .before .before .before .loop in
     let name = start .args .name .now in
     sym (all-step other name (turn .i) (c .before .before .loop-test .taken) (ap not (ne-eqb (getD name (turn .i) 0) 47 (c .if1 .left)))) ∙ turn .inv
@@ -49,14 +47,4 @@ returns-2 c = sym (all-end other (c .before .before .args .name .now) (c .before
 
 pub is-one-level-spec : {M : Type 1} → statement M
 is-one-level-spec =
-    tie.close
-    (tie.spec
-    Inv-loop
-    μ-loop
-    loop-holds
-    (λ c. search needs)
-    returns
-    (λ c. search needs)
-    (λ c. search needs)
-    loop-again
-    returns-2)
+    tie.close (tie.spec Inv-loop μ-loop loop-holds (λ c. search needs) returns (λ c. search needs) (λ c. search needs) loop-again returns-2)

@@ -10,8 +10,7 @@ returns c = long-name (c .before .before .before .args .name .now) _ (c .if1 .ta
 
 returns-2 : tie.Need-returns-2
 returns-2 c =
-    let stage = c .before .before .before .before .before in
-    let start = stage in
+    let start = c .before .before .before .before .before in
     short-name (start .args .name .now) _ _ (c .before .before .if1 .left) (c .wild-match .ensures ∙ matches-folded _ _ _ (c .before .is-inbox .ensures))
 
 pub matches-spec : {M : Type 1} → statement M

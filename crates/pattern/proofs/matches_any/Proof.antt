@@ -30,8 +30,7 @@ returns-2 c =
     let turn-2 = at-loop-test .before in
     let after-is-inbox = turn-2 .before in
     let at-if1 = after-is-inbox .before in
-    let stage = at-if1 .before .before .before in
-    let start = stage in
+    let start = at-if1 .before .before .before in
     let short = at-if1 .if1 .left in
     let folds = after-is-inbox .is-inbox .ensures in
     let turn = turn-2 .loop in
@@ -45,8 +44,7 @@ loop-again c =
     let at-loop-test = c .before .before .before .before in
     let turn-2 = at-loop-test .before in
     let after-is-inbox = turn-2 .before in
-    let stage = after-is-inbox .before .before .before .before in
-    let start = stage in
+    let start = after-is-inbox .before .before .before .before in
     let folds = after-is-inbox .is-inbox .ensures in
     let turn = turn-2 .loop in
     let more = at-loop-test .loop-test .taken in
@@ -56,26 +54,10 @@ loop-again c =
 
 returns-3 : tie.Need-returns-3 Inv-loop μ-loop
 returns-3 c =
-    let stage = c .before .before .before .before .before .before in
-    let start = stage in
+    let start = c .before .before .before .before .before .before in
     short-name (start .args .name .now) _ _ (c .before .before .before .if1 .left) (sym (match-end _ _ (c .loop-test .left) (start .args .levels) _) ∙ c .before .loop .inv .1)
 
 pub matches-any-spec : {M : Type 1} → statement M
 matches-any-spec =
-    tie.close
-    (tie.spec
-    Inv-loop
-    μ-loop
-    returns
-    (λ c κs. search needs)
-    loop-holds
-    (λ c. search needs)
-    (λ c κs. search needs)
-    (λ c. search needs)
-    (λ c. search needs)
-    (λ c. search needs)
-    (λ c κs. search needs)
-    returns-2
-    (λ c. search needs)
-    loop-again
-    returns-3)
+    tie.close (tie.spec Inv-loop μ-loop returns (λ c κs. search needs) loop-holds (λ c. search needs) (λ c κs. search needs) (λ c. search needs)
+    (λ c. search needs) (λ c. search needs) (λ c κs. search needs) returns-2 (λ c. search needs) loop-again returns-3)

@@ -24,8 +24,7 @@ returns : tie.Need-returns Inv-loop μ-loop
 returns c =
     let at-loop-test = c .before .before .before .before in
     let turn-2 = at-loop-test .before in
-    let stage = turn-2 .before .before in
-    let start = stage in
+    let start = turn-2 .before .before in
     let turn = turn-2 .loop in
     let more = at-loop-test .loop-test .taken in
     let item = c .before .before .before .item-end .ensures in
@@ -35,8 +34,7 @@ loop-again : tie.Need-loop-again Inv-loop μ-loop
 loop-again c =
     let at-loop-test = c .before .before .before .before in
     let turn-2 = at-loop-test .before in
-    let stage = turn-2 .before .before in
-    let start = stage in
+    let start = turn-2 .before .before in
     let turn = turn-2 .loop in
     let more = at-loop-test .loop-test .taken in
     let item = c .before .before .before .item-end .ensures in
@@ -47,18 +45,5 @@ returns-2 c = sym (percent-end _ _ (c .loop-test .left)) ∙ c .before .loop .in
 
 pub some-level-spec : {M : Type 1} → statement M
 some-level-spec =
-    tie.close
-    (tie.spec
-    Inv-loop
-    μ-loop
-    loop-holds
-    (λ c. search needs)
-    (λ c κs. search needs)
-    (λ c. search needs)
-    (λ c. search needs)
-    (λ c. search needs)
-    (λ c κs. search needs)
-    returns
-    (λ c. search needs)
-    loop-again
-    returns-2)
+    tie.close (tie.spec Inv-loop μ-loop loop-holds (λ c. search needs) (λ c κs. search needs) (λ c. search needs) (λ c. search needs)
+    (λ c. search needs) (λ c κs. search needs) returns (λ c. search needs) loop-again returns-2)

@@ -17,5 +17,4 @@ returns-3 c = λ f m. row-byte _ f (ne-eqb _ _ (c .before .before .before .if1 .
 
 pub step-row-spec : {M : Type 1} → statement M
 step-row-spec =
-    tie.close
-    (tie.spec (λ c κs. search needs) returns (λ c κs. search needs) returns-2 (λ c κs. search needs) returns-3)
+    tie.close (tie.spec (λ c κs. search needs) returns (λ c κs. search needs) returns-2 (λ c κs. search needs) returns-3)

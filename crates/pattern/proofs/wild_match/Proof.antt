@@ -24,8 +24,7 @@ wild-rest-requires c κs =
     let after-letter = c .before .before .before .before in
     let at-loop-test = after-letter .before .before in
     let turn-2 = at-loop-test .before in
-    let stage = turn-2 .before .before .before in
-    let start = stage in
+    let start = turn-2 .before .before .before in
     let turn = turn-2 .loop in
     let loop-test = at-loop-test .loop-test in
     let letter = after-letter .letter in
@@ -35,8 +34,7 @@ wild-rest-requires c κs =
 returns : tie.Need-returns Inv-loop μ-loop
 returns c =
     let turn-2 = c .before .before .before .before .before .before .before .before in
-    let stage = turn-2 .before .before .before in
-    let start = stage in
+    let start = turn-2 .before .before .before in
     let turn = turn-2 .loop in
     c .wild-rest .ensures ∙ rw (rest-is (start .args .pattern .now), rest-is (start .args .name .now)) (turn .inv .1)
 
@@ -80,26 +78,6 @@ returns-4 c = sym (wild-end _ _ _ _ (c .loop-test .left) (c .before .loop .inv .
 
 pub wild-match-spec : {M : Type 1} → statement M
 wild-match-spec =
-    tie.close
-    (tie.spec
-    Inv-loop
-    μ-loop
-    loop-holds
-    (λ c. search needs)
-    (λ c κs. search needs)
-    (λ c κs. search needs)
-    (λ c. search needs)
-    (λ c. search needs)
-    (λ c. search needs)
-    (λ c. search needs)
-    (λ c. search needs)
-    (λ c. search needs)
-    wild-rest-requires
-    returns
-    returns-2
-    (λ c. search needs)
-    returns-3
-    (λ c. search needs)
-    (λ c. search needs)
-    loop-again
-    returns-4)
+    tie.close (tie.spec Inv-loop μ-loop loop-holds (λ c. search needs) (λ c κs. search needs) (λ c κs. search needs) (λ c. search needs)
+    (λ c. search needs) (λ c. search needs) (λ c. search needs) (λ c. search needs) (λ c. search needs) wild-rest-requires returns returns-2
+    (λ c. search needs) returns-3 (λ c. search needs) (λ c. search needs) loop-again returns-4)

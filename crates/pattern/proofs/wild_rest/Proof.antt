@@ -7,15 +7,13 @@ use Rattle.pattern.proofs.wild_rest.Tie as tie
 
 returns : tie.Need-returns
 returns c =
-    let stage = c .before .before .before .before .before .before in
-    let start = stage in
+    let start = c .before .before .before .before .before .before in
     c .row-match .ensures ∙ rw (rest-is (start .args .pattern .now)) (sym (wild-run _ _ _ _ (c .before .before .before .run-end .ensures) (start .pre .1 .1)))
 
 returns-2 : tie.Need-returns-2
 returns-2 c =
     let after-run-end = c .before .before .before .before in
-    let stage = after-run-end .before .before .before in
-    let start = stage in
+    let start = after-run-end .before .before .before in
     let run-end = after-run-end .run-end in
     let star = sym (c .before .letter .ensures) ∙ c .if2 .taken in
     sym (wild-run _ _ _ _ (run-end .ensures) (start .pre .1 .1) ∙ last-star _ _ _ _ (run-end .ensures .inside) (c .before .before .before .if1 .left) star)
@@ -24,8 +22,7 @@ returns-3 : tie.Need-returns-3
 returns-3 c =
     let at-if1 = c .before .before .before .before in
     let after-run-end = at-if1 .before in
-    let stage = after-run-end .before .before .before in
-    let start = stage in
+    let start = after-run-end .before .before .before in
     let run-end = after-run-end .run-end in
     let if1 = at-if1 .if1 in
     let wildcard = start .pre .1 .1 in
@@ -36,17 +33,5 @@ returns-3 c =
 
 pub wild-rest-spec : {M : Type 1} → statement M
 wild-rest-spec =
-    tie.close
-    (tie.spec
-    (λ c κs. search needs)
-    (λ c. search needs)
-    (λ c. search needs)
-    (λ c. search needs)
-    (λ c. search needs)
-    (λ c κs. search needs)
-    returns
-    (λ c. search needs)
-    (λ c κs. search needs)
-    returns-2
-    (λ c κs. search needs)
-    returns-3)
+    tie.close (tie.spec (λ c κs. search needs) (λ c. search needs) (λ c. search needs) (λ c. search needs) (λ c. search needs) (λ c κs. search needs)
+    returns (λ c. search needs) (λ c κs. search needs) returns-2 (λ c κs. search needs) returns-3)

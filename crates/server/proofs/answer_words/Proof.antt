@@ -24,7 +24,8 @@ returns c =
     refused-1 (a .words .now) (a .lent) (a .count) (a .area .now) (a .namespaces .now) (a .line .now) (a .out .now) (counted .least .result) (counted .least .ensures) (c .unchanged .result) fails (c .unchanged .ensures)
 
 -- the rows, where they are found
-known : (c : tie.After-m) → Known (c .before .before .before .index-words .ensures) (ap length (c .before .before .before .before .before .before .before .before .no-words .ensures)) (c .m .given .0 .0)
+known : (c : tie.After-m) → Known (c .before .before .before .index-words .ensures)
+    (ap length (c .before .before .before .before .before .before .before .before .no-words .ensures)) (c .m .given .0 .0)
 known c = index-rows (c .before .before .before .index-words .ensures) (ap length (c .before .before .before .before .before .before .before .before .no-words .ensures)) (c .m .given .0 .0) (c .m .given .1)
 
 -- so the table passes
@@ -100,39 +101,9 @@ returns-4 c =
 
 pub answer-words-spec : {M : Type 1} → statement M
 answer-words-spec =
-    tie.close
-    (tie.spec
-    (λ c κs. search needs)
-    (λ c κs. search needs)
-    (λ c. search needs)
-    slice-aggregate-index-words
-    (λ c. search needs)
-    (λ c κs. search needs)
-    (λ c. search needs)
-    (λ c. search needs)
-    (λ c κs. search needs)
-    (λ c. search needs)
-    (λ c. search needs)
-    returns
-    (λ c κs. search needs)
-    (λ c κs. search needs)
-    (λ c. search needs)
-    (λ c. search needs)
-    returns-2
-    (λ c κs. search needs)
-    (λ c κs. search needs)
-    slice-relend-prefix-edit
-    slice-aggregate-edit
-    edit-requires
-    (λ c. search needs)
-    (λ c. search needs)
-    (λ c. search needs)
-    returns-3
-    array-share-prefix-rows
-    slice-aggregate-respond
-    respond-requires
-    (λ c κs. search needs)
-    (λ c. search needs)
-    (λ c. search needs)
-    (λ c. search needs)
-    returns-4)
+    tie.close (tie.spec (λ c κs. search needs) (λ c κs. search needs) (λ c. search needs) slice-aggregate-index-words (λ c. search needs)
+    (λ c κs. search needs) (λ c. search needs) (λ c. search needs) (λ c κs. search needs) (λ c. search needs) (λ c. search needs) returns
+    (λ c κs. search needs) (λ c κs. search needs) (λ c. search needs) (λ c. search needs) returns-2 (λ c κs. search needs) (λ c κs. search needs)
+    slice-relend-prefix-edit slice-aggregate-edit edit-requires (λ c. search needs) (λ c. search needs) (λ c. search needs) returns-3
+    array-share-prefix-rows slice-aggregate-respond respond-requires (λ c κs. search needs) (λ c. search needs) (λ c. search needs)
+    (λ c. search needs) returns-4)

@@ -12,8 +12,7 @@ returns c =
 
 returns-2 : tie.Need-returns-2
 returns-2 c =
-    let stage = c .before .before .before .before in
-    let at-if1 = stage in
+    let at-if1 = c .before .before .before .before in
     let after-is-empty = at-if1 .before in
     let empty = after-is-empty .is-empty in
     finishes _ _ _ _ _ (empty .ensures) (rw (at-if1 .if1 .left) (says-refusal 13 (c .before .before .put-refusal .ensures)))

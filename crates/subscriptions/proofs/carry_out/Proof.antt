@@ -50,25 +50,6 @@ returns-5 c = rw (c .before .enum-told2 .given .1) (c .unchanged2 .ensures, refl
 
 pub carry-out-spec : {M : Type 1} → statement M
 carry-out-spec =
-    tie.close
-    (tie.spec
-    (λ c. search needs)
-    (λ c κs. search needs)
-    (λ c. search needs)
-    flag-row-requires
-    (λ c. search needs)
-    insert-row-requires
-    (λ c. search needs)
-    remove-row-requires
-    (λ c. search needs)
-    (λ c κs. search needs)
-    returns
-    (λ c. search needs)
-    returns-2
-    (λ c. search needs)
-    (λ c. search needs)
-    returns-3
-    (λ c. search needs)
-    (λ c. search needs)
-    returns-4
-    returns-5)
+    tie.close (tie.spec (λ c. search needs) (λ c κs. search needs) (λ c. search needs) flag-row-requires (λ c. search needs) insert-row-requires
+    (λ c. search needs) remove-row-requires (λ c. search needs) (λ c κs. search needs) returns (λ c. search needs) returns-2 (λ c. search needs)
+    (λ c. search needs) returns-3 (λ c. search needs) (λ c. search needs) returns-4 returns-5)

@@ -80,16 +80,5 @@ returns-6 c =
 
 pub insertion-spec : {M : Type 1} → statement M
 insertion-spec =
-    tie.close
-    (tie.spec
-    (λ c κs. search needs)
-    returns
-    (λ c κs. search needs)
-    returns-2
-    returns-3
-    returns-4
-    lowest-run-requires
-    (λ c. search needs)
-    (λ c. search needs)
-    returns-5
-    returns-6)
+    tie.close (tie.spec (λ c κs. search needs) returns (λ c κs. search needs) returns-2 returns-3 returns-4 lowest-run-requires (λ c. search needs)
+    (λ c. search needs) returns-5 returns-6)

@@ -8,8 +8,7 @@ use Rattle.collector.proofs.command.put_below.Tie as tie
 returns : tie.Need-returns
 unfolding slash
 returns c =
-    let stage = c .before .before .before .before .before .before in
-    let after-put-all = stage in
+    let after-put-all = c .before .before .before .before .before .before in
     put-then (after-put-all .put-all .ensures) (c .before .before .put .ensures)
 
 pub put-below-spec : {M : Type 1} → statement M

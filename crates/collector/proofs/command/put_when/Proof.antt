@@ -9,8 +9,7 @@ use Rattle.collector.proofs.command.put_when.Tie as tie
 returns : tie.Need-returns
 unfolding when
 returns c =
-    let stage = c .before .before .before .before in
-    let at-if1 = stage in
+    let at-if1 = c .before .before .before .before in
     rw (at-if1 .if1 .taken) (c .before .before .put-all .ensures)
 
 returns-2 : tie.Need-returns-2

@@ -11,8 +11,7 @@ use Rattle.collector.proofs.lines.has_use.Tie as tie
 returns : tie.Need-returns
 unfolding useAttr
 returns c =
-    let stage = c .before .before .before .before in
-    let after-has3 = stage in
+    let after-has3 = c .before .before .before .before in
     let after-has2 = after-has3 .before in
     let after-has = after-has2 .before in
     let start = after-has .before in
@@ -28,13 +27,5 @@ returns c =
 
 pub has-use-spec : {M : Type 1} → statement M
 has-use-spec =
-    tie.close
-    (tie.spec
-    (λ c κs. search needs)
-    (λ c κs. search needs)
-    (λ c κs. search needs)
-    (λ c κs. search needs)
-    (λ c κs. search needs)
-    (λ c κs. search needs)
-    (λ c κs. search needs)
-    returns)
+    tie.close (tie.spec (λ c κs. search needs) (λ c κs. search needs) (λ c κs. search needs) (λ c κs. search needs) (λ c κs. search needs)
+    (λ c κs. search needs) (λ c κs. search needs) returns)

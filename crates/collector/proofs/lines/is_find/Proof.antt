@@ -12,11 +12,9 @@ use Rattle.collector.proofs.lines.is_find.Tie as tie
 returns : tie.Need-returns
 unfolding isFind
 returns c =
-    let stage-2 = c .before .before .before .before in
-    let after-has = stage-2 in
+    let after-has = c .before .before .before .before in
     let after-subscribed = after-has .before in
-    let stage = after-subscribed .before in
-    let start = stage in
+    let start = after-subscribed .before in
     let options = start .args .options in
     let attributes = start .args .attributes .bits in
     let dropped = ap not (after-subscribed .subscribed .ensures) ∙ sym (byte-drops options) in
@@ -27,5 +25,4 @@ returns c =
 
 pub is-find-spec : {M : Type 1} → statement M
 is-find-spec =
-    tie.close
-    (tie.spec (λ c κs. search needs) (λ c κs. search needs) (λ c κs. search needs) (λ c κs. search needs) (λ c κs. search needs) returns)
+    tie.close (tie.spec (λ c κs. search needs) (λ c κs. search needs) (λ c κs. search needs) (λ c κs. search needs) (λ c κs. search needs) returns)

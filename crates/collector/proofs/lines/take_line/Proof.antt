@@ -36,13 +36,11 @@ slice-aggregate-keep c =
 
 keep-requires : tie.Need-keep-requires
 keep-requires c κs =
-    let stage = c .before .before .before .before .before in
-    let read = stage in (omega (arith, read .before .before .before .before .before .before .before .pre), simp length-take (omega (arith, told read .short)))
+    let read = c .before .before .before .before .before in (omega (arith, read .before .before .before .before .before .before .before .pre), simp length-take (omega (arith, told read .short)))
 
 returns-2 : tie.Need-returns-2
 returns-2 c =
-    let stage = c .before .before .before .before in
-    let kept = stage in
+    let kept = c .before .before .before .before in
     let read = kept .before .before .before .before .before .before in
     find-full (told read) (read .before .before .before .before .before .before .before .args .options) (kept .keep .last .1 .0) (kept .before .before .before .before .is-find .ensures) (c .enum-told2 .given .1) (kept .keep .ensures)
 
@@ -65,8 +63,7 @@ keep-requires-2 c κs =
 
 returns-3 : tie.Need-returns-3
 returns-3 c =
-    let stage = c .before .before .before .before in
-    let asked = stage in
+    let asked = c .before .before .before .before in
     let found = asked .before .before .before in
     let kept = found .before .before .before .before .before in
     let read = read-before found in
@@ -83,8 +80,7 @@ returns-3 c =
 
 returns-4 : tie.Need-returns-4
 returns-4 c =
-    let stage = c .before .before .before .before .before in
-    let asked = stage in
+    let asked = c .before .before .before .before .before in
     let found = asked .before .before .before in
     let kept = found .before .before .before .before .before in
     let read = read-before found in
@@ -102,29 +98,7 @@ returns-4 c =
 
 pub take-line-spec : {M : Type 1} → statement M
 take-line-spec =
-    tie.close
-    (tie.spec
-    (λ c κs. search needs)
-    (λ c. search needs)
-    (λ c. search needs)
-    returns
-    (λ c κs. search needs)
-    (λ c κs. search needs)
-    array-share-prefix-name
-    slice-aggregate-keep
-    keep-requires
-    (λ c. search needs)
-    (λ c. search needs)
-    (λ c. search needs)
-    returns-2
-    array-share-prefix-name-2
-    slice-aggregate-keep-2
-    keep-requires-2
-    (λ c. search needs)
-    (λ c. search needs)
-    (λ c. search needs)
-    (λ c. search needs)
-    returns-3
-    (λ c. search needs)
-    (λ c. search needs)
-    returns-4)
+    tie.close (tie.spec (λ c κs. search needs) (λ c. search needs) (λ c. search needs) returns (λ c κs. search needs) (λ c κs. search needs)
+    array-share-prefix-name slice-aggregate-keep keep-requires (λ c. search needs) (λ c. search needs) (λ c. search needs) returns-2
+    array-share-prefix-name-2 slice-aggregate-keep-2 keep-requires-2 (λ c. search needs) (λ c. search needs) (λ c. search needs) (λ c. search needs)
+    returns-3 (λ c. search needs) (λ c. search needs) returns-4)

@@ -19,10 +19,11 @@ loop-holds : tie.Need-loop-holds Inv-loop μ-loop
 loop-holds c = taking-none (c .before .before .before .pre)
 
 -- the line lies in the answer
-lies : (c : tie.After-next-line Inv-loop μ-loop) → (c .before .before .loop .at < c .next-line .result) × (c .next-line .result ≤ length (c .before .before .before .before .before .before .args .answer .now))
+lies : (c : tie.After-next-line Inv-loop μ-loop) →
+    (c .before .before .loop .at < c .next-line .result) × (c .next-line .result ≤ length
+    (c .before .before .before .before .before .before .args .answer .now))
 lies c =
-    let stage = c .before .before .before .before .before .before in
-    let start = stage in
+    let start = c .before .before .before .before .before .before in
     line-lies (start .args .answer .now) (c .before .before .loop .at) (c .next-line .result) (c .before .loop-test .taken) (c .next-line .ensures)
 
 sub-take-line : tie.Need-sub-take-line Inv-loop μ-loop
@@ -36,21 +37,17 @@ part-take-line-end c = lies c .1
 
 take-line-requires : tie.Need-take-line-requires Inv-loop μ-loop
 take-line-requires c κs =
-    let stage = c .before .before .before .before .before in
-    let turn = stage in
+    let turn = c .before .before .before .before .before in
     turn .loop .inv .inside
 
 loop-less : tie.Need-loop-less Inv-loop μ-loop
 loop-less c =
-    let stage-2 = c .before .before .before .before .before .before .before .before .before .before .before in
-    let stage = stage-2 in
+    let stage = c .before .before .before .before .before .before .before .before .before .before .before in
     omega (arith, lies (stage))
 
 loop-again : tie.Need-loop-again Inv-loop μ-loop
 loop-again c =
-    let stage-2 = c .before .before .before .before .before .before .before in
-    let stage = stage-2 in
-    let taken = stage in
+    let taken = c .before .before .before .before .before .before .before in
     let found = taken .before .before .before .before in
     let turn = found .before .before in
     let kept = taken .take-line .kept .1 .1 in
@@ -58,21 +55,15 @@ loop-again c =
 
 same-length : tie.Need-same-length Inv-loop μ-loop
 same-length c =
-    let stage-2 = c .before .before .before .before .before .before .before in
-    let stage = stage-2 in
-    let taken = stage in taken .take-line .kept .1 .1 .0 ∙ taken .before .before .before .before .before .before .loop .inv .found-long
+    let taken = c .before .before .before .before .before .before .before in taken .take-line .kept .1 .1 .0 ∙ taken .before .before .before .before .before .before .loop .inv .found-long
 
 same-length-2 : tie.Need-same-length-2 Inv-loop μ-loop
 same-length-2 c =
-    let stage-2 = c .before .before .before .before .before .before .before in
-    let stage = stage-2 in
-    let taken = stage in taken .take-line .kept .1 .1 .1 .0 ∙ taken .before .before .before .before .before .before .loop .inv .pending-long
+    let taken = c .before .before .before .before .before .before .before in taken .take-line .kept .1 .1 .1 .0 ∙ taken .before .before .before .before .before .before .loop .inv .pending-long
 
 returns : tie.Need-returns Inv-loop μ-loop
 returns c =
-    let stage-2 = c .before .before .before .before .before .before .before in
-    let stage = stage-2 in
-    let taken = stage in
+    let taken = c .before .before .before .before .before .before .before in
     let found = taken .before .before .before .before in
     let turn = found .before .before in
     taking-refused (turn .loop .inv) (found .before .loop-test .taken) (found .next-line .ensures) (rw (c .before .number .given .1) at (taken .take-line .ensures))
@@ -88,23 +79,5 @@ returns-2 c = taking-end (c .before .loop .inv) (c .loop-test .left)
 
 pub take-lines-spec : {M : Type 1} → statement M
 take-lines-spec =
-    tie.close
-    (tie.spec
-    Inv-loop
-    μ-loop
-    loop-holds
-    (λ c κs. search needs)
-    sub-take-line
-    part-take-line-start
-    part-take-line-end
-    take-line-requires
-    (λ c. search needs)
-    loop-less
-    loop-again
-    (λ c. search needs)
-    same-length
-    same-length-2
-    returns
-    same-length-3
-    same-length-4
-    returns-2)
+    tie.close (tie.spec Inv-loop μ-loop loop-holds (λ c κs. search needs) sub-take-line part-take-line-start part-take-line-end take-line-requires
+    (λ c. search needs) loop-less loop-again (λ c. search needs) same-length same-length-2 returns same-length-3 same-length-4 returns-2)

@@ -15,9 +15,7 @@ returns c = let start = c .before .before .before in rw (not-true (start .args .
 returns-2 : tie.Need-returns-2
 unfolding withName
 returns-2 c =
-    let stage-2 = c .before .before .before .before in
-    let stage = stage-2 in
-    let start = stage in
+    let start = c .before .before .before .before in
     rw (not-false (start .args .wanted) (c .before .if1 .left)) (λ ns p. packs-full (start .args .name .now) p (c .if2 .taken))
 
 returns-3 : tie.Need-returns-3
@@ -31,13 +29,5 @@ returns-3 c =
 
 pub keep-spec : {M : Type 1} → statement M
 keep-spec =
-    tie.close
-    (tie.spec
-    returns
-    (λ c. search needs)
-    returns-2
-    (λ c. search needs)
-    (λ c κs. search needs)
-    (λ c κs. search needs)
-    (λ c. search needs)
+    tie.close (tie.spec returns (λ c. search needs) returns-2 (λ c. search needs) (λ c κs. search needs) (λ c κs. search needs) (λ c. search needs)
     returns-3)

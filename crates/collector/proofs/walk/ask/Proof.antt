@@ -21,12 +21,10 @@ sent : (c : tie.After-namespaces) →
     let args = c .before .before .before .before .before .before .before .before .before .before .before .before .before .args in
     Fronts (put .last .0) (put .result) (commandLine (byteOf (args .asking .options)) (args .reference .now))
 sent c =
-    let stage-2 = c .before .before .before .before in
-    let after-no-command = stage-2 in
-    let stage = after-no-command .before .before .before .before .before .before .before .before .before in
+    let after-no-command = c .before .before .before .before in
+    let start = after-no-command .before .before .before .before .before .before .before .before .before in
     let put = c .before .before .put-command in
     let made = after-no-command .no-command in
-    let start = stage in
     let byte = byteOf (start .args .asking .options) in
     let reference = start .args .reference .now in
     put-fronts (made .result) (put .last .0) (commandLine byte reference) (put .result) commandRoom (made .ensures) (put .ensures) (command-fits byte reference (start .pre .0))
@@ -54,9 +52,7 @@ answered-so : (c : tie.After-known-told) →
     let scratch = answered .read-words .last .1 .1 .1 .1 .1 .0 in
     (len ≤ length scratch) × (reply (heldTable (args .area .now) (args .words .now)) (take (put .result) (put .last .0)) (args .scratch .now) ≡ go (take len scratch))
 answered-so c =
-    let stage-2 = c .before .before .before .before .before in
-    let stage = stage-2 in
-    let answered = stage in
+    let answered = c .before .before .before .before .before in
     let put = answered .before .before .before .before .before .put-command in
     let args = answered .before .before .before .before .before .before .before .before .before .before .before .before .before .before .before .before .args in
     let told = c .before .len .given in
@@ -75,17 +71,13 @@ slice-aggregate-take-lines c = simp length-take (omega (arith, answered-so (c .b
 
 take-lines-requires : tie.Need-take-lines-requires
 take-lines-requires c κs =
-    let stage-2 = c .before .before .before .before .before .before .before .before .before in
-    let stage = stage-2 in
-    let answered = stage in
+    let answered = c .before .before .before .before .before .before .before .before .before in
     let start = answered .before .before .before .before .before .before .before .before .before .before .before .before .before .before .before .before in
     record { finds = start .pre .1 .0 .finds; asks = start .pre .1 .0 .asks }
 
 returns : tie.Need-returns
 returns c =
-    let stage-2 = c .before .before .before .before in
-    let stage = stage-2 in
-    let taken = stage in
+    let taken = c .before .before .before .before in
     let answered = taken .before .before .before .before .before in
     let written = answered .before .before .before .before .before .before .before .before in
     let start = written .before .before .before .before .before .before .before .before .before .before .before .before .before in
@@ -97,9 +89,7 @@ returns c =
 
 returns-2 : tie.Need-returns-2
 returns-2 c =
-    let stage-2 = c .before .before .before .before .before in
-    let stage = stage-2 in
-    let answered = stage in
+    let answered = c .before .before .before .before .before in
     let written = answered .before .before .before in
     let args = written .before .before .before .before .before .before .before .before .before .before .before .before .before .args in
     λ s h.
@@ -107,24 +97,6 @@ returns-2 c =
 
 pub ask-spec : {M : Type 1} → statement M
 ask-spec =
-    tie.close
-    (tie.spec
-    (λ c κs. search needs)
-    (λ c. search needs)
-    (λ c κs. search needs)
-    (λ c. search needs)
-    array-share-prefix-line
-    slice-aggregate-read-words-2
-    read-words-requires
-    (λ c. search needs)
-    add-count
-    slice-reshare-prefix-take-lines
-    slice-aggregate-take-lines
-    take-lines-requires
-    (λ c. search needs)
-    (λ c. search needs)
-    (λ c. search needs)
-    (λ c. search needs)
-    returns
-    (λ c. search needs)
-    returns-2)
+    tie.close (tie.spec (λ c κs. search needs) (λ c. search needs) (λ c κs. search needs) (λ c. search needs) array-share-prefix-line
+    slice-aggregate-read-words-2 read-words-requires (λ c. search needs) add-count slice-reshare-prefix-take-lines slice-aggregate-take-lines
+    take-lines-requires (λ c. search needs) (λ c. search needs) (λ c. search needs) (λ c. search needs) returns (λ c. search needs) returns-2)

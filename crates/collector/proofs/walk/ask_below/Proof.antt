@@ -16,12 +16,10 @@ below : (c : tie.After-reference2) →
     let args = c .before .before .before .before .before .before .before .before .before .before .before .args in
     Fronts (put .last .0) (put .result) (nameAt (args .name) (args .pending .now) ++ (slash ∷ []))
 below c =
-    let stage-2 = c .before .before .before .before .before in
-    let after-no-reference = stage-2 in
-    let stage = after-no-reference .before .before .before .before .before .before in
+    let after-no-reference = c .before .before .before .before .before in
+    let start = after-no-reference .before .before .before .before .before .before in
     let put = c .before .put-below in
     let made = after-no-reference .no-reference in
-    let start = stage in
     put-fronts (made .result) (put .last .0) (nameAt (start .args .name) (start .args .pending .now) ++ (slash ∷ [])) (put .result) referenceRoom (made .ensures) (put .ensures)
     (simp (length-append, length-take) (omega (arith, start .pre .0)))
 
@@ -33,32 +31,15 @@ slice-aggregate-ask c = simp length-take (omega (arith, below (c .before) .insid
 
 ask-requires : tie.Need-ask-requires
 ask-requires c κs =
-    let stage-2 = c .before .before .before .before in
-    let stage = stage-2 in
-    let referred = stage in
+    let referred = c .before .before .before .before in
     let start = referred .before .before .before .before .before .before .before .before .before .before .before in
     (rw (below referred .bytes) (simp (length-append, length-take) (omega (arith, start .pre .0))), (start .pre .1 .0, start .pre .1 .1))
 
 returns : tie.Need-returns
 returns c =
-    let stage-2 = c .before .before .before .before .before .before in
-    let stage = stage-2 in
-    let asked = stage in rw (← below (asked .before .before .before .before .before) .bytes) (asked .ask .ensures)
+    let asked = c .before .before .before .before .before .before in rw (← below (asked .before .before .before .before .before) .bytes) (asked .ask .ensures)
 
 pub ask-below-spec : {M : Type 1} → statement M
 ask-below-spec =
-    tie.close
-    (tie.spec
-    (λ c κs. search needs)
-    (λ c. search needs)
-    (λ c. search needs)
-    (λ c. search needs)
-    (λ c. search needs)
-    (λ c κs. search needs)
-    array-share-prefix-reference
-    slice-aggregate-ask
-    ask-requires
-    (λ c. search needs)
-    (λ c. search needs)
-    (λ c. search needs)
-    returns)
+    tie.close (tie.spec (λ c κs. search needs) (λ c. search needs) (λ c. search needs) (λ c. search needs) (λ c. search needs) (λ c κs. search needs)
+    array-share-prefix-reference slice-aggregate-ask ask-requires (λ c. search needs) (λ c. search needs) (λ c. search needs) returns)

@@ -19,8 +19,7 @@ abbrev μ-loop : tie.MeasureT-loop
 
 loop-holds : tie.Need-loop-holds Inv-loop μ-loop
 loop-holds c =
-    let stage = c .before .before .before .before .before in
-    let after-pre = stage in
+    let after-pre = c .before .before .before .before .before in
     after-pre .pre
 
 add-from : tie.Need-add-from Inv-loop μ-loop
@@ -32,15 +31,12 @@ slice-read-wide c = omega (arith, c .before .if1 .taken, c .before .before .befo
 -- where the next name ends
 end-is : (c : tie.After-wide Inv-loop μ-loop) → let at = c .before .before .before .before .loop .at in at + 1 + c .wide .result ≡ at + 1 + getD (c .before .before .before .before .loop .pending) at 0
 end-is c =
-    let stage = c .before .before .before .before in
-    let turn = stage in
+    let turn = c .before .before .before .before in
     ap (λ (n : ℕ). turn .loop .at + 1 + n) (c .wide .ensures)
 
 add-end : tie.Need-add-end Inv-loop μ-loop
 add-end c =
-    let stage-2 = c .before .before .before .before in
-    let stage = stage-2 in
-    let turn = stage in omega (arith, name-inside (turn .loop .inv) (c .before .before .if1 .taken) (end-is c), turn .loop .inv .holds .asks .room, turn .loop .inv .pending-long, turn .before .before .before .before .before .before .good)
+    let turn = c .before .before .before .before in omega (arith, name-inside (turn .loop .inv) (c .before .before .if1 .taken) (end-is c), turn .loop .inv .holds .asks .room, turn .loop .inv .pending-long, turn .before .before .before .before .before .before .good)
 
 ask-below-requires : tie.Need-ask-below-requires Inv-loop μ-loop
 ask-below-requires c κs =
@@ -54,18 +50,14 @@ ask-below-requires c κs =
 
 loop-less : tie.Need-loop-less Inv-loop μ-loop
 loop-less c =
-    let stage-2 = c .before .before .before .before .before .before .before .before .before in
-    let stage = stage-2 in
-    let asked = stage in
+    let asked = c .before .before .before .before .before .before .before .before .before in
     let read = asked .before .before .before .before in
     let turn = read .before .before .before .before in
     omega (arith, read .before .before .if1 .taken, turn .loop .inv .holds .asks .room, asked .ask-below .kept .1 .1 .1 .1 .1 .1 .0)
 
 loop-again : tie.Need-loop-again Inv-loop μ-loop
 loop-again c =
-    let stage-2 = c .before .before .before .before .before .before .before .before .before in
-    let stage = stage-2 in
-    let asked = stage in
+    let asked = c .before .before .before .before .before .before .before .before .before in
     let read = asked .before .before .before .before in
     let turn = read .before .before .before .before in
     let kept = asked .ask-below .kept .1 .1 .1 .1 in
@@ -78,28 +70,20 @@ loop-again c =
 
 same-length : tie.Need-same-length Inv-loop μ-loop
 same-length c =
-    let stage-2 = c .before .before .before .before .before .before .before .before .before in
-    let stage = stage-2 in
-    let asked = stage in asked .ask-below .kept .1 .1 .1 .1 .0 ∙ asked .before .before .before .before .before .before .before .before .loop .inv .scratch-long
+    let asked = c .before .before .before .before .before .before .before .before .before in asked .ask-below .kept .1 .1 .1 .1 .0 ∙ asked .before .before .before .before .before .before .before .before .loop .inv .scratch-long
 
 same-length-2 : tie.Need-same-length-2 Inv-loop μ-loop
 same-length-2 c =
-    let stage-2 = c .before .before .before .before .before .before .before .before .before in
-    let stage = stage-2 in
-    let asked = stage in asked .ask-below .kept .1 .1 .1 .1 .1 .0 ∙ asked .before .before .before .before .before .before .before .before .loop .inv .found-long
+    let asked = c .before .before .before .before .before .before .before .before .before in asked .ask-below .kept .1 .1 .1 .1 .1 .0 ∙ asked .before .before .before .before .before .before .before .before .loop .inv .found-long
 
 same-length-3 : tie.Need-same-length-3 Inv-loop μ-loop
 same-length-3 c =
-    let stage-2 = c .before .before .before .before .before .before .before .before .before in
-    let stage = stage-2 in
-    let asked = stage in asked .ask-below .kept .1 .1 .1 .1 .1 .1 .0 ∙ asked .before .before .before .before .before .before .before .before .loop .inv .pending-long
+    let asked = c .before .before .before .before .before .before .before .before .before in asked .ask-below .kept .1 .1 .1 .1 .1 .1 .0 ∙ asked .before .before .before .before .before .before .before .before .loop .inv .pending-long
 
 returns : tie.Need-returns Inv-loop μ-loop
 unfolding collected
 returns c =
-    let stage-2 = c .before .before .before .before .before .before .before .before .before in
-    let stage = stage-2 in
-    let asked = stage in
+    let asked = c .before .before .before .before .before .before .before .before .before in
     let read = asked .before .before .before .before in
     let turn = read .before .before .before .before in
     walking-refused (turn .loop .inv) (read .before .before .if1 .taken) (end-is read) (rw (c .before .number .given .1) at (asked .ask-below .ensures))
@@ -119,25 +103,5 @@ returns-2 c = walking-ends (c .before .before .loop .inv) (c .if1 .left)
 
 pub ask-pending-spec : {M : Type 1} → statement M
 ask-pending-spec =
-    tie.close
-    (tie.spec
-    Inv-loop
-    μ-loop
-    loop-holds
-    add-from
-    slice-read-wide
-    (λ c κs. search needs)
-    add-end
-    ask-below-requires
-    (λ c. search needs)
-    loop-less
-    loop-again
-    (λ c. search needs)
-    same-length
-    same-length-2
-    same-length-3
-    returns
-    same-length-4
-    same-length-5
-    same-length-6
-    returns-2)
+    tie.close (tie.spec Inv-loop μ-loop loop-holds add-from slice-read-wide (λ c κs. search needs) add-end ask-below-requires (λ c. search needs)
+    loop-less loop-again (λ c. search needs) same-length same-length-2 same-length-3 returns same-length-4 same-length-5 same-length-6 returns-2)

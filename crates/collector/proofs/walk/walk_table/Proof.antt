@@ -24,9 +24,7 @@ begins : (c : tie.After-known-told) →
     let pending = asked .ask .last .1 .1 .1 .1 .1 .1 .0 in
     Walking (heldTable (start .args .area .now) (start .args .words .now)) (start .args .options) (length scratch) (length found) (length pending) scratch found pending (c .before .first .given .0 .0) 0
 begins c =
-    let stage-2 = c .before .before .before .before .before .before .before .before .before in
-    let stage = stage-2 in
-    let asked = stage in
+    let asked = c .before .before .before .before .before .before .before .before .before in
     let start = asked .before .before .before .before .before .before .before .before .before .before in
     let kept = asked .ask .kept .1 .1 .1 .1 in
     walking-begins (heldTable (start .args .area .now) (start .args .words .now)) (start .args .options) (start .args .scratch .now) (start .pre .0) (start .pre .1 .0) (start .pre .1 .1)
@@ -41,9 +39,7 @@ ask-pending-requires c κs = begins (c .before .before .before)
 
 returns : tie.Need-returns
 returns c =
-    let stage-2 = c .before .before .before .before .before .before in
-    let stage = stage-2 in
-    let ended = stage in
+    let ended = c .before .before .before .before .before .before in
     let asked = ended .before .before .before .before .before .before .before .before .before .before .before .before .before in
     let start = asked .before .before .before .before .before .before .before .before .before .before in
     let kept = asked .ask .kept .1 .1 .1 .1 in
@@ -55,27 +51,12 @@ returns c =
 
 returns-2 : tie.Need-returns-2
 returns-2 c =
-    let stage-2 = c .before .before .before .before .before .before .before .before .before in
-    let stage = stage-2 in
-    let asked = stage in
+    let asked = c .before .before .before .before .before .before .before .before .before in
     let start = asked .before .before .before .before .before .before .before .before .before .before in
     walk-refused (heldTable (start .args .area .now) (start .args .words .now)) (start .args .options) (start .args .scratch .now) (start .pre .0) (start .pre .1 .0) (start .pre .1 .1)
     (rw (c .before .number .given .1) at (asked .ask .ensures))
 
 pub walk-table-spec : {M : Type 1} → statement M
 walk-table-spec =
-    tie.close
-    (tie.spec
-    (λ c. search needs)
-    ask-requires
-    (λ c. search needs)
-    ask-pending-requires
-    (λ c. search needs)
-    (λ c. search needs)
-    (λ c. search needs)
-    (λ c. search needs)
-    returns
-    (λ c. search needs)
-    (λ c. search needs)
-    (λ c. search needs)
-    returns-2)
+    tie.close (tie.spec (λ c. search needs) ask-requires (λ c. search needs) ask-pending-requires (λ c. search needs) (λ c. search needs)
+    (λ c. search needs) (λ c. search needs) returns (λ c. search needs) (λ c. search needs) (λ c. search needs) returns-2)

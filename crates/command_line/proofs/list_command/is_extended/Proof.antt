@@ -14,16 +14,14 @@ use Rattle.command_line.proofs.list_command.is_extended.Tie as tie
 
 returns : tie.Need-returns
 returns c =
-    let stage = c .before .before .before .before in
-    let start = stage in
+    let start = c .before .before .before .before in
     let line = start .args .text .now in
     extended-list (after (text " (") (drop (start .args .first .at) line)) line _ _ (c .before .before .opening .ensures .0) (c .enum-told .given .1)
 
 returns-2 : tie.Need-returns-2
 returns-2 c =
     let after-opening = c .before .before .before .before in
-    let stage = after-opening .before .before in
-    let start = stage in
+    let start = after-opening .before .before in
     let line = start .args .text .now in
     ap (λ (x : ℕ). eqb x 40 || ltb (start .args .rest .at) (length line)) (c .before .byte-at .ensures)
     ∙ extended-else line (start .args .first .at) (start .args .patterns .at) (start .args .rest .at) (behind-nothing _ (after-opening .opening .ensures .0) (c .before .before .enum-told2 .given .1))

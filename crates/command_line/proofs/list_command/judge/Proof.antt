@@ -23,7 +23,10 @@ known c = not-false _ (c .if1 .left)
 lawful : (c : tie.Else2) → lawfulOptions (optionsIs (c .before .before .before .before .before .before .args .a .options)) ≡ true
 lawful c = sym (c .before .lawful .ensures) ∙ not-false _ (c .if2 .left)
 
-fit : (c : tie.Else4) → every short (canonicalOf (c .before .before .before .before .before .before .before .before .before .before .before .before .args .text .now) (c .before .before .before .before .before .before .before .before .before .before .before .before .args .a .reference) (c .before .before .before .before .before .before .before .before .before .before .before .before .args .a .patterns)) ≡ true
+fit : (c : tie.Else4) → every short (canonicalOf
+    (c .before .before .before .before .before .before .before .before .before .before .before .before .args .text .now)
+    (c .before .before .before .before .before .before .before .before .before .before .before .before .args .a .reference)
+    (c .before .before .before .before .before .before .before .before .before .before .before .before .args .a .patterns)) ≡ true
 fit c = sym (ap (λ (m : Measured). m .fit) (c .before .before .measure .ensures)) ∙ not-false _ (c .if4 .left)
 
 -- ---- the refusals
@@ -31,24 +34,21 @@ fit c = sym (ap (λ (m : Measured). m .fit) (c .before .before .measure .ensures
 returns : tie.Need-returns
 unfolding argumentsIs
 returns c =
-    let stage = c .before .before .before .before in
-    let start = stage in
+    let start = c .before .before .before .before in
     refuses _ 6 (c .refused .ensures) (decided-6 _ (argumentsIs (start .args .text .now) (start .args .a)) (not-true _ (c .before .if1 .taken)))
 
 returns-2 : tie.Need-returns-2
 unfolding argumentsIs
 returns-2 c =
     let stage = c .before .before .before .before in
-    let stage-2 = stage .before .before .before in
-    let start = stage-2 in
+    let start = stage .before .before .before in
     refuses _ 7 (c .refused2 .ensures) (decided-7 _ (argumentsIs (start .args .text .now) (start .args .a)) (known (stage)) (sym (c .before .before .lawful .ensures) ∙ not-true _ (c .before .if2 .taken)))
 
 returns-3 : tie.Need-returns-3
 unfolding argumentsIs
 returns-3 c =
     let stage = c .before .before .before .before .before .before in
-    let stage-2 = stage .before .before .before in
-    let start = stage-2 in
+    let start = stage .before .before .before in
     refuses _ 8 (c .refused3 .ensures) (decided-many _ (argumentsIs (start .args .text .now) (start .args .a)) (known (stage)) (lawful (c .before .before .before)) (kept-many _ _ (c .before .if3 .taken)))
 
 returns-4 : tie.Need-returns-4
@@ -57,8 +57,7 @@ returns-4 c =
     let at-if3 = c .before .before .before .before .before in
     let stage = at-if3 .before .before in
     let stage-2 = stage .before .before .before in
-    let stage-3 = stage-2 .before .before .before in
-    let start = stage-3 in
+    let start = stage-2 .before .before .before in
     let long = sym (ap (λ (m : Measured). m .fit) (c .before .before .before .measure .ensures)) ∙ not-true _ (c .before .if4 .taken) in
     refuses _ 8 (c .refused4 .ensures) (decided-long _ (argumentsIs (start .args .text .now) (start .args .a)) (known (stage-2)) (lawful (stage)) _ (kept-few _ _ (at-if3 .if3 .left)) long)
 
@@ -72,8 +71,7 @@ returns-5 c =
     let at-if3 = after-measure .before .before in
     let stage-2 = at-if3 .before .before in
     let stage-3 = stage-2 .before .before .before in
-    let stage-4 = stage-3 .before .before .before in
-    let start = stage-4 in
+    let start = stage-3 .before .before .before in
     let text = start .args .text .now in
     let a = start .args .a in
     let root = ap (λ (m : Measured). not (a .extended) && eqb (m .count) 0) (sym (after-measure .measure .ensures)) ∙ c .before .if5 .taken in
@@ -87,8 +85,7 @@ returns-6 c =
     let at-if3 = after-measure .before .before in
     let stage-2 = at-if3 .before .before in
     let stage-3 = stage-2 .before .before .before in
-    let stage-4 = stage-3 .before .before .before in
-    let start = stage-4 in
+    let start = stage-3 .before .before .before in
     let text = start .args .text .now in
     let a = start .args .a in
     let list = ap (λ (m : Measured). not (a .extended) && eqb (m .count) 0) (sym (after-measure .measure .ensures)) ∙ c .before .if5 .left in
@@ -99,18 +96,5 @@ returns-6 c =
 
 pub judge-spec : {M : Type 1} → statement M
 judge-spec =
-    tie.close
-    (tie.spec
-    (λ c κs. search needs)
-    returns
-    (λ c κs. search needs)
-    (λ c κs. search needs)
-    returns-2
-    (λ c κs. search needs)
-    returns-3
-    (λ c κs. search needs)
-    (λ c κs. search needs)
-    returns-4
-    (λ c κs. search needs)
-    returns-5
-    returns-6)
+    tie.close (tie.spec (λ c κs. search needs) returns (λ c κs. search needs) (λ c κs. search needs) returns-2 (λ c κs. search needs) returns-3
+    (λ c κs. search needs) (λ c κs. search needs) returns-4 (λ c κs. search needs) returns-5 returns-6)

@@ -47,8 +47,7 @@ has s = isSome (after (text " (") (rest s))
 returns : tie.Need-returns
 unfolding wordedAs
 returns c =
-    let stage = c .before .before .before .before .before in
-    let start = stage in
+    let start = c .before .before .before .before .before in
     refuses _ 4 (c .refused .ensures) (list-is (tag start) (rest start) ∙ read-off 4 _ (listed-broken _ (c .before .before .before .read-selection .ensures) (c .before .enum-told .given .1)))
 
 -- ---- the selection options
@@ -57,7 +56,9 @@ module _ (c : tie.After-known-told) where
   abbrev marks : Marks
   marks = record { set = c .before .selected .given .0 .0 .bits; known = c .before .selected .given .0 .1 .0 }
 
-  selected : whole (c .before .before .before .before .before) ≡ afterSelection (tag (c .before .before .before .before .before)) (has (c .before .before .before .before .before)) (got marks (drop (c .before .selected .given .0 .1 .1 .0 .at) (line (c .before .before .before .before .before))))
+  selected : whole (c .before .before .before .before .before) ≡ afterSelection (tag (c .before .before .before .before .before))
+      (has (c .before .before .before .before .before)) (got marks
+      (drop (c .before .selected .given .0 .1 .1 .0 .at) (line (c .before .before .before .before .before))))
   unfolding wordedAs
   selected = list-is (tag (c .before .before .before .before .before)) (rest (c .before .before .before .before .before)) ∙ read-on 4 (afterSelection (tag (c .before .before .before .before .before)) (has (c .before .before .before .before .before))) (listed-read _ (c .before .before .before .read-selection .ensures) (c .before .selected .given .1))
 
@@ -73,7 +74,10 @@ module _ (c : tie.After-known-told2) where
   abbrev reference : Seq ℕ
   reference = spanBytes (line (c .before .before .before .before .before .before .before .before .before)) (c .before .reference .given .0 .0)
 
-  referred : argument (drop (c .before .before .before .before .before .selected .given .0 .1 .1 .0 .at) (line (c .before .before .before .before .before .before .before .before .before))) ≡ some (got reference (drop (c .before .reference .given .0 .1 .0 .at) (line (c .before .before .before .before .before .before .before .before .before))))
+  referred : argument (drop (c .before .before .before .before .before .selected .given .0 .1 .1 .0 .at)
+      (line (c .before .before .before .before .before .before .before .before .before))) ≡ some
+      (got reference (drop (c .before .reference .given .0 .1 .0 .at)
+      (line (c .before .before .before .before .before .before .before .before .before))))
   referred = token-found _ (c .before .before .before .argument .ensures .0) (c .before .reference .given .1)
 
 returns-3 : tie.Need-returns-3
@@ -89,7 +93,11 @@ module _ (c : tie.After-known-told3) where
   abbrev place : ℕ
   place = c .before .fourth .given .0 .0 .at
 
-  spaced : whole (c .before .before .before .before .before .before .before .before .before .before .before .before .before) ≡ afterSpace (tag (c .before .before .before .before .before .before .before .before .before .before .before .before .before)) (has (c .before .before .before .before .before .before .before .before .before .before .before .before .before)) (marks (c .before .before .before .before .before .before .before .before)) (reference (c .before .before .before .before)) (drop place (line (c .before .before .before .before .before .before .before .before .before .before .before .before .before)))
+  spaced : whole (c .before .before .before .before .before .before .before .before .before .before .before .before .before) ≡ afterSpace
+      (tag (c .before .before .before .before .before .before .before .before .before .before .before .before .before))
+      (has (c .before .before .before .before .before .before .before .before .before .before .before .before .before))
+      (marks (c .before .before .before .before .before .before .before .before)) (reference (c .before .before .before .before))
+      (drop place (line (c .before .before .before .before .before .before .before .before .before .before .before .before .before)))
   unfolding afterSelection got
   spaced = selected (c .before .before .before .before .before .before .before .before) ∙ reference-read _ (afterSpace (tag (c .before .before .before .before .before .before .before .before .before .before .before .before .before)) (has (c .before .before .before .before .before .before .before .before .before .before .before .before .before)) (marks (c .before .before .before .before .before .before .before .before))) _ _ (referred (c .before .before .before .before)) _ (behind-at _ (c .before .before .before .space .ensures .0) (c .before .fourth .given .1))
 
@@ -105,7 +113,21 @@ module _ (c : tie.After-known-told4) where
   abbrev end : ℕ
   end = c .before .behind .given .0 .0 .at
 
-  listed : whole (c .before .before .before .before .before .before .before .before .before .before .before .before .before .before .before .before .before) ≡ afterPatterns (tag (c .before .before .before .before .before .before .before .before .before .before .before .before .before .before .before .before .before)) (has (c .before .before .before .before .before .before .before .before .before .before .before .before .before .before .before .before .before)) (marks (c .before .before .before .before .before .before .before .before .before .before .before .before)) (reference (c .before .before .before .before .before .before .before .before)) (drop (place (c .before .before .before .before)) (line (c .before .before .before .before .before .before .before .before .before .before .before .before .before .before .before .before .before))) (got (kept (line (c .before .before .before .before .before .before .before .before .before .before .before .before .before .before .before .before .before)) (c .before .before .before .read-patterns .result .patterns)) (drop end (line (c .before .before .before .before .before .before .before .before .before .before .before .before .before .before .before .before .before))))
+  listed : whole
+      (c .before .before .before .before .before .before .before .before .before .before .before .before .before .before .before .before .before) ≡
+      afterPatterns (tag
+      (c .before .before .before .before .before .before .before .before .before .before .before .before .before .before .before .before .before))
+      (has
+      (c .before .before .before .before .before .before .before .before .before .before .before .before .before .before .before .before .before))
+      (marks (c .before .before .before .before .before .before .before .before .before .before .before .before))
+      (reference (c .before .before .before .before .before .before .before .before))
+      (drop (place (c .before .before .before .before)) (line
+      (c .before .before .before .before .before .before .before .before .before .before .before .before .before .before .before .before .before)))
+      (got (kept (line
+      (c .before .before .before .before .before .before .before .before .before .before .before .before .before .before .before .before .before))
+      (c .before .before .before .read-patterns .result .patterns))
+      (drop end (line
+      (c .before .before .before .before .before .before .before .before .before .before .before .before .before .before .before .before .before))))
   unfolding afterSpace
   listed = spaced (c .before .before .before .before) ∙ read-on 4 (afterPatterns (tag (c .before .before .before .before .before .before .before .before .before .before .before .before .before .before .before .before .before)) (has (c .before .before .before .before .before .before .before .before .before .before .before .before .before .before .before .before .before)) (marks (c .before .before .before .before .before .before .before .before .before .before .before .before)) (reference (c .before .before .before .before .before .before .before .before)) (drop (place (c .before .before .before .before)) (line (c .before .before .before .before .before .before .before .before .before .before .before .before .before .before .before .before .before)))) (patterns-behind _ _ (c .before .before .before .read-patterns .ensures .0) (c .before .behind .given .1))
 
@@ -136,8 +158,7 @@ returns-6 c =
     let stage-5 = after-argument .before in
     let after-selected = stage-5 .before in
     let after-read-selection = after-selected .before .before in
-    let stage-6 = after-read-selection .before .before in
-    let start = stage-6 in
+    let start = after-read-selection .before .before in
     let text = line start in
     let ret = stage in
     let list = stage-2 in
@@ -151,34 +172,8 @@ returns-6 c =
 
 pub read-list-spec : {M : Type 1} → statement M
 read-list-spec =
-    tie.close
-    (tie.spec
-    (λ c κs. search needs)
-    (λ c. search needs)
-    (λ c. search needs)
-    (λ c κs. search needs)
-    returns
-    (λ c κs. search needs)
-    (λ c. search needs)
-    (λ c. search needs)
-    (λ c κs. search needs)
-    returns-2
-    (λ c κs. search needs)
-    (λ c. search needs)
-    (λ c. search needs)
-    (λ c κs. search needs)
-    returns-3
-    (λ c κs. search needs)
-    (λ c. search needs)
-    (λ c. search needs)
-    (λ c κs. search needs)
-    returns-4
-    (λ c κs. search needs)
-    (λ c. search needs)
-    (λ c. search needs)
-    (λ c κs. search needs)
-    returns-5
-    (λ c κs. search needs)
-    (λ c κs. search needs)
-    (λ c κs. search needs)
-    returns-6)
+    tie.close (tie.spec (λ c κs. search needs) (λ c. search needs) (λ c. search needs) (λ c κs. search needs) returns (λ c κs. search needs)
+    (λ c. search needs) (λ c. search needs) (λ c κs. search needs) returns-2 (λ c κs. search needs) (λ c. search needs) (λ c. search needs)
+    (λ c κs. search needs) returns-3 (λ c κs. search needs) (λ c. search needs) (λ c. search needs) (λ c κs. search needs) returns-4
+    (λ c κs. search needs) (λ c. search needs) (λ c. search needs) (λ c κs. search needs) returns-5 (λ c κs. search needs) (λ c κs. search needs)
+    (λ c κs. search needs) returns-6)

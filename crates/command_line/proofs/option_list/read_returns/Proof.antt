@@ -35,12 +35,13 @@ returns c =
 returns-2 : tie.Need-returns-2
 unfolding listedIs
 returns-2 c =
-    let stage = c .before .before .before .before .before .before in
-    let start = stage in
+    let start = c .before .before .before .before .before .before in
     sym (return-is (line start) (start .args .here .at) (c .before .before .before .if1 .left) ∙ bind-none _ (behind-nothing _ (c .before .before .space .ensures .0) (c .enum-told .given .1)))
 
 -- a space
-spaced : (c : tie.After-known-told) → whole (c .before .before .before .before .before .before .before) ≡ afterSpace (drop (c .before .next .given .0 .0 .at) (line (c .before .before .before .before .before .before .before)))
+spaced : (c : tie.After-known-told) →
+    whole (c .before .before .before .before .before .before .before) ≡ afterSpace
+    (drop (c .before .next .given .0 .0 .at) (line (c .before .before .before .before .before .before .before)))
 spaced c =
     let at-if1 = c .before .before .before .before in
     let start = at-if1 .before .before .before in
@@ -87,7 +88,12 @@ returns-5 c =
     sym (worded (stage-2) ∙ bind-none _ (word-return _ _ _ (spelled (stage) ∙ not-false _ (c .before .before .before .if2 .left)) (behind-nothing _ (c .before .before .opening .ensures .0) (c .enum-told3 .given .1))))
 
 -- RETURN and a list
-inside : (c : tie.After-known-told3) → whole (c .before .before .before .before .before .before .before .before .before .before .before .before .before .before .before .before .before .before .before) ≡ atEnd (marksOf Return (options (drop (c .before .inside .given .0 .0 .at) (line (c .before .before .before .before .before .before .before .before .before .before .before .before .before .before .before .before .before .before .before)))))
+inside : (c : tie.After-known-told3) →
+    whole
+    (c .before .before .before .before .before .before .before .before .before .before .before .before .before .before .before .before .before .before .before)
+    ≡ atEnd (marksOf Return (options (drop (c .before .inside .given .0 .0 .at)
+    (line
+    (c .before .before .before .before .before .before .before .before .before .before .before .before .before .before .before .before .before .before .before)))))
 unfolding afterReturn
 inside c =
     let at-if2 = c .before .before .before .before in
@@ -126,28 +132,6 @@ returns-8 c =
 
 pub read-returns-spec : {M : Type 1} → statement M
 read-returns-spec =
-    tie.close
-    (tie.spec
-    returns
-    (λ c κs. search needs)
-    (λ c. search needs)
-    (λ c. search needs)
-    returns-2
-    (λ c κs. search needs)
-    (λ c. search needs)
-    (λ c. search needs)
-    returns-3
-    (λ c κs. search needs)
-    (λ c. search needs)
-    (λ c κs. search needs)
-    returns-4
-    (λ c κs. search needs)
-    (λ c. search needs)
-    (λ c. search needs)
-    returns-5
-    (λ c κs. search needs)
-    (λ c. search needs)
-    (λ c. search needs)
-    returns-6
-    returns-7
-    returns-8)
+    tie.close (tie.spec returns (λ c κs. search needs) (λ c. search needs) (λ c. search needs) returns-2 (λ c κs. search needs) (λ c. search needs)
+    (λ c. search needs) returns-3 (λ c κs. search needs) (λ c. search needs) (λ c κs. search needs) returns-4 (λ c κs. search needs)
+    (λ c. search needs) (λ c. search needs) returns-5 (λ c κs. search needs) (λ c. search needs) (λ c. search needs) returns-6 returns-7 returns-8)

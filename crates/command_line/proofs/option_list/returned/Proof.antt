@@ -1,3 +1,4 @@
+-- `returned`: the return option that a word spells, or none, word by word. Opens the definition; rests on the promise of `spells_word`.
 use mathlib.Core.Path.{sym, _∙_}
 use Rattle.listing_rules.specs.Bytes.{text}
 use Rattle.command_line.specs.OptionSets.{returned}
@@ -33,15 +34,5 @@ returns-4 c =
 
 pub returned-spec : {M : Type 1} → statement M
 returned-spec =
-    tie.close
-    (tie.spec
-    (λ c. search needs)
-    (λ c κs. search needs)
-    returns
-    (λ c. search needs)
-    (λ c κs. search needs)
-    returns-2
-    (λ c. search needs)
-    (λ c κs. search needs)
-    returns-3
-    returns-4)
+    tie.close (tie.spec (λ c. search needs) (λ c κs. search needs) returns (λ c. search needs) (λ c κs. search needs) returns-2 (λ c. search needs)
+    (λ c κs. search needs) returns-3 returns-4)

@@ -1,3 +1,4 @@
+-- `selected`: the selection option that a word spells, or none, word by word. Opens the definition; rests on the promise of `spells_word`.
 use mathlib.Core.Path.{sym, _∙_}
 use Rattle.listing_rules.specs.Bytes.{text}
 use Rattle.command_line.specs.OptionSets.{selected}
@@ -45,18 +46,5 @@ returns-5 c =
 
 pub selected-spec : {M : Type 1} → statement M
 selected-spec =
-    tie.close
-    (tie.spec
-    (λ c. search needs)
-    (λ c κs. search needs)
-    returns
-    (λ c. search needs)
-    (λ c κs. search needs)
-    returns-2
-    (λ c. search needs)
-    (λ c κs. search needs)
-    returns-3
-    (λ c. search needs)
-    (λ c κs. search needs)
-    returns-4
-    returns-5)
+    tie.close (tie.spec (λ c. search needs) (λ c κs. search needs) returns (λ c. search needs) (λ c κs. search needs) returns-2 (λ c. search needs)
+    (λ c κs. search needs) returns-3 (λ c. search needs) (λ c κs. search needs) returns-4 returns-5)

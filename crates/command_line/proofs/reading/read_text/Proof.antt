@@ -50,7 +50,9 @@ returns-2 c =
 
 -- ---- the space
 
-spaced : (c : tie.After-known-told2) → tagged (line (c .before .before .before .before .before .before .before .before .before)) ≡ worded (tag (c .before .before .before .before)) (run atomByte (drop (c .before .third .given .0 .0 .at) (line (c .before .before .before .before .before .before .before .before .before))))
+spaced : (c : tie.After-known-told2) →
+    tagged (line (c .before .before .before .before .before .before .before .before .before)) ≡ worded (tag (c .before .before .before .before))
+    (run atomByte (drop (c .before .third .given .0 .0 .at) (line (c .before .before .before .before .before .before .before .before .before))))
 spaced c =
     let stage = c .before .before .before .before in
     let stage-2 = stage .before .before .before .before .before in
@@ -84,7 +86,10 @@ module _ (c : tie.After-word-of) where
   by-word w e = spaced (c .before .before .before .before .before .before) ∙ word-read _ _ word rest (token-found _ (c .before .before .before .before .before .atom .ensures .0) (c .before .before .before .word .given .1)) ∙ ap (λ (x : Word). wordedAs x (tag (c .before .before .before .before .before .before .before .before .before .before)) rest) (word-is ∙ e)
 
   -- a word's own function answers
-  arm : (w : Word) {r : Command} → c .word-of .result ≡ w → Answers text (wordedAs w (tag (c .before .before .before .before .before .before .before .before .before .before)) rest) (TagIn text (c .before .before .before .before .before .before .before .before .before .before .before .tag2 .given .0 .0)) r → Answers text (tagged text) Unit r
+  arm : (w : Word) {r : Command} → c .word-of .result ≡ w →
+      Answers text (wordedAs w (tag (c .before .before .before .before .before .before .before .before .before .before)) rest)
+      (TagIn text (c .before .before .before .before .before .before .before .before .before .before .before .tag2 .given .0 .0)) r →
+      Answers text (tagged text) Unit r
   arm w e a = answers-as a (by-word w e) (λ u. tagged-in (c .before .before .before .before .before .before .before .before .before .before))
 
 returns-4 : tie.Need-returns-4
@@ -107,40 +112,8 @@ returns-9 c = refuses _ 5 (c .refused4 .ensures) (by-word (c .before .before .be
 
 pub read-text-spec : {M : Type 1} → statement M
 read-text-spec =
-    tie.close
-    (tie.spec
-    (λ c κs. search needs)
-    (λ c. search needs)
-    (λ c. search needs)
-    (λ c κs. search needs)
-    returns
-    (λ c κs. search needs)
-    (λ c. search needs)
-    (λ c. search needs)
-    (λ c κs. search needs)
-    returns-2
-    (λ c κs. search needs)
-    (λ c. search needs)
-    (λ c. search needs)
-    (λ c κs. search needs)
-    returns-3
-    (λ c κs. search needs)
-    (λ c κs. search needs)
-    (λ c. search needs)
-    (λ c κs. search needs)
-    (λ c. search needs)
-    (λ c κs. search needs)
-    (λ c. search needs)
-    (λ c κs. search needs)
-    (λ c. search needs)
-    (λ c κs. search needs)
-    (λ c. search needs)
-    (λ c κs. search needs)
-    (λ c. search needs)
-    (λ c κs. search needs)
-    returns-4
-    returns-5
-    returns-6
-    returns-7
-    returns-8
-    returns-9)
+    tie.close (tie.spec (λ c κs. search needs) (λ c. search needs) (λ c. search needs) (λ c κs. search needs) returns (λ c κs. search needs)
+    (λ c. search needs) (λ c. search needs) (λ c κs. search needs) returns-2 (λ c κs. search needs) (λ c. search needs) (λ c. search needs)
+    (λ c κs. search needs) returns-3 (λ c κs. search needs) (λ c κs. search needs) (λ c. search needs) (λ c κs. search needs) (λ c. search needs)
+    (λ c κs. search needs) (λ c. search needs) (λ c κs. search needs) (λ c. search needs) (λ c κs. search needs) (λ c. search needs)
+    (λ c κs. search needs) (λ c. search needs) (λ c κs. search needs) returns-4 returns-5 returns-6 returns-7 returns-8 returns-9)

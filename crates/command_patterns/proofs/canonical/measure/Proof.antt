@@ -30,18 +30,16 @@ loop-holds c = (omega arith, omega arith, λ r h. counted-none _)
 loop-again : tie.Need-loop-again Inv-loop μ-loop
 loop-again c =
     let turn = c .before .before .before .before in
-    let stage = turn .before .before .before .before in
+    let start = turn .before .before .before .before in
     let loop = turn .loop in
-    let start = stage in
     (omega arith, omega arith, λ r h. counted-same _ _ _ (loop .inv .2 r h) (from-skip (start .args .text .now) r (start .args .t3) (size start) (loop .i) (omega arith) (sym (c .before .span-len2 .ensures) ∙ c .if1 .taken)))
 
 -- any other one
 loop-again-2 : tie.Need-loop-again-2 Inv-loop μ-loop
 loop-again-2 c =
     let turn = c .before .before .before .before .before in
-    let stage = turn .before .before .before .before in
+    let start = turn .before .before .before .before in
     let loop = turn .loop in
-    let start = stage in
     let text = start .args .text .now in
     let tail = c .before .before .span-len2 .ensures in (
       omega arith,
@@ -51,31 +49,14 @@ loop-again-2 c =
 
 returns : tie.Need-returns Inv-loop μ-loop
 returns c =
-    let stage = c .before .before .before .before .before in
+    let start = c .before .before .before .before .before in
     let loop = c .before .loop in
-    let start = stage in
     let text = start .args .text .now in
     let reference = spanBytes text (start .args .reference) in
     counted-all _ _ _ (loop .inv .2 reference (sym (c .before .before .before .span-len .ensures))) (from-out text reference (start .args .t3) (size start) (loop .i) (omega arith))
 
 pub measure-spec : {M : Type 1} → statement M
 measure-spec =
-    tie.close
-    (tie.spec
-    Inv-loop
-    μ-loop
-    (λ c κs. search needs)
-    (λ c κs. search needs)
-    loop-holds
-    (λ c. search needs)
-    (λ c. search needs)
-    (λ c κs. search needs)
-    (λ c. search needs)
-    (λ c. omega arith)
-    loop-again
-    (λ c κs. search needs)
-    (λ c. omega arith)
-    (λ c. search needs)
-    (λ c. omega arith)
-    loop-again-2
-    returns)
+    tie.close (tie.spec Inv-loop μ-loop (λ c κs. search needs) (λ c κs. search needs) loop-holds (λ c. search needs) (λ c. search needs)
+    (λ c κs. search needs) (λ c. search needs) (λ c. omega arith) loop-again (λ c κs. search needs) (λ c. omega arith) (λ c. search needs)
+    (λ c. omega arith) loop-again-2 returns)

@@ -18,8 +18,7 @@ returns c =
     let after-length-byte = after-put .before in
     let after-span-len2 = after-length-byte .before .before in
     let after-span-len = after-span-len2 .before in
-    let stage = after-span-len .before .before .before in
-    let start = stage in
+    let start = after-span-len .before .before .before in
     let reference = spanBytes (start .args .line .now) (start .args .reference) in
     let pattern = spanBytes (start .args .line .now) (start .args .pattern) in
     let head = after-span-len .span-len .ensures in
@@ -30,13 +29,5 @@ returns c =
 
 pub put-canonical-spec : {M : Type 1} → statement M
 put-canonical-spec =
-    tie.close
-    (tie.spec
-    (λ c κs. search needs)
-    (λ c κs. search needs)
-    (λ c κs. search needs)
-    (λ c κs. search needs)
-    (λ c κs. search needs)
-    (λ c κs. search needs)
-    (λ c. search needs)
-    returns)
+    tie.close (tie.spec (λ c κs. search needs) (λ c κs. search needs) (λ c κs. search needs) (λ c κs. search needs) (λ c κs. search needs)
+    (λ c κs. search needs) (λ c. search needs) returns)

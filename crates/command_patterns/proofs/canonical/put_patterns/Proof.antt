@@ -30,9 +30,8 @@ loop-holds c = (omega arith, packing-none _ _ (search needs))
 loop-again : tie.Need-loop-again Inv-loop μ-loop
 loop-again c =
     let turn = c .before .before .before .before in
-    let stage = turn .before .before .before .before in
+    let start = turn .before .before .before .before in
     let loop = turn .loop in
-    let start = stage in
     let line = start .args .line .now in
     (omega arith, packing-same _ _ _ _ _ (loop .inv .1) (from-skip line (spanBytes line (start .args .reference)) (start .args .t3) (size start) (loop .i) (omega arith) (sym (c .before .span-len .ensures) ∙ c .if1 .taken)))
 
@@ -42,9 +41,8 @@ loop-again-2 c =
     let at-if1 = c .before .before .before .before in
     let after-span-len = at-if1 .before in
     let turn = after-span-len .before .before .before in
-    let stage = turn .before .before .before .before in
+    let start = turn .before .before .before .before in
     let loop = turn .loop in
-    let start = stage in
     let line = start .args .line .now in
     let reference = spanBytes line (start .args .reference) in (
       omega arith,
@@ -56,29 +54,12 @@ same-length c = put-length (c .before .loop .inv .1 .put)
 
 returns : tie.Need-returns Inv-loop μ-loop
 returns c =
-    let stage = c .before .before .before .before .before in
+    let start = c .before .before .before .before .before in
     let loop = c .before .loop in
-    let start = stage in
     let line = start .args .line .now in
     packing-all _ _ _ _ _ (loop .inv .1) (from-out line (spanBytes line (start .args .reference)) (start .args .t3) (size start) (loop .i) (omega arith))
 
 pub put-patterns-spec : {M : Type 1} → statement M
 put-patterns-spec =
-    tie.close
-    (tie.spec
-    Inv-loop
-    μ-loop
-    (λ c κs. search needs)
-    loop-holds
-    (λ c. search needs)
-    (λ c. search needs)
-    (λ c κs. search needs)
-    (λ c. search needs)
-    (λ c. omega arith)
-    loop-again
-    (λ c κs. search needs)
-    (λ c. search needs)
-    (λ c. omega arith)
-    loop-again-2
-    same-length
-    returns)
+    tie.close (tie.spec Inv-loop μ-loop (λ c κs. search needs) loop-holds (λ c. search needs) (λ c. search needs) (λ c κs. search needs)
+    (λ c. search needs) (λ c. omega arith) loop-again (λ c κs. search needs) (λ c. search needs) (λ c. omega arith) loop-again-2 same-length returns)

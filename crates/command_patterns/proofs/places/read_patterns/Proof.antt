@@ -26,8 +26,7 @@ add-t9 c =
 -- a list
 returns : tie.Need-returns
 returns c =
-    let stage = c .before .before .before .before in
-    let start = stage in
+    let start = c .before .before .before .before in
     (c .read-parted .ensures .0 ∙ sym (ap upToEight (patterns-list (start .args .text .now) (start .args .first .at) (sym (c .before .before .byte-at .ensures) ∙ c .before .if1 .taken))), c .read-parted .ensures .1)
 
 -- neither
@@ -36,8 +35,7 @@ unfolding patternsIs behindIs _>>=_
 returns-2 c =
     let at-if1 = c .before .before .before .before in
     let after-byte-at = at-if1 .before in
-    let stage = after-byte-at .before .before in
-    let start = stage in
+    let start = after-byte-at .before .before in
     let line = start .args .text .now in
     (sym (patterns-off line (start .args .first .at) (λ e. at-if1 .if1 .left (after-byte-at .byte-at .ensures ∙ e)) (token-missing _ (c .before .before .pattern .ensures .0) (c .enum-told .given .1))), rw (c .before .before .before .none .ensures) (placed-filled _ _ _ (filled-none line)))
 
@@ -50,8 +48,7 @@ returns-3 c =
     let after-none = after-pattern .before in
     let at-if1 = after-none .before in
     let after-byte-at = at-if1 .before in
-    let stage = after-byte-at .before .before in
-    let start = stage in
+    let start = after-byte-at .before .before in
     let line = start .args .text .now in
     let span = after-span .span .given .0 .0 in
     let bytes = spanBytes line span in
@@ -66,16 +63,5 @@ returns-3 c =
 
 pub read-patterns-spec : {M : Type 1} → statement M
 read-patterns-spec =
-    tie.close
-    (tie.spec
-    (λ c κs. search needs)
-    add-t9
-    (λ c κs. search needs)
-    returns
-    (λ c κs. search needs)
-    (λ c κs. search needs)
-    (λ c. search needs)
-    (λ c. search needs)
-    returns-2
-    (λ c κs. search needs)
-    returns-3)
+    tie.close (tie.spec (λ c κs. search needs) add-t9 (λ c κs. search needs) returns (λ c κs. search needs) (λ c κs. search needs) (λ c. search needs)
+    (λ c. search needs) returns-2 (λ c κs. search needs) returns-3)

@@ -1,3 +1,4 @@
+-- `Cursor::value`: the items of one level in a loop, an inner parenthesis by a call of its own further on. Rests on Nesting, Binds and Bytes.
 use mathlib.Core.Path.{_≡_, refl, sym, _∙_}
 use mathlib.Core.Logic.{⊎-elim}
 use Prim.Native.Nat.{_≤_, _-_}

@@ -1,3 +1,4 @@
+-- `Cursor::astring`: `string_or` with the bytes of an astring is the definition.
 use Rattle.listing_rules.specs.Tokens.{astring}
 use borrow.Author.Needs.{needs}
 use Rattle.command_tokens.proofs.Cursor.astring.Statement.{statement}

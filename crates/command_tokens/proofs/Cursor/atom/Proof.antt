@@ -1,3 +1,4 @@
+-- `Cursor::atom`: `run` with atom bytes is the definition.
 use Rattle.listing_rules.specs.Tokens.{atom}
 use borrow.Author.Needs.{needs}
 use Rattle.command_tokens.proofs.Cursor.atom.Statement.{statement}

@@ -1,3 +1,4 @@
+-- `Cursor::byte`: at the end nothing, else the byte that is asked for or another. Rests on Bytes.
 use Rattle.command_tokens.specs.Tokens.{behindIs, BehindIn}
 use mathlib.Core.Path.{sym}
 use Rattle.command_tokens.specs.Tokens.{behindIs}

@@ -1,3 +1,4 @@
+-- `Cursor::header_end`: a closing brace, CR and LF, one byte after the other. Rests on Binds and Bytes.
 use mathlib.Core.Path.{sym, _∙_}
 use mathlib.Core.List.{[], _∷_}
 use Rattle.listing_rules.specs.Bytes.{text, crlf}
@@ -38,15 +39,5 @@ returns-3 c =
 
 pub header-end-spec : {M : Type 1} → statement M
 header-end-spec =
-    tie.close
-    (tie.spec
-    (λ c κs. search needs)
-    (λ c. search needs)
-    (λ c. search needs)
-    returns
-    (λ c κs. search needs)
-    (λ c. search needs)
-    (λ c. search needs)
-    returns-2
-    (λ c κs. search needs)
-    returns-3)
+    tie.close (tie.spec (λ c κs. search needs) (λ c. search needs) (λ c. search needs) returns (λ c κs. search needs) (λ c. search needs)
+    (λ c. search needs) returns-2 (λ c κs. search needs) returns-3)

@@ -1,3 +1,4 @@
+-- `Cursor::item`: an astring, of which only the place behind it counts. Rests on Binds.
 use Rattle.listing_rules.specs.Tokens.{got}
 use mathlib.Core.Path.{sym}
 use Rattle.command_tokens.specs.Tokens.{behindIs, BehindIn}

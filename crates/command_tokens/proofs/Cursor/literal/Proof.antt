@@ -1,3 +1,4 @@
+-- `Cursor::literal`: the digits, the end of the header, and then as many bytes as the number says, if they are there. Rests on Numbers and Binds.
 use mathlib.Core.Path.{sym, _∙_}
 use lib.ListN.{length-drop}
 use Rattle.command_tokens.specs.Tokens.{tokenIs, TokenIn}
@@ -79,21 +80,6 @@ returns-5 c =
 
 pub literal-spec : {M : Type 1} → statement M
 literal-spec =
-    tie.close
-    (tie.spec
-    (λ c κs. search needs)
-    (λ c. search needs)
-    (λ c. search needs)
-    returns
-    (λ c κs. search needs)
-    (λ c κs. search needs)
-    (λ c κs. search needs)
-    (λ c. search needs)
-    (λ c. search needs)
-    returns-2
-    returns-3
-    sub-if2
-    returns-4
-    (λ c. search needs)
-    (λ c. search needs)
+    tie.close (tie.spec (λ c κs. search needs) (λ c. search needs) (λ c. search needs) returns (λ c κs. search needs) (λ c κs. search needs)
+    (λ c κs. search needs) (λ c. search needs) (λ c. search needs) returns-2 returns-3 sub-if2 returns-4 (λ c. search needs) (λ c. search needs)
     returns-5)

@@ -1,3 +1,4 @@
+-- `Cursor::opening`: a space, and then an opening parenthesis. Rests on Binds and Bytes.
 use mathlib.Core.Path.{sym, _∙_}
 use mathlib.Core.List.{[], _∷_}
 use Rattle.command_tokens.specs.Tokens.{behindIs, BehindIn}

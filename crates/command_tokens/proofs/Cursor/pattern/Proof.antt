@@ -1,3 +1,4 @@
+-- `Cursor::pattern`: `string_or` with the bytes of a pattern is the definition.
 use Rattle.listing_rules.specs.Tokens.{pattern}
 use borrow.Author.Needs.{needs}
 use Rattle.command_tokens.proofs.Cursor.pattern.Statement.{statement}

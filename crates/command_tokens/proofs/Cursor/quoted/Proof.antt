@@ -1,3 +1,4 @@
+-- `Cursor::quoted`: what is left of a quoted string is read byte by byte, up to the quote that closes it. Rests on Quoting.
 use Rattle.command_tokens.specs.Tokens.{TokenIn}
 use mathlib.Core.Path.{_≡_, refl, sym, ap, _∙_}
 use mathlib.Core.Bool.{false}
@@ -44,20 +45,5 @@ returns-3 c = (ap (tokenIs (c .before .before .before .args .text .now)) (sym (q
 
 pub quoted-spec : {M : Type 1} → statement M
 quoted-spec =
-    tie.close
-    (tie.spec
-    Inv-loop
-    μ-loop
-    loop-holds
-    (λ c. search needs)
-    (λ c κs. search needs)
-    (λ c. search needs)
-    (λ c. search needs)
-    returns
-    (λ c. search needs)
-    returns-2
-    (λ c. search needs)
-    (λ c. search needs)
-    (λ c. search needs)
-    loop-again
-    returns-3)
+    tie.close (tie.spec Inv-loop μ-loop loop-holds (λ c. search needs) (λ c κs. search needs) (λ c. search needs) (λ c. search needs) returns
+    (λ c. search needs) returns-2 (λ c. search needs) (λ c. search needs) (λ c. search needs) loop-again returns-3)

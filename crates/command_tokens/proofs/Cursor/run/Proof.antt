@@ -1,3 +1,4 @@
+-- `Cursor::run`: the loop stops at the end of the longest run of bytes of the class. Rests on Runs.
 use Rattle.command_tokens.specs.Tokens.{BareIn}
 use mathlib.Core.Path.{_≡_, refl, sym, _∙_}
 use mathlib.Core.Logic.{⊎-elim}
@@ -27,7 +28,9 @@ loop-again c =
     (omega arith, omega arith, run-step _ _ _ (c .before .before .before .loop-test .taken) (sym (c .before .holds .ensures) ∙ not-false _ (c .if1 .left)) ∙ turn .loop .inv .2)
 
 -- the two ways out of the loop: the run ends there
-ended : (c : tie.Left-loop Inv-loop μ-loop) → runEnd (classByte (c .before .before .before .args .class)) (c .before .before .before .args .text .now) (c .before .before .before .args .self .at) ≡ c .before .loop .i
+ended : (c : tie.Left-loop Inv-loop μ-loop) →
+    runEnd (classByte (c .before .before .before .args .class)) (c .before .before .before .args .text .now)
+    (c .before .before .before .args .self .at) ≡ c .before .loop .i
 ended c =
     sym (c .before .loop .inv .2)
     ∙ ⊎-elim (λ w. run-out _ _ _ (w .left)) (λ w. run-stop _ _ _ (w .0 .taken) (sym (w .2 .ensures) ∙ not-true _ (w .3 .taken))) (c .loop-test .came)
@@ -42,15 +45,5 @@ returns-2 c = (sym (run-found _ _ _ _ (ended (c .before)) (omega arith)), record
 
 pub run-spec : {M : Type 1} → statement M
 run-spec =
-    tie.close
-    (tie.spec
-    Inv-loop
-    μ-loop
-    loop-holds
-    (λ c. search needs)
-    (λ c κs. search needs)
-    (λ c. search needs)
-    (λ c. search needs)
-    loop-again
-    returns
-    returns-2)
+    tie.close (tie.spec Inv-loop μ-loop loop-holds (λ c. search needs) (λ c κs. search needs) (λ c. search needs) (λ c. search needs) loop-again
+    returns returns-2)

@@ -1,3 +1,4 @@
+-- `Cursor::space`: `byte` with a space is the definition.
 use Rattle.listing_rules.specs.Bytes.{text}
 use borrow.Author.Needs.{needs}
 use Rattle.command_tokens.proofs.Cursor.space.Statement.{statement}

@@ -1,3 +1,4 @@
+-- `Cursor::string_or`: the first byte tells a quoted string, a literal and a bare run apart. Rests on Bytes and Binds.
 use mathlib.Core.Path.{sym, _∙_}
 use Rattle.command_tokens.proofs.Binds.{bare-token}
 use Rattle.command_tokens.proofs.Bytes.{inside, string-quoted, string-literal, string-bare, token-later}
@@ -34,14 +35,5 @@ returns-3 c =
 
 pub string-or-spec : {M : Type 1} → statement M
 string-or-spec =
-    tie.close
-    (tie.spec
-    (λ c κs. search needs)
-    add-t9
-    (λ c κs. search needs)
-    returns
-    add-t10
-    (λ c κs. search needs)
-    returns-2
-    (λ c κs. search needs)
+    tie.close (tie.spec (λ c κs. search needs) add-t9 (λ c κs. search needs) returns add-t10 (λ c κs. search needs) returns-2 (λ c κs. search needs)
     returns-3)

@@ -1,3 +1,4 @@
+-- `number`: the digits so far and those that are left come to the whole number, cut at 1,025. Rests on Numbers.
 use mathlib.Core.Path.{_≡_, refl, sym, _∙_}
 use Prim.Native.Nat.{_-_, _≤_, min}
 use lib.ListN.{length, drop}
@@ -28,14 +29,5 @@ returns c = omega (arith, c .before .loop .inv .0, c .before .loop .inv .1, numb
 
 pub number-spec : {M : Type 1} → statement M
 number-spec =
-    tie.close
-    (tie.spec
-    Inv-loop
-    μ-loop
-    loop-holds
-    (λ c. search needs)
-    (λ c κs. search needs)
-    (λ c. search needs)
-    (λ c. search needs)
-    loop-again
+    tie.close (tie.spec Inv-loop μ-loop loop-holds (λ c. search needs) (λ c κs. search needs) (λ c. search needs) (λ c. search needs) loop-again
     returns)

@@ -1,3 +1,4 @@
+-- `plain_len`: what is counted so far and what is left to count come to the length without escapes. Rests on Plain.
 use mathlib.Core.Path.{_≡_, ap}
 use mathlib.Core.Bool.{false}
 use Prim.Native.Nat.{_+_, _≤_, _-_}
@@ -35,17 +36,5 @@ returns c = omega (arith, c .before .loop .inv .1, ap length (plain-out (c .befo
 
 pub plain-len-spec : {M : Type 1} → statement M
 plain-len-spec =
-    tie.close
-    (tie.spec
-    Inv-loop
-    μ-loop
-    loop-holds
-    (λ c. search needs)
-    (λ c. search needs)
-    (λ c. search needs)
-    loop-again
-    (λ c. search needs)
-    (λ c. search needs)
-    (λ c. search needs)
-    loop-again-2
-    returns)
+    tie.close (tie.spec Inv-loop μ-loop loop-holds (λ c. search needs) (λ c. search needs) (λ c. search needs) loop-again (λ c. search needs)
+    (λ c. search needs) (λ c. search needs) loop-again-2 returns)

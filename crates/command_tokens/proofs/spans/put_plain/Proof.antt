@@ -1,3 +1,4 @@
+-- `put_plain`: what is written so far and what is left to write come to the bytes without escapes. Rests on Plain, and on Puts of octets.
 use mathlib.Core.Path.{_≡_, refl, sym, ap, _∙_}
 use mathlib.Core.Bool.{false}
 use mathlib.Core.List.{List, [], _++_, append-assoc, append-nil}
@@ -41,19 +42,5 @@ returns c = rw (← c .before .loop .inv .2, plain-out _ _ _ (c .loop-test .left
 
 pub put-plain-spec : {M : Type 1} → statement M
 put-plain-spec =
-    tie.close
-    (tie.spec
-    Inv-loop
-    μ-loop
-    loop-holds
-    (λ c. search needs)
-    (λ c. search needs)
-    (λ c. search needs)
-    loop-again
-    (λ c. search needs)
-    (λ c κs. search needs)
-    (λ c. search needs)
-    (λ c. search needs)
-    loop-again-2
-    same-length
-    returns)
+    tie.close (tie.spec Inv-loop μ-loop loop-holds (λ c. search needs) (λ c. search needs) (λ c. search needs) loop-again (λ c. search needs)
+    (λ c κs. search needs) (λ c. search needs) (λ c. search needs) loop-again-2 same-length returns)

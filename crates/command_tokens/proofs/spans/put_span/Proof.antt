@@ -1,3 +1,4 @@
+-- `put_span`: a quoted span is written without its escapes, a bare one as it stands. Rests on Binds.
 use Rattle.command_tokens.proofs.Binds.{bare-bytes, quoted-bytes}
 use mathlib.Core.Path.{sym, ap, subst, _∙_}
 use mathlib.Core.Bool.{false}
@@ -31,12 +32,5 @@ returns-2 c =
 
 pub put-span-spec : {M : Type 1} → statement M
 put-span-spec =
-    tie.close
-    (tie.spec
-    (λ c κs. search needs)
-    (λ c κs. search needs)
-    (λ c. search needs)
-    returns
-    (λ c κs. search needs)
-    (λ c. search needs)
+    tie.close (tie.spec (λ c κs. search needs) (λ c κs. search needs) (λ c. search needs) returns (λ c κs. search needs) (λ c. search needs)
     returns-2)

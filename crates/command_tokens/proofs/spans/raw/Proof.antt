@@ -1,3 +1,4 @@
+-- `raw`: the bytes between two places, for places in the line, behind it, or in the wrong order. Rests on Cuts.
 use mathlib.Core.Path.{refl, sym, _∙_}
 use Rattle.command_tokens.specs.Spans.{rawBytes}
 use Rattle.command_tokens.proofs.Cuts.{cut-none, cut-out, cut-rest, cut-back}
@@ -30,20 +31,6 @@ returns-4 c = refl
 
 pub raw-spec : {M : Type 1} → statement M
 raw-spec =
-    tie.close
-    (tie.spec
-    (λ c. search needs)
-    (λ c. search needs)
-    (λ c. search needs)
-    returns
-    (λ c. search needs)
-    (λ c. search needs)
-    (λ c. search needs)
-    returns-2
-    (λ c. search needs)
-    (λ c. search needs)
-    (λ c. search needs)
-    returns-3
-    (λ c. search needs)
-    (λ c. search needs)
+    tie.close (tie.spec (λ c. search needs) (λ c. search needs) (λ c. search needs) returns (λ c. search needs) (λ c. search needs)
+    (λ c. search needs) returns-2 (λ c. search needs) (λ c. search needs) (λ c. search needs) returns-3 (λ c. search needs) (λ c. search needs)
     returns-4)

@@ -1,3 +1,4 @@
+-- `span_len`: the length of a quoted span without its escapes, of a bare one as it stands. Rests on Binds.
 use Rattle.command_tokens.proofs.Binds.{bare-bytes, quoted-bytes}
 use mathlib.Core.Path.{sym, ap, _∙_}
 use mathlib.Core.Bool.{false}

@@ -1,3 +1,4 @@
+-- `is_atom`: printable, and none of the special bytes. Rests on Bytes.
 use mathlib.Core.Bool.{Bool, _&&_, not}
 use lib.Dec.{leb}
 use mathlib.Core.Path.{ap}

@@ -1,3 +1,4 @@
+-- `quoted_step`: each way through the tests gives the step of the definition.
 use mathlib.Core.Path.{sym, _∙_}
 use borrow.Author.Tests.{eq-eqb, ne-eqb}
 use Rattle.command_tokens.specs.Tokens.{quotedStep}

@@ -5,15 +5,6 @@ use Rattle.exports.proofs.feeding.event_numbers.Tie as tie
 
 pub event-numbers-spec : {M : Type 1} → statement M
 event-numbers-spec =
-    tie.close
-    (tie.spec
-    (λ c. search needs)
-    (λ c. search needs)
-    (λ c. search needs)
-    (λ c. search needs)
-    (λ c. search needs)
-    (λ c. rw (c .enum-told .given .1))
-    (λ c. rw (c .before .event .given .1))
-    (λ c. rw (c .enum-told2 .given .1))
-    (λ c. rw (c .before .event2 .given .1))
-    (λ c. rw (c .enum-told3 .given .1)))
+    tie.close (tie.spec (λ c. search needs) (λ c. search needs) (λ c. search needs) (λ c. search needs) (λ c. search needs)
+    (λ c. rw (c .enum-told .given .1)) (λ c. rw (c .before .event .given .1)) (λ c. rw (c .enum-told2 .given .1))
+    (λ c. rw (c .before .event2 .given .1)) (λ c. rw (c .enum-told3 .given .1)))

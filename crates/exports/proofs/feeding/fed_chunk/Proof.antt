@@ -10,8 +10,4 @@ returns c =
 
 pub fed-chunk-spec : {M : Type 1} → statement M
 fed-chunk-spec =
-    tie.close
-    (tie.spec
-    (λ c κs. search needs)
-    (λ c κs. search needs)
-    returns)
+    tie.close (tie.spec (λ c κs. search needs) (λ c κs. search needs) returns)

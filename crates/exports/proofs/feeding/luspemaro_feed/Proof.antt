@@ -7,16 +7,9 @@ use Rattle.exports.proofs.feeding.luspemaro_feed.Tie as tie
 returns : tie.Need-returns
 returns c =
     let after-machine-of = c .before .before .before .before .before in
-    let stage = after-machine-of .before .before .before in
-    let start = stage in
+    let start = after-machine-of .before .before .before in
     feeds-chunk (start .args .state) _ _ _ _ (after-machine-of .machine-of .ensures) (c .before .before .before .feed .ensures) (c .fed-chunk .ensures)
 
 pub luspemaro-feed-spec : {M : Type 1} → statement M
 luspemaro-feed-spec =
-    tie.close
-    (tie.spec
-    (λ c κs. search needs)
-    (λ c κs. search needs)
-    (λ c κs. search needs)
-    (λ c. search needs)
-    returns)
+    tie.close (tie.spec (λ c κs. search needs) (λ c κs. search needs) (λ c κs. search needs) (λ c. search needs) returns)

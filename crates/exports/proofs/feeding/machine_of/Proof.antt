@@ -12,7 +12,4 @@ returns c =
 
 pub machine-of-spec : {M : Type 1} → statement M
 machine-of-spec =
-    tie.close
-    (tie.spec
-    (λ c κs. search needs)
-    returns)
+    tie.close (tie.spec (λ c κs. search needs) returns)

@@ -11,8 +11,4 @@ returns c =
 
 pub state-of-spec : {M : Type 1} → statement M
 state-of-spec =
-    tie.close
-    (tie.spec
-    (λ c κs. search needs)
-    (λ c κs. search needs)
-    returns)
+    tie.close (tie.spec (λ c κs. search needs) (λ c κs. search needs) returns)

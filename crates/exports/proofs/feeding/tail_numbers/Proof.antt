@@ -5,17 +5,6 @@ use Rattle.exports.proofs.feeding.tail_numbers.Tie as tie
 
 pub tail-numbers-spec : {M : Type 1} → statement M
 tail-numbers-spec =
-    tie.close
-    (tie.spec
-    (λ c. search needs)
-    (λ c. search needs)
-    (λ c. search needs)
-    (λ c. search needs)
-    (λ c. search needs)
-    (λ c. search needs)
-    (λ c. rw (c .enum-told .given .1))
-    (λ c. rw (c .enum-told2 .given .1))
-    (λ c. rw (c .enum-told3 .given .1))
-    (λ c. rw (c .before .tail .given .1))
-    (λ c. rw (c .before .tail2 .given .1))
-    (λ c. rw (c .before .tail3 .given .1)))
+    tie.close (tie.spec (λ c. search needs) (λ c. search needs) (λ c. search needs) (λ c. search needs) (λ c. search needs) (λ c. search needs)
+    (λ c. rw (c .enum-told .given .1)) (λ c. rw (c .enum-told2 .given .1)) (λ c. rw (c .enum-told3 .given .1)) (λ c. rw (c .before .tail .given .1))
+    (λ c. rw (c .before .tail2 .given .1)) (λ c. rw (c .before .tail3 .given .1)))

@@ -22,8 +22,7 @@ returns c =
 returns-2 : tie.Need-returns-2
 unfolding gatheredText
 returns-2 c =
-    let stage = c .before .before .before .before in
-    let start = stage in
+    let start = c .before .before .before .before in
     let a = start .args in
     gathered-read _ _ _ _ _ (rw (lt-ltb (length (a .line .now)) (a .g .len) (c .if2 .taken), or-true (a .g .over)) (frame-bad [] (a .bytes .now) (within-bad (length (a .bytes .now)) [] (bad-short [] (omega arith)))))
 
@@ -35,19 +34,11 @@ unfolding gatheredText
 returns-3 c =
     let at-if2 = c .before .before .before .before .before in
     let at-if1 = at-if2 .before in
-    let stage = at-if1 .before .before .before in
-    let start = stage in
+    let start = at-if1 .before .before .before in
     let if1 = at-if1 .if1 in
     let a = start .args in
     gathered-read _ _ _ _ _ (rw (if1 .left, le-ltb (length (a .line .now)) (a .g .len) (at-if2 .if2 .left)) (c .before .before .read-frame .ensures))
 
 pub read-gathered-spec : {M : Type 1} → statement M
 read-gathered-spec =
-    tie.close
-    (tie.spec
-    returns
-    returns-2
-    slice-aggregate-read-frame
-    (λ c κs. search needs)
-    (λ c. search needs)
-    returns-3)
+    tie.close (tie.spec returns returns-2 slice-aggregate-read-frame (λ c κs. search needs) (λ c. search needs) returns-3)

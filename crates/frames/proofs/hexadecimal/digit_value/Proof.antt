@@ -8,8 +8,7 @@ use Rattle.frames.proofs.hexadecimal.digit_value.Tie as tie
 
 returns : tie.Need-returns
 returns c =
-    let stage = c .before .before .before .before in
-    let start = stage in
+    let start = c .before .before .before .before in
     let v = c .before .v in
     let e = value-known (start .args .c) (v .given .0 .0) (sym (c .before .before .before .read-digit .ensures) ∙ v .given .1) in
     (sym e, omega (arith, e, value-small (start .args .c)))

@@ -38,23 +38,20 @@ returns c =
 
 returns-2 : tie.Need-returns-2
 returns-2 c =
-    let stage = c .before .before .before .before in
-    let start = stage in
+    let start = c .before .before .before .before in
     let a = start .args in
     frame-bad (a .line .now) (a .bytes .now) (within-bad (length (a .bytes .now)) (a .line .now) (bad-short (a .line .now) (c .if2 .taken)))
 
 returns-3 : tie.Need-returns-3
 returns-3 c =
-    let stage = c .before .before .before .before .before .before in
-    let start = stage in
+    let start = c .before .before .before .before .before .before in
     let a = start .args in
     frame-bad (a .line .now) (a .bytes .now) (within-bad (length (a .bytes .now)) (a .line .now) (bad-text (a .line .now) (sym (c .before .is-hex .ensures) ∙ not-true _ (c .if3 .taken))))
 
 returns-4 : tie.Need-returns-4
 returns-4 c =
     let at-if1 = c .before .before .before .before in
-    let stage = at-if1 .before .before .before in
-    let start = stage in
+    let start = at-if1 .before .before .before in
     let a = start .args in
     frame-short (a .line .now) (at-if1 .if1 .left) (c .before .before .before .if2 .left) (hexed (c .before)) (a .bytes .now) (c .if4 .taken)
 
@@ -64,8 +61,7 @@ returns-5 c =
     let stage = at-if4 .before in
     let at-if2 = stage .before .before in
     let at-if1 = at-if2 .before in
-    let stage-2 = at-if1 .before .before .before in
-    let start = stage-2 in
+    let start = at-if1 .before .before .before in
     let if1 = at-if1 .if1 in
     let if2 = at-if2 .if2 in
     let made = stage in
@@ -81,8 +77,7 @@ returns-6 c =
     let stage-2 = at-if4 .before in
     let at-if2 = stage-2 .before .before in
     let at-if1 = at-if2 .before in
-    let stage-3 = at-if1 .before .before .before in
-    let start = stage-3 in
+    let start = at-if1 .before .before .before in
     let if1 = at-if1 .if1 in
     let if2 = at-if2 .if2 in
     let made = stage-2 in
@@ -95,26 +90,6 @@ returns-6 c =
 
 pub read-frame-spec : {M : Type 1} → statement M
 read-frame-spec =
-    tie.close
-    (tie.spec
-    returns
-    returns-2
-    (λ c κs. search needs)
-    returns-3
-    (λ c. search needs)
-    returns-4
-    (λ c κs. search needs)
-    (λ c κs. search needs)
-    (λ c κs. search needs)
-    (λ c. search needs)
-    (λ c. search needs)
-    (λ c κs. search needs)
-    (λ c κs. search needs)
-    (λ c. search needs)
-    returns-5
-    (λ c. search needs)
-    (λ c. search needs)
-    (λ c. search needs)
-    (λ c κs. search needs)
-    (λ c. search needs)
-    returns-6)
+    tie.close (tie.spec returns returns-2 (λ c κs. search needs) returns-3 (λ c. search needs) returns-4 (λ c κs. search needs) (λ c κs. search needs)
+    (λ c κs. search needs) (λ c. search needs) (λ c. search needs) (λ c κs. search needs) (λ c κs. search needs) (λ c. search needs) returns-5
+    (λ c. search needs) (λ c. search needs) (λ c. search needs) (λ c κs. search needs) (λ c. search needs) returns-6)

@@ -15,22 +15,19 @@ returns c =
 
 returns-2 : tie.Need-returns-2
 returns-2 c =
-    let stage = c .before .before .before .before in
-    let start = stage in
+    let start = c .before .before .before .before in
     let a = start .args in
     stores-over (a .area .now) (a .used) (a .limit) (a .bytes .now) (omega arith)
 
 returns-3 : tie.Need-returns-3
 returns-3 c =
-    let stage = c .before .before .before .before .before in
-    let start = stage in
+    let start = c .before .before .before .before .before in
     let a = start .args in
     stores-over (a .area .now) (a .used) (a .limit) (a .bytes .now) (omega arith)
 
 returns-4 : tie.Need-returns-4
 returns-4 c =
-    let stage = c .before .before .before .before .before .before .before .before .before in
-    let start = stage in
+    let start = c .before .before .before .before .before .before .before .before .before in
     let a = start .args in
     let p = c .before .before .put-all .ensures in
     stores-now (a .area .now) _ (a .used) (a .limit) (a .bytes .now) _ (omega arith) (omega arith) (ap Now (omega arith)) (p .bytes)

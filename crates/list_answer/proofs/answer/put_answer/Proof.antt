@@ -13,8 +13,7 @@ returns : tie.Need-returns
 unfolding answerFor
 returns c =
     let after-put-rows = c .before .before .before .before .before .before in
-    let stage = after-put-rows .before .before .before .before .before .before .before in
-    let start = stage in
+    let start = after-put-rows .before .before .before .before .before .before .before in
     let a = start .args in
     let index = start .pre .index in
     let table = rowsAt (a .area .now) (a .words .now) in

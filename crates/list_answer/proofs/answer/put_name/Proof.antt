@@ -22,8 +22,7 @@ returns c =
 
 slice-aggregate-put-line : tie.Need-slice-aggregate-put-line
 slice-aggregate-put-line c =
-    let stage = c .before .before .before .before .before .before .before .before .before .before .before .before .before in
-    let start = stage in
+    let start = c .before .before .before .before .before .before .before .before .before .before .before .before .before in
     let row = c .before .before .before .of-word in
     let looked = c .before .before .name-of in
     let area = start .args .area .now in
@@ -52,17 +51,5 @@ returns-2 c =
 
 pub put-name-spec : {M : Type 1} → statement M
 put-name-spec =
-    tie.close
-    (tie.spec
-    (λ c κs. search needs)
-    (λ c. search needs)
-    (λ c. search needs)
-    returns
-    (λ c. search needs)
-    (λ c. search needs)
-    (λ c κs. search needs)
-    (λ c κs. search needs)
-    slice-aggregate-put-line
-    (λ c κs. search needs)
-    (λ c. search needs)
-    returns-2)
+    tie.close (tie.spec (λ c κs. search needs) (λ c. search needs) (λ c. search needs) returns (λ c. search needs) (λ c. search needs)
+    (λ c κs. search needs) (λ c κs. search needs) slice-aggregate-put-line (λ c κs. search needs) (λ c. search needs) returns-2)

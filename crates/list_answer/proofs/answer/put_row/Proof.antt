@@ -29,8 +29,7 @@ abbrev μ-loop : tie.MeasureT-loop
 
 loop-holds : tie.Need-loop-holds Inv-loop μ-loop
 loop-holds c =
-    let stage = c .before .before .before .before .before .before .before .before .before in
-    let start = stage in
+    let start = c .before .before .before .before .before .before .before .before .before in
     let area = start .args .area .now in
     let words = start .args .words .now in
     let question = start .args .question in
@@ -53,8 +52,7 @@ loop-holds c =
 
 put-name-requires : tie.Need-put-name-requires Inv-loop μ-loop
 put-name-requires c κs =
-    let stage = c .before .before .before .before .before .before .before .before .before .before .before .before in
-    let start = stage in
+    let start = c .before .before .before .before .before .before .before .before .before .before .before .before in
     let inv = c .before .before .loop .inv in
     (start .pre .0, record { row = start .pre .1; beyond = omega (arith, inv .1); within = omega (arith, inv .0, c .before .loop-test .taken) })
 
@@ -62,8 +60,7 @@ loop-again : tie.Need-loop-again Inv-loop μ-loop
 loop-again c =
     let at-loop-test = c .before .before .before .before in
     let turn-2 = at-loop-test .before in
-    let stage = turn-2 .before .before .before .before .before .before .before .before .before .before in
-    let start = stage in
+    let start = turn-2 .before .before .before .before .before .before .before .before .before .before in
     let a = start .args in
     let turn = turn-2 .loop in
     let inv = turn .inv in
@@ -81,8 +78,7 @@ same-length c = put-length (c .before .loop .inv .3 .put)
 
 returns : tie.Need-returns Inv-loop μ-loop
 returns c =
-    let stage = c .before .before .before .before .before .before .before .before .before .before .before in
-    let start = stage in
+    let start = c .before .before .before .before .before .before .before .before .before .before .before in
     let a = start .args in
     let done = c .before .loop in
     let text = textOf (a .area .now) (a .words .now) (a .patterns .now) (a .question) in
@@ -91,19 +87,5 @@ returns c =
 
 pub put-row-spec : {M : Type 1} → statement M
 put-row-spec =
-    tie.close
-    (tie.spec
-    Inv-loop
-    μ-loop
-    (λ c. search needs)
-    (λ c. search needs)
-    (λ c κs. search needs)
-    (λ c κs. search needs)
-    (λ c κs. search needs)
-    loop-holds
-    (λ c. search needs)
-    put-name-requires
-    (λ c. search needs)
-    loop-again
-    same-length
-    returns)
+    tie.close (tie.spec Inv-loop μ-loop (λ c. search needs) (λ c. search needs) (λ c κs. search needs) (λ c κs. search needs) (λ c κs. search needs)
+    loop-holds (λ c. search needs) put-name-requires (λ c. search needs) loop-again same-length returns)

@@ -27,8 +27,7 @@ loop-again : tie.Need-loop-again Inv-loop μ-loop
 loop-again c =
     let at-loop-test = c .before .before .before .before in
     let turn-2 = at-loop-test .before in
-    let stage = turn-2 .before .before .before .before .before in
-    let start = stage in
+    let start = turn-2 .before .before .before .before .before in
     let area = start .args .area .now in
     let words = start .args .words .now in
     let patterns = start .args .patterns .now in
@@ -43,8 +42,7 @@ same-length c = put-length (c .before .loop .inv .1 .put)
 
 returns : tie.Need-returns Inv-loop μ-loop
 returns c =
-    let stage = c .before .before .before .before .before .before in
-    let start = stage in
+    let start = c .before .before .before .before .before .before in
     let a = start .args in
     let done = c .before .loop in
     let text = textOf (a .area .now) (a .words .now) (a .patterns .now) (a .question) in
@@ -52,14 +50,4 @@ returns c =
 
 pub put-rows-spec : {M : Type 1} → statement M
 put-rows-spec =
-    tie.close
-    (tie.spec
-    Inv-loop
-    μ-loop
-    loop-holds
-    (λ c κs. search needs)
-    (λ c. search needs)
-    (λ c. search needs)
-    loop-again
-    same-length
-    returns)
+    tie.close (tie.spec Inv-loop μ-loop loop-holds (λ c κs. search needs) (λ c. search needs) (λ c. search needs) loop-again same-length returns)

@@ -19,8 +19,7 @@ returns c =
     let after-shows-uses = after-with-uses .before in
     let after-own-attributes = after-shows-uses .before in
     let after-shows-subscribed = after-own-attributes .before in
-    let stage = after-shows-subscribed .before in
-    let start = stage in
+    let start = after-shows-subscribed .before in
     let shows = after-shows-subscribed .shows-subscribed in
     let own = after-own-attributes .own-attributes in
     let asks = after-shows-uses .shows-uses in
@@ -41,14 +40,5 @@ returns c =
 
 pub attributes-of-spec : {M : Type 1} → statement M
 attributes-of-spec =
-    tie.close
-    (tie.spec
-    (λ c κs. search needs)
-    (λ c κs. search needs)
-    (λ c κs. search needs)
-    (λ c κs. search needs)
-    (λ c κs. search needs)
-    (λ c κs. search needs)
-    (λ c κs. search needs)
-    (λ c κs. search needs)
-    returns)
+    tie.close (tie.spec (λ c κs. search needs) (λ c κs. search needs) (λ c κs. search needs) (λ c κs. search needs) (λ c κs. search needs)
+    (λ c κs. search needs) (λ c κs. search needs) (λ c κs. search needs) returns)

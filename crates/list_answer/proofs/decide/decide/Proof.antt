@@ -15,8 +15,7 @@ use Rattle.list_answer.proofs.decide.decide.Tie as tie
 
 returns : tie.Need-returns
 returns c =
-    let stage = c .before .before .before .before .before .before in
-    let start = stage in
+    let start = c .before .before .before .before .before .before in
     let a = start .args in
     let standing = c .before .before .look-at in
     let stands = standing .ensures (a .patterns .now) (start .pre .0) in
@@ -29,8 +28,7 @@ returns c =
 returns-2 : tie.Need-returns-2
 returns-2 c =
     let after-look-at = c .before .before .before .before in
-    let stage = after-look-at .before .before .before .before in
-    let start = stage in
+    let start = after-look-at .before .before .before .before in
     let a = start .args in
     let standing = after-look-at .look-at in
     let stands = standing .ensures (a .patterns .now) (start .pre .0) in
@@ -104,20 +102,6 @@ returns-4 c =
 
 pub decide-spec : {M : Type 1} → statement M
 decide-spec =
-    tie.close
-    (tie.spec
-    (λ c κs. search needs)
-    returns
-    (λ c κs. search needs)
-    returns-2
-    (λ c. search needs)
-    (λ c κs. search needs)
-    (λ c. search needs)
-    (λ c κs. search needs)
-    (λ c κs. search needs)
-    (λ c κs. search needs)
-    (λ c κs. search needs)
-    (λ c κs. search needs)
-    (λ c κs. search needs)
-    returns-3
-    returns-4)
+    tie.close (tie.spec (λ c κs. search needs) returns (λ c κs. search needs) returns-2 (λ c. search needs) (λ c κs. search needs) (λ c. search needs)
+    (λ c κs. search needs) (λ c κs. search needs) (λ c κs. search needs) (λ c κs. search needs) (λ c κs. search needs) (λ c κs. search needs)
+    returns-3 returns-4)

@@ -23,8 +23,7 @@ use Rattle.list_answer.proofs.decide.is_matched.Tie as tie
 returns : tie.Need-returns
 returns c =
     let after-of-word = c .before .before .before .before in
-    let stage = after-of-word .before .before .before .before .before in
-    let start = stage in
+    let start = after-of-word .before .before .before .before .before in
     let row = after-of-word .of-word in
     let marks = c .before .of-word2 in
     let area = start .args .area .now in
@@ -42,8 +41,7 @@ returns c =
 slice-aggregate-matches-any : tie.Need-slice-aggregate-matches-any
 slice-aggregate-matches-any c =
     let after-of-word = c .before .before .before .before in
-    let stage = after-of-word .before .before .before .before .before in
-    let start = stage in
+    let start = after-of-word .before .before .before .before .before in
     let row = after-of-word .of-word in
     let looked = c .before .name-of in
     let area = start .args .area .now in
@@ -55,8 +53,7 @@ slice-aggregate-matches-any c =
 returns-2 : tie.Need-returns-2
 returns-2 c =
     let after-of-word = c .before .before .before .before .before in
-    let stage = after-of-word .before .before .before .before .before in
-    let start = stage in
+    let start = after-of-word .before .before .before .before .before in
     let row = after-of-word .of-word in
     let looked = c .before .before .name-of in
     let area = start .args .area .now in
@@ -80,15 +77,5 @@ returns-2 c =
 
 pub is-matched-spec : {M : Type 1} → statement M
 is-matched-spec =
-    tie.close
-    (tie.spec
-    (λ c. search needs)
-    (λ c. search needs)
-    (λ c κs. search needs)
-    (λ c κs. search needs)
-    (λ c κs. search needs)
-    returns
-    (λ c κs. search needs)
-    slice-aggregate-matches-any
-    (λ c κs. search needs)
-    returns-2)
+    tie.close (tie.spec (λ c. search needs) (λ c. search needs) (λ c κs. search needs) (λ c κs. search needs) (λ c κs. search needs) returns
+    (λ c κs. search needs) slice-aggregate-matches-any (λ c κs. search needs) returns-2)

@@ -27,8 +27,7 @@ loop-again : tie.Need-loop-again Inv-loop μ-loop
 unfolding markedWord
 loop-again c =
     let turn-2 = c .before .before .before .before .before in
-    let stage = turn-2 .before .before .before .before .before in
-    let start = stage in
+    let start = turn-2 .before .before .before .before .before in
     let turn = turn-2 .loop in
     let a = start .args in
     let mark = markedWord (a .area .now) (a .patterns .now) (a .question) in
@@ -50,21 +49,6 @@ returns c =
 
 pub mark-rows-spec : {M : Type 1} → statement M
 mark-rows-spec =
-    tie.close
-    (tie.spec
-    Inv-loop
-    μ-loop
-    loop-holds
-    (λ c. search needs)
-    (λ c. search needs)
-    (λ c κs. search needs)
-    (λ c. search needs)
-    (λ c. search needs)
-    (λ c κs. search needs)
-    (λ c. search needs)
-    (λ c. search needs)
-    (λ c. search needs)
-    (λ c. search needs)
-    loop-again
-    (λ c. search needs)
-    returns)
+    tie.close (tie.spec Inv-loop μ-loop loop-holds (λ c. search needs) (λ c. search needs) (λ c κs. search needs) (λ c. search needs)
+    (λ c. search needs) (λ c κs. search needs) (λ c. search needs) (λ c. search needs) (λ c. search needs) (λ c. search needs) loop-again
+    (λ c. search needs) returns)

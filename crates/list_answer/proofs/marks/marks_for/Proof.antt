@@ -29,8 +29,7 @@ returns c =
     let after-is-recursive = after-asks-level .before in
     let after-is-met = after-is-recursive .before in
     let after-of-word = after-is-met .before in
-    let stage = after-of-word .before .before .before in
-    let start = stage in
+    let start = after-of-word .before .before .before in
     let place = after-of-word .of-word in
     let met = after-is-met .is-met in
     let recursive = after-is-recursive .is-recursive in
@@ -60,17 +59,5 @@ returns c =
 
 pub marks-for-spec : {M : Type 1} → statement M
 marks-for-spec =
-    tie.close
-    (tie.spec
-    (λ c κs. search needs)
-    (λ c κs. search needs)
-    (λ c κs. search needs)
-    (λ c κs. search needs)
-    (λ c κs. search needs)
-    (λ c κs. search needs)
-    (λ c κs. search needs)
-    (λ c κs. search needs)
-    (λ c κs. search needs)
-    (λ c κs. search needs)
-    (λ c κs. search needs)
-    returns)
+    tie.close (tie.spec (λ c κs. search needs) (λ c κs. search needs) (λ c κs. search needs) (λ c κs. search needs) (λ c κs. search needs)
+    (λ c κs. search needs) (λ c κs. search needs) (λ c κs. search needs) (λ c κs. search needs) (λ c κs. search needs) (λ c κs. search needs) returns)

@@ -43,7 +43,9 @@ skip-requires : tie.Need-skip-requires Inv-loop μ-loop
 skip-requires c κs = c .before .before .before .loop .inv .inside
 
 -- what was looked for is name k
-skipped : (c : tie.After-skip Inv-loop μ-loop) → Skips (c .before .before .before .before .before .before .before .before .args .line .now) (c .before .before .before .before .loop .at) (separated (c .before .before .before .before .loop .first) (nameOf (c .before .before .before .before .loop .k))) (c .skip .result)
+skipped : (c : tie.After-skip Inv-loop μ-loop) →
+    Skips (c .before .before .before .before .before .before .before .before .args .line .now) (c .before .before .before .before .loop .at)
+    (separated (c .before .before .before .before .loop .first) (nameOf (c .before .before .before .before .loop .k))) (c .skip .result)
 skipped c =
     let after-name-span = c .before .before in
     let turn = after-name-span .before .before in
@@ -52,22 +54,19 @@ skipped c =
 
 add-bits : tie.Need-add-bits Inv-loop μ-loop
 add-bits c =
-    let stage = c .before .before .before .before .before .before in
-    let at-loop-test = stage in
+    let at-loop-test = c .before .before .before .before .before .before in
     let turn = at-loop-test .before in
     omega (arith, choosing-bits (turn .loop .inv), choosing-member (turn .loop .inv) (at-loop-test .loop-test .taken))
 
 mul-member : tie.Need-mul-member Inv-loop μ-loop
 mul-member c =
-    let stage = c .before .before .before .before in
-    let at-loop-test = stage in
+    let at-loop-test = c .before .before .before .before in
     let turn = at-loop-test .before in
     omega (arith, choosing-member (turn .loop .inv) (at-loop-test .loop-test .taken))
 
 loop-again : tie.Need-loop-again Inv-loop μ-loop
 loop-again c =
-    let stage = c .before .before .before .before in
-    let at-loop-test = stage in
+    let at-loop-test = c .before .before .before .before in
     let turn = at-loop-test .before in
     let start = turn .before .before .before .before in
     let inv = turn .loop .inv in
@@ -86,22 +85,5 @@ returns c = choosing-all (c .before .loop .inv) (c .loop-test .left)
 
 pub read-chosen-spec : {M : Type 1} → statement M
 read-chosen-spec =
-    tie.close
-    (tie.spec
-    Inv-loop
-    μ-loop
-    loop-holds
-    name-span-requires
-    sub-skip
-    part-skip-start
-    part-skip-end
-    skip-requires
-    (λ c. search needs)
-    add-bits
-    (λ c. search needs)
-    mul-member
-    (λ c. search needs)
-    (λ c. search needs)
-    loop-again
-    cast-t20
-    returns)
+    tie.close (tie.spec Inv-loop μ-loop loop-holds name-span-requires sub-skip part-skip-start part-skip-end skip-requires (λ c. search needs)
+    add-bits (λ c. search needs) mul-member (λ c. search needs) (λ c. search needs) loop-again cast-t20 returns)

@@ -19,7 +19,9 @@ abbrev μ-loop : tie.MeasureT-loop
 loop-holds : tie.Need-loop-holds Inv-loop μ-loop
 loop-holds c = naming-none _ _ _
 
-told : (c : tie.After-known-told Inv-loop μ-loop) → Next (c .before .before .before .before .before .before .before .args .line .now) (c .before .before .before .before .loop .i) (Byte (c .before .b .given .0 .0) (c .before .b .given .0 .1 .0))
+told : (c : tie.After-known-told Inv-loop μ-loop) →
+    Next (c .before .before .before .before .before .before .before .args .line .now) (c .before .before .before .before .loop .i)
+    (Byte (c .before .b .given .0 .0) (c .before .b .given .0 .1 .0))
 told c =
     let after-next-piece = c .before .before .before in
     let turn = after-next-piece .before in
@@ -68,22 +70,5 @@ returns-3 c =
 
 pub read-name-spec : {M : Type 1} → statement M
 read-name-spec =
-    tie.close
-    (tie.spec
-    Inv-loop
-    μ-loop
-    loop-holds
-    (λ c κs. search needs)
-    (λ c. search needs)
-    same-length
-    returns
-    (λ c. search needs)
-    (λ c. search needs)
-    loop-less
-    loop-again
-    (λ c. search needs)
-    same-length-2
-    returns-2
-    (λ c. search needs)
-    same-length-3
-    returns-3)
+    tie.close (tie.spec Inv-loop μ-loop loop-holds (λ c κs. search needs) (λ c. search needs) same-length returns (λ c. search needs)
+    (λ c. search needs) loop-less loop-again (λ c. search needs) same-length-2 returns-2 (λ c. search needs) same-length-3 returns-3)

@@ -38,7 +38,10 @@ read-attributes-requires : tie.Need-read-attributes-requires
 read-attributes-requires c κs = start c .1
 
 -- what is left behind the attributes
-chosen : (c : tie.After-read-attributes) → readParts (c .before .before .before .before .before .before .before .args .line .now) ≡ fromDelimiter (chosenAt (c .before .before .before .before .before .before .before .args .line .now) (c .before .before .a .given .0 .0)) (drop (c .read-attributes .result .at) (c .before .before .before .before .before .before .before .args .line .now))
+chosen : (c : tie.After-read-attributes) →
+    readParts (c .before .before .before .before .before .before .before .args .line .now) ≡ fromDelimiter
+    (chosenAt (c .before .before .before .before .before .before .before .args .line .now) (c .before .before .a .given .0 .0))
+    (drop (c .read-attributes .result .at) (c .before .before .before .before .before .before .before .args .line .now))
 chosen c =
     let after-a = c .before .before in
     let start-2 = after-a .before .before .before .before .before in
@@ -53,7 +56,12 @@ returns-2 c =
     rw (parts-refused (start .args .line .now) (chosen (stage) ∙ delimiter-missing _ _ (subst (Skips (start .args .line .now) (stage .read-attributes .result .at) (text ") \"/\" \"")) (c .before .enum-told2 .given .1) (after-skip2 .skip2 .ensures)))) (c .refused2 .ensures)
 
 -- what is left behind the delimiter
-delimited : (c : tie.After-known-told2) → readParts (c .before .before .before .before .before .before .before .before .before .before .before .before .args .line .now) ≡ fromName (chosenAt (c .before .before .before .before .before .before .before .before .before .before .before .before .args .line .now) (c .before .before .before .before .before .before .before .a .given .0 .0)) (drop (c .before .b .given .0 .0) (c .before .before .before .before .before .before .before .before .before .before .before .before .args .line .now))
+delimited : (c : tie.After-known-told2) →
+    readParts (c .before .before .before .before .before .before .before .before .before .before .before .before .args .line .now) ≡ fromName
+    (chosenAt (c .before .before .before .before .before .before .before .before .before .before .before .before .args .line .now)
+    (c .before .before .before .before .before .before .before .a .given .0 .0))
+    (drop (c .before .b .given .0 .0)
+    (c .before .before .before .before .before .before .before .before .before .before .before .before .args .line .now))
 unfolding text
 delimited c =
     let after-skip2 = c .before .before .before in
@@ -63,8 +71,7 @@ delimited c =
 
 returns-3 : tie.Need-returns-3
 returns-3 c =
-    let stage-2 = c .before .before .before .before in
-    let after-read-name = stage-2 in
+    let after-read-name = c .before .before .before .before in
     let after-no-name = after-read-name .before .before in
     let stage = after-no-name .before in
     let after-b = stage .before in
@@ -72,10 +79,14 @@ returns-3 c =
     rw (parts-refused (start .args .line .now) (delimited (stage) ∙ name-missing _ (start .args .line .now) (after-b .b .given .0 .0) (after-no-name .no-name .result) (after-read-name .read-name .last .1 .1 .0) (after-no-name .no-name .ensures) (subst (Names (start .args .line .now) (after-b .b .given .0 .0) (after-no-name .no-name .result) (after-read-name .read-name .last .1 .1 .0)) (c .before .enum-told3 .given .1) (after-read-name .read-name .ensures)))) (c .refused3 .ensures)
 
 -- the name, and what is left behind it
-name : (c : tie.After-known-told3) → Names (c .before .before .before .before .before .before .before .before .before .before .before .before .before .before .before .before .before .before .before .args .line .now) (c .before .before .before .before .before .before .before .before .b .given .0 .0) (c .before .before .before .before .before .before .no-name .result) (c .before .before .before .before .read-name .last .1 .1 .0) (Of (c .before .len .given .0 .0) (c .before .len .given .0 .1 .0))
+name : (c : tie.After-known-told3) →
+    Names
+    (c .before .before .before .before .before .before .before .before .before .before .before .before .before .before .before .before .before .before .before .args .line .now)
+    (c .before .before .before .before .before .before .before .before .b .given .0 .0)
+    (c .before .before .before .before .before .before .no-name .result) (c .before .before .before .before .read-name .last .1 .1 .0)
+    (Of (c .before .len .given .0 .0) (c .before .len .given .0 .1 .0))
 name c =
-    let stage = c .before .before .before .before in
-    let after-read-name = stage in
+    let after-read-name = c .before .before .before .before in
     let after-no-name = after-read-name .before .before in
     let after-b = after-no-name .before .before in
     let start = after-b .before .before .before .before .before .before .before .before .before .before .before in
@@ -83,11 +94,17 @@ name c =
 
 room : (c : tie.After-known-told3) → c .before .len .given .0 .0 ≤ 200
 room c =
-    let stage = c .before .before .before .before .before .before in
-    let after-no-name = stage in
+    let after-no-name = c .before .before .before .before .before .before in
     omega (arith, name c .4, ap length (after-no-name .no-name .ensures), length-replicate {A = ℕ} 200 0)
 
-named : (c : tie.After-known-told3) → readParts (c .before .before .before .before .before .before .before .before .before .before .before .before .before .before .before .before .before .before .before .args .line .now) ≡ fromEnd (chosenAt (c .before .before .before .before .before .before .before .before .before .before .before .before .before .before .before .before .before .before .before .args .line .now) (c .before .before .before .before .before .before .before .before .before .before .before .before .before .before .a .given .0 .0)) (name c .0) (drop (c .before .len .given .0 .1 .0) (c .before .before .before .before .before .before .before .before .before .before .before .before .before .before .before .before .before .before .before .args .line .now))
+named : (c : tie.After-known-told3) →
+    readParts
+    (c .before .before .before .before .before .before .before .before .before .before .before .before .before .before .before .before .before .before .before .args .line .now)
+    ≡ fromEnd (chosenAt
+    (c .before .before .before .before .before .before .before .before .before .before .before .before .before .before .before .before .before .before .before .args .line .now)
+    (c .before .before .before .before .before .before .before .before .before .before .before .before .before .before .a .given .0 .0)) (name c .0)
+    (drop (c .before .len .given .0 .1 .0)
+    (c .before .before .before .before .before .before .before .before .before .before .before .before .before .before .before .before .before .before .before .args .line .now))
 named c =
     let stage = c .before .before .before .before .before .before .before in
     delimited (stage) ∙ name-read _ _ _ _ (name c .1)
@@ -107,7 +124,14 @@ returns-4 c =
     rw (parts-refused (start .args .line .now) (named (stage) ∙ end-missing _ _ (start .args .line .now) (after-len .len .given .0 .1 .0) (sym (after-read-tail .read-tail .ensures) ∙ c .before .enum-told4 .given .1))) (c .refused4 .ensures)
 
 -- what is left behind the end: the name is lawful or not
-ended : (c : tie.After-known-told4) → readParts (c .before .before .before .before .before .before .before .before .before .before .before .before .before .before .before .before .before .before .before .before .before .before .before .before .args .line .now) ≡ cond (lawfulName (name (c .before .before .before .before .before) .0)) (some (line (chosenAt (c .before .before .before .before .before .before .before .before .before .before .before .before .before .before .before .before .before .before .before .before .before .before .before .before .args .line .now) (c .before .before .before .before .before .before .before .before .before .before .before .before .before .before .before .before .before .before .before .a .given .0 .0)) (name (c .before .before .before .before .before) .0) (criteriaOf (c .before .criteria .given .0 .0 .bits)))) none
+ended : (c : tie.After-known-told4) →
+    readParts
+    (c .before .before .before .before .before .before .before .before .before .before .before .before .before .before .before .before .before .before .before .before .before .before .before .before .args .line .now)
+    ≡ cond (lawfulName (name (c .before .before .before .before .before) .0))
+    (some (line (chosenAt
+    (c .before .before .before .before .before .before .before .before .before .before .before .before .before .before .before .before .before .before .before .before .before .before .before .before .args .line .now)
+    (c .before .before .before .before .before .before .before .before .before .before .before .before .before .before .before .before .before .before .before .a .given .0 .0))
+    (name (c .before .before .before .before .before) .0) (criteriaOf (c .before .criteria .given .0 .0 .bits)))) none
 ended c =
     let after-read-tail = c .before .before .before in
     let stage = after-read-tail .before .before in
@@ -131,8 +155,7 @@ slice-aggregate-lawful-name c =
 
 lawful : (c : tie.After-lawful-name) → c .lawful-name .result ≡ lawfulName (name (c .before .before .before .before .before .before .before) .0)
 lawful c =
-    let stage-2 = c .before .before .before .before .before .before .before in
-    let stage = stage-2 in
+    let stage = c .before .before .before .before .before .before .before in
     let after-len = stage .before in
     let after-read-name = after-len .before .before .before in
     let after-no-name = after-read-name .before .before in
@@ -161,39 +184,8 @@ returns-6 c =
 
 pub read-parts-spec : {M : Type 1} → statement M
 read-parts-spec =
-    tie.close
-    (tie.spec
-    (λ c. search needs)
-    (λ c κs. search needs)
-    (λ c. search needs)
-    (λ c. search needs)
-    (λ c κs. search needs)
-    returns
-    read-attributes-requires
-    (λ c. search needs)
-    (λ c κs. search needs)
-    (λ c. search needs)
-    (λ c. search needs)
-    (λ c κs. search needs)
-    returns-2
-    (λ c κs. search needs)
-    (λ c. search needs)
-    (λ c κs. search needs)
-    (λ c. search needs)
-    (λ c. search needs)
-    (λ c κs. search needs)
-    returns-3
-    sub-read-tail
-    part-read-tail-start
-    (λ c. search needs)
-    (λ c κs. search needs)
-    (λ c. search needs)
-    (λ c. search needs)
-    (λ c κs. search needs)
-    returns-4
-    array-share-prefix-name
-    slice-aggregate-lawful-name
-    (λ c κs. search needs)
-    (λ c κs. search needs)
-    returns-5
-    returns-6)
+    tie.close (tie.spec (λ c. search needs) (λ c κs. search needs) (λ c. search needs) (λ c. search needs) (λ c κs. search needs) returns
+    read-attributes-requires (λ c. search needs) (λ c κs. search needs) (λ c. search needs) (λ c. search needs) (λ c κs. search needs) returns-2
+    (λ c κs. search needs) (λ c. search needs) (λ c κs. search needs) (λ c. search needs) (λ c. search needs) (λ c κs. search needs) returns-3
+    sub-read-tail part-read-tail-start (λ c. search needs) (λ c κs. search needs) (λ c. search needs) (λ c. search needs) (λ c κs. search needs)
+    returns-4 array-share-prefix-name slice-aggregate-lawful-name (λ c κs. search needs) (λ c κs. search needs) returns-5 returns-6)

@@ -17,8 +17,7 @@ shared-slice-read-wide c =
 
 shared-slice-read-wide-2 : tie.Need-shared-slice-read-wide-2
 shared-slice-read-wide-2 c =
-    let stage = c .before .before .before .before in
-    let after-pre = stage in
+    let after-pre = c .before .before .before .before in
     omega (arith, ap length (after-pre .pre .0), length-places, after-pre .pre .1)
 
 -- the two places, from the table
@@ -29,8 +28,7 @@ start c =
 
 end : (c : tie.After-wide2) → c .wide2 .result ≡ getD namePlaces (c .before .before .before .before .before .args .k + 1) 0
 end c =
-    let stage = c .before .before .before .before .before in
-    let start = stage in
+    let start = c .before .before .before .before .before in
     c .wide2 .ensures ∙ ap (λ (x : List ℕ). getD x (start .args .k + 1) 0) (start .pre .0)
 
 add-t11 : tie.Need-add-t11
@@ -53,13 +51,5 @@ returns-2 c =
 
 pub name-span-spec : {M : Type 1} → statement M
 name-span-spec =
-    tie.close
-    (tie.spec
-    shared-slice-read-wide
-    (λ c κs. search needs)
-    (λ c. search needs)
-    shared-slice-read-wide-2
-    (λ c κs. search needs)
-    add-t11
-    returns
-    returns-2)
+    tie.close (tie.spec shared-slice-read-wide (λ c κs. search needs) (λ c. search needs) shared-slice-read-wide-2 (λ c κs. search needs) add-t11
+    returns returns-2)

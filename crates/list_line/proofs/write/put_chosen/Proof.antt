@@ -35,8 +35,7 @@ part-put-all-start c = c .before .name-span .ensures .order
 
 part-put-all-end : tie.Need-part-put-all-end Inv-loop μ-loop
 part-put-all-end c =
-    let stage = c .before .before .before .before .before .before .before .before in
-    let after-pre = stage in
+    let after-pre = c .before .before .before .before .before .before .before .before in
     omega (arith, c .before .name-span .ensures .inside, ap length (after-pre .pre .0))
 
 loop-again : tie.Need-loop-again Inv-loop μ-loop
@@ -59,18 +58,5 @@ returns c = spelled-all (c .before .loop .inv) (c .loop-test .left)
 
 pub put-chosen-spec : {M : Type 1} → statement M
 put-chosen-spec =
-    tie.close
-    (tie.spec
-    Inv-loop
-    μ-loop
-    loop-holds
-    name-span-requires
-    sub-put-all
-    part-put-all-start
-    part-put-all-end
-    (λ c κs. search needs)
-    (λ c. search needs)
-    (λ c. search needs)
-    loop-again
-    same-length
-    returns)
+    tie.close (tie.spec Inv-loop μ-loop loop-holds name-span-requires sub-put-all part-put-all-start part-put-all-end (λ c κs. search needs)
+    (λ c. search needs) (λ c. search needs) loop-again same-length returns)

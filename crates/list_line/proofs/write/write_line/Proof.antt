@@ -12,8 +12,7 @@ returns c = rw (line-unlawful _ _ _ (sym (c .before .lawful .ensures) ∙ not-tr
 returns-2 : tie.Need-returns-2
 returns-2 c =
     let after-write-named = c .before .before in
-    let stage = after-write-named .before .before in
-    let named = stage in
+    let named = after-write-named .before .before in
     let checked = named .before .before in
     rw
     (line-named _ _ _ (sym (checked .before .lawful .ensures) ∙ not-false _ (checked .if1 .left)) (sym (named .before .lawful-name .ensures) ∙ named .if2 .taken))
@@ -21,8 +20,7 @@ returns-2 c =
 
 returns-3 : tie.Need-returns-3
 returns-3 c =
-    let stage = c .before .before in
-    let named = stage in
+    let named = c .before .before in
     let checked = named .before .before in
     rw
     (line-other _ _ _
@@ -34,8 +32,7 @@ returns-3 c =
 returns-4 : tie.Need-returns-4
 returns-4 c =
     let after-write-root = c .before .before in
-    let stage = after-write-root .before .before in
-    let root = stage in
+    let root = after-write-root .before .before in
     let named = root .before .before in
     let checked = named .before .before in
     rw
@@ -47,16 +44,5 @@ returns-4 c =
 
 pub write-line-spec : {M : Type 1} → statement M
 write-line-spec =
-    tie.close
-    (tie.spec
-    (λ c κs. search needs)
-    returns
-    (λ c κs. search needs)
-    (λ c κs. search needs)
-    (λ c. search needs)
-    returns-2
-    (λ c κs. search needs)
-    returns-3
-    (λ c κs. search needs)
-    (λ c. search needs)
-    returns-4)
+    tie.close (tie.spec (λ c κs. search needs) returns (λ c κs. search needs) (λ c κs. search needs) (λ c. search needs) returns-2
+    (λ c κs. search needs) returns-3 (λ c κs. search needs) (λ c. search needs) returns-4)

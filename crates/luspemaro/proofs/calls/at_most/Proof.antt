@@ -1,12 +1,9 @@
 -- `luspemaro::calls::at_most` meets its contract, by its test.
 use lib.Seq.{length-take-le}
 use mathlib.Core.Path.{sym}
-use borrow.Author.Needs.{needs}
 use native.Mathlib.Omega.{arith}
 use Rattle.luspemaro.proofs.calls.at_most.Statement.{statement}
 use Rattle.luspemaro.proofs.calls.at_most.Tie as tie
-use Rattle.luspemaro.proofs.calls.at_most.Reads as reads
-use Rattle.luspemaro.proofs.calls.at_most.Lts as lts
 
 returns : tie.Need-returns
 returns c = (omega arith, sym (length-take-le _ _ (omega arith)))

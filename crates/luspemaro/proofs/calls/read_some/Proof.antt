@@ -5,11 +5,6 @@ use borrow.Author.Needs.{needs}
 use native.Mathlib.Omega.{arith}
 use Rattle.luspemaro.proofs.calls.read_some.Statement.{statement}
 use Rattle.luspemaro.proofs.calls.read_some.Tie as tie
-use Rattle.luspemaro.proofs.calls.read_some.Reads as reads
-use Rattle.luspemaro.proofs.calls.read_some.Lts as lts
-use Rattle.io.proofs.count.Reads as count-reads
-use Rattle.libc.proofs.read.Reads as read-reads
-use Rattle.luspemaro.proofs.calls.is_to_be_repeated.Reads as is-to-be-repeated-reads
 
 abbrev Inv-loop : tie.InvT-loop
 Inv-loop chunk₀ tries₀ chunk tries = length chunk ≡ length chunk₀
@@ -64,22 +59,5 @@ returns-4 c = tt
 
 pub read-some-spec : {M : Type 1} → statement M
 read-some-spec =
-    tie.close
-    (tie.spec
-    Inv-loop
-    μ-loop
-    loop-holds
-    read-requires
-    count-requires
-    same-length
-    returns
-    same-length-2
-    returns-2
-    is-to-be-repeated-requires
-    same-length-3
-    returns-3
-    sub-tries
-    loop-less
-    loop-again
-    same-length-4
-    returns-4)
+    tie.close (tie.spec Inv-loop μ-loop loop-holds read-requires count-requires same-length returns same-length-2 returns-2 is-to-be-repeated-requires
+    same-length-3 returns-3 sub-tries loop-less loop-again same-length-4 returns-4)

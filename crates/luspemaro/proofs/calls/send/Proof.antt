@@ -4,9 +4,6 @@ use borrow.Author.Needs.{needs}
 use native.Mathlib.Omega.{arith}
 use Rattle.luspemaro.proofs.calls.send.Statement.{statement}
 use Rattle.luspemaro.proofs.calls.send.Tie as tie
-use Rattle.luspemaro.proofs.calls.send.Reads as reads
-use Rattle.luspemaro.proofs.calls.send.Lts as lts
-use Rattle.luspemaro.proofs.calls.write_some.Reads as write-some-reads
 
 abbrev Inv-loop : tie.InvT-loop
 Inv-loop out written bytes₀ bytes = bytes ≤ written
@@ -46,17 +43,5 @@ returns-2 c = (c .before .loop .inv, λ e. omega arith)
 
 pub send-spec : {M : Type 1} → statement M
 send-spec =
-    tie.close
-    (tie.spec
-    Inv-loop
-    μ-loop
-    loop-holds
-    sub-write-some
-    part-write-some-start
-    part-write-some-end
-    write-some-requires
-    returns
-    add-bytes
-    loop-less
-    loop-again
-    returns-2)
+    tie.close (tie.spec Inv-loop μ-loop loop-holds sub-write-some part-write-some-start part-write-some-end write-some-requires returns add-bytes
+    loop-less loop-again returns-2)

@@ -3,12 +3,6 @@ use borrow.Author.Needs.{needs}
 use native.Mathlib.Omega.{arith}
 use Rattle.luspemaro.proofs.calls.write_some.Statement.{statement}
 use Rattle.luspemaro.proofs.calls.write_some.Tie as tie
-use Rattle.luspemaro.proofs.calls.write_some.Reads as reads
-use Rattle.luspemaro.proofs.calls.write_some.Lts as lts
-use Rattle.io.proofs.count.Reads as count-reads
-use Rattle.libc.proofs.write.Reads as write-reads
-use Rattle.luspemaro.proofs.calls.is_to_be_repeated.Reads as is-to-be-repeated-reads
-use Rattle.luspemaro.proofs.calls.pause.Reads as pause-reads
 
 abbrev Inv-loop : tie.InvT-loop
 Inv-loop bytes tries₀ tries = Unit
@@ -51,18 +45,5 @@ returns-3 c = omega arith
 
 pub write-some-spec : {M : Type 1} → statement M
 write-some-spec =
-    tie.close
-    (tie.spec
-    Inv-loop
-    μ-loop
-    loop-holds
-    write-requires
-    count-requires
-    returns
-    pause-requires
-    is-to-be-repeated-requires
-    returns-2
-    sub-tries
-    loop-less
-    loop-again
-    returns-3)
+    tie.close (tie.spec Inv-loop μ-loop loop-holds write-requires count-requires returns pause-requires is-to-be-repeated-requires returns-2 sub-tries
+    loop-less loop-again returns-3)

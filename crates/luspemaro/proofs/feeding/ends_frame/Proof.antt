@@ -1,11 +1,8 @@
 -- `luspemaro::feeding::ends_frame` meets its contract: its test is that of `endsFrame`.
 use borrow.Author.Tests.{eq-eqb, ne-eqb}
-use borrow.Author.Needs.{needs}
 use native.Mathlib.Omega.{arith}
 use Rattle.luspemaro.proofs.feeding.ends_frame.Statement.{statement}
 use Rattle.luspemaro.proofs.feeding.ends_frame.Tie as tie
-use Rattle.luspemaro.proofs.feeding.ends_frame.Reads as reads
-use Rattle.luspemaro.proofs.feeding.ends_frame.Lts as lts
 
 returns : tie.Need-returns
 returns c = (rw (eq-eqb _ _ (c .if1 .taken)), omega arith)

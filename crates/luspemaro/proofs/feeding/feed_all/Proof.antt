@@ -17,7 +17,12 @@ abbrev μ-loop : tie.MeasureT-loop
     length bytes - used
 
 -- the call takes a byte at least, none after the last, and writes a line
-took : (c : tie.After-struct-known Inv-loop μ-loop) → let taken = c .before .before .before .taken .given .0 .0 in let turn = c .before .before .before .before .before .before .before .before .before .before .before .before .before .before .before .before .before .before .before .before .before .before .before .before .loop in (turn .used + taken .used ≤ length (c .before .before .before .before .before .before .before .before .before .before .before .before .before .before .before .before .before .before .before .before .before .before .before .before .before .before .before .before .before .before .before .args .bytes .now)) × (0 < taken .used) × (taken .written ≤ 32771)
+took : (c : tie.After-struct-known Inv-loop μ-loop) →
+    let taken = c .before .before .before .taken .given .0 .0 in let turn =
+    c .before .before .before .before .before .before .before .before .before .before .before .before .before .before .before .before .before .before .before .before .before .before .before .before .loop in (turn .used
+    + taken .used ≤ length
+    (c .before .before .before .before .before .before .before .before .before .before .before .before .before .before .before .before .before .before .before .before .before .before .before .before .before .before .before .before .before .before .before .args .bytes .now))
+    × (0 < taken .used) × (taken .written ≤ 32771)
 took c =
     let after-feed = c .before .before .before .before .before .before .before .before .before .before .before .before .before .before .before in
     let at-if1 = after-feed .before .before .before .before .before .before .before in
@@ -91,47 +96,9 @@ returns-3 c = rw (c .turn-of3 .ensures) (turn-ends (c .before .before .loop .inv
 
 pub feed-all-spec : {M : Type 1} → statement M
 feed-all-spec =
-    tie.close
-    (tie.spec
-    Inv-loop
-    μ-loop
-    loop-holds
-    (λ c. search needs)
-    (λ c κs. search needs)
-    (λ c. search needs)
-    (λ c. search needs)
-    (λ c. search needs)
-    (λ c. search needs)
-    (λ c. search needs)
-    returns
-    (λ c. search needs)
-    (λ c. search needs)
-    (λ c. search needs)
-    (λ c. search needs)
-    (λ c. search needs)
-    (λ c. search needs)
-    (λ c κs. search needs)
-    (λ c. search needs)
-    (λ c. search needs)
-    (λ c κs. search needs)
-    (λ c. search needs)
-    (λ c. search needs)
-    (λ c. search needs)
-    (λ c. search needs)
-    (λ c. search needs)
-    returns-2
-    add-used
-    add-written
-    sub-ends-frame
-    shared-slice-read-ends-frame
-    (λ c κs. search needs)
-    add-frames
-    loop-less
-    loop-again
-    (λ c κs. search needs)
-    (λ c. search needs)
-    (λ c. search needs)
-    (λ c. search needs)
-    (λ c. search needs)
-    (λ c. search needs)
-    returns-3)
+    tie.close (tie.spec Inv-loop μ-loop loop-holds (λ c. search needs) (λ c κs. search needs) (λ c. search needs) (λ c. search needs)
+    (λ c. search needs) (λ c. search needs) (λ c. search needs) returns (λ c. search needs) (λ c. search needs) (λ c. search needs)
+    (λ c. search needs) (λ c. search needs) (λ c. search needs) (λ c κs. search needs) (λ c. search needs) (λ c. search needs) (λ c κs. search needs)
+    (λ c. search needs) (λ c. search needs) (λ c. search needs) (λ c. search needs) (λ c. search needs) returns-2 add-used add-written sub-ends-frame
+    shared-slice-read-ends-frame (λ c κs. search needs) add-frames loop-less loop-again (λ c κs. search needs) (λ c. search needs) (λ c. search needs)
+    (λ c. search needs) (λ c. search needs) (λ c. search needs) returns-3)

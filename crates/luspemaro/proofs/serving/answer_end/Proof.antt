@@ -1,13 +1,8 @@
 -- `luspemaro::serving::answer_end` meets its contract: what is said is sent. Rests on ServeLaws.
 use Rattle.luspemaro.proofs.ServeLaws.{ends}
-use native.Mathlib.Omega.{arith}
 use borrow.Author.Needs.{needs}
 use Rattle.luspemaro.proofs.serving.answer_end.Statement.{statement}
 use Rattle.luspemaro.proofs.serving.answer_end.Tie as tie
-use Rattle.luspemaro.proofs.serving.answer_end.Reads as reads
-use Rattle.luspemaro.proofs.serving.answer_end.Lts as lts
-use Rattle.luspemaro.proofs.calls.send.Reads as send-reads
-use Rattle.session.proofs.finish.Reads as finish-reads
 
 finish-requires : tie.Need-finish-requires
 finish-requires c κs = search needs

@@ -53,14 +53,4 @@ returns-2 c =
 
 pub inferiors-pass-spec : {M : Type 1} → statement M
 inferiors-pass-spec =
-    tie.close
-    (tie.spec
-    Inv-loop
-    μ-loop
-    loop-holds
-    row-passes-requires
-    returns
-    (λ c. search needs)
-    (λ c. search needs)
-    loop-again
-    returns-2)
+    tie.close (tie.spec Inv-loop μ-loop loop-holds row-passes-requires returns (λ c. search needs) (λ c. search needs) loop-again returns-2)

@@ -31,14 +31,12 @@ returns c =
 
 some-below-requires : tie.Need-some-below-requires
 some-below-requires c κs =
-    let stage = c .before .before .before .before .before .before in
-    let start = stage in
+    let start = c .before .before .before .before .before .before in
     record { indexed = start .pre .0; row = start .pre .1; within = rw (c .before .before .of-word .ensures) (le-refl _) }
 
 returns-2 : tie.Need-returns-2
 returns-2 c =
-    let stage = c .before .before .before .before .before .before .before in
-    let start = stage in
+    let start = c .before .before .before .before .before .before .before in
     let area = start .args .area .now in
     let words = start .args .words .now in
     let i = start .args .i in
@@ -49,12 +47,4 @@ returns-2 c =
 
 pub row-passes-spec : {M : Type 1} → statement M
 row-passes-spec =
-    tie.close
-    (tie.spec
-    (λ c. search needs)
-    (λ c. search needs)
-    (λ c κs. search needs)
-    (λ c κs. search needs)
-    returns
-    some-below-requires
-    returns-2)
+    tie.close (tie.spec (λ c. search needs) (λ c. search needs) (λ c κs. search needs) (λ c κs. search needs) returns some-below-requires returns-2)

@@ -38,8 +38,7 @@ returns : tie.Need-returns Inv-loop μ-loop
 returns c =
     let at-loop-test = c .before .before .before .before .before in
     let turn-2 = at-loop-test .before in
-    let stage = turn-2 .before .before .before in
-    let start = stage in
+    let start = turn-2 .before .before .before in
     let words = start .args .words .now in
     let turn = turn-2 .loop in
     let row = nthRow words (turn .i) in
@@ -52,8 +51,7 @@ loop-again : tie.Need-loop-again Inv-loop μ-loop
 loop-again c =
     let at-loop-test = c .before .before .before .before .before in
     let turn-2 = at-loop-test .before in
-    let stage = turn-2 .before .before .before in
-    let start = stage in
+    let start = turn-2 .before .before .before in
     let words = start .args .words .now in
     let turn = turn-2 .loop in
     let row = nthRow words (turn .i) in
@@ -66,18 +64,5 @@ returns-2 c = sym (laying-done (c .before .loop .inv) (c .loop-test .left))
 
 pub lie-apart-spec : {M : Type 1} → statement M
 lie-apart-spec =
-    tie.close
-    (tie.spec
-    Inv-loop
-    μ-loop
-    (λ c κs. search needs)
-    loop-holds
-    (λ c. search needs)
-    (λ c. search needs)
-    (λ c κs. search needs)
-    mark-name-requires
-    returns
-    (λ c. search needs)
-    (λ c. search needs)
-    loop-again
-    returns-2)
+    tie.close (tie.spec Inv-loop μ-loop (λ c κs. search needs) loop-holds (λ c. search needs) (λ c. search needs) (λ c κs. search needs)
+    mark-name-requires returns (λ c. search needs) (λ c. search needs) loop-again returns-2)

@@ -35,15 +35,5 @@ returns c = marking-done (c .before .loop .inv) (c .loop-test .left)
 
 pub mark-name-spec : {M : Type 1} → statement M
 mark-name-spec =
-    tie.close
-    (tie.spec
-    Inv-loop
-    μ-loop
-    add-end
-    loop-holds
-    element-copy-out-taken
-    element-write-used
-    (λ c. search needs)
-    (λ c. search needs)
-    loop-again
-    returns)
+    tie.close (tie.spec Inv-loop μ-loop add-end loop-holds element-copy-out-taken element-write-used (λ c. search needs) (λ c. search needs)
+    loop-again returns)

@@ -19,13 +19,11 @@ returns-2 c =
 
 returns-3 : tie.Need-returns-3
 returns-3 c =
-    let stage = c .before .before .before .before in
-    let start = stage in
+    let start = c .before .before .before .before in
     let a = start .args .a .now in
     let b = start .args .b .now in
     ap (λ (s : ℕ). ltb (getD a s 0) (getD b s 0)) (start .pre) ∙ sym (order-differs a b (omega (arith, start .pre)) (omega (arith, start .pre)))
 
 pub ascends-at-spec : {M : Type 1} → statement M
 ascends-at-spec =
-    tie.close
-    (tie.spec returns returns-2 (λ c. search needs) (λ c. search needs) returns-3)
+    tie.close (tie.spec returns returns-2 (λ c. search needs) (λ c. search needs) returns-3)

@@ -23,8 +23,7 @@ returns : tie.Need-returns Inv-loop μ-loop
 returns c =
     let turn-2 = c .before .before .before .before in
     let after-least = turn-2 .before in
-    let stage = after-least .before .before .before in
-    let start = stage in
+    let start = after-least .before .before .before in
     let least′ = after-least .least in
     let turn = turn-2 .loop in
     let a = start .args .a .now in
@@ -35,8 +34,7 @@ loop-again : tie.Need-loop-again Inv-loop μ-loop
 loop-again c =
     let turn-2 = c .before .before .before .before in
     let after-least = turn-2 .before in
-    let stage = after-least .before .before .before in
-    let start = stage in
+    let start = after-least .before .before .before in
     let least′ = after-least .least in
     let turn = turn-2 .loop in
     let a = start .args .a .now in
@@ -45,24 +43,12 @@ loop-again c =
 
 returns-2 : tie.Need-returns-2 Inv-loop μ-loop
 returns-2 c =
-    let stage = c .before .before .before .before .before in
-    let start = stage in
+    let start = c .before .before .before .before .before in
     let a = start .args .a .now in
     let b = start .args .b .now in
     sym (shared-out a b (c .before .loop .i) (least a b (c .before .loop .i) (omega (arith, c .before .before .least .ensures)))) ∙ c .before .loop .inv .1
 
 pub common-spec : {M : Type 1} → statement M
 common-spec =
-    tie.close
-    (tie.spec
-    Inv-loop
-    μ-loop
-    (λ c κs. search needs)
-    loop-holds
-    (λ c. search needs)
-    (λ c. search needs)
-    returns
-    (λ c. search needs)
-    (λ c. search needs)
-    loop-again
-    returns-2)
+    tie.close (tie.spec Inv-loop μ-loop (λ c κs. search needs) loop-holds (λ c. search needs) (λ c. search needs) returns (λ c. search needs)
+    (λ c. search needs) loop-again returns-2)

@@ -69,24 +69,6 @@ returns-2 c = links-rows (c .before .loop .inv) (c .loop-test .left)
 
 pub link-rows-spec : {M : Type 1} → statement M
 link-rows-spec =
-    tie.close
-    (tie.spec
-    Inv-loop
-    μ-loop
-    (λ c κs. search needs)
-    loop-holds
-    (λ c. search needs)
-    (λ c. search needs)
-    (λ c κs. search needs)
-    (λ c. search needs)
-    (λ c. search needs)
-    same-length
-    returns
-    word-requires
-    (λ c. search needs)
-    (λ c. search needs)
-    (λ c. search needs)
-    loop-less
-    loop-again
-    same-length-2
-    returns-2)
+    tie.close (tie.spec Inv-loop μ-loop (λ c κs. search needs) loop-holds (λ c. search needs) (λ c. search needs) (λ c κs. search needs)
+    (λ c. search needs) (λ c. search needs) same-length returns word-requires (λ c. search needs) (λ c. search needs) (λ c. search needs) loop-less
+    loop-again same-length-2 returns-2)

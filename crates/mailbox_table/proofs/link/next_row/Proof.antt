@@ -103,18 +103,5 @@ returns-5 c =
 
 pub next-row-spec : {M : Type 1} → statement M
 next-row-spec =
-    tie.close
-    (tie.spec
-    (λ c κs. search needs)
-    add-if1
-    returns
-    (λ c κs. search needs)
-    returns-2
-    (λ c κs. search needs)
-    (λ c κs. search needs)
-    returns-3
-    (λ c κs. search needs)
-    (λ c κs. search needs)
-    (λ c κs. search needs)
-    returns-4
-    returns-5)
+    tie.close (tie.spec (λ c κs. search needs) add-if1 returns (λ c κs. search needs) returns-2 (λ c κs. search needs) (λ c κs. search needs)
+    returns-3 (λ c κs. search needs) (λ c κs. search needs) (λ c κs. search needs) returns-4 returns-5)

@@ -12,8 +12,7 @@ use Rattle.mailbox_table.proofs.link.rows_pass.Tie as tie
 
 returns : tie.Need-returns
 returns c =
-    let stage = c .before .before .before .before .before .before .before in
-    let start = stage in
+    let start = c .before .before .before .before .before .before .before in
     let area = start .args .area .now in
     let before = start .args .words .now in
     let link = c .before .before .before .link-rows in
@@ -26,8 +25,7 @@ done : (c : tie.Else1) →
     let before = start .args .words .now in
     Links area before (c .before .before .before .link-rows .last .1 .0) (linked area [] before) true
 done c =
-    let stage = c .before .before .before .before .before .before .before in
-    let start = stage in
+    let start = c .before .before .before .before .before .before .before in
     let area = start .args .area .now in
     let before = start .args .words .now in
     let link = c .before .before .before .link-rows in
@@ -45,11 +43,4 @@ returns-2 c =
 
 pub rows-pass-spec : {M : Type 1} → statement M
 rows-pass-spec =
-    tie.close
-    (tie.spec
-    (λ c κs. search needs)
-    (λ c. search needs)
-    returns
-    inferiors-pass-requires
-    (λ c. search needs)
-    returns-2)
+    tie.close (tie.spec (λ c κs. search needs) (λ c. search needs) returns inferiors-pass-requires (λ c. search needs) returns-2)

@@ -21,7 +21,9 @@ returns c =
     finds-no-room (subst (λ (r : Indexing). Splits (a .table .now) (a .words .now) (made .last .1 .0) r) (c .enum-told .given .1) (made .ensures))
 
 -- where the bytes are turned into records
-made : (c : tie.After-known-told) → let a = c .before .before .before .before .before .before .before .before .before .args in Split (a .table .now) (a .words .now) (c .before .before .before .before .before .split-rows .last .1 .0) (c .before .n .given .0 .0)
+made : (c : tie.After-known-told) →
+    let a = c .before .before .before .before .before .before .before .before .before .args in Split (a .table .now) (a .words .now)
+    (c .before .before .before .before .before .split-rows .last .1 .0) (c .before .n .given .0 .0)
 made c =
     let after-split-rows = c .before .before .before .before .before in
     let start = after-split-rows .before .before .before .before in
@@ -62,17 +64,5 @@ returns-3 c =
 
 pub find-rows-spec : {M : Type 1} → statement M
 find-rows-spec =
-    tie.close
-    (tie.spec
-    (λ c κs. search needs)
-    (λ c. search needs)
-    (λ c. search needs)
-    (λ c. search needs)
-    returns
-    slice-relend-prefix-rows-pass
-    slice-aggregate-rows-pass
-    rows-pass-requires
-    (λ c. search needs)
-    returns-2
-    (λ c. search needs)
-    returns-3)
+    tie.close (tie.spec (λ c κs. search needs) (λ c. search needs) (λ c. search needs) (λ c. search needs) returns slice-relend-prefix-rows-pass
+    slice-aggregate-rows-pass rows-pass-requires (λ c. search needs) returns-2 (λ c. search needs) returns-3)

@@ -18,8 +18,7 @@ returns-2 c =
 returns-3 : tie.Need-returns-3
 returns-3 c =
     let after-wide = c .before .before .before .before in
-    let stage = after-wide .before .before .before .before in
-    let start = stage in
+    let start = after-wide .before .before .before .before in
     let wide = after-wide .wide in
     let t = start .args .table .now in
     ap Next (row-there t (start .args .at) (c .pair .ensures) (wide .ensures))
@@ -27,17 +26,5 @@ returns-3 c =
 
 pub row-at-spec : {M : Type 1} → statement M
 row-at-spec =
-    tie.close
-    (tie.spec
-    (λ c. search needs)
-    returns
-    (λ c. search needs)
-    (λ c. search needs)
-    (λ c κs. search needs)
-    returns-2
-    (λ c. search needs)
-    (λ c. search needs)
-    (λ c. search needs)
-    (λ c κs. search needs)
-    (λ c. search needs)
-    returns-3)
+    tie.close (tie.spec (λ c. search needs) returns (λ c. search needs) (λ c. search needs) (λ c κs. search needs) returns-2 (λ c. search needs)
+    (λ c. search needs) (λ c. search needs) (λ c κs. search needs) (λ c. search needs) returns-3)

@@ -131,26 +131,6 @@ returns-4 c =
 
 pub split-rows-spec : {M : Type 1} → statement M
 split-rows-spec =
-    tie.close
-    (tie.spec
-    Inv-loop
-    μ-loop
-    returns
-    (λ c κs. search needs)
-    loop-holds
-    same-length
-    returns-2
-    row-at-requires
-    (λ c. search needs)
-    (λ c. search needs)
-    same-length-2
-    returns-3
-    word-requires
-    mul-words
-    slice-write-words
-    (λ c. search needs)
-    add-at
-    loop-less
-    loop-again
-    same-length-3
-    returns-4)
+    tie.close (tie.spec Inv-loop μ-loop returns (λ c κs. search needs) loop-holds same-length returns-2 row-at-requires (λ c. search needs)
+    (λ c. search needs) same-length-2 returns-3 word-requires mul-words slice-write-words (λ c. search needs) add-at loop-less loop-again
+    same-length-3 returns-4)

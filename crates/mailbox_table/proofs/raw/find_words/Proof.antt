@@ -39,7 +39,9 @@ copy-words-requires c κs =
     (omega (arith, c .before .before .least2 .ensures, after-least .least .ensures), omega (arith, c .before .before .least2 .ensures, after-least .least .ensures))
 
 -- where the words are copied
-copied : (c : tie.After-slice-known2) → let a = c .before .before .before .before .before .before .before .before .before .before .before .args in Copies (a .area .now) (a .raw .now) (a .words .now) (a .count) (c .before .before .copy-words .last .1 .1 .0)
+copied : (c : tie.After-slice-known2) →
+    let a = c .before .before .before .before .before .before .before .before .before .before .before .args in Copies (a .area .now) (a .raw .now)
+    (a .words .now) (a .count) (c .before .before .copy-words .last .1 .1 .0)
 copied c =
     let after-least2 = c .before .before .before .before .before in
     let after-least = after-least2 .before in
@@ -131,22 +133,6 @@ returns-5 c =
 
 pub find-words-spec : {M : Type 1} → statement M
 find-words-spec =
-    tie.close
-    (tie.spec
-    returns
-    (λ c κs. search needs)
-    (λ c κs. search needs)
-    returns-2
-    copy-words-requires
-    slice-relend-prefix-rows-pass
-    slice-aggregate-rows-pass
-    rows-pass-requires
-    same-length
-    returns-3
-    slice-reshare-prefix-lie-apart
-    slice-aggregate-lie-apart
-    lie-apart-requires
-    same-length-2
-    returns-4
-    same-length-3
-    returns-5)
+    tie.close (tie.spec returns (λ c κs. search needs) (λ c κs. search needs) returns-2 copy-words-requires slice-relend-prefix-rows-pass
+    slice-aggregate-rows-pass rows-pass-requires same-length returns-3 slice-reshare-prefix-lie-apart slice-aggregate-lie-apart lie-apart-requires
+    same-length-2 returns-4 same-length-3 returns-5)

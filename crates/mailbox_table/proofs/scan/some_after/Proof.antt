@@ -26,25 +26,42 @@ abbrev μ-loop : tie.MeasureT-loop
 μ-loop area words marks i len k₀ k = length words - k
 
 -- where a row is known: its name begins with the bytes
-begins : (c : tie.Else1 Inv-loop μ-loop) → starts (prefixOf (c .before .before .before .before .before .before .before .before .args .area .now) (c .before .before .before .before .before .before .before .before .args .words .now) (c .before .before .before .before .before .before .before .before .args .i) (c .before .before .before .before .before .before .before .before .args .len)) (nthName (c .before .before .before .before .before .before .before .before .args .area .now) (c .before .before .before .before .before .before .before .before .args .words .now) (c .before .before .before .before .before .loop .k)) ≡ true
+begins : (c : tie.Else1 Inv-loop μ-loop) →
+    starts (prefixOf (c .before .before .before .before .before .before .before .before .args .area .now)
+    (c .before .before .before .before .before .before .before .before .args .words .now)
+    (c .before .before .before .before .before .before .before .before .args .i)
+    (c .before .before .before .before .before .before .before .before .args .len))
+    (nthName (c .before .before .before .before .before .before .before .before .args .area .now)
+    (c .before .before .before .before .before .before .before .before .args .words .now) (c .before .before .before .before .before .loop .k)) ≡ true
 begins c =
     let at-loop-test = c .before .before .before .before in
     let turn-2 = at-loop-test .before in
-    let stage = turn-2 .before .before .before in
-    let start = stage in
+    let start = turn-2 .before .before .before in
     let turn = turn-2 .loop in
     starts-next (start .pre) (start .args .marks) (turn .k) (at-loop-test .loop-test .taken) (omega arith) (turn .inv .1)
     (subst (λ (r : Row). start .args .len ≤ r .shared) (c .before .before .of-word .ensures) (c .if1 .left))
 
 -- the byte after them
-byte : (c : tie.After-byte-at Inv-loop μ-loop) → c .byte-at .result ≡ getD (nthName (c .before .before .before .before .before .before .before .before .before .before .args .area .now) (c .before .before .before .before .before .before .before .before .before .before .args .words .now) (c .before .before .before .before .before .before .before .loop .k)) (c .before .before .before .before .before .before .before .before .before .before .args .len) 0
+byte : (c : tie.After-byte-at Inv-loop μ-loop) →
+    c .byte-at .result ≡ getD (nthName (c .before .before .before .before .before .before .before .before .before .before .args .area .now)
+    (c .before .before .before .before .before .before .before .before .before .before .args .words .now)
+    (c .before .before .before .before .before .before .before .loop .k))
+    (c .before .before .before .before .before .before .before .before .before .before .args .len) 0
 unfolding nameAt
 byte c =
     let after-of-word = c .before .before .before .before in
     c .byte-at .ensures ∙ rw (c .before .name-of .ensures, after-of-word .of-word .ensures)
 
 -- the test of the byte and of the marks
-test : (c : tie.After-is-marked Inv-loop μ-loop) → (eqb (c .before .before .before .byte-at .result) 47 && c .is-marked .result) ≡ (eqb (getD (nthName (c .before .before .before .before .before .before .before .before .before .before .before .before .before .args .area .now) (c .before .before .before .before .before .before .before .before .before .before .before .before .before .args .words .now) (c .before .before .before .before .before .before .before .before .before .before .loop .k)) (c .before .before .before .before .before .before .before .before .before .before .before .before .before .args .len) 0) 47 && contains (marksOf (getD (c .before .before .before .before .before .before .before .before .before .before .before .before .before .args .words .now) (c .before .before .before .before .before .before .before .before .before .before .loop .k) 0)) (c .before .before .before .before .before .before .before .before .before .before .before .before .before .args .marks))
+test : (c : tie.After-is-marked Inv-loop μ-loop) →
+    (eqb (c .before .before .before .byte-at .result) 47 && c .is-marked .result) ≡
+    (eqb (getD (nthName (c .before .before .before .before .before .before .before .before .before .before .before .before .before .args .area .now)
+    (c .before .before .before .before .before .before .before .before .before .before .before .before .before .args .words .now)
+    (c .before .before .before .before .before .before .before .before .before .before .loop .k))
+    (c .before .before .before .before .before .before .before .before .before .before .before .before .before .args .len) 0) 47 && contains
+    (marksOf (getD (c .before .before .before .before .before .before .before .before .before .before .before .before .before .args .words .now)
+    (c .before .before .before .before .before .before .before .before .before .before .loop .k) 0))
+    (c .before .before .before .before .before .before .before .before .before .before .before .before .before .args .marks))
 test c = λ j. eqb (byte (c .before .before .before) j) 47 && c .is-marked .ensures j
 
 loop-holds : tie.Need-loop-holds Inv-loop μ-loop
@@ -57,8 +74,7 @@ returns : tie.Need-returns Inv-loop μ-loop
 returns c =
     let at-loop-test = c .before .before .before .before in
     let turn-2 = at-loop-test .before in
-    let stage = turn-2 .before .before .before in
-    let start = stage in
+    let start = turn-2 .before .before .before in
     let turn = turn-2 .loop in
     sym
     (scan-shared (start .pre) (start .args .marks) (turn .k) (at-loop-test .loop-test .taken) (omega arith) (turn .inv .1)
@@ -69,8 +85,7 @@ returns-2 : tie.Need-returns-2 Inv-loop μ-loop
 returns-2 c =
     let at-loop-test = c .before .before .before .before .before .before .before in
     let turn-2 = at-loop-test .before in
-    let stage = turn-2 .before .before .before in
-    let start = stage in
+    let start = turn-2 .before .before .before in
     let turn = turn-2 .loop in
     sym (scan-byte (start .pre) (start .args .marks) (turn .k) (at-loop-test .loop-test .taken) (begins (c .before .before .before)) (omega (arith, byte (c .before)))) ∙ turn .inv .2
 
@@ -79,8 +94,7 @@ returns-3 c =
     let stage = c .before .before .before .before .before .before in
     let at-loop-test = stage .before .before .before .before in
     let turn-2 = at-loop-test .before in
-    let stage-2 = turn-2 .before .before .before in
-    let start = stage-2 in
+    let start = turn-2 .before .before .before in
     let turn = turn-2 .loop in
     sym (scan-found (start .pre) (start .args .marks) (turn .k) (at-loop-test .loop-test .taken) (begins (stage)) (sym (test (c .before)) ∙ c .if3 .taken))
     ∙ turn .inv .2
@@ -90,8 +104,7 @@ loop-again c =
     let stage = c .before .before .before .before .before .before in
     let at-loop-test = stage .before .before .before .before in
     let turn-2 = at-loop-test .before in
-    let stage-2 = turn-2 .before .before .before in
-    let start = stage-2 in
+    let start = turn-2 .before .before .before in
     let turn = turn-2 .loop in
     let e : turn .k + 1 - 1 ≡ turn .k = omega arith in (
       omega arith,
@@ -101,29 +114,10 @@ loop-again c =
 
 returns-4 : tie.Need-returns-4 Inv-loop μ-loop
 returns-4 c =
-    let stage = c .before .before .before .before in
-    let start = stage in sym (scan-end (start .pre) (start .args .marks) (c .before .loop .k) (c .loop-test .left)) ∙ c .before .loop .inv .2
+    let start = c .before .before .before .before in sym (scan-end (start .pre) (start .args .marks) (c .before .loop .k) (c .loop-test .left)) ∙ c .before .loop .inv .2
 
 pub some-after-spec : {M : Type 1} → statement M
 some-after-spec =
-    tie.close
-    (tie.spec
-    Inv-loop
-    μ-loop
-    (λ c. search needs)
-    loop-holds
-    (λ c. search needs)
-    (λ c. search needs)
-    (λ c κs. search needs)
-    returns
-    (λ c κs. search needs)
-    (λ c κs. search needs)
-    returns-2
-    (λ c. search needs)
-    (λ c. search needs)
-    (λ c κs. search needs)
-    returns-3
-    (λ c. search needs)
-    (λ c. search needs)
-    loop-again
-    returns-4)
+    tie.close (tie.spec Inv-loop μ-loop (λ c. search needs) loop-holds (λ c. search needs) (λ c. search needs) (λ c κs. search needs) returns
+    (λ c κs. search needs) (λ c κs. search needs) returns-2 (λ c. search needs) (λ c. search needs) (λ c κs. search needs) returns-3
+    (λ c. search needs) (λ c. search needs) loop-again returns-4)

@@ -20,44 +20,32 @@ unfolding nameAt
 byte c = c .byte-at .ensures ∙ rw (c .before .name-of .ensures, c .before .before .of-word .ensures)
 
 -- the test of the byte and of the marks
-test : (c : tie.After-is-marked) → let a = c .before .before .before .before .before .before .before .before .before .args in (eqb (c .before .before .before .byte-at .result) 47 && c .is-marked .result) ≡ (eqb (getD (nthName (a .area .now) (a .words .now) (a .i)) (a .len) 0) 47 && contains (marksOf (getD (a .words .now) (a .i) 0)) (a .marks))
+test : (c : tie.After-is-marked) →
+    let a = c .before .before .before .before .before .before .before .before .before .args in (eqb (c .before .before .before .byte-at .result) 47 &&
+    c .is-marked .result) ≡ (eqb (getD (nthName (a .area .now) (a .words .now) (a .i)) (a .len) 0) 47 && contains
+    (marksOf (getD (a .words .now) (a .i) 0)) (a .marks))
 test c = λ j. eqb (byte (c .before .before .before) j) 47 && c .is-marked .ensures j
 
 returns : tie.Need-returns
 returns c =
-    let stage = c .before .before .before .before .before .before .before in
-    let start = stage in
+    let start = c .before .before .before .before .before .before .before in
     let a = start .args in
     sym (scan-byte (start .pre) (a .marks) (a .i) (start .pre .row) (starts-take (a .len) _) (omega (arith, byte (c .before))))
 
 returns-2 : tie.Need-returns-2
 returns-2 c =
-    let stage = c .before .before .before .before .before .before .before .before .before .before in
-    let start = stage in
+    let start = c .before .before .before .before .before .before .before .before .before .before in
     let a = start .args in
     sym (scan-found (start .pre) (a .marks) (a .i) (start .pre .row) (starts-take (a .len) _) (sym (test (c .before)) ∙ c .if2 .taken))
 
 returns-3 : tie.Need-returns-3
 returns-3 c =
-    let stage = c .before .before .before .before .before .before .before .before .before .before .before in
-    let start = stage in
+    let start = c .before .before .before .before .before .before .before .before .before .before .before in
     let a = start .args in
     c .some-after .ensures
     ∙ sym (scan-on (start .pre) (a .marks) (a .i) (start .pre .row) (starts-take (a .len) _) (sym (test (c .before .before)) ∙ c .before .if2 .left))
 
 pub some-below-spec : {M : Type 1} → statement M
 some-below-spec =
-    tie.close
-    (tie.spec
-    (λ c. search needs)
-    (λ c. search needs)
-    (λ c κs. search needs)
-    (λ c κs. search needs)
-    (λ c κs. search needs)
-    returns
-    (λ c. search needs)
-    (λ c. search needs)
-    (λ c κs. search needs)
-    returns-2
-    (λ c κs. search needs)
-    returns-3)
+    tie.close (tie.spec (λ c. search needs) (λ c. search needs) (λ c κs. search needs) (λ c κs. search needs) (λ c κs. search needs) returns
+    (λ c. search needs) (λ c. search needs) (λ c κs. search needs) returns-2 (λ c κs. search needs) returns-3)

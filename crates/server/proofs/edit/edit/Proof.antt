@@ -25,15 +25,5 @@ edit-named-requires c κs =
 
 pub edit-spec : {M : Type 1} → statement M
 edit-spec =
-    tie.close
-    (tie.spec
-    (λ c κs. search needs)
-    (λ c. search needs)
-    put-spelled-requires
-    (λ c. search needs)
-    (λ c. search needs)
-    edit-named-requires
-    (λ c. search needs)
-    (λ c. search needs)
-    (λ c. search needs)
-    (λ c. search needs))
+    tie.close (tie.spec (λ c κs. search needs) (λ c. search needs) put-spelled-requires (λ c. search needs) (λ c. search needs) edit-named-requires
+    (λ c. search needs) (λ c. search needs) (λ c. search needs) (λ c. search needs))

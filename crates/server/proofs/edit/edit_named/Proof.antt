@@ -31,14 +31,18 @@ decide-requires c κs =
     (k .ordered, omega (arith, k .few, length-take-le (a .count) (a .words .now) (k .counted)), k .small)
 
 -- the plan, and the tag
-plan : (c : tie.After-decide) → let a = c .before .before .before .before .before .before .before .before .before .args in Decides (a .words .now) (a .count) (a .area .now) (editOf (a .line .now) (a .command)) (c .decide .result)
+plan : (c : tie.After-decide) →
+    let a = c .before .before .before .before .before .before .before .before .before .args in Decides (a .words .now) (a .count) (a .area .now)
+    (editOf (a .line .now) (a .command)) (c .decide .result)
 plan c =
     let start = c .before .before .before .before .before .before .before .before .before in
     let a = start .args in
     let kind = c .before .before .before .is-subscribe in
     decided (a .words .now) (a .count) (a .area .now) (a .line .now) (a .command) (kind .result) (a .name .now) (c .decide .result) (start .pre .0) (kind .ensures) (start .pre .1 .1) (c .decide .ensures)
 
-tag-is : (c : tie.After-span-of) → let a = c .before .before .before .before .before .before .before .before .before .before .args in c .span-of .result .now ≡ spanBytes (a .line .now) (a .command .tag)
+tag-is : (c : tie.After-span-of) →
+    let a = c .before .before .before .before .before .before .before .before .before .before .args in c .span-of .result .now ≡ spanBytes
+    (a .line .now) (a .command .tag)
 tag-is c =
     let start = c .before .before .before .before .before .before .before .before .before .before in
     let a = start .args in
@@ -73,23 +77,6 @@ returns-2 c =
 
 pub edit-named-spec : {M : Type 1} → statement M
 edit-named-spec =
-    tie.close
-    (tie.spec
-    (λ c κs. search needs)
-    slice-reshare-prefix-decide
-    slice-aggregate-decide
-    decide-requires
-    (λ c κs. search needs)
-    (λ c κs. search needs)
-    (λ c. search needs)
-    (λ c κs. search needs)
-    (λ c. search needs)
-    carry-out-requires
-    (λ c. search needs)
-    (λ c. search needs)
-    (λ c. search needs)
-    returns
-    (λ c. search needs)
-    (λ c. search needs)
-    (λ c. search needs)
-    returns-2)
+    tie.close (tie.spec (λ c κs. search needs) slice-reshare-prefix-decide slice-aggregate-decide decide-requires (λ c κs. search needs)
+    (λ c κs. search needs) (λ c. search needs) (λ c κs. search needs) (λ c. search needs) carry-out-requires (λ c. search needs) (λ c. search needs)
+    (λ c. search needs) returns (λ c. search needs) (λ c. search needs) (λ c. search needs) returns-2)

@@ -45,16 +45,5 @@ returns-2 c =
 
 pub read-packed-spec : {M : Type 1} → statement M
 read-packed-spec =
-    tie.close
-    (tie.spec
-    (λ c κs. search needs)
-    (λ c. search needs)
-    (λ c κs. search needs)
-    (λ c. search needs)
-    (λ c. search needs)
-    returns
-    array-share-prefix-words
-    slice-aggregate-read-index
-    read-index-requires
-    (λ c. search needs)
-    returns-2)
+    tie.close (tie.spec (λ c κs. search needs) (λ c. search needs) (λ c κs. search needs) (λ c. search needs) (λ c. search needs) returns
+    array-share-prefix-words slice-aggregate-read-index read-index-requires (λ c. search needs) returns-2)

@@ -9,10 +9,11 @@ use Rattle.server.proofs.replies.write_listing.Statement.{statement}
 use Rattle.server.proofs.replies.write_listing.Tie as tie
 
 -- the packed patterns, where they are put
-packed-here : (c : tie.After-put-patterns) → Lying (patternsOf (c .before .before .before .before .before .before .before .before .args .line .now) (c .before .before .before .before .before .before .before .before .args .command)) (c .put-patterns .last .1 .1 .0) (c .put-patterns .result)
+packed-here : (c : tie.After-put-patterns) →
+    Lying (patternsOf (c .before .before .before .before .before .before .before .before .args .line .now)
+    (c .before .before .before .before .before .before .before .before .args .command)) (c .put-patterns .last .1 .1 .0) (c .put-patterns .result)
 packed-here c =
-    let stage = c .before .before .before .before .before .before .before .before in
-    let start = stage in
+    let start = c .before .before .before .before .before .before .before .before in
     lying (c .before .before .no-patterns .result) (c .put-patterns .last .1 .1 .0) (patternsOf (start .args .line .now) (start .args .command)) (c .put-patterns .result) (c .put-patterns .ensures) (ap length (c .before .before .no-patterns .ensures)) (start .pre .1)
 
 array-share-prefix-patterns : tie.Need-array-share-prefix-patterns
@@ -28,13 +29,5 @@ returns c =
 
 pub write-listing-spec : {M : Type 1} → statement M
 write-listing-spec =
-    tie.close
-    (tie.spec
-    (λ c κs. search needs)
-    (λ c. search needs)
-    (λ c κs. search needs)
-    array-share-prefix-patterns
-    slice-aggregate-write-list
-    (λ c κs. search needs)
-    (λ c. search needs)
-    returns)
+    tie.close (tie.spec (λ c κs. search needs) (λ c. search needs) (λ c κs. search needs) array-share-prefix-patterns slice-aggregate-write-list
+    (λ c κs. search needs) (λ c. search needs) returns)

@@ -56,38 +56,8 @@ returns-5 c =
 
 pub carry-out-spec : {M : Type 1} → statement M
 carry-out-spec =
-    tie.close
-    (tie.spec
-    (λ c. search needs)
-    slice-aggregate-add-row
-    (λ c κs. search needs)
-    (λ c. search needs)
-    slice-aggregate-part
-    (λ c κs. search needs)
-    (λ c κs. search needs)
-    (λ c. search needs)
-    slice-aggregate-obey
-    (λ c κs. search needs)
-    (λ c. search needs)
-    (λ c κs. search needs)
-    (λ c κs. search needs)
-    (λ c. search needs)
-    (λ c κs. search needs)
-    (λ c κs. search needs)
-    (λ c. search needs)
-    (λ c. search needs)
-    returns
-    (λ c. search needs)
-    (λ c. search needs)
-    returns-2
-    (λ c. search needs)
-    (λ c. search needs)
-    (λ c. search needs)
-    (λ c. search needs)
-    returns-3
-    (λ c. search needs)
-    (λ c. search needs)
-    (λ c. search needs)
-    returns-4
-    (λ c. search needs)
-    returns-5)
+    tie.close (tie.spec (λ c. search needs) slice-aggregate-add-row (λ c κs. search needs) (λ c. search needs) slice-aggregate-part
+    (λ c κs. search needs) (λ c κs. search needs) (λ c. search needs) slice-aggregate-obey (λ c κs. search needs) (λ c. search needs)
+    (λ c κs. search needs) (λ c κs. search needs) (λ c. search needs) (λ c κs. search needs) (λ c κs. search needs) (λ c. search needs)
+    (λ c. search needs) returns (λ c. search needs) (λ c. search needs) returns-2 (λ c. search needs) (λ c. search needs) (λ c. search needs)
+    (λ c. search needs) returns-3 (λ c. search needs) (λ c. search needs) (λ c. search needs) returns-4 (λ c. search needs) returns-5)

@@ -7,8 +7,7 @@ use Rattle.session.proofs.carrying.keep.Tie as tie
 returns : tie.Need-returns
 returns c =
     let after-store = c .before .before .before .before .before in
-    let stage = after-store .before .before .before .before .before in
-    let start = stage in
+    let start = after-store .before .before .before .before .before in
     let stored = after-store .store in
     keeps-now (start .pre .1) (stored .ensures) (start .args .number) _ (start .args .out .now) (c .before .len .given .1)
 
@@ -16,21 +15,11 @@ returns-2 : tie.Need-returns-2
 returns-2 c =
     let after-enum-told = c .before .before .before .before in
     let after-store = after-enum-told .before .before .before .before in
-    let stage = after-store .before .before .before .before .before in
-    let start = stage in
+    let start = after-store .before .before .before .before .before in
     let stored = after-store .store in
     keeps-full (start .pre .1) (stored .ensures) (start .args .number) _ (start .args .out .now) _ (start .pre .0) (after-enum-told .enum-told .given .1) (c .before .before .put-refusal .ensures)
 
 pub keep-spec : {M : Type 1} → statement M
 keep-spec =
-    tie.close
-    (tie.spec
-    (λ c κs. search needs)
-    (λ c. search needs)
-    (λ c. search needs)
-    (λ c κs. search needs)
-    (λ c. search needs)
-    returns
-    (λ c. search needs)
-    (λ c. search needs)
-    returns-2)
+    tie.close (tie.spec (λ c κs. search needs) (λ c. search needs) (λ c. search needs) (λ c κs. search needs) (λ c. search needs) returns
+    (λ c. search needs) (λ c. search needs) returns-2)

@@ -48,20 +48,6 @@ returns c =
 
 pub obey-records-spec : {M : Type 1} → statement M
 obey-records-spec =
-    tie.close
-    (tie.spec
-    slice-aggregate-spaces
-    (λ c. search needs)
-    slice-aggregate-words
-    (λ c. search needs)
-    slice-aggregate-area
-    (λ c κs. search needs)
-    (λ c. search needs)
-    (λ c κs. search needs)
-    (λ c. search needs)
-    put-reply-requires
-    (λ c κs. search needs)
-    (λ c. search needs)
-    (λ c. search needs)
-    (λ c. search needs)
-    returns)
+    tie.close (tie.spec slice-aggregate-spaces (λ c. search needs) slice-aggregate-words (λ c. search needs) slice-aggregate-area
+    (λ c κs. search needs) (λ c. search needs) (λ c κs. search needs) (λ c. search needs) put-reply-requires (λ c κs. search needs)
+    (λ c. search needs) (λ c. search needs) (λ c. search needs) returns)

@@ -40,17 +40,5 @@ returns c =
 
 pub copy-words-spec : {M : Type 1} → statement M
 copy-words-spec =
-    tie.close
-    (tie.spec
-    Inv-loop
-    μ-loop
-    loop-holds
-    (λ c. search needs)
-    (λ c. search needs)
-    (λ c. search needs)
-    slice-write-to
-    (λ c. search needs)
-    (λ c. search needs)
-    loop-again
-    same-length
-    returns)
+    tie.close (tie.spec Inv-loop μ-loop loop-holds (λ c. search needs) (λ c. search needs) (λ c. search needs) slice-write-to (λ c. search needs)
+    (λ c. search needs) loop-again same-length returns)

@@ -44,16 +44,5 @@ returns-2 c =
 
 pub lay-out-spec : {M : Type 1} → statement M
 lay-out-spec =
-    tie.close
-    (tie.spec
-    (λ c κs. search needs)
-    (λ c. search needs)
-    (λ c. search needs)
-    (λ c. search needs)
-    returns
-    slice-relend-prefix-place-names
-    slice-aggregate-place-names
-    place-names-requires
-    (λ c. search needs)
-    (λ c. search needs)
-    returns-2)
+    tie.close (tie.spec (λ c κs. search needs) (λ c. search needs) (λ c. search needs) (λ c. search needs) returns slice-relend-prefix-place-names
+    slice-aggregate-place-names place-names-requires (λ c. search needs) (λ c. search needs) returns-2)

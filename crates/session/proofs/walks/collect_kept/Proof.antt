@@ -43,18 +43,6 @@ returns-2 c =
 
 pub collect-kept-spec : {M : Type 1} → statement M
 collect-kept-spec =
-    tie.close
-    (tie.spec
-    slice-aggregate-words
-    slice-aggregate-collect-words
-    (λ c κs. search needs)
-    (λ c. search needs)
-    (λ c. search needs)
-    (λ c. search needs)
-    returns
-    slice-aggregate-collect-packed
-    (λ c κs. search needs)
-    (λ c. search needs)
-    (λ c. search needs)
-    (λ c. search needs)
+    tie.close (tie.spec slice-aggregate-words slice-aggregate-collect-words (λ c κs. search needs) (λ c. search needs) (λ c. search needs)
+    (λ c. search needs) returns slice-aggregate-collect-packed (λ c κs. search needs) (λ c. search needs) (λ c. search needs) (λ c. search needs)
     returns-2)

@@ -23,14 +23,5 @@ returns c =
 
 pub remove-row-spec : {M : Type 1} → statement M
 remove-row-spec =
-    tie.close
-    (tie.spec
-    (λ c. search needs)
-    (λ c. search needs)
-    (λ c κs. search needs)
-    (λ c κs. search needs)
-    clear-bytes-requires
-    (λ c. search needs)
-    (λ c. search needs)
-    (λ c. search needs)
-    returns)
+    tie.close (tie.spec (λ c. search needs) (λ c. search needs) (λ c κs. search needs) (λ c κs. search needs) clear-bytes-requires (λ c. search needs)
+    (λ c. search needs) (λ c. search needs) returns)

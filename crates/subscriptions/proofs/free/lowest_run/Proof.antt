@@ -25,12 +25,5 @@ returns c =
 
 pub lowest-run-spec : {M : Type 1} → statement M
 lowest-run-spec =
-    tie.close
-    (tie.spec
-    (λ c κs. search needs)
-    (λ c. search needs)
-    (λ c κs. search needs)
-    (λ c. search needs)
-    slice-aggregate-first-run
-    (λ c κs. search needs)
-    returns)
+    tie.close (tie.spec (λ c κs. search needs) (λ c. search needs) (λ c κs. search needs) (λ c. search needs) slice-aggregate-first-run
+    (λ c κs. search needs) returns)

@@ -40,15 +40,5 @@ returns c =
 
 pub unmark-spec : {M : Type 1} → statement M
 unmark-spec =
-    tie.close
-    (tie.spec
-    Inv-loop
-    μ-loop
-    (λ c κs. search needs)
-    loop-holds
-    slice-write-marks
-    (λ c. search needs)
-    (λ c. search needs)
-    loop-again
-    same-length
-    returns)
+    tie.close (tie.spec Inv-loop μ-loop (λ c κs. search needs) loop-holds slice-write-marks (λ c. search needs) (λ c. search needs) loop-again
+    same-length returns)

@@ -43,18 +43,5 @@ returns c = left-all (c .before .loop .inv) (c .loop-test .left)
 
 pub unmark-names-spec : {M : Type 1} → statement M
 unmark-names-spec =
-    tie.close
-    (tie.spec
-    Inv-loop
-    μ-loop
-    loop-holds
-    (λ c. search needs)
-    (λ c. search needs)
-    (λ c κs. search needs)
-    add-unmark
-    (λ c κs. search needs)
-    (λ c. search needs)
-    (λ c. search needs)
-    loop-again
-    same-length
-    returns)
+    tie.close (tie.spec Inv-loop μ-loop loop-holds (λ c. search needs) (λ c. search needs) (λ c κs. search needs) add-unmark (λ c κs. search needs)
+    (λ c. search needs) (λ c. search needs) loop-again same-length returns)

@@ -31,11 +31,4 @@ returns-3 c =
 
 pub is-below-spec : {M : Type 1} → statement M
 is-below-spec =
-    tie.close
-    (tie.spec
-    returns
-    (λ c. search needs)
-    returns-2
-    slice-aggregate-same-bytes
-    (λ c κs. search needs)
-    returns-3)
+    tie.close (tie.spec returns (λ c. search needs) returns-2 slice-aggregate-same-bytes (λ c κs. search needs) returns-3)

@@ -22,7 +22,11 @@ loop-holds : tie.Need-loop-holds Inv-loop μ-loop
 loop-holds c = zero-add _
 
 -- what the comparison says of row i's name
-told : (c : tie.After-comes-before Inv-loop μ-loop) → c .comes-before .result ≡ isLt (byteOrder (nthName (c .before .before .before .before .before .before .before .before .before .args .area .now) (c .before .before .before .before .before .before .before .before .before .args .words .now) (c .before .before .before .before .before .loop .i)) (c .before .before .before .before .before .before .before .before .before .args .name .now))
+told : (c : tie.After-comes-before Inv-loop μ-loop) →
+    c .comes-before .result ≡ isLt (byteOrder (nthName (c .before .before .before .before .before .before .before .before .before .args .area .now)
+    (c .before .before .before .before .before .before .before .before .before .args .words .now)
+    (c .before .before .before .before .before .loop .i))
+    (c .before .before .before .before .before .before .before .before .before .args .name .now))
 unfolding nameAt
 told c = c .comes-before .ensures ∙ rw (c .before .name-of .ensures, c .before .before .of-word .ensures)
 
@@ -51,18 +55,5 @@ returns-2 c =
 
 pub place-of-spec : {M : Type 1} → statement M
 place-of-spec =
-    tie.close
-    (tie.spec
-    Inv-loop
-    μ-loop
-    loop-holds
-    (λ c. search needs)
-    (λ c. search needs)
-    (λ c κs. search needs)
-    (λ c κs. search needs)
-    (λ c κs. search needs)
-    returns
-    (λ c. search needs)
-    (λ c. search needs)
-    loop-again
-    returns-2)
+    tie.close (tie.spec Inv-loop μ-loop loop-holds (λ c. search needs) (λ c. search needs) (λ c κs. search needs) (λ c κs. search needs)
+    (λ c κs. search needs) returns (λ c. search needs) (λ c. search needs) loop-again returns-2)

@@ -30,15 +30,5 @@ returns c = zeroed-all (c .before .loop .inv) (c .loop-test .left)
 
 pub clear-bytes-spec : {M : Type 1} → statement M
 clear-bytes-spec =
-    tie.close
-    (tie.spec
-    Inv-loop
-    μ-loop
-    loop-holds
-    (λ c. omega (arith, inside c))
-    (λ c. inside c)
-    (λ c. search needs)
-    (λ c. search needs)
-    loop-again
-    same-length
-    returns)
+    tie.close (tie.spec Inv-loop μ-loop loop-holds (λ c. omega (arith, inside c)) (λ c. inside c) (λ c. search needs) (λ c. search needs) loop-again
+    same-length returns)

@@ -20,13 +20,5 @@ returns c = refl
 
 pub set-flags-spec : {M : Type 1} → statement M
 set-flags-spec =
-    tie.close
-    (tie.spec
-    (λ c. search needs)
-    (λ c. search needs)
-    (λ c. search needs)
-    add-words
-    (λ c. search needs)
-    (λ c. search needs)
-    (λ c. search needs)
-    returns)
+    tie.close (tie.spec (λ c. search needs) (λ c. search needs) (λ c. search needs) add-words (λ c. search needs) (λ c. search needs)
+    (λ c. search needs) returns)

@@ -47,18 +47,5 @@ returns c =
 
 pub shift-up-spec : {M : Type 1} → statement M
 shift-up-spec =
-    tie.close
-    (tie.spec
-    Inv-loop
-    μ-loop
-    loop-holds
-    (λ c. search needs)
-    mul-words
-    slice-read-words
-    mul-words-2
-    slice-write-words
-    (λ c. search needs)
-    (λ c. search needs)
-    loop-again
-    same-length
-    returns)
+    tie.close (tie.spec Inv-loop μ-loop loop-holds (λ c. search needs) mul-words slice-read-words mul-words-2 slice-write-words (λ c. search needs)
+    (λ c. search needs) loop-again same-length returns)

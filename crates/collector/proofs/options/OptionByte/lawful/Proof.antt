@@ -11,8 +11,7 @@ use Rattle.collector.proofs.options.OptionByte.lawful.Tie as tie
 returns : tie.Need-returns
 unfolding lawfulByte
 returns c =
-    let stage = c .before .before .before .before in
-    let start = stage in
+    let start = c .before .before .before .before in
     let byte = start .args .self .bits in
     λ i. leb byte 7 && (not ((c .before .has .ensures ∙ has-dropped byte) i) || (c .has2 .ensures ∙ has-special byte) i)
 

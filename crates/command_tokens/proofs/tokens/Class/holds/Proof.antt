@@ -1,3 +1,4 @@
+-- `Class::holds`: each class has the bytes of its definition. Rests on the promise of `is_atom`, and for patterns on Bytes.
 use Rattle.listing_rules.specs.Tokens.{atomByte}
 use Rattle.command_tokens.proofs.Bytes.{pattern-is}
 use Rattle.listing_rules.specs.Tokens.{tagByte, astringByte, patternByte}
@@ -27,20 +28,6 @@ returns-5 c = rw (c .before .enum-told5 .given .1) (c .is-digit .ensures)
 
 pub holds-spec : {M : Type 1} → statement M
 holds-spec =
-    tie.close
-    (tie.spec
-    (λ c. search needs)
-    (λ c κs. search needs)
-    (λ c. search needs)
-    (λ c κs. search needs)
-    (λ c. search needs)
-    (λ c κs. search needs)
-    (λ c. search needs)
-    (λ c κs. search needs)
-    (λ c. search needs)
-    (λ c κs. search needs)
-    returns
-    returns-2
-    returns-3
-    returns-4
+    tie.close (tie.spec (λ c. search needs) (λ c κs. search needs) (λ c. search needs) (λ c κs. search needs) (λ c. search needs)
+    (λ c κs. search needs) (λ c. search needs) (λ c κs. search needs) (λ c. search needs) (λ c κs. search needs) returns returns-2 returns-3 returns-4
     returns-5)

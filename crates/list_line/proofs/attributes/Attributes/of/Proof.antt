@@ -1,3 +1,4 @@
+-- `Attributes::of`: the bits so far are the set of the places from k on. Rests on Members.
 use mathlib.Core.Path.{_≡_, sym, ap, _∙_}
 use Prim.Native.Nat.{ℕ, _≤_, _+_, _-_}
 use lib.ListN.{length, drop}
@@ -14,27 +15,20 @@ Inv-loop shown bits₀ k₀ bits k = (length shown ≡ 16) × (k ≤ 16) × (bit
 abbrev μ-loop : tie.MeasureT-loop
 μ-loop shown bits₀ k₀ bits k = k
 
--- src/attributes.rt:36:9
 loop-holds : tie.Need-loop-holds Inv-loop μ-loop
 loop-holds c = (search needs, omega arith, sym (setOf-none (c .args .t1) 16 (search needs)))
 
--- src/attributes.rt:37:13
--- src/attributes.rt:38:20
 mul-bits : tie.Need-mul-bits Inv-loop μ-loop
 mul-bits c =
     let start = c .before .before in
     omega (arith, setOf-room (start .args .t1) (c .before .loop .k) (c .before .loop .inv .0) (c .loop-test .taken))
 
--- src/attributes.rt:39:16
--- src/attributes.rt:40:17
 add-bits : tie.Need-add-bits Inv-loop μ-loop
 add-bits c =
     let turn = c .before .before in
     let start = turn .before in
     omega (arith, setOf-room (start .args .t1) (turn .loop .k) (turn .loop .inv .0) (c .before .loop-test .taken))
 
--- src/attributes.rt:36:9
--- src/attributes.rt:36:9
 loop-again : tie.Need-loop-again Inv-loop μ-loop
 loop-again c =
     let turn = c .before .before in
@@ -43,8 +37,6 @@ loop-again c =
     let w : k - 1 + 1 ≡ k = omega arith in
     (turn .loop .inv .0, omega arith, omega (arith, setOf-here (start .args .t1) (k - 1) (omega arith) (c .if1 .taken), ap (λ (n : ℕ). setOf (drop n (start .args .t1))) w))
 
--- src/attributes.rt:36:9
--- src/attributes.rt:36:9
 loop-again-2 : tie.Need-loop-again-2 Inv-loop μ-loop
 loop-again-2 c =
     let turn = c .before .before in
@@ -53,7 +45,6 @@ loop-again-2 c =
     let w : k - 1 + 1 ≡ k = omega arith in
     (turn .loop .inv .0, omega arith, omega (arith, setOf-not-here (start .args .t1) (k - 1) (omega arith) (c .if1 .left), ap (λ (n : ℕ). setOf (drop n (start .args .t1))) w))
 
--- src/attributes.rt:31:5
 returns : tie.Need-returns Inv-loop μ-loop
 returns c =
     let start = c .before .before in
@@ -61,17 +52,5 @@ returns c =
 
 pub of-spec : {M : Type 1} → statement M
 of-spec =
-    tie.close
-    (tie.spec
-    Inv-loop
-    μ-loop
-    loop-holds
-    (λ c. search needs)
-    mul-bits
-    (λ c. search needs)
-    add-bits
-    (λ c. search needs)
-    loop-again
-    (λ c. search needs)
-    loop-again-2
-    returns)
+    tie.close (tie.spec Inv-loop μ-loop loop-holds (λ c. search needs) mul-bits (λ c. search needs) add-bits (λ c. search needs) loop-again
+    (λ c. search needs) loop-again-2 returns)

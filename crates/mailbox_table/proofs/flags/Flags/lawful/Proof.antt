@@ -12,8 +12,7 @@ returns : tie.Need-returns
 unfolding lawfulFlags exists marked unmarked
 returns c =
     let after-has = c .before .before .before .before .before in
-    let stage = after-has .before in
-    let start = stage in
+    let start = after-has .before in
     let has = after-has .has in
     let f = start .args .self .bits in
     rw (

@@ -37,6 +37,7 @@ extern "C" {
  * that are no name's are free and may hold anything. The first count records are the rows; those after them are spare and not looked at.
  * luspemaro_answer may change the rows: SUBSCRIBE may insert one, which takes the first spare record and the lowest run of free bytes
  * that is long enough, and UNSUBSCRIBE may remove one, whose bytes become zero and free, and the last record zero and spare.
+ * luspemaro_compact moves the names together, so that the free bytes are one run.
  *
  * Packed, for the entries that say so: rows without a gap, for reading. A row is its flags (2 bytes, high byte first), the name's length
  * (1 to 200), the name. */
@@ -64,7 +65,7 @@ extern "C" {
 #define LUSPEMARO_MAX_LEVELS 16 /* levels of a name, parted by "/" */
 
 /* A record of 6 bytes. flags: of LUSPEMARO_FLAG_ .. start: the place of the name's first byte in the area. len: the name's length, 1 to
- * 200. The last byte belongs to no member: it is not looked at, and nothing is said of it after an edit. */
+ * 200. The last byte belongs to no member: it is not looked at, and nothing is said of it after an edit or a compaction. */
 struct luspemaro_record {
     uint16_t flags;
     uint16_t start;
@@ -161,6 +162,7 @@ struct luspemaro_record {
 #define LUSPEMARO_STACK_CHECK_NAMESPACES 12288
 #define LUSPEMARO_STACK_MATCHES 12288
 #define LUSPEMARO_STACK_ANSWER 323584
+#define LUSPEMARO_STACK_COMPACT 114688
 #define LUSPEMARO_STACK_COLLECT 98304
 #define LUSPEMARO_STACK_COLLECT_PACKED 98304
 #define LUSPEMARO_STACK_WRITE_LINE 12288
@@ -245,6 +247,14 @@ bool luspemaro_matches(const uint8_t *pattern, size_t pattern_length, const uint
 struct luspemaro_outcome luspemaro_answer(struct luspemaro_record *records, size_t records_length, size_t count, uint8_t *area,
                                           size_t area_length, const uint8_t *namespaces, size_t namespaces_length,
                                           const uint8_t *line, size_t line_length, uint8_t *out, size_t out_length);
+
+/* Moves the names of the rows together, in the order of their starts, to the front of the area; the bytes after them, all that no row
+ * uses, become zero. LUSPEMARO_DONE, or 1 for a table that does not pass: then no record and no byte of the area changes.
+ *
+ * Of the first count records the starts change and nothing else; those after them stay. Every command and every walk is answered as
+ * before, but that a SUBSCRIBE which was refused with 15 may find room. Straight after it, no edit between, 15 for want of bytes is given
+ * exactly if all free bytes together are fewer than the name's. */
+uint8_t luspemaro_compact(struct luspemaro_record *records, size_t records_length, size_t count, uint8_t *area, size_t area_length);
 
 /* The collector's walk. option: the sum of LUSPEMARO_OPTION_ .. Finds lie at the front of found, length bytes of them, and the names
  * that were asked below at the front of pending, count - 1 of them; each as a length byte (1 to 200) and the name, in walk order. The

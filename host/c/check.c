@@ -191,6 +191,30 @@ size_t lend_records(const struct rows *rows)
     return count + is_cut;
 }
 
+void lend_store(const struct store *store)
+{
+    lend_bytes(NAMES, store->names, strlen(store->names));
+    lend(RECORD, store->records * sizeof(struct luspemaro_record));
+    for (size_t i = 0; i < store->records; i++) {
+        lent_records()[i].flags = (uint16_t)store->rows[i].flags;
+        lent_records()[i].start = (uint16_t)store->rows[i].start;
+        lent_records()[i].len = (uint8_t)store->rows[i].len;
+    }
+}
+
+bool is_store(const struct store *store)
+{
+    for (size_t i = 0; i < store->records; i++) {
+        const struct luspemaro_record *record = lent_records() + i;
+        if (record->flags != store->rows[i].flags || record->start != store->rows[i].start || record->len != store->rows[i].len)
+            return false;
+    }
+    for (size_t i = 0; i < lent_length(NAMES); i++)
+        if (lent(NAMES)[i] != (store->names[i] == '?' ? 0 : (uint8_t)store->names[i]))
+            return false;
+    return lent_records_length() == store->records && front_untouched(RECORD) && front_untouched(NAMES);
+}
+
 /* ---- calls */
 
 static const uint8_t *lend_packed(const struct rows *rows)
@@ -206,17 +230,28 @@ bool table_passes(const struct rows *rows)
     return luspemaro_check_records(lent_records(), count, count, lent(NAMES), lent_length(NAMES));
 }
 
-/* What the records and the names were before the last answer. */
+/* What the records and the names were before the last call that may change them. */
 static uint8_t records_before[AREA_ROOM], names_before[AREA_ROOM];
+
+static void keep_rows(void)
+{
+    memcpy(records_before, lent(RECORD), lent_length(RECORD));
+    memcpy(names_before, lent(NAMES), lent_length(NAMES));
+}
 
 struct luspemaro_outcome answer_lent(size_t count, const void *line, size_t line_length, size_t room)
 {
     lend_bytes(LINE, line, line_length);
     lend(OUT, room);
-    memcpy(records_before, lent(RECORD), lent_length(RECORD));
-    memcpy(names_before, lent(NAMES), lent_length(NAMES));
+    keep_rows();
     return luspemaro_answer(lent_records(), lent_records_length(), count, lent(NAMES), lent_length(NAMES), lent(NAMESPACES),
                             lent_length(NAMESPACES), lent(LINE), line_length, lent(OUT), room);
+}
+
+unsigned compact_lent(size_t count)
+{
+    keep_rows();
+    return luspemaro_compact(lent_records(), lent_records_length(), count, lent(NAMES), lent_length(NAMES));
 }
 
 bool rows_untouched(void)
@@ -276,7 +311,8 @@ static void run(const struct test *test, const char *note)
 int main(void)
 {
     static const struct test *const of_tables[] = {table_tests, walk_tests};
-    static const struct test *const others[] = {answer_tests, record_tests, edit_tests, check_tests, line_tests, feeder_tests};
+    static const struct test *const others[] = {answer_tests, record_tests, edit_tests, compaction_tests,
+                                                check_tests,  line_tests,   feeder_tests};
     for (size_t group = 0; group < sizeof of_tables / sizeof of_tables[0]; group++) {
         form = PACKED;
         run(of_tables[group], ", packed");

@@ -16,8 +16,8 @@ struct test {
 };
 
 /* The tests of one topic, up to a row without a name. Those of tables and walks run once for each form of a table. */
-extern const struct test table_tests[], answer_tests[], walk_tests[], record_tests[], edit_tests[], check_tests[], line_tests[],
-    feeder_tests[];
+extern const struct test table_tests[], answer_tests[], walk_tests[], record_tests[], edit_tests[], compaction_tests[], check_tests[],
+    line_tests[], feeder_tests[];
 
 /* The form in which `struct rows` are lent. */
 enum form { PACKED, RECORDS };
@@ -66,10 +66,30 @@ size_t lend_records(const struct rows *rows);
 struct luspemaro_record *lent_records(void);
 size_t lent_records_length(void);
 
+/* A record in digits. */
+struct stored_row {
+    unsigned flags, start, len;
+};
+
+/* A table as it is lent, or as a call leaves it: records, of which count are rows, and names. A byte 0 of the names that a call leaves is
+ * written as a question mark. */
+struct store {
+    const char *names;
+    size_t count, records;
+    struct stored_row rows[5];
+};
+void lend_store(const struct store *store);
+
+/* Whether what is lent is this. */
+bool is_store(const struct store *store);
+
 /* The answer to a line over the first count of the lent records and the lent names, in a buffer of this length; and whether it left every
  * record, every byte of the names and what stands before both as they were. */
 struct luspemaro_outcome answer_lent(size_t count, const void *line, size_t line_length, size_t room);
 bool rows_untouched(void);
+
+/* The names of the first count of the lent records moved together, in the lent names; rows_untouched says of it too. */
+unsigned compact_lent(size_t count);
 
 /* Calls over lent memory, which ends at its last byte; those that take a table in either form, in the form that is set. */
 bool table_passes(const struct rows *rows);

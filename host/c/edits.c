@@ -6,43 +6,6 @@
 static const char OK[] = "a OK done\r\n";
 enum { OK_LENGTH = sizeof OK - 1, ROOM = 100 };
 
-/* A record in digits. */
-struct row {
-    unsigned flags, start, len;
-};
-
-/* A table as it is lent, or as an edit leaves it: records, of which count are rows, and names. */
-struct store {
-    const char *names;
-    size_t count, records;
-    struct row rows[5];
-};
-
-static void lend_store(const struct store *store)
-{
-    lend_bytes(NAMES, store->names, strlen(store->names));
-    lend(RECORD, store->records * sizeof(struct luspemaro_record));
-    for (size_t i = 0; i < store->records; i++) {
-        lent_records()[i].flags = (uint16_t)store->rows[i].flags;
-        lent_records()[i].start = (uint16_t)store->rows[i].start;
-        lent_records()[i].len = (uint8_t)store->rows[i].len;
-    }
-}
-
-/* Whether what is lent is this. A byte 0 of the names is written as a question mark. */
-static bool is_store(const struct store *store)
-{
-    for (size_t i = 0; i < store->records; i++) {
-        const struct luspemaro_record *record = lent_records() + i;
-        if (record->flags != store->rows[i].flags || record->start != store->rows[i].start || record->len != store->rows[i].len)
-            return false;
-    }
-    for (size_t i = 0; i < lent_length(NAMES); i++)
-        if (lent(NAMES)[i] != (store->names[i] == '?' ? 0 : (uint8_t)store->names[i]))
-            return false;
-    return lent_records_length() == store->records && front_untouched(RECORD) && front_untouched(NAMES);
-}
-
 static struct luspemaro_outcome edit(size_t count, const char *line, size_t room)
 {
     return answer_lent(count, line, strlen(line), room);

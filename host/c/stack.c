@@ -184,7 +184,7 @@ static struct luspemaro_line parts;
 static struct luspemaro_fed fed;
 static bool truth;
 static size_t place;
-static uint8_t option;
+static uint8_t option, number;
 
 static void call_check_records(void)
 {
@@ -210,6 +210,11 @@ static void call_answer(void)
 {
     outcome = luspemaro_answer(records, LUSPEMARO_MAX_ROWS, count, area, sizeof area, namespaces, namespaces_length, line, line_length,
                                out, sizeof out);
+}
+
+static void call_compact(void)
+{
+    number = luspemaro_compact(records, LUSPEMARO_MAX_ROWS, count, area, sizeof area);
 }
 
 static void call_collect(void)
@@ -268,10 +273,10 @@ struct entry {
     void (*call)(void);
 };
 
-static void measure_outcome(const struct entry *entry, const char *input, unsigned number)
+static void measure_outcome(const struct entry *entry, const char *input, unsigned given)
 {
     measure(entry->name, input, entry->stated, entry->call);
-    claim(outcome.number == number, entry->name, input);
+    claim(outcome.number == given, entry->name, input);
 }
 
 static void measure_answers(const struct entry *entry)
@@ -298,9 +303,9 @@ static void measure_answers(const struct entry *entry)
 }
 
 /* An edit over a full table, which it changes and which is filled again. */
-static void measure_edit(const struct entry *entry, const char *input, unsigned number, size_t given_back)
+static void measure_edit(const struct entry *entry, const char *input, unsigned given, size_t given_back)
 {
-    measure_outcome(entry, input, number);
+    measure_outcome(entry, input, given);
     claim(outcome.count == given_back, entry->name, "the count given back");
     fill_tables();
 }
@@ -329,6 +334,26 @@ static void measure_edits(const struct entry *entry)
     measure_edit(entry, "an unlawful name", LUSPEMARO_REFUSAL_UNLAWFUL_NAME, ALL);
     set_long_line("a SUBSCRIBE \"", 'n', "\"\r\n");
     measure_edit(entry, "the longest name", LUSPEMARO_REFUSAL_UNLAWFUL_NAME, ALL);
+}
+
+static void measure_compaction(const char *input, unsigned given)
+{
+    measure("compact", input, LUSPEMARO_STACK_COMPACT, call_compact);
+    claim(number == given, "compact", input);
+}
+
+static void measure_compactions(void)
+{
+    measure_compaction("a full area", LUSPEMARO_DONE);
+    for (unsigned row = 0; row < LUSPEMARO_MAX_ROWS / 2; row++)
+        records[row] = records[2 * row];
+    count = LUSPEMARO_MAX_ROWS / 2;
+    measure_compaction("256 names, each with as many free bytes before it", LUSPEMARO_DONE);
+    claim(records[count - 1].start == 0, "compact", "the first name at the front");
+    fill_tables();
+    records[LUSPEMARO_MAX_ROWS - 1].len++;
+    measure_compaction("an overlap", LUSPEMARO_REFUSAL_TABLE);
+    fill_tables();
 }
 
 static void measure_walks(const struct entry *entry)
@@ -385,6 +410,7 @@ int main(void)
     frames = run_on(4 * PAGE, call_nothing);
     measure_answers(&answer);
     measure_edits(&answer);
+    measure_compactions();
     for (size_t form = 0; form < 2; form++)
         measure_walks(&walks[form]);
     measure_lines();

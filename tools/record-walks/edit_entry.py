@@ -7,8 +7,9 @@ An entry is `fn NAME(records: &mut [Record], count: usize, ..) -> R` with the bo
     let done = CORE(&mut words, lent, count, ..);
     copy_back(records, done.from, done.to, &words);
     R { FIELD: done.FIELD, .. }    or    done.FIELD
-and the core, which is covered, has the same parameters after `&mut [u64]` and how many words are lent. What it promises of `wordCommand`
-the entry promises of `lentCommand`; where the core tells of the words at exit, the entry tells of the records.
+and the core, which is covered, has the same parameters after `&mut [u64]` and how many words are lent. What it promises of the act over
+words (`wordCommand`, `wordCompaction`) the entry promises of the act over records (`lentCommand`, `lentCompaction`); where the core tells
+of the words at exit, the entry tells of the records.
 """
 from entry import Lender, US, declared, nested, number_made, path
 from head import capital, dashed, proofs_of, specs_of, write
@@ -16,6 +17,19 @@ from walk import Walk
 
 VS = 'z3 .0'  # the words as the core left them
 RUN = '(r .from) (r .to)'  # those of them that became others, by its result
+
+
+class Act:
+    """What is done over a store: the type of what it comes to, its names over records and over words, and the law that the one comes to
+    what the other does, with the record that says so."""
+
+    def __init__(self, module, type_, lent, word, law, alike):
+        self.type, self.lent, self.word, self.law, self.alike = type_, lent, word, law, alike
+        self.uses = f'use Rattle.listing_rules.specs.{module}.{{{type_}}}\n'
+
+
+COMMAND = Act('Server', 'Commanded', 'lentCommand', 'wordCommand', 'answers', 'Answers')
+COMPACTION = Act('Compaction', 'Compaction', 'lentCompaction', 'wordCompaction', 'compacts', 'Compacts')
 
 
 class Done:
@@ -38,6 +52,17 @@ class Done:
             return f'h {path(self.field(self.gives))}'
         return f'LL.owes R.the-type R′.the-laws (given r) {nested(["h " + path(self.field(g)) for g in self.gives])}'
 
+    def given_is(self, result):
+        """That what is returned has its machine value."""
+        told = 'LL.owed D.the-type D′.the-laws r (v ∷ []) is'
+        if result.width:
+            return f'given-is r v is = (refl, {told} {path(self.field(self.gives))} .1)\n'
+        return f'''given-is r v is = subst (λ (vs : List Val). Is R.the-row (given r) vs) (R′.lowers .val-is (given r) _ holds) holds
+  where
+    holds : Is R.the-row (given r) (LL.vals R.the-type R′.the-laws (given r))
+    holds = let h = {told} in {self.shown()}
+'''
+
     def value(self, w, local):
         if isinstance(self.gives, str):
             return 'of-opd ! ' + w.ldf(local, self.field(self.gives))
@@ -48,23 +73,24 @@ class Done:
 
 
 class EditEntry(Lender):
-    """As an entry that reads; a clause says of the command `c` what the core promises of the command over words and the entry of the
-    one over records, and is moved from `e` by `a`, that the one comes to what the other does."""
+    """As an entry that reads; a clause says of `c`, what an act comes to, what the core promises of the act over words and the entry of
+    the one over records, and is moved from `e` by `a`, that the one comes to what the other does."""
 
-    def __init__(self, crate, fn, core, rest, done, result, clauses, uses):
+    def __init__(self, crate, fn, core, rest, act, done, result, clauses, uses):
         super().__init__(crate, fn, core, [('records', 'no_words'), ('records', 'copy_in'), core, ('records', 'copy_back')],
                          [('records', 'mut records'), ('count', 'usize')] + rest, result, clauses, uses, 'own_given')
-        self.result_of_core = done
+        self.act, self.result_of_core = act, done
+        self.value = result.lowered('(given r)')  # the machine value of what is returned
         # the locals: the result, the parameters, the words, how many are lent, the core's result, and what the compiler adds for each operand
         self.lent, self.done, self.made, self.copying, self.lending = (self.p + k for k in (2, 3, 4, 5, 10))
         self.copied_back = self.lending + 2 + 2 * len(self.bytes)
         self.locals = self.copied_back + 5
         # texts
         names = ' '.join(p.name for p in self.params[1:])
-        self.over_records = f'lentCommand records {names}'
-        self.over_words = f'wordCommand ({US}) n {names}'
+        self.over_records = f'{act.lent} records {names}'
+        self.over_words = f'{act.word} ({US}) n {names}'
         self.last = ''.join(f' (z3 {path(m.place + 1)})' for m in self.bytes)
-        self.answers = (f'(answers records xs ({US}) ({VS}) n {RUN} (is0 .1 .0 .1) (is2 .1 .0 .1) (is4 .1 .0 .1) e1 {names}'
+        self.answers = (f'({act.law} records xs ({US}) ({VS}) n {RUN} (is0 .1 .0 .1) (is2 .1 .0 .1) (is4 .1 .0 .1) e1 {names}'
                         ' (s-words .0) (s-words .1) (z5 .0) e5)')
         self.given = ''.join(f' s-{c.name}' for c in clauses) + self.lengths
 
@@ -150,7 +176,7 @@ class EditEntry(Lender):
         """The entry's result, out of the fields of the core's."""
         r = self.result
         w.set(0, self.result_of_core.value(w, self.done), f'({r.lawful} .typed (given r) _ (given-is r v3 is3) .0)')
-        w.step(f'owned ! {r.row} (Is {r.row}) (LL.makes R.the-type R′.the-plain 𝓤 H A) (given r) _ (given-is r v3 is3) $', [], ['own_given'])
+        w.step(f'owned ! {r.row} (Is {r.row}) ({r.makes}) (given r) _ (given-is r v3 is3) $', [], ['own_given'])
 
     def walk(self):
         w = Walk(self.locals, ['tok', 'own'])
@@ -158,7 +184,7 @@ class EditEntry(Lender):
         for part in (self.copies, self.calls_core, self.copies_back, self.gives, self.leaves):
             part(w)
         w.keep(*self.had)
-        w.say(f'by ! (exits (given r) (R′.lowered (given r)) (z5 .0){self.last} ({self.over_words}) {self.answers}{self.given})' + ')' * (w.open + self.locals))
+        w.say(f'by ! (exits (given r) ({self.value}) (z5 .0){self.last} ({self.over_words}) {self.answers}{self.given})' + ')' * (w.open + self.locals))
         return w.text(8)
 
     # ---- The file.
@@ -177,16 +203,12 @@ unit-typed v e = subst (λ (u : Val). Holds (hasTy tyUnit u) × WT u) (sym e) (t
 abbrev given : {core} → {self.result.denot}
 given r = {done.given()}
 
-given-is : (r : {core}) (v : Val) → Is D.the-row r (v ∷ []) → Is R.the-row (given r) (R′.lowered (given r) ∷ [])
-given-is r v is = subst (λ (vs : List Val). Is R.the-row (given r) vs) (R′.lowers .val-is (given r) _ holds) holds
-  where
-    holds : Is R.the-row (given r) (LL.vals R.the-type R′.the-laws (given r))
-    holds = let h = LL.owed D.the-type D′.the-laws r (v ∷ []) is in {done.shown()}
-
+given-is : (r : {core}) (v : Val) → Is D.the-row r (v ∷ []) → Is {self.result.row} (given r) ({self.value} ∷ [])
+{done.given_is(self.result)}
 {fits}'''
 
     def facts(self):
-        kept = '\n'.join(f'''  abbrev Says-{c.name} : Commanded → {self.result.denot} → {'List ℕ → ' * len(self.bytes)}Type 0
+        kept = '\n'.join(f'''  abbrev Says-{c.name} : {self.act.type} → {self.result.denot} → {'List ℕ → ' * len(self.bytes)}Type 0
   Says-{c.name} c r{self.primes} = {c.says}
 ''' for c in self.clauses)
         moved = '\n'.join(f'''    moved-{c.name} : Says-{c.name} c r{self.primes} → Says-{c.name} d r{self.primes}
@@ -196,14 +218,14 @@ given-is r v is = subst (λ (vs : List Val). Is R.the-row (given r) vs) (R′.lo
   abbrev shown : GName → RefT (List Record)
   shown δ = {self.records.ref.replace(self.records.ghost, 'δ')}
 
-  -- what is promised of a command, and that it is so of one that comes to the same
+  -- what is promised of what comes of it, and that it is so of what is the same
 {kept}
-  module _ (c d : Commanded) (records′ : List Record) (a : Answers c d records′) (r : {self.result.denot}){self.lists} where
+  module _ (c d : {self.act.type}) (records′ : List Record) (a : {self.act.alike} c d records′) (r : {self.result.denot}){self.lists} where
 {moved}'''
 
     def told_type(self):
         premises = ''.join(f'Says-{c.name} c r{self.primes} → ' for c in self.clauses) + ''.join(f'length {m.name}′ ≡ length {m.name} → ' for m in self.muts)
-        return f'(r : {self.result.denot}) (v : Val) (records′ : List Record){self.lists} (c : Commanded) → Answers c ({self.over_records}) records′ → {premises}'
+        return f'(r : {self.result.denot}) (v : Val) (records′ : List Record){self.lists} (c : {self.act.type}) → {self.act.alike} c ({self.over_records}) records′ → {premises}'
 
     def told_names(self):
         return f'r v records′{self.primes} c a{self.given}'
@@ -227,19 +249,18 @@ given-is r v is = subst (λ (vs : List Val). Is R.the-row (given r) vs) (R′.lo
     def text(self):
         doc = f'''-- `{self.crate}::{self.fn.replace('.', '::')}` meets its contract: a walk of its MIR, by hand. The records are lent as `&` to `copy_in`, and come back; the local array is lent to each callee
 -- for a lifetime of the call, and comes back; `{self.core[1].split('.')[-1]}` has the bytes for good, and `copy_back` the records. All that the proof knows of the callees is that they
--- meet their contracts; that these give what is promised is `answers` of StoreLaws.'''
+-- meet their contracts; that these give what is promised is `{self.act.law}` of StoreLaws.'''
         specs, proofs = specs_of('records', self.crate), proofs_of('records', self.crate)
         return self.file(doc, f'''use denote.Plain.{{Nothing}}
-use Rattle.listing_rules.specs.Server.{{Commanded}}
-use {specs}.declared.Record.{{Record}}
+{self.act.uses}use {specs}.declared.Record.{{Record}}
 use {specs}.Words.{{recordOf, meant}}
-use {specs}.Stores.{{lentCommand, wordCommand, Between}}
+use {specs}.Stores.{{{self.act.lent}, {self.act.word}, Between}}
 use {proofs}.Relend.{{SharedAgain, shares-again, again-back}}
-use {proofs}.StoreLaws.{{Copied, CopiedBack, Answers, answers}}
+use {proofs}.StoreLaws.{{Copied, CopiedBack, {self.act.alike}, {self.act.law}}}
 use {proofs}.Clauses.{{says-each}}
 {self.result_of_core.result.uses}''')
 
 
-def edit_entry(crate, fn, core, rest, done, result, clauses, uses):
+def edit_entry(crate, fn, core, rest, act, done, result, clauses, uses):
     """Writes the walk of an entry that writes records; `uses` are the imports that its clauses need."""
-    write(crate, fn, EditEntry(crate, fn, core, rest, done, result, clauses, uses).text())
+    write(crate, fn, EditEntry(crate, fn, core, rest, act, done, result, clauses, uses).text())

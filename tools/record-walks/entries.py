@@ -1,9 +1,10 @@
 """Writes the walk of each entry that takes records: what it is called, its core, its parameters, and what it promises."""
-from edit_entry import Done, edit_entry
-from entry import Clause, declared, entry, truth
+from edit_entry import COMMAND, COMPACTION, Done, edit_entry
+from entry import Clause, declared, entry, number, truth
 from head import specs_of
 
 TABLE = [('area', 'shr')]
+MOVING = [('area', 'mut')]
 EDIT = [('area', 'mut'), ('namespaces', 'shr'), ('line', 'shr'), ('out', 'mut')]
 WALK = [('area', 'shr'), ('option', 'u8'), ('scratch', 'mut'), ('found', 'mut'), ('pending', 'mut')]
 
@@ -30,16 +31,25 @@ def collector(own):
             f'use {specs_of("collector", own)}.Result.{{collectedIs, collectedOf, scratchOf, foundOf, pendingOf, WholeWalk, OwesDemand3}}\n')
 
 
+def compacting(crate, fn):
+    """The walk of an entry that moves names together."""
+    edit_entry(crate, fn, ('compaction', 'compact_words'), MOVING, COMPACTION,
+               Done('compaction', 'Compacted', crate, ['number', 'from', 'to'], 'number'), number('u8'),
+               [Clause('result', 'r ≡ c .number', 'e ∙ a .number'), Clause('area', 'area′ ≡ c .store .area', 'e ∙ a .area')], '')
+
+
 # ---- The entries of the crates.
 
 entry('mailbox_table', 'check_records', ('mailbox_table', 'check_words'), TABLE, truth(), passing(), 'use Rattle.listing_rules.specs.Table.{passes}\n')
 
-edit_entry('server', 'answer', ('server', 'answer_words'), EDIT, Done('server', 'Stored', 'server', ['written', 'count', 'from', 'to'], ['written', 'count']),
+edit_entry('server', 'answer', ('server', 'answer_words'), EDIT, COMMAND, Done('server', 'Stored', 'server', ['written', 'count', 'from', 'to'], ['written', 'count']),
            declared('server', 'Answered', 'server', enum=False),
            [Clause('result', '(r .written ≡ writtenIs (c .reply)) × (r .count ≡ c .store .count)', '(e .0 ∙ ap writtenIs (a .reply), e .1 ∙ a .count)'),
             Clause('bytes', 'out′ ≡ bufferAfter out (c .reply)', 'e ∙ ap (bufferAfter out) (a .reply)'),
             Clause('area', 'area′ ≡ c .store .area', 'e ∙ a .area')],
            'use Rattle.listing_rules.specs.Server.{bufferAfter}\nuse Rattle.octets.specs.Written.{writtenIs}\n')
+
+compacting('compaction', 'compact')
 
 entry('collector', 'collect', ('collector', 'collect_words'), WALK, declared('collector', 'Collected', 'collector', enum=True),
       collected(f'r ≡ collectedOf t {LENT}', f'e ∙ ap collectedIs ({COLLECTED_ALIKE})', 'r'), collector('collector'))
@@ -51,11 +61,13 @@ OUTCOMES = 'use ' + specs_of('exports', 'exports') + '.Outcomes.'
 
 entry('exports', 'luspemaro_check_records', ('mailbox_table', 'check_words'), TABLE, truth(), passing(), 'use Rattle.listing_rules.specs.Table.{passes}\n')
 
-edit_entry('exports', 'luspemaro_answer', ('exports', 'answer_words'), EDIT, Done('exports', 'outcomes.Done', 'exports', ['outcome', 'from', 'to'], 'outcome'), OUTCOME,
+edit_entry('exports', 'luspemaro_answer', ('exports', 'answer_words'), EDIT, COMMAND, Done('exports', 'outcomes.Done', 'exports', ['outcome', 'from', 'to'], 'outcome'), OUTCOME,
            [Clause('result', 'r ≡ outcomeOf (c .reply) (c .store .count)', 'e ∙ (λ i. outcomeOf (a .reply i) (a .count i))'),
             Clause('bytes', 'out′ ≡ bufferAfter out (c .reply)', 'e ∙ ap (bufferAfter out) (a .reply)'),
             Clause('area', 'area′ ≡ c .store .area', 'e ∙ a .area')],
            'use Rattle.listing_rules.specs.Server.{bufferAfter}\n' + OUTCOMES + '{outcomeOf}\n')
+
+compacting('exports', 'luspemaro_compact')
 
 entry('exports', 'luspemaro_collect', ('exports', 'collect_words'), WALK, OUTCOME,
       collected(f'r ≡ walkOutcome (collected t {LENT})', f'e ∙ ap walkOutcome ({COLLECTED_ALIKE})', f'(collectedOf t {LENT})'),

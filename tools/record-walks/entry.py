@@ -107,10 +107,15 @@ class Param:
 
 
 class Result:
-    """What a function returns: the type in the definitions, its row, and that a value of it has the type of the machine."""
+    """What a function returns: the type in the definitions, its row, that a value of it has the type of the machine, how one is had out of
+    nothing; and, of a number, its width."""
 
-    def __init__(self, denot, row, lawful, uses=''):
-        self.denot, self.row, self.lawful, self.uses = denot, row, lawful, uses
+    def __init__(self, denot, row, lawful, uses='', makes='', width=''):
+        self.denot, self.row, self.lawful, self.uses, self.makes, self.width = denot, row, lawful, uses, makes, width
+
+    def lowered(self, x):
+        """The machine value of x."""
+        return f'vint {self.width} {x}' if self.width else f'R′.lowered {x}'
 
 
 def truth():
@@ -118,7 +123,8 @@ def truth():
 
 
 def number(kind):
-    return Result('ℕ', kind, f'uint-lawful 𝓤 H A W {WIDTHS[kind]}')
+    width = WIDTHS[kind]
+    return Result('ℕ', kind, f'uint-lawful 𝓤 H A W {width}', makes=f'uint-makes 𝓤 H A W {width}', width=width)
 
 
 def declared(crate, name, own, enum, short='R'):
@@ -128,7 +134,7 @@ def declared(crate, name, own, enum, short='R'):
             f'use {proofs_of(crate, own)}.{name} as {short}\nuse {proofs_of(crate, own)}.{name}.Laws as {short}′\n')
     if enum:
         return Result(last, f'{short}.the-row', f'EL.lawful {short}.the-type {short}′.the-laws 𝓤 H A W tt', uses + 'use denote.Enum.Laws as EL\n')
-    return Result(last, f'{short}.the-row', f'LL.lawful {short}.the-type {short}′.the-laws 𝓤 H A W', uses)
+    return Result(last, f'{short}.the-row', f'LL.lawful {short}.the-type {short}′.the-laws 𝓤 H A W', uses, f'LL.makes {short}.the-type {short}′.the-plain 𝓤 H A')
 
 
 class Clause:

@@ -5,6 +5,7 @@
 pub mod feeding;
 pub mod outcomes;
 
+use compaction::compact_words;
 use list_line::Attributes;
 use list_line::Criteria;
 use mailbox_table::check_words;
@@ -32,7 +33,7 @@ ghost use Rattle.listing_rules.specs.Server.{bufferAfter};
 ghost use Rattle.listing_rules.specs.Walk.{collected};
 ghost use Rattle.records.specs.Words.{recordOf, meant};
 ghost use Rattle.records.specs.Lent.{lentTable, wordTable};
-ghost use Rattle.records.specs.Stores.{lentCommand, wordCommand, Between};
+ghost use Rattle.records.specs.Stores.{lentCommand, wordCommand, lentCompaction, Between};
 ghost use Rattle.list_line.specs.Members.{members};
 ghost use Rattle.collector.specs.Result.{collectedOf, scratchOf, foundOf, pendingOf, OwesDemand3};
 ghost use Rattle.exports.specs.Outcomes.{outcomeOf, Into, walkOutcome, partsOf};
@@ -122,6 +123,20 @@ fn answer_words(
 {
     let stored = server::answer_words(words, lent, count, area, namespaces, line, out);
     command_done(stored)
+}
+
+// Names moved together: 0, or 1 where the table does not pass.
+#[no_mangle]
+pub extern "C" fn luspemaro_compact(records: &mut [Record], count: usize, area: &mut [u8]) -> u8
+    ensures result { λ r. ⌜ r ≡ lentCompaction (now (records .entry)) count (now (area .entry)) .number ⌝ }
+    ensures area { λ _. ⌜ now (area .exit) ≡ lentCompaction (now (records .entry)) count (now (area .entry)) .store .area ⌝ }
+    ensures records { λ _. ⌜ map meant (now (records .exit)) ≡ lentCompaction (now (records .entry)) count (now (area .entry)) .store .records ⌝ }
+{
+    let mut words = no_words();
+    let lent = copy_in(records, records.len(), &mut words);
+    let done = compact_words(&mut words, lent, count, area);
+    copy_back(records, done.from, done.to, &words);
+    done.number
 }
 
 // The whole walk: finds at the front of `found`, the names that were asked below at the front of `pending`.

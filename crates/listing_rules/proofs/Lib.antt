@@ -52,5 +52,6 @@ pub mod SpareLaws
 pub mod UsedBytes
 pub mod CompactionLaws
 pub mod CompactionCommands
+pub mod CompactionSpare
 pub mod WalkReads
 pub mod LineLength

@@ -31,7 +31,7 @@ use Rattle.listing_rules.proofs.SubscriptionLaws.{roomForRow, insertedA
 use Rattle.listing_rules.proofs.CommandLaws.{unsound-refused}
 
 -- a store with more spare records at its end; what an edit, and a command, comes to with them
-abbrev withSpare : Store → List Record → Store
+abbrev pub withSpare : Store → List Record → Store
 withSpare s z = record { records = s .records ++ z; count = s .count; area = s .area }
 
 abbrev editedWith : List Record → Edited → Edited
@@ -69,10 +69,10 @@ before-fewer (r ∷ rs) n h = go (isLt (byteOrder (r .name) n)) refl (λ q. befo
     go false e f = omega (arith, before-most rs n)
 
 module _ (s : Store) (z : List Record) (full : length (s .records) ≡ 512) (few : s .count ≤ 512) where
-  inside : s .count ≤ length (s .records)
+  pub inside : s .count ≤ length (s .records)
   inside = omega (arith, full, few)
 
-  held-spare : held (withSpare s z) ≡ held s
+  pub held-spare : held (withSpare s z) ≡ held s
   unfolding held
   held-spare = take-append-le (s .count) (s .records) z inside
 
@@ -80,7 +80,7 @@ module _ (s : Store) (z : List Record) (full : length (s .records) ≡ 512) (few
   unfolding storeRows
   rows-spare = ap (recordRows (s .area)) held-spare
 
-  table-spare : storeTable (withSpare s z) ≡ storeTable s
+  pub table-spare : storeTable (withSpare s z) ≡ storeTable s
   unfolding storeTable recordTable
   table-spare =
       let more : leb (s .count) (length (s .records ++ z)) ≡ true = le-leb (s .count) (length (s .records ++ z)) (omega (arith, inside, length-append (s .records) z)) in
@@ -245,7 +245,7 @@ concluded-spare s z room (stored t) (answered a) = go (leb (length a) room)
     go false = refl
 
 -- a count above 512: the table does not pass
-too-many : (s : Store) → 512 < s .count → passes (storeTable s) ≡ false
+pub too-many : (s : Store) → 512 < s .count → passes (storeTable s) ≡ false
 too-many s h = go (passes (storeTable s)) refl
   where
     go : (b : Bool) → passes (storeTable s) ≡ b → b ≡ false

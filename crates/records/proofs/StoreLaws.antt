@@ -1,5 +1,5 @@
--- A command over the words of records is the command over the records: the words are copied in, and those that became others are copied back.
--- Rests on SpareLaws of the definitions (records after the first 512 do not matter), and on the library.
+-- A command over the words of records is the command over the records, and so are names moved together: the words are copied in, and those that
+-- became others are copied back. Rests on SpareLaws and CompactionSpare of the definitions (records after the first 512 do not matter), and on the library.
 use mathlib.Core.Path.{_≡_, refl, sym, ap, subst, _∙_}
 use mathlib.Core.List.{List, [], _∷_, _++_, map}
 use Prim.Native.Nat.{ℕ, zero, suc, _+_, _-_, _≤_, min}
@@ -9,10 +9,12 @@ use lib.ListN.{length, take, drop, length-drop, length-map, take-append-drop}
 use lib.Seq.{length-take-le, take-take, take-add, drop-at, drop-drop, drop-paste, take-paste, paste, paste-zero}
 use Rattle.listing_rules.specs.Records.{Record as Meant}
 use Rattle.listing_rules.specs.Server.{Commanded}
+use Rattle.listing_rules.specs.Compaction.{Compaction}
 use Rattle.listing_rules.proofs.SpareLaws.{SameFront, same-front}
+use Rattle.listing_rules.proofs.CompactionSpare.{SameCompaction, same-compaction}
 use Rattle.records.specs.declared.Record.{Record}
 use Rattle.records.specs.Words.{wordOf, meant, recordOf, structOf}
-use Rattle.records.specs.Stores.{lentStore, wordStore, lentCommand, wordCommand, Between}
+use Rattle.records.specs.Stores.{lentStore, wordStore, lentCommand, wordCommand, lentCompaction, wordCompaction, Between}
 use Rattle.records.proofs.WordsAlike.{map-take}
 
 map-drop : {A B : Type 0} (f : A → B) (n : ℕ) (l : List A) → map f (drop n l) ≡ drop n (map f l)
@@ -67,6 +69,12 @@ module _ {A : Type 0} (at : ℕ) (s : List A) (k n : ℕ) (inside : at + k ≤ n
 pub record Answers (c d : Commanded) (rs : List Record) : Type 0 where
   pub reply : c .reply ≡ d .reply
   pub count : c .store .count ≡ d .store .count
+  pub area : c .store .area ≡ d .store .area
+  pub records : map meant rs ≡ d .store .records
+
+-- the same of names moved together
+pub record Compacts (c d : Compaction) (rs : List Record) : Type 0 where
+  pub number : c .number ≡ d .number
   pub area : c .store .area ≡ d .store .area
   pub records : map meant rs ≡ d .store .records
 
@@ -140,4 +148,22 @@ module _ (rs : List Record) (xs us vs : List ℕ) (lent start to : ℕ) (lx : le
           count = sym (front-command .count);
           area = sym (front-command .area);
           records = back-are b rs′ back ∙ ap (λ (ms : List Meant). ms ++ drop lent (map meant rs)) e ∙ sym (front-command .records);
+        }
+
+  module _ (count : ℕ) (area : List ℕ) where
+    -- names moved together over the words, and over the first records
+    front-compaction : SameCompaction (lentStore rs count area) (wordStore us lent count area) (drop lent (map meant rs))
+    front-compaction =
+        subst
+        (λ (ms : List Meant). SameCompaction (lentStore rs count area) (record { records = ms; count = count; area = area }) (drop lent (map meant rs)))
+        (sym (c .2 ∙ map-take meant lent rs))
+        (same-compaction (map meant rs) lent (short ∙ ap (λ (k : ℕ). min k 512) (sym (length-map rs meant))) count area)
+
+    pub compacts : map recordOf (take lent vs) ≡ wordCompaction us lent count area .store .records → Between us vs lent start to
+        → (rs′ : List Record) → CopiedBack rs vs start to rs′ → Compacts (wordCompaction us lent count area) (lentCompaction rs count area) rs′
+    compacts e b rs′ back =
+        record {
+          number = sym (front-compaction .number);
+          area = sym (front-compaction .area);
+          records = back-are b rs′ back ∙ ap (λ (ms : List Meant). ms ++ drop lent (map meant rs)) e ∙ sym (front-compaction .records);
         }

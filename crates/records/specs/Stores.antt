@@ -1,4 +1,4 @@
--- One command over lent records, and over the words that stand for them.
+-- One command, and names moved together, over lent records and over the words that stand for them.
 use mathlib.Core.Path.{_≡_}
 use mathlib.Core.List.{List, map}
 use Prim.Native.Nat.{ℕ, _-_, _≤_}
@@ -6,6 +6,7 @@ use lib.ListN.{length, take, drop}
 use lib.Seq.{paste}
 use Rattle.listing_rules.specs.Server.{Commanded, commanded}
 use Rattle.listing_rules.specs.Subscriptions.{Store}
+use Rattle.listing_rules.specs.Compaction.{Compaction, compaction}
 use Rattle.records.specs.declared.Record.{Record}
 use Rattle.records.specs.Words.{meant, recordOf}
 
@@ -22,6 +23,13 @@ lentCommand rs count area spaces l out = commanded (lentStore rs count area) spa
 
 abbrev pub wordCommand : List ℕ → ℕ → ℕ → List ℕ → List ℕ → List ℕ → List ℕ → Commanded
 wordCommand ws lent count area spaces l out = commanded (wordStore ws lent count area) spaces l out
+
+-- names moved together over them (W7)
+abbrev pub lentCompaction : List Record → ℕ → List ℕ → Compaction
+lentCompaction rs count area = compaction (lentStore rs count area)
+
+abbrev pub wordCompaction : List ℕ → ℕ → ℕ → List ℕ → Compaction
+wordCompaction ws lent count area = compaction (wordStore ws lent count area)
 
 -- of the words ws, those from `from` up to `to` became others, all of them lent
 pub record Between (ws vs : List ℕ) (lent from to : ℕ) : Type 0 where

@@ -3,7 +3,7 @@ pub mod PlanLaws
 mod PlaceLaws
 mod InferiorLaws
 mod FlagLaws
-mod MapLaws
+pub mod MapLaws
 mod RunLaws
 mod DecideLaws
 mod ShiftLaws

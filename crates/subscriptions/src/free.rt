@@ -1,4 +1,4 @@
-// The lowest free run of name bytes: a map of the area, one mark a byte, then one pass over the map.
+// The lowest free run of name bytes: a map of the area, one mark a byte, then one pass over the map. `compaction` uses the map too.
 use mailbox_table::rows::Row;
 use octets::least;
 ghost use mathlib.Core.Path.{_≡_};
@@ -30,14 +30,14 @@ pub(crate) fn lowest_run(area: &[u8], words: &[u64], len: usize) -> Run
 }
 
 // A map of free bytes only.
-fn all_free() -> [bool; MAX_BYTES]
+pub fn all_free() -> [bool; MAX_BYTES]
     ensures { λ r. ⌜ r ≡ replicate 32768 true ⌝ }
 {
     [true; MAX_BYTES]
 }
 
 // The bytes of every row's name are no longer free.
-fn unmark_names(marks: &mut [bool], words: &[u64])
+pub fn unmark_names(marks: &mut [bool], words: &[u64])
     ensures { λ _. ⌜ Unmarks (usedBy (now (words .entry))) (now (marks .entry)) (now (marks .exit)) ⌝ }
 {
     let mut i = 0;

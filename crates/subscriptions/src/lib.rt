@@ -4,7 +4,7 @@
 // byte changes. `carry_out` does it on the words and on the area of name bytes, and tells which words changed or moved: only those
 // are to be copied back. A word that is put in tells nothing of what its name shares with the name before: an index is made anew.
 mod apply;
-mod free;
+pub mod free;
 mod inferiors;
 mod order;
 mod shift;

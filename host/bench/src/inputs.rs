@@ -19,6 +19,8 @@ pub enum Call {
     /// A walk with this option byte.
     Walk(u8),
     Edit(Edit),
+    /// Names moved together.
+    Compaction,
 }
 
 /// An edit of the rows.
@@ -79,7 +81,7 @@ pub struct Case {
     pub call: Call,
 }
 
-pub const CASES: [Case; 16] = [
+pub const CASES: [Case; 17] = [
     packed_case("check of the table", Call::Check),
     text_case(r#"`LIST "" "*"`"#, r#"a LIST "" "*""#),
     text_case(r#"`LIST "" "%"`"#, r#"a LIST "" "%""#),
@@ -124,6 +126,7 @@ pub const CASES: [Case; 16] = [
     ),
     edit_case("`SUBSCRIBE`, refused with 14", refused_edit(r#"a SUBSCRIBE "Customer 00//x""#, 14)),
     edit_case("`SUBSCRIBE`, refused with 15", refused_edit(r#"a SUBSCRIBE "Customer 00/x""#, 15)),
+    records_case("compaction", Table::Tree, Call::Compaction),
 ];
 
 const fn packed_case(title: &'static str, call: Call) -> Case {
@@ -154,19 +157,21 @@ impl Case {
     /// Commands are answered over records alone.
     pub fn beside(&self) -> Option<Beside> {
         match (self.form, self.call) {
-            (Form::Records, Call::Edit(_)) => Some(Beside::Listing),
+            (Form::Records, Call::Edit(_) | Call::Compaction) => Some(Beside::Listing),
             (Form::Records, Call::Check | Call::Walk(_)) => Some(Beside::Packed),
             _ => None,
         }
     }
 
     /// The records of so many rows. For an insertion the last of them is spare; edits have free bytes
-    /// for a name after all names.
+    /// for a name after all names. For a compaction the names have holes of many lengths before them.
     pub fn layout(&self, rows: usize) -> Layout {
-        let Call::Edit(edit) = self.call else {
-            return self.table.layout(rows);
+        let edit = match self.call {
+            Call::Edit(edit) => edit,
+            Call::Compaction => return self.table.layout(rows, |place| HOLES[place % HOLES.len()]),
+            _ => return self.table.layout(rows, |_| 1),
         };
-        let mut layout = self.table.layout(rows - usize::from(edit.has_spare));
+        let mut layout = self.table.layout(rows - usize::from(edit.has_spare), |_| 1);
         layout.records.resize(rows, Record::default());
         layout.area.resize(layout.area.len() + MAX_NAME, UNUSED);
         layout
@@ -196,6 +201,8 @@ impl Command {
 const STRIDE: usize = 37;
 /// What lies before each name and is no name's.
 const UNUSED: u8 = 0;
+/// Lengths of holes as removals leave them, in turn: of no name, of short ones and of a long one.
+const HOLES: [usize; 8] = [0, 23, 0, 0, 11, 0, 40, 0];
 
 impl Table {
     /// The packed form.
@@ -203,15 +210,16 @@ impl Table {
         table_bytes(&self.rows(rows))
     }
 
-    /// The same rows as records: the names lie in another order, with an unused byte before each.
-    fn layout(self, rows: usize) -> Layout {
+    /// The same rows as records: the names lie in another order, with unused bytes before each, so many
+    /// as `unused` says of its place in that order.
+    fn layout(self, rows: usize, unused: impl Fn(usize) -> usize) -> Layout {
         let rows = self.rows(rows);
         let mut records = vec![Record::default(); rows.len()];
         let mut area = Vec::new();
         for place in 0..rows.len() {
             let at = place * STRIDE % rows.len();
             let NewRow { flags, name } = &rows[at];
-            area.push(UNUSED);
+            area.resize(area.len() + unused(place), UNUSED);
             let (start, len) = (area.len() as u16, name.len() as u8);
             records[at] = Record { flags: flags.bits(), start, len };
             area.extend_from_slice(name);

@@ -3,7 +3,9 @@
 use std::array;
 use std::hint::black_box;
 
-use compare::library::both::{Lent, Mailboxes, ANSWER, CHECK_TABLE, COLLECT, PROVED, SECOND};
+use compare::library::both::{
+    Lent, Mailboxes, ANSWER, CHECK_TABLE, COLLECT, COMPACT, PROVED, SECOND,
+};
 
 use crate::clock::seconds_of_one;
 use crate::floor;
@@ -59,6 +61,8 @@ struct Buffers {
 struct Inputs {
     packed: Vec<u8>,
     records: Mailboxes,
+    /// The same before the first call.
+    lent: Mailboxes,
     form: Form,
     namespaces: Vec<u8>,
     line: Vec<u8>,
@@ -120,11 +124,13 @@ impl Inputs {
         let (line, undo) = match case.call {
             Call::Command(command) => (command.line(), None),
             Call::Edit(Edit { line, undo, .. }) => (line_of(line), undo.map(line_of)),
-            Call::Check | Call::Walk(_) => (Vec::new(), None),
+            Call::Check | Call::Walk(_) | Call::Compaction => (Vec::new(), None),
         };
+        let records = Mailboxes::new(case.layout(rows));
         Inputs {
             packed: case.table.bytes(rows),
-            records: Mailboxes::new(case.layout(rows)),
+            lent: records.clone(),
+            records,
             form: case.form,
             namespaces: namespaces(),
             line,
@@ -144,7 +150,7 @@ impl Inputs {
     }
 
     /// What both libraries give, and the proved one over the packed form, if it is the same and refused
-    /// only as it is meant to be. After an edit, and after what undoes it, both have the same rows.
+    /// only as it is meant to be. After a call, and after what undoes it, both have the same rows.
     fn verified(&mut self) -> Result<Done, String> {
         let [proved, second] = [PROVED, SECOND].map(|who| self.done(who));
         self.verify_rows()?;
@@ -194,13 +200,13 @@ impl Inputs {
             (BLOCK_FLOOR, _) => {
                 seconds_of_one(calls, || self.run_floor(floor::by_blocks, done, lent))
             }
-            (_, Call::Edit(_)) => self.seconds_of_edits(who, calls, lent),
+            (_, Call::Edit(_) | Call::Compaction) => self.seconds_of_changes(who, calls, lent),
             _ => seconds_of_one(calls, || _ = black_box(self.run(black_box(who), lent))),
         }
     }
 
     /// Each call is timed by itself, and what undoes it is not; the listing beside it is timed so too.
-    fn seconds_of_edits(&mut self, who: usize, calls: usize, lent: &mut Buffers) -> f64 {
+    fn seconds_of_changes(&mut self, who: usize, calls: usize, lent: &mut Buffers) -> f64 {
         let mut seconds = 0.0;
         for _ in 0..calls {
             seconds += seconds_of_one(1, || _ = black_box(self.run(black_box(who), lent)));
@@ -214,11 +220,12 @@ impl Inputs {
     fn run(&mut self, who: usize, lent: &mut Buffers) -> Result<(usize, usize), u8> {
         let Buffers { out, found, pending } = lent;
         let library = if who == SECOND { SECOND } else { PROVED };
+        let is_listing = who == BESIDE && self.beside == Some(Beside::Listing);
         match self.call {
             Call::Check => CHECK_TABLE[library](self.table(who)).then_some((0, 0)).ok_or(1),
             Call::Walk(option) => COLLECT[library](self.table(who), option, out, found, pending),
-            Call::Command(_) | Call::Edit(_) => {
-                let is_listing = who == BESIDE && self.beside == Some(Beside::Listing);
+            Call::Compaction if !is_listing => COMPACT[library](&mut self.records).map(|()| (0, 0)),
+            Call::Command(_) | Call::Edit(_) | Call::Compaction => {
                 let line = if is_listing { &self.listing } else { &self.line };
                 let answered = ANSWER[library](&mut self.records, &self.namespaces, line, out);
                 answered.map(|(length, count)| (count, length))
@@ -226,8 +233,12 @@ impl Inputs {
         }
     }
 
-    /// Makes the rows again what they were before an edit.
+    /// Makes the rows again what they were before a call that changes them: an edit is undone by another,
+    /// a compaction by a copy of what was lent.
     fn undo(&mut self, who: usize) {
+        if matches!(self.call, Call::Compaction) {
+            self.records.restore(who, &self.lent);
+        }
         if let Some(undo) = &self.undo {
             let undone =
                 ANSWER[who](&mut self.records, &self.namespaces, undo, &mut [0; UNDO_ROOM]);
@@ -235,14 +246,15 @@ impl Inputs {
         }
     }
 
-    /// Of records too it is the packed table that is read.
+    /// Of records too it is the packed table that is read. A compaction has no answer: its area is copied.
     fn run_floor(&self, floor: fn(&[u8], &[u8], &mut [u8]), done: &Done, lent: &mut Buffers) {
         let length = done.result.map_or(0, |(_, length)| length);
         let (from, to) = match self.call {
-            Call::Walk(_) => (&done.lent.found, &mut lent.found),
-            _ => (&done.lent.out, &mut lent.out),
+            Call::Walk(_) => (&done.lent.found[..length], &mut lent.found),
+            Call::Compaction => (self.lent.layout().area.as_slice(), &mut lent.out),
+            _ => (&done.lent.out[..length], &mut lent.out),
         };
-        floor(black_box(&self.packed), black_box(&from[..length]), &mut to[..length]);
+        floor(black_box(&self.packed), black_box(from), &mut to[..from.len()]);
         black_box(to);
     }
 }

@@ -124,7 +124,7 @@ fn passing(table: &Layout) -> Layout {
 }
 
 /// Room for every answer, or about as much as the OK line takes.
-fn some_room(random: &mut Random, line: &[u8]) -> usize {
+pub fn some_room(random: &mut Random, line: &[u8]) -> usize {
     let tag = line.iter().position(|&byte| byte == b' ').unwrap_or(0);
     match random.below(10) {
         0 => random.below(OK_LINE),

@@ -5,6 +5,7 @@
 //! A session has a process of its own, since a program never forgets a stored row.
 
 pub mod commands;
+pub mod compactions;
 pub mod damage;
 pub mod edit_series;
 mod edit_sessions;

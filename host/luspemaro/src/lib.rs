@@ -6,8 +6,8 @@
 //!
 //! A mailbox table is lent as records over an area of name bytes, of which so many as a count says are
 //! rows. `answer` may change them: SUBSCRIBE and UNSUBSCRIBE edit the table and give the new count
-//! back. The packed form, rows without a gap, is for reading: it is checked and walked by the functions
-//! whose name says so.
+//! back. `compact` moves names together where removals have left holes between them. The packed form,
+//! rows without a gap, is for reading: it is checked and walked by the functions whose name says so.
 //!
 //! ```
 //! use luspemaro::{answer, Answered, Record};
@@ -73,6 +73,17 @@ pub fn answer(
     out: &mut [u8],
 ) -> Result<Answered, Refusal> {
     raw::answer(records, count, area, namespaces, line, out).answered(count)
+}
+
+/// Moves the names of the rows together, in the order of their starts, to the front of the area; the
+/// bytes after them, all that no row uses, become zero.
+///
+/// Of the first `count` records the starts change and nothing else; spare records stay. Every command and
+/// every walk is answered as before, but that a SUBSCRIBE which was refused with 15 may find room.
+/// Straight after it, no edit between, 15 for want of bytes is given exactly if all free bytes together
+/// are fewer than the name's. A table that does not pass is refused with 1, and then nothing changes.
+pub fn compact(records: &mut [Record], count: usize, area: &mut [u8]) -> Result<(), Refusal> {
+    Refusal::check(raw::compact(records, count, area))
 }
 
 /// The walk of a table. Found and pending hold their names afterwards, each with a length byte.

@@ -117,6 +117,13 @@ extern "C" {
         out: *mut u8,
         out_len: usize,
     ) -> Outcome;
+    fn luspemaro_compact(
+        records: *mut Record,
+        records_len: usize,
+        count: usize,
+        area: *mut u8,
+        area_len: usize,
+    ) -> u8;
     fn luspemaro_collect(
         records: *const Record,
         records_len: usize,
@@ -207,6 +214,11 @@ pub fn answer(
             out.len(),
         )
     }
+}
+
+pub fn compact(records: &mut [Record], count: usize, area: &mut [u8]) -> u8 {
+    let (records, records_len) = (records.as_mut_ptr(), records.len());
+    unsafe { luspemaro_compact(records, records_len, count, area.as_mut_ptr(), area.len()) }
 }
 
 pub fn collect(

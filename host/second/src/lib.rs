@@ -1,14 +1,16 @@
 //! The second program of the listing rules: written from the papers alone, document 01 and of
-//! document 02 requests W1 to W6, to be compared with the proved program and to be the plain
+//! document 02 requests W1 to W7, to be compared with the proved program and to be the plain
 //! measure of its speed.
 //!
 //! The entries are those of document 01: the two checks, the command entry, the line writer,
-//! the line reader, the collector and the frames of the program; and W2's feeder. A table is given
-//! in either of its forms, and as records for the command entry, which edits them. Left out, as
-//! there: login, SELECT, FETCH, modified UTF-7, sockets.
+//! the line reader, the collector and the frames of the program; W2's feeder; and W7's operation that
+//! moves names together. A table is given in either of its forms, and as records for the command
+//! entry, which edits them, and for W7's. Left out, as there: login, SELECT, FETCH, modified UTF-7,
+//! sockets.
 
 pub mod collector;
 pub mod command;
+mod compaction;
 mod cursor;
 pub mod fault;
 pub mod feeder;
@@ -30,6 +32,7 @@ mod subscriptions;
 pub mod table;
 
 pub use collector::collect;
+pub use compaction::compact;
 pub use feeder::{Event, Feeder};
 pub use line::{read_line, write_line, write_parts, Criteria, Line};
 pub use namespaces::check_namespaces;

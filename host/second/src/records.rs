@@ -25,7 +25,7 @@ pub struct Records<'t> {
     pub area: &'t [u8],
 }
 
-/// Records and their area, lent to be changed by edits (W6).
+/// Records and their area, lent to be changed: by edits (W6), or by names moved together (W7).
 #[derive(Debug)]
 pub struct RecordsMut<'t> {
     pub records: &'t mut [Record],

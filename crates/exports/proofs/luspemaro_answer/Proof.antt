@@ -181,7 +181,7 @@ module _ {M : Type 1} (𝓤 : URA M) (H : Heap 𝓤) (A : Atoms 𝓤) (W : Given
   abbrev shown : GName → RefT (List Record)
   shown δ = record { ptr = (b₀, o₀); name = δ; now = records }
 
-  -- what is promised of a command, and that it is so of one that comes to the same
+  -- what is promised of what comes of it, and that it is so of what is the same
   abbrev Says-result : Commanded → Outcome → List ℕ → List ℕ → Type 0
   Says-result c r area′ out′ = r ≡ outcomeOf (c .reply) (c .store .count)
 

@@ -118,7 +118,7 @@ pub fn answer_both(
 }
 
 /// The call, with the table as it is after it.
-fn call_text(table: &Mailboxes, list: &[u8], line: &[u8], room: usize) -> String {
+pub fn call_text(table: &Mailboxes, list: &[u8], line: &[u8], room: usize) -> String {
     let (line, table, list) = (shown(line), Lent::Records(table), show_namespaces(list));
     format!("answer: line {line}, room {room}, table afterwards and namespace list\n{table}{list}")
 }

@@ -19,12 +19,14 @@ pub enum Lent<'m> {
     Records(&'m Mailboxes),
 }
 
-/// Records over an area, for each of the two libraries a table of its own, which its edits change.
+/// Records over an area, for each of the two libraries a table of its own, which its calls change.
+#[derive(Clone)]
 pub struct Mailboxes {
     proved: ProvedTable,
     second: Layout,
 }
 
+#[derive(Clone)]
 struct ProvedTable {
     records: Vec<luspemaro::Record>,
     count: usize,
@@ -36,6 +38,7 @@ pub type CheckList = fn(&[u8]) -> bool;
 pub type Matches = fn(&[u8], &[u8]) -> bool;
 /// Of a command, the answer's length and the count that is given back.
 pub type Answer = fn(&mut Mailboxes, &[u8], &[u8], &mut [u8]) -> Result<(usize, usize), u8>;
+pub type Compact = fn(&mut Mailboxes) -> Result<(), u8>;
 pub type Collect = fn(Lent, u8, &mut [u8], &mut [u8], &mut [u8]) -> Result<(usize, usize), u8>;
 pub type WriteLine = fn(u16, &[u8], u8, &mut [u8]) -> Result<usize, u8>;
 
@@ -63,6 +66,14 @@ pub const ANSWER: [Answer; 2] = [
         let answered = answered.map_err(Refusal::number)?;
         Ok((answered.length, table.second.count))
     },
+];
+
+pub const COMPACT: [Compact; 2] = [
+    |table| {
+        let ProvedTable { records, count, area } = &mut table.proved;
+        luspemaro::compact(records, *count, area).map_err(luspemaro::Refusal::number)
+    },
+    |table| table.second.lend(second::compact).map_err(Refusal::number),
 ];
 
 pub const COLLECT: [Collect; 2] = [
@@ -131,6 +142,24 @@ impl Mailboxes {
         let mut bytes = proved.area.iter().zip(&second.area).enumerate();
         let (at, pair) = bytes.find(|(_, (one, other))| one != other)?;
         Some(format!("byte {at} of the area: {pair:?}"))
+    }
+
+    /// Names and flags of the rows that the proved library has, of a table that passes.
+    pub fn proved_rows(&self) -> Vec<(u16, &[u8])> {
+        let ProvedTable { records, count, area } = &self.proved;
+        let name = |row: &luspemaro::Record| &area[usize::from(row.start)..][..row.len.into()];
+        records[..*count].iter().map(|row| (row.flags, name(row))).collect()
+    }
+
+    /// Makes one of the two tables what it is in another of as many records and bytes.
+    pub fn restore(&mut self, who: usize, other: &Mailboxes) {
+        if who == SECOND {
+            self.second.records.copy_from_slice(&other.second.records);
+            self.second.area.copy_from_slice(&other.second.area);
+        } else {
+            self.proved.records.copy_from_slice(&other.proved.records);
+            self.proved.area.copy_from_slice(&other.proved.area);
+        }
     }
 
     fn proved(&self) -> luspemaro::Records<'_> {

@@ -5,6 +5,7 @@
 
 mod answers;
 pub mod both;
+mod compactions;
 mod compared;
 mod edits;
 mod feeding;
@@ -21,7 +22,7 @@ pub use tally::Tally;
 /// A name, and what compares.
 pub type Group = (&'static str, fn(&mut Tally));
 
-pub const GROUPS: [Group; 23] = [
+pub const GROUPS: [Group; 26] = [
     ("every set of attributes, written and read back", lines::every_set),
     ("every number of a set of criteria", lines::every_criteria_byte),
     ("names at the limits, buffers on both sides of the line's length", lines::names_and_rooms),
@@ -42,6 +43,9 @@ pub const GROUPS: [Group; 23] = [
     ("records at every place of small areas", records::small_areas),
     ("records at the limits", records::limits),
     ("series of edits over lent records and areas", edits::series),
+    ("compactions of areas full of holes, with commands and walks", compactions::of_holes),
+    ("compactions at every place of small areas", compactions::small_areas),
+    ("compactions at the limits", compactions::limits),
     ("streams for the feeder, chunk by chunk", feeding::streams),
     ("memory and states that the feeder does not take", feeding::not_taken),
     ("the continuation line at any place of a buffer", feeding::continuation),

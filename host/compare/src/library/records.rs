@@ -98,8 +98,13 @@ fn calls(tally: &mut Tally, random: &mut Random, table: &mut Compared, rows: &[N
 /// Areas, how many names lie in each, and the starts and lengths that each name takes in turn.
 type Places = (&'static [u8], usize, RangeInclusive<u16>, RangeInclusive<u8>);
 
-/// All places of one, of two and of three names in small areas.
+/// Check 1 at all places of one, of two and of three names in small areas.
 pub fn small_areas(tally: &mut Tally) {
+    each_small_area(&mut |layout| Compared::records(layout).check(tally));
+}
+
+/// All places of one, of two and of three names in small areas.
+pub fn each_small_area(compare: &mut dyn FnMut(Layout)) {
     let one: [Places; 3] = [0..=301, 32_768..=33_069, 65_235..=65_535]
         .map(|starts| ([b'a'; 300].as_slice(), 1, starts, 0..=255));
     let two =
@@ -109,25 +114,25 @@ pub fn small_areas(tally: &mut Tally) {
     for (area, names, starts, lengths) in one.into_iter().chain(two).chain(three) {
         let place = |start| lengths.clone().map(move |len| Record { flags: 1, start, len });
         let places: Vec<Record> = starts.flat_map(place).collect();
-        check_choices(tally, area, &places, names, &mut Vec::new());
+        each_choice(area, &places, names, &mut Vec::new(), compare);
     }
 }
 
-/// Check 1 of so many records more, each at each of the places.
-fn check_choices(
-    tally: &mut Tally,
+/// So many records more, each at each of the places.
+fn each_choice(
     area: &[u8],
     places: &[Record],
     more: usize,
     chosen: &mut Vec<Record>,
+    compare: &mut dyn FnMut(Layout),
 ) {
     if more == 0 {
-        let layout = Layout { records: chosen.clone(), count: chosen.len(), area: area.to_vec() };
-        return Compared::records(layout).check(tally);
+        let (records, count) = (chosen.clone(), chosen.len());
+        return compare(Layout { records, count, area: area.to_vec() });
     }
     for &record in places {
         chosen.push(record);
-        check_choices(tally, area, places, more - 1, chosen);
+        each_choice(area, places, more - 1, chosen, compare);
         chosen.pop();
     }
 }
@@ -135,12 +140,21 @@ fn check_choices(
 /// Areas, packed tables and numbers of rows on both sides of what passes, names at both ends of the
 /// area, and counts of every kind; with commands and walks.
 pub fn limits(tally: &mut Tally) {
+    each_limit(&mut |layout| every_call(tally, Compared::records(layout)));
+    for count in [MAX_ROWS - 1, MAX_ROWS, MAX_ROWS + 1] {
+        for length in [4, 60, 61, 62] {
+            every_call(tally, Compared::packed(table_bytes(&subscribed(count, length))));
+        }
+    }
+}
+
+/// Records whose area, number or count is on both sides of what passes.
+pub fn each_limit(compare: &mut dyn FnMut(Layout)) {
     for count in [0, 1, 2, MAX_ROWS - 1, MAX_ROWS, MAX_ROWS + 1] {
         for length in [4, 63, 64] {
             for turned in [false, true] {
                 for size in [0, MAX_AREA - 1, MAX_AREA, MAX_AREA + 1] {
-                    let layout = side_by_side(&subscribed(count, length), turned, size);
-                    every_call(tally, Compared::records(layout));
+                    compare(side_by_side(&subscribed(count, length), turned, size));
                 }
             }
         }
@@ -150,13 +164,7 @@ pub fn limits(tally: &mut Tally) {
         let high = (0..64).map(|bit| 1 << bit);
         for count in (0..=4).chain(high.clone()).chain(high.map(|bit| bit + records)) {
             let records = layout.records[..records].to_vec();
-            let layout = Layout { records, count, area: layout.area.clone() };
-            every_call(tally, Compared::records(layout));
-        }
-    }
-    for count in [MAX_ROWS - 1, MAX_ROWS, MAX_ROWS + 1] {
-        for length in [4, 60, 61, 62] {
-            every_call(tally, Compared::packed(table_bytes(&subscribed(count, length))));
+            compare(Layout { records, count, area: layout.area.clone() });
         }
     }
 }

@@ -38,14 +38,24 @@ impl Tally {
 
     /// Compares what the two libraries gave for a call, which is shown if they differ.
     pub fn same<T: PartialEq + Debug>(&mut self, call: impl FnOnce() -> String, given: [T; 2]) {
+        self.same_of(call, ["proved", "second"], given);
+    }
+
+    /// Compares two that are to be the same, and that are shown by these words if they differ.
+    pub fn same_of<T: PartialEq + Debug>(
+        &mut self,
+        call: impl FnOnce() -> String,
+        words: [&str; 2],
+        given: [T; 2],
+    ) {
         self.compared += 1;
-        let [proved, second] = &given;
-        if proved == second {
+        let ([one, other], [word, other_word]) = (&given, words);
+        if one == other {
             return;
         }
         self.different += 1;
         if self.different <= MOST_SHOWN {
-            println!("{}\nproved {proved:?}\nsecond {second:?}\n", call());
+            println!("{}\n{word} {one:?}\n{other_word} {other:?}\n", call());
         }
     }
 }

@@ -3,6 +3,7 @@
 use std::env;
 use std::path::PathBuf;
 
+mod compactions;
 mod comparison;
 mod edit_series;
 mod edits;

@@ -20,6 +20,16 @@ pub type Exchange<'a> = (&'a str, Result<&'a [&'a str], u8>);
 /// The names that a walk leaves in found and in pending, and the number of commands sent.
 pub type Walked<'a> = (usize, &'a [&'a str], &'a [&'a str]);
 
+/// Numbers that differ, the same in each run.
+pub struct Numbers(pub u64);
+
+impl Numbers {
+    pub fn below(&mut self, bound: usize) -> usize {
+        self.0 = self.0.wrapping_mul(6_364_136_223_846_793_005).wrapping_add(1);
+        (self.0 >> 33) as usize % bound
+    }
+}
+
 /// The bytes of a table.
 pub fn table_of(rows: &Rows) -> Vec<u8> {
     let row = |&(name, words): &(&str, &str)| {

@@ -3,6 +3,7 @@
 mod checks;
 mod commands;
 mod common;
+mod compaction;
 mod expert_sheet;
 mod faults;
 mod feeder;

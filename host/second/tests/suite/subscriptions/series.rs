@@ -5,6 +5,7 @@ use std::collections::BTreeSet;
 use second::{collect, Store, Table};
 
 use super::{row, rows_of, run, run_in, store, tree};
+use crate::common::Numbers;
 
 /// "Demands 2 and 3 read over the table at the time of the command".
 #[test]
@@ -43,16 +44,6 @@ fn listings_and_walks_between_edits() {
     assert_eq!(walked(&store), (2, "\\x03Foo\\rCustomers/ABC".to_string()));
     assert_eq!(run(&mut store, "a UNSUBSCRIBE Customers/ABC"), Ok(()));
     assert_eq!(walked(&store), (1, "\\x03Foo".to_string()));
-}
-
-/// Numbers that differ, the same in each run.
-struct Numbers(u64);
-
-impl Numbers {
-    fn below(&mut self, bound: usize) -> usize {
-        self.0 = self.0.wrapping_mul(6_364_136_223_846_793_005).wrapping_add(1);
-        (self.0 >> 33) as usize % bound
-    }
 }
 
 const NAMES: [&str; 14] = [

@@ -1,0 +1,4 @@
+-- Laws of names moved together.
+mod GatherLaws
+mod StartLaws
+mod MoveLaws

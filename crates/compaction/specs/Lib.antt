@@ -1,0 +1,3 @@
+-- What moving names together leaves, as the code does it.
+pub mod Gathered
+pub mod Moves

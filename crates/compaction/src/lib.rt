@@ -1,0 +1,80 @@
+// Names moved together (document 02, W7): the room that removal leaves becomes one run of zeros at the end of the area.
+//
+// One pass over the area moves the bytes that rows use to its front, in place, and notes for each place how many of them lie before it:
+// that is where a name that begins there comes to lie. So the time is in proportion to area and records, and no row is looked for.
+mod gather;
+mod starts;
+
+use gather::move_bytes;
+use gather::no_places;
+use mailbox_table::check_words;
+use octets::least;
+use octets::refusals::TABLE;
+use records::Record;
+use records::copy_back;
+use records::copy_in;
+use records::no_words;
+use starts::restart;
+ghost use mathlib.Core.Path.{_≡_};
+ghost use mathlib.Core.List.{map};
+ghost use lib.ListN.{take};
+ghost use Rattle.records.specs.Words.{recordOf, meant};
+ghost use Rattle.records.specs.Stores.{lentCompaction, wordCompaction, Between};
+ghost use Rattle.compaction.specs.Moves.{Within, MovesNames};
+
+// "moves names together, in the order of their starts": 0, or the number of the refusal of a table that does not pass. The first `count`
+// records are the table's rows, over the area of name bytes. A row's record changes in its start alone, a spare one not at all.
+pub fn compact(records: &mut [Record], count: usize, area: &mut [u8]) -> u8
+    ensures result { λ r. ⌜ r ≡ lentCompaction (now (records .entry)) count (now (area .entry)) .number ⌝ }
+    ensures area { λ _. ⌜ now (area .exit) ≡ lentCompaction (now (records .entry)) count (now (area .entry)) .store .area ⌝ }
+    ensures records { λ _. ⌜ map meant (now (records .exit)) ≡ lentCompaction (now (records .entry)) count (now (area .entry)) .store .records ⌝ }
+{
+    let mut words = no_words();
+    let lent = copy_in(records, records.len(), &mut words);
+    let done = compact_words(&mut words, lent, count, area);
+    copy_back(records, done.from, done.to, &words);
+    done.number
+}
+
+// What compaction of words comes to: 0 or the number of its refusal, and the words that changed, `from` up to `to`.
+pub struct Compacted {
+    pub number: u8,
+    pub from: usize,
+    pub to: usize,
+}
+
+// The same over records, each as a number (`records::word_of`): the first `lent` words, or all where they are fewer, are the records,
+// and the first `count` of those are the rows.
+pub fn compact_words(words: &mut [u64], lent: usize, count: usize, area: &mut [u8]) -> Compacted
+    ensures result { λ r. ⌜ r .number ≡ wordCompaction (now (words .entry)) lent count (now (area .entry)) .number ⌝ }
+    ensures area { λ _. ⌜ now (area .exit) ≡ wordCompaction (now (words .entry)) lent count (now (area .entry)) .store .area ⌝ }
+    ensures words { λ r. ⌜ (map recordOf (take lent (now (words .exit)))
+        ≡ wordCompaction (now (words .entry)) lent count (now (area .entry)) .store .records)
+        × Between (now (words .entry)) (now (words .exit)) lent (r .from) (r .to) ⌝ }
+{
+    let n = least(lent, words.len());
+    if !check_words(&words[..n], count, area) {
+        return Compacted {
+            number: TABLE,
+            from: 0,
+            to: 0,
+        };
+    }
+    move_names(&mut words[..count], area);
+    Compacted {
+        number: 0,
+        from: 0,
+        to: count,
+    }
+}
+
+// The names of these words, moved together, and zeros after them.
+fn move_names(words: &mut [u64], area: &mut [u8])
+    requires { ⌜ Within (now words) (now area) ⌝ }
+    ensures { λ _. ⌜ MovesNames (now (words .entry)) (now (area .entry)) (now (words .exit)) (now (area .exit)) ⌝ }
+{
+    let mut places = no_places();
+    let n = area.len();
+    move_bytes(words, area, &mut places);
+    restart(words, &places[..n]);
+}

@@ -4,7 +4,7 @@ use mathlib.Core.List.{List}
 use Prim.Native.Nat.{ℕ, _+_, _-_, _≤_, _<_}
 use lib.ListN.{length, take, drop, drop-of-length-le}
 use Rattle.listing_rules.specs.Reader.{readLine}
-use Rattle.listing_rules.specs.Walk.{Lists, Step, stop, go, _>>=_, linesOf, takenIn, takenAll}
+use Rattle.listing_rules.specs.Walk.{Lists, Step, stop, go, _then_, linesOf, takenIn, takenAll}
 use Rattle.collector.specs.Lines.{lineLength}
 use Rattle.collector.specs.Options.{byteOf}
 use Rattle.collector.specs.Taking.{Inside, Holds, Goes, lineStep, answerStep}
@@ -36,16 +36,16 @@ module _ {w : WalkOptions} {answer : List ℕ} {p : Progress} {d b d₁ b₁ : L
 
   -- one line more
   module _ {end : ℕ} (h : at < length answer) (e : end ≡ at + lineLength (drop at answer)) where
-    step-on : (u : Lists) (x : Step Lists) → lineStep w (take (end - at) (drop at answer)) d₁ b₁ u ≡ x → answerStep w (drop at answer) d b u ≡ (x >>= answerStep w (drop end answer) d b)
+    step-on : (u : Lists) (x : Step Lists) → lineStep w (take (end - at) (drop at answer)) d₁ b₁ u ≡ x → answerStep w (drop at answer) d b u ≡ (x then answerStep w (drop end answer) d b)
     unfolding takenAll
     step-on u x g =
         rw (lines-on answer at end h e)
-        (ap (λ (y : Step Lists). y >>= answerStep w (drop end answer) d b)
+        (ap (λ (y : Step Lists). y then answerStep w (drop end answer) d b)
         ((λ i. takenIn (byteOf w) (sym (T .found-long) i) (sym (T .pending-long) i) u (readLine (take (end - at) (drop at answer)))) ∙ g))
 
     pub taking-line : {d₂ b₂ : List ℕ} {r : Progress} → Goes (lineStep w (take (end - at) (drop at answer)) d₁ b₁) (q .count) d₁ b₁ q d₂ b₂ r →
         length d₂ ≡ length d₁ → length b₂ ≡ length b₁ → Taking w answer p d b d₂ b₂ r end
-    unfolding _>>=_
+    unfolding _then_
     taking-line g l₁ l₂ =
         record {
           inside = g .inside;
@@ -56,5 +56,5 @@ module _ {w : WalkOptions} {answer : List ℕ} {p : Progress} {d b d₁ b₁ : L
         }
 
     pub taking-refused : {k : ℕ} → ((s : Lists) → Holds s d₁ b₁ q → lineStep w (take (end - at) (drop at answer)) d₁ b₁ s ≡ stop k) → (s : Lists) → Holds s d b p → answerStep w answer d b s ≡ stop k
-    unfolding _>>=_
+    unfolding _then_
     taking-refused {k} f s g = let t = T .lists s g in sym (t .1) ∙ step-on (t .0) (stop k) (f (t .0) (t .2))

@@ -1,10 +1,9 @@
 -- One command: its line in a local buffer, the server's reply, and what the lines of the answer give. Rests on the laws of writes.
 use mathlib.Core.Path.{_≡_, refl, sym, ap, subst, _∙_}
-use mathlib.Core.Bool.{Bool, true, false, cond, _||_, not}
+use mathlib.Core.Bool.{Bool, true, false, not}
 use mathlib.Core.List.{List, [], _∷_}
 use Prim.Native.Nat.{ℕ, _+_, _*_, _≤_}
 use native.Mathlib.Omega.{arith}
-use lib.Dec.{eqb}
 use lib.ListN.{length, take, drop, replicate, length-append, length-replicate}
 use lib.Seq.{take-at}
 use Rattle.listing_rules.specs.Table.{Table}
@@ -12,7 +11,8 @@ use Rattle.listing_rules.specs.Bytes.{text, crlf, quote}
 use Rattle.listing_rules.proofs.Keys.{openBytes}
 use Rattle.listing_rules.specs.Lines.{escaped, quoted}
 use Rattle.listing_rules.specs.Server.{Reply, refusal, answered, answer, limited, bufferAfter, served}
-use Rattle.listing_rules.specs.Walk.{Lists, Step, stop, go, _>>=_, when, wantsRemote, wantsSpecial, dropsSubscribed, commandLine, replied, asked}
+use Rattle.listing_rules.specs.Walk.{Lists, Step, stop, go, _then_, when, wantsRemote, wantsSpecial, dropsSubscribed, commandLine, replied, asked}
+use Rattle.listing_rules.proofs.TokenLaws.{length-escaped}
 use Rattle.octets.specs.Put.{Put}
 use Rattle.octets.specs.Written.{writtenIs}
 use Rattle.octets.specs.declared.Written.{Written}
@@ -47,16 +47,6 @@ put-fronts d e bs n room z p h =
     counted : n ≡ length bs
     counted = omega (arith, size, p .place, p .fits)
 
--- quotes double a text at most
-escaped-twice : (s : List ℕ) → length (escaped s) ≤ 2 * length s
-unfolding escaped openBytes
-escaped-twice [] = omega arith
-escaped-twice (b ∷ t) = go (eqb b 34 || eqb b 92) (escaped-twice t)
-  where
-    go : (o : Bool) → length (escaped t) ≤ 2 * length t → length (cond o (92 ∷ b ∷ escaped t) (b ∷ escaped t)) ≤ 2 * length (b ∷ t)
-    go true h = omega arith
-    go false h = omega arith
-
 when-length : (o : Bool) (t : List ℕ) → length (when o t) ≤ length t
 unfolding when
 when-length true t = omega arith
@@ -87,7 +77,7 @@ command-length o reference =
       arith,
       text-lengths,
       length-append (escaped reference) (quote ∷ []),
-      escaped-twice reference,
+      length-escaped reference,
       when-length (not (dropsSubscribed o)) (text "SUBSCRIBED "),
       when-length (wantsSpecial o) (text " SPECIAL-USE"),
       when-length (wantsRemote o) (text " REMOTE"),
@@ -123,18 +113,18 @@ module _ (table : Table) (l scratch : List ℕ) where
 -- one command, by its line at the front of a buffer
 module _ (table : Table) (w : WalkOptions) (reference scratch : List ℕ) {line : List ℕ} {n : ℕ} (F : Fronts line n (commandLine (byteOf w) reference)) where
   asks-as : (found pending : List ℕ) (s : Lists) (x : Step (List ℕ)) → reply table (take n line) scratch ≡ x →
-      commandStep table w reference scratch found pending s ≡ (x >>= λ a. answerStep w a found pending s)
+      commandStep table w reference scratch found pending s ≡ (x then λ a. answerStep w a found pending s)
   unfolding asked
-  asks-as found pending s x e = ap (λ (y : Step (List ℕ)). y >>= λ a. answerStep w a found pending s) (ap (λ (l : List ℕ). reply table l scratch) (sym (F .bytes)) ∙ e)
+  asks-as found pending s x e = ap (λ (y : Step (List ℕ)). y then λ a. answerStep w a found pending s) (ap (λ (l : List ℕ). reply table l scratch) (sym (F .bytes)) ∙ e)
 
   pub asked-refused : {r : Written} {k : ℕ} → r ≡ writtenIs (served table [] (take n line) scratch) → r ≡ Refused k →
       (found pending : List ℕ) (s : Lists) → commandStep table w reference scratch found pending s ≡ stop k
-  unfolding _>>=_
+  unfolding _then_
   asked-refused {k} a e found pending s = asks-as found pending s (stop k) (server-refused table (take n line) scratch k a e)
 
   pub asked-done : {a : List ℕ} → reply table (take n line) scratch ≡ go a → (found pending : List ℕ) (s : Lists) →
       commandStep table w reference scratch found pending s ≡ answerStep w a found pending s
-  unfolding _>>=_
+  unfolding _then_
   asked-done {a} e found pending s = asks-as found pending s (go a) e
 
 -- another name for a step, which begins with another count

@@ -9,7 +9,7 @@ use lib.ListN.{length}
 use Rattle.listing_rules.specs.Table.{Table}
 use Rattle.listing_rules.specs.Options.{isNone}
 use Rattle.listing_rules.specs.Reader.{Read, line, root, bad, readLine}
-use Rattle.listing_rules.specs.Walk.{Lists, Step, stop, go, _>>=_, linesOf, packed, withName, fits, takenIn, takenAll, asked}
+use Rattle.listing_rules.specs.Walk.{Lists, Step, stop, go, _then_, linesOf, packed, withName, fits, takenIn, takenAll, asked}
 
 -- more names stand after those of s
 abbrev pub Grows : Lists → Lists → Type 0
@@ -22,8 +22,8 @@ grows-on : (s u v : Lists) → Grows s u → Grows u v → Grows s v
 grows-on s u v g h = (g .0 ++ h .0, h .1 ∙ ap (λ (x : List (List ℕ)). x ++ h .0) (g .1) ∙ append-assoc (s .asks) (g .0) (h .0))
 
 -- a step that went on, taken apart
-bind-went : {A B : Type 0} (x : Step A) (f : A → Step B) (v : B) → (x >>= f) ≡ go v → (a : A) × (x ≡ go a) × (f a ≡ go v)
-unfolding _>>=_
+bind-went : {A B : Type 0} (x : Step A) (f : A → Step B) (v : B) → (x then f) ≡ go v → (a : A) × (x ≡ go a) × (f a ≡ go v)
+unfolding _then_
 bind-went (stop k) f v e = let y : _≡_ {A = ℕ} 0 1 = cc in absurd (omega arith)
 bind-went (go a) f v e = (a, refl, e)
 

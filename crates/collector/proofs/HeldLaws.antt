@@ -1,9 +1,9 @@
 -- The table of a walk: what is counted of the words of a table that passes, and a packed table turned into words. Rests on RecordLaws of
 -- listing_rules.
-use mathlib.Core.Path.{_≡_, refl, ap}
+use mathlib.Core.Path.{_≡_}
 use mathlib.Core.Bool.{true, false, false≢true}
-use mathlib.Core.List.{List, [], _∷_, map}
-use Prim.Native.Nat.{ℕ, zero, suc, _≤_}
+use mathlib.Core.List.{List, map}
+use Prim.Native.Nat.{ℕ, _≤_}
 use native.Mathlib.Decide.{decLe}
 use native.Mathlib.Omega.{arith}
 use lib.Dec.{leb}
@@ -12,14 +12,10 @@ use lib.Seq.{length-take-le, take-all}
 use borrow.Author.Tests.{le-leb, lt-leb}
 use Rattle.listing_rules.specs.Table.{passes}
 use Rattle.listing_rules.specs.Records.{recordTable}
+use Rattle.listing_rules.proofs.ListLaws.{map-take}
 use Rattle.records.specs.Words.{recordOf}
 use Rattle.records.specs.Lent.{wordTable}
 use Rattle.collector.specs.Held.{heldTable}
-
-map-take : {A B : Type 0} (f : A → B) (n : ℕ) (l : List A) → map f (take n l) ≡ take n (map f l)
-map-take f zero l = refl
-map-take f (suc n) [] = refl
-map-take f (suc n) (x ∷ l) = ap (λ (r : List _). f x ∷ r) (map-take f n l)
 
 module _ (area words : List ℕ) (count : ℕ) where
   -- a table that passes has as many words as are counted

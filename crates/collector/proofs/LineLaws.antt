@@ -27,7 +27,7 @@ module _ (s : List ℕ) (i : ℕ) where
   unfolding lineLength
   line-more h e = rw (drop-cons s i 0 h, ne-eqb (getD s i 0) 10 e, add-one i)
 
-pub line-some : (s : List ℕ) → 0 < length s → 0 < lineLength s
+line-some : (s : List ℕ) → 0 < length s → 0 < lineLength s
 unfolding lineLength
 line-some [] h = h
 line-some (b ∷ t) h = go (eqb b 10)
@@ -36,7 +36,7 @@ line-some (b ∷ t) h = go (eqb b 10)
     go true = omega arith
     go false = omega arith
 
-pub line-fits : (s : List ℕ) → lineLength s ≤ length s
+line-fits : (s : List ℕ) → lineLength s ≤ length s
 unfolding lineLength
 line-fits [] = omega arith
 line-fits (b ∷ t) = go (eqb b 10) (line-fits t)

@@ -1,30 +1,26 @@
 -- Names in a buffer: none, one more, and what stands at a place. Rests on the laws of writes.
 use mathlib.Core.Path.{_≡_, refl, sym, ap, _∙_}
 use mathlib.Core.List.{List, [], _∷_, _++_, append-nil}
-use Prim.Native.Nat.{ℕ, zero, suc, _+_, _-_, _≤_, _<_}
-use native.Mathlib.Nat.{sub-zero, zero-sub, suc-sub-suc}
+use Prim.Native.Nat.{ℕ, zero, _+_, _-_, _≤_, _<_}
+use native.Mathlib.Nat.{sub-zero}
 use native.Mathlib.Omega.{arith}
-use lib.ListN.{length, drop, replicate, length-append, length-replicate}
+use lib.ListN.{length, replicate, length-append, length-replicate}
 use lib.Seq.{sets, sets-eq, take-at, drop-append-add}
 use borrow.Author.Tests.{le-leb, lt-leb}
 use Rattle.listing_rules.specs.Lists.{joined}
 use Rattle.listing_rules.specs.Walk.{stop, go, packed, fits, zeroBehind}
 use Rattle.listing_rules.proofs.Asked.{packed-append}
 use Rattle.octets.specs.Put.{Put}
+use Rattle.octets.proofs.Clearing.{drop-zeros}
 use Rattle.octets.proofs.Puts.{put-length}
 use Rattle.collector.specs.Names.{Packs}
 
-drop-zeros : (n k : ℕ) → drop {A = ℕ} k (replicate n 0) ≡ replicate (n - k) 0
-drop-zeros n zero = rw sub-zero
-drop-zeros zero (suc k) = rw zero-sub
-drop-zeros (suc n) (suc k) = drop-zeros n k ∙ rw suc-sub-suc
-
-pub zero-length : (room : ℕ) (bs : List ℕ) → length bs ≤ room → length (zeroBehind room bs) ≡ room
+zero-length : (room : ℕ) (bs : List ℕ) → length bs ≤ room → length (zeroBehind room bs) ≡ room
 unfolding zeroBehind
 zero-length room bs h = omega (arith, length-append bs (replicate (room - length bs) 0), length-replicate {A = ℕ} (room - length bs) 0)
 
 -- a write after what lies in a buffer that is zero after it
-pub sets-zeros : (bs vs : List ℕ) (room at : ℕ) → at ≡ length bs → at + length vs ≤ room → sets (zeroBehind room bs) at vs ≡ zeroBehind room (bs ++ vs)
+sets-zeros : (bs vs : List ℕ) (room at : ℕ) → at ≡ length bs → at + length vs ≤ room → sets (zeroBehind room bs) at vs ≡ zeroBehind room (bs ++ vs)
 unfolding zeroBehind
 sets-zeros bs vs room at e h =
     sets-eq vs (bs ++ zeros) at (omega (arith, zero-length room bs (omega arith)))
@@ -41,7 +37,7 @@ pub packed-none : packed [] ≡ []
 unfolding packed joined
 packed-none = refl
 
-pub packed-one : (n : List ℕ) → packed (n ∷ []) ≡ length n ∷ n
+packed-one : (n : List ℕ) → packed (n ∷ []) ≡ length n ∷ n
 unfolding packed joined
 packed-one n = append-nil (length n ∷ n)
 

@@ -12,7 +12,7 @@ use Rattle.listing_rules.proofs.Keys.{openBytes}
 use Rattle.listing_rules.specs.Options.{Criteria, isNone, criteriaOf, criteriaNumber}
 use Rattle.listing_rules.specs.Lines.{rootLine}
 use Rattle.listing_rules.specs.Reader.{Read, line, root, bad, readLine, nameRead, nameBytes}
-use Rattle.listing_rules.specs.Walk.{Lists, Step, stop, go, _>>=_, packed, isFind, withName, fits, takenIn}
+use Rattle.listing_rules.specs.Walk.{Lists, Step, stop, go, _then_, packed, isFind, withName, fits, takenIn}
 use Rattle.listing_rules.proofs.LawfulNames.{good-parts}
 use Rattle.listing_rules.proofs.ReaderWriter.{Taken, readLine-only}
 use Rattle.list_line.specs.Members.{members, setOf}
@@ -35,7 +35,7 @@ use Rattle.collector.proofs.PackLaws.{fits-go, fits-stop}
 
 -- the two lists, with a name put into each or not, if they fit
 abbrev pub bothFit : ℕ → ℕ → List (List ℕ) → List (List ℕ) → Step Lists
-bothFit found pending f a = fits 10 found f >>= λ x. fits 11 pending a >>= λ y. go (record { finds = x; asks = y })
+bothFit found pending f a = fits 10 found f then λ x. fits 11 pending a then λ y. go (record { finds = x; asks = y })
 
 -- whether CHILDINFO names a criterion
 abbrev pub parentOf : Set → Bool
@@ -81,7 +81,7 @@ module _ (l : List ℕ) (t : Attributes) (n : ℕ) (k : Set) (name : List ℕ) w
 
   -- the root line is no find and has no CHILDINFO
   as-root : readLine l ≡ root → Parts (record { bits = 4 }) 0 (record { bits = 0 }) ≡ Parts t n k → ReadAs l t n (parentOf k) name
-  unfolding takenIn withName isNone criteriaOf openBytes _>>=_
+  unfolding takenIn withName isNone criteriaOf openBytes _then_
   as-root r e =
       record {
         short = let x : 0 ≡ n = cc in omega arith;
@@ -109,7 +109,7 @@ module _ (l : List ℕ) (t : Attributes) (n : ℕ) (k : Set) (name : List ℕ) w
       pick (inr (inr r)) = as-line (r .attrs) (r .name) (r .child) (r .is) (r .sixteen) (good-parts (r .name) (r .good) .most) (ap lineIs (sym (r .is)) ∙ e) (g ∙ ap nameBytes (r .is))
 
 -- a line that the reader refuses
-pub read-bad : (l : List ℕ) {k : ℕ} → lineIs (readLine l) ≡ Refused k → readLine l ≡ bad
+read-bad : (l : List ℕ) {k : ℕ} → lineIs (readLine l) ≡ Refused k → readLine l ≡ bad
 unfolding lineIs
 read-bad l {k} e = pick (readLine l) e
   where
@@ -134,7 +134,7 @@ module _ {l : List ℕ} {t : Attributes} {n : ℕ} {c : Bool} {name : List ℕ} 
 
   pub find-full : {v : Bool} {r : Kept} (d′ : List ℕ) → v ≡ isFind (byteOf w) (members (t .bits)) → r ≡ Full →
       Keeps v (take n name) d (p .found) d′ r → (s : Lists) → Holds s d b p → lineStep w l d b s ≡ stop 10
-  unfolding _>>=_
+  unfolding _then_
   find-full d′ a e k s h =
       let full = keeps-as (take n name) d (p .found) d′ a e k in
       parts-step h ∙ rw (fits-stop 10 (length d) (findsWith w t (take n name) s) (full (s .finds) (h .finds)))
@@ -146,14 +146,14 @@ module _ {l : List ℕ} {t : Attributes} {n : ℕ} {c : Bool} {name : List ℕ} 
         fits-go 10 (length d) (findsWith w t (take n name) s) (omega (arith, x .counted, x .room))
 
     pub ask-full : {u : Bool} {q : Kept} (b′ : List ℕ) → u ≡ c → q ≡ Full → Keeps u (take n name) b (p .pending) b′ q → (s : Lists) → Holds s d b p → lineStep w l d b s ≡ stop 11
-    unfolding _>>=_
+    unfolding _then_
     ask-full b′ a′ e′ k′ s h =
         let full = keeps-as (take n name) b (p .pending) b′ a′ e′ k′ in
         parts-step h ∙ rw (found-fits h, fits-stop 11 (length b) (asksWith c (take n name) s) (full (s .asks) (h .asks)))
 
     pub line-taken : {u : Bool} {q : Kept} {g : ℕ} (b′ : List ℕ) → u ≡ c → q ≡ To g → Keeps u (take n name) b (p .pending) b′ q →
         length b′ ≡ length b → Goes (lineStep w l d b) (p .count) d b p d′ b′ (record { count = p .count; found = f; pending = g })
-    unfolding _>>=_
+    unfolding _then_
     line-taken b′ a′ e′ k′ same′ =
         let finds = keeps-as (take n name) d (p .found) d′ a e k in
         let asks = keeps-as (take n name) b (p .pending) b′ a′ e′ k′ in

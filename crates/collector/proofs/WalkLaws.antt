@@ -10,7 +10,7 @@ use lib.Seq.{take-append-le}
 use Rattle.listing_rules.specs.Bytes.{slash}
 use Rattle.listing_rules.specs.Table.{Table, rows, passes}
 use Rattle.listing_rules.specs.Listing.{candidates}
-use Rattle.listing_rules.specs.Walk.{Lists, Step, stop, go, _>>=_, packed, asked, walkFrom, walkAll, WalkReply, walkRefused, walked, ended, walk, collected}
+use Rattle.listing_rules.specs.Walk.{Lists, Step, stop, go, _then_, packed, asked, walkFrom, walkAll, WalkReply, walkRefused, walked, ended, walk, collected}
 use Rattle.listing_rules.proofs.WalkFuel.{walk-fuel}
 use Rattle.collector.specs.Names.{Lies, nameAt}
 use Rattle.collector.specs.Options.{byteOf}
@@ -53,19 +53,19 @@ module _ (table : Table) (w : WalkOptions) (s : List ℕ) {d b : List ℕ} (ok :
   holds-none = record { finds = packs-none d zd; asks = packs-none b zb }
 
   first-step : (k : ℕ) (x : Step Lists) → commandStep table w [] s d b noLists ≡ x → stepsOf table ≤ k →
-      ended (x >>= λ u. walkFrom table (byteOf w) (length s) (length d) (length b) k 0 u) ≡ collected table (byteOf w) s d b
+      ended (x then λ u. walkFrom table (byteOf w) (length s) (length d) (length b) k 0 u) ≡ collected table (byteOf w) s d b
   unfolding walkAll collected
   first-step k x e h =
-      ap (λ (y : Step Lists). ended (y >>= λ u. walkFrom table (byteOf w) (length s) (length d) (length b) k 0 u)) (sym e)
+      ap (λ (y : Step Lists). ended (y then λ u. walkFrom table (byteOf w) (length s) (length d) (length b) k 0 u)) (sym e)
       ∙ sym (walks table w (length s) (length d) (length b) k ok h)
 
   pub walk-refused : {k : ℕ} → ((u : Lists) → Holds u d b noProgress → commandStep table w [] s d b u ≡ stop k) → collected table (byteOf w) s d b ≡ walkRefused k
-  unfolding _>>=_ ended
+  unfolding _then_ ended
   walk-refused {k} f = sym (first-step (stepsOf table) (stop k) (f noLists holds-none) (omega arith))
 
   pub walking-begins : (s′ : List ℕ) {d′ b′ : List ℕ} {q : Progress} → Goes (commandStep table w [] s d b) 1 d b noProgress d′ b′ q →
       length s′ ≡ length s → length d′ ≡ length d → length b′ ≡ length b → Walking table w (length s′) (length d′) (length b′) s′ d′ b′ q 0
-  unfolding _>>=_ collected
+  unfolding _then_ collected
   walking-begins s′ g l₀ l₁ l₂ =
       let u = g .lists noLists holds-none in
       let k = stepsOf table + suc (length b) in
@@ -128,23 +128,23 @@ module _ {table : Table} {w : WalkOptions} {scratch found pending : ℕ} {s d b 
     nextStep = commandStep table w (nameAt (record { from = at + 1; end = end }) b ++ (slash ∷ [])) s d b
 
     walk-on : (x : Step Lists) → nextStep (W .lists) ≡ x →
-        ended (x >>= λ u. walkFrom table (byteOf w) scratch found pending (W .fuel - 1) (suc (W .done)) u) ≡ walk table (byteOf w) scratch found
+        ended (x then λ u. walkFrom table (byteOf w) scratch found pending (W .fuel - 1) (suc (W .done)) u) ≡ walk table (byteOf w) scratch found
         pending
     unfolding walkFrom
     walk-on x g =
-        ap (λ (y : Step Lists). ended (y >>= λ u. walkFrom table (byteOf w) scratch found pending (W .fuel - 1) (suc (W .done)) u)) (sym (same-step ∙ g))
+        ap (λ (y : Step Lists). ended (y then λ u. walkFrom table (byteOf w) scratch found pending (W .fuel - 1) (suc (W .done)) u)) (sym (same-step ∙ g))
         ∙ left-as (rw (next .queue, walkFrom))
       where
         same-step : asked table (byteOf w) scratch found pending (W .lists) (next .name ++ (slash ∷ [])) ≡ nextStep (W .lists)
         same-step = λ i. asked table (byteOf w) (sym (W .scratch-long) i) (sym (W .found-long) i) (sym (W .pending-long) i) (W .lists) (sym name-is i ++ (slash ∷ []))
 
     pub walking-refused : {k : ℕ} → ((u : Lists) → Holds u d b p → nextStep u ≡ stop k) → walk table (byteOf w) scratch found pending ≡ walkRefused k
-    unfolding _>>=_ ended
+    unfolding _then_ ended
     walking-refused {k} f = sym (walk-on (stop k) (f (W .lists) (W .holds)))
 
     pub walking-step : (s′ : List ℕ) {d′ b′ : List ℕ} {q : Progress} → Goes nextStep (p .count + 1) d b p d′ b′ q → length s′ ≡ length s →
         length d′ ≡ length d → length b′ ≡ length b → Walking table w scratch found pending s′ d′ b′ q end
-    unfolding _>>=_
+    unfolding _then_
     walking-step s′ g l₀ l₁ l₂ =
         let u = g .lists (W .lists) (W .holds) in
         let m = asked-grows (byteOf w) (length d) (length b) table (length s) (W .lists) (u .0) (nameAt (record { from = at + 1; end = end }) b ++ (slash ∷ [])) (u .1) in

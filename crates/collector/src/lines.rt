@@ -25,7 +25,7 @@ pub(crate) struct Progress {
 
 impl Progress {
     // Before the first command.
-    pub const NONE: Progress = Progress {
+    pub(crate) const NONE: Progress = Progress {
         count: 0,
         found: 0,
         pending: 0,

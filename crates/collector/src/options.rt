@@ -44,7 +44,7 @@ impl WalkOptions {
     }
 
     // Whether SUBSCRIBED is selected.
-    pub fn subscribed(self) -> bool
+    pub(crate) fn subscribed(self) -> bool
         ensures { λ r. ⌜ r ≡ withSubscribed (self .criteria) ⌝ }
     {
         let criteria = self.criteria;
@@ -69,23 +69,23 @@ impl WalkOptions {
 }
 
 impl OptionByte {
-    pub const REMOTE: OptionByte = OptionByte { bits: 1 };
+    pub(crate) const REMOTE: OptionByte = OptionByte { bits: 1 };
 
-    pub const SPECIAL_USE: OptionByte = OptionByte { bits: 2 };
+    pub(crate) const SPECIAL_USE: OptionByte = OptionByte { bits: 2 };
 
     pub(crate) const WITHOUT_SUBSCRIBED: OptionByte = OptionByte { bits: 4 };
 
-    pub const ALL: OptionByte = OptionByte { bits: 7 };
+    pub(crate) const ALL: OptionByte = OptionByte { bits: 7 };
 
     // Whether every one of `member` is in.
-    pub fn has(self, member: OptionByte) -> bool
+    pub(crate) fn has(self, member: OptionByte) -> bool
         ensures { λ r. ⌜ r ≡ contains (self .bits) (member .bits) ⌝ }
     {
         self.bits & member.bits == member.bits
     }
 
     // Whether it has no members but these, and drops SUBSCRIBED only where SPECIAL-USE is selected.
-    pub fn lawful(self) -> bool
+    pub(crate) fn lawful(self) -> bool
         ensures { λ r. ⌜ r ≡ lawfulByte (self .bits) ⌝ }
     {
         let known = self.bits <= OptionByte::ALL.bits;

@@ -71,20 +71,20 @@ module _ (tag : Seq ℕ) (k : Kept) where
           decided-list e = asks false e
 
 -- a command of which nothing but its kind and its tag is kept
-pub meaning-refused : (s : Seq ℕ) (k : ℕ) → meaning s (refusedWith k) ≡ refused k
+meaning-refused : (s : Seq ℕ) (k : ℕ) → meaning s (refusedWith k) ≡ refused k
 unfolding meaning meaningAs
 meaning-refused s k = refl
 
-pub meaning-root : (s : Seq ℕ) (t : Span) → meaning s (bareCommand Root t) ≡ rootOf (spanBytes s t)
+meaning-root : (s : Seq ℕ) (t : Span) → meaning s (bareCommand Root t) ≡ rootOf (spanBytes s t)
 unfolding meaning meaningAs
 meaning-root s t = refl
 
-pub meaning-namespace : (s : Seq ℕ) (t : Span) → meaning s (bareCommand Namespace t) ≡ namespace (spanBytes s t)
+meaning-namespace : (s : Seq ℕ) (t : Span) → meaning s (bareCommand Namespace t) ≡ namespace (spanBytes s t)
 unfolding meaning meaningAs
 meaning-namespace s t = refl
 
 -- the places of a list of them lie inside the line
-pub places-at : (s : Seq ℕ) (ts : Seq Span) → Places s ts → (k : ℕ) → Lies s (getD ts k nowhere)
+places-at : (s : Seq ℕ) (ts : Seq Span) → Places s ts → (k : ℕ) → Lies s (getD ts k nowhere)
 places-at s [] h k = lies-nowhere s
 places-at s (t ∷ ts) h zero = h .0
 places-at s (t ∷ ts) h (suc k) = places-at s ts (h .1) k
@@ -105,15 +105,15 @@ inside-named s k t n h l e =
 inside-bare : (s : Seq ℕ) (k : Kind) (t : Span) → TagIn s t → bareCommand k t ≡ usedOnly k (bareCommand k t) → Inside s (bareCommand k t)
 inside-bare s k t h e = inside-named s k t nowhere h (lies-nowhere s) e
 
-pub inside-root : (s : Seq ℕ) (t : Span) → TagIn s t → Inside s (bareCommand Root t)
+inside-root : (s : Seq ℕ) (t : Span) → TagIn s t → Inside s (bareCommand Root t)
 unfolding usedOnly
 inside-root s t h = inside-bare s Root t h refl
 
-pub inside-namespace : (s : Seq ℕ) (t : Span) → TagIn s t → Inside s (bareCommand Namespace t)
+inside-namespace : (s : Seq ℕ) (t : Span) → TagIn s t → Inside s (bareCommand Namespace t)
 unfolding usedOnly
 inside-namespace s t h = inside-bare s Namespace t h refl
 
-pub inside-refused : (s : Seq ℕ) (k : ℕ) → Inside s (refusedWith k)
+inside-refused : (s : Seq ℕ) (k : ℕ) → Inside s (refusedWith k)
 unfolding usedOnly
 inside-refused s k = inside-bare s (Refused k) nowhere (record { lies = lies-nowhere s; bare = refl; front = refl }) refl
 

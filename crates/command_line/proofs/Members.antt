@@ -11,13 +11,14 @@ use Rattle.listing_rules.specs.Bytes.{text, bit, spells, same, raised}
 use Rattle.listing_rules.specs.Lists.{every, anyOf}
 use Rattle.listing_rules.specs.Tokens.{Got, got}
 use Rattle.listing_rules.specs.Command.{Opt, selectionWords, returnWords, knownIn, named, optionsOf}
-use Rattle.listing_rules.proofs.ListLaws.{same-true}
+use Rattle.listing_rules.proofs.ListLaws.{any-cong, same-true}
+use Rattle.listing_rules.proofs.TokenLaws.{bind-some}
 use Rattle.octets.specs.Sets.{union}
 use Rattle.octets.proofs.Sets.{union-bit}
 use Rattle.command_line.specs.declared.option_list.Place.{Place}
 use Rattle.command_line.specs.declared.option_list.Place.the-variants.{Selection, Return}
 use Rattle.command_line.specs.OptionSets.{optionsIs, selected, returned, memberOf, wordsOf, Marks, noMarks, marking, marked, summed, marksOf}
-use Rattle.command_tokens.proofs.Binds.{bind-some, got-val}
+use Rattle.command_tokens.proofs.Binds.{got-val}
 
 -- a word that spells one text spells another exactly if the two are the same
 spells-as : (w a b : List ℕ) → spells w a ≡ true → spells w b ≡ same a b
@@ -44,7 +45,7 @@ member-known Return w = go (spells w (text "SUBSCRIBED")) (spells w (text "CHILD
     go false false false = refl
 
 -- what a list leaves in the set
-pub marked-bit : (k : ℕ) (p : Place) (m : Marks) (os : List Opt) → bit k (marked p m os .set) ≡ (bit k (m .set) || anyOf (λ o. bit k (memberOf p (o .word))) os)
+marked-bit : (k : ℕ) (p : Place) (m : Marks) (os : List Opt) → bit k (marked p m os .set) ≡ (bit k (m .set) || anyOf (λ o. bit k (memberOf p (o .word))) os)
 unfolding marked anyOf
 marked-bit k p m [] = sym (or-false (bit k (m .set)))
 marked-bit k p m (o ∷ os) =
@@ -57,11 +58,6 @@ pub marked-known : (p : Place) (m : Marks) (os : List Opt) → marked p m os .kn
 unfolding marked every
 marked-known p m [] = sym (and-true (m .known))
 marked-known p m (o ∷ os) = marked-known p (marking p m o) os ∙ and-assoc (m .known) (knownIn (wordsOf p) o) (every (knownIn (wordsOf p)) os)
-
-any-cong : (f g : Opt → Bool) → ((o : Opt) → f o ≡ g o) → (os : List Opt) → anyOf f os ≡ anyOf g os
-unfolding anyOf
-any-cong f g h [] = refl
-any-cong f g h (o ∷ os) = rw (h o, any-cong f g h os)
 
 any-never : (f : Opt → Bool) → ((o : Opt) → f o ≡ false) → (os : List Opt) → anyOf f os ≡ false
 unfolding anyOf

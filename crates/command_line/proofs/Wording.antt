@@ -2,7 +2,7 @@
 use mathlib.Core.Path.{_≡_, refl, sym, ap, _∙_}
 use mathlib.Core.Bool.{Bool, true, false, cond}
 use mathlib.Core.List.{List, [], _∷_}
-use mathlib.Core.Option.{none, some}
+use mathlib.Core.Option.{none, some, Option·none-ne-some}
 use Prim.Native.Nat.{ℕ, _≤_, _<_}
 use lib.ListN.{length, drop}
 use Rattle.listing_rules.specs.Bytes.{text, spells, same, raised, isEmpty}
@@ -11,7 +11,6 @@ use Rattle.listing_rules.specs.Command.{Parsed, refused, namespace, orRefuse, w
 use Rattle.command_tokens.specs.declared.Span.{Span}
 use Rattle.command_tokens.specs.declared.Cursor.{Cursor}
 use Rattle.command_tokens.specs.Tokens.{Bare}
-use Rattle.command_tokens.proofs.Binds.{none≢some}
 use Rattle.command_tokens.proofs.Cuts.{lies-ahead}
 use Rattle.command_line.specs.declared.reading.Word.{Word}
 use Rattle.command_line.specs.declared.reading.Word.the-variants.{List as ListWord, Namespace, Lsub, Subscribe, Unsubscribe, Other}
@@ -78,7 +77,7 @@ unfolding unlessEmpty
 run-some g h e = go (isEmpty (g .val)) e
   where
     go : (o : Bool) → cond o none (some g) ≡ some h → g ≡ h
-    go true q = absurd (none≢some q)
+    go true q = absurd (Option·none-ne-some _ q)
     go false q = some-same q
 
 run-none : (g : Got (List ℕ)) → unlessEmpty g ≡ none → g .val ≡ []
@@ -87,7 +86,7 @@ run-none g e = go (g .val) e
   where
     go : (v : List ℕ) → cond (isEmpty v) none (some g) ≡ none → v ≡ []
     go [] q = refl
-    go (b ∷ v) q = absurd (none≢some (sym q))
+    go (b ∷ v) q = absurd (Option·none-ne-some _ (sym q))
 
 module _ (tag t : List ℕ) where
   -- no word

@@ -20,7 +20,7 @@ use Rattle.command_tokens.specs.Spans.{spanBytes, Lies, nowhere}
 use Rattle.command_line.specs.OptionSets.{optionsIs}
 use Rattle.command_patterns.specs.Places.{kept, Placed}
 use Rattle.command_patterns.specs.Canonical.{canonicalOf}
-pub use Rattle.command_patterns.specs.Canonical.{short}
+pub use Rattle.command_patterns.specs.Canonical.{short, Few}
 unfoldable pub use Rattle.command_patterns.specs.Canonical.{packedBytes}
 
 -- the canonical patterns of a command: the reference and each pattern that is not empty

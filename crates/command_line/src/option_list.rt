@@ -17,7 +17,7 @@ use octets::byte_at;
 use octets::spells_word;
 
 impl Options {
-    pub const NONE: Options = Options { bits: 0 };
+    pub(crate) const NONE: Options = Options { bits: 0 };
 
     pub const SUBSCRIBED: Options = Options { bits: 1 };
 
@@ -50,7 +50,7 @@ impl Options {
     }
 
     // RECURSIVEMATCH stands only beside SUBSCRIBED or SPECIAL-USE.
-    pub fn lawful(self) -> bool
+    pub(crate) fn lawful(self) -> bool
         ensures { λ r. ⌜ r ≡ lawfulOptions (optionsIs self) ⌝ }
     {
         let criteria = self.has(Options::SUBSCRIBED) | self.has(Options::SPECIAL_USE);

@@ -2,3 +2,4 @@
 pub mod Filling
 pub mod Counting
 pub mod Packed
+pub mod FewLaws

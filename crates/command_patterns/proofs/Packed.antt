@@ -1,11 +1,12 @@
--- Canonical patterns in a buffer: one pattern more; and what they are where each is at most 255 bytes long. Rests on octets' Puts.
+-- Canonical patterns in a buffer: one pattern more; and what they are, and how many bytes, where each is at most 255 bytes long. Rests on octets' Puts.
 use mathlib.Core.Path.{_≡_, refl, sym, ap, subst, _∙_}
 use mathlib.Core.Bool.{true}
 use mathlib.Core.List.{List, [], _∷_, _++_, map, append-assoc, append-nil}
-use Prim.Native.Nat.{ℕ, _+_, _<_, _%_, _^_}
+use Prim.Native.Nat.{ℕ, _+_, _*_, _<_, _≤_, _%_, _^_}
 use native.Mathlib.Nat.{mod-eq-of-lt}
 use native.Mathlib.Omega.{arith}
-use lib.ListN.{length}
+use lib.Dec.{leb}
+use lib.ListN.{length, length-append}
 use borrow.Author.Tests.{leb-true}
 use Rattle.listing_rules.specs.Lists.{every, joined}
 use Rattle.listing_rules.specs.Walk.{packed}
@@ -49,3 +50,15 @@ packed-short (p ∷ ps) h =
     let one : length p % 256 ≡ length p = mod-eq-of-lt (omega (arith, leb-true (length p) 255 (and-l (short p) (every short ps) h))) in
     let rest : joined (map packedOne ps) ≡ joined (map (λ n. length n ∷ n) ps) = packed-short ps (and-r (short p) (every short ps) h) in
     rw (one, rest)
+
+-- eight patterns with their length bytes take 2,048 bytes at most
+pub packed-few : (ps : List (List ℕ)) → every short ps ≡ true → length (packed ps) ≤ 256 * length ps
+unfolding packed joined every
+packed-few [] e = omega arith
+packed-few (p ∷ ps) e =
+    omega (
+      arith,
+      length-append p (packed ps),
+      leb-true (length p) 255 (and-l (leb (length p) 255) (every (λ q. leb (length q) 255) ps) e),
+      packed-few ps (and-r (leb (length p) 255) (every (λ q. leb (length q) 255) ps) e),
+    )

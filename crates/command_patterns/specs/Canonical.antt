@@ -1,7 +1,8 @@
 -- The canonical patterns of a command, counted, measured and packed.
-use mathlib.Core.Bool.{Bool}
+use mathlib.Core.Path.{_≡_}
+use mathlib.Core.Bool.{Bool, true}
 use mathlib.Core.List.{List, _∷_, map}
-use Prim.Native.Nat.{ℕ, _%_}
+use Prim.Native.Nat.{ℕ, _≤_, _%_}
 use lib.Dec.{leb}
 use lib.ListN.{length}
 use Rattle.listing_rules.specs.Lists.{every, joined}
@@ -19,6 +20,11 @@ canonicalOf s r p = canonical (spanBytes s r) (held s p)
 -- a canonical pattern is at most 255 bytes long
 abbrev pub short : List ℕ → Bool
 short p = leb (length p) 255
+
+-- few and short patterns, as those of a command that lists are (laws `listing-few`, `subscriptions-few`)
+pub record Few (ps : List (List ℕ)) : Type 0 where
+  pub few : length ps ≤ 8
+  pub brief : every short ps ≡ true
 
 abbrev pub measuredIs : List (List ℕ) → Measured
 measuredIs ps = record { count = length ps; fit = every short ps }

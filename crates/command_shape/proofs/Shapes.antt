@@ -11,7 +11,7 @@ use lib.ListN.{length, drop, getD, drop-of-length-le}
 use lib.Seq.{drop-cons}
 use borrow.Author.Tests.{le-leb, lt-leb}
 use Rattle.listing_rules.specs.Bytes.{isEmpty}
-use Rattle.listing_rules.specs.Feeder.{Feeder, reading, inLiteral, dropping, Event, quiet, handed, goOn, denied, Step, gives, first, lastIs, endsLine, offends, refusing, textByte, fedByte, allowed, stillOne, oneCommand}
+use Rattle.listing_rules.specs.Feeder.{Feeder, reading, inLiteral, dropping, Event, quiet, handed, goOn, denied, AfterByte, gives, first, lastIs, endsLine, offends, refusing, textByte, fedByte, allowed, stillOne, oneCommand}
 use Rattle.listing_rules.proofs.FeederLaws.{ends-snoc}
 use Rattle.command_shape.specs.declared.machine.Machine.{Machine}
 use Rattle.command_shape.specs.declared.shaping.Shaping.the-variants.{Bad, Last, Further}
@@ -94,7 +94,7 @@ pub shaped-first : (l : List ℕ) → Shaped l 0 firstIs
 shaped-first l = record { state = first; is = sym first-is; one = refl }
 
 -- nothing is left after a place
-pub last-place : (l : List ℕ) (i : ℕ) → leb (length l) i ≡ isEmpty (drop i l)
+last-place : (l : List ℕ) (i : ℕ) → leb (length l) i ≡ isEmpty (drop i l)
 unfolding isEmpty
 last-place l i = elim (decLe (length l) i) [ yes h ↦ rw (le-leb (length l) i h, drop-of-length-le l h) | no h ↦ rw (lt-leb (length l) i (omega arith), drop-cons l i 0 (omega arith)) ]
 
@@ -123,7 +123,7 @@ module _ (l : List ℕ) (i : ℕ) (m : Machine) (h : Shaped l i m) where
 -- no command has fewer than two bytes
 one-byte : (c : ℕ) → oneCommand first (c ∷ []) ≡ false
 unfolding oneCommand isEmpty
-one-byte c = ap (λ (r : Step). allowed first c && stillOne (r .event) true false) step ∙ go (allowed first c) (offends [] c)
+one-byte c = ap (λ (r : AfterByte). allowed first c && stillOne (r .event) true false) step ∙ go (allowed first c) (offends [] c)
   where
     unended : endsLine (c ∷ []) ≡ false
     unended = ends-snoc [] c ∙ (unfold lastIs in refl)

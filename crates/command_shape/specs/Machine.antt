@@ -5,7 +5,7 @@ use lib.Dec.{eqb, leb}
 use lib.ListN.{length}
 use Prim.Native.Nat.{ℕ, _+_, _-_, _*_, min}
 use Rattle.listing_rules.specs.Tokens.{digitByte}
-use Rattle.listing_rules.specs.Feeder.{Feeder, reading, inLiteral, dropping, lastIs, Event, quiet, handed, goOn, denied, Step}
+use Rattle.listing_rules.specs.Feeder.{Feeder, reading, inLiteral, dropping, lastIs, Event, quiet, handed, goOn, denied, AfterByte}
 use Rattle.command_shape.specs.declared.machine.Tail.{Tail}
 use Rattle.command_shape.specs.declared.machine.Tail.the-variants.{Text, Cr, Open, Digits, Closed, Ending}
 use Rattle.command_shape.specs.declared.machine.Place.{Place}
@@ -134,5 +134,5 @@ signalOf goOn = GoOn
 signalOf (denied k) = Refused
 
 -- the code's step of a step of the feeder
-abbrev pub steppedOf : Step → Stepped
+abbrev pub steppedOf : AfterByte → Stepped
 steppedOf s = steps (machineOf (s .state)) (signalOf (s .event))

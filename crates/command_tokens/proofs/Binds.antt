@@ -1,8 +1,8 @@
 -- Laws of reading on: what a chain of readings gives is what its parts give; what a token that was found tells.
-use mathlib.Core.Path.{_≡_, refl, sym, ap, subst, _∙_}
+use mathlib.Core.Path.{_≡_, sym, ap, subst, _∙_}
 use mathlib.Core.List.{List}
 use mathlib.Core.Bool.{true, false}
-use mathlib.Core.Option.{Option, none, some, IsSome}
+use mathlib.Core.Option.{Option, none, some}
 use Prim.Native.Nat.{ℕ, _≤_, _<_}
 use lib.ListN.{length, drop}
 use Rattle.listing_rules.specs.Tokens.{Got, got, _>>=_}
@@ -15,9 +15,6 @@ use Rattle.command_tokens.specs.declared.Behind.the-variants.{At, Nothin
 use Rattle.command_tokens.specs.Spans.{plain, spanBytes, rawBytes}
 use Rattle.command_tokens.specs.Tokens.{tokenIs, behindIs, Ahead, TokenIn, Bare, BareIn, BehindIn}
 
-pub none≢some : {A : Type 0} {a : A} → none ≡ some a → ⊥
-none≢some e = subst IsSome (sym e) tt
-
 module _ {A B : Type 0} where
   pub bind-none : {x : Option A} (f : A → Option B) → x ≡ none → (x >>= f) ≡ none
   unfolding _>>=_
@@ -27,35 +24,15 @@ module _ {A B : Type 0} where
   unfolding _>>=_
   bind-go f e = rw e
 
-  -- what was read on began with something read
-  pub bind-some : (x : Option A) (f : A → Option B) (y : B) → (x >>= f) ≡ some y → (a : A) × (x ≡ some a) × (f a ≡ some y)
-  unfolding _>>=_
-  bind-some none f y e = absurd (none≢some e)
-  bind-some (some a) f y e = (a, refl, e)
-
-  -- what only turns into something else was not read at all
-  pub bind-off : (x : Option A) (h : A → B) → (x >>= λ a. some (h a)) ≡ none → x ≡ none
-  unfolding _>>=_
-  bind-off none h e = refl
-  bind-off (some a) h e = absurd (none≢some (sym e))
-
--- two readings that are the same have read the same and left the same
+-- two readings that are the same have read the same
 module _ {A : Type 0} where
   valOr : A → Option (Got A) → A
   valOr d none = d
   valOr d (some g) = g .val
 
-  restOr : List ℕ → Option (Got A) → List ℕ
-  restOr d none = d
-  restOr d (some g) = g .rest
-
   pub got-val : {g h : Got A} → some g ≡ some h → g .val ≡ h .val
   unfolding valOr
   got-val {g} e = ap (valOr (g .val)) e
-
-  pub got-rest : {g h : Got A} → some g ≡ some h → g .rest ≡ h .rest
-  unfolding restOr
-  got-rest {g} e = ap (restOr (g .rest)) e
 
 -- a token that was found, or was not
 module _ (s : List ℕ) {r : Token} {x : Option (Got (List ℕ))} (e : tokenIs s r ≡ x) where

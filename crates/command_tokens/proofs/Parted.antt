@@ -64,7 +64,7 @@ module _ {A B : Type 0} (item : List ℕ → Option (Got A)) (go : Got (List A) 
       pub parting-other : (getD s to 0 ≡ 41 → ⊥) → (getD s to 0 ≡ 32 → ⊥) → whole ≡ none
       parting-other h k = sym whole-is ∙ bind-none go (step-other item (p .steps - 1) s to a h k)
 
-      pub space-rest : getD s to 0 ≡ 32 → (parted item (p .steps - 1) (drop (to + 1) s) >>= λ r. go (withFirst a r)) ≡ whole
+      space-rest : getD s to 0 ≡ 32 → (parted item (p .steps - 1) (drop (to + 1) s) >>= λ r. go (withFirst a r)) ≡ whole
       unfolding _>>=_
       space-rest h = on (parted item (p .steps - 1) (drop (to + 1) s)) ∙ ap (λ (x : Option (Got (List A))). x >>= go) (sym (step-space item (p .steps - 1) s to a h)) ∙ whole-is
         where

@@ -26,7 +26,7 @@ module _ (s : List ℕ) (i : ℕ) (esc : Bool) where
   unfolding plain
   plain-out h = rw (drop-of-length-le s h)
 
-pub plain-short : (esc : Bool) (s : List ℕ) → length (plain esc s) ≤ length s
+plain-short : (esc : Bool) (s : List ℕ) → length (plain esc s) ≤ length s
 unfolding plain
 plain-short esc [] = omega arith
 plain-short esc (x ∷ xs) = go (not esc && eqb x 92) (plain-short true xs) (plain-short false xs)

@@ -184,7 +184,7 @@ impl Cursor {
     }
 
     // astring = quoted / literal / 1*(atom-byte / "]")
-    pub fn astring(self, text: &[u8]) -> Token
+    pub(crate) fn astring(self, text: &[u8]) -> Token
         ensures { λ r. ⌜ tokenIs (now (text .entry)) r ≡ astring (drop (self .at) (now (text .entry))) ⌝ }
         ensures { λ r. ⌜ TokenIn (now (text .entry)) (self .at) r ⌝ }
     {

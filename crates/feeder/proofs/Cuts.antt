@@ -7,7 +7,7 @@ use Prim.Native.Nat.{ℕ, zero, suc, _≤_}
 use native.Mathlib.Omega.{arith}
 use lib.Dec.{leb}
 use lib.ListN.{length, take, drop, take-append-drop}
-use borrow.Author.Tests.{le-leb, leb-true}
+use borrow.Author.Tests.{leb-true}
 use Rattle.listing_rules.specs.Lists.{joined}
 use Rattle.listing_rules.specs.Feeder.{Feeder, first, Event as Meant, Feeding, feedAll, feedChunks}
 use Rattle.listing_rules.proofs.Bools.{and-r}
@@ -17,10 +17,7 @@ use Rattle.command_shape.specs.Machine.{firstIs, machineOf}
 use Rattle.feeder.specs.Feed.{keptOf, Holds, eventsOf, Means, ready}
 use Rattle.feeder.specs.Calls.{Call, Calls, Through, saidBy, stateAfter}
 use Rattle.command_shape.proofs.Steps.{first-is}
-
-lent : (d : List ℕ) (size : ℕ) → 2048 ≤ length d → size ≤ 2048 → ready (length d) size ≡ true
-unfolding ready
-lent d size h g = rw (le-leb 2048 (length d) h, le-leb size 2048 g)
+use Rattle.feeder.proofs.FeedBytes.{is-ready}
 
 small : (room size : ℕ) → ready room size ≡ true → size ≤ 2048
 unfolding ready
@@ -47,7 +44,7 @@ first-held d = (first-as, refl)
     first-as = first-is
 
 -- from any state that is held
-pub calls-say : (xs : List Call) (m : Machine) (d : List ℕ) (s : Feeder) (stream : List ℕ) → m .size ≤ 2048 → Holds d m s → Calls m d xs →
+calls-say : (xs : List Call) (m : Machine) (d : List ℕ) (s : Feeder) (stream : List ℕ) → m .size ≤ 2048 → Holds d m s → Calls m d xs →
     Through stream xs → (saidBy xs ≡ feedAll s stream .events) × (stateAfter m xs ≡ machineOf (feedAll s stream .state))
 unfolding saidBy stateAfter
 calls-say [] m d s stream b h c t = rw t (feed-none s m (h .0))
@@ -55,7 +52,7 @@ calls-say (x ∷ xs) m d s stream b h c t =
     then (calls-say xs (x .answer .state) (x .after) (feedAll s front .state) (drop (x .answer .used) stream) (small (length (x .after)) (x .answer .state .size) (c .2 .fits yes)) (w .holds) (c .3) (t .1))
   where
     yes : ready (length (x .before)) (m .size) ≡ true
-    yes = lent (x .before) (m .size) (c .0) b
+    yes = is-ready (x .before) (m .size) (c .0) b
 
     w : Means s (x .chunk) (x .after) (x .answer)
     w = c .2 .means yes s (h .0, h .1 ∙ sym (c .1))

@@ -238,7 +238,7 @@ large-state d size h = go (leb 2048 (length d))
     go true = lt-leb size 2048 h
     go false = refl
 
-is-ready : (d : List ℕ) (size : ℕ) → 2048 ≤ length d → size ≤ 2048 → ready (length d) size ≡ true
+pub is-ready : (d : List ℕ) (size : ℕ) → 2048 ≤ length d → size ≤ 2048 → ready (length d) size ≡ true
 unfolding ready
 is-ready d size h g = rw (le-leb 2048 (length d) h, le-leb size 2048 g)
 

@@ -11,7 +11,7 @@ use lib.Dec.{eqb, leb}
 use lib.ListN.{length, take, drop, set, getD, length-append, length-set, drop-of-length-le}
 use lib.Seq.{drop-cons, take-suc-set}
 use borrow.Author.Tests.{leb-true}
-use Rattle.listing_rules.specs.Feeder.{Feeder, reading, inLiteral, dropping, first, lastIs, endsLine, announced, Event as Meant, quiet, handed, goOn, denied, Step, gives, dropped, offends, refusing, awaiting, lineEnded, textByte, fedByte, Feeding, saying, feedAll}
+use Rattle.listing_rules.specs.Feeder.{Feeder, reading, inLiteral, dropping, first, lastIs, endsLine, announced, Event as Meant, quiet, handed, goOn, denied, AfterByte, gives, dropped, offends, refusing, awaiting, lineEnded, textByte, fedByte, Feeding, saying, feedAll}
 use Rattle.command_shape.specs.declared.machine.Machine.{Machine}
 use Rattle.command_shape.specs.declared.machine.Stepped.{Stepped}
 use Rattle.feeder.specs.declared.Event.{Event}
@@ -79,7 +79,7 @@ saidOf (denied k) = denied k ∷ []
 
 -- A step that leaves the memory d, as the command's byte of number n: the memory holds what is kept then, and the code's event is
 -- the feeder's.
-pub record Follows (d : List ℕ) (n : ℕ) (r : Step) : Type 0 where
+pub record Follows (d : List ℕ) (n : ℕ) (r : AfterByte) : Type 0 where
   pub front : Front d (keptOf (r .state))
   pub bound : length (keptOf (r .state)) ≤ 2048
   pub event : eventsOf d (eventIs (signalOf (r .event)) n) ≡ saidOf (r .event)
@@ -188,7 +188,7 @@ room-left kept c e = go (leb (suc (length kept)) 2048) refl e
     go true h g = omega (arith, leb-true (suc (length kept)) 2048 h)
     go false h g = let z : _≡_ {A = ℕ} 0 1 = cc in omega arith
 
-pub follows-byte : (s : Feeder) (d : List ℕ) (c : ℕ) → Front d (keptOf s) → length (keptOf s) ≤ 2048 → 2048 ≤ length d →
+follows-byte : (s : Feeder) (d : List ℕ) (c : ℕ) → Front d (keptOf s) → length (keptOf s) ≤ 2048 → 2048 ≤ length d →
     Follows (storedIs (machineOf s) d c) (nextPlace (machineOf s .size)) (fedByte s c)
 unfolding fedByte keptOf machineOf
 follows-byte (reading kept line) d c f b h = rw (stored-reading kept line d c, next-place (length kept) b) (go (offends kept c) refl)
@@ -242,7 +242,7 @@ more-bytes : (s : Feeder) (c : ℕ) (t : List ℕ) → nothing (fedByte s c .eve
 unfolding throughEvent
 more-bytes s c t e = rw e
 
-pub stored-length : (m : Machine) (d : List ℕ) (c : ℕ) → length (storedIs m d c) ≡ length d
+stored-length : (m : Machine) (d : List ℕ) (c : ℕ) → length (storedIs m d c) ≡ length d
 unfolding storedIs
 stored-length m d c = go (takes m c)
   where

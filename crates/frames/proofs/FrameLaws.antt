@@ -39,7 +39,7 @@ bad-text line e = rw (no-bytes (bytesOf line) e) (go (leb (length line) 4100))
     go false = refl
 
 -- any other frame: its first byte and the bytes behind it
-pub read-kind : (line : List ℕ) → length line ≤ 4100 → 2 ≤ length line → isSome (bytesOf line) ≡ true → readFrame line ≡ frameOf (some (pairOf (getD line 0 0) (getD line 1 0) ∷ decoded (drop 2 line)))
+read-kind : (line : List ℕ) → length line ≤ 4100 → 2 ≤ length line → isSome (bytesOf line) ≡ true → readFrame line ≡ frameOf (some (pairOf (getD line 0 0) (getD line 1 0) ∷ decoded (drop 2 line)))
 unfolding readFrame decoded
 read-kind [] h g e = absurd (omega arith)
 read-kind (c ∷ []) h g e = absurd (omega arith)
@@ -47,7 +47,7 @@ read-kind (c ∷ b ∷ t) h g e = rw (le-leb (length (c ∷ b ∷ t)) 4100 h, by
 
 module _ (k : ℕ) where
   -- a first byte with bytes behind it is a bad frame, or holds those
-  pub kind-holds : (bs : List ℕ) → (frameOf (some (k ∷ bs)) ≡ badFrame) ⊎ (behindKind (frameOf (some (k ∷ bs))) ≡ bs)
+  kind-holds : (bs : List ℕ) → (frameOf (some (k ∷ bs)) ≡ badFrame) ⊎ (behindKind (frameOf (some (k ∷ bs))) ≡ bs)
   unfolding frameOf behindKind walkFrame
   kind-holds bs = go (eqb k 0x4D) (eqb k 0x4E) (eqb k 0x43) (eqb k 0x57) bs
     where
@@ -63,7 +63,7 @@ module _ (k : ℕ) where
       go false false false true (o ∷ x ∷ t) = inl refl
 
   -- its answer, by how many the bytes are, and the first of them where there is one
-  pub kind-answer : (bs : List ℕ) (o : ℕ) → (length bs ≡ 1 → o ≡ getD bs 0 0) → kindIs k (length bs) o ≡ answerIs (frameOf (some (k ∷ bs)))
+  kind-answer : (bs : List ℕ) (o : ℕ) → (length bs ≡ 1 → o ≡ getD bs 0 0) → kindIs k (length bs) o ≡ answerIs (frameOf (some (k ∷ bs)))
   unfolding frameOf answerIs walkFrame kindIs
   kind-answer bs o = go (eqb k 0x4D) (eqb k 0x4E) (eqb k 0x43) (eqb k 0x57) bs
     where
@@ -80,7 +80,7 @@ module _ (k : ℕ) where
       go false false false true (x ∷ y ∷ t) h = rw (ne-eqb (suc (suc (length t))) 1 (λ e. omega arith))
 
 -- only a bad frame is answered so
-pub answer-bad : (f : Meant) → answerIs f ≡ Bad → f ≡ badFrame
+answer-bad : (f : Meant) → answerIs f ≡ Bad → f ≡ badFrame
 unfolding answerIs
 answer-bad (tableBytes bs) e = cc
 answer-bad (namespaceBytes bs) e = cc
@@ -89,7 +89,7 @@ answer-bad (walkWith o) e = cc
 answer-bad badFrame e = refl
 
 -- the bytes that fit, of a frame that is read over so many
-pub within-fits : (room : ℕ) (line : List ℕ) → length (behindKind (readWithin room line)) ≤ room
+within-fits : (room : ℕ) (line : List ℕ) → length (behindKind (readWithin room line)) ≤ room
 unfolding readWithin fitting behindKind
 within-fits room line = go (leb (length (behindKind (readFrame line))) room) refl
   where
@@ -97,7 +97,7 @@ within-fits room line = go (leb (length (behindKind (readFrame line))) room) ref
     go true e = leb-true (length (behindKind (readFrame line))) room e
     go false e = omega arith
 
-pub within-some : (room : ℕ) (line : List ℕ) → length (behindKind (readFrame line)) ≤ room → readWithin room line ≡ readFrame line
+within-some : (room : ℕ) (line : List ℕ) → length (behindKind (readFrame line)) ≤ room → readWithin room line ≡ readFrame line
 unfolding readWithin fitting
 within-some room line h = rw (le-leb (length (behindKind (readFrame line))) room h)
 
@@ -111,7 +111,7 @@ unfolding frameOf behindKind
 frame-small [] = omega arith
 frame-small (k ∷ bs) = ⊎-elim (λ z. omega (arith, ap (λ (f : Meant). length (behindKind f)) z)) (λ z. omega (arith, ap length z)) (kind-holds k bs)
 
-pub behind-small : (line : List ℕ) → length (behindKind (readFrame line)) ≤ 2049
+behind-small : (line : List ℕ) → length (behindKind (readFrame line)) ≤ 2049
 unfolding readFrame frameOf behindKind isSome
 behind-small line = go (leb (length line) 4100) refl (bytesOf line) refl
   where
@@ -124,14 +124,14 @@ behind-small line = go (leb (length line) 4100) refl (bytesOf line) refl
         omega (arith, leb-true (length line) 4100 e, ap length z, length-decoded line, frame-small bs)
 
 -- so 2,050 bytes are enough
-pub within-whole : (room : ℕ) (line : List ℕ) → 2050 ≤ room → readWithin room line ≡ readFrame line
+within-whole : (room : ℕ) (line : List ℕ) → 2050 ≤ room → readWithin room line ≡ readFrame line
 within-whole room line h = within-some room line (omega (arith, behind-small line))
 
 taken : (d bs : List ℕ) → length bs ≤ length d → take (length bs) (sets d 0 bs) ≡ bs
 taken d bs h = ap (take (length bs)) (front d bs h) ∙ take-append-seam bs (drop (length bs) d)
 
 -- the answer of a frame, beside its bytes, means the frame
-pub answer-means : (d : List ℕ) (f : Meant) → length (behindKind f) ≤ length d → frameIs (sets d 0 (behindKind f)) (answerIs f) ≡ f
+answer-means : (d : List ℕ) (f : Meant) → length (behindKind f) ≤ length d → frameIs (sets d 0 (behindKind f)) (answerIs f) ≡ f
 unfolding frameIs answerIs behindKind
 answer-means d (tableBytes bs) h = ap tableBytes (taken d bs h)
 answer-means d (namespaceBytes bs) h = ap namespaceBytes (taken d bs h)
@@ -148,7 +148,7 @@ answer-size (walkWith o) = refl
 answer-size badFrame = refl
 
 -- the answer and the bytes are all that a reading promises
-pub frame-read : (line d e : List ℕ) (r : Frame) → r ≡ answerIs (readWithin (length d) line) → e ≡ sets d 0 (behindKind (readWithin (length d) line)) → FrameRead line d e r
+frame-read : (line d e : List ℕ) (r : Frame) → r ≡ answerIs (readWithin (length d) line) → e ≡ sets d 0 (behindKind (readWithin (length d) line)) → FrameRead line d e r
 frame-read line d e r a b =
     record {
       means = λ h. rw (a, b) (answer-means d (readWithin (length d) line) (within-fits (length d) line) ∙ within-whole (length d) line h);
@@ -172,13 +172,13 @@ module _ (line : List ℕ) (most : length line ≤ 4100) (least : 2 ≤ length l
   behind-length : length (decoded (drop 2 line)) ≡ length line / 2 - 1
   behind-length = omega (arith, length-decoded (drop 2 line), length-drop 2 line)
 
-  pub read-answer : kindAnswer line ≡ answerIs (readFrame line)
+  read-answer : kindAnswer line ≡ answerIs (readFrame line)
   read-answer = rw (read-kind line most least text, ← behind-length) (kind-answer (pairOf (getD line 0 0) (getD line 1 0)) (decoded (drop 2 line)) (pairOf (getD line 2 0) (getD line 3 0)) first)
     where
       first : length (decoded (drop 2 line)) ≡ 1 → pairOf (getD line 2 0) (getD line 3 0) ≡ getD (decoded (drop 2 line)) 0 0
       first h = rw (decoded-at line 2 (omega (arith, behind-length)))
 
-  pub read-holds : (readFrame line ≡ badFrame) ⊎ (behindKind (readFrame line) ≡ decoded (drop 2 line))
+  read-holds : (readFrame line ≡ badFrame) ⊎ (behindKind (readFrame line) ≡ decoded (drop 2 line))
   read-holds = rw (read-kind line most least text) (kind-holds (pairOf (getD line 0 0) (getD line 1 0)) (decoded (drop 2 line)))
 
   module _ (d : List ℕ) where

@@ -14,7 +14,7 @@ use Rattle.frames.specs.declared.storing.Stored.the-variants.{Now, NoRoo
 use Rattle.frames.specs.Storing.{hasPlace, Stores}
 
 -- bytes written behind the first ones
-pub written-behind : (d bs : List ℕ) (used : ℕ) → used + length bs ≤ length d → take (used + length bs) (sets d used bs) ≡ take used d ++ bs
+written-behind : (d bs : List ℕ) (used : ℕ) → used + length bs ≤ length d → take (used + length bs) (sets d used bs) ≡ take used d ++ bs
 written-behind d bs used h =
     ap (take (used + length bs)) (sets-eq bs d used h) ∙ take-at (take used d ++ bs) (drop (used + length bs) d) (used + length bs) (omega (arith, length-append (take used d) bs, length-take-le used d (omega arith)))
 

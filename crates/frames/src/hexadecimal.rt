@@ -8,7 +8,7 @@ ghost use Rattle.octets.specs.Put.{Put};
 ghost use Rattle.frames.specs.Hexadecimal.{digitIs, isSome, valueOf, pairOf, decoded};
 
 // A character as a hexadecimal digit: its value, 0 to 15.
-pub enum Digit {
+pub(crate) enum Digit {
     Value(u8),
     Other,
 }

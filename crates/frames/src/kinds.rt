@@ -1,9 +1,9 @@
 // The first bytes of frames and of the lines that answer them.
 
 // "4D and a row", "4E and an entry", "43 is a command", "57 one option byte".
-pub const TABLE: u8 = 0x4D;
+pub(crate) const TABLE: u8 = 0x4D;
 
-pub const NAMESPACES: u8 = 0x4E;
+pub(crate) const NAMESPACES: u8 = 0x4E;
 
 pub(crate) const COMMAND: u8 = 0x43;
 

@@ -20,7 +20,7 @@ use Rattle.listing_rules.proofs.NameFlags.{implied-flags}
 use Rattle.list_answer.proofs.Prefixes.{Less, mem-right}
 
 module _ {A : Type 0} (f : A → Bool) where
-  pub any-none : (a : List A) → ((z : A) → List·Memᴰ z a → f z ≡ false) → anyOf f a ≡ false
+  any-none : (a : List A) → ((z : A) → List·Memᴰ z a → f z ≡ false) → anyOf f a ≡ false
   any-none a h = go (anyOf f a) refl
     where
       go : (b : Bool) → anyOf f a ≡ b → b ≡ false
@@ -63,7 +63,7 @@ later-less [] a (suc i) r more e q m = absurd (nil≢cons e)
 later-less (x ∷ rs) a (suc i) r more e q m = later-less rs (a .1) i r more e q m
 
 -- every row before a place comes before the row at it
-pub earlier-less : (rs : List Row) → Asc byteOrder (names rs) → (i : ℕ) (r : Row) (more : List Row) → drop i rs ≡ r ∷ more → (q : Row) → List·Memᴰ q (take i rs) → Less (q .name) (r .name)
+earlier-less : (rs : List Row) → Asc byteOrder (names rs) → (i : ℕ) (r : Row) (more : List Row) → drop i rs ≡ r ∷ more → (q : Row) → List·Memᴰ q (take i rs) → Less (q .name) (r .name)
 unfolding names
 earlier-less rs a zero r more e q m = absurd (List·Memᴰ·not-nil m)
 earlier-less [] a (suc i) r more e q m = absurd (List·Memᴰ·not-nil m)
@@ -103,7 +103,3 @@ pub joined-append : (a b : List (List ℕ)) → joined (a ++ b) ≡ joined a ++ 
 unfolding joined
 joined-append [] b = refl
 joined-append (x ∷ a) b = ap (λ (l : List ℕ). x ++ l) (joined-append a b) ∙ sym (append-assoc x (joined a) (joined b))
-
-pub map-append : {A B : Type 0} (f : A → B) (a b : List A) → map f (a ++ b) ≡ map f a ++ map f b
-map-append f [] b = refl
-map-append {A} {B} f (x ∷ a) b = ap (λ (l : List B). f x ∷ l) (map-append f a b)

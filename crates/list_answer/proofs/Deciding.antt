@@ -72,7 +72,7 @@ module _ (area words : List ℕ) (x : Indexed area words) (b : Beginning) (a : A
   abbrev whole : Bool
   whole = eqb (nthRow words (b .row) .len) (b .len)
 
-  pub begins-here : Begins area words (b .row) (b .len)
+  begins-here : Begins area words (b .row) (b .len)
   begins-here = record { indexed = x; row = a .row; within = a .within }
 
   asc : Asc byteOrder (names table)

@@ -23,7 +23,7 @@ use Rattle.listing_rules.proofs.Ancestors.{anc-below, below-anc, candidate, can
 use Rattle.listing_rules.proofs.LawfulNames.{below-split, good-below, good-parts}
 use Rattle.listing_rules.proofs.NameFlags.{implied-meets-not, candidate-row}
 use Rattle.list_answer.specs.Prefixes.{prefixes}
-use Rattle.list_answer.specs.Index.{Lawful}
+use Rattle.mailbox_table.specs.Index.{Lawful}
 use Rattle.list_answer.specs.Shown.{lineOn, shownText}
 use Rattle.list_answer.proofs.AtRow.{joined-shown}
 use Rattle.list_answer.proofs.Prefixes.{prefixes-have, prefixes-asc, AllFull}
@@ -87,7 +87,7 @@ module _ (rs : List Row) (o : Options) (ps : List (List ℕ)) where
             begins (w .0) z (slash ∷ v .0) (w .1) (good-below z (w .0 .name) good b) (v .1)
 
     -- the listed names, found among the beginnings
-    pub listed-prefixes : ascends (names rs) ≡ true → keep (listed rs o ps) (prefixes rs) ≡ listedNames rs o ps
+    listed-prefixes : ascends (names rs) ≡ true → keep (listed rs o ps) (prefixes rs) ≡ listedNames rs o ps
     unfolding listedNames
     listed-prefixes a =
         decided byteOrder bytes-total (keep L (prefixes rs)) (keep L (candidates rs)) (asc-keep byteOrder L (prefixes rs) (prefixes-asc rs a full)) (asc-keep byteOrder L (candidates rs) cand-asc)

@@ -1,7 +1,7 @@
 -- The marks of rows: what the code finds is what they say, and words with marks are an index of the same rows.
 use mathlib.Core.Path.{_≡_, refl, sym, ap, _∙_, subst}
 use mathlib.Core.Bool.{Bool, true, false, _&&_, _||_, not}
-use mathlib.Core.List.{List, [], _∷_, map}
+use mathlib.Core.List.{List, [], _∷_, map, map-append}
 use Prim.Native.Nat.{ℕ, zero, suc, _+_, _/_, _^_, _≤_, _<_}
 use native.Mathlib.Numerals.{add-one}
 use native.Mathlib.Nat.{mod-lt, zero-lt-suc}
@@ -23,18 +23,16 @@ use Rattle.command_line.specs.OptionSets.{optionsIs}
 use Rattle.mailbox_table.specs.declared.rows.Row.{Row as Place}
 use Rattle.mailbox_table.specs.Words.{rowOfWord}
 use Rattle.mailbox_table.specs.Shared.{sharedLen}
-use Rattle.mailbox_table.specs.Index.{nameAt, nthRow, nthName, rowAtWord, rowsAt, Indexed}
+use Rattle.mailbox_table.specs.Index.{nameAt, nthRow, nthName, rowAtWord, rowsAt, Indexed, Index, Lawful}
 use Rattle.mailbox_table.specs.Below.{marksOf}
 use Rattle.mailbox_table.proofs.ScanLaws.{marks-with, row-with}
 use Rattle.pattern.specs.Packed.{unpacked}
 use Rattle.pattern.specs.Chosen.{chosen}
 use Rattle.pattern.proofs.Chosen.{chosen-all}
 use Rattle.list_answer.specs.declared.question.Question.{Question}
-use Rattle.list_answer.specs.Index.{Index, Lawful}
 use Rattle.list_answer.specs.Marks.{levelOnly, meetsMark, unmatchedMark, childMark, matchedMark, rowMarks, markedWord}
 use Rattle.list_answer.specs.Ready.{Knows, Marked, Ready}
 use Rattle.list_answer.specs.Shown.{answerFor, replyTo}
-use Rattle.list_answer.proofs.AtRow.{map-append}
 use Rattle.list_answer.proofs.Levels.{recursive-levels}
 
 -- a name of the index is short enough for the match
@@ -124,7 +122,7 @@ module _ (area : List ℕ) (f : ℕ → ℕ) (same : (w : ℕ) → rowOfWord (f 
   row-same (w ∷ ws) zero = same w
   row-same (w ∷ ws) (suc k) = row-same ws k
 
-  pub nth-same : (ws : List ℕ) (k : ℕ) → rowAtWord area (getD (map f ws) k 0) ≡ rowAtWord area (getD ws k 0)
+  nth-same : (ws : List ℕ) (k : ℕ) → rowAtWord area (getD (map f ws) k 0) ≡ rowAtWord area (getD ws k 0)
   nth-same ws k = place-row area (getD (map f ws) k 0) (getD ws k 0) (row-same ws k)
 
   index-same : (ws : List ℕ) → Indexed area ws → Indexed area (map f ws)
@@ -169,7 +167,7 @@ module _ (area patterns : List ℕ) (q : Question) where
   nth-marks (w ∷ ws) zero h = marked-marks w
   nth-marks (w ∷ ws) (suc k) h = nth-marks ws k (omega arith)
 
-  pub marked-rows : (ws : List ℕ) → rowsAt area (map (markedWord area patterns q) ws) ≡ rowsAt area ws
+  marked-rows : (ws : List ℕ) → rowsAt area (map (markedWord area patterns q) ws) ≡ rowsAt area ws
   marked-rows = rows-same area mark marked-row
 
   pub marked-ready : (ws : List ℕ) → Index area ws → Knows patterns q → Ready area (map (markedWord area patterns q) ws) patterns q

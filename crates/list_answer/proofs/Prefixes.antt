@@ -23,7 +23,7 @@ abbrev pub Less : List ℕ → List ℕ → Type 0
 Less p q = byteOrder p q ≡ Ordering·lt
 
 -- members of two lists, one after the other
-pub mem-left : {A : Type 0} {x : A} {l : List A} (m : List A) → List·Memᴰ x l → List·Memᴰ x (l ++ m)
+mem-left : {A : Type 0} {x : A} {l : List A} (m : List A) → List·Memᴰ x l → List·Memᴰ x (l ++ m)
 mem-left m (List·Memᴰ·head e) = List·Memᴰ·head e
 mem-left m (List·Memᴰ·tail k) = List·Memᴰ·tail (mem-left m k)
 
@@ -41,7 +41,7 @@ prefix-less (x ∷ p) q b = rw (eq-compare x) (prefix-less p q b)
 -- The beginnings beyond a place
 
 -- each is what was done and one byte more at least
-pub growing-mem : (done rest p : List ℕ) → List·Memᴰ p (growing done rest) → (b : ℕ) × (q : List ℕ) × (r : List ℕ) × (p ≡ done ++ (b ∷ q)) × (rest ≡ b ∷ (q ++ r))
+growing-mem : (done rest p : List ℕ) → List·Memᴰ p (growing done rest) → (b : ℕ) × (q : List ℕ) × (r : List ℕ) × (p ≡ done ++ (b ∷ q)) × (rest ≡ b ∷ (q ++ r))
 unfolding growing
 growing-mem done [] p m = absurd (List·Memᴰ·not-nil m)
 growing-mem done (b ∷ rest) p m = go (List·Memᴰ·cases-cons m) (λ k. growing-mem (done ++ (b ∷ [])) rest p k)
@@ -55,7 +55,7 @@ growing-mem done (b ∷ rest) p m = go (List·Memᴰ·cases-cons m) (λ k. growi
         let w = ih k in
         (b, w .0 ∷ w .1, w .2, w .3 ∙ append-assoc done (b ∷ []) (w .0 ∷ w .1), ap (λ (l : List ℕ). b ∷ l) (w .4))
 
-pub mem-growing : (done q r : List ℕ) (b : ℕ) → List·Memᴰ (done ++ (b ∷ q)) (growing done (b ∷ (q ++ r)))
+mem-growing : (done q r : List ℕ) (b : ℕ) → List·Memᴰ (done ++ (b ∷ q)) (growing done (b ∷ (q ++ r)))
 unfolding growing
 mem-growing done [] r b = List·Memᴰ·head refl
 mem-growing done (c ∷ q) r b =
@@ -73,7 +73,7 @@ growing-asc done (b ∷ rest) = (
 -- What a name shares with the one before
 
 -- a beginning beyond what is shared comes after the name before
-pub shared-less : (a n : List ℕ) → Less a n → (b : ℕ) (q r : List ℕ) → drop (sharedLen a n) n ≡ b ∷ (q ++ r) → Less a (take (sharedLen a n) n ++ (b ∷ q))
+shared-less : (a n : List ℕ) → Less a n → (b : ℕ) (q r : List ℕ) → drop (sharedLen a n) n ≡ b ∷ (q ++ r) → Less a (take (sharedLen a n) n ++ (b ∷ q))
 unfolding sharedLen byteOrder lexBy thenBy
 shared-less [] n h b q r e = refl
 shared-less (x ∷ a) [] h b q r e = cc

@@ -1,7 +1,7 @@
 -- The text of the names that begin at a row, and of all rows, step by step. Rests on Deciding and Showing.
 use mathlib.Core.Path.{_≡_, refl, sym, ap, _∙_}
 use mathlib.Core.Bool.{Bool, true, false, cond, _||_}
-use mathlib.Core.List.{List, [], _∷_, _++_, map}
+use mathlib.Core.List.{List, [], _∷_, _++_, map, map-append}
 use Prim.Native.Nat.{ℕ, zero, suc, _+_, _-_, _≤_, _<_}
 use native.Mathlib.Numerals.{add-one}
 use native.Mathlib.Omega.{arith}
@@ -18,7 +18,7 @@ use Rattle.mailbox_table.proofs.IndexLaws.{name-length, shares-less, shared-at}
 use Rattle.list_answer.specs.Prefixes.{growing, longer, prefixesAfter}
 use Rattle.list_answer.specs.Marks.{levelsAsked}
 use Rattle.list_answer.specs.Shown.{shownText}
-use Rattle.list_answer.proofs.AtRow.{noRow, joined-append, map-append}
+use Rattle.list_answer.proofs.AtRow.{noRow, joined-append}
 use Rattle.list_answer.proofs.Deciding.{map-at, flags-proper}
 use Rattle.list_answer.proofs.Showing.{text-implied}
 

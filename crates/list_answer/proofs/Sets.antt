@@ -25,7 +25,7 @@ next-member : (bs : List Bool) (b : Bool) → 2 * 2 ^ length bs ≡ 2 ^ length (
 next-member bs b = let w : length (bs ++ (b ∷ [])) ≡ suc (length bs) = omega (arith, length-append bs (b ∷ [])) in rw w (omega (arith, pow-suc 2 (length bs)))
 
 -- members after those of a set
-pub set-adds : (bs cs : List Bool) → adds (setOf bs) (2 ^ length bs) cs ≡ setOf (bs ++ cs)
+set-adds : (bs cs : List Bool) → adds (setOf bs) (2 ^ length bs) cs ≡ setOf (bs ++ cs)
 unfolding adds
 set-adds bs [] = ap setOf (sym (append-nil bs))
 set-adds bs (c ∷ cs) =
@@ -51,7 +51,7 @@ noselect-alone false = refl
 
 -- the sixteen attributes in three groups
 pub sixteen-adds : (f : ℕ) (s u c d : Bool) → adds (adds (adds 0 1 (ownAttributes f s)) 128 (useAttributes f u)) 16384 (c ∷ d ∷ []) ≡ setOf (ownAttributes f s ++ (useAttributes f u ++ (c ∷ d ∷ [])))
-unfolding ownAttributes useAttributes
+unfolding ownAttributes useAttributes inOrder
 sixteen-adds f s u c d =
     ap (λ (x : ℕ). adds (adds x 128 (useAttributes f u)) 16384 (c ∷ d ∷ [])) (adds-all (ownAttributes f s))
     ∙ ap (λ (x : ℕ). adds x 16384 (c ∷ d ∷ [])) (set-adds (ownAttributes f s) (useAttributes f u))

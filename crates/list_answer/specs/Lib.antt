@@ -1,6 +1,5 @@
 -- What the code of the LIST and LSUB answers means beside document 01's definitions.
 pub mod Sets
-pub mod Index
 pub mod Prefixes
 pub mod Attributes
 pub mod Marks

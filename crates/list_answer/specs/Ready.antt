@@ -10,12 +10,11 @@ use Rattle.listing_rules.specs.Listing.{endsInPercent}
 use Rattle.list_line.specs.declared.words.LineWord.the-variants.{List as OfList, Lsub as OfLsub}
 use Rattle.command_line.specs.declared.Options.{Options}
 use Rattle.command_line.specs.OptionSets.{optionsIs}
-use Rattle.mailbox_table.specs.Index.{nthRow, rowAtWord}
+use Rattle.mailbox_table.specs.Index.{nthRow, rowAtWord, Index}
 use Rattle.mailbox_table.specs.Below.{marksOf}
 use Rattle.pattern.specs.Packed.{unpacked}
 use Rattle.list_answer.specs.declared.question.Question.{Question}
 use Rattle.list_answer.specs.declared.decide.Beginning.{Beginning}
-use Rattle.list_answer.specs.Index.{Index}
 use Rattle.list_answer.specs.Marks.{levelsAsked, rowMarks}
 
 -- a question knows whether levels are listed

@@ -19,7 +19,7 @@ ghost use lib.ListN.{length};
 ghost use Rattle.octets.specs.Put.{Put};
 ghost use Rattle.octets.specs.Written.{Gives};
 ghost use Rattle.pattern.specs.Packed.{unpacked};
-ghost use Rattle.list_answer.specs.Index.{Index};
+ghost use Rattle.mailbox_table.specs.Index.{Index};
 ghost use Rattle.list_answer.specs.Ready.{Knows, Ready, At};
 ghost use Rattle.list_answer.specs.Shown.{textAt, rowText, rowsText, answerText, replyTo, listReply, lsubReply};
 

@@ -14,6 +14,7 @@ use borrow.Author.Tests.{eq-eqb, ne-eqb, eqb-true}
 use Rattle.listing_rules.specs.Bytes.{bit, isEmpty}
 use Rattle.listing_rules.specs.Options.{Criteria, isNone}
 use Rattle.listing_rules.specs.Reader.{sameBools, rootAttributes, rootParts}
+use Rattle.listing_rules.proofs.RoundTrip.{sameBools-true}
 use Rattle.octets.specs.Sets.{contains}
 use Rattle.octets.proofs.Sets.{contains-bit}
 use Rattle.list_line.specs.Members.{members, setOf}
@@ -130,7 +131,7 @@ shifted : (x k : ℕ) → x / 2 ^ suc k ≡ x / 2 / 2 ^ k
 shifted x k = rw pow-succ' (sym (div-div-eq-div-mul x 2 (2 ^ k)))
 
 -- member k of a set that was made of its members
-pub bit-setOf : (k : ℕ) (bs : List Bool) → bit k (setOf bs) ≡ getD bs k false
+bit-setOf : (k : ℕ) (bs : List Bool) → bit k (setOf bs) ≡ getD bs k false
 unfolding setOf bit
 bit-setOf k [] = ne-eqb (0 / 2 ^ k % 2) 1 (λ e. omega (arith, zero-div (2 ^ k)))
 bit-setOf zero (true ∷ bs) = eq-eqb ((1 + 2 * setOf bs) / 1 % 2) 1 (omega (arith, div-one (1 + 2 * setOf bs)))
@@ -146,18 +147,8 @@ bit-setOf (suc k) (b ∷ bs) =
 pub contains-setOf : (k : ℕ) (bs : List Bool) → contains (setOf bs) (2 ^ k) ≡ getD bs k false
 contains-setOf k bs = contains-bit k (setOf bs) ∙ bit-setOf k bs
 
-sameBools-true : (xs ys : List Bool) → sameBools xs ys ≡ true → xs ≡ ys
-unfolding sameBools
-sameBools-true [] [] e = refl
-sameBools-true [] (y ∷ ys) e = cc
-sameBools-true (x ∷ xs) [] e = cc
-sameBools-true (true ∷ xs) (true ∷ ys) e = ap (_∷_ true) (sameBools-true xs ys e)
-sameBools-true (true ∷ xs) (false ∷ ys) e = cc
-sameBools-true (false ∷ xs) (true ∷ ys) e = cc
-sameBools-true (false ∷ xs) (false ∷ ys) e = ap (_∷_ false) (sameBools-true xs ys e)
-
 -- the root line's attributes are the set 4, \Noselect
-pub root-members : (a : ℕ) → a < 65536 → sameBools (members a) rootAttributes ≡ eqb a 4
+root-members : (a : ℕ) → a < 65536 → sameBools (members a) rootAttributes ≡ eqb a 4
 unfolding sameBools rootAttributes members bit setOf
 root-members a h = go (eqb a 4) refl (sameBools (members a) rootAttributes) refl
   where

@@ -2,7 +2,7 @@
 use mathlib.Core.Path.{_≡_, refl, sym, ap, subst, _∙_}
 use mathlib.Core.Bool.{true, false, _||_}
 use mathlib.Core.List.{List, [], _∷_, _++_, append-assoc, append-nil}
-use mathlib.Core.Logic.{_⊎_, inl, inr, ⊎-elim}
+use mathlib.Core.Logic.{_⊎_, ⊎-elim}
 use mathlib.Core.Option.{Option, none, some, IsSome}
 use Prim.Native.Nat.{ℕ, suc, _+_, _≤_, _<_}
 use native.Mathlib.Nat.{zero-add}
@@ -15,7 +15,7 @@ use lib.Seq.{drop-cons, sets}
 use borrow.Author.Tests.{eq-eqb, ne-eqb}
 use Rattle.listing_rules.specs.Bytes.{quote, backslash}
 use Rattle.listing_rules.specs.Tokens.{Got, got, withFirst, unquoted, _>>=_}
-use Rattle.octets.proofs.Puts.{sets-append}
+use Rattle.octets.proofs.Puts.{either, sets-append}
 use Rattle.list_line.specs.Parts.{Next, Names}
 use Rattle.list_line.specs.declared.read.Piece.the-variants.{Byte, End, Missing as NoPiece}
 use Rattle.list_line.specs.declared.read.Name.the-variants.{Of, Missing as NoName}
@@ -45,9 +45,6 @@ module _ (l : List ℕ) (i : ℕ) where
     escape-inside : (eqb (getD l (i + 1) 0) 34 || eqb (getD l (i + 1) 0) 92) ≡ true → i + 1 < length l
     escape-inside e = ⊎-elim outside (λ g. g) (either (length l) (i + 1))
       where
-        either : (a b : ℕ) → (a ≤ b) ⊎ (b < a)
-        either a b = elim (decLe a b) [ yes g ↦ inl g | no g ↦ inr (omega arith) ]
-
         outside : length l ≤ i + 1 → i + 1 < length l
         outside g =
             let z : getD l (i + 1) 0 ≡ 0 = List·getD-eq-default l 0 g in

@@ -3,8 +3,7 @@ use mathlib.Core.Path.{_≡_, refl, sym, ap, _∙_, subst}
 use mathlib.Core.Bool.{Bool, true, false, cond, _&&_}
 use mathlib.Core.List.{List, [], _∷_, _++_}
 use mathlib.Core.Option.{Option, none, some}
-use Prim.Native.Nat.{ℕ, zero, suc, _+_, _-_, _≤_, _<_}
-use native.Mathlib.Nat.{sub-zero, zero-sub, suc-sub-suc}
+use Prim.Native.Nat.{ℕ, _+_, _-_, _≤_, _<_}
 use native.Mathlib.Omega.{arith}
 use lib.Dec.{leb}
 use lib.ListN.{length, take, drop, replicate, length-replicate, length-drop}
@@ -18,6 +17,7 @@ use Rattle.listing_rules.specs.Options.{Criteria, criteriaOf, criteriaNumber}
 use Rattle.listing_rules.specs.Lines.{attributeNames, rootLine}
 use Rattle.listing_rules.specs.Reader.{Read, line, bad, readChosen, childInfoRead, readParts, orBad, readLine, nameBytes, nameRead}
 use Rattle.listing_rules.proofs.Keys.{openBytes, openOptions, openLines, openReader}
+use Rattle.octets.proofs.Clearing.{drop-zeros}
 use Rattle.octets.proofs.Puts.{front}
 use Rattle.list_line.specs.Members.{setOf}
 use Rattle.list_line.specs.Lines.{lineIs}
@@ -85,11 +85,6 @@ long-unlawful n h = rw (lt-leb (length n) 200 h) (all-false (leb 1 (length n)))
     all-false : (o : Bool) → (o && false && all nameByte n && leb (length (levels n)) 16 && every isFull (levels n) && inboxSpelled (levels n)) ≡ false
     all-false true = refl
     all-false false = refl
-
-drop-zeros : (n k : ℕ) → drop {A = ℕ} k (replicate n 0) ≡ replicate (n - k) 0
-drop-zeros n zero = rw sub-zero
-drop-zeros zero (suc k) = rw zero-sub
-drop-zeros (suc n) (suc k) = drop-zeros n k ∙ rw suc-sub-suc
 
 -- a name at the front of 200 zeros, and its first bytes
 module _ (d s : List ℕ) (z : d ≡ replicate 200 0) (h : length s ≤ 200) where

@@ -58,7 +58,7 @@ module _ (t u : Table) where
 
 -- A count above the records lent, or above 512, fails.
 module _ (area : List ℕ) (rs : List Record) (count : ℕ) where
-  pub few-fail : length rs < count → passes (recordTable area rs count) ≡ false
+  few-fail : length rs < count → passes (recordTable area rs count) ≡ false
   unfolding recordTable passes
   few-fail h = rw (lt-leb count (length rs) h) refl
 
@@ -76,7 +76,7 @@ module _ (area : List ℕ) (rs : List Record) (count : ℕ) where
       by-test true e = let few = rows-parts held e .few in absurd (omega (arith, few, many, h))
       by-test false e = e
 
-  pub many-fail : 512 < count → passes (recordTable area rs count) ≡ false
+  many-fail : 512 < count → passes (recordTable area rs count) ≡ false
   unfolding recordTable passes
   many-fail h = by-count (leb count (length rs)) refl
     where

@@ -19,7 +19,7 @@ use Rattle.listing_rules.specs.Lines.{listLine, okLine}
 use Rattle.listing_rules.specs.Server.{answered, refusal, answer, answerTo, limited, lineOf, listAnswer}
 use Rattle.listing_rules.specs.Reader.{line, readLine}
 use Rattle.listing_rules.proofs.Keys.{openBytes, openLists, openNamespaces, openTokens, openLines, openReader}
-use Rattle.listing_rules.specs.Walk.{lawfulByte, Lists, stop, _>>=_, commandLine, linesOf, packed, go, isFind, withName, fits, takenIn, takenAll, replied, asked}
+use Rattle.listing_rules.specs.Walk.{lawfulByte, Lists, stop, _then_, commandLine, linesOf, packed, go, isFind, withName, fits, takenIn, takenAll, replied, asked}
 use Rattle.listing_rules.specs.Demand3.{walkOptions}
 use Rattle.listing_rules.proofs.Bools.{and-l, and-r}
 use Rattle.listing_rules.proofs.ListLaws.{all-imp, every-mem, mem-every, keep-mem}
@@ -40,7 +40,7 @@ packed-append (n ∷ a) b = ap (λ (x : List ℕ). (length n ∷ n) ++ x) (packe
 pub packed-le : (a b : List (List ℕ)) (room : ℕ) → length (packed (a ++ b)) ≤ room → length (packed a) ≤ room
 packed-le a b room h = omega (arith, ap length (packed-append a b), length-append (packed a) (packed b))
 
-pub with-keep : (F : List ℕ → Bool) (n : List ℕ) (ns rest : List (List ℕ)) → withName (F n) n ns ++ keep F rest ≡ ns ++ keep F (n ∷ rest)
+with-keep : (F : List ℕ → Bool) (n : List ℕ) (ns rest : List (List ℕ)) → withName (F n) n ns ++ keep F rest ≡ ns ++ keep F (n ∷ rest)
 unfolding withName keep
 with-keep F n ns rest = pick (F n)
   where
@@ -79,11 +79,11 @@ module _ (o found pending : ℕ) (L : Name → List ℕ) (B : Name → List Bool
   abbrev named : Name → Bool
   named n = not (isNone (C n))
 
-  pub taken-cases : (ns f a : List Name) → every lawfulName ns ≡ true → Sizes found pending f a
+  taken-cases : (ns f a : List Name) → every lawfulName ns ≡ true → Sizes found pending f a
       → Outcome (takenAll o found pending (listsOf f a) (map L ns ++ (okLine (text "w") ∷ []))) (listsOf (f ++ findsAmong ns) (a ++ keep named ns))
       (Sizes found pending (f ++ findsAmong ns) (a ++ keep named ns))
   unfolding takenAll takenIn openBytes openLists openLines openTokens openReader
-  taken-cases [] f a g h = rw (append-nil f, append-nil a) (went (unfold _>>=_ in refl) h)
+  taken-cases [] f a g h = rw (append-nil f, append-nil a) (went (unfold _then_ in refl) h)
   taken-cases (n ∷ ns) f a g h =
       rw (reads n (and-l (lawfulName n) (every lawfulName ns) g), ← with-keep (λ n. isFind o (B n)) n f ns, ← with-keep named n a ns)
       (then-step _
@@ -123,11 +123,11 @@ module _ (t : Table) (o : ℕ) (ref : List ℕ) where
   unfolding answer answerTo openNamespaces openLists
   answer-is y h b l = rw (h, sent o ref y b l)
 
-  pub good-listed : passes t ≡ true → every lawfulName names-listed ≡ true
+  good-listed : passes t ≡ true → every lawfulName names-listed ≡ true
   unfolding listedNames
   good-listed h = mem-every lawfulName names-listed (λ n m. candidate-good t h n (keep-mem (listed (rows t) (walkOptions o) pats) (candidates (rows t)) n m .0))
 
-  pub lines-are : passes t ≡ true → linesOf (listAnswer (rows t) (text "w") (walkOptions o) pats) ≡ map (λ n. listLine (attrsOf n) n (childOf n)) names-listed ++ (okLine (text "w") ∷ [])
+  lines-are : passes t ≡ true → linesOf (listAnswer (rows t) (text "w") (walkOptions o) pats) ≡ map (λ n. listLine (attrsOf n) n (childOf n)) names-listed ++ (okLine (text "w") ∷ [])
   unfolding listAnswer lineOf
   lines-are h =
       lines-joined (λ n. listLine (attrsOf n) n (childOf n)) (λ n. lineBody (attrsOf n) n (childOf n)) (λ n. line-body (attrsOf n) n (childOf n)) names-listed (okLine (text "w"))

@@ -84,7 +84,7 @@ module _ (kids : Name → List Name) (kidsAsc : (a : Name) → Asc walkOrder (ki
   not-lt-higher : (b e : Name) → depth e < depth b → walkOrder b e ≡ Ordering·lt → ⊥
   not-lt-higher b e h l = let g = walk-higher b e h in let z : _≡_ {A = ℕ} 0 1 = cc in omega arith
 
-  pub good-next : (a : Name) (q : List Name) → Good (a ∷ q) → Good (q ++ kids a)
+  good-next : (a : Name) (q : List Name) → Good (a ∷ q) → Good (q ++ kids a)
   good-next a [] g = start (kids a) (kidsAsc a) (λ e m. kid-depth a e m)
     where
       start : (ks : List Name) → Asc walkOrder ks → ((e : Name) → List·Memᴰ e ks → depth e ≡ suc (depth a)) → Good ks

@@ -31,7 +31,7 @@ concluded-ends s room (stored t) (answered a) = go (leb (length a) room)
     go true = made t a refl refl refl
     go false = left 9 refl
 
-pub command-ends : (s : Store) (spaces l buffer : List ℕ) → Ending s (attempted s (parsed l)) (answer (storeTable s) spaces l) (commanded s spaces l buffer)
+command-ends : (s : Store) (spaces l buffer : List ℕ) → Ending s (attempted s (parsed l)) (answer (storeTable s) spaces l) (commanded s spaces l buffer)
 unfolding commanded
 command-ends s spaces l buffer = concluded-ends s (length buffer) (attempted s (parsed l)) (answer (storeTable s) spaces l)
 
@@ -189,7 +189,7 @@ command-passes s spaces l buffer h = go (commanded s spaces l buffer) (command-e
     go c (left k q) = ap (λ (d : Commanded). passes (storeTable (d .store))) q ∙ h
     go c (made t a x r q) = ap (λ (d : Commanded). passes (storeTable (d .store))) q ∙ attempted-passes s t (parsed l) h x
 
-pub command-set : (s : Store) (spaces l buffer m : List ℕ)
+command-set : (s : Store) (spaces l buffer m : List ℕ)
     → isIn (subscribedNames (commanded s spaces l buffer .store)) m
     ≡ setCommanded (isIn (subscribedNames s)) (parsed l) (commanded s spaces l buffer .reply) m
 command-set s spaces l buffer m = sound (passes (storeTable s)) refl
@@ -209,7 +209,7 @@ command-set s spaces l buffer m = sound (passes (storeTable s)) refl
     sound false h = subst Given (sym (unsound-refused s spaces l buffer h)) (kept 1)
 
 -- after any series of commands check 1 passes
-pub sent-passes : (s : Store) (cs : List Sent) → passes (storeTable s) ≡ true → passes (storeTable (commandedAll s cs)) ≡ true
+sent-passes : (s : Store) (cs : List Sent) → passes (storeTable s) ≡ true → passes (storeTable (commandedAll s cs)) ≡ true
 unfolding commandedAll sentTo
 sent-passes s [] h = h
 sent-passes s (c ∷ cs) h = sent-passes (commanded s (c .namespaces) (c .line) (c .buffer) .store) cs (command-passes s (c .namespaces) (c .line) (c .buffer) h)
@@ -235,7 +235,7 @@ series-set s has (c ∷ cs) like m =
 
 -- "After any series of edits the subscribed names are those that a plain set, starting with the table's and given the same accepted edits,
 --  names so spelled, would hold": for every store, with any commands between the edits
-pub sent-set : (s : Store) (cs : List Sent) (m : List ℕ) → isIn (subscribedNames (commandedAll s cs)) m ≡ setSent s (isIn (subscribedNames s)) cs m
+sent-set : (s : Store) (cs : List Sent) (m : List ℕ) → isIn (subscribedNames (commandedAll s cs)) m ≡ setSent s (isIn (subscribedNames s)) cs m
 sent-set s cs m = series-set s (isIn (subscribedNames s)) cs (λ n. refl) m
 
 -- The same of a table that passes, which then passes after them.

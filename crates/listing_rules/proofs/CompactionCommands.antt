@@ -243,7 +243,7 @@ ended-before s c spaces l buffer (room-given i d e) =
     }
 
 -- One theorem over commands: any line, namespace list and answer buffer.
-pub commanded-before : (s : Store) → passes (storeTable s) ≡ true → (spaces l buffer : List ℕ) → AsBefore s (compacted s) spaces l buffer
+commanded-before : (s : Store) → passes (storeTable s) ≡ true → (spaces l buffer : List ℕ) → AsBefore s (compacted s) spaces l buffer
 commanded-before s h spaces l buffer = ended-before s (compacted s) spaces l buffer (command-ended s h spaces l buffer)
 
 -- and over every store, whether it passes or is left unchanged

@@ -83,11 +83,11 @@ module _ (s : Store) (p : StoreParts s) where
   unfolding held
   held-length = length-map (held s) at ∙ length-take-le (s .count) (s .records) (p .counted)
 
-  pub held-moved : held (compacted s) ≡ map at (held s)
+  held-moved : held (compacted s) ≡ map at (held s)
   unfolding compacted held
   held-moved = take-at (map at (held s)) (drop (s .count) (s .records)) (s .count) held-length
 
-  pub spare-stay : drop (s .count) (compacted s .records) ≡ drop (s .count) (s .records)
+  spare-stay : drop (s .count) (compacted s .records) ≡ drop (s .count) (s .records)
   unfolding compacted
   spare-stay = drop-at (map at (held s)) (drop (s .count) (s .records)) (s .count) held-length
 
@@ -101,7 +101,7 @@ module _ (s : Store) (p : StoreParts s) where
   ends r m = place-end (held s) (s .area) (r .start) (r .len) (lies r m) (own-used (held s) r m)
 
   -- within the names together
-  pub moved-inside : (r : Record) → List·Memᴰ r (held s) → at r .start + at r .len ≤ length (namesTogether s)
+  moved-inside : (r : Record) → List·Memᴰ r (held s) → at r .start + at r .len ≤ length (namesTogether s)
   unfolding moved
   moved-inside r m = omega (arith, ends r m, place-most (held s) (s .area) (r .start + r .len) (lies r m))
 
@@ -112,7 +112,7 @@ module _ (s : Store) (p : StoreParts s) where
       ap (λ (n : List ℕ). record { flags = r .flags; name = n })
       (read-placed (held s) (s .area) (r .start) (r .len) (lies r m) (own-used (held s) r m) (replicate (length (s .area) - length (namesTogether s)) 0))
 
-  pub rows-moved : storeRows (compacted s) ≡ storeRows s
+  rows-moved : storeRows (compacted s) ≡ storeRows s
   unfolding storeRows recordRows
   rows-moved = ap (map (rowOf (compacted s .area))) held-moved ∙ map-through at (rowOf (compacted s .area)) (rowOf (s .area)) (held s) row-moved
 
@@ -147,7 +147,7 @@ module _ (s : Store) (p : StoreParts s) where
           ap (liesInside (compacted s .area)) (w .2)
           ∙ le-leb (at (w .0) .start + at (w .0) .len) (length (compacted s .area)) (omega (arith, moved-inside (w .0) (w .1), same-area s, used-most (held s) 0 (s .area)))
 
-  pub compacted-parts : StoreParts (compacted s)
+  compacted-parts : StoreParts (compacted s)
   compacted-parts =
       record {
         counted = counted;
@@ -186,7 +186,7 @@ module _ (s : Store) (p : StoreParts s) where
           ∙ le-ltb k (at (w .0) .start + at (w .0) .len) (omega (arith, moved-inside (w .0) (w .1))) in
           ap (λ (b : Bool). leb (z .start) k && b) over ∙ and-false (leb (z .start) k)
 
-  pub names-twice : namesTogether (compacted s) ≡ namesTogether s
+  names-twice : namesTogether (compacted s) ≡ namesTogether s
   unfolding compacted
   names-twice =
       used-append (held (compacted s)) 0 (namesTogether s) zeros
@@ -282,7 +282,7 @@ module _ (s : Store) (h : passes (storeTable s) ≡ true) where
   compacted-twice = twice s (store-parts s h)
 
   -- no byte is freed or used up
-  pub free-stays : freeBytes (compacted s) ≡ freeBytes s
+  free-stays : freeBytes (compacted s) ≡ freeBytes s
   free-stays = free-twice s (store-parts s h)
 
   -- "free bytes form one run": a run is long enough exactly if the free bytes in all are

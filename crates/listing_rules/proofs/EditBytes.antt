@@ -64,7 +64,7 @@ module _ (area : List ℕ) (at : ℕ) (bs : List ℕ) (h : at + length bs ≤ le
       ∙ ap (λ (k : ℕ). drop k area) d
 
   -- a name apart from it stays
-  pub row-stays : (w r : Record) → w .start ≡ at → w .len ≡ length bs → apart w r ≡ true → rowOf (overwritten area at bs) r ≡ rowOf area r
+  row-stays : (w r : Record) → w .start ≡ at → w .len ≡ length bs → apart w r ≡ true → rowOf (overwritten area at bs) r ≡ rowOf area r
   unfolding rowOf apart
   row-stays w r es el e = ap (λ (n : List ℕ). record { flags = r .flags; name = n }) (go (or-cases (leb (w .start + w .len) (r .start)) (leb (r .start + r .len) (w .start)) e))
     where

@@ -18,7 +18,7 @@ use Rattle.listing_rules.proofs.EditLists.{every-append, every-right}
 use Rattle.listing_rules.proofs.EditBytes.{apart-sym}
 
 -- "without overlap": a record put in between others that are apart from it
-pub apart-put : (a : List Record) (w : Record) (b : List Record) → allApart (a ++ b) ≡ true → every (apart w) (a ++ b) ≡ true → allApart (a ++ (w ∷ b)) ≡ true
+apart-put : (a : List Record) (w : Record) (b : List Record) → allApart (a ++ b) ≡ true → every (apart w) (a ++ b) ≡ true → allApart (a ++ (w ∷ b)) ≡ true
 unfolding allApart every
 apart-put [] w b h e = and-i (every (apart w) b) (allApart b) e h
 apart-put (r ∷ a) w b h e =
@@ -43,7 +43,7 @@ every-out : (p : Record → Bool) (a : List Record) (w : Record) (b : List Recor
 unfolding every
 every-out p a w b h = every-append p a b (every-left p a (w ∷ b) h) (and-r (p w) (every p b) (every-right p a (w ∷ b) h))
 
-pub apart-taken : (a : List Record) (w : Record) (b : List Record) → allApart (a ++ (w ∷ b)) ≡ true → allApart (a ++ b) ≡ true
+apart-taken : (a : List Record) (w : Record) (b : List Record) → allApart (a ++ (w ∷ b)) ≡ true → allApart (a ++ b) ≡ true
 unfolding allApart
 apart-taken [] w b h = and-r (every (apart w) b) (allApart b) h
 apart-taken (r ∷ a) w b h =
@@ -115,10 +115,10 @@ module _ (s : Store) (front mid back spare : List Record) (p : Parts s front mid
   pub parts-length : length (s .records) ≡ s .count + length spare
   parts-length = omega (arith, ap length (p .all-records), p .all-rows, length-append front (mid ++ (back ++ spare)), length-append mid (back ++ spare), length-append back spare)
 
-  pub parts-spare : drop (s .count) (s .records) ≡ spare
+  parts-spare : drop (s .count) (s .records) ≡ spare
   parts-spare = ap (drop (s .count)) regroup ∙ drop-at (front ++ (mid ++ back)) spare (s .count) all-held
 
-  pub parts-front : take (length front) (s .records) ≡ front
+  parts-front : take (length front) (s .records) ≡ front
   parts-front = ap (take (length front)) (p .all-records) ∙ take-append-seam front (mid ++ (back ++ spare))
 
 -- what `drop` leaves after the one at the seam

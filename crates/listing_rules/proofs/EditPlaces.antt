@@ -15,7 +15,7 @@ use Rattle.listing_rules.specs.Subscriptions.{rowsBefore}
 use Rattle.listing_rules.proofs.Bools.{or-none-l, or-none-r}
 use Rattle.listing_rules.proofs.ListLaws.{every-mem, mem-every, some-mem, mem-map, same-refl, same-true}
 use Rattle.listing_rules.proofs.Order.{swap, bytes-total}
-use Rattle.listing_rules.proofs.Sorted.{Above, Asc, above-mem, irrefl, lt-true}
+use Rattle.listing_rules.proofs.Sorted.{Above, Asc, above-mem, irrefl, lt-true, before-other}
 use Rattle.listing_rules.proofs.EditLists.{keep-none}
 
 -- names on either side of n
@@ -75,11 +75,8 @@ none-named rs n h e =
 
 -- a lower name is another one
 lower-other : (x n : List ℕ) → byteOrder x n ≡ Ordering·lt → same x n ≡ false
-lower-other x n e = go (same x n) refl
-  where
-    go : (b : Bool) → same x n ≡ b → b ≡ false
-    go true q = absurd (irrefl byteOrder bytes-total n (subst (λ (z : List ℕ). byteOrder z n ≡ Ordering·lt) (same-true x n q) e))
-    go false q = refl
+unfolding isLt
+lower-other x n e = before-other x n (ap isLt e)
 
 module _ (area : List ℕ) (n : List ℕ) where
   pub found : (hs : List Record) → Asc byteOrder (names (recordRows area hs)) → hasRow (recordRows area hs) n ≡ true → Found area hs n

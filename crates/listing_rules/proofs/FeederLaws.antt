@@ -3,7 +3,7 @@
 use mathlib.Core.Path.{_≡_, refl, sym, ap, _∙_}
 use mathlib.Core.Bool.{Bool, true, false, cond, _&&_, _||_, not, or-false, false≢true}
 use mathlib.Core.List.{List, [], _∷_, _++_, append-assoc, append-nil}
-use mathlib.Core.Option.{Option, none, some}
+use mathlib.Core.Option.{Option, none, some, Option·none-ne-some}
 use Prim.Native.Nat.{ℕ, suc, _+_, _-_, _≤_}
 use native.Mathlib.Omega.{arith}
 use lib.Dec.{eqb, leb}
@@ -14,13 +14,13 @@ use Rattle.listing_rules.specs.Bytes.{text, crlf, same, all, within, isE
 use Rattle.listing_rules.proofs.Keys.{openBytes}
 use Rattle.listing_rules.specs.Lists.{joined}
 use Rattle.listing_rules.specs.Tokens.{got, run₁, digitByte, decimal, number, lineByte}
-use Rattle.listing_rules.specs.Feeder.{Step, stillOne, gives, offends, refusing, lineEnded, textByte, endsLine, lastIs, announcedAt, orElse}
+use Rattle.listing_rules.specs.Feeder.{AfterByte, stillOne, gives, offends, refusing, lineEnded, textByte, endsLine, lastIs, announcedAt, orElse}
 use Rattle.listing_rules.specs.Feeder.{announced, Event, quiet, handed, goOn, denied, Feeder, reading, first, fedByte, Feeding, saying, feedAll}
 use Rattle.listing_rules.specs.Feeder.{feedChunks, allowed, oneCommand}
 use Rattle.listing_rules.specs.Command.{lineText}
 use Rattle.listing_rules.proofs.Bools.{and-l, and-r}
-use Rattle.listing_rules.proofs.ListLaws.{same-true}
-use Rattle.listing_rules.proofs.TokenLaws.{none≢some, bind-some, run₁-split}
+use Rattle.listing_rules.proofs.ListLaws.{empty-true, same-true}
+use Rattle.listing_rules.proofs.TokenLaws.{bind-some, run₁-split}
 
 -- what is said in two chunks, one after the other
 abbrev pub then-fed : List Event → Feeding → Feeding
@@ -97,7 +97,7 @@ ends-snoc (x ∷ y ∷ l) c =
     none-here false b d = refl
 
 -- bytes of a line of text are no CR, LF or 00
-pub line-byte-parts : (b : ℕ) → lineByte b ≡ true → (eqb b 13 ≡ false) × (eqb b 10 ≡ false) × (eqb b 0 ≡ false)
+line-byte-parts : (b : ℕ) → lineByte b ≡ true → (eqb b 13 ≡ false) × (eqb b 10 ≡ false) × (eqb b 0 ≡ false)
 unfolding lineByte within
 line-byte-parts b h =
     let no13 = not-true (eqb b 13) (and-r (leb 1 b && leb b 0x7F) (not (eqb b 13)) (and-l ((leb 1 b && leb b 0x7F) && not (eqb b 13)) (not (eqb b 10)) h)) in
@@ -110,7 +110,7 @@ text-goes-on : (kept line : List ℕ) (c : ℕ) (t : List ℕ) → allowed (read
     → endsLine (line ++ (c ∷ [])) ≡ false → oneCommand (reading kept line) (c ∷ t) ≡ oneCommand (reading (kept ++ (c ∷ [])) (line ++ (c ∷ []))) t
 unfolding oneCommand stillOne gives
 text-goes-on kept line c t a o e =
-    ap (λ (r : Step). allowed (reading kept line) c && stillOne (r .event) (isEmpty t) (oneCommand (r .state) t)) quiet-step ∙ rw a
+    ap (λ (r : AfterByte). allowed (reading kept line) c && stillOne (r .event) (isEmpty t) (oneCommand (r .state) t)) quiet-step ∙ rw a
   where
     quiet-step : fedByte (reading kept line) c ≡ gives (reading (kept ++ (c ∷ [])) (line ++ (c ∷ []))) quiet
     quiet-step = unfold fedByte textByte in rw (o, e)
@@ -119,7 +119,7 @@ text-ends : (kept line : List ℕ) (c : ℕ) → allowed (reading kept line) c �
     → announced (line ++ (c ∷ [])) ≡ none → oneCommand (reading kept line) (c ∷ []) ≡ true
 unfolding oneCommand stillOne gives isEmpty
 text-ends kept line c a o e n =
-    ap (λ (r : Step). allowed (reading kept line) c && stillOne (r .event) true (oneCommand (r .state) [])) last-step ∙ rw a
+    ap (λ (r : AfterByte). allowed (reading kept line) c && stillOne (r .event) true (oneCommand (r .state) [])) last-step ∙ rw a
   where
     last-step : fedByte (reading kept line) c ≡ gives first (handed (kept ++ (c ∷ [])))
     last-step = unfold fedByte textByte lineEnded in rw (o, e, n)
@@ -183,7 +183,7 @@ next-parts : (kept line : List ℕ) (c : ℕ) (t : List ℕ) → oneCommand (rea
 unfolding oneCommand stillOne
 next-parts kept line c t e = (and-l (allowed (reading kept line) c) (more (fedByte (reading kept line) c)) e, go (offends kept c) refl)
   where
-    more : Step → Bool
+    more : AfterByte → Bool
     more r = stillOne (r .event) (isEmpty t) (oneCommand (r .state) t)
 
     denies : offends kept c ≡ true → fedByte (reading kept line) c .event ≡ denied 3
@@ -210,7 +210,7 @@ quiet-step kept line c o e = rw (o, e)
 quiet-on : (kept line : List ℕ) (c : ℕ) (t : List ℕ) → offends kept c ≡ false → endsLine (line ++ (c ∷ [])) ≡ false
     → feedAll (reading kept line) (c ∷ t) ≡ feedAll (reading (kept ++ (c ∷ [])) (line ++ (c ∷ []))) t
 unfolding feedAll gives saying
-quiet-on kept line c t o e = ap (λ (r : Step). saying (r .event) (feedAll (r .state) t)) (quiet-step kept line c o e)
+quiet-on kept line c t o e = ap (λ (r : AfterByte). saying (r .event) (feedAll (r .state) t)) (quiet-step kept line c o e)
 
 -- after CR only the LF of the last line is left
 after-cr : (x t : List ℕ) → oneCommand (reading (x ++ (13 ∷ [])) (x ++ (13 ∷ []))) t ≡ true
@@ -237,20 +237,16 @@ after-cr x (c ∷ t) e a = go (announced (kept ++ (c ∷ []))) refl
     still = and-r (allowed (reading kept kept) c) (stillOne (fedByte (reading kept kept) c .event) (isEmpty t) (oneCommand (fedByte (reading kept kept) c .state) t)) (unfold oneCommand in e)
 
     last : stillOne (lineEnded (kept ++ (c ∷ [])) (announced (kept ++ (c ∷ []))) .event) (isEmpty t) (oneCommand (lineEnded (kept ++ (c ∷ [])) (announced (kept ++ (c ∷ []))) .state) t) ≡ true
-    last = sym (ap (λ (r : Step). stillOne (r .event) (isEmpty t) (oneCommand (r .state) t)) ended) ∙ still
+    last = sym (ap (λ (r : AfterByte). stillOne (r .event) (isEmpty t) (oneCommand (r .state) t)) ended) ∙ still
 
     told : asks (saying (lineEnded (kept ++ (c ∷ [])) (announced (kept ++ (c ∷ []))) .event) (feedAll (lineEnded (kept ++ (c ∷ [])) (announced (kept ++ (c ∷ []))) .state) t) .events) ≡ false
-    told = sym (ap (λ (r : Step). asks (saying (r .event) (feedAll (r .state) t) .events)) ended) ∙ (unfold feedAll in a)
+    told = sym (ap (λ (r : AfterByte). asks (saying (r .event) (feedAll (r .state) t) .events)) ended) ∙ (unfold feedAll in a)
 
     size : length kept ≡ length x + 1
     size = length-append x (13 ∷ [])
 
     done : isEmpty t ≡ true → (c ∷ t ≡ 10 ∷ []) × (length x + 1 + length (c ∷ t) ≤ 2048)
-    done n = rw (is-lf, nothing t n) (refl, omega (arith, room-left kept c (parts .1), size))
-      where
-        nothing : (u : List ℕ) → isEmpty u ≡ true → u ≡ []
-        nothing [] z = refl
-        nothing (b ∷ u) z = absurd (false≢true (unfold isEmpty in z))
+    done n = rw (is-lf, empty-true t n) (refl, omega (arith, room-left kept c (parts .1), size))
 
     go : (o : Option ℕ) → announced (kept ++ (c ∷ [])) ≡ o → (c ∷ t ≡ 10 ∷ []) × (length x + 1 + length (c ∷ t) ≤ 2048)
     go none o = done (unfold lineEnded gives stillOne in rw o at last)
@@ -300,7 +296,7 @@ unfolding lineText first crlf
 plain-shape l t e a = go (oneCommand (reading [] []) l) refl
   where
     go : (b : Bool) → oneCommand (reading [] []) l ≡ b → (l ≡ t ++ crlf) × (all lineByte t ≡ true) × (length l ≤ 2048)
-    go false b = absurd (none≢some (rw b at e))
+    go false b = absurd (Option·none-ne-some _ (rw b at e))
     go true b =
         let w = shaped-from [] l (unfold all in refl) b a in
         let n : length l - 2 ≡ length (w .0) = omega (arith, ap length (w .1), length-append (w .0) crlf) in
@@ -340,7 +336,7 @@ not-at x = go (announcedAt (x ++ (34 ∷ 13 ∷ 10 ∷ []))) refl
       where
         yes : (m : ℕ) (b : Bool) → cond b (some m) none ≡ some k → b ≡ true
         yes m true f = refl
-        yes m false f = absurd (none≢some f)
+        yes m false f = absurd (Option·none-ne-some _ f)
 
 pub quote-announces-none : (x : List ℕ) → announced (x ++ (34 ∷ crlf)) ≡ none
 unfolding announced orElse openBytes

@@ -20,7 +20,7 @@ pub record FreeAt (s : Store) (len at : ℕ) : Type 0 where
   pub unused : (k : ℕ) → at ≤ k → k < at + len → anyOf (uses k) (held s) ≡ false
 
 -- free bytes at the front
-front-bound : (bs : List Bool) → freeFront bs ≤ length bs
+pub front-bound : (bs : List Bool) → freeFront bs ≤ length bs
 unfolding freeFront
 front-bound [] = omega arith
 front-bound (true ∷ bs) = omega (arith, front-bound bs)
@@ -88,12 +88,12 @@ lowest-none len k (b ∷ bs) e h g = go (leb len (freeFront (b ∷ bs))) refl e 
     go false l q (suc h) g ih = ih q h (omega arith)
 
 -- the free bytes of an area, place by place
-free-length : (rs : List Record) (k : ℕ) (a : List ℕ) → length (freeFrom rs k a) ≡ length a
+pub free-length : (rs : List Record) (k : ℕ) (a : List ℕ) → length (freeFrom rs k a) ≡ length a
 unfolding freeFrom
 free-length rs k [] = refl
 free-length rs k (b ∷ a) = ap suc (free-length rs (suc k) a)
 
-free-at : (rs : List Record) (k : ℕ) (a : List ℕ) (i : ℕ) → i < length a → getD (freeFrom rs k a) i false ≡ not (anyOf (uses (k + i)) rs)
+pub free-at : (rs : List Record) (k : ℕ) (a : List ℕ) (i : ℕ) → i < length a → getD (freeFrom rs k a) i false ≡ not (anyOf (uses (k + i)) rs)
 unfolding freeFrom
 free-at rs k [] i h = absurd (omega arith)
 free-at rs k (b ∷ a) zero h = let e : k + 0 ≡ k = omega arith in rw e

@@ -5,11 +5,11 @@ use Prim.Native.Nat.{ℕ}
 use Rattle.listing_rules.specs.Frames.{Session, Fed, fed, behind, fedAll}
 
 -- answers behind answers
-pub behind-none : (f : Fed) → behind [] f ≡ f
+behind-none : (f : Fed) → behind [] f ≡ f
 unfolding behind
 behind-none f = refl
 
-pub behind-behind : (a b : List ℕ) (f : Fed) → behind a (behind b f) ≡ behind (a ++ b) f
+behind-behind : (a b : List ℕ) (f : Fed) → behind a (behind b f) ≡ behind (a ++ b) f
 unfolding behind
 behind-behind a b f = ap (λ (o : List ℕ). record { session = f .session; output = o }) (sym (append-assoc a b (f .output)))
 

@@ -1,6 +1,6 @@
 -- Keys that open the definitions of a file of specs/ for a proof by computation: a proof that unfolds a key unfolds every definition that the key
 -- names. Rests on the definitions alone.
-use Rattle.listing_rules.specs.Bytes.{text, slash, quote, backslash, space, crlf, bit, within, oneOf, all, isEmpty, same, raise}
+use Rattle.listing_rules.specs.Bytes.{text, slash, quote, backslash, crlf, bit, within, oneOf, all, isEmpty, same, raise}
 use Rattle.listing_rules.specs.Bytes.{raised, spells}
 use Rattle.listing_rules.specs.Lists.{every, anyOf, keep, joined, onFirst}
 use Rattle.listing_rules.specs.Orders.{thenBy, lexBy, byteOrder, isLt, ascendsFrom, ascends, placed, insert, sorted}
@@ -40,7 +40,7 @@ use Rattle.listing_rules.specs.Reader.{separated, readChosen, criteriaSe
 use Rattle.listing_rules.specs.Reader.{rootAttributes, attributesRead, nameRead, childInfoOf, readNumber, nameBytes, sameBools}
 use Rattle.listing_rules.specs.Reader.{rootParts, lineFrom, written}
 use Rattle.listing_rules.specs.Walk.{wantsRemote, wantsSpecial, dropsSubscribed, lawfulByte, when, commandLine, linesOf, packed}
-use Rattle.listing_rules.specs.Walk.{_>>=_ as _then_, attr, useAttr, isFind, withName, fits, takenIn, takenAll, replied, asked}
+use Rattle.listing_rules.specs.Walk.{_then_, attr, useAttr, isFind, withName, fits, takenIn, takenAll, replied, asked}
 use Rattle.listing_rules.specs.Walk.{walkFrom, walkAll, ended, walk, walkNumber, walkCount, foundLength, zeroBehind, foundAfter}
 use Rattle.listing_rules.specs.Walk.{pendingAfter, scratchAfter, collected}
 use Rattle.listing_rules.specs.Demand3.{walkOptions, meetingNames, meetingAncestors, declaredWalk, walkAnswer, scratchTooSmall}
@@ -51,7 +51,7 @@ use Rattle.listing_rules.specs.Frames.{atEnd, programOutput, recordsFrom
 use Rattle.listing_rules.specs.Frames.{addRowTo, commandOver, accepted, commandStep}
 
 unfoldable pub openBytes : Unit {0}
-unfolding text slash quote backslash space crlf bit within oneOf all isEmpty same raise raised spells
+unfolding text slash quote backslash crlf bit within oneOf all isEmpty same raise raised spells
 openBytes = tt
 
 unfoldable pub openLists : Unit {0}

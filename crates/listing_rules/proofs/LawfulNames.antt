@@ -66,7 +66,7 @@ inbox-head : (ls ms : List (List ℕ)) → (l : List ℕ) × (ks : List (List �
 unfolding inboxSpelled
 inbox-head ls ms w h = rw (w .2) (rw (w .2) at h)
 
-pub good-ancestor : (a m : List ℕ) → lawfulName (a ++ (slash ∷ m)) ≡ true → lawfulName a ≡ true
+good-ancestor : (a m : List ℕ) → lawfulName (a ++ (slash ∷ m)) ≡ true → lawfulName a ≡ true
 good-ancestor a m h =
     parts-good a
     (record {

@@ -81,7 +81,7 @@ pub levels-child : (a x : List ℕ) → oneLevel x ≡ true → levels (child a 
 levels-child a x h = levels-append a x ∙ ap (λ (y : List (List ℕ)). levels a ++ y) (levels-one x h)
 
 -- lists that differ first in their last element
-pub lex-snoc : {A : Type 0} (cmp : A → A → Ordering) (p q : List A) (x y : A) → length p ≡ length q → lexBy cmp (p ++ (x ∷ [])) (q ++ (y ∷ [])) ≡ thenBy (lexBy cmp p q) (cmp x y)
+lex-snoc : {A : Type 0} (cmp : A → A → Ordering) (p q : List A) (x y : A) → length p ≡ length q → lexBy cmp (p ++ (x ∷ [])) (q ++ (y ∷ [])) ≡ thenBy (lexBy cmp p q) (cmp x y)
 unfolding lexBy thenBy
 lex-snoc cmp [] [] x y e = thenBy-eq (cmp x y)
 lex-snoc cmp [] (b ∷ q) x y e = absurd (omega arith)
@@ -94,7 +94,7 @@ lex-snoc cmp (a ∷ p) (b ∷ q) x y e = go (cmp a b) (lex-snoc cmp p q x y (ome
     go Ordering·eq ih = ih
     go Ordering·gt ih = refl
 
-pub lex-prefix : {A : Type 0} (cmp : A → A → Ordering) → Total cmp → (p x y : List A) → lexBy cmp (p ++ x) (p ++ y) ≡ lexBy cmp x y
+lex-prefix : {A : Type 0} (cmp : A → A → Ordering) → Total cmp → (p x y : List A) → lexBy cmp (p ++ x) (p ++ y) ≡ lexBy cmp x y
 unfolding lexBy thenBy
 lex-prefix cmp L [] x y = refl
 lex-prefix cmp L (a ∷ p) x y = rw (L .same a) (lex-prefix cmp L p x y)

@@ -11,7 +11,7 @@ use lib.ListN.{length, take, length-append}
 use borrow.Author.Tests.{leb-true}
 use Rattle.listing_rules.specs.Bytes.{isEmpty}
 use Rattle.listing_rules.specs.Command.{lineText, parsed, orRefuse, isEdit, tagged}
-use Rattle.listing_rules.specs.Feeder.{Feeder, reading, inLiteral, dropping, first, Step, quiet, goOn, denied, gives, offends, refusing}
+use Rattle.listing_rules.specs.Feeder.{Feeder, reading, inLiteral, dropping, first, AfterByte, quiet, goOn, denied, gives, offends, refusing}
 use Rattle.listing_rules.specs.Feeder.{awaiting, lineEnded, textByte, fedByte, endsLine, announced, allowed, stillOne, oneCommand}
 use Rattle.listing_rules.proofs.Bools.{and-r}
 
@@ -27,7 +27,7 @@ Reading (inLiteral kept n) = Unit {0}
 Reading (dropping cr) = ⊥
 
 -- what the rest of the line comes to after this step, where it is one command
-abbrev Goes : Step → List ℕ → ℕ → Type 0
+abbrev Goes : AfterByte → List ℕ → ℕ → Type 0
 Goes r t k = stillOne (r .event) (isEmpty t) (oneCommand (r .state) t) ≡ true → k + length t ≤ 2048
 
 empty-nil : (t : List ℕ) → isEmpty t ≡ true → length t ≡ 0
@@ -80,7 +80,7 @@ module _ (t : List ℕ) (shorter : (s : Feeder) → Reading s → oneCommand s t
   literal-short n true e f = absurd (false≢true f)
   literal-short n false e f = waits n (eqb n 0) f
 
-pub one-short : (t : List ℕ) (s : Feeder) → Reading s → oneCommand s t ≡ true → keptLength s + length t ≤ 2048
+one-short : (t : List ℕ) (s : Feeder) → Reading s → oneCommand s t ≡ true → keptLength s + length t ≤ 2048
 unfolding oneCommand fedByte
 one-short [] s r h = absurd (false≢true h)
 one-short (c ∷ t) (reading kept line) r h =

@@ -1,13 +1,16 @@
--- Lists: what a test over a list says of its members, and which members a list that is kept, mapped, joined or appended has. Rests on Bools.
+-- Lists: what a test over a list says of its members, which members a list that is kept, mapped, joined or appended has, and a part of a list that
+-- is mapped. Rests on Bools.
 use mathlib.Core.Path.{_≡_, refl, sym, ap, _∙_, subst}
 use mathlib.Core.Logic.{_⊎_, inl, inr, ⊎-elim}
 use mathlib.Core.Bool.{Bool, true, false, cond, false≢true}
 use mathlib.Core.List.{List, [], _∷_, _++_, map, List·Memᴰ, List·Memᴰ·head, List·Memᴰ·tail, List·Memᴰ·not-nil, List·Memᴰ·cases-cons}
 use mathlib.Core.List.{List·Memᴰ·append-cases, Memᴰ·append-left, Memᴰ·append-right, Memᴰ·map, Memᴰ·of-map}
+use native.Mathlib.Omega.{arith}
 use lib.Dec.{eqb}
+use lib.ListN.{length, take, drop}
 use borrow.Author.Tests.{eqb-true, eq-eqb}
-use Prim.Native.Nat.{ℕ}
-use Rattle.listing_rules.specs.Bytes.{all, same}
+use Prim.Native.Nat.{ℕ, zero, suc, _≤_}
+use Rattle.listing_rules.specs.Bytes.{all, isEmpty, same}
 use Rattle.listing_rules.specs.Lists.{every, anyOf, keep, joined}
 use Rattle.listing_rules.proofs.Bools.{and-l, and-r, and-i, or-cases, or-l, or-r}
 
@@ -74,18 +77,38 @@ module _ {A : Type 0} (p : A → Bool) where
       go false e (inl q) ih = absurd (false≢true (sym e ∙ ap p (sym q) ∙ h))
       go false e (inr j) ih = ih j h
 
+  -- no more are kept than there are
+  pub keep-length : (l : List A) → length (keep p l) ≤ length l
+  unfolding keep
+  keep-length [] = omega arith
+  keep-length (x ∷ l) = go (p x) (keep-length l)
+    where
+      go : (o : Bool) → length (keep p l) ≤ length l → length (cond o (x ∷ keep p l) (keep p l)) ≤ suc (length l)
+      go true h = omega arith
+      go false h = omega arith
+
   pub every-left : (a b : List A) → every p (a ++ b) ≡ true → every p a ≡ true
   unfolding every
   every-left [] b h = refl
   every-left (x ∷ a) b h = and-i (p x) (every p a) (and-l (p x) (every p (a ++ b)) h) (every-left a b (and-r (p x) (every p (a ++ b)) h))
 
--- members of lists that are mapped and joined
+-- members of lists that are mapped and joined; a part of a list that is mapped
 module _ {A B : Type 0} where
   pub mem-map : (f : A → B) {x : A} {l : List A} → List·Memᴰ x l → List·Memᴰ (f x) (map f l)
   mem-map f m = Memᴰ·map f m
 
   pub map-mem : (f : A → B) (y : B) (l : List A) → List·Memᴰ y (map f l) → (x : A) × List·Memᴰ x l × (y ≡ f x)
   map-mem f y l m = let w = Memᴰ·of-map f l m in (w .0, w .1, sym (w .2))
+
+  pub map-take : (f : A → B) (n : ℕ) (l : List A) → map f (take n l) ≡ take n (map f l)
+  map-take f zero l = refl
+  map-take f (suc n) [] = refl
+  map-take f (suc n) (x ∷ l) = ap (λ (r : List B). f x ∷ r) (map-take f n l)
+
+  pub map-drop : (f : A → B) (n : ℕ) (l : List A) → map f (drop n l) ≡ drop n (map f l)
+  map-drop f zero l = refl
+  map-drop f (suc n) [] = refl
+  map-drop f (suc n) (x ∷ l) = map-drop f n l
 
 module _ {A : Type 0} where
   pub mem-joined : (x : A) {l : List A} {ls : List (List A)} → List·Memᴰ x l → List·Memᴰ l ls → List·Memᴰ x (joined ls)
@@ -123,6 +146,11 @@ pub all-imp : (p q : ℕ → Bool) → ((b : ℕ) → p b ≡ true → q b ≡ t
 unfolding all
 all-imp p q f [] h = refl
 all-imp p q f (b ∷ n) h = and-i (q b) (all q n) (f b (and-l (p b) (all p n) h)) (all-imp p q f n (and-r (p b) (all p n) h))
+
+pub empty-true : (n : List ℕ) → isEmpty n ≡ true → n ≡ []
+unfolding isEmpty
+empty-true [] e = refl
+empty-true (b ∷ n) e = cc
 
 -- `same` decides equality
 pub same-refl : (a : List ℕ) → same a a ≡ true

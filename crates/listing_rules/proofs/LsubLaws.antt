@@ -49,7 +49,7 @@ module _ (rs : List Row) (p a d : List ℕ) (level : endsInPercent p ≡ true) (
   unfolding subscribedBelow matchesAny anyOf
   below-subscribed = mem-some (λ z. below a z && isSubscribed rs z && not (matchesAny (p ∷ []) z)) (candidates rs) d m (rw (b, s, out))
 
-  pub lsub-level : lsubListed rs (p ∷ []) a ≡ true
+  lsub-level : lsubListed rs (p ∷ []) a ≡ true
   unfolding lsubListed subscribedMatch aboveSubscribed matchesAny anyOf keep
   lsub-level = rw (level, k, below-subscribed) (go (isSubscribed rs a))
     where

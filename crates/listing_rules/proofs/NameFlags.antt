@@ -84,7 +84,7 @@ row-flags rs h r m = row-flags-asc rs (ascends-asc (names rs) h) r m
 
 -- a test of name and flags that flags 0 do not pass is passed by some candidate exactly if by some row
 module _ (rs : List Row) (h : ascends (names rs) ≡ true) where
-  pub tested-rows : (p : List ℕ → ℕ → Bool) → ((n : List ℕ) → p n 0 ≡ false) → anyOf (λ d. p d (flagsOf rs d)) (candidates rs) ≡ anyOf (λ r. p (r .name) (r .flags)) rs
+  tested-rows : (p : List ℕ → ℕ → Bool) → ((n : List ℕ) → p n 0 ≡ false) → anyOf (λ d. p d (flagsOf rs d)) (candidates rs) ≡ anyOf (λ r. p (r .name) (r .flags)) rs
   tested-rows p none = bools-equal _ _ to from
     where
       to : anyOf (λ d. p d (flagsOf rs d)) (candidates rs) ≡ true → anyOf (λ r. p (r .name) (r .flags)) rs ≡ true

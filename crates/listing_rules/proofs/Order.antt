@@ -137,7 +137,7 @@ module _ {A : Type 0} (cmp : A → A → Ordering) (L : Total cmp) where
       go Ordering·eq Ordering·gt d e p q ih = cc
       go Ordering·gt u d e p q ih = cc
 
-  pub lex-total : Total (lexBy cmp)
+  lex-total : Total (lexBy cmp)
   lex-total = record { same = lex-same; equal = lex-equal; turned = lex-turned; trans = lex-trans }
 
 pub bytes-total : Total byteOrder

@@ -2,14 +2,14 @@
 use mathlib.Core.Path.{_≡_, refl, sym, ap, _∙_}
 use mathlib.Core.Bool.{Bool, true, false}
 use mathlib.Core.List.{List, [], _∷_}
-use mathlib.Core.Option.{Option, none, some}
+use mathlib.Core.Option.{Option, none, some, Option·none-ne-some}
 use Prim.Native.Nat.{ℕ, zero, suc, _≤_, _<_}
 use native.Mathlib.Omega.{arith}
 use lib.ListN.{length}
 use Rattle.listing_rules.specs.Bytes.{text}
 use Rattle.listing_rules.specs.Tokens.{Got, got, _>>=_, at, after, withFirst, atom, pattern}
 use Rattle.listing_rules.specs.Command.{valueRest, Opt, option, parted}
-use Rattle.listing_rules.proofs.TokenLaws.{none≢some, bind-some, bind-cong, after-some, after-shorter, atom-shorter, pattern-shorter}
+use Rattle.listing_rules.proofs.TokenLaws.{bind-some, bind-cong, after-some, after-shorter, atom-shorter, pattern-shorter}
 use Rattle.listing_rules.proofs.Value.{value-shorter}
 
 -- what the reader leaves is shorter than what it was given
@@ -45,7 +45,7 @@ module _ {A : Type 0} (item : List ℕ → Option (Got A)) where
 
   pub parted-shorter : Shortens item → (k : ℕ) → Shortens (parted item k)
   unfolding parted
-  parted-shorter s zero t g e = absurd (none≢some e)
+  parted-shorter s zero t g e = absurd (Option·none-ne-some _ e)
   parted-shorter s (suc k) t g e =
       let w = bind-some (item t) (λ g. next (parted item k) g (at 32 (g .rest))) g (sym (parted-is k t) ∙ e) in
       omega (arith, s t (w .0) (w .1), next-shorter (parted item k) (parted-shorter s k) (w .0) (at 32 (w .0 .rest)) g (w .2))
@@ -61,7 +61,7 @@ module _ {A : Type 0} (item : List ℕ → Option (Got A)) where
       none-there (some g) e = absurd (omega (arith, s [] g e))
 
   -- the fuel does not matter where it is at least the bytes left
-  pub parted-fuel : Shortens item → (k j : ℕ) (t : List ℕ) → length t ≤ k → length t ≤ j → parted item k t ≡ parted item j t
+  parted-fuel : Shortens item → (k j : ℕ) (t : List ℕ) → length t ≤ k → length t ≤ j → parted item k t ≡ parted item j t
   parted-fuel s zero j [] h i = parted-nil s zero ∙ sym (parted-nil s j)
   parted-fuel s zero j (b ∷ t) h i = absurd (omega arith)
   parted-fuel s (suc k) zero [] h i = parted-nil s (suc k) ∙ sym (parted-nil s zero)
@@ -73,7 +73,7 @@ module _ {A : Type 0} (item : List ℕ → Option (Got A)) where
       ∙ sym (parted-is j t)
 
 -- options and patterns
-pub option-shorter : Shortens option
+option-shorter : Shortens option
 unfolding option text got
 option-shorter t g e =
     let w = bind-some (atom t) _ g e in

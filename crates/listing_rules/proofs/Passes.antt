@@ -54,7 +54,7 @@ unfolding rowsPass
 parts-pass rs p = simp (le-leb (length rs) 512 (p .few), p .lawful-names, p .lawful-flags, p .ascend, p .inferiors)
 
 -- a table that passes has rows, and they pass
-pub passes-rows : (t : Table) → passes t ≡ true → rowsPass (rows t) ≡ true
+passes-rows : (t : Table) → passes t ≡ true → rowsPass (rows t) ≡ true
 unfolding passes rows
 passes-rows none h = absurd (false≢true h)
 passes-rows (some rs) h = h
@@ -111,7 +111,7 @@ unfolding rows
 packed-rows t h = let p = packed-parts t h in rw (packed-some t (p .size) (p .fills))
 
 -- the names of a table that passes are lawful, and so are its candidates
-pub passes-names : (t : Table) → passes t ≡ true → every (λ (r : Row). lawfulName (r .name)) (rows t) ≡ true
+passes-names : (t : Table) → passes t ≡ true → every (λ (r : Row). lawfulName (r .name)) (rows t) ≡ true
 passes-names t h = passes-parts t h .lawful-names
 
 pub candidate-good : (t : Table) → passes t ≡ true → (n : List ℕ) → List·Memᴰ n (candidates (rows t)) → lawfulName n ≡ true

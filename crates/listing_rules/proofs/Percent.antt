@@ -29,14 +29,14 @@ plain p ps n h =
     let not42 = not-true (eqb p 42) (and-r (within 0x20 0x7E p && not (eqb p 37)) (not (eqb p 42)) h) in
     rw (not42, not37)
 
-pub takes-prefix : (a q m : List ℕ) → all nameByte a ≡ true → wildMatch (a ++ q) (a ++ m) ≡ wildMatch q m
+takes-prefix : (a q m : List ℕ) → all nameByte a ≡ true → wildMatch (a ++ q) (a ++ m) ≡ wildMatch q m
 unfolding openBytes openMatch
 takes-prefix [] q m h = refl
 takes-prefix (p ∷ a) q m h =
     plain p (a ++ q) (p ∷ (a ++ m)) (and-l (nameByte p) (all nameByte a) h)
     ∙ rw (eq-eqb p p refl) (takes-prefix a q m (and-r (nameByte p) (all nameByte a) h))
 
-pub takes-split : (a q n : List ℕ) → all nameByte a ≡ true → wildMatch (a ++ q) n ≡ true → (m : List ℕ) × (n ≡ a ++ m) × (wildMatch q m ≡ true)
+takes-split : (a q n : List ℕ) → all nameByte a ≡ true → wildMatch (a ++ q) n ≡ true → (m : List ℕ) × (n ≡ a ++ m) × (wildMatch q m ≡ true)
 unfolding openBytes openMatch
 takes-split [] q n h t = (n, refl, t)
 takes-split (p ∷ a) q [] h t = absurd (false≢true (sym (plain p (a ++ q) [] (and-l (nameByte p) (all nameByte a) h)) ∙ t))

@@ -37,7 +37,7 @@ rows-at area (r ∷ rs) at z e =
     let rest = rows-at area rs (at + length (r .name)) z after in
     λ i. record { flags = r .flags; name = first i } ∷ rest i
 
-pub rows-from : (before : List ℕ) (rs : List Row) (z : List ℕ) → recordRows (before ++ (joined (names rs) ++ z)) (recordsFrom (length before) rs) ≡ rs
+rows-from : (before : List ℕ) (rs : List Row) (z : List ℕ) → recordRows (before ++ (joined (names rs) ++ z)) (recordsFrom (length before) rs) ≡ rs
 rows-from before rs z = rows-at (before ++ (joined (names rs) ++ z)) rs (length before) z (drop-append-seam before (joined (names rs) ++ z))
 
 -- a record for each row
@@ -65,7 +65,7 @@ apart-from w at (r ∷ rs) h =
     (or-l (leb (w .start + w .len) at) (leb (at + length (r .name)) (w .start)) (le-leb (w .start + w .len) at h))
     (apart-from w (at + length (r .name)) rs (omega (arith, h)))
 
-pub all-apart-from : (at : ℕ) (rs : List Row) → allApart (recordsFrom at rs) ≡ true
+all-apart-from : (at : ℕ) (rs : List Row) → allApart (recordsFrom at rs) ≡ true
 unfolding recordsFrom allApart
 all-apart-from at [] = refl
 all-apart-from at (r ∷ rs) =
@@ -83,7 +83,7 @@ pub program-records : (rs : List Row) → length rs ≤ 512 → length (programS
 unfolding programStore
 program-records rs h = length-filled 512 zeroRecord (recordsFrom 0 rs) (omega (arith, h, count-from 0 rs))
 
-pub program-area : (rs : List Row) → namesLength rs ≤ 16384 → length (programStore rs .area) ≡ 16384
+program-area : (rs : List Row) → namesLength rs ≤ 16384 → length (programStore rs .area) ≡ 16384
 unfolding programStore names
 program-area rs h = length-filled 16384 0 (joined (names rs)) h
 
@@ -141,7 +141,7 @@ program-store-rows rs h =
     rows-same = unfold programStore filledTo names in rows-from [] rs (replicate (16384 - namesLength rs) 0)
 
 -- The program's store is the packed table.
-pub program-store-table : (t : List ℕ) → length t ≤ 16384 → passes (packedTable t) ≡ true → storeTable (programStore (rows (packedTable t))) ≡ packedTable t
+program-store-table : (t : List ℕ) → length t ≤ 16384 → passes (packedTable t) ≡ true → storeTable (programStore (rows (packedTable t))) ≡ packedTable t
 program-store-table t h p =
     program-store-rows (rows (packedTable t)) (omega (arith, h, packed-names-fit t))
     ∙ sym (passes-some (packedTable t) p)

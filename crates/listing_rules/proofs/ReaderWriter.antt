@@ -3,7 +3,7 @@ use mathlib.Core.Path.{_≡_, refl, sym, ap, _∙_, subst}
 use mathlib.Core.Logic.{_⊎_, inl, inr}
 use mathlib.Core.Bool.{Bool, true, false, cond, _&&_}
 use mathlib.Core.List.{List, [], _∷_, _++_, append-assoc}
-use mathlib.Core.Option.{Option, none, some}
+use mathlib.Core.Option.{Option, none, some, Option·none-ne-some}
 use Prim.Native.Nat.{ℕ, suc}
 use lib.ListN.{length}
 use native.Mathlib.Omega.{arith}
@@ -17,7 +17,7 @@ use Rattle.listing_rules.specs.Reader.{Read, line, root, bad, separated,
 use Rattle.listing_rules.proofs.Keys.{openBytes, openLists, openNames, openTokens, openOptions, openLines, openReader}
 use Rattle.listing_rules.proofs.Bools.{and-l, and-r}
 use Rattle.listing_rules.proofs.ListLaws.{same-true}
-use Rattle.listing_rules.proofs.TokenLaws.{none≢some, bind-some, after-append, after-some, clash, after-clash, unquoted-escaped, unquoted-some}
+use Rattle.listing_rules.proofs.TokenLaws.{bind-some, after-append, after-some, clash, after-clash, unquoted-escaped, unquoted-some}
 
 -- the attributes
 abbrev pub tailText : Bool → List (List ℕ) → List ℕ
@@ -61,7 +61,7 @@ readChosen-written false (n ∷ ns) (true ∷ bs) t a e =
     rw (append-assoc n (spacedTail (chosen bs ns)) (41 ∷ t), after-append n (spacedTail (chosen bs ns) ++ (41 ∷ t)), readChosen)
     (ap (withFirst true) (readChosen-written false ns bs t (and-r (clash n (41 ∷ []) && clashes n ns) (apart ns) a) (omega arith)))
 
-pub readParts-written : (bs : List Bool) (n : List ℕ) (c : Criteria) → length bs ≡ 16 → lawfulName n ≡ true → readParts (listLine bs n c) ≡ some (line bs n c)
+readParts-written : (bs : List Bool) (n : List ℕ) (c : Criteria) → length bs ≡ 16 → lawfulName n ≡ true → readParts (listLine bs n c) ≡ some (line bs n c)
 unfolding openBytes openLists openLines openTokens openOptions openReader
 readParts-written bs n c h g =
     rw (
@@ -99,7 +99,7 @@ readLine-root = refl
 abbrev pub ReadOff : Bool → List (List ℕ) → List ℕ → Got (List Bool) → Type 0
 ReadOff first ns t g = (t ≡ tailText first (chosen (g .val) ns) ++ g .rest) × (length (g .val) ≡ length ns)
 
-pub readChosen-off : (first : Bool) (ns : List (List ℕ)) (t : List ℕ) → ReadOff first ns t (readChosen first ns t)
+readChosen-off : (first : Bool) (ns : List (List ℕ)) (t : List ℕ) → ReadOff first ns t (readChosen first ns t)
 unfolding openLines openTokens openReader
 readChosen-off true [] t = (refl, refl)
 readChosen-off false [] t = (refl, refl)
@@ -115,14 +115,14 @@ readChosen-off first (n ∷ ns) t = go first (after (separated first n) t) refl 
 
 readAmong-some : (cs : List Criteria) (t : List ℕ) (c : Criteria) → readAmong cs t ≡ some c → t ≡ childInfoText c ++ crlf
 unfolding readAmong
-readAmong-some [] t c k = absurd (none≢some k)
+readAmong-some [] t c k = absurd (Option·none-ne-some _ k)
 readAmong-some (d ∷ cs) t c k = go (same t (childInfoText d ++ crlf)) refl k (readAmong-some cs t c)
   where
     go : (o : Bool) → same t (childInfoText d ++ crlf) ≡ o → cond o (some d) (readAmong cs t) ≡ some c → (readAmong cs t ≡ some c → t ≡ childInfoText c ++ crlf) → t ≡ childInfoText c ++ crlf
     go true e k ih = let v : d ≡ c = cc in subst (λ (x : Criteria). t ≡ childInfoText x ++ crlf) v (same-true t (childInfoText d ++ crlf) e)
     go false e k ih = ih k
 
-pub childInfoRead-some : (t : List ℕ) (c : Criteria) → childInfoRead t ≡ some c → t ≡ childInfoText c ++ crlf
+childInfoRead-some : (t : List ℕ) (c : Criteria) → childInfoRead t ≡ some c → t ≡ childInfoText c ++ crlf
 unfolding childInfoRead
 childInfoRead-some t c k = readAmong-some criteriaSets t c k
 
@@ -158,9 +158,9 @@ finish l t u g c r p₁ p₂ p₃ p₄ k = go (lawfulName (g .val)) refl k
     go : (o : Bool) → lawfulName (g .val) ≡ o → cond o (some (line bs (g .val) c)) none ≡ some r → Taken l r
     go true e j =
         record { attrs = bs; name = g .val; child = c; is = cc; sixteen = readChosen-off true attributeNames t .1; good = e; text-is = whole }
-    go false e j = absurd (none≢some j)
+    go false e j = absurd (Option·none-ne-some _ j)
 
-pub readParts-some : (l : List ℕ) (r : Read) → readParts l ≡ some r → Taken l r
+readParts-some : (l : List ℕ) (r : Read) → readParts l ≡ some r → Taken l r
 unfolding readParts
 readParts-some l r k =
     let w₁ = bind-some _ _ r k in

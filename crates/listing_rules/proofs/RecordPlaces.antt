@@ -45,7 +45,7 @@ module _ (t : List ℕ) (at : ℕ) where
       )
 
 -- of two names, neither is the first
-pub apart-turned : (r q : Record) → apart r q ≡ apart q r
+apart-turned : (r q : Record) → apart r q ≡ apart q r
 unfolding apart
 apart-turned r q = go (leb (r .start + r .len) (q .start)) (leb (q .start + q .len) (r .start))
   where

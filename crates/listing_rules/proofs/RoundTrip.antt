@@ -15,6 +15,7 @@ use Rattle.listing_rules.specs.Server.{Reply, answered, refusal}
 use Rattle.listing_rules.specs.Reader.{root, bad, readLine, rootAttributes, attributesRead, nameRead, childInfoOf, readNumber, sameBools, rootParts, lineFrom}
 use Rattle.listing_rules.proofs.Keys.{openBytes, openNames, openOptions, openReader}
 use Rattle.listing_rules.proofs.Bools.{and-l, and-r}
+use Rattle.listing_rules.proofs.ListLaws.{empty-true}
 use Rattle.listing_rules.proofs.ReaderWriter.{Taken, readLine-written, readLine-root, readLine-only}
 
 -- `sameBools` decides equality
@@ -33,11 +34,6 @@ sameBools-true (true ∷ a) (true ∷ b) e = ap (λ (l : List Bool). true ∷ l)
 sameBools-true (true ∷ a) (false ∷ b) e = cc
 sameBools-true (false ∷ a) (true ∷ b) e = cc
 sameBools-true (false ∷ a) (false ∷ b) e = ap (λ (l : List Bool). false ∷ l) (sameBools-true a b e)
-
-empty-true : (n : List ℕ) → isEmpty n ≡ true → n ≡ []
-unfolding isEmpty
-empty-true [] e = refl
-empty-true (b ∷ n) e = cc
 
 none-true : (c : Criteria) → isNone c ≡ true → c ≡ noCriteria
 unfolding isNone noCriteria
@@ -68,7 +64,7 @@ criteria-number c = go (c .subscribed) (c .special)
     go false true = unfold openBytes openOptions in refl
     go false false = unfold openBytes openOptions in refl
 
-pub number-criteria : (k : ℕ) → lawfulCriteria k ≡ true → criteriaNumber (criteriaOf k) ≡ k
+number-criteria : (k : ℕ) → lawfulCriteria k ≡ true → criteriaNumber (criteriaOf k) ≡ k
 unfolding openBytes openOptions
 number-criteria zero e = refl
 number-criteria (suc zero) e = refl
@@ -76,7 +72,7 @@ number-criteria (suc (suc zero)) e = refl
 number-criteria (suc (suc (suc zero))) e = refl
 number-criteria (suc (suc (suc (suc k)))) e = absurd (omega (arith, leb-true (suc (suc (suc (suc k)))) 3 e))
 
-pub number-lawful : (c : Criteria) → lawfulCriteria (criteriaNumber c) ≡ true
+number-lawful : (c : Criteria) → lawfulCriteria (criteriaNumber c) ≡ true
 number-lawful c = go (c .subscribed) (c .special)
   where
     go : (a b : Bool) → lawfulCriteria (criteriaNumber (record { subscribed = a; special = b })) ≡ true

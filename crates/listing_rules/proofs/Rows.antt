@@ -8,7 +8,7 @@ use lib.ListN.{length, drop, getD, length-drop, drop-of-length-le}
 use lib.Seq.{getD-drop, drop-drop}
 use Rattle.listing_rules.specs.Table.{rowsAfter, rowsFill}
 
-pub fills-drop : (k : ℕ) (t : List ℕ) → k ≤ length t → rowsFill k t ≡ rowsFill 0 (drop k t)
+fills-drop : (k : ℕ) (t : List ℕ) → k ≤ length t → rowsFill k t ≡ rowsFill 0 (drop k t)
 unfolding rowsFill
 fills-drop zero t h = refl
 fills-drop (suc k) [] h = absurd (omega arith)
@@ -36,14 +36,14 @@ fills-row (a ∷ b ∷ c ∷ t) n h e g =
     let d : 3 + n ≡ suc (suc (suc n)) = omega arith in
     rw (e, d) (fills-drop n t (omega arith))
 
-pub fills-bad : (t : List ℕ) (n : ℕ) → 3 ≤ length t → getD t 2 0 ≡ n → length t < 3 + n → rowsFill 0 t ≡ false
+fills-bad : (t : List ℕ) (n : ℕ) → 3 ≤ length t → getD t 2 0 ≡ n → length t < 3 + n → rowsFill 0 t ≡ false
 unfolding rowsFill
 fills-bad [] n h e g = absurd (omega arith)
 fills-bad (a ∷ []) n h e g = absurd (omega arith)
 fills-bad (a ∷ b ∷ []) n h e g = absurd (omega arith)
 fills-bad (a ∷ b ∷ c ∷ t) n h e g = rw e (fills-short n t (omega arith))
 
-pub fills-stub : (t : List ℕ) → 0 < length t → length t < 3 → rowsFill 0 t ≡ false
+fills-stub : (t : List ℕ) → 0 < length t → length t < 3 → rowsFill 0 t ≡ false
 unfolding rowsFill
 fills-stub [] h g = absurd (omega arith)
 fills-stub (a ∷ []) h g = refl

@@ -6,9 +6,11 @@ use mathlib.Core.Bool.{Bool, true, false, cond}
 use native.Mathlib.Omega.{arith}
 use lib.ListN.{length}
 use Prim.Native.Nat.{ℕ, suc, _≤_, Ordering, Ordering·lt, Ordering·eq, Ordering·gt}
+use Rattle.listing_rules.specs.Bytes.{same}
 use Rattle.listing_rules.specs.Lists.{keep}
 use Rattle.listing_rules.specs.Orders.{placed, insert, sorted, byteOrder, isLt, ascendsFrom, ascends}
 use Rattle.listing_rules.proofs.Bools.{and-l, and-r}
+use Rattle.listing_rules.proofs.ListLaws.{same-true}
 use Rattle.listing_rules.proofs.Order.{swap, Total, bytes-total}
 
 -- x is below each of the list
@@ -36,7 +38,7 @@ module _ {A : Type 0} (cmp : A → A → Ordering) (L : Total cmp) where
       clash p = subst code p tt
 
   -- members
-  pub mem-new : (x : A) (l : List A) → List·Memᴰ x (insert cmp x l)
+  mem-new : (x : A) (l : List A) → List·Memᴰ x (insert cmp x l)
   unfolding insert placed
   mem-new x [] = List·Memᴰ·head refl
   mem-new x (y ∷ ys) = go (cmp x y) refl (mem-new x ys)
@@ -46,7 +48,7 @@ module _ {A : Type 0} (cmp : A → A → Ordering) (L : Total cmp) where
       go Ordering·eq e ih = List·Memᴰ·head (L .equal x y e)
       go Ordering·gt e ih = List·Memᴰ·tail ih
 
-  pub mem-old : (x z : A) (l : List A) → List·Memᴰ z l → List·Memᴰ z (insert cmp x l)
+  mem-old : (x z : A) (l : List A) → List·Memᴰ z l → List·Memᴰ z (insert cmp x l)
   unfolding insert placed
   mem-old x z [] m = absurd (List·Memᴰ·not-nil m)
   mem-old x z (y ∷ ys) m = go (cmp x y) (mem-old x z ys) (List·Memᴰ·cases-cons m)
@@ -57,7 +59,7 @@ module _ {A : Type 0} (cmp : A → A → Ordering) (L : Total cmp) where
       go Ordering·gt ih (inl e) = List·Memᴰ·head e
       go Ordering·gt ih (inr k) = List·Memᴰ·tail (ih k)
 
-  pub mem-cases : (x z : A) (l : List A) → List·Memᴰ z (insert cmp x l) → (z ≡ x) ⊎ List·Memᴰ z l
+  mem-cases : (x z : A) (l : List A) → List·Memᴰ z (insert cmp x l) → (z ≡ x) ⊎ List·Memᴰ z l
   unfolding insert placed
   mem-cases x z [] m = List·Memᴰ·cases-cons m
   mem-cases x z (y ∷ ys) m = go (cmp x y) (mem-cases x z ys) m
@@ -90,7 +92,7 @@ module _ {A : Type 0} (cmp : A → A → Ordering) (L : Total cmp) where
       go Ordering·eq ih = a
       go Ordering·gt ih = (a .0, ih)
 
-  pub asc-insert : (x : A) (l : List A) → Asc cmp l → Asc cmp (insert cmp x l)
+  asc-insert : (x : A) (l : List A) → Asc cmp l → Asc cmp (insert cmp x l)
   unfolding insert placed
   asc-insert x [] s = (tt, tt)
   asc-insert x (y ∷ ys) s = go (cmp x y) refl (asc-insert x ys (s .1))
@@ -229,6 +231,18 @@ unfolding isLt
 lt-true Ordering·lt e = refl
 lt-true Ordering·eq e = cc
 lt-true Ordering·gt e = cc
+
+pub order-trans : (a b c : List ℕ) → isLt (byteOrder a b) ≡ true → isLt (byteOrder b c) ≡ true → isLt (byteOrder a c) ≡ true
+unfolding isLt
+order-trans a b c p q = ap isLt (bytes-total .trans a b c (lt-true (byteOrder a b) p) (lt-true (byteOrder b c) q))
+
+-- a name that comes before another is not the same
+pub before-other : (a n : List ℕ) → isLt (byteOrder a n) ≡ true → same a n ≡ false
+before-other a n e = go (same a n) refl
+  where
+    go : (o : Bool) → same a n ≡ o → o ≡ false
+    go true h = absurd (irrefl byteOrder bytes-total n (subst (λ (z : List ℕ). byteOrder z n ≡ Ordering·lt) (same-true a n h) (lt-true (byteOrder a n) e)))
+    go false h = refl
 
 ascends-from : (x : List ℕ) (l : List (List ℕ)) → ascendsFrom x l ≡ true → Asc byteOrder (x ∷ l)
 unfolding ascendsFrom

@@ -1,11 +1,10 @@
 -- Spare records past the 512th do not matter (W6): a command over a store makes of its first 512 records what it would make of them alone, with the
 -- same reply, count and name bytes, and leaves the others as they are. Rests on CommandLaws and EditPasses.
-use mathlib.Core.Path.{_≡_, refl, sym, ap, _∙_, subst}
-use mathlib.Core.Logic.{_⊎_, ⊎-elim}
+use mathlib.Core.Path.{_≡_, refl, sym, ap, _∙_}
 use mathlib.Core.Bool.{Bool, true, false, cond, _&&_, not, false≢true}
 use mathlib.Core.List.{List, [], _∷_, _++_, append-assoc, append-nil}
 use mathlib.Core.Option.{Option, none, some}
-use Prim.Native.Nat.{ℕ, suc, _-_, _≤_, _<_, min, Ordering·lt}
+use Prim.Native.Nat.{ℕ, suc, _-_, _≤_, _<_, min}
 use native.Mathlib.Omega.{arith}
 use lib.Dec.{eqb, leb, ltb}
 use lib.ListN.{length, take, drop, replicate, length-append, length-take, take-append-drop, drop-of-length-le, List·getD-append}
@@ -22,10 +21,9 @@ use Rattle.listing_rules.specs.Subscriptions.{Store, storeTable, held, s
 use Rattle.listing_rules.specs.Subscriptions.{overwritten, withSubscribed, withoutSubscribed, zeroRecord, nth, flagged, inserted, removed, Edited, denied, stored}
 use Rattle.listing_rules.specs.Subscriptions.{insertion, subscribing, unsubscribing, edited}
 use Rattle.listing_rules.specs.Server.{Reply, refusal, answered, answer, Commanded, attempted, unchangedBy, concluded, commanded}
-use Rattle.listing_rules.proofs.Bools.{and-l, or-cases}
-use Rattle.listing_rules.proofs.ListLaws.{same-true}
-use Rattle.listing_rules.proofs.Order.{bytes-total}
-use Rattle.listing_rules.proofs.Sorted.{irrefl, lt-true}
+use Rattle.listing_rules.proofs.Bools.{and-l}
+use Rattle.listing_rules.proofs.ListLaws.{keep-length}
+use Rattle.listing_rules.proofs.Sorted.{before-other}
 use Rattle.listing_rules.proofs.EditPasses.{store-parts, rows-count}
 use Rattle.listing_rules.proofs.SubscriptionLaws.{roomForRow, insertedAt}
 use Rattle.listing_rules.proofs.CommandLaws.{unsound-refused}
@@ -42,26 +40,17 @@ abbrev commandedWith : List Record → Commanded → Commanded
 commandedWith z c = record { reply = c .reply; store = withSpare (c .store) z }
 
 -- the place of a name: no more rows come before it than there are, and fewer where it has a row
-before-most : (rs : List Row) (n : List ℕ) → rowsBefore rs n ≤ length rs
-unfolding rowsBefore keep
-before-most [] n = omega arith
-before-most (r ∷ rs) n = go (isLt (byteOrder (r .name) n)) (before-most rs n)
-  where
-    go : (o : Bool) → rowsBefore rs n ≤ length rs → length (cond o (r ∷ keep (λ q. isLt (byteOrder (q .name) n)) rs) (keep (λ q. isLt (byteOrder (q .name) n)) rs)) ≤ suc (length rs)
-    go true h = omega (arith, h)
-    go false h = omega (arith, h)
+pub before-most : (rs : List Row) (n : List ℕ) → rowsBefore rs n ≤ length rs
+unfolding rowsBefore
+before-most rs n = keep-length (λ r. isLt (byteOrder (r .name) n)) rs
 
--- a name does not come before itself
-not-before : (a n : List ℕ) → same a n ≡ true → isLt (byteOrder a n) ≡ true → ⊥
-not-before a n q e = irrefl byteOrder bytes-total n (subst (λ (x : List ℕ). byteOrder x n ≡ Ordering·lt) (same-true a n q) (lt-true (byteOrder a n) e))
-
-before-fewer : (rs : List Row) (n : List ℕ) → hasRow rs n ≡ true → rowsBefore rs n < length rs
+pub before-fewer : (rs : List Row) (n : List ℕ) → hasRow rs n ≡ true → rowsBefore rs n < length rs
 unfolding rowsBefore keep hasRow anyOf
 before-fewer [] n h = absurd (false≢true h)
 before-fewer (r ∷ rs) n h = go (isLt (byteOrder (r .name) n)) refl (λ q. before-fewer rs n q)
   where
     later : isLt (byteOrder (r .name) n) ≡ true → hasRow rs n ≡ true
-    later e = ⊎-elim (λ q. absurd (not-before (r .name) n q e)) (λ q. q) (or-cases (same (r .name) n) (hasRow rs n) h)
+    later e = rw (before-other (r .name) n e) at h
 
     go : (o : Bool) → isLt (byteOrder (r .name) n) ≡ o → (hasRow rs n ≡ true → rowsBefore rs n < length rs)
         → length (cond o (r ∷ keep (λ q. isLt (byteOrder (q .name) n)) rs) (keep (λ q. isLt (byteOrder (q .name) n)) rs)) < suc (length rs)

@@ -1,8 +1,8 @@
 -- The tokens of a line: what each reader takes and leaves, and that a quoted name is read back as it was. Rests on Bools.
-use mathlib.Core.Path.{_≡_, refl, sym, ap, _∙_, subst}
+use mathlib.Core.Path.{_≡_, refl, ap, _∙_, subst}
 use mathlib.Core.Bool.{Bool, true, false, cond, _&&_, _||_, not, false≢true}
 use mathlib.Core.List.{List, [], _∷_, _++_}
-use mathlib.Core.Option.{Option, none, some, IsSome}
+use mathlib.Core.Option.{Option, none, some, Option·none-ne-some}
 use Prim.Native.Nat.{ℕ, suc, _*_, _≤_, _<_}
 use native.Mathlib.Omega.{arith}
 use lib.Dec.{eqb, leb}
@@ -16,12 +16,9 @@ use Rattle.listing_rules.proofs.Keys.{openBytes, openTokens, openLines}
 use Rattle.listing_rules.proofs.Bools.{and-l, and-r, and-i}
 
 -- readers one after the other
-pub none≢some : {A : Type 0} {a : A} → none ≡ some a → ⊥
-none≢some e = subst IsSome (sym e) tt
-
 pub bind-some : {A B : Type 0} (x : Option A) (f : A → Option B) (y : B) → (x >>= f) ≡ some y → (a : A) × (x ≡ some a) × (f a ≡ some y)
 unfolding _>>=_
-bind-some none f y e = absurd (none≢some e)
+bind-some none f y e = absurd (Option·none-ne-some _ e)
 bind-some (some a) f y e = (a, refl, e)
 
 pub bind-cong : {A B : Type 0} (x : Option A) (f g : A → Option B) → ((a : A) → x ≡ some a → f a ≡ g a) → (x >>= f) ≡ (x >>= g)
@@ -79,15 +76,15 @@ unfolding run₁ unlessEmpty
 run₁-split p t g k = go (isEmpty (run p t .val)) k
   where
     go : (o : Bool) → cond o none (some (run p t)) ≡ some g → t ≡ g .val ++ g .rest
-    go true f = absurd (none≢some f)
+    go true f = absurd (Option·none-ne-some _ f)
     go false f = let e : run p t ≡ g = cc in subst (λ (h : Got (List ℕ)). t ≡ h .val ++ h .rest) e (run-split p t)
 
-pub run₁-shorter : (p : ℕ → Bool) (t : List ℕ) (g : Got (List ℕ)) → run₁ p t ≡ some g → length (g .rest) < length t
+run₁-shorter : (p : ℕ → Bool) (t : List ℕ) (g : Got (List ℕ)) → run₁ p t ≡ some g → length (g .rest) < length t
 unfolding run₁ unlessEmpty isEmpty
 run₁-shorter p t g k = go (run p t) k (run-split p t)
   where
     nonempty : (v r : List ℕ) → cond (isEmpty v) none (some (record { val = v; rest = r })) ≡ some g → t ≡ v ++ r → length (g .rest) < length t
-    nonempty [] r k e = absurd (none≢some k)
+    nonempty [] r k e = absurd (Option·none-ne-some _ k)
     nonempty (x ∷ v) r k e =
         let same : r ≡ g .rest = ap (λ (o : Option (Got (List ℕ))). restOr r o) k in
         omega (arith, ap length e, length-append (x ∷ v) r, ap length same)
@@ -140,12 +137,12 @@ Unq true t g = Path (List ℕ) (backslash ∷ t) (escaped (g .val) ++ (quote ∷
 
 pub unquoted-some : (e : Bool) (t : List ℕ) (g : Got (List ℕ)) → unquoted e t ≡ some g → Unq e t g
 unfolding escaped got unquoted withFirst
-unquoted-some e [] g k = absurd (none≢some k)
+unquoted-some e [] g k = absurd (Option·none-ne-some _ k)
 unquoted-some true (b ∷ t) g k = go (eqb b quote || eqb b backslash) refl k (unquoted-some false t)
   where
     go : (o : Bool) → (eqb b quote || eqb b backslash) ≡ o → cond o (unquoted false t >>= λ g. some (withFirst b g)) none ≡ some g
         → ((g : Got (List ℕ)) → unquoted false t ≡ some g → Unq false t g) → Unq true (b ∷ t) g
-    go false f k ih = absurd (none≢some k)
+    go false f k ih = absurd (Option·none-ne-some _ k)
     go true f k ih =
         let w = bind-some (unquoted false t) (λ g. some (withFirst b g)) g k in
         let u : t ≡ escaped (w .0 .val) ++ (quote ∷ w .0 .rest) = ih (w .0) (w .1) in
@@ -167,11 +164,11 @@ unquoted-some false (b ∷ t) g k = go (eqb b backslash) (eqb b quote) refl refl
         let v : withFirst b (w .0) ≡ g = cc in
         subst (λ (x : Got (List ℕ)). Unq false (b ∷ t) x) v (rw (e, f) (ap (λ (x : List ℕ). b ∷ x) u))
 
-pub unquoted-shorter : (t : List ℕ) (g : Got (List ℕ)) → unquoted false t ≡ some g → length (g .rest) < length t
+unquoted-shorter : (t : List ℕ) (g : Got (List ℕ)) → unquoted false t ≡ some g → length (g .rest) < length t
 unquoted-shorter t g k = omega (arith, ap length (unquoted-some false t g k), length-append (escaped (g .val)) (quote ∷ g .rest))
 
 -- a quoted string of a line
-pub quotedText-some : (t : List ℕ) (g : Got (List ℕ)) → quotedText t ≡ some g → unquoted false t ≡ some g
+quotedText-some : (t : List ℕ) (g : Got (List ℕ)) → quotedText t ≡ some g → unquoted false t ≡ some g
 unfolding quotedText
 quotedText-some t g k =
     let w = bind-some (unquoted false t) (λ h. cond (all lineByte (h .val)) (some h) none) g k in
@@ -179,14 +176,14 @@ quotedText-some t g k =
   where
     go : {h : Got (List ℕ)} (o : Bool) → cond o (some h) none ≡ some g → some h ≡ some g
     go true e = e
-    go false e = absurd (none≢some e)
+    go false e = absurd (Option·none-ne-some _ e)
 
 pub quotedText-escaped : (n t : List ℕ) → all lineByte n ≡ true → quotedText (escaped n ++ (quote ∷ t)) ≡ some (got n t)
 unfolding quotedText got _>>=_
 quotedText-escaped n t h = rw (unquoted-escaped n t, h)
 
 -- a number
-pub number-shorter : (t : List ℕ) (g : Got ℕ) → number t ≡ some g → length (g .rest) < length t
+number-shorter : (t : List ℕ) (g : Got ℕ) → number t ≡ some g → length (g .rest) < length t
 unfolding number got
 number-shorter t g k =
     let w = bind-some (run₁ digitByte t) (λ h. some (got (decimal 0 (h .val)) (h .rest))) g k in
@@ -194,7 +191,7 @@ number-shorter t g k =
     omega (arith, run₁-shorter digitByte t (w .0) (w .1), ap (λ (x : Got ℕ). length (x .rest)) e)
 
 -- a literal
-pub literal-shorter : (t : List ℕ) (g : Got (List ℕ)) → literal t ≡ some g → length (g .rest) < length t
+literal-shorter : (t : List ℕ) (g : Got (List ℕ)) → literal t ≡ some g → length (g .rest) < length t
 unfolding literal got
 literal-shorter t g k =
     let w = bind-some (number t) (λ n. after (text "}" ++ crlf) (n .rest) >>= behindHeader (n .val)) g k in
@@ -209,12 +206,12 @@ literal-shorter t g k =
       where
         go : (o : Bool) → cond o (some (got (take n u) (drop n u))) none ≡ some g → length (g .rest) ≤ length u
         go true f = let h : got (take n u) (drop n u) ≡ g = cc in omega (arith, length-drop n u, ap (λ (x : Got (List ℕ)). length (x .rest)) h)
-        go false f = absurd (none≢some f)
+        go false f = absurd (Option·none-ne-some _ f)
 
 -- a quoted string, a literal, or a run
-pub stringOr-shorter : (p : ℕ → Bool) (t : List ℕ) (g : Got (List ℕ)) → stringOr p t ≡ some g → length (g .rest) < length t
+stringOr-shorter : (p : ℕ → Bool) (t : List ℕ) (g : Got (List ℕ)) → stringOr p t ≡ some g → length (g .rest) < length t
 unfolding stringOr
-stringOr-shorter p [] g k = absurd (none≢some k)
+stringOr-shorter p [] g k = absurd (Option·none-ne-some _ k)
 stringOr-shorter p (b ∷ t) g k = go (eqb b quote) (eqb b 123) k
   where
     go : (o q : Bool) → cond o (quotedText t) (cond q (literal t) (run₁ p (b ∷ t))) ≡ some g → length (g .rest) < suc (length t)

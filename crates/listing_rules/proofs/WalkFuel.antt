@@ -7,7 +7,7 @@ use lib.ListN.{length, drop}
 use Rattle.listing_rules.specs.Bytes.{slash}
 use Rattle.listing_rules.specs.Table.{Table, rows}
 use Rattle.listing_rules.specs.Listing.{candidates}
-use Rattle.listing_rules.specs.Walk.{Lists, Step, stop, go, _>>=_, Walked, asked, walkFrom, walkAll}
+use Rattle.listing_rules.specs.Walk.{Lists, Step, stop, go, _then_, Walked, asked, walkFrom, walkAll}
 use Rattle.listing_rules.proofs.Order.{View, view, less, equal, more}
 use Rattle.listing_rules.proofs.WalkSets.{Walks}
 use Rattle.listing_rules.proofs.WalkWhole.{walk-ends}
@@ -22,8 +22,8 @@ steady f base up ends (suc k) h = pick (view base (suc k)) (steady f base up end
     pick (equal c e) ih = rw e
     pick (more c l) ih = absurd (omega arith)
 
-bind-more : {A B : Type 0} (x : Step A) (f g : A → Step B) → ((a : A) → (g a ≡ stop 0 → ⊥) → f a ≡ g a) → ((x >>= g) ≡ stop 0 → ⊥) → (x >>= f) ≡ (x >>= g)
-unfolding _>>=_
+bind-more : {A B : Type 0} (x : Step A) (f g : A → Step B) → ((a : A) → (g a ≡ stop 0 → ⊥) → f a ≡ g a) → ((x then g) ≡ stop 0 → ⊥) → (x then f) ≡ (x then g)
+unfolding _then_
 bind-more (stop k) f g h n = refl
 bind-more (go a) f g h n = h a n
 
@@ -32,7 +32,7 @@ module _ (t : Table) (o scratch found pending : ℕ) where
   -- a step, with the names that are still to be asked
   stepAt : ℕ → ℕ → Lists → List (List ℕ) → Step Walked
   stepAt k done s l =
-      elim l [ [] ↦ go (record { count = suc done; lists = s }) | n ∷ ns ↦ (asked t o scratch found pending s (n ++ (slash ∷ [])) >>= λ u. walkFrom t o scratch found pending k (suc done) u) ]
+      elim l [ [] ↦ go (record { count = suc done; lists = s }) | n ∷ ns ↦ (asked t o scratch found pending s (n ++ (slash ∷ [])) then λ u. walkFrom t o scratch found pending k (suc done) u) ]
 
   abbrev Steady : ℕ → ℕ → Lists → Type 0
   Steady k done s = (walkFrom t o scratch found pending k done s ≡ stop 0 → ⊥)

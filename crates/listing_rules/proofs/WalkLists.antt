@@ -112,7 +112,7 @@ module _ (t : Table) (o : ℕ) (wk : Walks t o) where
       (λ z k. sorted-mem walkOrder walk-total z (cands t o) (low-cand z (ask-to t o wk [] z k .2)))
       (omega (arith, sorted-length walkOrder (cands t o)))
 
-  pub P-asc : Asc walkOrder P
+  P-asc : Asc walkOrder P
   P-asc = served-asc kids kidsAsc kidsShape fuel (asks t o []) top-good
 
   -- all that is found, in its order
@@ -120,7 +120,7 @@ module _ (t : Table) (o : ℕ) (wk : Walks t o) where
   F = finds t o [] ++ joined (map finds′ P)
 
   -- what is found meets the criteria
-  pub F-only : (z : Name) → List·Memᴰ z F → List·Memᴰ z (cands t o) × (M t o z ≡ true)
+  F-only : (z : Name) → List·Memᴰ z F → List·Memᴰ z (cands t o) × (M t o z ≡ true)
   F-only z m = pick (List·Memᴰ·append-cases (finds t o []) m)
     where
       pick : List·Memᴰ z (finds t o []) ⊎ List·Memᴰ z (joined (map finds′ P)) → List·Memᴰ z (cands t o) × (M t o z ≡ true)
@@ -134,7 +134,7 @@ module _ (t : Table) (o : ℕ) (wk : Walks t o) where
   depth-pos : (a : Name) → 1 ≤ depth a
   depth-pos a = let w = levels-cons a in omega (arith, ap length (w .2))
 
-  pub F-asc : Asc walkOrder F
+  F-asc : Asc walkOrder F
   F-asc = asc-append walkOrder (finds t o []) (joined (map finds′ P)) tops (finds-asc finds′ findsAsc findsShape P P-asc) cross
     where
       one : (z : Name) → List·Memᴰ z (finds t o []) → oneLevel z ≡ true
@@ -183,11 +183,11 @@ module _ (t : Table) (o : ℕ) (wk : Walks t o) where
             let m = ih (w .0) (omega (arith, ap length (w .2), length-append (w .0) (slash ∷ w .1))) q in
             subst (λ (y : Name). List·Memᴰ y P) (sym (w .2)) (kids-served kids fuel (asks t o []) P-ends (w .0) (child (w .0) (w .1)) m (kid-of (w .0) (w .1) q (w .3) k))
 
-    pub P-has : (z : Name) → Low t o z → List·Memᴰ z P
+    P-has : (z : Name) → Low t o z → List·Memᴰ z P
     P-has z l = P-all (length z) z (omega arith) l
 
     -- and every such name is found
-    pub F-has : (z : Name) → List·Memᴰ z (cands t o) → M t o z ≡ true → List·Memᴰ z F
+    F-has : (z : Name) → List·Memᴰ z (cands t o) → M t o z ≡ true → List·Memᴰ z F
     F-has z c m = pick (parent z)
       where
         pick : TopOrChild z → List·Memᴰ z F

@@ -27,7 +27,7 @@ use Rattle.listing_rules.proofs.Asked.{pats, attrsOf, childOf, names-li
 use Rattle.listing_rules.proofs.WalkSets.{Walks, find-met, walk-asks, walk-listed, matches-top, matches-below}
 
 -- names of one level: walk order is byte order
-pub walk-tops : (x y : Name) → oneLevel x ≡ true → oneLevel y ≡ true → walkOrder x y ≡ byteOrder x y
+walk-tops : (x y : Name) → oneLevel x ≡ true → oneLevel y ≡ true → walkOrder x y ≡ byteOrder x y
 unfolding levelOrder lexBy
 walk-tops x y h k =
     walk-same-depth x y (ap length (levels-one x h) ∙ sym (ap length (levels-one y k)))

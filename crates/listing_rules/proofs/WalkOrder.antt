@@ -18,7 +18,7 @@ module _ {A B C : Type 0} (c : B → B → Ordering) (d : C → C → Ordering) 
   abbrev pub both : A → A → Ordering
   both a b = thenBy (c (f a) (f b)) (d (g a) (g b))
 
-  pub both-total : Total both
+  both-total : Total both
   unfolding thenBy
   both-total =
       record {
@@ -75,7 +75,7 @@ named-levels (b ∷ a) = go (eqb b slash) refl (levels-cons a) (named-levels a)
     go false e w ih =
         rw (w .2) (onFirst-named b (w .0) (w .1) ∙ ap (λ (x : List ℕ). b ∷ x) (rw (w .2) at ih))
 
-pub levels-injective : (a b : List ℕ) → levels a ≡ levels b → a ≡ b
+levels-injective : (a b : List ℕ) → levels a ≡ levels b → a ≡ b
 levels-injective a b e = sym (named-levels a) ∙ ap named e ∙ named-levels b
 
 pub walk-total : Total walkOrder

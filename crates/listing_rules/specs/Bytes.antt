@@ -20,15 +20,15 @@ quote = 34
 unfoldable pub backslash : ℕ
 backslash = 92
 
-unfoldable pub space : ℕ
-space = 32
-
 -- the other bytes that the rules name, as RFC 3501 writes them
 abbrev pub CR : ℕ
 CR = 13
 
 abbrev pub LF : ℕ
 LF = 10
+
+abbrev pub space : ℕ
+space = 32
 
 abbrev pub percent : ℕ
 percent = 37
@@ -47,6 +47,32 @@ bracket = 93
 
 abbrev pub brace : ℕ
 brace = 123
+
+-- the first and the last of the digits and of the letters, F as the last that is a digit of hexadecimal
+abbrev pub digit0 : ℕ
+digit0 = 48
+
+abbrev pub digit9 : ℕ
+digit9 = 57
+
+abbrev pub capitalA : ℕ
+capitalA = 65
+
+abbrev pub capitalF : ℕ
+capitalF = 70
+
+abbrev pub smallA : ℕ
+smallA = 97
+
+abbrev pub smallF : ℕ
+smallF = 102
+
+abbrev pub smallZ : ℕ
+smallZ = 122
+
+-- how far a small letter stands behind its capital
+abbrev pub caseStep : ℕ
+caseStep = 32
 
 unfoldable pub crlf : List ℕ
 crlf = CR ∷ LF ∷ []
@@ -83,7 +109,7 @@ same (x ∷ xs) (y ∷ ys) = eqb x y && same xs ys
 
 -- a letter a to z raised to A to Z; other bytes as they are
 unfoldable pub raise : ℕ → ℕ
-raise b = cond (within 97 122 b) (b - 32) b
+raise b = cond (within smallA smallZ b) (b - caseStep) b
 
 unfoldable pub raised : List ℕ → List ℕ
 raised [] = []

@@ -5,7 +5,7 @@ use mathlib.Core.Option.{Option, none, some}
 use lib.Dec.{leb}
 use lib.ListN.{length, take}
 use Prim.Native.Nat.{ℕ, zero, suc, _-_}
-use Rattle.listing_rules.specs.Bytes.{text, spells, isEmpty, opening}
+use Rattle.listing_rules.specs.Bytes.{text, spells, isEmpty, opening, space}
 use Rattle.listing_rules.specs.Lists.{every, anyOf}
 use Rattle.listing_rules.specs.Tokens.{Got, got, at, after, withFirst, _>>=_, tagByte, atomByte, run, run₁, atom, astring, pattern}
 use Rattle.listing_rules.specs.Feeder.{first, oneCommand}
@@ -26,7 +26,7 @@ valueRest (suc k) t =
     let word = astring t >>= λ g. some (g .rest) in
     cond (at opening t) inner word >>= λ u.
     let more = after (text " ") u >>= λ v. valueRest k v in
-    cond (at 32 u) more (after (text ")") u)
+    cond (at space u) more (after (text ")") u)
 
 -- an option as it is written: its word, and whether a value stands behind it
 pub record Opt : Type 0 where
@@ -48,7 +48,7 @@ unfoldable pub parted : {A : Type 0} → (List ℕ → Option (Got A)) → ℕ �
 parted item zero t = none
 parted item (suc k) t = do
   g ← item t
-  elim (at 32 (g .rest)) [
+  elim (at space (g .rest)) [
     | true ↦ after (text " ") (g .rest) >>= λ u. parted item k u >>= λ r. some (withFirst (g .val) r)
     | false ↦ after (text ")") (g .rest) >>= λ u. some (got (g .val ∷ []) u)
   ]

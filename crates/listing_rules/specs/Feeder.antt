@@ -52,11 +52,11 @@ unfoldable pub first : Feeder
 first = reading [] []
 
 -- what a byte leaves, and what comes of it
-pub record Step : Type 0 where
+pub record AfterByte : Type 0 where
   pub state : Feeder
   pub event : Event
 
-unfoldable pub gives : Feeder → Event → Step
+unfoldable pub gives : Feeder → Event → AfterByte
 gives s e = record { state = s; event = e }
 
 -- "bytes are dropped through the next CR LF"
@@ -68,7 +68,7 @@ unfoldable pub offends : List ℕ → ℕ → Bool
 offends kept c = not (leb (suc (length kept)) 2048) || eqb c 0
 
 -- "dropping counts the offending byte and a CR just before it"
-unfoldable pub refusing : List ℕ → ℕ → Step
+unfoldable pub refusing : List ℕ → ℕ → AfterByte
 refusing kept c = gives (dropped (lastIs CR kept) c) (denied 3)
 
 -- n bytes of a literal are to come
@@ -77,15 +77,15 @@ awaiting kept n = cond (eqb n 0) (reading kept []) (inLiteral kept n)
 
 -- A line outside literals has ended. "`{n}` CR LF with n up to 1,024 asks for the continuation line"; "A larger n .. is refused with 3";
 -- "after a larger n the command ends at that line".
-unfoldable pub lineEnded : List ℕ → Option ℕ → Step
+unfoldable pub lineEnded : List ℕ → Option ℕ → AfterByte
 lineEnded kept none = gives first (handed kept)
 lineEnded kept (some n) = cond (leb n 1024) (gives (awaiting kept n) goOn) (gives first (denied 3))
 
-unfoldable pub textByte : List ℕ → List ℕ → Step
+unfoldable pub textByte : List ℕ → List ℕ → AfterByte
 textByte kept line = cond (endsLine line) (lineEnded kept (announced line)) (gives (reading kept line) quiet)
 
 -- One byte. "Where two causes meet, the earlier byte decides, and at one byte the length of the command comes before n".
-unfoldable pub fedByte : Feeder → ℕ → Step
+unfoldable pub fedByte : Feeder → ℕ → AfterByte
 fedByte (reading kept line) c = cond (offends kept c) (refusing kept c) (textByte (kept ++ (c ∷ [])) (line ++ (c ∷ [])))
 fedByte (inLiteral kept n) c = cond (offends kept c) (refusing kept c) (gives (awaiting (kept ++ (c ∷ [])) (n - 1)) quiet)
 fedByte (dropping cr) c = gives (dropped cr c) quiet

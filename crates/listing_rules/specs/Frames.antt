@@ -5,7 +5,7 @@ use mathlib.Core.Option.{Option, none, some}
 use lib.Dec.{eqb, leb}
 use lib.ListN.{length, replicate}
 use Prim.Native.Nat.{ℕ, _+_, _-_, _*_, _/_, _%_}
-use Rattle.listing_rules.specs.Bytes.{within, isEmpty, LF}
+use Rattle.listing_rules.specs.Bytes.{within, isEmpty, digit0, digit9, capitalA, capitalF, smallA, smallF, LF}
 use Rattle.listing_rules.specs.Lists.{joined}
 use Rattle.listing_rules.specs.Table.{Row, Table, rows, packedTable}
 use Rattle.listing_rules.specs.Records.{Record}
@@ -15,11 +15,18 @@ use Rattle.listing_rules.specs.Subscriptions.{Store, storeTable, zeroRec
 use Rattle.listing_rules.specs.Server.{Reply, refusal, answered, isAnswered, answer, Commanded, attempted, concluded}
 use Rattle.listing_rules.specs.Walk.{WalkReply, walkRefused, walked, walk}
 
+-- what the digits A to F, or a to f, have over their numbers, 10 to 15
+abbrev pub capitalOver : ℕ
+capitalOver = 55
+
+abbrev pub smallOver : ℕ
+smallOver = 87
+
 -- "Lines of hexadecimal, either case"
 unfoldable pub digit : ℕ → Option ℕ
 digit c =
-    cond (within 48 57 c) (some (c - 48))
-    (cond (within 65 70 c) (some (c - 55)) (cond (within 97 102 c) (some (c - 87)) none))
+    cond (within digit0 digit9 c) (some (c - digit0))
+    (cond (within capitalA capitalF c) (some (c - capitalOver)) (cond (within smallA smallF c) (some (c - smallOver)) none))
 
 -- two digits a byte; "an odd number of digits, another character" is no frame
 unfoldable pub bytesOf : List ℕ → Option (List ℕ)
@@ -57,7 +64,7 @@ readFrame line = cond (leb (length line) 4100) (frameOf (bytesOf line)) badFrame
 
 -- "Answers in upper case, LF behind each"
 unfoldable pub hexDigit : ℕ → ℕ
-hexDigit d = cond (leb d 9) (48 + d) (55 + d)
+hexDigit d = cond (leb d 9) (digit0 + d) (capitalOver + d)
 
 unfoldable pub hex : List ℕ → List ℕ
 hex [] = []

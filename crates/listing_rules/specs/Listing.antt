@@ -95,21 +95,17 @@ inOrder s =
     ∷ s .All ∷ s .Archive ∷ s .Drafts ∷ s .Flagged ∷ s .Junk ∷ s .Sent ∷ s .Trash
     ∷ s .HasChildren ∷ s .HasNoChildren ∷ []
 
--- Which are shown of a name with flags f, that has children or has none, and is a level above (W1) or is none. "\Subscribed is shown
--- only if SUBSCRIBED is selected or returned, uses only if SPECIAL-USE is, the last two only with CHILDREN. Bits 2 to 6 always show,
--- \NonExistent on all that do not exist." "Else \HasNoChildren, except beside \NoInferiors." W1: a level above "is listed with
--- \NonExistent and \HasChildren, whether CHILDREN was asked or not, and \Subscribed as document 01 says" (law `level-has-children`).
-unfoldable pub attributesFor : ℕ → Options → Bool → Bool → List Bool
-attributesFor f o children level =
-    let usesShow = o .selSpecial || o .retSpecial in
-    inOrder
-    (record {
+-- Which are shown of a name with flags f: whether \Subscribed and whether uses show, and which of the last two. "Bits 2 to 6 always show,
+-- \NonExistent on all that do not exist."
+abbrev pub shownOf : ℕ → Bool → Bool → Bool → Bool → Shown
+shownOf f subscribedShows usesShow parent childless =
+    record {
       Marked = marked f;
       Unmarked = unmarked f;
       Noselect = noSelect f;
       NoInferiors = noInferiors f;
       Remote = remote f;
-      Subscribed = subscribed f && (o .selSubscribed || o .retSubscribed);
+      Subscribed = subscribed f && subscribedShows;
       NonExistent = not (exists f);
       All = bit 8 f && usesShow;
       Archive = bit 9 f && usesShow;
@@ -118,9 +114,19 @@ attributesFor f o children level =
       Junk = bit 12 f && usesShow;
       Sent = bit 13 f && usesShow;
       Trash = bit 14 f && usesShow;
-      HasChildren = (o .retChildren && children) || level;
-      HasNoChildren = o .retChildren && not children && not (noInferiors f);
-    })
+      HasChildren = parent;
+      HasNoChildren = childless;
+    }
+
+-- Of a name with flags f, that has children or has none, and is a level above (W1) or is none. "\Subscribed is shown only if SUBSCRIBED is
+-- selected or returned, uses only if SPECIAL-USE is, the last two only with CHILDREN." "Else \HasNoChildren, except beside \NoInferiors."
+-- W1: a level above "is listed with \NonExistent and \HasChildren, whether CHILDREN was asked or not, and \Subscribed as document 01 says"
+-- (law `level-has-children`).
+unfoldable pub attributesFor : ℕ → Options → Bool → Bool → List Bool
+attributesFor f o children level =
+    inOrder
+    (shownOf f (o .selSubscribed || o .retSubscribed) (o .selSpecial || o .retSpecial)
+    ((o .retChildren && children) || level) (o .retChildren && not children && not (noInferiors f)))
 
 unfoldable pub attributes : List Row → Options → List (List ℕ) → List ℕ → List Bool
 attributes rs o ps n = attributesFor (flagsOf rs n) o (hasChildren rs o n) (levelAbove rs o ps n)

@@ -5,7 +5,7 @@ use mathlib.Core.Option.{Option, none, some}
 use lib.Dec.{eqb, leb}
 use lib.ListN.{length, take, drop}
 use Prim.Native.Nat.{ℕ, _+_, _-_, _*_}
-use Rattle.listing_rules.specs.Bytes.{text, crlf, quote, backslash, within, oneOf, all, isEmpty, bracket, plus, brace, CR, LF}
+use Rattle.listing_rules.specs.Bytes.{text, crlf, quote, backslash, within, oneOf, all, isEmpty, bracket, plus, brace, digit0, digit9, CR, LF}
 
 -- something read, and what is left of the line behind it
 pub record Got (A : Type 0) : Type 0 where
@@ -88,11 +88,11 @@ quotedText t = unquoted false t >>= λ g. cond (all lineByte (g .val)) (some g) 
 
 -- a number: one or more digits, leading zeros too
 unfoldable pub digitByte : ℕ → Bool
-digitByte b = within 48 57 b
+digitByte b = within digit0 digit9 b
 
 unfoldable pub decimal : ℕ → List ℕ → ℕ
 decimal v [] = v
-decimal v (d ∷ t) = decimal (10 * v + (d - 48)) t
+decimal v (d ∷ t) = decimal (10 * v + (d - digit0)) t
 
 unfoldable pub number : List ℕ → Option (Got ℕ)
 number t = run₁ digitByte t >>= λ g. some (got (decimal 0 (g .val)) (g .rest))

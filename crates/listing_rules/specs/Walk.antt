@@ -59,10 +59,10 @@ pub data Step (A : Type 0) : Type 0 where
   stop : ℕ → Step A
   go : A → Step A
 
-infixl 20 _>>=_
-unfoldable pub _>>=_ : {A B : Type 0} → Step A → (A → Step B) → Step B
-(stop k) >>= f = stop k
-(go x) >>= f = f x
+infixl 20 _then_
+unfoldable pub _then_ : {A B : Type 0} → Step A → (A → Step B) → Step B
+(stop k) then f = stop k
+(go x) then f = f x
 
 -- an attribute by its place in the sixteen
 unfoldable pub attr : ℕ → List Bool → Bool
@@ -88,15 +88,15 @@ fits number room ns = cond (leb (length (packed ns)) room) (go ns) (stop number)
 -- "Finds go to found, names with CHILDINFO to the end of pending"; "by line 10 before 11"
 unfoldable pub takenIn : ℕ → ℕ → ℕ → Lists → Read → Step Lists
 takenIn o found pending s (line bs n c) =
-    fits 10 found (withName (isFind o bs) n (s .finds)) >>= λ f.
-    fits 11 pending (withName (not (isNone c)) n (s .asks)) >>= λ a. go (record { finds = f; asks = a })
+    fits 10 found (withName (isFind o bs) n (s .finds)) then λ f.
+    fits 11 pending (withName (not (isNone c)) n (s .asks)) then λ a. go (record { finds = f; asks = a })
 takenIn o found pending s root = go s
 takenIn o found pending s bad = go s
 
 -- "Each answer line is read back."
 unfoldable pub takenAll : ℕ → ℕ → ℕ → Lists → List (List ℕ) → Step Lists
 takenAll o found pending s [] = go s
-takenAll o found pending s (l ∷ ls) = takenIn o found pending s (readLine l) >>= λ u. takenAll o found pending u ls
+takenAll o found pending s (l ∷ ls) = takenIn o found pending s (readLine l) then λ u. takenAll o found pending u ls
 
 -- "Refusals 3 to 8 out of one of its own commands are passed on."
 unfoldable pub replied : Reply → Step (List ℕ)
@@ -111,18 +111,18 @@ pub record Walked : Type 0 where
 module _ (table : Table) (o scratch found pending : ℕ) where
   -- one command and its lines: "after each command 9, then by line 10 before 11"
   unfoldable pub asked : Lists → List ℕ → Step Lists
-  asked s reference = replied (limited scratch (answer table [] (commandLine o reference))) >>= λ a. takenAll o found pending s (linesOf a)
+  asked s reference = replied (limited scratch (answer table [] (commandLine o reference))) then λ a. takenAll o found pending s (linesOf a)
 
   -- "pending is never shortened, and is asked in order": the first `done` names of pending were asked, so one command more was sent.
   -- The reference is "later each pending name and '/'". The number of steps left is a bound; enough are given (law `walk-fuel`).
   unfoldable pub walkFrom : ℕ → ℕ → Lists → Step Walked
   walkFrom zero done s = stop 0
   walkFrom (suc k) done s =
-      elim (drop done (s .asks)) [ [] ↦ go (record { count = suc done; lists = s }) | n ∷ ns ↦ (asked s (n ++ (slash ∷ [])) >>= λ u. walkFrom k (suc done) u) ]
+      elim (drop done (s .asks)) [ [] ↦ go (record { count = suc done; lists = s }) | n ∷ ns ↦ (asked s (n ++ (slash ∷ [])) then λ u. walkFrom k (suc done) u) ]
 
   -- "reference "" first"
   unfoldable pub walkAll : ℕ → Step Walked
-  walkAll fuel = asked (record { finds = []; asks = [] }) [] >>= λ u. walkFrom fuel 0 u
+  walkAll fuel = asked (record { finds = []; asks = [] }) [] then λ u. walkFrom fuel 0 u
 
 -- a number of refusal; or the number of commands sent, and the names that lie in found and pending
 pub data WalkReply : Type 0 where

@@ -2,7 +2,7 @@
 use mathlib.Core.Path.{_≡_, refl, sym, ap, _∙_}
 use mathlib.Core.Bool.{Bool, true, false, _&&_, false≢true}
 use mathlib.Core.List.{List, [], _∷_, _++_}
-use Prim.Native.Nat.{ℕ, zero, suc, _+_, _-_, _≤_, _<_, Ordering, Ordering·lt, Ordering·eq, Ordering·gt}
+use Prim.Native.Nat.{ℕ, zero, suc, _+_, _-_, _≤_, _<_}
 use native.Mathlib.Numerals.{add-one}
 use native.Mathlib.Decide.{decLe}
 use native.Mathlib.Omega.{arith}
@@ -12,24 +12,10 @@ use borrow.Author.Tests.{eq-eqb, ne-eqb, eqb-true, lt-ltb, le-ltb, ltb-true}
 use Rattle.listing_rules.specs.Bytes.{slash}
 use Rattle.listing_rules.specs.Orders.{byteOrder, isLt, ascendsFrom, ascends}
 use Rattle.listing_rules.specs.Names.{below}
-use Rattle.listing_rules.proofs.Order.{bytes-total}
+use Rattle.listing_rules.proofs.Sorted.{order-trans}
 use Rattle.mailbox_table.specs.Shared.{sharedLen}
 use Rattle.listing_rules.proofs.Bools.{and-l, and-r, and-i}
 use Rattle.mailbox_table.proofs.SharedLaws.{shared-le-r, order-same, shared-same, order-other, shared-other, order-nil-cons, order-cons-nil, order-to-nil}
-
--- ascending is transitive
-is-lt : (o : Ordering) → isLt o ≡ true → o ≡ Ordering·lt
-unfolding isLt
-is-lt Ordering·lt e = refl
-is-lt Ordering·eq e = cc
-is-lt Ordering·gt e = cc
-
-lt-is : (o : Ordering) → o ≡ Ordering·lt → isLt o ≡ true
-unfolding isLt
-lt-is o e = rw e
-
-pub order-trans : (a b c : List ℕ) → isLt (byteOrder a b) ≡ true → isLt (byteOrder b c) ≡ true → isLt (byteOrder a c) ≡ true
-order-trans a b c p q = lt-is (byteOrder a c) (bytes-total .trans a b c (is-lt (byteOrder a b) p) (is-lt (byteOrder b c) q))
 
 -- a name begins with p
 unfoldable pub starts : List ℕ → List ℕ → Bool

@@ -1,10 +1,10 @@
 -- Check 1 and the index, of packed bytes and of words: each way through the passes. Rests on PassLaws, and on the laws of packed tables
 -- and their records in listing_rules.
 use mathlib.Core.Path.{_≡_, refl, sym, ap, _∙_}
-use mathlib.Core.Bool.{Bool, true, false, cond, _&&_, false≢true, and-false}
-use mathlib.Core.List.{List, [], _∷_, _++_, map}
+use mathlib.Core.Bool.{Bool, true, false, cond, _&&_, and-false}
+use mathlib.Core.List.{List, _++_, map}
 use mathlib.Core.Option.{none, some}
-use Prim.Native.Nat.{ℕ, zero, suc, _+_, _≤_, _<_, min}
+use Prim.Native.Nat.{ℕ, _+_, _≤_, _<_, min}
 use native.Mathlib.Decide.{decLe}
 use native.Mathlib.Omega.{arith}
 use lib.Dec.{leb}
@@ -15,6 +15,7 @@ use Rattle.listing_rules.specs.Lists.{every}
 use Rattle.listing_rules.specs.Table.{Table, Row, rows, passes, rowsPass, rowsFill, packedRows, packedTable}
 use Rattle.listing_rules.specs.Records.{Record, recordRows, liesInside, allApart, laidOut, recordTable, packedRecords}
 use Rattle.listing_rules.proofs.Bools.{and-l, and-r}
+use Rattle.listing_rules.proofs.ListLaws.{map-take}
 use Rattle.listing_rules.proofs.Passes.{rows-parts, packed-some}
 use Rattle.listing_rules.proofs.RecordLaws.{packed-rows-are, packed-inside, packed-count}
 use Rattle.mailbox_table.specs.declared.Indexing.the-variants.{Rows, Fails}
@@ -25,6 +26,7 @@ use Rattle.mailbox_table.specs.Packed.{hasRoom, unpackingOf, Splits, Unp
 use Rattle.mailbox_table.specs.Link.{Links, wordsPass}
 use Rattle.mailbox_table.specs.Layout.{Mapped}
 use Rattle.mailbox_table.specs.Find.{Finds}
+use Rattle.mailbox_table.proofs.UnpackedLaws.{roomy-fills}
 use Rattle.mailbox_table.proofs.AnswerLaws.{rows-decided, fails-decided}
 use Rattle.mailbox_table.proofs.WordLaws.{rows-records}
 use Rattle.mailbox_table.proofs.IndexLaws.{rows-length}
@@ -56,21 +58,10 @@ module _ (room : ℕ) where
           absurd (omega arith)
 
   -- packed bytes without rows, or with more than there is room for
-  pub indexing-no-room : (t : Table) → hasRoom t room ≡ false → indexingOf t room ≡ Fails
+  indexing-no-room : (t : Table) → hasRoom t room ≡ false → indexingOf t room ≡ Fails
   unfolding hasRoom
   indexing-no-room none e = indexing-none
   indexing-no-room (some rs) e = indexing-full rs (leb-false (length rs) (min room 512) e)
-
--- bytes with rows that there is room for
-room-told : (t : List ℕ) (room : ℕ) → hasRoom (packedTable t) room ≡ true → (length t ≤ 32768) × (rowsFill 0 t ≡ true) × (length (packedRows t) ≤ min room 512)
-unfolding hasRoom packedTable
-room-told t room e = go (leb (length t) 32768) (rowsFill 0 t) refl refl e
-  where
-    go : (a b : Bool) → leb (length t) 32768 ≡ a → rowsFill 0 t ≡ b → hasRoom (cond (a && b) (some (packedRows t)) none) room ≡ true
-        → (length t ≤ 32768) × (rowsFill 0 t ≡ true) × (length (packedRows t) ≤ min room 512)
-    go true true x y d = (leb-true (length t) 32768 x, y, leb-true (length (packedRows t)) (min room 512) d)
-    go true false x y d = absurd (false≢true d)
-    go false b x y d = absurd (false≢true d)
 
 -- bytes that were turned into n records
 pub record Split (t before after : List ℕ) (n : ℕ) : Type 0 where
@@ -101,7 +92,7 @@ split {t} {before} {after} {n} s =
     has = rows-decided (hasRoom (packedTable t) (length before)) (length (packedRecords t)) n (s .answer) .0
 
     size : (length t ≤ 32768) × (rowsFill 0 t ≡ true) × (length (packedRows t) ≤ min (length before) 512)
-    size = room-told t (length before) has
+    size = roomy-fills t (length before) has
 
 -- the index of packed bytes
 pub finds-no-room : {t before after : List ℕ} → Splits t before after Fails → Finds t (packedTable t) before after Fails
@@ -153,13 +144,6 @@ module _ {t before middle : List ℕ} {n : ℕ} (s : Split t before middle n) wh
         same-rows : rowsAt t part ≡ packedRows t
         same-rows = rw (rows-records t part, l .same .0, ← rows-records t (take n middle)) split-rows
 
--- the first records of words, and the words after a copy
-map-take : (ws : List ℕ) (n : ℕ) → take n (map recordOf ws) ≡ map recordOf (take n ws)
-map-take [] zero = refl
-map-take [] (suc n) = refl
-map-take (w ∷ ws) zero = refl
-map-take (w ∷ ws) (suc n) = ap (λ (rs : List Record). recordOf w ∷ rs) (map-take ws n)
-
 -- the index of words: a table that is none
 module _ (area raw : List ℕ) (count room : ℕ) where
   pub words-long : 32768 < length area → indexingOf (wordTable area raw count) room ≡ Fails
@@ -176,7 +160,7 @@ module _ (area raw : List ℕ) (count room : ℕ) where
   held-rows g true h = indexing-full room (recordRows area (take count (map recordOf raw))) (omega (arith, held-length))
     where
       held-length : length (recordRows area (take count (map recordOf raw))) ≡ count
-      held-length = rw (map-take raw count, ← rows-records area (take count raw)) (rows-length area (take count raw) ∙ length-take-le count raw g)
+      held-length = rw (← map-take recordOf count raw, ← rows-records area (take count raw)) (rows-length area (take count raw) ∙ length-take-le count raw g)
 
   pub words-many : min (min (length raw) room) 512 < count → indexingOf (wordTable area raw count) room ≡ Fails
   unfolding recordTable
@@ -202,7 +186,7 @@ module _ {area raw before : List ℕ} {count : ℕ} {middle : List ℕ} (x : Cop
   rows-number : length (rowsAt area (take count raw)) ≡ count
   rows-number = rows-length area (take count raw) ∙ held-length
 
-  pub copied-front : take count middle ≡ take count raw
+  copied-front : take count middle ≡ take count raw
   copied-front = rw (x .copy) (take-at (take count raw) (drop count before) count held-length)
 
   copied-rest : drop count middle ≡ drop count before
@@ -219,7 +203,7 @@ module _ {area raw before : List ℕ} {count : ℕ} {middle : List ℕ} (x : Cop
         length-map raw recordOf,
         le-leb count (length raw) (omega (arith, x .many)),
         le-leb (length area) 32768 (x .long),
-        map-take raw count,
+        ← map-take recordOf count raw,
         rows-records area (take count raw),
       )
 

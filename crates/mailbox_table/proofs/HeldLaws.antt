@@ -1,58 +1,73 @@
--- What a caller has who indexed a table. Rests on the parts of check 1 in listing_rules.
-use mathlib.Core.Path.{_≡_, refl, sym, _∙_}
+-- What a caller has who indexed a table: the index of its rows, or, with room for every row that a table may have, that it does not pass. Rests on
+-- the parts of check 1 in listing_rules.
+use mathlib.Core.Path.{_≡_, refl, sym, _∙_, subst}
 use mathlib.Core.Bool.{Bool, true, false, _&&_, false≢true}
 use mathlib.Core.List.{List}
 use Prim.Native.Nat.{ℕ, _≤_}
 use native.Mathlib.Omega.{arith}
 use lib.Dec.{leb}
 use lib.ListN.{length, take}
+use lib.Seq.{length-take-le}
 use borrow.Author.Tests.{le-leb, leb-true}
 use Rattle.listing_rules.specs.Table.{Table, rows, passes}
 use Rattle.listing_rules.proofs.Bools.{and-l, and-r, and-i}
-use Rattle.listing_rules.proofs.Passes.{passes-parts}
+use Rattle.listing_rules.proofs.Passes.{TableParts, passes-parts}
+use Rattle.mailbox_table.specs.declared.Indexing.{Indexing}
 use Rattle.mailbox_table.specs.declared.Indexing.the-variants.{Rows, Fails}
-use Rattle.mailbox_table.specs.Index.{rowsAt, Indexed, indexingOf, Indexes}
+use Rattle.mailbox_table.specs.Index.{rowsAt, Lawful, Index, indexingOf, Found, Indexes}
 use Rattle.mailbox_table.proofs.AnswerLaws.{rows-decided, fails-decided}
 
--- an index that answers rows is one of a table that passes
-pub index-passes : (t : Table) (room n : ℕ) → Rows n ≡ indexingOf t room → passes t ≡ true
-unfolding indexingOf
-index-passes t room n e = and-l (passes t) (leb (length (rows t)) room) (rows-decided (passes t && leb (length (rows t)) room) (length (rows t)) n e .0)
+module _ {area : List ℕ} {t : Table} {before after : List ℕ} {r : Indexing} (x : Indexes area t before after r) where
+  -- What a caller has who found n rows: the table passes, and the first n words are the index of its rows.
+  pub record Held (n : ℕ) : Type 0 where
+    pub table-passes : passes t ≡ true
+    pub number : n ≡ length (rows t)
+    pub inside : n ≤ length after
+    pub size : n ≡ length (take n after)
+    pub same : rowsAt area (take n after) ≡ rows t
+    pub index : Index area (take n after)
 
--- What a caller has who found n rows: the table passes, and the first n words are the index of its rows.
-pub record Held (area : List ℕ) (t : Table) (words : List ℕ) (n : ℕ) : Type 0 where
-  pub table-passes : passes t ≡ true
-  pub number : n ≡ length (rows t)
-  pub same-rows : rowsAt area (take n words) ≡ rows t
-  pub indexed : Indexed area (take n words)
-  pub few : n ≤ 512
-  pub fits : n ≤ length words
+  pub index-held : (n : ℕ) → r ≡ Rows n → Held n
+  unfolding indexingOf
+  index-held n e =
+      record {
+        table-passes = passing;
+        number = found .0;
+        inside = fits;
+        size = sym (length-take-le n after fits);
+        same = found .1;
+        index = record {
+          indexed = found .2;
+          few = omega (arith, length-take-le n after fits, found .0, parts .few);
+          lawful = subst Lawful (sym (found .1)) (parts .lawful-names);
+        };
+      }
+    where
+      found : Found area (rows t) after (Rows n)
+      found = subst (Found area (rows t) after) e (x .found)
 
-pub index-held : {area : List ℕ} {t : Table} {before after : List ℕ} {n : ℕ} → Indexes area t before after (Rows n) → Held area t after n
-unfolding indexingOf
-index-held {area} {t} {before} {after} {n} x =
-    let d = rows-decided (passes t && leb (length (rows t)) (length before)) (length (rows t)) n (x .answer) .0 in
-    let p = and-l (passes t) (leb (length (rows t)) (length before)) d in
-    let k : length (rows t) ≤ length before = leb-true (length (rows t)) (length before) (and-r (passes t) (leb (length (rows t)) (length before)) d) in
-    record {
-      table-passes = p;
-      number = x .found .0;
-      same-rows = x .found .1;
-      indexed = x .found .2;
-      few = omega (arith, x .found .0, passes-parts t p .few);
-      fits = omega (arith, x .found .0, x .room);
-    }
+      roomy : (passes t && leb (length (rows t)) (length before)) ≡ true
+      roomy = rows-decided (passes t && leb (length (rows t)) (length before)) (length (rows t)) n (sym e ∙ x .answer) .0
 
--- with room for every row that a table may have, the index fails exactly if the table does not pass
-pub index-refused : {area : List ℕ} {t : Table} {before after : List ℕ} → 512 ≤ length before → Indexes area t before after Fails → passes t ≡ false
-unfolding indexingOf
-index-refused {area} {t} {before} {after} h x = go (passes t) refl
-  where
-    failed : (passes t && leb (length (rows t)) (length before)) ≡ false
-    failed = fails-decided (passes t && leb (length (rows t)) (length before)) (length (rows t)) (x .answer)
+      passing : passes t ≡ true
+      passing = and-l (passes t) (leb (length (rows t)) (length before)) roomy
 
-    go : (o : Bool) → passes t ≡ o → o ≡ false
-    go false p = refl
-    go true p =
-        let few = passes-parts t p .few in
-        absurd (false≢true (sym failed ∙ and-i (passes t) (leb (length (rows t)) (length before)) p (le-leb (length (rows t)) (length before) (omega arith))))
+      parts : TableParts (rows t)
+      parts = passes-parts t passing
+
+      fits : n ≤ length after
+      fits = omega (arith, found .0, x .room, leb-true (length (rows t)) (length before) (and-r (passes t) (leb (length (rows t)) (length before)) roomy))
+
+  -- with room for every row that a table may have, the index fails exactly if the table does not pass
+  pub index-refused : length before ≡ 512 → r ≡ Fails → passes t ≡ false
+  unfolding indexingOf
+  index-refused h e = go (passes t) refl
+    where
+      failed : (passes t && leb (length (rows t)) (length before)) ≡ false
+      failed = fails-decided (passes t && leb (length (rows t)) (length before)) (length (rows t)) (sym e ∙ x .answer)
+
+      go : (o : Bool) → passes t ≡ o → o ≡ false
+      go false p = refl
+      go true p =
+          let few = passes-parts t p .few in
+          absurd (false≢true (sym failed ∙ and-i (passes t) (leb (length (rows t)) (length before)) p (le-leb (length (rows t)) (length before) (omega (arith, h)))))

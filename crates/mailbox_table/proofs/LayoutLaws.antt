@@ -22,11 +22,11 @@ use Rattle.mailbox_table.specs.Index.{nthRow}
 use Rattle.mailbox_table.specs.Layout.{covers, Maps, Marked, Mapped}
 
 module _ (start len k : ℕ) where
-  pub covers-true : covers start len k ≡ true → (start ≤ k) × (k < start + len)
+  covers-true : covers start len k ≡ true → (start ≤ k) × (k < start + len)
   unfolding covers
   covers-true e = (leb-true start k (and-l (leb start k) (ltb k (start + len)) e), ltb-true k (start + len) (and-r (leb start k) (ltb k (start + len)) e))
 
-  pub covers-in : start ≤ k → k < start + len → covers start len k ≡ true
+  covers-in : start ≤ k → k < start + len → covers start len k ≡ true
   unfolding covers
   covers-in h g = and-i (leb start k) (ltb k (start + len)) (le-leb start k h) (lt-ltb k (start + len) g)
 

@@ -59,7 +59,7 @@ module _ (t : List ℕ) (at : ℕ) where
       go true p = (refl, p)
       go false p = p
 
-  pub whole-fits : wholeThere t at ≡ true → (3 ≤ length t - at) × (getD t (at + 2) 0 ≤ length t - at - 3)
+  whole-fits : wholeThere t at ≡ true → (3 ≤ length t - at) × (getD t (at + 2) 0 ≤ length t - at - 3)
   unfolding wholeThere
   whole-fits w =
       let left = length t - at in
@@ -86,7 +86,7 @@ module _ (t : List ℕ) (at : ℕ) (r : Row) (e : stepAt t at ≡ Next r) where
         rw (step-next .0)
         (record { start = omega (arith, whole-fits t at (step-next .1)); len = omega (arith, b (at + 2)); shared = omega arith })
 
-    pub word-there : recordOf (wordOf r) ≡ recordThere t at
+    word-there : recordOf (wordOf r) ≡ recordThere t at
     word-there = record-word r bits step-packs ∙ rw (step-next .0)
       where
         bits : r .flags .bits < 65536

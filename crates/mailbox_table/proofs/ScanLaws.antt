@@ -72,7 +72,7 @@ module _ {area words : List ℕ} {i len : ℕ} (b : Begins area words i len) whe
   abbrev p : List ℕ
   p = prefixOf area words i len
 
-  pub prefix-length : length (prefixOf area words i len) ≡ len
+  prefix-length : length (prefixOf area words i len) ≡ len
   prefix-length = simp length-take (omega (arith, name-length (b .indexed) i (b .row), b .within))
 
   module _ (m : ℕ) where

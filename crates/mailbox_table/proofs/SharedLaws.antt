@@ -49,7 +49,7 @@ unfolding sharedLen
 shared-nil [] = refl
 shared-nil (x ∷ a) = refl
 
-pub shared-le-l : (a b : List ℕ) → sharedLen a b ≤ length a
+shared-le-l : (a b : List ℕ) → sharedLen a b ≤ length a
 unfolding sharedLen
 shared-le-l [] b = omega arith
 shared-le-l (x ∷ a) [] = omega arith
@@ -96,7 +96,7 @@ module _ (a b : List ℕ) (i : ℕ) where
   shared-out (inr h) = rw (drop-of-length-le b h, shared-nil (drop i a)) (add-zero i)
 
 -- a prefix first
-pub order-nil-nil : isLt (byteOrder [] []) ≡ false
+order-nil-nil : isLt (byteOrder [] []) ≡ false
 unfolding byteOrder lexBy isLt
 order-nil-nil = refl
 

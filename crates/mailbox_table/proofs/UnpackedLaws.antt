@@ -18,7 +18,7 @@ use Rattle.mailbox_table.specs.Packed.{hasRoom, unpackingOf, Unpacks}
 use Rattle.mailbox_table.proofs.AnswerLaws.{rows-decided, fails-decided}
 
 -- a table with room for its records has rows: they fill its bytes, which are not too many
-roomy-fills : (t : List ℕ) (room : ℕ) → hasRoom (packedTable t) room ≡ true → (length t ≤ 32768) × (rowsFill 0 t ≡ true) × (length (packedRows t) ≤ min room 512)
+pub roomy-fills : (t : List ℕ) (room : ℕ) → hasRoom (packedTable t) room ≡ true → (length t ≤ 32768) × (rowsFill 0 t ≡ true) × (length (packedRows t) ≤ min room 512)
 unfolding hasRoom packedTable
 roomy-fills t room h = go (leb (length t) 32768) (rowsFill 0 t) refl refl
   where

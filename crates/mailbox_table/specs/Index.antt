@@ -5,7 +5,9 @@ use mathlib.Core.List.{List, map}
 use Prim.Native.Nat.{ℕ, _+_, _<_, _≤_}
 use lib.Dec.{leb}
 use lib.ListN.{length, take, drop, getD, replicate}
+use Rattle.listing_rules.specs.Lists.{every}
 use Rattle.listing_rules.specs.Orders.{ascends}
+use Rattle.listing_rules.specs.Names.{lawfulName}
 use Rattle.listing_rules.specs.Table as Table
 use Rattle.listing_rules.specs.Table.{rows, names, passes}
 use Rattle.mailbox_table.specs.declared.Indexing.{Indexing}
@@ -42,6 +44,18 @@ pub record Indexed (area words : List ℕ) : Type 0 where
   -- no name is empty, and each lies in the area
   pub full : (k : ℕ) → k < length words → 0 < nthRow words k .len
   pub inside : (k : ℕ) → k < length words → nthRow words k .start + nthRow words k .len ≤ length area
+
+-- the names of the rows are lawful
+abbrev pub Lawful : List Table.Row → Type 0
+Lawful rs = every (λ (r : Table.Row). lawfulName (r .name)) rs ≡ true
+
+-- What may be relied on of the index of a table that passes.
+pub record Index (area words : List ℕ) : Type 0 where
+  -- the words are an index over the area
+  pub indexed : Indexed area words
+  -- of as many rows as a table has at most
+  pub few : length words ≤ 512
+  pub lawful : Lawful (rowsAt area words)
 
 -- The number of rows, exactly if the table passes and there is room for a word for each: with room for 512, if it passes.
 unfoldable pub indexingOf : Table.Table → ℕ → Indexing

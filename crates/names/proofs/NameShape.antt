@@ -62,7 +62,7 @@ unfolding onFirst
 on-first-length b [] n e = absurd (omega arith)
 on-first-length b (l ∷ ls) n e = e
 
-pub levels-count : (s : List ℕ) → length (levels s) ≡ suc (slashCount s)
+levels-count : (s : List ℕ) → length (levels s) ≡ suc (slashCount s)
 unfolding levels slashCount slash
 levels-count [] = refl
 levels-count (b ∷ t) = go (eqb b 47) (levels-count t)
@@ -137,7 +137,7 @@ full-behind b (c ∷ d ∷ t) h = go (eqb c 47) (eqb d 47) refl refl (full-behin
     go true false e k ih jh = rw (pair-cons b c (d ∷ t), pair-cons c d t, h, at-slash c (d ∷ t) e, at-byte d t k, full-first d (levels t), e, k) (jh k)
 
 -- no level is empty exactly if no slash stands first, last or behind another
-pub levels-full : (s : List ℕ) → 1 ≤ length s → every isFull (levels s) ≡ (not (eqb (getD s 0 0) 47) && (noPair s && not (eqb (getD s (length s - 1) 0) 47)))
+levels-full : (s : List ℕ) → 1 ≤ length s → every isFull (levels s) ≡ (not (eqb (getD s 0 0) 47) && (noPair s && not (eqb (getD s (length s - 1) 0) 47)))
 levels-full [] h = absurd (omega arith)
 levels-full (b ∷ t) h = rw place (go (eqb b 47) refl)
   where

@@ -1,7 +1,8 @@
--- A loop that stores zeros from the front on, over bytes or words. Rests on the library's laws of filling.
+-- A loop that stores zeros from the front on, over bytes or words; what is left of zeros. Rests on the library's laws of filling.
 use mathlib.Core.Path.{_≡_, refl, _∙_}
 use mathlib.Core.List.{List, _++_, append-nil}
-use Prim.Native.Nat.{ℕ, _+_, _≤_, _<_}
+use Prim.Native.Nat.{ℕ, zero, suc, _+_, _-_, _≤_, _<_}
+use native.Mathlib.Nat.{sub-zero, zero-sub, suc-sub-suc}
 use native.Mathlib.Omega.{arith}
 use lib.ListN.{length, drop, set, replicate, length-set}
 use lib.Seq.{drop-length}
@@ -28,3 +29,8 @@ pub cleared-all : {d e : List ℕ} {i : ℕ} → Cleared d e i → length e ≤ 
 cleared-all {d} {e} {i} c h =
     let w : i ≡ length d = omega (arith, c .size, c .inside) in
     c .elements ∙ rw (w, drop-length d) (append-nil (replicate (length d) 0))
+
+pub drop-zeros : (n k : ℕ) → drop {A = ℕ} k (replicate n 0) ≡ replicate (n - k) 0
+drop-zeros n zero = rw sub-zero
+drop-zeros zero (suc k) = rw zero-sub
+drop-zeros (suc n) (suc k) = drop-zeros n k ∙ rw suc-sub-suc

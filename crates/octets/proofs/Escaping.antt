@@ -42,7 +42,7 @@ escape-some b = go (eqb b 34 || eqb b 92)
     go true = omega arith
     go false = omega arith
 
-pub escaped-longer : (s : List ℕ) → length s ≤ length (escaped s)
+escaped-longer : (s : List ℕ) → length s ≤ length (escaped s)
 unfolding escaped
 escaped-longer [] = omega arith
 escaped-longer (b ∷ t) = rw (escaped-first b t) (omega (arith, length-append (escapeOf b) (escaped t), escape-some b, escaped-longer t))

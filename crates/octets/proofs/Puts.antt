@@ -12,7 +12,7 @@ use lib.ListN.{length, set, length-append, take, getD, drop, take-append-drop}
 use lib.Seq.{sets, length-sets, set-out, take-suc, take-all, sets-eq, length-take-le}
 use Rattle.octets.specs.Put.{Put}
 
-either : (a b : ℕ) → (a ≤ b) ⊎ (b < a)
+pub either : (a b : ℕ) → (a ≤ b) ⊎ (b < a)
 either a b = elim (decLe a b) [ yes h ↦ inl h | no h ↦ inr (omega arith) ]
 
 pub sets-append : (d : List ℕ) (at : ℕ) (xs ys : List ℕ) → sets d at (xs ++ ys) ≡ sets (sets d at xs) (at + length xs) ys
@@ -20,7 +20,7 @@ sets-append d at [] ys = rw add-zero
 sets-append d at (a ∷ xs) ys = sets-append (set d at a) (suc at) xs ys ∙ rw (add-suc, suc-add)
 
 -- a write behind the end stores nothing
-pub sets-out : (d : List ℕ) (k : ℕ) (ys : List ℕ) → length d ≤ k → sets d k ys ≡ d
+sets-out : (d : List ℕ) (k : ℕ) (ys : List ℕ) → length d ≤ k → sets d k ys ≡ d
 sets-out d k [] h = refl
 sets-out d k (y ∷ ys) h = rw (set-out d k y h) (sets-out d (suc k) ys (omega arith))
 

@@ -1,8 +1,8 @@
 -- A command over the words of records is the command over the records, and so are names moved together: the words are copied in, and those that
 -- became others are copied back. Rests on SpareLaws and CompactionSpare of the definitions (records after the first 512 do not matter), and on the library.
 use mathlib.Core.Path.{_≡_, refl, sym, ap, subst, _∙_}
-use mathlib.Core.List.{List, [], _∷_, _++_, map}
-use Prim.Native.Nat.{ℕ, zero, suc, _+_, _-_, _≤_, min}
+use mathlib.Core.List.{List, [], _∷_, _++_, map, map-append}
+use Prim.Native.Nat.{ℕ, _+_, _-_, _≤_, min}
 use native.Mathlib.Decide.{decLe}
 use native.Mathlib.Omega.{arith}
 use lib.ListN.{length, take, drop, length-drop, length-map, take-append-drop}
@@ -10,21 +10,12 @@ use lib.Seq.{length-take-le, take-take, take-add, drop-at, drop-drop, drop-paste
 use Rattle.listing_rules.specs.Records.{Record as Meant}
 use Rattle.listing_rules.specs.Server.{Commanded}
 use Rattle.listing_rules.specs.Compaction.{Compaction}
+use Rattle.listing_rules.proofs.ListLaws.{map-take, map-drop}
 use Rattle.listing_rules.proofs.SpareLaws.{SameFront, same-front}
 use Rattle.listing_rules.proofs.CompactionSpare.{SameCompaction, same-compaction}
 use Rattle.records.specs.declared.Record.{Record}
 use Rattle.records.specs.Words.{wordOf, meant, recordOf, structOf}
 use Rattle.records.specs.Stores.{lentStore, wordStore, lentCommand, wordCommand, lentCompaction, wordCompaction, Between}
-use Rattle.records.proofs.WordsAlike.{map-take}
-
-map-drop : {A B : Type 0} (f : A → B) (n : ℕ) (l : List A) → map f (drop n l) ≡ drop n (map f l)
-map-drop f zero l = refl
-map-drop f (suc n) [] = refl
-map-drop f (suc n) (x ∷ l) = map-drop f n l
-
-map-append : {A B : Type 0} (f : A → B) (a b : List A) → map f (a ++ b) ≡ map f a ++ map f b
-map-append f [] b = refl
-map-append {A} {B} f (x ∷ a) b = ap (λ (l : List B). f x ∷ l) (map-append f a b)
 
 map-paste : {A B : Type 0} (f : A → B) (d : List A) (at : ℕ) (s : List A) (n : ℕ) → map f (paste d at s n) ≡ paste (map f d) at (map f s) n
 map-paste f d at s n =

@@ -27,7 +27,7 @@ pub fn word_of(r: Record) -> u64
 }
 
 // The record of a number.
-pub fn record_of(w: u64) -> Record
+fn record_of(w: u64) -> Record
     ensures { λ r. ⌜ r ≡ structOf w ⌝ }
 {
     Record {

@@ -53,7 +53,7 @@ module _ (ws : List ℕ) (lent count : ℕ) (area spaces l out : List ℕ) where
       rw h
       ((f, ap (λ (t : Store). t .count) (sym e)), (g, (ap (λ (t : Store). t .area) (sym e), (ap (λ (t : Store). t .records) (sym e), record { order = omega arith; lent-only = omega arith; within = omega arith; size = refl; others = paste-zero ws 0 ws }))))
 
-  pub alone-refused : (k : ℕ) (r : Stored) → D ≡ unchangedBy (wordStore ws lent count area) k →
+  alone-refused : (k : ℕ) (r : Stored) → D ≡ unchangedBy (wordStore ws lent count area) k →
       r ≡ record { written = Refused k; count = count; from = 0; to = 0 } → Clauses D lent ws ws area out out r
   unfolding unchangedBy writtenIs bufferAfter
   alone-refused k r e h =
@@ -74,7 +74,7 @@ module _ (ws : List ℕ) (lent count : ℕ) (area spaces l out : List ℕ) where
     pub front-inside : n ≤ length ws
     front-inside = omega (arith, least)
 
-    pub front-table : wordTable area (take n ws) count ≡ storeTable (wordStore ws lent count area)
+    front-table : wordTable area (take n ws) count ≡ storeTable (wordStore ws lent count area)
     unfolding storeTable
     front-table = ap (λ (x : List ℕ). wordTable area x count) front
 

@@ -41,7 +41,7 @@ module _ (l : List ℕ) (c : Command) (r : Reads l c) where
   as-kind k e = ap (λ (q : Kind). meaningAs q l c) (sym e) ∙ r .means
 
   pub no-edit : editKind (c .kind) ≡ false → isEdit (parsed l) ≡ false
-  unfolding meaningAs isEdit editKind
+  unfolding meaningAs isEdit
   no-edit = go (c .kind) refl
     where
       go : (k : Kind) → c .kind ≡ k → editKind k ≡ false → isEdit (parsed l) ≡ false
@@ -54,7 +54,7 @@ module _ (l : List ℕ) (c : Command) (r : Reads l c) where
       go Unsubscribe e h = absurd (false≢true (sym h))
 
   pub an-edit : editKind (c .kind) ≡ true → parsed l ≡ editing (spanBytes l (c .tag)) (editOf l c)
-  unfolding meaningAs editKind editAs subscribeKind
+  unfolding meaningAs editAs
   an-edit = go (c .kind) refl
     where
       go : (k : Kind) → c .kind ≡ k → editKind k ≡ true → parsed l ≡ editing (spanBytes l (c .tag)) (editOf l c)
@@ -179,7 +179,7 @@ module _ (ws : List ℕ) (count : ℕ) (area l : List ℕ) (c : Command) (out : 
     abbrev said : Reply
     said = limited (length out) (planReply p (spanBytes l (c .tag)))
 
-    pub edit-refused : (k : ℕ) → w ≡ Refused k → Leaves (editCommand whole l c out) (memory ws area out) (memory ws area out′) (record { written = Refused k; count = count; from = 0; to = 0 })
+    edit-refused : (k : ℕ) → w ≡ Refused k → Leaves (editCommand whole l c out) (memory ws area out) (memory ws area out′) (record { written = Refused k; count = count; from = 0; to = 0 })
     unfolding unchangedBy
     edit-refused k e = go said refl (sym e ∙ g .0) (g .1)
       where
@@ -190,7 +190,7 @@ module _ (ws : List ℕ) (count : ℕ) (area l : List ℕ) (c : Command) (out : 
             (ap (λ (x : Commanded). x .store) (edit-comes ∙ ap closing h)) (f ∙ ap (λ (x : Commanded). writtenIs (x .reply)) (sym (edit-comes ∙ ap closing h))) (b ∙ ap (λ (x : Commanded). bufferAfter out (x .reply)) (sym (edit-comes ∙ ap closing h)))
         go (answered a) h f b = unfold writtenIs in let z : _≡_ {A = ℕ} 0 1 = cc in absurd (omega arith)
 
-    pub edit-done : (n : ℕ) → w ≡ Done n
+    edit-done : (n : ℕ) → w ≡ Done n
         → Leaves (editCommand whole l c out) (memory ws area out) (memory (wordsAfter p ws count name) (areaAfter p ws area name) out′)
         (record { written = Done n; count = changeOf p count .count; from = changeOf p count .from; to = changeOf p count .to })
     edit-done n e = go said refl (sym e ∙ g .0) (g .1)

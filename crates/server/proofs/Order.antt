@@ -1,4 +1,4 @@
--- The refusals in document 01's order, and the reply to a command by its kind. Rests on Inputs.
+-- The refusals in document 01's order, and the reply to a command by its kind. Rests on FewLaws of command_patterns.
 use mathlib.Core.Path.{_≡_, refl, sym, ap, _∙_}
 use mathlib.Core.Bool.{true, false}
 use mathlib.Core.List.{List}
@@ -14,11 +14,11 @@ use Rattle.command_line.specs.declared.Kind.{Kind}
 use Rattle.command_line.specs.declared.Kind.the-variants.{Root, Namespace, List as Listing, Lsub, Subscribe, Unsubscribe, Refused as Refusal}
 use Rattle.command_line.specs.declared.Command.{Command}
 use Rattle.command_line.specs.OptionSets.{optionsIs}
-use Rattle.command_line.specs.Commands.{meaning, meaningAs, patternsOf}
+use Rattle.command_line.specs.Commands.{meaning, meaningAs, patternsOf, Few}
 use Rattle.command_line.specs.Spans.{spanBytes}
 use Rattle.mailbox_table.specs.Index.{rowsAt}
-use Rattle.server.specs.Replies.{commandReply, indexReply, spacesReply, rootReply, listingReply, subscriptionsReply, okReply, Few}
-use Rattle.server.proofs.Inputs.{listing-few, subscriptions-few}
+use Rattle.server.specs.Replies.{commandReply, indexReply, spacesReply, rootReply, listingReply, subscriptionsReply, okReply}
+use Rattle.command_line.proofs.Packed.{listing-few, subscriptions-few}
 
 -- a number of refusal, and no byte changed
 pub refused-with : (k : ℕ) (d : List ℕ) → Gives (refusal k) d d (Refused k)

@@ -49,7 +49,7 @@ pub record Reads (line : List ℕ) (c : Command) : Type 0 where
   pub means : meaning line c ≡ parsed line
   pub inside : Inside line c
 
-unfoldable pub editKind : Kind → Bool
+abbrev pub editKind : Kind → Bool
 editKind Subscribe = true
 editKind Unsubscribe = true
 editKind Listing = false
@@ -58,7 +58,7 @@ editKind Namespace = false
 editKind Lsub = false
 editKind (Refused k) = false
 
-unfoldable pub subscribeKind : Kind → Bool
+abbrev pub subscribeKind : Kind → Bool
 subscribeKind Subscribe = true
 subscribeKind Unsubscribe = false
 subscribeKind Listing = false

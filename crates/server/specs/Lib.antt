@@ -1,4 +1,3 @@
 -- What the code of the server means beside document 01's definitions.
-pub mod Spans
 pub mod Replies
 pub mod Edits

@@ -1,11 +1,8 @@
 -- The replies of the server, of what its functions have: an index, the namespace list, the line, a command that was read.
 use mathlib.Core.Path.{_≡_}
-use mathlib.Core.Bool.{true, cond}
+use mathlib.Core.Bool.{cond}
 use mathlib.Core.List.{List, _++_}
-use Prim.Native.Nat.{ℕ, _≤_}
-use lib.Dec.{leb}
-use lib.ListN.{length}
-use Rattle.listing_rules.specs.Lists.{every}
+use Prim.Native.Nat.{ℕ}
 use Rattle.listing_rules.specs.Namespaces.{entries, namespacesPass}
 use Rattle.listing_rules.specs.Command.{parsed}
 use Rattle.listing_rules.specs.Lines.{rootLine, okLine}
@@ -48,8 +45,3 @@ listingReply area words line c tag = answered (listAnswer (rowsAt area words) ta
 -- to LSUB
 abbrev pub subscriptionsReply : List ℕ → List ℕ → List ℕ → Command → List ℕ → Reply
 subscriptionsReply area words line c tag = answered (lsubAnswer (rowsAt area words) tag (patternsOf line c))
-
--- few and short patterns
-pub record Few (ps : List (List ℕ)) : Type 0 where
-  pub few : length ps ≤ 8
-  pub brief : every (λ p. leb (length p) 255) ps ≡ true

@@ -1,10 +1,10 @@
 // SUBSCRIBE and UNSUBSCRIBE: decided, measured, then done.
 use super::Stored;
-use super::replies::span_of;
 use super::replies::write_ok;
 use command_line::Command;
 use command_line::Kind;
 use command_line::put_name;
+use command_tokens::raw;
 use names::spell;
 use octets::Written;
 use subscriptions::Plan;
@@ -136,7 +136,7 @@ fn edit_named(
     let subscribe = is_subscribe(kind);
     let lent = words.len();
     let plan = decide(area, &words[..count], lent, subscribe, name);
-    match verdict(plan, span_of(line, command.tag), out) {
+    match verdict(plan, raw(line, command.tag), out) {
         Written::Refused(number) => unchanged(Written::Refused(number), count),
         Written::Done(length) => {
             let change = carry_out(plan, words, count, area, name);

@@ -1,5 +1,4 @@
 // Commands that only read.
-use super::replies::span_of;
 use super::replies::write_listing;
 use super::replies::write_namespaces;
 use super::replies::write_ok;
@@ -8,6 +7,7 @@ use super::replies::write_subscriptions;
 use command_line::Command;
 use command_line::Kind;
 use command_line::read_command;
+use command_tokens::raw;
 use mailbox_table::Indexing;
 use mailbox_table::index_words;
 use octets::Written;
@@ -20,7 +20,7 @@ ghost use Rattle.listing_rules.specs.Command.{isEdit, parsed};
 ghost use Rattle.listing_rules.specs.Server.{bufferAfter, served};
 ghost use Rattle.records.specs.Lent.{wordTable};
 ghost use Rattle.octets.specs.Written.{writtenIs, Gives};
-ghost use Rattle.list_answer.specs.Index.{Index};
+ghost use Rattle.mailbox_table.specs.Index.{Index};
 ghost use Rattle.server.specs.Replies.{commandReply, indexReply};
 ghost use Rattle.server.specs.Edits.{Reads};
 
@@ -83,7 +83,7 @@ pub(crate) fn respond(
         (now (out .entry)) (now (out .exit)) r ⌝ }
 {
     let kind = command.kind;
-    let tag = span_of(line, command.tag);
+    let tag = raw(line, command.tag);
     match kind {
         Kind::Refused(number) => Written::Refused(number),
         Kind::Namespace => write_namespaces(namespaces, tag, out),

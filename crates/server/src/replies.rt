@@ -1,6 +1,5 @@
 // The answers, each measured over an empty buffer before it is written.
 use command_line::Command;
-use command_line::Span;
 use command_line::put_patterns;
 use list_answer::write_list;
 use list_answer::write_lsub;
@@ -14,26 +13,9 @@ ghost use Prim.Native.Nat.{_≤_};
 ghost use lib.ListN.{length, replicate};
 ghost use Rattle.octets.specs.Put.{Put};
 ghost use Rattle.octets.specs.Written.{Gives};
-ghost use Rattle.command_line.specs.Commands.{patternsOf};
-ghost use Rattle.list_answer.specs.Index.{Index};
-ghost use Rattle.server.specs.Spans.{partOf};
-ghost use Rattle.server.specs.Replies.{spacesText, spacesReply, rootText, rootReply, okReply, listingReply, subscriptionsReply, Few};
-
-// The bytes of a span that is not quoted, as far as the line goes.
-pub(crate) fn span_of(line: &[u8], span: Span) -> &[u8]
-    ensures { λ r. ⌜ now r ≡ partOf (now (line .entry)) span ⌝ }
-{
-    let n = line.len();
-    let start = span.start;
-    let end = span.end;
-    if n < end {
-        return &line[n..n];
-    }
-    if end < start {
-        return &line[n..n];
-    }
-    &line[start..end]
-}
+ghost use Rattle.command_line.specs.Commands.{patternsOf, Few};
+ghost use Rattle.mailbox_table.specs.Index.{Index};
+ghost use Rattle.server.specs.Replies.{spacesText, spacesReply, rootText, rootReply, okReply, listingReply, subscriptionsReply};
 
 // The NAMESPACE answer.
 fn put_spaces(buf: &mut [u8], namespaces: &[u8], tag: &[u8]) -> usize

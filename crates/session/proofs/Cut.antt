@@ -21,7 +21,7 @@ use Rattle.session.proofs.FeedLaws.{sizes, holds-start}
 
 -- Theorem: however the input is cut, empty pieces too, the pieces come to what the whole comes to, in the answers and in the
 -- session that is left.
-pub cutting : (s : Session) (ps : List (List ℕ)) → feedings s ps ≡ fedAll s (joined ps)
+cutting : (s : Session) (ps : List (List ℕ)) → feedings s ps ≡ fedAll s (joined ps)
 unfolding feedings joined fedAll
 cutting s [] = refl
 cutting s (p ∷ ps) =
@@ -69,7 +69,7 @@ unfolding fedAll
 none-fed s d line st h = (refl, (d, (line, h)))
 
 -- from any session that the memory holds
-pub calls-come : (xs : List Call) (st : State) (d : Lent) (line : List ℕ) (s : Session) (input : List ℕ) → Holds d line st s → Calls st d line xs →
+calls-come : (xs : List Call) (st : State) (d : Lent) (line : List ℕ) (s : Session) (input : List ℕ) → Holds d line st s → Calls st d line xs →
     Through input xs → Come (fedAll s input) (saidBy xs) (stateAfter st xs)
 unfolding saidBy stateAfter behind
 calls-come [] st d line s input h c t = rw t (none-fed s d line st h)

@@ -1,14 +1,12 @@
 -- Laws of the store that packed bytes become: names placed one after the other, as the loop of `place_names` meets them, words copied,
 -- and the whole store. Rests on listing_rules' ProgramStore.
 use mathlib.Core.Path.{_≡_, refl, sym, ap, subst, _∙_}
-use mathlib.Core.Bool.{Bool, true, false, cond, _&&_}
-use mathlib.Core.List.{List, [], _∷_, _++_, map, append-assoc, append-nil}
+use mathlib.Core.Bool.{false}
+use mathlib.Core.List.{List, [], _∷_, _++_, map, map-append, append-assoc, append-nil}
 use Prim.Native.Nat.{ℕ, zero, suc, _+_, _-_, _≤_, _<_}
 use native.Mathlib.Omega.{arith}
-use lib.Dec.{leb}
 use lib.ListN.{length, take, drop, getD, set, replicate, length-append, length-replicate, length-set, length-take, length-map, length-drop, drop-of-length-le}
-use lib.Seq.{length-take-le, sets, sets-eq, paste, paste-suc, take-all, drop-cons, take-suc-set, drop-set-lt, drop-drop}
-use borrow.Author.Tests.{le-leb}
+use lib.Seq.{sets, sets-eq, paste, paste-suc, take-all, drop-cons, take-suc-set, drop-set-lt, drop-drop}
 use Rattle.listing_rules.specs.Lists.{joined}
 use Rattle.listing_rules.specs.Table.{Row, rows, names, passes, packedTable}
 use Rattle.listing_rules.specs.Records.{Record as Meant}
@@ -17,13 +15,15 @@ use Rattle.listing_rules.specs.Frames.{recordsFrom, filledTo, programStore}
 use Rattle.listing_rules.proofs.Passes.{passes-parts}
 use Rattle.listing_rules.proofs.ProgramStore.{count-from, packed-names-fit}
 use Rattle.octets.specs.Put.{Put}
+use Rattle.octets.proofs.Clearing.{drop-zeros}
 use Rattle.octets.proofs.Puts.{sets-append}
 use Rattle.records.specs.Words.{recordOf, meant}
 use Rattle.mailbox_table.specs.declared.rows.Row.{Row as CodeRow}
 use Rattle.mailbox_table.specs.Words.{rowOfWord}
-use Rattle.mailbox_table.specs.Index.{nameAt, rowAtWord, rowsAt, indexingOf, Found, Rest, Indexes}
+use Rattle.mailbox_table.specs.Index.{nameAt, rowAtWord, rowsAt, Rest, Indexes}
 use Rattle.mailbox_table.specs.declared.Indexing.{Indexing}
 use Rattle.mailbox_table.specs.declared.Indexing.the-variants.{Rows, Fails}
+use Rattle.mailbox_table.proofs.HeldLaws.{Held, index-held}
 use Rattle.session.specs.Laying.{Short, Blank, Lays}
 
 -- Where the loop of `place_names` stands: the first i words, which were those of `ws₀`, are the records of their rows, and the names lie in
@@ -55,10 +55,6 @@ name-short table w row n read named =
 -- the record of a row at a place
 abbrev placedAt : ℕ → Row → Meant
 placedAt at r = record { flags = r .flags; start = at; len = length (r .name) }
-
-map-append : (ws vs : List ℕ) → map recordOf (ws ++ vs) ≡ map recordOf ws ++ map recordOf vs
-map-append [] vs = refl
-map-append (w ∷ ws) vs = ap (λ (l : List Meant). recordOf w ∷ l) (map-append ws vs)
 
 module _ {table ws₀ a₀ ws a : List ℕ} {at i : ℕ} (p : Placing table ws₀ a₀ ws a at i) where
   -- the names have room, and so has each
@@ -92,7 +88,7 @@ module _ {table ws₀ a₀ ws a : List ℕ} {at i : ℕ} (p : Placing table ws�
         left = drop-set-lt (i + 1) ws i v (omega arith) ∙ sym (drop-drop 1 i ws) ∙ ap (drop 1) (p .left) ∙ drop-drop 1 i ws₀;
         records =
             ap (λ (l : List ℕ). map recordOf l ++ recordsFrom at′ rest) (ap (λ (k : ℕ). take k (set ws i v)) one ∙ take-suc-set ws i v h)
-            ∙ ap (λ (l : List Meant). l ++ recordsFrom at′ rest) (map-append (take i ws) (v ∷ []))
+            ∙ ap (λ (l : List Meant). l ++ recordsFrom at′ rest) (map-append recordOf (take i ws) (v ∷ []))
             ∙ append-assoc before (recordOf v ∷ []) (recordsFrom at′ rest)
             ∙ (λ j. before ++ (told j ∷ recordsFrom (far j) rest))
             ∙ sym (ap (λ (rs : List Row). before ++ recordsFrom at rs) cut)
@@ -130,11 +126,6 @@ copied-more d s i h few =
 abbrev zeros : ℕ → List ℕ
 zeros n = replicate n 0
 
-drop-zeros : (n m : ℕ) → drop n (zeros m) ≡ zeros (m - n)
-drop-zeros zero m = let w : m ≡ m - zero = omega arith in ap zeros w
-drop-zeros (suc n) zero = let w : zero ≡ zero - suc n = omega arith in ap zeros w
-drop-zeros (suc n) (suc m) = let w : m - n ≡ suc m - suc n = omega arith in drop-zeros n m ∙ ap zeros w
-
 zero-records : (n : ℕ) → map recordOf (zeros n) ≡ replicate n zeroRecord
 unfolding recordOf zeroRecord
 zero-records zero = refl
@@ -145,7 +136,7 @@ unfolding filledTo
 names-filled m ns h =
     let w : m - (0 + length ns) ≡ m - length ns = omega arith in
     sets-eq ns (zeros m) 0 (omega (arith, length-replicate {A = ℕ} m 0))
-    ∙ ap (λ (l : List ℕ). ns ++ l) (drop-zeros (0 + length ns) m ∙ ap zeros w)
+    ∙ ap (λ (l : List ℕ). ns ++ l) (drop-zeros m (0 + length ns) ∙ ap zeros w)
 
 -- n words that tell these records, and zeros after them up to m
 records-filled : (m n : ℕ) (vs : List ℕ) (rs : List Meant) → map recordOf vs ≡ rs → length rs ≡ n → n ≤ m → map recordOf (take m (vs ++ drop n (zeros m))) ≡ filledTo m zeroRecord rs
@@ -154,64 +145,35 @@ records-filled m n vs rs told size few =
     let zs = drop n (zeros m) in
     let same : length vs ≡ n = sym (length-map vs recordOf) ∙ ap length told ∙ size in
     let w : m - n ≡ m - length rs = omega (arith, size) in
-    let rest : map recordOf zs ≡ replicate (m - length rs) zeroRecord = ap (map recordOf) (drop-zeros n m) ∙ zero-records (m - n) ∙ ap (λ (k : ℕ). replicate k zeroRecord) w in
+    let rest : map recordOf zs ≡ replicate (m - length rs) zeroRecord = ap (map recordOf) (drop-zeros m n) ∙ zero-records (m - n) ∙ ap (λ (k : ℕ). replicate k zeroRecord) w in
     ap (map recordOf) (take-all m (vs ++ zs) (omega (arith, length-append vs zs, same, length-drop n (zeros m), length-replicate {A = ℕ} m 0, few)))
-    ∙ map-append vs zs
+    ∙ map-append recordOf vs zs
     ∙ (λ i. told i ++ rest i)
 
--- A table's index, with room for 512 rows: its rows are found exactly if it passes.
-module _ {t ws us : List ℕ} {r : Indexing} (x : Indexes t (packedTable t) ws us r) (h : length ws ≡ 512) where
-  roomy : passes (packedTable t) ≡ true → leb (length (rows (packedTable t))) 512 ≡ true
-  roomy e = le-leb (length (rows (packedTable t))) 512 (passes-parts (packedTable t) e .few)
+-- A table's index, with room for 512 rows, where its rows are found.
+module _ {t ws us : List ℕ} {r : Indexing} (x : Indexes t (packedTable t) ws us r) (h : length ws ≡ 512) (n : ℕ) (e : r ≡ Rows n) where
+  held : Held x n
+  held = index-held x n e
 
-  answer-is : r ≡ indexingOf (packedTable t) 512
-  answer-is = x .answer ∙ ap (indexingOf (packedTable t)) h
+  rest : Rest ws us (Rows n)
+  rest = subst (Rest ws us) e (x .rest)
 
-  pub lays-fails : r ≡ Fails → passes (packedTable t) ≡ false
-  unfolding indexingOf
-  lays-fails e = go (passes (packedTable t)) refl (sym e ∙ answer-is)
-    where
-      go : (b : Bool) → passes (packedTable t) ≡ b → Fails ≡ cond (b && leb (length (rows (packedTable t))) 512) (Rows (length (rows (packedTable t)))) Fails → b ≡ false
-      go true f g = let w : Fails ≡ Rows (length (rows (packedTable t))) = g ∙ ap (λ (c : Bool). cond c (Rows (length (rows (packedTable t)))) Fails) (roomy f) in cc
-      go false f g = refl
+  pub rows-short : length t ≤ 16384 → Short (rowsAt t (take n us))
+  rows-short s = omega (arith, s, packed-names-fit t, ap (λ (rs : List Row). length (joined (names rs))) (held .same))
 
-  module _ (n : ℕ) (e : r ≡ Rows n) where
-    index-passes : passes (packedTable t) ≡ true
-    unfolding indexingOf
-    index-passes = go (passes (packedTable t)) (sym e ∙ answer-is)
-      where
-        go : (b : Bool) → Rows n ≡ cond (b && leb (length (rows (packedTable t))) 512) (Rows (length (rows (packedTable t)))) Fails → b ≡ true
-        go true g = refl
-        go false g = cc
-
-    found : Found t (rows (packedTable t)) us (Rows n)
-    found = subst (Found t (rows (packedTable t)) us) e (x .found)
-
-    rest : Rest ws us (Rows n)
-    rest = subst (Rest ws us) e (x .rest)
-
-    pub rows-inside : n ≤ length us
-    rows-inside = omega (arith, found .0, passes-parts (packedTable t) index-passes .few, x .room, h)
-
-    pub rows-size : n ≡ length (take n us)
-    rows-size = sym (length-take-le n us rows-inside)
-
-    pub rows-short : length t ≤ 16384 → Short (rowsAt t (take n us))
-    rows-short s = omega (arith, s, packed-names-fit t, ap (λ (rs : List Row). length (joined (names rs))) (found .1))
-
-    -- the names placed, and zeros after them
-    pub lays-rows : (a b vs : List ℕ) → Blank t ws a → map recordOf vs ≡ recordsFrom 0 (rowsAt t (take n us)) →
-        b ≡ sets a 0 (joined (names (rowsAt t (take n us)))) → Lays t (vs ++ drop n us) b (Rows n)
-    unfolding programStore names
-    lays-rows a b vs blank told put =
-        let rs = rows (packedTable t) in
-        let recorded = told ∙ ap (recordsFrom 0) (found .1) in
-        let few : n ≤ 512 = omega (arith, rows-inside, x .room, h) in
-        let spare : drop n us ≡ drop n (zeros 512) = rest ∙ ap (drop n) (blank .words) in
-        let named = ap (λ (l : List Row). joined (names l)) (found .1) in
-        let records-are = ap (λ (l : List ℕ). map recordOf (take 512 (vs ++ l))) spare ∙ records-filled 512 n vs (recordsFrom 0 rs) recorded (count-from 0 rs ∙ sym (found .0)) few in
-        let area-is = put ∙ (λ i. sets (blank .area i) 0 (named i)) ∙ names-filled 16384 (joined (names rs)) (omega (arith, blank .table, packed-names-fit t)) in
-        (index-passes, λ i. record { records = records-are i; count = found .0 i; area = area-is i })
+  -- the names placed, and zeros after them
+  pub lays-rows : (a b vs : List ℕ) → Blank t ws a → map recordOf vs ≡ recordsFrom 0 (rowsAt t (take n us)) →
+      b ≡ sets a 0 (joined (names (rowsAt t (take n us)))) → Lays t (vs ++ drop n us) b (Rows n)
+  unfolding programStore names
+  lays-rows a b vs blank told put =
+      let rs = rows (packedTable t) in
+      let recorded = told ∙ ap (recordsFrom 0) (held .same) in
+      let few : n ≤ 512 = omega (arith, held .inside, x .room, h) in
+      let spare : drop n us ≡ drop n (zeros 512) = rest ∙ ap (drop n) (blank .words) in
+      let named = ap (λ (l : List Row). joined (names l)) (held .same) in
+      let records-are = ap (λ (l : List ℕ). map recordOf (take 512 (vs ++ l))) spare ∙ records-filled 512 n vs (recordsFrom 0 rs) recorded (count-from 0 rs ∙ sym (held .number)) few in
+      let area-is = put ∙ (λ i. sets (blank .area i) 0 (named i)) ∙ names-filled 16384 (joined (names rs)) (omega (arith, blank .table, packed-names-fit t)) in
+      (held .table-passes, λ i. record { records = records-are i; count = held .number i; area = area-is i })
 
 -- no more rows than records
 pub laid-few : (t ws a : List ℕ) (count : ℕ) → Lays t ws a (Rows count) → count ≤ 512

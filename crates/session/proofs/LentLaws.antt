@@ -20,7 +20,7 @@ pub length-line : (bs : List ℕ) → length (answerLine bs) ≡ 2 * length bs +
 unfolding answerLine
 length-line bs = omega (arith, length-append (hex bs) (10 ∷ []), length-hex bs)
 
-pub length-refusal : (k : ℕ) → length (refusalLine k) ≡ 5
+length-refusal : (k : ℕ) → length (refusalLine k) ≡ 5
 unfolding refusalLine
 length-refusal k = length-line (0x52 ∷ k ∷ [])
 

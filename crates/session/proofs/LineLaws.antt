@@ -19,15 +19,15 @@ use Rattle.session.specs.Feeding.{throughLine, beforeLine, gatheredAll, 
 
 -- the characters before the line feed, from a place on
 module _ (s : List ℕ) (i : ℕ) where
-  pub before-more : i < length s → (getD s i 0 ≡ 10 → ⊥) → beforeLine (drop i s) ≡ getD s i 0 ∷ beforeLine (drop (i + 1) s)
+  before-more : i < length s → (getD s i 0 ≡ 10 → ⊥) → beforeLine (drop i s) ≡ getD s i 0 ∷ beforeLine (drop (i + 1) s)
   unfolding beforeLine
   before-more h e = rw (add-one, drop-cons s i 0 h, ne-eqb (getD s i 0) 10 e)
 
-  pub before-feed : i < length s → getD s i 0 ≡ 10 → beforeLine (drop i s) ≡ []
+  before-feed : i < length s → getD s i 0 ≡ 10 → beforeLine (drop i s) ≡ []
   unfolding beforeLine
   before-feed h e = rw (drop-cons s i 0 h, eq-eqb (getD s i 0) 10 e)
 
-  pub before-end : length s ≤ i → beforeLine (drop i s) ≡ []
+  before-end : length s ≤ i → beforeLine (drop i s) ≡ []
   unfolding beforeLine
   before-end h = rw (drop-of-length-le s h)
 

@@ -86,15 +86,15 @@ module _ (s : Stored) (l : List ℕ) where
   unfolding commandStep
   by-case b e = ap kept-after e
 
-  pub step-read : isEdit (parsed l) ≡ false → commandStep s l ≡ answering s (replyLine (over .reply))
+  step-read : isEdit (parsed l) ≡ false → commandStep s l ≡ answering s (replyLine (over .reply))
   unfolding accepted answering
   step-read e = by-case false (rw e)
 
-  pub step-refused : (k : ℕ) → over .reply ≡ refusal k → commandStep s l ≡ answering s (replyLine (over .reply))
+  step-refused : (k : ℕ) → over .reply ≡ refusal k → commandStep s l ≡ answering s (replyLine (over .reply))
   unfolding accepted isAnswered answering
   step-refused k e = by-case false (rw e (and-false (isEdit (parsed l))))
 
-  pub step-accepted : isEdit (parsed l) ≡ true → isAnswered (over .reply) ≡ true → commandStep s l ≡ kept-after true
+  step-accepted : isEdit (parsed l) ≡ true → isAnswered (over .reply) ≡ true → commandStep s l ≡ kept-after true
   unfolding accepted
   step-accepted e a = by-case true (rw (e, a))
 
@@ -109,7 +109,7 @@ module _ (s : Store) (spaces l b : List ℕ) (size : length b ≡ 16384) where
   abbrev leaves : Commanded → Stepped
   leaves c = record { stored = record { table = records (c .store); namespaces = spaces }; output = replyLine (c .reply) }
 
-  pub step-records : commandStep (record { table = records s; namespaces = spaces }) l ≡ leaves done
+  step-records : commandStep (record { table = records s; namespaces = spaces }) l ≡ leaves done
   unfolding answering
   step-records = go (isEdit (parsed l)) refl
     where
@@ -128,7 +128,7 @@ module _ (s : Store) (spaces l b : List ℕ) (size : length b ≡ 16384) where
       go true e = judged e (done .reply) refl
 
   -- and no more rows than there are records, or as many as before
-  pub few-after : s .count ≤ 16384 → length (done .store .records) ≤ 512 → done .store .count ≤ 16384
+  few-after : s .count ≤ 16384 → length (done .store .records) ≤ 512 → done .store .count ≤ 16384
   unfolding unchangedBy
   few-after h few = go (passes (storeTable s)) refl
     where
@@ -138,12 +138,12 @@ module _ (s : Store) (spaces l b : List ℕ) (size : length b ≡ 16384) where
 
 -- over packed bytes
 module _ (t spaces l : List ℕ) where
-  pub table-fails : passes (packedTable t) ≡ false → commandOver (bytes t) spaces l .reply ≡ refusal 1
+  table-fails : passes (packedTable t) ≡ false → commandOver (bytes t) spaces l .reply ≡ refusal 1
   unfolding commandOver keptTable concluded unchangedBy
   table-fails e = rw (table-refused (packedTable t) spaces l e)
 
   -- a command that is no edit is answered as the packed bytes are read
-  pub reads-packed : (b : List ℕ) → length b ≡ 16384 → length t ≤ 16384 → isEdit (parsed l) ≡ false → served (packedTable t) spaces l b ≡ commandOver (bytes t) spaces l .reply
+  reads-packed : (b : List ℕ) → length b ≡ 16384 → length t ≤ 16384 → isEdit (parsed l) ≡ false → served (packedTable t) spaces l b ≡ commandOver (bytes t) spaces l .reply
   unfolding served keptTable
   reads-packed b size short e = go (passes (packedTable t)) refl
     where
@@ -161,7 +161,7 @@ module _ (t spaces l : List ℕ) where
       subst (λ (line : List ℕ). Says line o p r) (ap replyLine (reads-packed b size short e)) (reply-says (served (packedTable t) spaces l b) b a i m x)
 
   -- an edit is judged on the store that the packed bytes become
-  pub first-over : (ws a b : List ℕ) (count : ℕ) → length b ≡ 16384 → length t ≤ 16384 → Lays t ws a (Rows count) → commandOver (bytes t) spaces l ≡ wordCommand ws 512 count a spaces l b
+  first-over : (ws a b : List ℕ) (count : ℕ) → length b ≡ 16384 → length t ≤ 16384 → Lays t ws a (Rows count) → commandOver (bytes t) spaces l ≡ wordCommand ws 512 count a spaces l b
   unfolding keptStore
   first-over ws a b count size short laid =
       command-over-bytes t short (laid .0) spaces l b size ∙ ap (λ (s : Store). commanded s spaces l b) (sym (laid .1))

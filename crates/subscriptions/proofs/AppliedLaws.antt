@@ -1,13 +1,14 @@
 -- What is done to the words is done to the records of a store. Rests on the library and on the word of a record.
 use mathlib.Core.Path.{_≡_, refl, sym, ap, _∙_, subst}
 use mathlib.Core.List.{List, [], _∷_, _++_, map, map-append}
-use Prim.Native.Nat.{ℕ, zero, suc, _+_, _-_, _/_, _%_, _<_}
+use Prim.Native.Nat.{ℕ, suc, _+_, _-_, _/_, _%_, _<_}
 use native.Mathlib.Numerals.{add-one}
 use native.Mathlib.Omega.{arith}
 use lib.ListN.{length, take, drop, getD, set, length-append}
 use lib.Seq.{length-take-le, getD-take, set-split, drop-at, take-at, append-snoc}
 use Rattle.listing_rules.specs.Records.{Record}
 use Rattle.listing_rules.specs.Subscriptions.{Store, held, stored, flagged, inserted, removed, nth, zeroRecord}
+use Rattle.listing_rules.proofs.ListLaws.{map-drop}
 use Rattle.records.specs.Words.{recordOf, meant}
 use Rattle.records.proofs.WordLaws.{word-tells}
 use Rattle.subscriptions.specs.declared.Plan.{Plan}
@@ -16,11 +17,6 @@ use Rattle.subscriptions.specs.Plans.{carried}
 use Rattle.subscriptions.specs.Applied.{withFlags, newWord, insertedAt, removedAt, wordsAfter, freed, areaAfter, changeOf, changedRecords, Applies, Fits, FlagFits, InsertFits, RemoveFits}
 use Rattle.subscriptions.proofs.FitLaws.{record-at}
 use Rattle.subscriptions.proofs.ShiftLaws.{length-middle}
-
-pub map-drop : (k : ℕ) (ws : List ℕ) → map recordOf (drop k ws) ≡ drop k (map recordOf ws)
-map-drop zero ws = refl
-map-drop (suc k) [] = refl
-map-drop (suc k) (w ∷ ws) = map-drop k ws
 
 -- a word with other flags, and the word of a row 0002, as records
 flags-told : (f w : ℕ) → f < 65536 → recordOf (withFlags f w) ≡ record { flags = f; start = recordOf w .start; len = recordOf w .len }
@@ -75,7 +71,7 @@ module _ (s : Store) (ws : List ℕ) (told : take (s .count) (s .records) ≡ ma
 
   middle : (k : ℕ) → map recordOf (drop k (take (s .count) ws)) ≡ drop k (held s)
   unfolding held
-  middle k = map-drop k (take count ws) ∙ ap (λ (l : List Record). drop k l) (sym told)
+  middle k = map-drop recordOf k (take count ws) ∙ ap (λ (l : List Record). drop k l) (sym told)
 
   flag-applies : (k f : ℕ) → FlagFits ws (s .count) k f
       → flagged s k f .records ≡ changedRecords (s .records) (record { from = k; to = k + 1; count = s .count }) (set ws k (withFlags f (getD ws k 0)))

@@ -16,26 +16,18 @@ use Rattle.listing_rules.specs.Records.{Record, recordRows}
 use Rattle.listing_rules.specs.Subscriptions.{rowsBefore, belowNoInferiors, freeFrom, freeFront, lowestRun, withSubscribed, withoutSubscribed, nth, zeroRecord}
 use Rattle.listing_rules.proofs.Bools.{and-l, and-r}
 use Rattle.listing_rules.proofs.LawfulNames.{good-parts}
+use Rattle.listing_rules.proofs.FreeRuns.{front-bound, free-length}
+use Rattle.listing_rules.proofs.SpareLaws.{before-most, before-fewer}
 use Rattle.records.specs.Words.{recordOf}
 use Rattle.mailbox_table.specs.Words.{rowOfWord}
 use Rattle.subscriptions.specs.declared.Plan.the-variants.{Keep, Flag, Remove, Refused}
 use Rattle.subscriptions.specs.Plans.{Ordered, settingPlan, clearingPlan, roomPlan, freshPlan, planFor}
 use Rattle.subscriptions.specs.Applied.{Fits}
-use Rattle.subscriptions.proofs.PlanLaws.{before-most, before-has, record-rows-length}
+use Rattle.subscriptions.proofs.PlanLaws.{record-rows-length}
 use Rattle.subscriptions.proofs.FlagLaws.{set-fits}
-use Rattle.subscriptions.proofs.MapLaws.{free-length}
 
 -- a run lies inside the map
-front-most : (l : List Bool) → freeFront l ≤ length l
-unfolding freeFront
-front-most [] = omega arith
-front-most (b ∷ l) = go b (front-most l)
-  where
-    go : (o : Bool) → freeFront l ≤ length l → cond o (suc (freeFront l)) 0 ≤ suc (length l)
-    go true h = omega arith
-    go false h = omega arith
-
-pub run-inside : (len k : ℕ) (l : List Bool) (start : ℕ) → lowestRun len k l ≡ some start → start + len ≤ k + length l
+run-inside : (len k : ℕ) (l : List Bool) (start : ℕ) → lowestRun len k l ≡ some start → start + len ≤ k + length l
 unfolding lowestRun
 run-inside len k [] start e = let z : _≡_ {A = ℕ} 0 1 = cc in omega arith
 run-inside len k (b ∷ l) start e = go (leb len (freeFront (b ∷ l))) refl e (run-inside len (suc k) l start)
@@ -44,7 +36,7 @@ run-inside len k (b ∷ l) start e = go (leb len (freeFront (b ∷ l))) refl e (
         → (lowestRun len (suc k) l ≡ some start → start + len ≤ suc k + length l) → start + len ≤ k + suc (length l)
     go true h f ih =
         let z : k ≡ start = cc in
-        let m : freeFront (b ∷ l) ≤ suc (length l) = front-most (b ∷ l) in
+        let m : freeFront (b ∷ l) ≤ suc (length l) = front-bound (b ∷ l) in
         omega (arith, leb-true len (freeFront (b ∷ l)) h)
     go false h f ih = omega (arith, ih f)
 
@@ -134,7 +126,7 @@ plan-fits ws count lent area b n x words bound room = go (hasRow rows n) b refl
     small = subst (λ (r : Record). r .flags < 65536) (sym (record-at (take count ws) k)) (flags-small (getD (take count ws) k 0))
 
     go : (o b : Bool) → hasRow rows n ≡ o → Fits (cond o (cond b (settingPlan k f) (clearingPlan k f)) (cond b (freshPlan rs lent area k n) Keep)) ws count area n
-    go true true e = set-fit ws count area n words k f (omega (arith, before-has rows n e, rows-number)) small
-    go true false e = let h : k < count = omega (arith, before-has rows n e, rows-number) in clear-fit ws count area n words k f h small (index-inside area ws count x words k h)
+    go true true e = set-fit ws count area n words k f (omega (arith, before-fewer rows n e, rows-number)) small
+    go true false e = let h : k < count = omega (arith, before-fewer rows n e, rows-number) in clear-fit ws count area n words k f h small (index-inside area ws count x words k h)
     go false true e = fresh-fit ws count area n words rs lent number bound room k (omega (arith, before-most rows n, rows-number))
     go false false e = tt

@@ -13,6 +13,8 @@ use borrow.Author.Tests.{le-leb, lt-leb, lt-ltb, le-ltb}
 use Rattle.listing_rules.specs.Lists.{anyOf}
 use Rattle.listing_rules.specs.Records.{Record}
 use Rattle.listing_rules.specs.Subscriptions.{uses, freeFrom}
+pub use Rattle.listing_rules.proofs.FreeRuns.{free-length}
+use Rattle.listing_rules.proofs.FreeRuns.{free-at}
 use Rattle.records.specs.Words.{recordOf}
 use Rattle.mailbox_table.specs.Words.{rowOfWord}
 use Rattle.subscriptions.specs.Runs.{usedBetween, usedBy, Unmarks}
@@ -126,18 +128,6 @@ unfolding usedBy anyOf
 left-all {words} {d} {e} {i} l h = record { size = l .size; marks = λ j. sym (and-true (getD e j false)) ∙ rw (drop-of-length-le words h) at (l .marks j) }
 
 -- the map over an area
-module _ (rs : List Record) where
-  pub free-length : (k : ℕ) (area : List ℕ) → length (freeFrom rs k area) ≡ length area
-  unfolding freeFrom
-  free-length k [] = refl
-  free-length k (b ∷ t) = ap suc (free-length (suc k) t)
-
-  free-at : (k : ℕ) (area : List ℕ) (j : ℕ) → j < length area → getD (freeFrom rs k area) j false ≡ not (anyOf (uses (k + j)) rs)
-  unfolding freeFrom
-  free-at k [] j h = absurd (omega arith)
-  free-at k (b ∷ t) zero h = let e : k + 0 ≡ k = omega arith in rw e
-  free-at k (b ∷ t) (suc j) h = let e : k + suc j ≡ suc k + j = omega arith in free-at (suc k) t j (omega arith) ∙ rw e
-
 pub map-free : (n : ℕ) (words area : List ℕ) (marks : List Bool) → length area ≤ n → Unmarks (usedBy words) (replicate n true) marks
     → take (length area) marks ≡ freeFrom (map recordOf words) 0 area
 unfolding usedBy

@@ -21,13 +21,13 @@ use Rattle.listing_rules.specs.Subscriptions.{rowsBefore, nth}
 use Rattle.listing_rules.proofs.Bools.{and-l, and-r}
 use Rattle.listing_rules.proofs.ListLaws.{same-true, same-refl}
 use Rattle.listing_rules.proofs.Order.{bytes-total}
+use Rattle.listing_rules.proofs.Sorted.{order-trans, before-other}
 use Rattle.records.specs.Words.{recordOf}
 use Rattle.mailbox_table.specs.Words.{rowOfWord}
 use Rattle.mailbox_table.specs.Index.{nameAt, nthRow, nthName, rowAtWord, rowsAt}
 use Rattle.mailbox_table.proofs.IndexLaws.{rows-length, rows-cons}
 use Rattle.mailbox_table.proofs.SharedLaws.{order-same, order-other, order-to-nil, order-nil-cons}
 use Rattle.subscriptions.specs.Plans.{Ordered, standsAt}
-use Rattle.subscriptions.proofs.PlanLaws.{before-other}
 
 -- two names compared byte by byte: what is left from a place on decides
 module _ (a b : List ℕ) (i : ℕ) where
@@ -51,23 +51,12 @@ module _ (a b : List ℕ) (i : ℕ) where
           let l : length a ≤ i = omega arith in
           rw (drop-of-length-le a l, drop-cons b i 0 (omega arith), order-nil-cons (getD b i 0) (drop (suc i) b), lt-ltb (length a) (length b) (omega arith))
 
--- the order of names
-lt-is : (o : Ordering) → isLt o ≡ true → o ≡ Ordering·lt
-unfolding isLt
-lt-is Ordering·lt e = refl
-lt-is Ordering·eq e = absurd (false≢true e)
-lt-is Ordering·gt e = absurd (false≢true e)
-
-lt-trans : (x y n : List ℕ) → isLt (byteOrder x y) ≡ true → isLt (byteOrder y n) ≡ true → isLt (byteOrder x n) ≡ true
-unfolding isLt
-lt-trans x y n p q = ap isLt (bytes-total .trans x y n (lt-is (byteOrder x y) p) (lt-is (byteOrder y n) q))
-
 -- what does not come before n is followed by nothing that does
 not-before : (x y n : List ℕ) → isLt (byteOrder x y) ≡ true → isLt (byteOrder x n) ≡ false → isLt (byteOrder y n) ≡ false
 not-before x y n p q = go (isLt (byteOrder y n)) refl
   where
     go : (o : Bool) → isLt (byteOrder y n) ≡ o → o ≡ false
-    go true e = sym (lt-trans x y n p e) ∙ q
+    go true e = sym (order-trans x y n p e) ∙ q
     go false e = refl
 
 -- what comes neither before n nor is n, n comes before
@@ -104,7 +93,7 @@ module _ (n : List ℕ) where
   unfolding hasRow anyOf names ascendsFrom
   none-has x [] e h = refl
   none-has x (r ∷ rs) e h =
-      let f = lt-trans n x (r .name) e (and-l (isLt (byteOrder x (r .name))) (ascendsFrom (r .name) (names rs)) h) in
+      let f = order-trans n x (r .name) e (and-l (isLt (byteOrder x (r .name))) (ascendsFrom (r .name) (names rs)) h) in
       rw (same-turned (r .name) n f) (none-has (r .name) rs f (and-r (isLt (byteOrder x (r .name))) (ascendsFrom (r .name) (names rs)) h))
 
 ascends-rest : (x : List ℕ) (rs : List Row) → ascendsFrom x (names rs) ≡ true → ascends (names rs) ≡ true

@@ -1,6 +1,6 @@
 -- A plan carried out is the edit. Rests on the order of names in listing_rules.
-use mathlib.Core.Path.{_≡_, refl, sym, ap, _∙_}
-use mathlib.Core.Bool.{Bool, true, false, cond, _&&_, not, false≢true}
+use mathlib.Core.Path.{_≡_, refl, sym, ap}
+use mathlib.Core.Bool.{Bool, true, false, cond, _&&_, not}
 use mathlib.Core.List.{List, [], _∷_}
 use mathlib.Core.Option.{Option, none, some}
 use Prim.Native.Nat.{ℕ, suc, _+_, _-_, _≤_, _<_}
@@ -8,56 +8,16 @@ use native.Mathlib.Omega.{arith}
 use lib.Dec.{eqb, ltb}
 use lib.ListN.{length}
 use lib.Seq.{length-take-le, getD-take, split-at}
-use Rattle.listing_rules.specs.Bytes.{same}
-use Rattle.listing_rules.specs.Lists.{anyOf, keep}
-use Rattle.listing_rules.specs.Orders.{byteOrder, isLt}
 use Rattle.listing_rules.specs.Names.{lawfulName}
 use Rattle.listing_rules.specs.Flags.{subscribed}
-use Rattle.listing_rules.specs.Table.{Row, hasRow}
+use Rattle.listing_rules.specs.Table.{hasRow}
 use Rattle.listing_rules.specs.Command.{Edit, subscribe, unsubscribe}
 use Rattle.listing_rules.specs.Records.{Record, recordRows}
 use Rattle.listing_rules.specs.Subscriptions.{Store, held, storeRows, denied, stored, edited, subscribing, unsubscribing, insertion, freeRun, spelled, rowsBefore, belowNoInferiors, freeFrom, lowestRun, withSubscribed, withoutSubscribed, zeroRecord, nth, flagged, inserted, removed}
-use Rattle.listing_rules.proofs.ListLaws.{same-true}
-use Rattle.listing_rules.proofs.Order.{bytes-total}
+use Rattle.listing_rules.proofs.SpareLaws.{before-fewer}
 use Rattle.subscriptions.specs.declared.Plan.{Plan}
 use Rattle.subscriptions.specs.declared.Plan.the-variants.{Keep, Flag, Remove, Refused}
 use Rattle.subscriptions.specs.Plans.{subscribes, editedName, settingPlan, clearingPlan, roomPlan, freshPlan, planFor, carried}
-
--- a name that comes before another is not the same
-pub before-other : (a n : List ℕ) → isLt (byteOrder a n) ≡ true → same a n ≡ false
-unfolding isLt
-before-other a n e = go (same a n) refl
-  where
-    go : (o : Bool) → same a n ≡ o → o ≡ false
-    go false h = refl
-    go true h =
-        let w : a ≡ n = same-true a n h in
-        let z : byteOrder a n ≡ byteOrder n n = ap (λ (x : List ℕ). byteOrder x n) w in
-        absurd (false≢true (sym (ap isLt (z ∙ bytes-total .same n)) ∙ e))
-
-keep-length : {A : Type 0} (p : A → Bool) (l : List A) → length (keep p l) ≤ length l
-unfolding keep
-keep-length p [] = omega arith
-keep-length {A} p (x ∷ l) = go (p x) (keep-length p l)
-  where
-    go : (o : Bool) → length (keep p l) ≤ length l → length (cond o (x ∷ keep p l) (keep p l)) ≤ suc (length l)
-    go true h = omega arith
-    go false h = omega arith
-
-pub before-most : (rs : List Row) (n : List ℕ) → rowsBefore rs n ≤ length rs
-unfolding rowsBefore
-before-most rs n = keep-length (λ r. isLt (byteOrder (r .name) n)) rs
-
--- the place of a name that has a row is the place of a row
-pub before-has : (rs : List Row) (n : List ℕ) → hasRow rs n ≡ true → rowsBefore rs n < length rs
-unfolding rowsBefore keep hasRow anyOf
-before-has [] n h = absurd (false≢true h)
-before-has (r ∷ rs) n h = go (isLt (byteOrder (r .name) n)) refl (before-has rs n) (before-most rs n)
-  where
-    go : (o : Bool) → isLt (byteOrder (r .name) n) ≡ o → (hasRow rs n ≡ true → rowsBefore rs n < length rs) → rowsBefore rs n ≤ length rs
-        → length (cond o (r ∷ keep (λ q. isLt (byteOrder (q .name) n)) rs) (keep (λ q. isLt (byteOrder (q .name) n)) rs)) < suc (length rs)
-    go true e ih m = let z = ih (rw (before-other (r .name) n e) at h) in omega arith
-    go false e ih m = omega arith
 
 -- a row with the flags that it has
 flagged-same : (s : Store) (k : ℕ) → k < length (s .records) → flagged s k (nth (s .records) k .flags) ≡ s
@@ -99,7 +59,7 @@ module _ (s : Store) (n : List ℕ) (h : s .count ≤ length (s .records)) where
   -- a row of the store that has the name
   row-there : hasRow (storeRows s) n ≡ true → rowsBefore (storeRows s) n < s .count
   unfolding storeRows
-  row-there e = omega (arith, before-has (storeRows s) n e, record-rows-length (s .area) (held s), held-length)
+  row-there e = omega (arith, before-fewer (storeRows s) n e, record-rows-length (s .area) (held s), held-length)
 
   insertion-is : (k : ℕ) → k ≡ rowsBefore (storeRows s) n
       → insertion s n ≡ carried s n (roomPlan k (ltb (length (held s)) 512 && ltb (length (held s)) (length (s .records))) (lowestRun (length n) 0 (freeFrom (held s) 0 (s .area))))
@@ -125,7 +85,7 @@ module _ (s : Store) (n : List ℕ) (h : s .count ≤ length (s .records)) where
       go true e = e
       go false e = refl
 
-  pub subscribing-plan : subscribing s n ≡ carried s n (planFor (held s) (length (s .records)) (s .area) true n)
+  subscribing-plan : subscribing s n ≡ carried s n (planFor (held s) (length (s .records)) (s .area) true n)
   unfolding subscribing planFor storeRows
   subscribing-plan = go (hasRow (storeRows s) n) refl
     where
@@ -143,7 +103,7 @@ module _ (s : Store) (n : List ℕ) (h : s .count ≤ length (s .records)) where
           rw (held-flags k g) (set-is k (omega arith) (nth (s .records) k .flags) refl)
       go false e = fresh-is
 
-  pub unsubscribing-plan : unsubscribing s n ≡ carried s n (planFor (held s) (length (s .records)) (s .area) false n)
+  unsubscribing-plan : unsubscribing s n ≡ carried s n (planFor (held s) (length (s .records)) (s .area) false n)
   unfolding unsubscribing planFor storeRows carried
   unsubscribing-plan = go (hasRow (storeRows s) n) refl
     where

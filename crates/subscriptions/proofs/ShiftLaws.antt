@@ -15,7 +15,7 @@ pub flags-fit : (w f : ℕ) → w < 18446744073709551616 → f < 65536 → w - w
 flags-fit w f h g = omega arith
 
 -- the middle of a list, taken in either order
-pub drop-take : (n m : ℕ) (l : List ℕ) → drop n (take (n + m) l) ≡ take m (drop n l)
+drop-take : (n m : ℕ) (l : List ℕ) → drop n (take (n + m) l) ≡ take m (drop n l)
 drop-take zero m l = rw (zero-add m)
 drop-take (suc n) m [] = rw (take-nil {A = ℕ} (suc n + m), drop-nil {A = ℕ} (suc n)) (sym (take-nil {A = ℕ} m))
 drop-take (suc n) m (x ∷ l) = rw (suc-add n m) (drop-take n m l)

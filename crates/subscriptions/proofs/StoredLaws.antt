@@ -17,6 +17,7 @@ use Rattle.listing_rules.specs.Records.{Record, recordRows, liesInside}
 use Rattle.listing_rules.specs.Command.{Edit}
 use Rattle.listing_rules.specs.Subscriptions.{Store, storeTable, storeRows, held}
 use Rattle.listing_rules.proofs.Bools.{and-l, and-r}
+use Rattle.listing_rules.proofs.ListLaws.{map-take, map-drop}
 use Rattle.listing_rules.proofs.EditPasses.{StoreParts, store-parts, rows-count}
 use Rattle.records.specs.Words.{recordOf}
 use Rattle.records.specs.Stores.{Between}
@@ -30,13 +31,8 @@ use Rattle.subscriptions.specs.Stored.{wholeStore, planOf, Decides}
 use Rattle.subscriptions.proofs.PlanLaws.{edited-plan}
 use Rattle.subscriptions.proofs.FitLaws.{plan-fits}
 use Rattle.subscriptions.proofs.PlaceLaws.{rows-are}
-use Rattle.subscriptions.proofs.AppliedLaws.{map-drop, taken-insert, taken-remove, applied-store}
+use Rattle.subscriptions.proofs.AppliedLaws.{taken-insert, taken-remove, applied-store}
 use Rattle.subscriptions.proofs.ShiftLaws.{length-middle}
-
-pub map-take : (k : ℕ) (ws : List ℕ) → map recordOf (take k ws) ≡ take k (map recordOf ws)
-map-take zero ws = refl
-map-take (suc k) [] = refl
-map-take (suc k) (w ∷ ws) = ap (λ (l : List Record). recordOf w ∷ l) (map-take k ws)
 
 -- every name of the words lies inside the area
 inside-each : (area ws : List ℕ) → every (liesInside area) (map recordOf ws) ≡ true → (k : ℕ) → k < length ws
@@ -78,7 +74,7 @@ words-pass ws count area h =
     counted = omega (arith, p .counted, length-map ws recordOf)
 
     front : take count (map recordOf ws) ≡ map recordOf (take count ws)
-    front = sym (map-take count ws)
+    front = sym (map-take recordOf count ws)
 
 -- the words that a plan leaves alone
 module _ (ws : List ℕ) where
@@ -143,7 +139,7 @@ changed-words ws vs c b =
     let part : List ℕ = take (c .to - c .from) (drop (c .from) vs) in
     let whole : vs ≡ take (c .from) ws ++ (part ++ drop (c .to) ws) = b .others ∙ rw e (append-assoc (take (c .from) ws) part (drop (c .to) ws)) in
     sym (ap (map recordOf) whole ∙ map-append recordOf (take (c .from) ws) (part ++ drop (c .to) ws)
-    ∙ rw (map-append recordOf part (drop (c .to) ws), map-take (c .from) ws, map-drop (c .to) ws))
+    ∙ rw (map-append recordOf part (drop (c .to) ws), map-take recordOf (c .from) ws, map-drop recordOf (c .to) ws))
 
 -- The plan for an edit of words whose table passes.
 pub plan-decides : (ws : List ℕ) (count : ℕ) (area : List ℕ) (e : Edit) → passes (storeTable (wholeStore ws count area)) ≡ true → Decides ws count area e (planOf ws count area e)
@@ -172,7 +168,7 @@ plan-decides ws count area e h =
     number = length-map ws recordOf
 
     front : map recordOf (take count ws) ≡ take count (map recordOf ws)
-    front = map-take count ws
+    front = map-take recordOf count ws
 
     fits : Fits p ws count area n
     fits = plan-fits ws count (length ws) area (subscribes e) n (q .ordered) (q .counted) (q .small) (λ a b. b)

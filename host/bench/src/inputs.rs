@@ -4,7 +4,7 @@ use compare::records::Layout;
 use compare::tables::{table_bytes, NewRow};
 use second::name::MAX_NAME;
 use second::namespaces::Entry;
-use second::table::Flags;
+use second::rows::Flags;
 use second::Record;
 
 /// Rows of the tables.

@@ -11,6 +11,8 @@ use std::sync::Arc;
 use std::thread;
 use std::time::{Duration, Instant};
 
+pub mod testing;
+
 /// How long a program may neither answer nor take any input.
 pub const PATIENCE: Duration = Duration::from_secs(30);
 /// Longer than any answer line; what is longer is cut and reads as a wrong answer.

@@ -1,35 +1,18 @@
 //! Running a program: its lines, its end, its reports and the time limit.
 
 use std::io::{self, ErrorKind, Write};
-use std::path::{Path, PathBuf};
-use std::process::{Command, Stdio};
+use std::path::Path;
 use std::thread;
 use std::time::{Duration, Instant};
 
+use child::testing::script;
 use child::{sender_of, Running, SentFrame, PATIENCE};
 
 const ECHO: &str = "/bin/cat";
+/// Where scripts are written.
+const FOLDER: &str = env!("CARGO_TARGET_TMPDIR");
 /// Shorter than any of these tests may take.
 const SHORT: Duration = Duration::from_millis(300);
-
-/// A program that is a script of the shell.
-fn script(name: &str, text: &str) -> PathBuf {
-    let path = Path::new(env!("CARGO_TARGET_TMPDIR")).join(name);
-    write_program(&path, &format!("#!/bin/sh\n{text}\n"));
-    path
-}
-
-/// Writes a script that can be run. Another process writes it: a file that this one had open could
-/// still be open in a program that another test starts at that moment, and would be busy then.
-fn write_program(path: &Path, text: &str) {
-    let mut command = Command::new("/bin/sh");
-    command.args(["-c", "cat >\"$0\" && chmod 755 \"$0\""]).arg(path).stdin(Stdio::piped());
-    let mut writer = command.spawn().expect("a start");
-    let mut input = writer.stdin.take().expect("an input");
-    input.write_all(text.as_bytes()).expect("an open input");
-    drop(input);
-    assert!(writer.wait().expect("an end").success(), "{}", path.display());
-}
 
 fn start(program: &Path, patience: Duration) -> Running {
     Running::start(program, patience, |_| Ok(())).expect("a start")
@@ -64,7 +47,8 @@ fn bad_ends_and_reports() {
         ("much", "yes x | head -c 100000 >&2; exit 1", "exit status: 1; it reports: x\\nx\\n"),
     ];
     for (name, text, expected) in programs {
-        let error = start(&script(name, text), PATIENCE).finish().expect_err(name).to_string();
+        let error =
+            start(&script(FOLDER, name, text), PATIENCE).finish().expect_err(name).to_string();
         assert!(error.starts_with(expected), "{name}: {error}");
         assert!(error.len() < 20_000, "{name}: {} bytes", error.len());
     }
@@ -77,7 +61,7 @@ fn bad_ends_and_reports() {
 fn the_time_limit() {
     for (name, text) in [("silent", "exec sleep 60"), ("stays", "exec >&-; exec sleep 60")] {
         let begin = Instant::now();
-        let error = start(&script(name, text), SHORT).finish().expect_err(name);
+        let error = start(&script(FOLDER, name, text), SHORT).finish().expect_err(name);
         assert_eq!(error.kind(), ErrorKind::TimedOut, "{name}: {error}");
         assert!(begin.elapsed() < Duration::from_secs(20), "{name}");
     }

@@ -3,7 +3,7 @@
 
 use second::name::MAX_NAME;
 use second::records::{Record, MAX_AREA};
-use second::table::Flags;
+use second::rows::Flags;
 use second::{answer, check_table, Table};
 
 use crate::edit_series;

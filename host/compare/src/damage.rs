@@ -2,7 +2,7 @@
 
 use second::name::{MAX_LEVELS, MAX_NAME};
 use second::namespaces::{Entry, CLASSES, MAX_ENTRIES_A_CLASS, MAX_PREFIX};
-use second::table::Flags;
+use second::rows::Flags;
 
 use crate::random::Random;
 use crate::tables::{lawful_flags, level, table_bytes, NewRow};

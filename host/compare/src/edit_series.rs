@@ -2,7 +2,7 @@
 //! between them.
 
 use second::records::{Record, MAX_AREA};
-use second::table::{Flags, MAX_ROWS};
+use second::rows::{Flags, MAX_ROWS};
 use second::{check_table, Table};
 
 use crate::commands::command;

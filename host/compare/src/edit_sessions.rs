@@ -4,7 +4,8 @@
 use child::SentFrame;
 use second::frames::{Program, ENTRY, ROW, TABLE_ROOM};
 use second::name::MAX_NAME;
-use second::table::{Flags, Row, MAX_ROWS, ROW_HEAD};
+use second::packed::ROW_HEAD;
+use second::rows::{Flags, Row, MAX_ROWS};
 use second::Store;
 
 use crate::commands::{command, damaged};
@@ -169,8 +170,7 @@ pub fn refusals(random: &mut Random) -> Vec<SentFrame> {
 impl Editing<'_> {
     /// The rows, and edits that go for their names.
     fn of<'r>(random: &'r mut Random, rows: &[NewRow]) -> Editing<'r> {
-        let mut sending = Sending::new(random);
-        sending.table(&table_bytes(rows));
+        let sending = Sending::over(random, rows);
         Editing { sending, program: Program::default(), followed: 0, names: names_of(rows) }
     }
 

@@ -3,7 +3,7 @@
 use std::ops::Range;
 
 use second::name::{INBOX, MAX_LEVELS, MAX_NAME};
-use second::table::Flags;
+use second::rows::Flags;
 use second::Record;
 
 use crate::commands::{damaged, push_in_some_case, tag_and_space};

@@ -2,10 +2,9 @@
 
 use child::SentFrame;
 use second::frames::MAX_DIGITS;
-use second::name::{self, MAX_LEVELS, MAX_NAME};
-use second::quoted::push_quoted;
+use second::name::{MAX_LEVELS, MAX_NAME};
+use second::rows::Flags;
 use second::shape::MAX_LINE;
-use second::table::Flags;
 
 use crate::commands::{command, damaged, hostile_pattern, push_value};
 use crate::damage::{damaged_table, namespace_list};
@@ -82,12 +81,8 @@ fn commands_over_a_table(random: &mut Random) -> Vec<SentFrame> {
     let count = random.within(0..=40);
     let rows = good_table(random, count);
     let names = names_of(&rows);
-    let mut sending = Sending::new(random);
-    sending.table(&table_bytes(&rows));
-    for _ in 0..24 {
-        let line = command(sending.random, &names);
-        sending.command(&line);
-    }
+    let mut sending = Sending::over(random, &rows);
+    sending.commands(24, |random| command(random, &names));
     sending.every_walk();
     sending.frames
 }
@@ -120,10 +115,7 @@ fn damaged_tables(random: &mut Random) -> Vec<SentFrame> {
     sending.table(&table);
     sending.command_text("a LIST \"\" *");
     sending.command_text("a NAMESPACE");
-    for _ in 0..4 {
-        let line = command(sending.random, &names);
-        sending.command(&line);
-    }
+    sending.commands(4, |random| command(random, &names));
     sending.every_walk();
     sending.frames
 }
@@ -131,8 +123,7 @@ fn damaged_tables(random: &mut Random) -> Vec<SentFrame> {
 fn namespace_lists(random: &mut Random) -> Vec<SentFrame> {
     let rows = good_table(random, 3);
     let list = namespace_list(random);
-    let mut sending = Sending::new(random);
-    sending.table(&table_bytes(&rows));
+    let mut sending = Sending::over(random, &rows);
     sending.namespaces(&list);
     for text in ["a NAMESPACE", "b namespace", "c LIST \"\" *", "d NAMESPACE ", "e NOOP", ""] {
         sending.command_text(text);
@@ -144,14 +135,17 @@ fn namespace_lists(random: &mut Random) -> Vec<SentFrame> {
 fn damaged_commands(random: &mut Random) -> Vec<SentFrame> {
     let rows = good_table(random, 8);
     let names = names_of(&rows);
-    let mut sending = Sending::new(random);
-    sending.table(&table_bytes(&rows));
-    for _ in 0..80 {
-        let line = command(sending.random, &names);
-        let line = damaged(sending.random, line);
-        sending.command(&line[..line.len().min(MAX_LINE)]);
-    }
+    let mut sending = Sending::over(random, &rows);
+    sending.commands(80, |random| {
+        let line = command(random, &names);
+        cut_to_a_line(damaged(random, line))
+    });
     sending.frames
+}
+
+fn cut_to_a_line(mut line: Vec<u8>) -> Vec<u8> {
+    line.truncate(MAX_LINE);
+    line
 }
 
 /// Patterns that are slow to try every way, over names that nearly match them.
@@ -163,8 +157,7 @@ fn hostile_patterns(random: &mut Random) -> Vec<SentFrame> {
         names.push(vec![level; random.within(1..=levels.min(MAX_LEVELS))].join("/").into_bytes());
     }
     let rows = rows_named(random, names);
-    let mut sending = Sending::new(random);
-    sending.table(&table_bytes(&rows));
+    let mut sending = Sending::over(random, &rows);
     for count in [1, 1, 2, 8] {
         let options = sending.random.pick(&["", " (SUBSCRIBED RECURSIVEMATCH REMOTE)"]);
         let mut line = format!("a LIST{options} \"\" (").into_bytes();
@@ -181,16 +174,16 @@ fn hostile_patterns(random: &mut Random) -> Vec<SentFrame> {
 /// Values of options, some as deep as the line allows.
 fn nested_values(random: &mut Random) -> Vec<SentFrame> {
     let mut sending = Sending::new(random);
-    for _ in 0..10 {
+    sending.commands(10, |random| {
         let mut line = b"a LIST (SUBSCRIBED FOO ".to_vec();
-        let depth = sending.random.within(1..=8);
-        push_value(&mut line, sending.random, depth);
+        let depth = random.within(1..=8);
+        push_value(&mut line, random, depth);
         line.extend_from_slice(b") \"\" *\r\n");
-        if sending.random.percent(40) {
-            line = damaged(sending.random, line);
+        if random.percent(40) {
+            line = damaged(random, line);
         }
-        sending.command(&line[..line.len().min(MAX_LINE)]);
-    }
+        cut_to_a_line(line)
+    });
     for end in [") \"\" *", ") \"\" (", "", " ) \"\" *"] {
         let depth = sending.random.within(900..=1_010);
         let (open, close) = ("(".repeat(depth), ")".repeat(depth));
@@ -213,15 +206,11 @@ fn walks_of_deep_trees(random: &mut Random) -> Vec<SentFrame> {
         }
     }
     let names = names_of(&rows);
-    let mut sending = Sending::new(random);
-    sending.table(&table_bytes(&rows));
+    let mut sending = Sending::over(random, &rows);
     sending.every_walk();
     for name in names.iter().take(10) {
         let walk = some_walk(sending.random);
-        let mut line = format!("w LIST ({}) ", walk.selection).into_bytes();
-        push_quoted(&mut line, &name::descendant_prefix(name));
-        line.extend_from_slice(b" \"%\"\r\n");
-        sending.command(&line);
+        sending.command(&walk.command_below(name));
     }
     sending.frames
 }
@@ -229,8 +218,7 @@ fn walks_of_deep_trees(random: &mut Random) -> Vec<SentFrame> {
 /// Bad frames among good ones; the stored rows stay.
 fn bad_frames(random: &mut Random) -> Vec<SentFrame> {
     let rows = good_table(random, 4);
-    let mut sending = Sending::new(random);
-    sending.table(&table_bytes(&rows));
+    let mut sending = Sending::over(random, &rows);
     for _ in 0..20 {
         match sending.random.below(4) {
             0 | 1 => {

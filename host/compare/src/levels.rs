@@ -3,11 +3,11 @@
 use child::SentFrame;
 use second::name::{self, INBOX};
 use second::quoted::push_quoted;
-use second::table::Flags;
+use second::rows::Flags;
 
 use crate::random::Random;
 use crate::sending::Sending;
-use crate::tables::{level, table_bytes, NewRow};
+use crate::tables::{level, NewRow};
 
 /// Most of them select nothing but REMOTE, as W1 asks.
 const SELECTIONS: [&str; 12] = [
@@ -37,12 +37,8 @@ pub fn levels_above(random: &mut Random) -> Vec<SentFrame> {
     let rows = tree(random);
     let levels: Vec<Vec<u8>> =
         rows.iter().flat_map(|row| name::ancestors(&row.name)).map(<[u8]>::to_vec).collect();
-    let mut sending = Sending::new(random);
-    sending.table(&table_bytes(&rows));
-    for _ in 0..30 {
-        let line = command(sending.random, &levels);
-        sending.command(&line);
-    }
+    let mut sending = Sending::over(random, &rows);
+    sending.commands(30, |random| command(random, &levels));
     sending.every_walk();
     sending.frames
 }

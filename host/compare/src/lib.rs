@@ -28,6 +28,7 @@ pub mod tables;
 mod walks;
 
 use std::path::Path;
+use std::process::ExitCode;
 
 use child::{sender_of, Running, SentFrame, PATIENCE};
 use second::fault::Fault;
@@ -37,6 +38,15 @@ use second::Refusal;
 pub use kinds::{kinds, Kind};
 
 use report::{difference_text, explanation_text, failure_text};
+
+/// The status of a wrong call.
+const WRONG_CALL: u8 = 2;
+
+/// Tells what is wrong with a call of a program, and gives its status.
+pub fn wrong_call(message: &str) -> ExitCode {
+    eprintln!("{message}");
+    ExitCode::from(WRONG_CALL)
+}
 
 /// Runs the session of a kind and a seed. The error is what differed, as text.
 pub fn compare_session(program: &Path, kind: Kind, seed: u64) -> Result<(), String> {

@@ -8,8 +8,9 @@ use second::frames::{
     ANSWER_ROOM, ENTRY, FOUND_ROOM, NAMESPACES_ROOM, PENDING_ROOM, ROW, SCRATCH_ROOM, TABLE_ROOM,
 };
 use second::name::{self, MAX_LEVELS, MAX_NAME};
+use second::packed::ROW_HEAD;
+use second::rows::{Flags, MAX_ROWS};
 use second::shape::MAX_LINE;
-use second::table::{Flags, MAX_ROWS, ROW_HEAD};
 use second::{answer_reading, Table};
 
 use crate::random::Random;
@@ -32,8 +33,7 @@ pub fn tables(random: &mut Random) -> Vec<SentFrame> {
         1 => vec![row_named("n".repeat(MAX_NAME + over), SUBSCRIBED)],
         _ => vec![row_named(vec!["l"; MAX_LEVELS + over].join("/"), SUBSCRIBED)],
     };
-    let mut sending = Sending::new(random);
-    sending.table(&table_bytes(&rows));
+    let mut sending = Sending::over(random, &rows);
     for text in ["a NAMESPACE", "a LIST \"\" *", "a LIST \"\" 00*", "a LIST \"\" (l/% n%)"] {
         sending.command_text(text);
     }
@@ -73,8 +73,7 @@ fn after_filling(sending: &mut Sending, first: u8) {
 
 /// Numbers of patterns, canonical lengths and line lengths, each at its limit or one over it.
 pub fn commands(random: &mut Random) -> Vec<SentFrame> {
-    let mut sending = Sending::new(random);
-    sending.table(&table_bytes(&[row_named("x".to_string(), SUBSCRIBED)]));
+    let mut sending = Sending::over(random, &[row_named("x".to_string(), SUBSCRIBED)]);
     for over in 0..2 {
         let empty = sending.random.below(MAX_PATTERNS);
         let mut patterns = vec!["x"; MAX_PATTERNS + over];
@@ -224,8 +223,7 @@ pub fn walks_for_scratch(random: &mut Random) -> Vec<SentFrame> {
 }
 
 fn walks_of(random: &mut Random, rows: &[NewRow]) -> Vec<SentFrame> {
-    let mut sending = Sending::new(random);
-    sending.table(&table_bytes(rows));
+    let mut sending = Sending::over(random, rows);
     sending.every_walk();
     sending.frames
 }

@@ -8,9 +8,9 @@ use second::shape::MAX_LINE;
 
 use crate::commands::command;
 use crate::random::Random;
-use crate::sending::{Sending, MAX_PIECE};
+use crate::sending::Sending;
 use crate::strings::{header_of, push_literal};
-use crate::tables::{good_table, names_of, table_bytes};
+use crate::tables::{good_table, names_of};
 
 /// What a literal may hold and other strings may not, what looks like the end of something, and the
 /// one byte that no literal holds.
@@ -64,12 +64,8 @@ const ODD_BYTES: &[u8] = b"\x00\x80\xFF\r\n{}0199+ x";
 pub fn commands_with_literals(random: &mut Random) -> Vec<SentFrame> {
     let rows = good_table(random, 12);
     let names = names_of(&rows);
-    let mut sending = Sending::new(random);
-    sending.table(&table_bytes(&rows));
-    for _ in 0..40 {
-        let line = literal_command(sending.random, &names);
-        sending.command(&line[..line.len().min(MAX_PIECE)]);
-    }
+    let mut sending = Sending::over(random, &rows);
+    sending.commands(40, |random| literal_command(random, &names));
     sending.frames
 }
 
@@ -77,12 +73,8 @@ pub fn commands_with_literals(random: &mut Random) -> Vec<SentFrame> {
 pub fn odd_commands(random: &mut Random) -> Vec<SentFrame> {
     let rows = good_table(random, 4);
     let names = names_of(&rows);
-    let mut sending = Sending::new(random);
-    sending.table(&table_bytes(&rows));
-    for _ in 0..80 {
-        let line = odd_command(sending.random, &names);
-        sending.command(&line[..line.len().min(MAX_PIECE)]);
-    }
+    let mut sending = Sending::over(random, &rows);
+    sending.commands(80, |random| odd_command(random, &names));
     sending.frames
 }
 

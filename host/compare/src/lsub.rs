@@ -3,13 +3,13 @@
 
 use child::SentFrame;
 use second::command::MAX_CANONICAL;
-use second::table::Flags;
+use second::rows::Flags;
 
 use crate::commands::{damaged, pattern, push_in_some_case, tag_and_space};
 use crate::random::Random;
-use crate::sending::{Sending, MAX_PIECE};
+use crate::sending::Sending;
 use crate::strings::{header_of, push_string};
-use crate::tables::{good_table, names_of, table_bytes, NewRow};
+use crate::tables::{good_table, names_of, NewRow};
 
 /// Patterns that match wherever they stand, INBOX in any case of letters among them.
 const PATTERNS: [&[u8]; 16] = [
@@ -53,15 +53,15 @@ pub fn subscribed_names(random: &mut Random) -> Vec<SentFrame> {
     let count = random.within(0..=30);
     let rows = subscriptions(random, count);
     let names = names_of(&rows);
-    let mut sending = Sending::new(random);
-    sending.table(&table_bytes(&rows));
-    for _ in 0..30 {
-        let mut line = lsub_command(sending.random, &names);
-        if sending.random.percent(20) {
-            line = damaged(sending.random, line);
+    let mut sending = Sending::over(random, &rows);
+    sending.commands(30, |random| {
+        let line = lsub_command(random, &names);
+        if random.percent(20) {
+            damaged(random, line)
+        } else {
+            line
         }
-        sending.command(&line[..line.len().min(MAX_PIECE)]);
-    }
+    });
     for _ in 0..6 {
         let text = sending.random.pick(&OFF_GRAMMAR);
         sending.command_text(text);

@@ -4,7 +4,8 @@
 use std::ops::Range;
 
 use second::name;
-use second::records::{packed_records, Record, MAX_AREA};
+use second::packed::packed_records;
+use second::records::{Record, MAX_AREA};
 use second::Store;
 
 use crate::damage::damaged_rows;

@@ -2,9 +2,11 @@
 
 use child::SentFrame;
 use second::frames::{hex_of, COMMAND, ENTRY, MAX_DIGITS, ROW, WALK};
-use second::table::{split_rows, Row};
+use second::packed::split_rows;
+use second::rows::Row;
 
 use crate::random::Random;
+use crate::tables::{table_bytes, NewRow};
 use crate::walks::{REFUSED_OPTIONS, WALKS};
 
 /// The most bytes behind the first one of a frame.
@@ -21,8 +23,23 @@ impl Sending<'_> {
         Sending { random, frames: Vec::new() }
     }
 
+    /// One that begins with a table.
+    pub fn over<'r>(random: &'r mut Random, rows: &[NewRow]) -> Sending<'r> {
+        let mut sending = Sending::new(random);
+        sending.table(&table_bytes(rows));
+        sending
+    }
+
     pub fn command(&mut self, line: &[u8]) {
         self.frame(COMMAND, line);
+    }
+
+    /// So many commands, each as far as a frame holds it.
+    pub fn commands(&mut self, count: usize, mut line: impl FnMut(&mut Random) -> Vec<u8>) {
+        for _ in 0..count {
+            let line = line(self.random);
+            self.command(&line[..line.len().min(MAX_PIECE)]);
+        }
     }
 
     /// Text of a command, CR LF not included.

@@ -2,14 +2,13 @@
 //! selection options, and every option byte.
 
 use child::SentFrame;
-use second::name;
 use second::quoted::push_quoted;
-use second::table::Flags;
+use second::rows::Flags;
 
 use crate::commands::pattern;
 use crate::random::Random;
 use crate::sending::Sending;
-use crate::tables::{good_table, names_of, table_bytes, NewRow};
+use crate::tables::{good_table, names_of, NewRow};
 use crate::walks::WALKS;
 
 /// The selection options, and in how many of a hundred commands each stands.
@@ -38,19 +37,12 @@ pub fn trees(random: &mut Random) -> Vec<SentFrame> {
     let count = random.within(1..=50);
     let rows = tree(random, count);
     let names = names_of(&rows);
-    let mut sending = Sending::new(random);
-    sending.table(&table_bytes(&rows));
-    for _ in 0..30 {
-        let line = command(sending.random, &names);
-        sending.command(&line);
-    }
+    let mut sending = Sending::over(random, &rows);
+    sending.commands(30, |random| command(random, &names));
     sending.every_walk();
     for walk in &WALKS {
         let below = &names[sending.random.below(names.len())];
-        let mut line = format!("w LIST ({}) ", walk.selection).into_bytes();
-        push_quoted(&mut line, &name::descendant_prefix(below));
-        line.extend_from_slice(b" \"%\"\r\n");
-        sending.command(&line);
+        sending.command(&walk.command_below(below));
     }
     sending.frames
 }
@@ -59,8 +51,7 @@ pub fn trees(random: &mut Random) -> Vec<SentFrame> {
 pub fn option_bytes(random: &mut Random) -> Vec<SentFrame> {
     let count = random.within(0..=12);
     let rows = tree(random, count);
-    let mut sending = Sending::new(random);
-    sending.table(&table_bytes(&rows));
+    let mut sending = Sending::over(random, &rows);
     for option in 0..=u8::MAX {
         sending.walk(option);
     }

@@ -1,7 +1,7 @@
 //! Tables that pass: names with shared parents, bytes below "/", quotes and INBOX spellings.
 
 use second::name::{self, INBOX, MAX_LEVELS, MAX_NAME};
-use second::table::{Flags, Row};
+use second::rows::{Flags, Row};
 
 use crate::random::Random;
 

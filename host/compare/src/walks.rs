@@ -1,6 +1,8 @@
 //! What walks ask for.
 
-use second::table::Flags;
+use second::name;
+use second::quoted::push_quoted;
+use second::rows::Flags;
 
 use crate::random::Random;
 
@@ -11,6 +13,16 @@ pub struct Walk {
     pub selection: &'static str,
     /// The flags of a row that meets its criteria.
     pub flags: Flags,
+}
+
+impl Walk {
+    /// The command that asks for the level below a name.
+    pub fn command_below(&self, name: &[u8]) -> Vec<u8> {
+        let mut line = format!("w LIST ({}) ", self.selection).into_bytes();
+        push_quoted(&mut line, &name::descendant_prefix(name));
+        line.extend_from_slice(b" \"%\"\r\n");
+        line
+    }
 }
 
 const SUBSCRIBED: Flags = Flags::EXISTS.with(Flags::SUBSCRIBED);

@@ -13,11 +13,13 @@ const DROPPING: u8 = 7;
 /// What came of a call of `feed`.
 #[derive(Clone, Copy, Debug, PartialEq, Eq)]
 pub enum Happening {
+    /// No byte so far makes anything so.
     Nothing,
     /// A whole command, the first so many bytes of the lent memory.
     Command(usize),
     /// The continuation line is to be sent.
     GoOn,
+    /// The command is refused; the bytes through its end are dropped.
     Refused(Refusal),
     /// The lent memory is too short, or the state has more bytes than a command: no byte is taken.
     NotTaken,
@@ -26,6 +28,7 @@ pub enum Happening {
 /// What a call of `feed` gives.
 #[derive(Clone, Copy, Debug, PartialEq, Eq)]
 pub struct Fed {
+    /// What came of the bytes that were taken.
     pub happening: Happening,
     /// Bytes of the chunk that were taken.
     pub used: usize,
@@ -38,6 +41,7 @@ pub struct Fed {
 pub enum Event {
     /// A whole command, its literals in it and its CR LF at its end.
     Command(Vec<u8>),
+    /// The command is refused; the bytes through its end are dropped.
     Refused(Refusal),
     /// The continuation line is to be sent.
     GoOn,
@@ -50,6 +54,18 @@ pub struct Feeder {
 }
 
 /// Takes bytes of a chunk, through the first that something comes of.
+///
+/// ```
+/// use luspemaro::{feed, FeederState, Happening, COMMAND_ROOM};
+///
+/// let mut command = [0; COMMAND_ROOM];
+/// let chunk = b"a NAMESPACE\r\nb LI";
+/// let fed = feed(FeederState::default(), &mut command, chunk);
+/// assert_eq!((fed.happening, fed.used), (Happening::Command(13), 13));
+/// assert_eq!(&command[..13], &chunk[..13]);
+/// let fed = feed(fed.state, &mut command, &chunk[13..]);
+/// assert_eq!((fed.happening, fed.used), (Happening::Nothing, 4));
+/// ```
 pub fn feed(state: FeederState, command: &mut [u8], chunk: &[u8]) -> Fed {
     let fed = raw::feed(state, command, chunk);
     let happening = match fed.event {
@@ -65,6 +81,12 @@ pub fn feed(state: FeederState, command: &mut [u8], chunk: &[u8]) -> Fed {
 }
 
 /// Writes the continuation line at a place, as far as `out` goes, and gives the place after it.
+///
+/// ```
+/// let mut out = *b"........";
+/// assert_eq!(luspemaro::put_go_on(&mut out, 1), 7);
+/// assert_eq!(&out, b".+ go\r\n.");
+/// ```
 pub fn put_go_on(out: &mut [u8], at: usize) -> usize {
     raw::put_go_on(out, at)
 }
@@ -77,6 +99,14 @@ impl Default for Feeder {
 
 impl Feeder {
     /// Takes a whole chunk, which may be empty.
+    ///
+    /// ```
+    /// use luspemaro::{Event, Feeder};
+    ///
+    /// let mut feeder = Feeder::default();
+    /// assert_eq!(feeder.feed(b"a LIST \"\" {1}\r\n"), [Event::GoOn]);
+    /// assert_eq!(feeder.feed(b"%\r\n"), [Event::Command(b"a LIST \"\" {1}\r\n%\r\n".to_vec())]);
+    /// ```
     pub fn feed(&mut self, mut chunk: &[u8]) -> Vec<Event> {
         let mut events = Vec::new();
         loop {
@@ -92,6 +122,17 @@ impl Feeder {
     }
 
     /// The command's bytes so far; or, where bytes are dropped, whether the last one is CR.
+    ///
+    /// ```
+    /// use luspemaro::{Event, Feeder, Refusal};
+    ///
+    /// let mut feeder = Feeder::default();
+    /// feeder.feed(b"a LI");
+    /// assert_eq!(feeder.kept(), Ok(&b"a LI"[..]));
+    /// // No line holds 00.
+    /// assert_eq!(feeder.feed(b"\0\r"), [Event::Refused(Refusal::LineShape)]);
+    /// assert_eq!(feeder.kept(), Err(true));
+    /// ```
     pub fn kept(&self) -> Result<&[u8], bool> {
         if self.state.place == DROPPING {
             Err(self.state.cr != 0)
@@ -101,6 +142,14 @@ impl Feeder {
     }
 
     /// Whether nothing is left over from the bytes before.
+    ///
+    /// ```
+    /// let mut feeder = luspemaro::Feeder::default();
+    /// feeder.feed(b"a NAMESPACE\r");
+    /// assert!(!feeder.is_first());
+    /// feeder.feed(b"\n");
+    /// assert!(feeder.is_first());
+    /// ```
     pub fn is_first(&self) -> bool {
         self.state == FeederState::default()
     }

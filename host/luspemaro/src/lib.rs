@@ -29,6 +29,8 @@
 //!
 //! `rt staticlib exports` makes the archive; the build script finds it.
 
+#![warn(missing_docs)]
+
 mod feeder;
 mod line;
 mod raw;
@@ -40,21 +42,49 @@ pub use raw::{Answered, FeederState, Record, Records, Walked, NAME_ROOM};
 pub use refusal::Refusal;
 
 /// Check 1: whether a packed mailbox table passes.
+///
+/// ```
+/// // Flags 0003, a name of 3 bytes.
+/// assert!(luspemaro::check_table(b"\0\x03\x03Foo"));
+/// assert!(!luspemaro::check_table(b"\0\x03\x04Foo"));
+/// ```
 pub fn check_table(table: &[u8]) -> bool {
     raw::check_table(table)
 }
 
 /// Check 1 of records: whether the mailbox table that they are passes.
+///
+/// ```
+/// use luspemaro::{check_records, Record, Records};
+///
+/// let records = [Record { flags: 3, start: 2, len: 3 }, Record::default()];
+/// let table = Records { records: &records, count: 1, area: b"--Foo" };
+/// assert!(check_records(table));
+/// // The second record is spare: as a row it would have no name.
+/// assert!(!check_records(Records { count: 2, ..table }));
+/// ```
 pub fn check_records(table: Records) -> bool {
     raw::check_records(table)
 }
 
 /// Check 2: whether a namespace list passes.
+///
+/// ```
+/// // A personal namespace without a prefix, and one of other users; the delimiter of both is "/".
+/// assert!(luspemaro::check_namespaces(b"\0\0/\x01\x01~/"));
+/// // There is no class 3.
+/// assert!(!luspemaro::check_namespaces(b"\x03\0/"));
+/// ```
 pub fn check_namespaces(list: &[u8]) -> bool {
     raw::check_namespaces(list)
 }
 
 /// Whether a name matches a canonical pattern.
+///
+/// ```
+/// assert!(luspemaro::matches(b"Cust*", b"Customers/ABC"));
+/// assert!(!luspemaro::matches(b"Cust%", b"Customers/ABC"));
+/// ```
 pub fn matches(pattern: &[u8], name: &[u8]) -> bool {
     raw::matches(pattern, name)
 }
@@ -64,6 +94,23 @@ pub fn matches(pattern: &[u8], name: &[u8]) -> bool {
 /// The first `count` records are the rows; those after them are spare. An edit that is accepted changes
 /// the records, the area and the count; where it is refused, and for every other command, all of them
 /// stay. A new row takes the first spare record and the lowest free bytes of the area.
+///
+/// ```
+/// use luspemaro::{answer, Record, Refusal};
+///
+/// let mut records = [Record { flags: 3, start: 0, len: 13 }];
+/// let mut area = *b"Customers/ABC";
+/// let mut out = [0; 100];
+///
+/// let line = b"a LIST (SUBSCRIBED RECURSIVEMATCH) \"\" %\r\n";
+/// let answered = answer(&mut records, 1, &mut area, b"", line, &mut out)?;
+/// let expected = b"* LIST (\\NonExistent) \"/\" \"Customers\" (\"CHILDINFO\" (\"SUBSCRIBED\"))\r\na OK done\r\n";
+/// assert_eq!(&out[..answered.length], expected);
+///
+/// let refused = answer(&mut records, 1, &mut area, b"", b"a SUBSCRIBE Moo\r\n", &mut out);
+/// assert_eq!(refused, Err(Refusal::NoRoom));
+/// # Ok::<(), Refusal>(())
+/// ```
 pub fn answer(
     records: &mut [Record],
     count: usize,
@@ -82,11 +129,43 @@ pub fn answer(
 /// every walk is answered as before, but that a SUBSCRIBE which was refused with 15 may find room.
 /// Straight after it, no edit between, 15 for want of bytes is given exactly if all free bytes together
 /// are fewer than the name's. A table that does not pass is refused with 1, and then nothing changes.
+///
+/// ```
+/// use luspemaro::{answer, compact, Record, Refusal};
+///
+/// let mut records = [Record { flags: 1, start: 2, len: 3 }, Record::default()];
+/// let mut area = *b"--Foo--";
+/// let mut out = [0; 100];
+///
+/// // No run of free bytes is long enough; all of them together are.
+/// let line = b"a SUBSCRIBE Mood\r\n";
+/// let refused = answer(&mut records, 1, &mut area, b"", line, &mut out);
+/// assert_eq!(refused, Err(Refusal::NoRoom));
+/// compact(&mut records, 1, &mut area)?;
+/// assert_eq!((records[0].start, area), (0, *b"Foo\0\0\0\0"));
+/// let answered = answer(&mut records, 1, &mut area, b"", line, &mut out)?;
+/// assert_eq!((answered.count, area), (2, *b"FooMood"));
+/// # Ok::<(), Refusal>(())
+/// ```
 pub fn compact(records: &mut [Record], count: usize, area: &mut [u8]) -> Result<(), Refusal> {
     Refusal::check(raw::compact(records, count, area))
 }
 
 /// The walk of a table. Found and pending hold their names afterwards, each with a length byte.
+///
+/// ```
+/// use luspemaro::{collect, Record, Records, Walked};
+///
+/// let records = [Record { flags: 3, start: 0, len: 13 }];
+/// let table = Records { records: &records, count: 1, area: b"Customers/ABC" };
+/// let (mut scratch, mut found, mut pending) = ([0; 100], [0; 20], [0; 20]);
+///
+/// // The top level is asked, then what lies below Customers.
+/// let walked = collect(table, 0, &mut scratch, &mut found, &mut pending);
+/// assert_eq!(walked, Ok(Walked { commands: 2, found: 14 }));
+/// assert_eq!(&found[..14], b"\x0DCustomers/ABC");
+/// assert_eq!(&pending[..10], b"\x09Customers");
+/// ```
 pub fn collect(
     table: Records,
     option: u8,
@@ -98,6 +177,19 @@ pub fn collect(
 }
 
 /// `collect` over a packed table.
+///
+/// ```
+/// use luspemaro::{collect_packed, Refusal, Walked};
+///
+/// let table = b"\0\x03\x03Foo";
+/// let (mut scratch, mut found) = ([0; 100], [0; 4]);
+/// let walked = collect_packed(table, 0, &mut scratch, &mut found, &mut []);
+/// assert_eq!(walked, Ok(Walked { commands: 1, found: 4 }));
+/// assert_eq!(&found, b"\x03Foo");
+///
+/// let refused = collect_packed(table, 0, &mut scratch, &mut found[1..], &mut []);
+/// assert_eq!(refused, Err(Refusal::FoundFull));
+/// ```
 pub fn collect_packed(
     table: &[u8],
     option: u8,

@@ -9,12 +9,23 @@ use crate::refusal::Refusal;
 pub struct Criteria(u8);
 
 impl Criteria {
+    /// A line without CHILDINFO.
     pub const NONE: Criteria = Criteria(0);
+    /// SUBSCRIBED alone.
     pub const SUBSCRIBED: Criteria = Criteria(1);
+    /// SPECIAL-USE alone.
     pub const SPECIAL_USE: Criteria = Criteria(2);
+    /// Both.
     pub const BOTH: Criteria = Criteria(3);
 
     /// The set of some bits, or none where a bit stands for no criterion.
+    ///
+    /// ```
+    /// use luspemaro::Criteria;
+    ///
+    /// assert_eq!(Criteria::from_bits(3), Some(Criteria::BOTH));
+    /// assert_eq!(Criteria::from_bits(4), None);
+    /// ```
     pub const fn from_bits(bits: u8) -> Option<Criteria> {
         if bits <= Criteria::BOTH.0 {
             Some(Criteria(bits))
@@ -23,6 +34,11 @@ impl Criteria {
         }
     }
 
+    /// SUBSCRIBED is bit 0, SPECIAL-USE bit 1.
+    ///
+    /// ```
+    /// assert_eq!(luspemaro::Criteria::SPECIAL_USE.bits(), 2);
+    /// ```
     pub const fn bits(self) -> u8 {
         self.0
     }
@@ -33,6 +49,7 @@ impl Criteria {
 pub struct Line {
     /// Bit k is the k-th of the sixteen attributes, `\Marked` bit 0.
     pub attributes: u16,
+    /// What CHILDINFO names.
     pub childinfo: Criteria,
     length: usize,
     area: [u8; NAME_ROOM],
@@ -40,17 +57,39 @@ pub struct Line {
 
 impl Line {
     /// The name, unquoted. It is empty on the root line alone.
+    ///
+    /// ```
+    /// let line = luspemaro::read_line(b"* LIST () \"/\" \"a\\\\b\"\r\n")?;
+    /// assert_eq!(line.name(), b"a\\b");
+    /// # Ok::<(), luspemaro::Refusal>(())
+    /// ```
     pub fn name(&self) -> &[u8] {
         &self.area[..self.length]
     }
 
     /// The name in 200 bytes, zero after it.
+    ///
+    /// ```
+    /// let line = luspemaro::read_line(b"* LIST () \"/\" \"Foo\"\r\n")?;
+    /// assert_eq!(line.area()[..4], *b"Foo\0");
+    /// # Ok::<(), luspemaro::Refusal>(())
+    /// ```
     pub fn area(&self) -> &[u8; NAME_ROOM] {
         &self.area
     }
 }
 
 /// The line writer: writes a LIST line at the front of `out`, and gives its length.
+///
+/// ```
+/// use luspemaro::{write_line, Criteria, Refusal};
+///
+/// let mut out = [0; 100];
+/// let length = write_line(1, b"Foo", Criteria::NONE, &mut out)?;
+/// assert_eq!(&out[..length], b"* LIST (\\Marked) \"/\" \"Foo\"\r\n");
+/// assert_eq!(write_line(1, b"Foo", Criteria::NONE, &mut out[..9]), Err(Refusal::ShortBuffer));
+/// # Ok::<(), Refusal>(())
+/// ```
 pub fn write_line(
     attributes: u16,
     name: &[u8],
@@ -62,6 +101,16 @@ pub fn write_line(
 
 /// The line writer from the number of a set of criteria: one with another bit than the two is
 /// refused with 12, first.
+///
+/// ```
+/// use luspemaro::{write_parts, Refusal};
+///
+/// let mut out = [0; 100];
+/// let length = write_parts(0, b"Foo", 2, &mut out)?;
+/// assert_eq!(&out[..length], b"* LIST () \"/\" \"Foo\" (\"CHILDINFO\" (\"SPECIAL-USE\"))\r\n");
+/// assert_eq!(write_parts(0, b"Foo", 4, &mut out), Err(Refusal::NotSuchLine));
+/// # Ok::<(), Refusal>(())
+/// ```
 pub fn write_parts(
     attributes: u16,
     name: &[u8],
@@ -72,6 +121,15 @@ pub fn write_parts(
 }
 
 /// The line reader: the parts of one LIST line with its CR LF.
+///
+/// ```
+/// use luspemaro::{read_line, Criteria, Refusal};
+///
+/// let line = read_line(b"* LIST (\\Noselect) \"/\" \"Foo\"\r\n")?;
+/// assert_eq!((line.attributes, line.name(), line.childinfo), (4, &b"Foo"[..], Criteria::NONE));
+/// assert_eq!(read_line(b"* LSUB () \"/\" \"Foo\"\r\n"), Err(Refusal::NotSuchLine));
+/// # Ok::<(), Refusal>(())
+/// ```
 pub fn read_line(line: &[u8]) -> Result<Line, Refusal> {
     let parts = raw::read_line(line);
     if let Err(refusal) = Refusal::check(parts.number) {

@@ -60,10 +60,12 @@ pub struct Record {
 /// without overlap. Bytes of the area that no name uses may hold anything.
 #[derive(Clone, Copy, Debug)]
 pub struct Records<'m> {
+    /// The rows, and spare records after them.
     pub records: &'m [Record],
     /// How many of the records are rows; those after them are spare and not looked at. More than
     /// there are records do not pass.
     pub count: usize,
+    /// The bytes among which the names lie.
     pub area: &'m [u8],
 }
 
@@ -71,8 +73,11 @@ pub struct Records<'m> {
 #[repr(C)]
 #[derive(Clone, Copy, Debug, Default, PartialEq, Eq)]
 pub struct FeederState {
+    /// Where in a command the last byte stands; from 7 on bytes are dropped.
     pub place: u8,
+    /// 0 where the last byte is no CR.
     pub cr: u8,
+    /// The number of a literal, or its bytes to come.
     pub value: usize,
     /// The command's bytes so far.
     pub size: usize,

@@ -25,10 +25,6 @@ fn starting_at(starts: [u16; COUNT]) -> [Record; 5] {
     records
 }
 
-fn number(refused: Result<(), Refusal>) -> u8 {
-    refused.expect_err("a refusal").number()
-}
-
 #[test]
 fn names_move_together() {
     let (mut records, mut area) = (RECORDS, AREA);
@@ -60,16 +56,16 @@ fn counts() {
 fn tables_that_do_not_pass() {
     for count in [4, 5, 6, 512, usize::MAX] {
         let (mut records, mut area) = (RECORDS, AREA);
-        assert_eq!(number(compact(&mut records, count, &mut area)), 1);
+        assert_eq!(compact(&mut records, count, &mut area), Err(Refusal::Table));
         assert_eq!((records, area), (RECORDS, AREA), "{count}");
     }
     for starts in [[13, 6, 5], [13, 6, 16], [1, 6, 13]] {
         let (mut records, mut area) = (starting_at(starts), AREA);
-        assert_eq!(number(compact(&mut records, COUNT, &mut area)), 1);
+        assert_eq!(compact(&mut records, COUNT, &mut area), Err(Refusal::Table));
         assert_eq!((records, area), (starting_at(starts), AREA), "{starts:?}");
     }
     let mut large = vec![b'-'; 32_769];
-    assert_eq!(number(compact(&mut [], 0, &mut large)), 1);
+    assert_eq!(compact(&mut [], 0, &mut large), Err(Refusal::Table));
     assert!(large.iter().all(|&byte| byte == b'-'));
     assert_eq!(compact(&mut [], 0, &mut large[1..]), Ok(()));
     assert!(large[1..].iter().all(|&byte| byte == 0));
@@ -81,16 +77,15 @@ fn room_after_15() {
     let (mut records, mut area) = (RECORDS, AREA);
     let line = |length: usize| format!("a SUBSCRIBE {}\r\n", "n".repeat(length));
     let subscribe = |records: &mut [Record], area: &mut [u8], length: usize| {
-        let answered = answer(records, COUNT, area, b"", line(length).as_bytes(), &mut [0; 20]);
-        answered.map_err(Refusal::number)
+        answer(records, COUNT, area, b"", line(length).as_bytes(), &mut [0; 20])
     };
     for length in [3, 7, 8] {
-        assert_eq!(subscribe(&mut records, &mut area, length), Err(15));
+        assert_eq!(subscribe(&mut records, &mut area, length), Err(Refusal::NoRoom));
     }
     assert_eq!((records, area), (RECORDS, AREA));
     assert_eq!(compact(&mut records, COUNT, &mut area), Ok(()));
     // All free bytes together are 7.
-    assert_eq!(subscribe(&mut records, &mut area, 8), Err(15));
+    assert_eq!(subscribe(&mut records, &mut area, 8), Err(Refusal::NoRoom));
     let answered = subscribe(&mut records, &mut area, 7);
     assert_eq!(answered, Ok(Answered { length: OK.len(), count: 4 }));
     assert_eq!(&area, b"MooINBOXFoonnnnnnn");

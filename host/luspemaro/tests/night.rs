@@ -68,16 +68,19 @@ fn an_answer_and_refusals() {
     let expected = [LINE, OK].concat();
     let mut lent = Lent::new();
     assert_eq!(lent.answer(command, 200).expect("an answer"), expected);
-    for (line, number) in [("a LIST (RECURSIVEMATCH) \"\" %\r\n", 7), ("a NOOP\r\n", 5), ("", 3)] {
-        let refusal = lent.answer(line.as_bytes(), 200).expect_err(line);
-        assert_eq!(refusal.number(), number, "{line}");
+    for (line, refusal) in [
+        ("a LIST (RECURSIVEMATCH) \"\" %\r\n", Refusal::RecursiveMatchAlone),
+        ("a NOOP\r\n", Refusal::Word),
+        ("", Refusal::LineShape),
+    ] {
+        assert_eq!(lent.answer(line.as_bytes(), 200), Err(refusal), "{line}");
     }
     let refusal = lent.answer(command, expected.len() - 1).expect_err("a short buffer");
-    assert_eq!(refusal.to_string(), "refused with 9");
+    assert_eq!(refusal.to_string(), "9: the answer, or the line, is longer than its buffer");
     assert!(lent.is_as_lent());
     let mut records = RECORDS;
     let past_the_area = answer(&mut records, 1, &mut [b'C'; 9], b"", command, &mut [0; 200]);
-    assert_eq!(past_the_area.expect_err("no area").number(), 1);
+    assert_eq!(past_the_area, Err(Refusal::Table));
     assert_eq!(records, RECORDS);
 }
 
@@ -85,16 +88,16 @@ fn an_answer_and_refusals() {
 #[test]
 fn edits() {
     let mut lent = Lent::new();
-    for (line, number) in [
-        ("a SUBSCRIBE \"\"\r\n", 14),
-        ("a SUBSCRIBE abc\r\n", 15),
-        ("a SUBSCRIBE ab%\r\n", 4),
-        ("a SUBSCRIBED ab\r\n", 5),
+    for (line, refusal) in [
+        ("a SUBSCRIBE \"\"\r\n", Refusal::UnlawfulName),
+        ("a SUBSCRIBE abc\r\n", Refusal::NoRoom),
+        ("a SUBSCRIBE ab%\r\n", Refusal::Grammar),
+        ("a SUBSCRIBED ab\r\n", Refusal::Word),
     ] {
-        assert_eq!(lent.answer(line.as_bytes(), 200).expect_err(line).number(), number, "{line}");
+        assert_eq!(lent.answer(line.as_bytes(), 200), Err(refusal), "{line}");
     }
-    let short = lent.answer(b"a SUBSCRIBE ab\r\n", OK.len() - 1).expect_err("a short buffer");
-    assert_eq!(short.number(), 9);
+    let short = lent.answer(b"a SUBSCRIBE ab\r\n", OK.len() - 1);
+    assert_eq!(short, Err(Refusal::ShortBuffer));
     assert!(lent.is_as_lent());
 
     assert_eq!(lent.answer(b"a SUBSCRIBE ab\r\n", 200), Ok(OK.to_vec()));
@@ -120,8 +123,8 @@ fn the_walk() {
     let (mut packed_found, mut packed_pending) = ([1; 30], [1; 30]);
     let packed = collect_packed(PACKED, 0, &mut scratch, &mut packed_found, &mut packed_pending);
     assert_eq!((packed, packed_found, packed_pending), (walked, found, pending));
-    let refusal = collect(TABLE, 4, &mut scratch, &mut found, &mut pending).expect_err("byte 4");
-    assert_eq!(refusal.number(), 6);
+    let refused = collect(TABLE, 4, &mut scratch, &mut found, &mut pending);
+    assert_eq!(refused, Err(Refusal::UnknownOption));
 }
 
 #[test]
@@ -132,7 +135,7 @@ fn lines() {
     let mut out = [0; 200];
     let length = write_line(line.attributes, line.name(), line.childinfo, &mut out);
     assert_eq!(&out[..length.expect("a line")], LINE);
-    assert_eq!(read_line(b"* LSUB () \"/\" \"x\"\r\n").expect_err("no LIST line").number(), 12);
+    assert_eq!(read_line(b"* LSUB () \"/\" \"x\"\r\n"), Err(Refusal::NotSuchLine));
 }
 
 #[test]

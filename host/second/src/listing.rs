@@ -6,7 +6,7 @@ use crate::command::{ListRequest, Return, Selection};
 use crate::line::{push_line, Attributes, Criteria, LineWord};
 use crate::name;
 use crate::pattern::{ends_in_percent, matches};
-use crate::table::{rows_below, Flags, Row};
+use crate::rows::{rows_below, Flags, Row};
 
 /// The candidates that match some pattern, with their flags. "lines ascend by name".
 pub type Matching<'t> = BTreeMap<&'t [u8], Flags>;

@@ -4,7 +4,7 @@ use crate::command::LsubRequest;
 use crate::line::{push_line, Attributes, Criteria, LineWord};
 use crate::listing::{matching_candidates, Matching};
 use crate::pattern::ends_in_percent;
-use crate::table::{rows_below, Flags, Row};
+use crate::rows::{rows_below, Flags, Row};
 
 /// The LSUB lines of a command over the rows of a table that passes: "Line word LSUB, no CHILDINFO,
 /// and no other attribute."

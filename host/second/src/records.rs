@@ -1,9 +1,9 @@
-//! Mailboxes as records beside their names (document 02, W4), and the records of a packed table.
+//! Mailboxes as records beside their names (document 02, W4).
 
 use std::ops::Range;
 
 use crate::fault::ListFault;
-use crate::table::{check_rows, split_rows, Flags, Row, MAX_TABLE, ROW_HEAD};
+use crate::rows::{check_rows, Flags, Row};
 
 /// "the area (at most 32,768 bytes)"
 pub const MAX_AREA: usize = 32_768;
@@ -90,18 +90,4 @@ impl<'t> Records<'t> {
         let pair = numbers.windows(2).find(overlap)?;
         Some((pair[0].max(pair[1]), pair[0].min(pair[1])))
     }
-}
-
-/// The records of a packed table whose rows fill it. The names stay where they lie: the packed bytes
-/// are the area, and what stands before each name is unused.
-pub fn packed_records(table: &[u8]) -> Option<Vec<Record>> {
-    let (rows, rest) = split_rows(table);
-    let mut end = 0;
-    let record = |row: &Row| {
-        let start = end + ROW_HEAD;
-        end = start + row.name.len();
-        Record { flags: row.flags.bits(), start: start as u16, len: row.name.len() as u8 }
-    };
-    let has_records = rest.is_empty() && table.len() <= MAX_TABLE;
-    has_records.then(|| rows.iter().map(record).collect())
 }

@@ -9,8 +9,9 @@ use crate::lsub::lsub_lines;
 use crate::namespaces::{checked_entries, namespace_line, Entry};
 use crate::records::RecordsMut;
 use crate::refusal::Refusal;
+use crate::rows::Row;
 use crate::subscriptions::{edited, Edited};
-use crate::table::{checked_rows, Row, Table};
+use crate::table::{checked_rows, Table};
 
 /// What comes of a command that is not refused.
 #[derive(Clone, Copy, Debug, PartialEq, Eq)]

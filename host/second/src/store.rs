@@ -1,7 +1,7 @@
 //! The records that the program keeps from the first accepted edit on (document 02, W6).
 
 use crate::records::{Record, Records, RecordsMut};
-use crate::table::{Row, MAX_ROWS};
+use crate::rows::{Row, MAX_ROWS};
 
 /// "The program keeps 512 records, names at first in row order without gaps from the start of
 /// 16,384 bytes".

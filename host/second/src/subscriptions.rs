@@ -5,9 +5,11 @@ use std::collections::BTreeMap;
 use crate::command::{Edit, EditRequest};
 use crate::fault::{EditFault, LineFault};
 use crate::name;
-use crate::records::{packed_records, Record, Records, RecordsMut};
+use crate::packed::packed_records;
+use crate::records::{Record, Records, RecordsMut};
 use crate::refusal::Refusal;
-use crate::table::{Flags, Table, MAX_ROWS};
+use crate::rows::{Flags, MAX_ROWS};
+use crate::table::Table;
 
 /// What an accepted edit leaves, decided before anything is changed.
 pub struct Edited {

@@ -6,7 +6,9 @@ use second::fault::{EditFault, Fault, LineFault, ListFault, RoomFault};
 use second::frames::{hex_of, Answer, Frame, Program};
 use second::name;
 use second::namespaces::entry_at;
-use second::table::{checked_rows, row_at, Flags};
+use second::packed::row_at;
+use second::rows::Flags;
+use second::table::checked_rows;
 use second::{Refusal, Table};
 
 use crate::item::Sent;

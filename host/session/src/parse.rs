@@ -4,7 +4,7 @@ use second::frames::Frame;
 use second::line::CRLF;
 use second::namespaces::Entry;
 use second::quoted::{push_quoted, read_quoted};
-use second::table::Row;
+use second::rows::Row;
 use second::Refusal;
 
 use crate::item::Origin;

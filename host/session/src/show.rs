@@ -7,7 +7,8 @@ use child::SentFrame;
 use second::frames::{hex_of, Frame};
 use second::line::{read_line, CRLF};
 use second::namespaces::{split_entries, Entry};
-use second::table::{split_rows, Row};
+use second::packed::split_rows;
+use second::rows::Row;
 use second::Refusal;
 
 use crate::reply::Reply;

@@ -1,7 +1,7 @@
 //! The words of a session file for flags, classes of namespaces and options of a walk.
 
 use second::collector::{OPTION_REMOTE, OPTION_SPECIAL_USE, OPTION_WITHOUT_SUBSCRIBED};
-use second::table::Flags;
+use second::rows::Flags;
 
 /// Words, each with the bits that it stands for.
 type Words = [(&'static str, u16)];

@@ -1,11 +1,11 @@
--- `server::answer_words` meets its contract: refusals 1 and 2, an edit, or what `respond` gives. By AnswerLaws; the index by Inputs.
+-- `server::answer_words` meets its contract: refusals 1 and 2, an edit, or what `respond` gives. By AnswerLaws; the index by HeldLaws of mailbox_table.
 use mathlib.Core.Path.{_≡_, sym, ap, _∙_}
 use lib.ListN.{length, take}
 use borrow.Author.Tests.{not-true, not-false}
 use mathlib.Core.Bool.{true}
 use Rattle.listing_rules.specs.Table.{passes}
 use Rattle.records.specs.Lent.{wordTable}
-use Rattle.server.proofs.Inputs.{index-fails, index-passes, Known, index-rows}
+use Rattle.mailbox_table.proofs.HeldLaws.{Held, index-held, index-refused}
 use Rattle.server.proofs.AnswerLaws.{front-size, front-inside, front-passes, refused-1, refused-2, read-only, edited-front}
 use borrow.Author.Needs.{needs}
 use Rattle.server.proofs.answer_words.Statement.{statement}
@@ -20,18 +20,17 @@ returns c =
     let indexed = c .before .before .before .before in
     let counted = indexed .before .before .before .before in
     let a = counted .before .before .before .before .before .before .before .args in
-    let fails = index-fails (indexed .index-words .ensures) (ap length (counted .before .no-words .ensures)) (c .before .enum-told .given .1) in
+    let fails = index-refused (indexed .index-words .ensures) (ap length (counted .before .no-words .ensures)) (c .before .enum-told .given .1) in
     refused-1 (a .words .now) (a .lent) (a .count) (a .area .now) (a .namespaces .now) (a .line .now) (a .out .now) (counted .least .result) (counted .least .ensures) (c .unchanged .result) fails (c .unchanged .ensures)
 
 -- the rows, where they are found
-known : (c : tie.After-m) → Known (c .before .before .before .index-words .ensures)
-    (ap length (c .before .before .before .before .before .before .before .before .no-words .ensures)) (c .m .given .0 .0)
-known c = index-rows (c .before .before .before .index-words .ensures) (ap length (c .before .before .before .before .before .before .before .before .no-words .ensures)) (c .m .given .0 .0) (c .m .given .1)
+known : (c : tie.After-m) → Held (c .before .before .before .index-words .ensures) (c .m .given .0 .0)
+known c = index-held (c .before .before .before .index-words .ensures) (c .m .given .0 .0) (c .m .given .1)
 
 -- so the table passes
 passed : (c : tie.After-m) → let counted = c .before .before .before .before .before .before .before in
     let a = counted .before .before .before .before .before .before .before .args in passes (wordTable (a .area .now) (take (counted .least .result) (a .words .now)) (a .count)) ≡ true
-passed c = index-passes (c .before .before .before .index-words .ensures) (ap length (c .before .before .before .before .before .before .before .before .no-words .ensures)) (c .m .given .0 .0) (c .m .given .1)
+passed c = known c .table-passes
 
 returns-2 : tie.Need-returns-2
 returns-2 c =

@@ -11,10 +11,9 @@ use std::env;
 use std::process::ExitCode;
 
 use compare::library::{Group, Tally, GROUPS};
+use compare::wrong_call;
 
 const USAGE: &str = "usage: compare-library [--group TEXT] [--least N]";
-/// Status for what is wrong with the call.
-const BAD_CALL: u8 = 2;
 /// Comparisons of a group that goes on seed by seed.
 const LEAST: u64 = 100_000;
 
@@ -26,10 +25,7 @@ struct Call {
 fn main() -> ExitCode {
     let call = match read_call() {
         Ok(call) => call,
-        Err(message) => {
-            eprintln!("{message}");
-            return ExitCode::from(BAD_CALL);
-        }
+        Err(message) => return wrong_call(&message),
     };
     let (mut passed, mut failed) = (0, 0);
     for (name, compare) in call.groups {

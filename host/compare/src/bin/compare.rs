@@ -11,11 +11,9 @@ use std::path::PathBuf;
 use std::process::ExitCode;
 
 use child::find_program;
-use compare::{compare_session, kinds, Kind};
+use compare::{compare_session, kinds, wrong_call, Kind};
 
 const USAGE: &str = "usage: compare PROGRAM [--kind NAME] [--seeds A..B] [--quick]";
-/// Status for what is wrong with the call.
-const BAD_CALL: u8 = 2;
 /// The seeds of each kind, in a whole run and in a quick one.
 const SEEDS: Range<u64> = 0..800;
 const QUICK_SEEDS: Range<u64> = 0..160;
@@ -31,10 +29,7 @@ struct Call {
 fn main() -> ExitCode {
     let call = match read_call() {
         Ok(call) => call,
-        Err(message) => {
-            eprintln!("{message}");
-            return ExitCode::from(BAD_CALL);
-        }
+        Err(message) => return wrong_call(&message),
     };
     match compare_all(&call, io::stdout().lock()) {
         Ok(0) => ExitCode::SUCCESS,

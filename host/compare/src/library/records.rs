@@ -3,7 +3,7 @@
 use std::ops::RangeInclusive;
 
 use second::records::{Record, MAX_AREA};
-use second::table::{Flags, MAX_ROWS};
+use second::rows::{Flags, MAX_ROWS};
 
 use super::answers::{answer_in_rooms, answer_over};
 use super::compared::Compared;

@@ -1,6 +1,7 @@
 //! The two checks.
 
-use second::table::{Flags, MAX_ROWS, MAX_TABLE};
+use second::packed::MAX_TABLE;
+use second::rows::{Flags, MAX_ROWS};
 use session::show_namespaces;
 
 use super::both::{Lent, CHECK_NAMESPACES, CHECK_TABLE, PROVED, SECOND};

@@ -1,13 +1,14 @@
 //! What the tables for compactions reach (document 02, W7), and what the second program makes of them.
 
-use std::collections::BTreeMap;
-
 use compare::compactions::{free_bytes, name_near_the_room, some_table};
 use compare::edits::free_runs;
 use compare::random::Random;
 use second::records::MAX_AREA;
-use second::table::{checked_rows, MAX_ROWS};
+use second::rows::MAX_ROWS;
+use second::table::checked_rows;
 use second::{answer, compact, Refusal, Store, Table};
+
+use crate::reached::Reached;
 
 const SEEDS: u64 = 1_000;
 
@@ -61,27 +62,24 @@ fn rows_of(table: &Store) -> Vec<(u16, Vec<u8>)> {
 
 #[test]
 fn what_the_tables_reach() {
-    let mut reached: BTreeMap<&str, usize> = BTreeMap::new();
+    let mut reached = Reached::default();
     for seed in 0..SEEDS {
         let mut random = Random::of("library: compactions", seed);
         let (before, _) = some_table(&mut random);
         let mut after = before.clone();
         if after.lend(compact).is_err() {
             assert!(before == after, "seed {seed}");
-            *reached.entry("refused with 1").or_default() += 1;
+            reached.add("refused with 1");
             continue;
         }
         assert_eq!(rows_of(&before), rows_of(&after), "seed {seed}");
         let runs = free_runs(&after);
         assert!(runs.len() <= 1 && runs.iter().all(|run| run.end == after.area.len()));
         assert!(runs.into_iter().flatten().all(|at| after.area[at] == 0), "seed {seed}");
-        let kinds =
-            kinds_of(&before, &after).into_iter().filter_map(|(kind, is)| is.then_some(kind));
-        for kind in kinds.chain([insertion(&mut random, &before, &after)]) {
-            *reached.entry(kind).or_default() += 1;
-        }
+        reached.add_held(kinds_of(&before, &after));
+        reached.add(insertion(&mut random, &before, &after));
     }
-    for (what, least) in [
+    reached.check(&[
         ("refused with 1", 100),
         ("no free byte", 30),
         ("one run", 30),
@@ -101,8 +99,5 @@ fn what_the_tables_reach() {
         ("15 before and after", 200),
         ("15 before alone", 150),
         ("done before and after", 150),
-    ] {
-        let times = reached.get(what).copied().unwrap_or(0);
-        assert!(times >= least, "{what}: {times}\n{reached:#?}");
-    }
+    ]);
 }

@@ -6,7 +6,7 @@ use std::process::Command;
 use compare::random::Random;
 use compare::{compare_session, kinds};
 
-use crate::second;
+use crate::common::second;
 
 const COMPARE: &str = env!("CARGO_BIN_EXE_compare");
 /// A program that answers each frame with the frame.

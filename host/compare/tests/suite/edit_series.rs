@@ -1,13 +1,13 @@
 //! What series of calls over lent records reach (document 02, W6).
 
-use std::collections::BTreeMap;
-
 use compare::edit_series::{some_call, some_table, Call, Command};
 use compare::edits::free_runs;
 use compare::random::Random;
 use second::records::MAX_AREA;
-use second::table::MAX_ROWS;
+use second::rows::MAX_ROWS;
 use second::{answer, Refusal, Store};
+
+use crate::reached::Reached;
 
 const SEEDS: u64 = 1_500;
 const CALLS: usize = 40;
@@ -46,33 +46,27 @@ fn insertion(before: &Store, after: &Store) -> &'static str {
 
 #[test]
 fn what_the_series_reach() {
-    let mut reached: BTreeMap<String, usize> = BTreeMap::new();
-    let mut count = |what: &str| *reached.entry(what.to_string()).or_default() += 1;
+    let mut reached = Reached::default();
     for seed in 0..SEEDS {
         let mut random = Random::of("library: edits", seed);
         let (mut table, mut names) = some_table(&mut random);
         for _ in 0..CALLS {
             match some_call(&mut random, &table, &mut names) {
-                Call::Walk(_) => count("a walk"),
+                Call::Walk(_) => reached.add("a walk"),
                 Call::Answer(command) => {
-                    count(&outcome(&mut table, &command));
-                    if command.count > table.records.len() {
-                        count("a count above the records");
-                    }
+                    reached.add(outcome(&mut table, &command));
+                    let is_above = command.count > table.records.len();
+                    reached.add_held([("a count above the records", is_above)]);
                 }
             }
         }
-        for (what, holds) in [
+        reached.add_held([
             ("512 rows", table.count == MAX_ROWS),
             ("the largest area", table.area.len() == MAX_AREA),
             ("no spare record", table.count == table.records.len()),
-        ] {
-            if holds {
-                count(what);
-            }
-        }
+        ]);
     }
-    for (what, least) in [
+    reached.check(&[
         ("refused with 1", 800),
         ("refused with 2", 50),
         ("refused with 3", 20),
@@ -94,8 +88,5 @@ fn what_the_series_reach() {
         ("512 rows", 30),
         ("the largest area", 10),
         ("no spare record", 100),
-    ] {
-        let times = reached.get(what).copied().unwrap_or(0);
-        assert!(times >= least, "{what}: {times}\n{reached:#?}");
-    }
+    ]);
 }

@@ -1,13 +1,12 @@
 //! Explanations on generated damage: what is refused with 1 to 8 or 13 to 15 is explained, and
 //! nothing else is.
 
-use std::collections::BTreeMap;
-
 use child::sender_of;
 use compare::kinds;
 use session::{run_session, Form, Session, Source};
 
-use crate::second;
+use crate::common::second;
+use crate::reached::Reached;
 
 /// Kinds of sessions with something wrong in them.
 const DAMAGED: [&str; 9] = [
@@ -39,8 +38,7 @@ fn text_of(kind: &str, seed: u64) -> String {
 
 #[test]
 fn refusals_are_explained_and_answers_are_not() {
-    let mut refused: BTreeMap<u8, usize> = BTreeMap::new();
-    let mut answered = 0;
+    let mut reached = Reached::default();
     for kind in DAMAGED {
         for seed in 0..SEEDS {
             let text = text_of(kind, seed);
@@ -53,15 +51,11 @@ fn refusals_are_explained_and_answers_are_not() {
                 let number = number.map(|number| number.parse().expect("a number"));
                 let is_due = number.is_some_and(|number| !ROOMS.contains(&number));
                 assert_eq!(is_explained, is_due, "{kind}, seed {seed}: {line}\n{text}");
-                answered += usize::from(line.starts_with("Answer"));
-                if let Some(number) = number {
-                    *refused.entry(number).or_default() += 1;
-                }
+                reached.add_held([("answered", line.starts_with("Answer"))]);
+                number.into_iter().for_each(|number: u8| reached.add(number.to_string()));
             }
         }
     }
-    for number in [1, 2, 3, 4, 13, 14, 15] {
-        assert!(refused.get(&number).is_some_and(|&count| count > 20), "{number}: {refused:?}");
-    }
-    assert!(answered > 100, "{answered}");
+    reached.check(&["1", "2", "3", "4", "13", "14", "15"].map(|number| (number, 21)));
+    reached.check(&[("answered", 101)]);
 }

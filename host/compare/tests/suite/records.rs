@@ -1,13 +1,13 @@
 //! The generator of records: what it lays out passes, and it breaks every rule, often by one cause
 //! alone.
 
-use std::collections::BTreeMap;
-
 use compare::random::Random;
 use compare::records::{in_place, laid_out, overlapping, some_layout, Layout};
-use compare::tables::{good_table, table_bytes};
+use compare::tables::{good_table, table_bytes, NewRow};
 use second::table::checked_rows;
 use second::{check_table, Table};
+
+use crate::reached::Reached;
 
 const SEEDS: std::ops::Range<u64> = 0..4_000;
 const OVERLAP: &str = "names do not overlap";
@@ -15,6 +15,17 @@ const OVERLAP: &str = "names do not overlap";
 /// The rule that a layout breaks, or what passes is said to break none.
 fn rule_of(layout: &Layout) -> &'static str {
     checked_rows(Table::Records(layout.as_records())).map_or_else(|fault| fault.rule, |_| "none")
+}
+
+/// The rules that the layouts of one generator break, over so many rows each.
+fn rules_of(name: &str, count: usize, generator: fn(&mut Random, &[NewRow]) -> Layout) -> Reached {
+    let mut rules = Reached::default();
+    for seed in SEEDS {
+        let mut random = Random::of(name, seed);
+        let rows = good_table(&mut random, count);
+        rules.add(rule_of(&generator(&mut random, &rows)));
+    }
+    rules
 }
 
 #[test]
@@ -40,25 +51,14 @@ fn lawful_layouts_pass() {
 /// Names that share bytes are refused for that alone; those side by side pass.
 #[test]
 fn overlaps_are_the_only_cause() {
-    let mut rules: BTreeMap<&str, usize> = BTreeMap::new();
-    for seed in SEEDS {
-        let mut random = Random::of("overlapping names", seed);
-        let rows = good_table(&mut random, 6);
-        *rules.entry(rule_of(&overlapping(&mut random, &rows))).or_default() += 1;
-    }
-    let share = |rule: &str| rules.get(rule).copied().unwrap_or(0) * 100 / SEEDS.end as usize;
+    let rules = rules_of("overlapping names", 6, overlapping);
+    let share = |rule: &str| rules.times(rule) * 100 / SEEDS.end as usize;
     assert!(share(OVERLAP) > 80 && share("none") > 2, "{rules:?}");
 }
 
 #[test]
 fn every_rule_is_broken() {
-    let mut rules: BTreeMap<&str, usize> = BTreeMap::new();
-    for seed in SEEDS {
-        let mut random = Random::of("layouts", seed);
-        let rows = good_table(&mut random, 12);
-        *rules.entry(rule_of(&some_layout(&mut random, &rows))).or_default() += 1;
-    }
-    for rule in [
+    let broken = [
         "none",
         OVERLAP,
         "names lie inside the area",
@@ -71,7 +71,6 @@ fn every_rule_is_broken() {
         "bits 7 and 15 of the flags must be 0",
         "no level of a name is empty",
         "no row lies below a row with no inferiors",
-    ] {
-        assert!(rules.get(rule).is_some_and(|&count| count > 9), "{rule}: {rules:?}");
-    }
+    ];
+    rules_of("layouts", 12, some_layout).check(&broken.map(|rule| (rule, 10)));
 }

@@ -10,9 +10,20 @@ const SEEDS: std::ops::Range<u64> = 0..2_000;
 /// Of every cause.
 const REFUSED: Event = Event::Refused(Refusal::LineShape);
 
-/// What a feeder may get wrong.
-#[derive(Clone, Copy, Debug, PartialEq)]
-enum Mistake {
+/// Each mistake once: the kind, and the list of all.
+macro_rules! mistakes {
+    ($($(#[$what:meta])* $name:ident,)*) => {
+        /// What a feeder may get wrong.
+        #[derive(Clone, Copy, Debug, PartialEq)]
+        enum Mistake {
+            $($(#[$what])* $name,)*
+        }
+
+        const MISTAKES: &[Mistake] = &[$(Mistake::$name),*];
+    };
+}
+
+mistakes! {
     LineOneShorter,
     LineOneLonger,
     LiteralOneShorter,
@@ -52,33 +63,6 @@ enum Mistake {
 }
 
 use Mistake::*;
-
-const MISTAKES: [Mistake; 24] = [
-    LineOneShorter,
-    LineOneLonger,
-    LiteralOneShorter,
-    LiteralOneLonger,
-    LengthAnnounced,
-    HeadersNotCounted,
-    ZeroInLiteral,
-    CrBeforeForgotten,
-    OffendingForgotten,
-    LiteralCrForgotten,
-    RefusedTwice,
-    DroppedAfterN,
-    CrOfLiteral,
-    HeaderFromLiteral,
-    NoDigits,
-    OtherSigns,
-    HeaderAnywhere,
-    NotInQuotes,
-    WrongAtThirtyTwoBits,
-    WrongAtSixtyFourBits,
-    NoContinuationForZero,
-    LoneLf,
-    EmptyChunk,
-    CutCrLf,
-];
 
 /// A feeder that goes from byte to byte and never looks back further than the line.
 #[derive(Clone, Debug, PartialEq)]
@@ -252,7 +236,7 @@ fn the_second_feeder_cut_otherwise_passes() {
 
 #[test]
 fn every_mistake_is_told() {
-    for mistake in MISTAKES {
+    for &mistake in MISTAKES {
         let difference = compare(Some(mistake)).expect_err(&format!("{mistake:?} is not told"));
         assert!(difference.starts_with("stream "), "{difference}");
         assert!(difference.contains("The second program's feeder\n"), "{difference}");

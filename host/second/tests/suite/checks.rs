@@ -2,7 +2,7 @@
 
 use second::{check_namespaces, check_table, Table};
 
-use crate::common::{check, rows_pass, table_of};
+use crate::common::{check, check_with, rows_pass, table_of};
 
 const EXISTS: &str = "exists";
 
@@ -172,15 +172,15 @@ fn order_of_the_checks() {
     let bad_rows = [("a//b", EXISTS)];
     let bad_entries = [(3, "", None)];
     for command in ["a NAMESPACE", "a LIST \"\" *", "", "a NOOP"] {
-        check(&bad_rows, &bad_entries, &[(command, Err(1))]);
-        check(&bad_rows, &[], &[(command, Err(1))]);
-        check(&[], &bad_entries, &[(command, Err(2))]);
+        check_with(&bad_rows, &bad_entries, &[(command, Err(1))]);
+        check(&bad_rows, &[(command, Err(1))]);
+        check_with(&[], &bad_entries, &[(command, Err(2))]);
     }
 }
 
 #[test]
 fn escapes_in_namespaces() {
-    check(
+    check_with(
         &[],
         &[(1, "a\"b\\", Some(b'"')), (1, "%", Some(b'\\')), (2, "", None)],
         &[(

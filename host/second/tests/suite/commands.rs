@@ -2,7 +2,7 @@
 
 use second::{answer_reading, Refusal, Table};
 
-use crate::common::{check, Exchange, Rows};
+use crate::common::{check, check_rooms, Exchange, Rows};
 
 const ONE_ROW: &Rows = &[("x", "exists")];
 const NO_LINES: Result<&[&str], u8> = Ok(&["a OK done"]);
@@ -36,7 +36,6 @@ fn line_shapes() {
 fn tags_and_words() {
     check(
         ONE_ROW,
-        &[],
         &[
             ("a", Err(4)),
             (" LIST \"\" x", Err(4)),
@@ -73,7 +72,7 @@ fn tags_and_words() {
 
 #[test]
 fn references_and_patterns() {
-    check(ONE_ROW, &[], REFERENCES_AND_PATTERNS);
+    check(ONE_ROW, REFERENCES_AND_PATTERNS);
 }
 
 const REFERENCES_AND_PATTERNS: &[Exchange] = &[
@@ -119,7 +118,6 @@ const REFERENCES_AND_PATTERNS: &[Exchange] = &[
 fn options() {
     check(
         ONE_ROW,
-        &[],
         &[
             ("a LIST () \"\" x", X_LISTED),
             ("a LIST ( ) \"\" x", Err(4)),
@@ -171,13 +169,13 @@ fn option_values() {
         (" (a )", 4),
     ];
     for (value, number) in values {
-        check(ONE_ROW, &[], &[(&with_value(value), Err(number))]);
+        check(ONE_ROW, &[(&with_value(value), Err(number))]);
     }
     for depth in [100, 1_000] {
         let deep = format!(" {}a{}", "(".repeat(depth), ")".repeat(depth));
-        check(ONE_ROW, &[], &[(&with_value(&deep), Err(6))]);
+        check(ONE_ROW, &[(&with_value(&deep), Err(6))]);
         let unclosed = format!(" {}a{}", "(".repeat(depth), ")".repeat(depth - 1));
-        check(ONE_ROW, &[], &[(&with_value(&unclosed), Err(4))]);
+        check(ONE_ROW, &[(&with_value(&unclosed), Err(4))]);
     }
 }
 
@@ -186,7 +184,6 @@ fn option_values() {
 fn order_of_refusals() {
     check(
         ONE_ROW,
-        &[],
         &[
             ("a NOOP (", Err(5)),
             ("a LIST (FOO) \"\" x RETURN (", Err(4)),
@@ -207,7 +204,6 @@ fn canonical_lengths() {
     let escaped = |count| format!("\"{}\"", "\\\\".repeat(count));
     check(
         ONE_ROW,
-        &[],
         &[
             (&format!("a LIST {} \"\"", r(300)), ROOT),
             (&format!("a LIST {} (\"\" \"\")", r(300)), NO_LINES),
@@ -221,19 +217,7 @@ fn canonical_lengths() {
     );
 }
 
-/// "9: the whole answer, tagged line included; equal length fits."
 #[test]
 fn short_buffers() {
-    let line = b"a LIST \"\" \"\"\r\n";
-    let whole = answer_reading(Table::EMPTY, &[], line, &mut [0; 100]).expect("an answer");
-    for room in 0..=whole + 1 {
-        let mut out = vec![b'.'; room];
-        let result = answer_reading(Table::EMPTY, &[], line, &mut out);
-        if room < whole {
-            assert_eq!((result, out), (Err(Refusal::AnswerRoom), vec![b'.'; room]));
-        } else {
-            assert_eq!(result, Ok(whole));
-            assert_eq!(out[whole..], vec![b'.'; room - whole]);
-        }
-    }
+    check_rooms(&[], "a LIST \"\" \"\"", ROOT.expect("an answer"));
 }

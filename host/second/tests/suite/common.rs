@@ -1,8 +1,8 @@
 //! Set-ups, exchanges and walks as data, and the checks of them.
 
 use second::namespaces::Entry;
-use second::records::packed_records;
-use second::table::{Flags, Row};
+use second::packed::packed_records;
+use second::rows::{Flags, Row};
 use second::{
     answer, answer_reading, check_table, collect, frames, Record, Records, Refusal, Store, Table,
 };
@@ -94,20 +94,30 @@ pub fn rows_pass(rows: &Rows) -> bool {
 
 /// Checks a dialogue as the RFCs print it: commands behind `C:`, the lines of their answers
 /// behind `S:`.
-pub fn check_dialogue(rows: &Rows, entries: &Entries, dialogue: &str) {
+pub fn check_dialogue(rows: &Rows, dialogue: &str) {
+    check_dialogue_with(rows, &[], dialogue);
+}
+
+/// The same with a namespace list.
+pub fn check_dialogue_with(rows: &Rows, entries: &Entries, dialogue: &str) {
     let lines: Vec<&str> =
         dialogue.lines().map(str::trim).filter(|line| !line.is_empty()).collect();
     let is_either = |line: &&str| line.starts_with("C: ") || line.starts_with("S: ");
     assert!(!lines.is_empty() && lines.iter().all(is_either), "not a dialogue");
     for exchange in lines.chunk_by(|_, line| line.starts_with("S: ")) {
         let text: Vec<&str> = exchange.iter().map(|line| &line[3..]).collect();
-        check(rows, entries, &[(text[0], Ok(&text[1..]))]);
+        check_with(rows, entries, &[(text[0], Ok(&text[1..]))]);
     }
 }
 
-/// Runs each command, no edit, over every form of the same table and the same list, and checks its
-/// answer, the bytes behind it, and on refusal every byte of the buffer. Records stay as they are.
-pub fn check(rows: &Rows, entries: &Entries, exchanges: &[Exchange]) {
+/// Runs each command, no edit, over every form of the same table, and checks its answer, the bytes
+/// behind it, and on refusal every byte of the buffer. Records stay as they are.
+pub fn check(rows: &Rows, exchanges: &[Exchange]) {
+    check_with(rows, &[], exchanges);
+}
+
+/// The same with a namespace list.
+pub fn check_with(rows: &Rows, entries: &Entries, exchanges: &[Exchange]) {
     let namespaces: Vec<u8> = entries.iter().flat_map(entry_bytes).collect();
     let forms = Forms::of(rows);
     for table in forms.tables() {
@@ -121,6 +131,27 @@ pub fn check(rows: &Rows, entries: &Entries, exchanges: &[Exchange]) {
             Ok(answered.length)
         });
         assert_eq!(store, before);
+    }
+}
+
+/// "9: the whole answer, tagged line included; equal length fits." Runs a command over every form of a
+/// table, in buffers of every length up to one more than that of its answer, given by its lines.
+pub fn check_rooms(rows: &Rows, command: &str, lines: &[&str]) {
+    let expected: String = lines.iter().map(|line| format!("{line}\r\n")).collect();
+    let line = format!("{command}\r\n");
+    for room in 0..=expected.len() + 1 {
+        let (result, written) = if room < expected.len() {
+            (Err(Refusal::AnswerRoom), "")
+        } else {
+            (Ok(expected.len()), expected.as_str())
+        };
+        for table in Forms::of(rows).tables() {
+            let mut out = vec![FILL; room];
+            assert_eq!(answer_reading(table, &[], line.as_bytes(), &mut out), result, "{command}");
+            let (text, behind) = out.split_at(written.len());
+            assert_eq!(text, written.as_bytes(), "{command}");
+            assert!(behind.iter().all(|&byte| byte == FILL), "{command}: bytes behind changed");
+        }
     }
 }
 

@@ -2,11 +2,11 @@
 //! of the area, and what is answered before and after.
 
 use second::records::MAX_AREA;
-use second::table::MAX_ROWS;
+use second::rows::MAX_ROWS;
 use second::{collect, compact, Record, Refusal, Store, Table};
 
 use crate::common::{Numbers, FILL};
-use crate::subscriptions::{full, row, rows_of, run, run_in, store, tree};
+use crate::stores::{full, row, rows_of, run, run_in, store, tree};
 
 /// More than any answer here.
 const ROOM: usize = 4_000;

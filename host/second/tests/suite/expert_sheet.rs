@@ -19,7 +19,6 @@ const ROOM: usize = 4_096;
 fn e1_recursive_match_at_the_top() {
     check_dialogue(
         TABLE_E,
-        &[],
         r#"
         C: C04 LIST (SUBSCRIBED RECURSIVEMATCH) "" "%"
         S: * LIST (\NonExistent) "/" "Foo" ("CHILDINFO" ("SUBSCRIBED"))
@@ -32,7 +31,6 @@ fn e1_recursive_match_at_the_top() {
 fn e2_recursive_match_everywhere() {
     check_dialogue(
         TABLE_E,
-        &[],
         r#"
         C: C04 LIST (SUBSCRIBED RECURSIVEMATCH) "" "*"
         S: * LIST (\Subscribed) "/" "Foo/Baz"
@@ -45,7 +43,6 @@ fn e2_recursive_match_everywhere() {
 fn e3_children() {
     check_dialogue(
         TABLE_E,
-        &[],
         r#"
         C: a LIST "" % RETURN (CHILDREN)
         S: * LIST (\NonExistent \HasChildren) "/" "Foo"
@@ -61,7 +58,6 @@ fn e3_children() {
 fn e4_inbox_in_any_case() {
     check_dialogue(
         TABLE_E,
-        &[],
         r#"
         C: a LIST "" "in%"
         S: * LIST (\Marked \NoInferiors) "/" "INBOX"
@@ -82,7 +78,6 @@ fn e5_walks() {
 fn e6_empty_patterns() {
     check_dialogue(
         TABLE_E,
-        &[],
         r#"
         C: a LIST "" ""
         S: * LIST (\Noselect) "/" ""
@@ -97,7 +92,6 @@ fn e6_empty_patterns() {
 fn e7_recursive_match_beside_what() {
     check(
         TABLE_E,
-        &[],
         &[
             (r#"a LIST (RECURSIVEMATCH REMOTE) "" "%""#, Err(7)),
             (r#"a LIST (RECURSIVEMATCH FOO) "" "%""#, Err(6)),
@@ -109,7 +103,6 @@ fn e7_recursive_match_beside_what() {
 fn e8_numbers_of_patterns() {
     check(
         TABLE_E,
-        &[],
         &[
             ("a LIST \"\" (1 2 3 4 5 6 7 8)", Ok(&["a OK done"])),
             ("a LIST \"\" (1 2 3 4 5 6 7 8 9)", Err(8)),
@@ -123,7 +116,7 @@ fn e8_lengths_of_canonical_patterns() {
         let (reference, pattern) = ("r".repeat(100), "p".repeat(length - 100));
         format!("a LIST {reference} {pattern}")
     });
-    check(TABLE_E, &[], &[(&longest, Ok(&["a OK done"])), (&too_long, Err(8))]);
+    check(TABLE_E, &[(&longest, Ok(&["a OK done"])), (&too_long, Err(8))]);
 }
 
 #[test]
@@ -135,7 +128,7 @@ fn e8_lengths_of_names() {
         let line = format!("* LIST () \"/\" \"{name}\"");
         let listed = [line.as_str(), "a OK done"];
         let expected: Result<&[&str], u8> = if passes { Ok(&listed) } else { Err(1) };
-        check(&rows, &[], &[("a LIST \"\" *", expected)]);
+        check(&rows, &[("a LIST \"\" *", expected)]);
     }
 }
 

@@ -3,7 +3,8 @@
 use second::fault::{EditFault, Fault, LineFault, ListFault, RoomFault};
 use second::frames::{hex_of, Program, COMMAND, ROW, TABLE_ROOM, WALK};
 use second::namespaces::checked_entries;
-use second::table::{checked_rows, row_at};
+use second::packed::row_at;
+use second::table::checked_rows;
 use second::{Record, Records, Refusal, Store, Table};
 
 use crate::common::{table_of, Rows};

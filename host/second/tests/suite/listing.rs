@@ -1,9 +1,7 @@
 //! What is listed, beside the RFCs' examples: implied names, remote names, order, attributes, and
 //! the levels of W1 (document 02).
 
-use second::{answer_reading, Refusal, Table};
-
-use crate::common::{check_dialogue, table_of, Rows};
+use crate::common::{check_dialogue, check_rooms, Rows};
 
 /// The implied Foo stands before Foo-x, and Foo-x is no descendant of Foo.
 #[test]
@@ -16,7 +14,6 @@ fn implied_names_in_order() {
     ];
     check_dialogue(
         &rows,
-        &[],
         r#"
         C: a LIST (SUBSCRIBED RECURSIVEMATCH) "" % RETURN (CHILDREN)
         S: * LIST (\NonExistent \HasNoChildren) "/" "Foo" ("CHILDINFO" ("SUBSCRIBED"))
@@ -39,7 +36,6 @@ fn recursive_match_with_several_patterns() {
     let rows = [("a", "exists"), ("a/b", "exists subscribed"), ("a/c", "exists subscribed")];
     check_dialogue(
         &rows,
-        &[],
         r#"
         C: a LIST (SUBSCRIBED RECURSIVEMATCH) "" (a a/b)
         S: * LIST () "/" "a" ("CHILDINFO" ("SUBSCRIBED"))
@@ -64,7 +60,6 @@ fn remote_names() {
     ];
     check_dialogue(
         &rows,
-        &[],
         r#"
         C: a LIST (SUBSCRIBED RECURSIVEMATCH) "" %
         S: * LIST (\Remote \Subscribed) "/" "far" ("CHILDINFO" ("SUBSCRIBED"))
@@ -92,7 +87,6 @@ fn every_attribute() {
     ];
     check_dialogue(
         &rows,
-        &[],
         r#"
         C: a LIST (REMOTE) "" * RETURN (SUBSCRIBED CHILDREN SPECIAL-USE)
         S: * LIST (\Marked \Noselect \NoInferiors \Remote \Subscribed \All \Archive) "/" "a"
@@ -117,7 +111,6 @@ fn inbox_spellings() {
     let rows = [("INBOX/x", "exists subscribed"), ("inboxx", "exists")];
     check_dialogue(
         &rows,
-        &[],
         r#"
         C: a LIST (SUBSCRIBED RECURSIVEMATCH) in box
         S: * LIST (\NonExistent) "/" "INBOX" ("CHILDINFO" ("SUBSCRIBED"))
@@ -137,7 +130,6 @@ fn inbox_spellings() {
 fn quotes_and_backslashes() {
     check_dialogue(
         &[("a\"b", "exists"), ("a\\b", "exists"), ("c d", "exists")],
-        &[],
         r#"
         C: a LIST "" *
         S: * LIST () "/" "a\"b"
@@ -166,7 +158,6 @@ const LEVELS: &Rows = &[
 fn levels_under_a_final_percent() {
     check_dialogue(
         LEVELS,
-        &[],
         r#"
         C: a LIST "" %
         S: * LIST (\NonExistent \HasChildren) "/" "P"
@@ -205,7 +196,6 @@ fn levels_under_a_final_percent() {
 fn levels_under_other_patterns() {
     check_dialogue(
         LEVELS,
-        &[],
         r#"
         C: a LIST "" (T* P x%)
         S: * LIST () "/" "T/u/v"
@@ -232,7 +222,6 @@ fn levels_under_other_patterns() {
 fn levels_and_options() {
     check_dialogue(
         LEVELS,
-        &[],
         r#"
         C: a LIST (REMOTE) "" %
         S: * LIST (\NonExistent \HasChildren) "/" "P"
@@ -267,7 +256,6 @@ fn levels_and_options() {
 fn an_implied_inbox() {
     check_dialogue(
         &[("INBOX/inbox/x", "exists"), ("inboxx/y", "exists")],
-        &[],
         r#"
         C: a LIST "" in%
         S: * LIST (\NonExistent \HasChildren) "/" "INBOX"
@@ -287,16 +275,6 @@ fn an_implied_inbox() {
 /// 9 counts the lines of W1 too.
 #[test]
 fn levels_count_for_the_buffer() {
-    let table = table_of(&[("b/c", "exists")]);
-    let expected = b"* LIST (\\NonExistent \\HasChildren) \"/\" \"b\"\r\na OK done\r\n";
-    for (room, result) in
-        [(expected.len(), Ok(expected.len())), (expected.len() - 1, Err(Refusal::AnswerRoom))]
-    {
-        let mut out = vec![0; room];
-        assert_eq!(
-            answer_reading(Table::Packed(&table), &[], b"a LIST \"\" %\r\n", &mut out),
-            result
-        );
-        assert_eq!(out == expected, result.is_ok());
-    }
+    let lines = ["* LIST (\\NonExistent \\HasChildren) \"/\" \"b\"", "a OK done"];
+    check_rooms(&[("b/c", "exists")], "a LIST \"\" %", &lines);
 }

@@ -1,8 +1,8 @@
 //! LSUB (document 02, W5), beside RFC 3501's examples: its grammar, what it lists, its lines.
 
-use second::{answer_reading, read_line, Refusal, Table};
+use second::{read_line, Refusal};
 
-use crate::common::{check, check_dialogue, table_of, Rows};
+use crate::common::{check, check_dialogue, check_rooms, Rows};
 
 /// Names with every flag, subscribed or not: Foo and Foo/x are implied, Moo and R have a row, and
 /// below each of these stands a subscribed name.
@@ -37,7 +37,6 @@ const ALL: Result<&[&str], u8> = Ok(&[
 fn words() {
     check(
         TREE,
-        &[],
         &[
             ("a LSUB \"\" Foo/Baz", FOO_BAZ),
             ("a lsub \"\" Foo/Baz", FOO_BAZ),
@@ -56,7 +55,6 @@ fn words() {
 fn reference_and_a_single_pattern() {
     check(
         TREE,
-        &[],
         &[
             ("a LSUB", Err(4)),
             ("a LSUB ", Err(4)),
@@ -99,7 +97,6 @@ fn canonical_lengths() {
     let r = |count| "r".repeat(count);
     check(
         TREE,
-        &[],
         &[
             (&format!("a LSUB \"\" {}", "*".repeat(255)), ALL),
             (&format!("a LSUB \"\" {}", "*".repeat(256)), Err(8)),
@@ -118,7 +115,6 @@ fn canonical_lengths() {
 fn empty_patterns() {
     check(
         TREE,
-        &[],
         &[
             ("a LSUB \"\" \"\"", NO_LINES),
             ("a LSUB \"\" {0}\r\n", NO_LINES),
@@ -135,7 +131,6 @@ fn empty_patterns() {
 fn subscribed_names() {
     check(
         TREE,
-        &[],
         &[
             ("a LSUB \"\" *", ALL),
             ("a LSUB \"\" *%", ALL),
@@ -148,7 +143,7 @@ fn subscribed_names() {
             ("a LSUB R /%", Ok(&[r#"* LSUB () "/" "R/r""#, "a OK done"])),
         ],
     );
-    check(&[], &[], &[("a LSUB \"\" *", NO_LINES), ("a LSUB \"\" %", NO_LINES)]);
+    check(&[], &[("a LSUB \"\" *", NO_LINES), ("a LSUB \"\" %", NO_LINES)]);
 }
 
 /// "under a pattern ending in "%", an unsubscribed matching candidate with a subscribed descendant
@@ -157,7 +152,6 @@ fn subscribed_names() {
 fn levels_under_a_final_percent() {
     check_dialogue(
         TREE,
-        &[],
         r#"
         C: a LSUB "" %
         S: * LSUB (\Noselect) "/" "Foo"
@@ -205,7 +199,6 @@ fn descendants_that_match() {
     ];
     check_dialogue(
         &rows,
-        &[],
         r#"
         C: a LSUB "" %oo%
         S: * LSUB (\Noselect) "/" "Foo"
@@ -235,7 +228,6 @@ fn inbox_spellings() {
     let own = Ok([r#"* LSUB () "/" "INBOX""#, "a OK done"].as_slice());
     check(
         TREE,
-        &[],
         &[
             ("a LSUB \"\" inbox", own),
             ("a LSUB iN BoX", own),
@@ -246,7 +238,6 @@ fn inbox_spellings() {
     let level = Ok([r#"* LSUB (\Noselect) "/" "INBOX""#, "a OK done"].as_slice());
     check(
         &[("INBOX/x", "exists subscribed"), ("inboxx", "exists")],
-        &[],
         &[
             ("a LSUB i \"N%\"", level),
             ("a LSUB \"\" inbox%", level),
@@ -260,7 +251,6 @@ fn inbox_spellings() {
 fn beside_list() {
     check_dialogue(
         &[("a/b", "exists subscribed remote"), ("c", "exists subscribed"), ("d/e", "subscribed")],
-        &[],
         r#"
         C: a LIST (SUBSCRIBED REMOTE) "" *
         S: * LIST (\Remote \Subscribed) "/" "a/b"
@@ -286,20 +276,12 @@ fn beside_list() {
     );
 }
 
-/// 9 as for LIST: the whole answer, tagged line included; equal length fits.
+/// 9 as for LIST.
 #[test]
 fn short_buffers() {
-    let table = table_of(&[("b/c", "exists subscribed")]);
-    let expected = b"* LSUB (\\Noselect) \"/\" \"b\"\r\na OK done\r\n";
-    for room in 0..=expected.len() {
-        let mut out = vec![b'.'; room];
-        let result = answer_reading(Table::Packed(&table), &[], b"a LSUB \"\" %\r\n", &mut out);
-        if room < expected.len() {
-            assert_eq!((result, out), (Err(Refusal::AnswerRoom), vec![b'.'; room]));
-        } else {
-            assert_eq!((result, out.as_slice()), (Ok(room), expected.as_slice()));
-        }
-    }
+    let rows = [("b/c", "exists subscribed")];
+    let lines = ["* LSUB (\\Noselect) \"/\" \"b\"", "a OK done"];
+    check_rooms(&rows, "a LSUB \"\" %", &lines);
 }
 
 /// Reader and line writer stay with LIST lines.

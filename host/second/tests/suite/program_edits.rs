@@ -1,7 +1,7 @@
 //! Frames after edits (document 02, W6): what the program keeps, and what 4D, 4E and walks are then.
 
 use second::frames::{hex_of, Answer, Program, COMMAND, ENTRY, ROW, TABLE_ROOM};
-use second::table::MAX_ROWS;
+use second::rows::MAX_ROWS;
 use second::{Record, Refusal, Store};
 
 use crate::program::{frame, output_of, BAD_FRAME};

@@ -1,7 +1,8 @@
 //! Records beside the names (document 02, W4), by the sentences of the request.
 
-use second::records::{packed_records, MAX_AREA};
-use second::table::MAX_ROWS;
+use second::packed::packed_records;
+use second::records::MAX_AREA;
+use second::rows::MAX_ROWS;
 use second::{answer_reading, check_table, collect, Record, Records, Table};
 
 /// A record of an existing mailbox.

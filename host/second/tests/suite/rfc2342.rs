@@ -3,7 +3,7 @@
 //! The CREATE commands of examples 5.5 and 5.6 do not fit: document 01 knows LIST and NAMESPACE
 //! alone.
 
-use crate::common::check_dialogue;
+use crate::common::check_dialogue_with;
 
 const PERSONAL: u8 = 0;
 const OTHER_USERS: u8 = 1;
@@ -14,7 +14,7 @@ const DOT: Option<u8> = Some(b'.');
 #[test]
 fn rfc2342_ex5_1() {
     let entries = [(PERSONAL, "", SLASH)];
-    check_dialogue(
+    check_dialogue_with(
         &[],
         &entries,
         r#"
@@ -28,7 +28,7 @@ fn rfc2342_ex5_1() {
 #[test]
 fn rfc2342_ex5_2() {
     let entries = [(SHARED, "", DOT)];
-    check_dialogue(
+    check_dialogue_with(
         &[],
         &entries,
         r#"
@@ -42,7 +42,7 @@ fn rfc2342_ex5_2() {
 #[test]
 fn rfc2342_ex5_3() {
     let entries = [(PERSONAL, "", SLASH), (SHARED, "Public Folders/", SLASH)];
-    check_dialogue(
+    check_dialogue_with(
         &[],
         &entries,
         r#"
@@ -63,7 +63,7 @@ fn rfc2342_ex5_4() {
         (SHARED, "#ftp/", SLASH),
         (SHARED, "#news.", DOT),
     ];
-    check_dialogue(
+    check_dialogue_with(
         &[],
         &entries,
         r##"
@@ -77,7 +77,7 @@ fn rfc2342_ex5_4() {
 #[test]
 fn rfc2342_ex5_5() {
     let entries = [(PERSONAL, "INBOX.", DOT)];
-    check_dialogue(
+    check_dialogue_with(
         &[],
         &entries,
         r#"
@@ -92,7 +92,7 @@ fn rfc2342_ex5_5() {
 #[test]
 fn rfc2342_ex5_6() {
     let entries = [(PERSONAL, "", SLASH), (PERSONAL, "#mh/", SLASH)];
-    check_dialogue(
+    check_dialogue_with(
         &[],
         &entries,
         r##"
@@ -112,7 +112,7 @@ fn rfc2342_ex5_7() {
         ("Other Users/Tesa", "exists"),
     ];
     let entries = [(PERSONAL, "", SLASH), (OTHER_USERS, "Other Users/", SLASH)];
-    check_dialogue(
+    check_dialogue_with(
         &rows,
         &entries,
         r#"
@@ -134,7 +134,7 @@ fn rfc2342_ex5_7() {
 fn rfc2342_ex5_8() {
     let rows = [("#Users/Mike/Foo", "exists"), ("#Users/Mike/INBOX", "exists")];
     let entries = [(PERSONAL, "", SLASH), (OTHER_USERS, "#Users/", SLASH)];
-    check_dialogue(
+    check_dialogue_with(
         &rows,
         &entries,
         r##"
@@ -153,7 +153,7 @@ fn rfc2342_ex5_8() {
 fn rfc2342_ex5_9() {
     let rows = [("~mark/INBOX", "exists"), ("~mark/foo", "exists")];
     let entries = [(PERSONAL, "", SLASH), (OTHER_USERS, "~", SLASH)];
-    check_dialogue(
+    check_dialogue_with(
         &rows,
         &entries,
         r#"

@@ -15,7 +15,6 @@ const NEWS: &Rows = &[
 fn rfc3501_lsub_ex1() {
     check_dialogue(
         NEWS,
-        &[],
         r##"
         C: A002 LSUB "#news/" "comp/mail/*"
         S: * LSUB () "/" "#news/comp/mail/mime"
@@ -29,7 +28,6 @@ fn rfc3501_lsub_ex1() {
 fn rfc3501_lsub_ex2() {
     check_dialogue(
         NEWS,
-        &[],
         r##"
         C: A003 LSUB "#news/" "comp/%"
         S: * LSUB (\Noselect) "/" "#news/comp/mail"
@@ -47,7 +45,6 @@ fn rfc3501_lsub_percent() {
         let rows: Vec<_> = foo.into_iter().chain([("foo/bar", "exists subscribed")]).collect();
         check_dialogue(
             &rows,
-            &[],
             r#"
             C: a LSUB "" "%"
             S: * LSUB (\Noselect) "/" "foo"
@@ -62,7 +59,6 @@ fn rfc3501_lsub_percent() {
 fn rfc3501_lsub_nonexistent() {
     check_dialogue(
         &[("foo", "subscribed"), ("foo/bar/baz", "subscribed")],
-        &[],
         r#"
         C: a LSUB "" "*"
         S: * LSUB () "/" "foo"

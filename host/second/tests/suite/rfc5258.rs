@@ -24,7 +24,6 @@ const FRUIT: &Rows = &[
 fn rfc5258_ex01() {
     check_dialogue(
         FRUIT,
-        &[],
         r#"
         C: A01 LIST "" "*"
         S: * LIST () "/" "Fruit"
@@ -44,7 +43,6 @@ fn rfc5258_ex01() {
 fn rfc5258_ex02() {
     check_dialogue(
         FRUIT,
-        &[],
         r#"
         C: A02 LIST (SUBSCRIBED) "" "*"
         S: * LIST (\Subscribed) "/" "Fruit/Banana"
@@ -61,7 +59,6 @@ fn rfc5258_ex02() {
 fn rfc5258_ex03() {
     check_dialogue(
         FRUIT,
-        &[],
         r#"
         C: A03 LIST () "" "%" RETURN (CHILDREN)
         S: * LIST (\HasChildren) "/" "Fruit"
@@ -82,7 +79,6 @@ fn rfc5258_ex04() {
     rows.insert(7, ("Meat/Sausage", "exists remote"));
     check_dialogue(
         &rows,
-        &[],
         r#"
         C: A04 LIST (REMOTE) "" "%" RETURN (CHILDREN)
         S: * LIST (\Remote \HasNoChildren) "/" "Bread"
@@ -100,7 +96,6 @@ fn rfc5258_ex04() {
 fn rfc5258_ex05() {
     check_dialogue(
         FRUIT,
-        &[],
         r#"
         C: A05 LIST (REMOTE SUBSCRIBED) "" "*"
         S: * LIST (\Remote \Subscribed) "/" "Bread"
@@ -118,7 +113,6 @@ fn rfc5258_ex05() {
 fn rfc5258_ex06() {
     check_dialogue(
         FRUIT,
-        &[],
         r#"
         C: A06 LIST (REMOTE) "" "*" RETURN (SUBSCRIBED)
         S: * LIST (\Remote \Subscribed) "/" "Bread"
@@ -147,7 +141,6 @@ fn rfc5258_ex07() {
     ];
     check_dialogue(
         &rows,
-        &[],
         r#"
         C: BBB LIST "" ("INBOX" "Drafts" "Sent/%")
         S: * LIST (\NoInferiors) "/" "Drafts"
@@ -174,7 +167,6 @@ fn rfc5258_ex08_a() {
     ];
     check_dialogue(
         &rows,
-        &[],
         r#"
         C: C01 LIST "" "*"
         S: * LIST () "/" "Foo"
@@ -212,7 +204,6 @@ fn rfc5258_ex08_a1() {
     ];
     check_dialogue(
         &rows,
-        &[],
         r#"
         C: C04 LIST (SUBSCRIBED RECURSIVEMATCH) "" "%"
         S: * LIST (\Subscribed) "/" "Foo" ("CHILDINFO" ("SUBSCRIBED"))
@@ -226,7 +217,6 @@ fn rfc5258_ex08_a2() {
     let rows = [("Foo/Bar", "exists"), ("Foo/Baz", "exists subscribed"), INBOX, ("Moo", "exists")];
     check_dialogue(
         &rows,
-        &[],
         r#"
         C: C04 LIST (SUBSCRIBED RECURSIVEMATCH) "" "%"
         S: * LIST (\NonExistent) "/" "Foo" ("CHILDINFO" ("SUBSCRIBED"))
@@ -240,7 +230,6 @@ fn rfc5258_ex08_b() {
     let rows = [("Foo", "exists"), ("Foo/Bar", "exists"), ("Foo/Baz", "exists"), ("Moo", "exists")];
     check_dialogue(
         &rows,
-        &[],
         r#"
         C: C04 LIST (SUBSCRIBED RECURSIVEMATCH) "" "%"
         S: C04 OK done
@@ -259,7 +248,6 @@ fn rfc5258_ex08_c() {
     ];
     check_dialogue(
         &rows,
-        &[],
         r#"
         C: C04 LIST (SUBSCRIBED RECURSIVEMATCH) "" "%" RETURN (CHILDREN)
         S: * LIST (\Subscribed \HasChildren) "/" "Foo"
@@ -291,7 +279,6 @@ const FOO2: &Rows = &[
 fn rfc5258_ex09() {
     check_dialogue(
         FOO2,
-        &[],
         r#"
         C: D01 LIST "" "*"
         S: * LIST (\Marked \NoInferiors) "/" "INBOX"
@@ -333,7 +320,6 @@ fn rfc5258_ex09() {
 fn rfc5258_ex10() {
     check_dialogue(
         &[("foo", "exists"), ("foo/bar", "subscribed")],
-        &[],
         r#"
         C: a1 LIST "" ("foo" "foo/*")
         S: * LIST () "/" "foo"
@@ -355,7 +341,6 @@ fn rfc5258_ex10() {
 fn rfc5258_ex11() {
     check_dialogue(
         &[("also/jazz", "exists remote"), ("music/rock", "exists")],
-        &[],
         r#"
         C: a1 LIST (REMOTE) "" *
         S: * LIST (\Remote) "/" "also/jazz"
@@ -395,6 +380,6 @@ fn rfc5258_section6() {
     for (options, expected) in lists {
         let command = format!("a LIST {options} \"\" %");
         let answer: &[&str] = &["a OK done"];
-        check(&[], &[], &[(&command, expected.map(|()| answer))]);
+        check(&[], &[(&command, expected.map(|()| answer))]);
     }
 }

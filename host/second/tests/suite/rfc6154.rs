@@ -21,7 +21,6 @@ const TABLE: &Rows = &[
 fn rfc6154_ex5_1() {
     check_dialogue(
         TABLE,
-        &[],
         r#"
         C: t1 LIST "" "%" RETURN (SPECIAL-USE CHILDREN)
         S: * LIST (\Marked \HasNoChildren) "/" "INBOX"
@@ -39,7 +38,6 @@ fn rfc6154_ex5_1() {
 fn rfc6154_ex5_2() {
     check_dialogue(
         TABLE,
-        &[],
         r#"
         C: t2 LIST "" "%" RETURN (SPECIAL-USE)
         S: * LIST (\Marked) "/" "INBOX"
@@ -76,7 +74,6 @@ fn rfc6154_ex5_4() {
     ];
     check_dialogue(
         &before,
-        &[],
         r#"
         C: t1 LIST "" "%" RETURN (SPECIAL-USE)
         S: * LIST (\Drafts) "/" "MyDrafts"
@@ -88,7 +85,6 @@ fn rfc6154_ex5_4() {
     );
     check_dialogue(
         &after,
-        &[],
         r#"
         C: t5 LIST "" "%" RETURN (SPECIAL-USE)
         S: * LIST () "/" "MyDrafts"

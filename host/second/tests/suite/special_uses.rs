@@ -35,7 +35,7 @@ fn seven_exactly_if_neither_stands_beside() {
         let expected: Result<&[&str], u8> = if is_seven { Err(7) } else { Ok(&["a OK done"]) };
         for _ in 0..2 {
             let command = format!("a LIST ({}) \"\" *", selection.join(" "));
-            check(&[], &[], &[(&command, expected)]);
+            check(&[], &[(&command, expected)]);
             selection.reverse();
         }
     }
@@ -46,7 +46,6 @@ fn seven_exactly_if_neither_stands_beside() {
 fn what_is_not_beside() {
     check(
         TREE,
-        &[],
         &[
             (r#"a LIST (RECURSIVEMATCH) "" % RETURN (SPECIAL-USE)"#, Err(7)),
             (r#"a LIST (RECURSIVEMATCH REMOTE) "" % RETURN (SUBSCRIBED SPECIAL-USE)"#, Err(7)),
@@ -63,7 +62,6 @@ fn what_is_not_beside() {
 fn childinfo_names_special_use_alone() {
     check_dialogue(
         TREE,
-        &[],
         r#"
         C: a LIST (RECURSIVEMATCH SPECIAL-USE) "" "%"
         S: * LIST (\Archive) "/" "Archive" ("CHILDINFO" ("SPECIAL-USE"))
@@ -90,7 +88,6 @@ fn childinfo_names_special_use_alone() {
 fn childinfo_names_both_in_order() {
     check_dialogue(
         TREE,
-        &[],
         r#"
         C: a LIST (SUBSCRIBED RECURSIVEMATCH SPECIAL-USE) "" "%"
         S: * LIST (\NonExistent) "/" "Work" ("CHILDINFO" ("SUBSCRIBED" "SPECIAL-USE"))
@@ -114,7 +111,6 @@ fn childinfo_names_both_in_order() {
 fn remote_uses_below() {
     check_dialogue(
         &[("a/b", "exists remote sent"), ("c/d", "exists sent")],
-        &[],
         r#"
         C: a LIST (RECURSIVEMATCH SPECIAL-USE) "" "%"
         S: * LIST (\NonExistent) "/" "c" ("CHILDINFO" ("SPECIAL-USE"))

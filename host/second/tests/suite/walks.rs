@@ -90,7 +90,6 @@ fn ten_before_eleven() {
 fn the_first_answer_of_a_walk() {
     check_dialogue(
         NESTED,
-        &[],
         r#"
         C: w LIST (SUBSCRIBED RECURSIVEMATCH SPECIAL-USE REMOTE) "" "%"
         S: w OK done

@@ -6,7 +6,9 @@ use std::os::unix::fs::MetadataExt;
 use std::path::{Path, PathBuf};
 use std::process::{Command, Output};
 
-use crate::common::{second, told, write_program, SESSION};
+use child::testing::write_program;
+
+use crate::common::{second, told, SESSION};
 
 const RUN: &str = include_str!("../../../../run");
 

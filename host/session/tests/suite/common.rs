@@ -1,20 +1,18 @@
 //! Running sessions in the second program.
 
-use std::env;
 use std::io::Write;
 use std::path::{Path, PathBuf};
 use std::process::{Command, Output, Stdio};
 
+use child::testing::example;
 use session::{run_session, Form, Session, SessionError, Source};
 
 /// The reader of sessions.
 pub const SESSION: &str = env!("CARGO_BIN_EXE_session");
 
-/// The second program. The tests stand in `deps`, beside the folder of the examples.
+/// The second program.
 pub fn second() -> PathBuf {
-    let test = env::current_exe().expect("the path of the test");
-    let folder = test.ancestors().nth(2).expect("the folder of the build");
-    folder.join("examples/second-of-session")
+    example("second-of-session")
 }
 
 pub fn check(source: impl AsRef<[u8]>) -> Result<Session, SessionError> {
@@ -65,18 +63,6 @@ pub fn run_with(program: &Path, source: impl AsRef<[u8]>) -> Output {
     let _ = stdin.write_all(source.as_ref());
     drop(stdin);
     child.wait_with_output().expect("an end")
-}
-
-/// Writes a script that can be run. Another process writes it: a file that this one had open could
-/// still be open in a program that another test starts at that moment, and would be busy then.
-pub fn write_program(path: &Path, text: &str) {
-    let mut command = Command::new("/bin/sh");
-    command.args(["-c", "cat >\"$0\" && chmod 755 \"$0\""]).arg(path).stdin(Stdio::piped());
-    let mut writer = command.spawn().expect("a start");
-    let mut input = writer.stdin.take().expect("an input");
-    input.write_all(text.as_bytes()).expect("an open input");
-    drop(input);
-    assert!(writer.wait().expect("an end").success(), "{}", path.display());
 }
 
 /// What was told on standard error.

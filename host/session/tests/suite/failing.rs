@@ -1,24 +1,22 @@
 //! Trouble with the machine: output that fails, and programs that fail.
 
 use std::fs::{self, File};
-use std::path::{Path, PathBuf};
+use std::path::Path;
 use std::process::{Command, Stdio};
 
-use crate::common::{run_with, second, told, write_program, SESSION};
+use child::testing::script;
 
-/// A program that is a script of the shell.
-fn script(name: &str, text: &str) -> PathBuf {
-    let path = Path::new(env!("CARGO_TARGET_TMPDIR")).join(name);
-    write_program(&path, &format!("#!/bin/sh\n{text}\n"));
-    path
-}
+use crate::common::{run_with, second, told, SESSION};
+
+/// Where scripts and sessions are written.
+const FOLDER: &str = env!("CARGO_TARGET_TMPDIR");
 
 #[test]
 fn output_that_fails() {
     for (source, arguments) in
         [("walk\n".repeat(3), vec![]), ("walk\n".repeat(9_000), vec!["--frames"])]
     {
-        let path = Path::new(env!("CARGO_TARGET_TMPDIR")).join(format!("full-{}", source.len()));
+        let path = Path::new(FOLDER).join(format!("full-{}", source.len()));
         fs::write(&path, &source).expect("a session");
         let full = File::create("/dev/full").expect("a full device");
         let mut command = Command::new(SESSION);
@@ -32,7 +30,7 @@ fn output_that_fails() {
 
 #[test]
 fn output_that_is_closed() {
-    let path = Path::new(env!("CARGO_TARGET_TMPDIR")).join("closed.session");
+    let path = Path::new(FOLDER).join("closed.session");
     fs::write(&path, "walk\n".repeat(9_000)).expect("a session");
     let mut command = Command::new(SESSION);
     command.arg("--program").arg(second()).arg(path).stdout(Stdio::piped()).stderr(Stdio::piped());
@@ -70,7 +68,7 @@ fn programs_that_fail() {
         ),
     ];
     for (name, text, message) in programs {
-        let program = script(&format!("program-{name}"), &text);
+        let program = script(FOLDER, &format!("program-{name}"), &text);
         let output = run_with(&program, "walk\n");
         assert_eq!(output.status.code(), Some(1), "{name}: {output:?}");
         let told = told(&output);
@@ -82,7 +80,7 @@ fn programs_that_fail() {
 /// What was refused before a program failed is told all the same, and how far the session came.
 #[test]
 fn refused_before_it_failed() {
-    let program = script("program-half", "read x; echo 5206; read x; exit 1");
+    let program = script(FOLDER, "program-half", "read x; echo 5206; read x; exit 1");
     let output = run_with(&program, "walk 9\nwalk\nwalk\n");
     assert_eq!(output.status.code(), Some(1));
     let told = told(&output);
@@ -96,7 +94,7 @@ fn refused_before_it_failed() {
 #[test]
 fn programs_that_differ_in_an_edit() {
     let ok = "4173204F4B20646F6E650D0A";
-    let program = script("takes-all", &format!("while read x; do echo {ok}; done"));
+    let program = script(FOLDER, "takes-all", &format!("while read x; do echo {ok}; done"));
     let output = run_with(&program, "subscribe \"\"\n");
     assert_eq!(output.status.code(), Some(0), "{}", told(&output));
     let text = String::from_utf8(output.stdout).expect("text");

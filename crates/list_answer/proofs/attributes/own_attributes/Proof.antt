@@ -3,6 +3,7 @@ use mathlib.Core.Path.{_≡_, refl, ap, _∙_}
 use mathlib.Core.Bool.{Bool, _&&_, not}
 use Prim.Native.Nat.{ℕ}
 use Rattle.listing_rules.specs.Flags.{exists, subscribed, remote, noSelect, noInferiors, marked, unmarked}
+use Rattle.listing_rules.specs.Listing.{inOrder}
 use Rattle.octets.proofs.Sets.{contains-bit}
 use Rattle.list_answer.specs.Sets.{adds}
 use Rattle.list_answer.specs.Attributes.{ownAttributes}
@@ -12,7 +13,7 @@ use Rattle.list_answer.proofs.attributes.own_attributes.Statement.{stat
 use Rattle.list_answer.proofs.attributes.own_attributes.Tie as tie
 
 returns : tie.Need-returns
-unfolding adds ownAttributes marked unmarked noSelect noInferiors remote subscribed exists
+unfolding adds ownAttributes inOrder marked unmarked noSelect noInferiors remote subscribed exists
 returns c =
     let after-with-flag5 = c .before .before .before .before in
     let after-with-flag4 = after-with-flag5 .before in

@@ -4,6 +4,7 @@ use mathlib.Core.Bool.{_&&_, true, and-true, and-false}
 use Prim.Native.Nat.{ℕ, _^_}
 use borrow.Author.Tests.{not-true, not-false}
 use Rattle.listing_rules.specs.Bytes.{bit}
+use Rattle.listing_rules.specs.Listing.{inOrder}
 use Rattle.octets.specs.Sets.{contains}
 use Rattle.octets.proofs.Sets.{contains-bit}
 use Rattle.list_answer.specs.Sets.{adds}
@@ -18,13 +19,13 @@ shown : (k f : ℕ) → contains f (2 ^ k) ≡ (bit k f && true)
 shown k f = contains-bit k f ∙ sym (and-true (bit k f))
 
 returns : tie.Need-returns
-unfolding adds useAttributes
+unfolding adds useAttributes inOrder
 returns c =
     let f = c .before .args .flags .bits in
     rw (not-true (c .before .args .asked) (c .if1 .taken), and-false (bit 8 f), and-false (bit 9 f), and-false (bit 10 f), and-false (bit 11 f), and-false (bit 12 f), and-false (bit 13 f), and-false (bit 14 f))
 
 returns-2 : tie.Need-returns-2
-unfolding adds useAttributes
+unfolding adds useAttributes inOrder
 returns-2 c =
     let after-with-flag3 = c .before .before .before .before in
     let after-with-flag2 = after-with-flag3 .before in

@@ -6,7 +6,7 @@ use Rattle.command_line.specs.Spans.{spanBytes}
 use Rattle.subscriptions.specs.Stored.{Decides}
 use Rattle.subscriptions.proofs.StoredLaws.{Passing, words-pass}
 use Rattle.server.specs.Edits.{editOf}
-use Rattle.server.proofs.Inputs.{part-span}
+use Rattle.command_tokens.proofs.Binds.{bare-bytes}
 use Rattle.server.proofs.EditLaws.{decided, not-done, fits-so, well-done}
 use borrow.Author.Needs.{needs}
 use Rattle.server.proofs.edit.edit_named.Statement.{statement}
@@ -40,13 +40,13 @@ plan c =
     let kind = c .before .before .before .is-subscribe in
     decided (a .words .now) (a .count) (a .area .now) (a .line .now) (a .command) (kind .result) (a .name .now) (c .decide .result) (start .pre .0) (kind .ensures) (start .pre .1 .1) (c .decide .ensures)
 
-tag-is : (c : tie.After-span-of) →
-    let a = c .before .before .before .before .before .before .before .before .before .before .args in c .span-of .result .now ≡ spanBytes
+tag-is : (c : tie.After-raw) →
+    let a = c .before .before .before .before .before .before .before .before .before .before .args in c .raw .result .now ≡ spanBytes
     (a .line .now) (a .command .tag)
 tag-is c =
     let start = c .before .before .before .before .before .before .before .before .before .before in
     let a = start .args in
-    let inside = start .pre .1 .0 in c .span-of .ensures ∙ part-span (a .line .now) (a .command .tag) (inside .tag) (inside .bare)
+    let inside = start .pre .1 .0 in c .raw .ensures ∙ sym (bare-bytes (a .line .now) (a .command .tag) (inside .bare))
 
 carry-out-requires : tie.Need-carry-out-requires
 carry-out-requires c κs =
@@ -54,7 +54,7 @@ carry-out-requires c κs =
     let tagged = said .before .before in
     let start = tagged .before .before .before .before .before .before .before .before .before .before in
     let a = start .args in
-    fits-so (a .words .now) (a .count) (a .area .now) (a .line .now) (a .command) (a .out .now) (tagged .before .decide .result) (plan (tagged .before)) (tagged .span-of .result .now) (a .name .now) (tag-is tagged) (start .pre .1 .1) (said .verdict .ensures)
+    fits-so (a .words .now) (a .count) (a .area .now) (a .line .now) (a .command) (a .out .now) (tagged .before .decide .result) (plan (tagged .before)) (tagged .raw .result .now) (a .name .now) (tag-is tagged) (start .pre .1 .1) (said .verdict .ensures)
 
 returns : tie.Need-returns
 returns c =
@@ -63,7 +63,7 @@ returns c =
     let start = tagged .before .before .before .before .before .before .before .before .before .before in
     let a = start .args in
     let number = c .before .before .number .given in
-    not-done (a .words .now) (a .count) (a .area .now) (a .line .now) (a .command) (a .out .now) (tagged .before .decide .result) (plan (tagged .before)) (tagged .span-of .result .now) (a .name .now) (tag-is tagged) (start .pre .1 .1) (said .verdict .ensures) (number .0 .0) (c .unchanged .result) (number .1) (c .unchanged .ensures)
+    not-done (a .words .now) (a .count) (a .area .now) (a .line .now) (a .command) (a .out .now) (tagged .before .decide .result) (plan (tagged .before)) (tagged .raw .result .now) (a .name .now) (tag-is tagged) (start .pre .1 .1) (said .verdict .ensures) (number .0 .0) (c .unchanged .result) (number .1) (c .unchanged .ensures)
 
 returns-2 : tie.Need-returns-2
 returns-2 c =
@@ -73,7 +73,7 @@ returns-2 c =
     let start = tagged .before .before .before .before .before .before .before .before .before .before in
     let a = start .args in
     let measured = done .before .before .before .before .length .given in
-    well-done (a .words .now) (a .count) (a .area .now) (a .line .now) (a .command) (a .out .now) (tagged .before .decide .result) (plan (tagged .before)) (tagged .span-of .result .now) (a .name .now) (tag-is tagged) (start .pre .1 .1) (said .verdict .ensures) (measured .0 .0) (done .carry-out .last .1 .0) (done .carry-out .last .1 .1 .1 .0) (done .carry-out .result) (measured .1) (done .carry-out .ensures .0) (done .carry-out .ensures .1) (done .carry-out .ensures .2)
+    well-done (a .words .now) (a .count) (a .area .now) (a .line .now) (a .command) (a .out .now) (tagged .before .decide .result) (plan (tagged .before)) (tagged .raw .result .now) (a .name .now) (tag-is tagged) (start .pre .1 .1) (said .verdict .ensures) (measured .0 .0) (done .carry-out .last .1 .0) (done .carry-out .last .1 .1 .1 .0) (done .carry-out .result) (measured .1) (done .carry-out .ensures .0) (done .carry-out .ensures .1) (done .carry-out .ensures .2)
 
 pub edit-named-spec : {M : Type 1} → statement M
 edit-named-spec =

@@ -1,25 +1,23 @@
--- `server::packed::read_packed` meets its contract: refusal 1, and what `read_index` gives. By Order; the index by Inputs.
+-- `server::packed::read_packed` meets its contract: refusal 1, and what `read_index` gives. By Order; the index by HeldLaws of mailbox_table.
 use mathlib.Core.Path.{ap}
 use lib.ListN.{length, take}
 use Rattle.listing_rules.specs.Table.{packedTable}
-use Rattle.server.proofs.Inputs.{index-fails, index-passes, Known, index-rows}
+use Rattle.mailbox_table.proofs.HeldLaws.{Held, index-held, index-refused}
 use Rattle.server.proofs.Order.{refused-with, served-1, served-on}
 use borrow.Author.Needs.{needs}
 use Rattle.server.proofs.packed.read_packed.Statement.{statement}
 use Rattle.server.proofs.packed.read_packed.Tie as tie
 
 -- the rows, where they are found
-known : (c : tie.After-n) → Known (c .before .before .before .index .ensures) (ap length (c .before .before .before .before .before .no-words .ensures)) (c .n .given .0 .0)
-known c =
-    let after-no-words = c .before .before .before .before .before in
-    index-rows (c .before .before .before .index .ensures) (ap length (after-no-words .no-words .ensures)) (c .n .given .0 .0) (c .n .given .1)
+known : (c : tie.After-n) → Held (c .before .before .before .index .ensures) (c .n .given .0 .0)
+known c = index-held (c .before .before .before .index .ensures) (c .n .given .0 .0) (c .n .given .1)
 
 returns : tie.Need-returns
 returns c =
     let after-no-words = c .before .before .before .before .before in
     let start = after-no-words .before .before .before .before .before in
     let a = start .args in
-    let fails = index-fails (c .before .before .before .index .ensures) (ap length (after-no-words .no-words .ensures)) (c .enum-told .given .1) in
+    let fails = index-refused (c .before .before .before .index .ensures) (ap length (after-no-words .no-words .ensures)) (c .enum-told .given .1) in
     rw (served-1 (packedTable (a .table .now)) (a .namespaces .now) (a .line .now) (a .out .now) fails) (refused-with 1 (a .out .now))
 
 array-share-prefix-words : tie.Need-array-share-prefix-words
@@ -39,9 +37,9 @@ returns-2 c =
     let start = after-no-words .before .before .before .before .before in
     let a = start .args in
     let rows = after-n .n .given in
-    let passes = index-passes (after-index .index .ensures) (ap length (after-no-words .no-words .ensures)) (rows .0 .0) (rows .1) in
     let words = take (rows .0 .0) (after-index .index .last .1 .0) in
-    rw (served-on (packedTable (a .table .now)) (a .namespaces .now) (a .line .now) (a .out .now) (a .table .now) words passes (known after-n .same)) (c .before .before .read-index .ensures)
+    rw (served-on (packedTable (a .table .now)) (a .namespaces .now) (a .line .now) (a .out .now) (a .table .now) words (known after-n .table-passes)
+    (known after-n .same)) (c .before .before .read-index .ensures)
 
 pub read-packed-spec : {M : Type 1} → statement M
 read-packed-spec =

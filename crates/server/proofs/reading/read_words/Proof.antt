@@ -1,25 +1,23 @@
--- `server::reading::read_words` meets its contract: refusal 1, and what `read_index` gives. By Order; the index by Inputs.
+-- `server::reading::read_words` meets its contract: refusal 1, and what `read_index` gives. By Order; the index by HeldLaws of mailbox_table.
 use mathlib.Core.Path.{ap}
 use lib.ListN.{length, take}
 use Rattle.records.specs.Lent.{wordTable}
-use Rattle.server.proofs.Inputs.{index-fails, index-passes, Known, index-rows}
+use Rattle.mailbox_table.proofs.HeldLaws.{Held, index-held, index-refused}
 use Rattle.server.proofs.Order.{refused-with, served-1, served-on}
 use borrow.Author.Needs.{needs}
 use Rattle.server.proofs.reading.read_words.Statement.{statement}
 use Rattle.server.proofs.reading.read_words.Tie as tie
 
 -- the rows, where they are found
-known : (c : tie.After-n) → Known (c .before .before .before .index-words .ensures) (ap length (c .before .before .before .before .before .no-words .ensures)) (c .n .given .0 .0)
-known c =
-    let after-no-words = c .before .before .before .before .before in
-    index-rows (c .before .before .before .index-words .ensures) (ap length (after-no-words .no-words .ensures)) (c .n .given .0 .0) (c .n .given .1)
+known : (c : tie.After-n) → Held (c .before .before .before .index-words .ensures) (c .n .given .0 .0)
+known c = index-held (c .before .before .before .index-words .ensures) (c .n .given .0 .0) (c .n .given .1)
 
 returns : tie.Need-returns
 returns c =
     let after-no-words = c .before .before .before .before .before in
     let start = after-no-words .before .before .before .before .before .before in
     let a = start .args in
-    let fails = index-fails (c .before .before .before .index-words .ensures) (ap length (after-no-words .no-words .ensures)) (c .enum-told .given .1) in
+    let fails = index-refused (c .before .before .before .index-words .ensures) (ap length (after-no-words .no-words .ensures)) (c .enum-told .given .1) in
     rw (served-1 (wordTable (a .area .now) (a .words .now) (a .count)) (a .namespaces .now) (a .line .now) (a .out .now) fails) (refused-with 1 (a .out .now))
 
 array-share-prefix-rows : tie.Need-array-share-prefix-rows
@@ -39,9 +37,9 @@ returns-2 c =
     let start = after-no-words .before .before .before .before .before .before in
     let a = start .args in
     let rows = after-n .n .given in
-    let passes = index-passes (after-index .index-words .ensures) (ap length (after-no-words .no-words .ensures)) (rows .0 .0) (rows .1) in
     let words = take (rows .0 .0) (after-index .index-words .last .1 .1 .1 .0) in
-    rw (served-on (wordTable (a .area .now) (a .words .now) (a .count)) (a .namespaces .now) (a .line .now) (a .out .now) (a .area .now) words passes (known after-n .same)) (c .before .before .read-index .ensures)
+    rw (served-on (wordTable (a .area .now) (a .words .now) (a .count)) (a .namespaces .now) (a .line .now) (a .out .now) (a .area .now) words
+    (known after-n .table-passes) (known after-n .same)) (c .before .before .read-index .ensures)
 
 pub read-words-spec : {M : Type 1} → statement M
 read-words-spec =

@@ -1,8 +1,9 @@
--- `session::store::lay_out` meets its contract: the table does not pass, or its names are placed. Rests on LayLaws.
+-- `session::store::lay_out` meets its contract: the table does not pass, or its names are placed. Rests on LayLaws and mailbox_table's HeldLaws.
 use mathlib.Core.Path.{_≡_, ap, _∙_}
 use Prim.Native.Nat.{ℕ}
 use lib.ListN.{length, length-replicate}
-use Rattle.session.proofs.LayLaws.{lays-fails, rows-inside, rows-size, rows-short, lays-rows}
+use Rattle.mailbox_table.proofs.HeldLaws.{index-held, index-refused}
+use Rattle.session.proofs.LayLaws.{rows-short, lays-rows}
 use borrow.Author.Needs.{needs}
 use Rattle.session.proofs.store.lay_out.Statement.{statement}
 use Rattle.session.proofs.store.lay_out.Tie as tie
@@ -14,19 +15,17 @@ sized start = ap length (start .pre .words) ∙ length-replicate {A = ℕ} 512 0
 returns : tie.Need-returns
 returns c =
     let after-index = c .before .before .before .before in
-    let start = after-index .before .before .before .before .before in lays-fails (after-index .index .ensures) (sized start) (c .enum-told .given .1)
+    let start = after-index .before .before .before .before .before in index-refused (after-index .index .ensures) (sized start) (c .enum-told .given .1)
 
 slice-relend-prefix-place-names : tie.Need-slice-relend-prefix-place-names
 slice-relend-prefix-place-names c =
     let after-index = c .before .before .before .before .before in
-    let stage = after-index .before .before .before .before .before in
-    rows-inside (after-index .index .ensures) (sized stage) _ (c .before .n .given .1)
+    index-held (after-index .index .ensures) _ (c .before .n .given .1) .inside
 
 slice-aggregate-place-names : tie.Need-slice-aggregate-place-names
 slice-aggregate-place-names c =
     let after-index = c .before .before .before .before .before .before in
-    let stage = after-index .before .before .before .before .before in
-    rows-size (after-index .index .ensures) (sized stage) _ (c .before .before .n .given .1)
+    index-held (after-index .index .ensures) _ (c .before .before .n .given .1) .size
 
 place-names-requires : tie.Need-place-names-requires
 place-names-requires c κs =

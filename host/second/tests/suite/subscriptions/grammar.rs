@@ -1,6 +1,6 @@
 //! Words, names as they are written, and the spelling of INBOX.
 
-use super::{check_edit, check_numbers, row, rows_of, run, store, tree};
+use crate::stores::{check_edit, check_numbers, row, rows_of, run, store, tree};
 
 /// "Check 5 now knows five words", in any case of letters.
 #[test]

@@ -1,10 +1,10 @@
 //! Refusals 14 and 15, and the order of all of them.
 
-use second::table::MAX_ROWS;
+use second::rows::MAX_ROWS;
 use second::{answer, answer_reading, collect, Refusal, Store, Table};
 
-use super::{check_numbers, full, row, run, run_in, store, tree, OK};
 use crate::common::FILL;
+use crate::stores::{check_numbers, full, row, run, run_in, store, tree, OK};
 
 /// "with an unlawful name, it is refused with 14": length, bytes and levels.
 #[test]

@@ -3,7 +3,7 @@
 use second::records::MAX_AREA;
 use second::{Record, Store};
 
-use super::{check_edit, full, row, rows_of, run, store, tree};
+use crate::stores::{check_edit, full, row, rows_of, run, store, tree};
 
 /// "SUBSCRIBE sets the flag": the row keeps its other flags, and nothing else changes.
 #[test]

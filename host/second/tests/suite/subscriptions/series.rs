@@ -4,8 +4,8 @@ use std::collections::BTreeSet;
 
 use second::{collect, Store, Table};
 
-use super::{row, rows_of, run, run_in, store, tree};
 use crate::common::Numbers;
+use crate::stores::{row, rows_of, run, run_in, store, tree};
 
 /// "Demands 2 and 3 read over the table at the time of the command".
 #[test]

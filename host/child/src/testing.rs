@@ -1,0 +1,33 @@
+//! For tests: the programs that they run.
+
+use std::env;
+use std::io::Write;
+use std::path::{Path, PathBuf};
+use std::process::{Command, Stdio};
+
+/// An example of the package that is tested. The tests stand in `deps`, beside the folder of the
+/// examples.
+pub fn example(name: &str) -> PathBuf {
+    let test = env::current_exe().expect("the path of the test");
+    let folder = test.ancestors().nth(2).expect("the folder of the build");
+    folder.join("examples").join(name)
+}
+
+/// Writes a program that is a script of the shell, and gives its path.
+pub fn script(folder: &str, name: &str, text: &str) -> PathBuf {
+    let path = Path::new(folder).join(name);
+    write_program(&path, &format!("#!/bin/sh\n{text}\n"));
+    path
+}
+
+/// Writes a program that can be run. Another process writes it: a file that this one had open could
+/// still be open in a program that another test starts at that moment, and would be busy then.
+pub fn write_program(path: &Path, text: &str) {
+    let mut command = Command::new("/bin/sh");
+    command.args(["-c", "cat >\"$0\" && chmod 755 \"$0\""]).arg(path).stdin(Stdio::piped());
+    let mut writer = command.spawn().expect("a start");
+    let mut input = writer.stdin.take().expect("an input");
+    input.write_all(text.as_bytes()).expect("an open input");
+    drop(input);
+    assert!(writer.wait().expect("an end").success(), "{}", path.display());
+}

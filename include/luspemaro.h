@@ -161,8 +161,9 @@ struct luspemaro_record {
 #define LUSPEMARO_STACK_CHECK_TABLE 16384
 #define LUSPEMARO_STACK_CHECK_NAMESPACES 12288
 #define LUSPEMARO_STACK_MATCHES 12288
+#define LUSPEMARO_STACK_MATCH_STEPS 12288
 #define LUSPEMARO_STACK_ANSWER 323584
-#define LUSPEMARO_STACK_COMPACT 114688
+#define LUSPEMARO_STACK_COMPACT 122880
 #define LUSPEMARO_STACK_COLLECT 98304
 #define LUSPEMARO_STACK_COLLECT_PACKED 98304
 #define LUSPEMARO_STACK_WRITE_LINE 12288
@@ -235,6 +236,10 @@ bool luspemaro_check_namespaces(const uint8_t *list, size_t list_length);
 
 /* Whether the name matches the canonical pattern, of any length. False of every name of over 255 bytes. */
 bool luspemaro_matches(const uint8_t *pattern, size_t pattern_length, const uint8_t *name, size_t name_length);
+
+/* In how many steps luspemaro_matches decides that, each of which looks at one place of the pattern and one of the name: at most
+ * (pattern_length + 1) * (name_length + 1), and 0 of a name of over 255 bytes. */
+size_t luspemaro_match_steps(const uint8_t *pattern, size_t pattern_length, const uint8_t *name, size_t name_length);
 
 /* The answer to one command line, LIST, LSUB, NAMESPACE, SUBSCRIBE or UNSUBSCRIBE, its CR LF included, at the front of out. Refusals, in
  * this order: 1, 2, 3, 4 for the tag, 5, 4 for the rest, 6, 7, 8, 14, 15, 9; 6 and 7 are of LIST, 8 of LIST and LSUB, 14 and 15 of

@@ -1,4 +1,4 @@
-/* Tests of check 1 in both forms of a table, luspemaro_check_namespaces and luspemaro_matches. */
+/* Tests of check 1 in both forms of a table, luspemaro_check_namespaces, luspemaro_matches and its steps. */
 #include "check.h"
 
 /* ---- check 1 */
@@ -254,6 +254,39 @@ static void every_byte_of_a_match(void)
         }
 }
 
+/* ---- its steps */
+
+static size_t steps(const void *pattern, size_t pattern_length, const void *name, size_t name_length)
+{
+    return luspemaro_match_steps(lend_bytes(LINE, pattern, pattern_length), pattern_length, lend_bytes(TABLE, name, name_length),
+                                 name_length);
+}
+
+/* At most (p + 1) (n + 1), and one at least where the name is looked at; few where a wildcard need not be tried again. */
+static void steps_of_a_match(void)
+{
+    static const char *const patterns[] = {"", "*", "%", "a", "*a*a*a*b", "%a%a%a%b", "*%/%b", "%*/b", "*a%b*a%b", "a/b/*", "***%%%***"};
+    static const char *const names[] = {"", "a", "b", "aaaaaaaa", "a/a/a/a/b", "aab/aab/aab", "////", "INBOX"};
+    for (size_t i = 0; i < sizeof patterns / sizeof patterns[0]; i++)
+        for (size_t j = 0; j < sizeof names / sizeof names[0]; j++) {
+            size_t p = strlen(patterns[i]), n = strlen(names[j]), taken = steps(patterns[i], p, names[j], n);
+            EXPECT(taken >= 1 && taken <= (p + 1) * (n + 1));
+        }
+    EXPECT(steps("*", 1, "a/b/c", 5) == 2);
+    EXPECT(steps("a", 1, "b", 1) == 1);
+    EXPECT(steps("abc", 3, "abc", 3) == 5);
+    EXPECT(steps("*%/%b", 5, "a/b/c", 5) == 1);
+}
+
+static void steps_of_long_names(void)
+{
+    static uint8_t name[256], stars[70000];
+    memset(name, 'a', sizeof name);
+    memset(stars, '*', sizeof stars);
+    EXPECT(steps(stars, sizeof stars, name, 256) == 0);
+    EXPECT(steps(stars, sizeof stars, name, 255) == sizeof stars + 1);
+}
+
 const struct test table_tests[] = {
     {"check 1: an empty table", empty_table},
     {"check 1: table E", table_e_passes},
@@ -272,5 +305,7 @@ const struct test check_tests[] = {
     {"matches: patterns and names", patterns},
     {"matches: lengths", lengths_of_a_match},
     {"matches: every byte against every byte", every_byte_of_a_match},
+    {"match_steps: the bound", steps_of_a_match},
+    {"match_steps: lengths", steps_of_long_names},
     {NULL, NULL},
 };

@@ -206,6 +206,11 @@ static void call_matches(void)
     truth = luspemaro_matches(line, line_length, area, NAME);
 }
 
+static void call_match_steps(void)
+{
+    truth = luspemaro_match_steps(line, line_length, area, NAME) > 0;
+}
+
 static void call_answer(void)
 {
     outcome = luspemaro_answer(records, LUSPEMARO_MAX_ROWS, count, area, sizeof area, namespaces, namespaces_length, line, line_length,
@@ -388,6 +393,8 @@ static void measure_others(void)
     set_long_line("*%", '*', "%");
     measure("matches", "2,048 wildcards", LUSPEMARO_STACK_MATCHES, call_matches);
     claim(truth, "matches", "2,048 wildcards");
+    measure("match_steps", "2,048 wildcards", LUSPEMARO_STACK_MATCH_STEPS, call_match_steps);
+    claim(truth, "match_steps", "2,048 wildcards");
     set_long_line("a {1024}\r\n", 'a', "\r\n");
     measure("feed", "a line with a header", LUSPEMARO_STACK_FEED, call_feed);
     claim(fed.event == LUSPEMARO_EVENT_GO_ON, "feed", "a line with a header");

@@ -29,27 +29,28 @@ kept-most (true ∷ ms) (b ∷ bs) = omega (arith, kept-most ms bs)
 kept-most (false ∷ ms) (b ∷ bs) = omega (arith, kept-most ms bs)
 
 -- After i bytes of the area `start`: its bytes up to i that are not free stand at the front, those from i on are untouched.
-pub record Gathering (marks : List Bool) (start area places : List ℕ) (i end : ℕ) : Type 0 where
+-- There is room for n places.
+pub record Gathering (marks : List Bool) (start area places : List ℕ) (n i end : ℕ) : Type 0 where
   pub most : i ≤ length start
   pub size : length area ≡ length start
-  pub room : length places ≡ 32768
+  pub room : length places ≡ n
   pub end-is : end ≡ keptBefore marks start i
   pub front : take end area ≡ kept (take i marks) (take i start)
   pub rest : (k : ℕ) → i ≤ k → getD area k 0 ≡ getD start k 0
   pub places-are : (k : ℕ) → k < i → getD places k 0 ≡ keptBefore marks start k
 
-pub gathering-none : (marks : List Bool) (start places : List ℕ) → length places ≡ 32768 → Gathering marks start start places 0 0
+pub gathering-none : (marks : List Bool) (start places : List ℕ) → Gathering marks start start places (length places) 0 0
 unfolding keptBefore kept
-gathering-none marks start places h =
-    record { most = omega arith; size = refl; room = h; end-is = refl; front = refl; rest = λ k g. refl; places-are = λ k g. absurd (omega arith) }
+gathering-none marks start places =
+    record { most = omega arith; size = refl; room = refl; end-is = refl; front = refl; rest = λ k g. refl; places-are = λ k g. absurd (omega arith) }
 
-module _ {marks : List Bool} {start area places : List ℕ} {i end : ℕ} (g : Gathering marks start area places i end) where
+module _ {marks : List Bool} {start area places : List ℕ} {n i end : ℕ} (g : Gathering marks start area places n i end) where
   -- what was gathered lies before the byte that is looked at
   pub end-most : end ≤ i
   unfolding keptBefore
   end-most = omega (arith, g .end-is, g .most, kept-most (take i marks) (take i start), length-take-le i start (g .most))
 
-  module _ (sized : length marks ≡ length start) (h : i < length start) (short : length start ≤ 32768) where
+  module _ (sized : length marks ≡ length start) (h : i < length start) (short : length start ≤ n) where
     next : kept (take (suc i) marks) (take (suc i) start) ≡ kept (take i marks) (take i start) ++ cond (getD marks i false) [] (getD start i 0 ∷ [])
     next =
         (λ j. kept (take-suc marks i false (omega (arith, sized, h)) j) (take-suc start i 0 h j))
@@ -63,7 +64,7 @@ module _ {marks : List Bool} {start area places : List ℕ} {i end : ℕ} (g : G
         go (no a) = getD-set-other places i k end 0 (λ e. omega arith) ∙ g .places-are k (omega arith)
 
     -- the byte is free: nothing moves
-    pub gathering-free : getD marks i false ≡ true → Gathering marks start area (set places i end) (i + 1) end
+    pub gathering-free : getD marks i false ≡ true → Gathering marks start area (set places i end) n (i + 1) end
     unfolding keptBefore
     gathering-free free =
         let same : kept (take (i + 1) marks) (take (i + 1) start) ≡ kept (take i marks) (take i start) =
@@ -79,7 +80,7 @@ module _ {marks : List Bool} {start area places : List ℕ} {i end : ℕ} (g : G
         }
 
     -- the byte is used: it moves to the end of what was gathered
-    pub gathering-used : getD marks i false ≡ false → Gathering marks start (set area end (getD area i 0)) (set places i end) (i + 1) (end + 1)
+    pub gathering-used : getD marks i false ≡ false → Gathering marks start (set area end (getD area i 0)) (set places i end) n (i + 1) (end + 1)
     unfolding keptBefore
     gathering-used used =
         let whole : kept (take (i + 1) marks) (take (i + 1) start) ≡ kept (take i marks) (take i start) ++ (getD start i 0 ∷ []) = rw (add-one i) (next ∙ rw used) in
@@ -94,14 +95,15 @@ module _ {marks : List Bool} {start area places : List ℕ} {i end : ℕ} (g : G
         }
 
 -- all bytes were looked at
-pub gathering-all : {marks : List Bool} {start area places : List ℕ} {i end : ℕ} → Gathering marks start area places i end → length marks ≡ length start → length start ≤ i
+pub gathering-all : {marks : List Bool} {start area places : List ℕ} {n i end : ℕ} → Gathering marks start area places n i end → length marks ≡ length start → length start ≤ n
+    → length start ≤ i
     → Gathers marks start area places end
 unfolding keptBefore
-gathering-all {marks} {start} {area} {places} {i} {end} g sized h =
+gathering-all {marks} {start} {area} {places} {n} {i} {end} g sized short h =
     let whole : kept (take i marks) (take i start) ≡ kept marks start = (λ j. kept (take-all i marks (omega (arith, sized, h)) j) (take-all i start h j)) in
     record {
       size = g .size;
-      room = g .room;
+      room = omega (arith, g .room, short);
       end-most = omega (arith, end-most g, g .most);
       end-is = g .end-is ∙ ap length whole;
       front = g .front ∙ whole;

@@ -18,7 +18,7 @@ keptBefore marks area k = length (kept (take k marks) (take k area))
 -- They stand at the front of the area, up to `end`, and for each place it is told how many of them lay before it.
 pub record Gathers (marks : List Bool) (before after places : List ℕ) (end : ℕ) : Type 0 where
   pub size : length after ≡ length before
-  pub room : length places ≡ 32768
+  pub room : length before ≤ length places
   pub end-most : end ≤ length before
   pub end-is : end ≡ length (kept marks before)
   pub front : take end after ≡ kept marks before

@@ -30,7 +30,7 @@ together rs area = usedFrom rs 0 area ++ replicate (length area - length (usedFr
 -- the area, and for each of its places where it came to lie
 pub record MovesBytes (rs : List Record) (area area′ places : List ℕ) : Type 0 where
   pub area-is : area′ ≡ together rs area
-  pub room : length places ≡ 32768
+  pub room : length area ≤ length places
   pub places-are : (k : ℕ) → k < length area → getD places k 0 ≡ placeAfter rs area k
 
 -- the area, and the records that the words mean then

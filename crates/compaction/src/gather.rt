@@ -12,6 +12,15 @@ ghost use Rattle.compaction.specs.Moves.{MovesBytes};
 
 const MAX_BYTES: usize = 32768;
 
+pub(crate) const SHORT_BYTES: usize = 4096;
+
+// Room for the place of each byte of a short area, which takes less time to clear.
+pub(crate) fn few_places() -> [u16; SHORT_BYTES]
+    ensures { λ r. ⌜ r ≡ replicate 4096 0 ⌝ }
+{
+    [0u16; SHORT_BYTES]
+}
+
 // Room for the place of each byte of any area that passes.
 pub(crate) fn no_places() -> [u16; MAX_BYTES]
     ensures { λ r. ⌜ r ≡ replicate 32768 0 ⌝ }
@@ -22,7 +31,7 @@ pub(crate) fn no_places() -> [u16; MAX_BYTES]
 // The bytes of the words' names at the front of the area, in their order, zeros after them, and for each place of the area how many of
 // those bytes lay before it.
 pub(crate) fn move_bytes(words: &[u64], area: &mut [u8], places: &mut [u16])
-    requires { ⌜ (length (now area) ≤ 32768) × (length (now places) ≡ 32768) ⌝ }
+    requires { ⌜ (length (now area) ≤ 32768) × (length (now area) ≤ length (now places)) ⌝ }
     ensures { λ _. ⌜ MovesBytes (map recordOf (now (words .entry))) (now (area .entry)) (now (area .exit)) (now (places .exit)) ⌝ }
 {
     let mut marks = all_free();
@@ -34,7 +43,7 @@ pub(crate) fn move_bytes(words: &[u64], area: &mut [u8], places: &mut [u16])
 
 // The bytes that are not marked as free, moved to the front, and how many they are.
 fn gather(area: &mut [u8], marks: &[bool], places: &mut [u16]) -> usize
-    requires { ⌜ (length (now area) ≤ 32768) × (length (now marks) ≡ length (now area)) × (length (now places) ≡ 32768) ⌝ }
+    requires { ⌜ (length (now area) ≤ 32768) × (length (now marks) ≡ length (now area)) × (length (now area) ≤ length (now places)) ⌝ }
     ensures { λ r. ⌜ Gathers (now (marks .entry)) (now (area .entry)) (now (area .exit)) (now (places .exit)) r ⌝ }
 {
     let mut end = 0;

@@ -5,6 +5,8 @@
 mod gather;
 mod starts;
 
+use gather::SHORT_BYTES;
+use gather::few_places;
 use gather::move_bytes;
 use gather::no_places;
 use mailbox_table::check_words;
@@ -17,7 +19,8 @@ use records::no_words;
 use starts::restart;
 ghost use mathlib.Core.Path.{_≡_};
 ghost use mathlib.Core.List.{map};
-ghost use lib.ListN.{take};
+ghost use Prim.Native.Nat.{_≤_};
+ghost use lib.ListN.{length, take};
 ghost use Rattle.records.specs.Words.{recordOf, meant};
 ghost use Rattle.records.specs.Stores.{lentCompaction, wordCompaction, Between};
 ghost use Rattle.compaction.specs.Moves.{Within, MovesNames};
@@ -68,13 +71,26 @@ pub fn compact_words(words: &mut [u64], lent: usize, count: usize, area: &mut [u
     }
 }
 
-// The names of these words, moved together, and zeros after them.
+// The names of these words, moved together, and zeros after them. A short area takes the smaller room for places.
 fn move_names(words: &mut [u64], area: &mut [u8])
     requires { ⌜ Within (now words) (now area) ⌝ }
     ensures { λ _. ⌜ MovesNames (now (words .entry)) (now (area .entry)) (now (words .exit)) (now (area .exit)) ⌝ }
 {
+    if area.len() <= SHORT_BYTES {
+        let mut few = few_places();
+        move_by(words, area, &mut few);
+        return;
+    }
     let mut places = no_places();
+    move_by(words, area, &mut places);
+}
+
+// The same, with room for the place of each byte.
+fn move_by(words: &mut [u64], area: &mut [u8], places: &mut [u16])
+    requires { ⌜ Within (now words) (now area) × (length (now area) ≤ length (now places)) ⌝ }
+    ensures { λ _. ⌜ MovesNames (now (words .entry)) (now (area .entry)) (now (words .exit)) (now (area .exit)) ⌝ }
+{
     let n = area.len();
-    move_bytes(words, area, &mut places);
+    move_bytes(words, area, places);
     restart(words, &places[..n]);
 }

@@ -23,6 +23,7 @@ use records::no_words;
 ghost use mathlib.Core.Path.{_≡_};
 ghost use mathlib.Core.Bool.{_&&_};
 ghost use mathlib.Core.List.{map};
+ghost use Prim.Native.Nat.{_+_, _*_, _≤_};
 ghost use lib.Dec.{leb};
 ghost use lib.ListN.{length, take};
 ghost use Rattle.listing_rules.specs.Table.{passes, packedTable};
@@ -34,6 +35,7 @@ ghost use Rattle.listing_rules.specs.Walk.{collected};
 ghost use Rattle.records.specs.Words.{recordOf, meant};
 ghost use Rattle.records.specs.Lent.{lentTable, wordTable};
 ghost use Rattle.records.specs.Stores.{lentCommand, wordCommand, lentCompaction, Between};
+ghost use Rattle.pattern.specs.Steps.{countedIs};
 ghost use Rattle.list_line.specs.Members.{members};
 ghost use Rattle.collector.specs.Result.{collectedOf, scratchOf, foundOf, pendingOf, OwesDemand3};
 ghost use Rattle.exports.specs.Outcomes.{outcomeOf, Into, walkOutcome, partsOf};
@@ -70,6 +72,16 @@ pub extern "C" fn luspemaro_matches(pattern: &[u8], name: &[u8]) -> bool
     ensures { λ r. ⌜ r ≡ (leb (length (now (name .entry))) 255 && matches (now (pattern .entry)) (now (name .entry))) ⌝ }
 {
     pattern::matches(pattern, name)
+}
+
+// In how many steps that is decided.
+#[no_mangle]
+pub extern "C" fn luspemaro_match_steps(pattern: &[u8], name: &[u8]) -> usize
+    ensures count { λ r. ⌜ r ≡ countedIs (now (pattern .entry)) (now (name .entry)) .steps ⌝ }
+    ensures bound { λ r. ⌜ r ≤ (length (now (pattern .entry)) + 1) * (length (now (name .entry)) + 1) ⌝ }
+{
+    let counted = pattern::match_steps(pattern, name);
+    counted.steps
 }
 
 // The answer to one command at the front of `out`. SUBSCRIBE and UNSUBSCRIBE change records and area; `count` of the outcome is the

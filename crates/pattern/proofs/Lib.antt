@@ -1,7 +1,13 @@
 -- Laws of the matcher's definitions, one file a topic.
 pub mod Folded
-pub mod Wild
-pub mod Rows
+pub mod Tails
+pub mod Places
+pub mod Spans
 pub mod Packed
-pub mod Blank
+pub mod Standing
+pub mod Costs
+pub mod Stepping
+pub mod Running
+pub mod Front
+pub mod OneStep
 pub mod Chosen

@@ -1,6 +1,5 @@
 -- What the contracts of the matcher cite beside document 01's definitions.
 pub mod Folded
-pub mod Runs
-pub mod Rows
+pub mod Steps
 pub mod Packed
 pub mod Chosen

@@ -51,14 +51,19 @@ pub const LISTING: &str = "a LIST \"\" nothing";
 #[derive(Clone, Copy)]
 pub enum Command {
     Text(&'static str),
-    /// `LIST` with so many patterns of so many "*".
-    Stars {
-        patterns: usize,
-        length: usize,
+    /// `LIST` with so many times the same pattern, behind a reference.
+    Patterns {
+        reference: Repeated,
+        pattern: Repeated,
+        count: usize,
     },
-    /// `LIST` with "%a" so many times, then "b".
-    PercentA(usize),
 }
+
+/// A text so many times, then its end.
+#[derive(Clone, Copy)]
+pub struct Repeated(pub &'static str, pub usize, pub &'static str);
+
+const NO_REFERENCE: Repeated = Repeated("", 0, "");
 
 #[derive(Clone, Copy, PartialEq)]
 pub enum Table {
@@ -66,6 +71,10 @@ pub enum Table {
     Tree,
     /// Names of thirty "a" and a number, which come near to the pattern of "%a".
     ManyA,
+    /// Names of sixty "a" and a number: as long as 512 names in one area can be.
+    LongA,
+    /// Names of fourteen levels, of which thirteen are "abb".
+    Levels,
 }
 
 #[derive(Clone, Copy, PartialEq)]
@@ -81,7 +90,7 @@ pub struct Case {
     pub call: Call,
 }
 
-pub const CASES: [Case; 17] = [
+pub const CASES: [Case; 24] = [
     packed_case("check of the table", Call::Check),
     text_case(r#"`LIST "" "*"`"#, r#"a LIST "" "*""#),
     text_case(r#"`LIST "" "%"`"#, r#"a LIST "" "%""#),
@@ -89,12 +98,43 @@ pub const CASES: [Case; 17] = [
         r#"`LIST (SUBSCRIBED RECURSIVEMATCH) "" "%"`"#,
         r#"a LIST (SUBSCRIBED RECURSIVEMATCH) "" "%""#,
     ),
-    records_case(
-        "eight patterns of forty `*`",
-        Table::Tree,
-        Call::Command(Command::Stars { patterns: 8, length: 40 }),
+    patterns_case("eight patterns of forty `*`", Table::Tree, Repeated("*", 40, ""), 8),
+    patterns_case("`%a` twenty times, then `b`", Table::ManyA, Repeated("%a", 20, "b"), 1),
+    patterns_case(
+        "eight patterns of `%b*` seventy times",
+        Table::Levels,
+        Repeated("%b*", 70, ""),
+        8,
     ),
-    records_case("`%a` twenty times, then `b`", Table::ManyA, Call::Command(Command::PercentA(20))),
+    patterns_case("`*%/%b`", Table::Levels, Repeated("*%/%b", 1, ""), 1),
+    patterns_case("`%*/b`", Table::Levels, Repeated("%*/b", 1, ""), 1),
+    patterns_case(
+        "eight of `*a%b` fifty times, then `*`",
+        Table::Levels,
+        Repeated("*a%b", 50, "*"),
+        8,
+    ),
+    patterns_case(
+        "eight of `a*` a hundred times, then `b*`",
+        Table::LongA,
+        Repeated("a*", 100, "b*"),
+        8,
+    ),
+    patterns_case(
+        "eight of `*/%` sixty times, then `/c*`",
+        Table::Levels,
+        Repeated("*/%", 60, "/c*"),
+        8,
+    ),
+    records_case(
+        "eight behind a reference: `*a%` 83 times, then `/cb*`",
+        Table::LongA,
+        Call::Command(Command::Patterns {
+            reference: Repeated("*a%", 20, ""),
+            pattern: Repeated("*a%", 63, "/cb*"),
+            count: 8,
+        }),
+    ),
     text_case(r#"`LIST "" "*" RETURN (CHILDREN)`"#, r#"a LIST "" "*" RETURN (CHILDREN)"#),
     text_case("`NAMESPACE`", "a NAMESPACE"),
     packed_case("a whole walk", Call::Walk(0)),
@@ -129,6 +169,30 @@ pub const CASES: [Case; 17] = [
     records_case("compaction", Table::Tree, Call::Compaction),
 ];
 
+/// The worst commands found, one by its steps and one by its time beside the second program's. They are
+/// measured beside the table, and no bound holds for them. Each begins and ends in a wildcard, so
+/// that no look at one end decides.
+///
+/// In every level of a name each "%" is a step; and every name nearly has the run of thirty "a", at
+/// every place.
+pub const WORST: [Case; 2] = [
+    records_case(
+        "eight patterns of `*`, 250 `%` and `x*`, over names of fourteen levels",
+        Table::Levels,
+        Call::Command(Command::Patterns {
+            reference: Repeated("*", 1, ""),
+            pattern: Repeated("%", 250, "x*"),
+            count: 8,
+        }),
+    ),
+    patterns_case(
+        "eight patterns of `*`, thirty `a` and `b*`, over names of sixty `a` and a number",
+        Table::LongA,
+        Repeated("*aaaaaaaaaaaaaaaaaaaaaaaaaaaaaab*", 1, ""),
+        8,
+    ),
+];
+
 const fn packed_case(title: &'static str, call: Call) -> Case {
     Case { title, table: Table::Tree, form: Form::Packed, call }
 }
@@ -139,6 +203,11 @@ const fn records_case(title: &'static str, table: Table, call: Call) -> Case {
 
 const fn text_case(title: &'static str, line: &'static str) -> Case {
     records_case(title, Table::Tree, Call::Command(Command::Text(line)))
+}
+
+const fn patterns_case(title: &'static str, table: Table, pattern: Repeated, count: usize) -> Case {
+    let patterns = Command::Patterns { reference: NO_REFERENCE, pattern, count };
+    records_case(title, table, Call::Command(patterns))
 }
 
 const fn edit_case(title: &'static str, edit: Edit) -> Case {
@@ -187,12 +256,29 @@ impl Command {
     pub fn line(self) -> Vec<u8> {
         let text = match self {
             Command::Text(text) => text.to_string(),
-            Command::Stars { patterns, length } => {
-                format!("a LIST \"\" ({})", vec!["*".repeat(length); patterns].join(" "))
+            Command::Patterns { reference, pattern, count } => {
+                let patterns = vec![pattern.text(); count].join(" ");
+                format!("a LIST \"{}\" ({patterns})", reference.text())
             }
-            Command::PercentA(count) => format!("a LIST \"\" {}b", "%a".repeat(count)),
         };
         line_of(&text)
+    }
+
+    /// The canonical patterns, where they are made of repeated texts.
+    pub fn patterns(self) -> Option<Vec<Vec<u8>>> {
+        match self {
+            Command::Text(_) => None,
+            Command::Patterns { reference, pattern, count } => {
+                Some(vec![(reference.text() + &pattern.text()).into_bytes(); count])
+            }
+        }
+    }
+}
+
+impl Repeated {
+    fn text(self) -> String {
+        let Repeated(unit, times, end) = self;
+        unit.repeat(times) + end
     }
 }
 
@@ -227,7 +313,7 @@ impl Table {
         Layout { count: records.len(), records, area }
     }
 
-    fn rows(self, count: usize) -> Vec<NewRow> {
+    pub fn rows(self, count: usize) -> Vec<NewRow> {
         let row = |at| {
             let (name, flags) = self.row(at);
             NewRow { flags, name: name.into_bytes() }
@@ -241,6 +327,8 @@ impl Table {
         match self {
             Table::Tree => tree_row(at),
             Table::ManyA => (format!("{}{at:03}", "a".repeat(30)), Flags::EXISTS),
+            Table::LongA => (format!("{}{at:03}", "a".repeat(60)), Flags::EXISTS),
+            Table::Levels => (format!("{}{at:03}", "abb/".repeat(13)), Flags::EXISTS),
         }
     }
 }

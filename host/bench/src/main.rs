@@ -1,20 +1,22 @@
 //! `bench DOCS`
 //!
 //! Measures every case at every size, prints the table, and writes it into DOCS/PERFORMANCE.md and
-//! the plot to DOCS/performance.svg. Status 1 is a difference between the two libraries, a check of
-//! records that takes too long beside that of the packed form, or an edit that takes too long beside a
-//! LIST that lists nothing.
+//! the plot to DOCS/performance.svg. Status 1 is a difference between the two libraries, a call that
+//! takes longer than the second program's, a check of records that takes too long beside that of the
+//! packed form, or an edit that takes too long beside a LIST that lists nothing.
 
 use std::env;
 use std::fs;
 use std::path::PathBuf;
 use std::process::ExitCode;
 
-use bench::inputs::{Beside, Call, Case, CASES, SIZES};
+use bench::inputs::{Beside, Call, Case, CASES, SIZES, WORST};
 use bench::measure::{measure, Measured};
-use bench::page::{with_table, Measures};
+use bench::page::{with_measures, Measures};
 use bench::plot::plot;
 
+/// What a call over the most rows may take, by the second program's time.
+const MOST_BY_SECOND: f64 = 1.0;
 /// What the check of the most records may take, by that of the packed form of the same rows; and an
 /// edit of the most rows, by a LIST that lists nothing.
 const MOST_BY_BESIDE: f64 = 1.5;
@@ -33,19 +35,46 @@ fn run() -> Result<(), String> {
     let docs = PathBuf::from(env::args().nth(1).ok_or("usage: bench DOCS")?);
     let mut measures = Measures::new();
     for case in &CASES {
-        let measured = measure(case)?;
-        for (rows, one) in SIZES.iter().zip(&measured) {
-            println!("{}", shown(case, *rows, one));
-        }
-        measures.push(measured);
+        measures.push(measured(case)?);
+    }
+    let mut worst = Vec::new();
+    for case in &WORST {
+        let [.., full] = measured(case)?;
+        worst.push(full);
     }
     let page = docs.join("PERFORMANCE.md");
     let told = |error| format!("{}: {error}", docs.display());
-    let text = with_table(&fs::read_to_string(&page).map_err(told)?, &measures)
-        .ok_or("PERFORMANCE.md has no place for the table")?;
+    let text = with_measures(&fs::read_to_string(&page).map_err(told)?, &measures, &worst)
+        .ok_or("PERFORMANCE.md has no place for the table or the worst commands")?;
     fs::write(page, text).map_err(told)?;
     fs::write(docs.join("performance.svg"), plot(&measures)).map_err(told)?;
+    check_second(&measures)?;
     check_beside(&measures)
+}
+
+/// Measures a case, and prints what it took at each size.
+fn measured(case: &Case) -> Result<[Measured; SIZES.len()], String> {
+    let measured = measure(case)?;
+    for (rows, one) in SIZES.iter().zip(&measured) {
+        println!("{}", shown(case, *rows, one));
+    }
+    Ok(measured)
+}
+
+/// No call over the most rows takes longer than the second program's.
+fn check_second(measures: &Measures) -> Result<(), String> {
+    let mut too_long = Vec::new();
+    for (case, measured) in CASES.iter().zip(measures) {
+        let ratio = measured[SIZES.len() - 1].by_second;
+        if ratio > MOST_BY_SECOND {
+            too_long.push(format!("{}: {ratio:.2} of the second program", case.title));
+        }
+    }
+    if too_long.is_empty() {
+        Ok(())
+    } else {
+        Err(too_long.join("\n"))
+    }
 }
 
 /// The checks of records and the edits at the most rows, each beside what it is measured beside.
@@ -80,13 +109,14 @@ fn beside_text(case: &Case) -> &'static str {
 fn shown(case: &Case, rows: usize, one: &Measured) -> String {
     let beside = one.by_beside.map(|ratio| format!(", {ratio:.2}{}", beside_text(case)));
     format!(
-        "{:42} {rows:4} rows: {:5.2} of the second program, {:7.1} floors by bytes, {:6.0} by blocks, {:4.1} times 64 rows, {:8.1} us{}",
+        "{:42} {rows:4} rows: {:5.2} of the second program, {:7.1} floors by bytes, {:6.0} by blocks, {:4.1} times 64 rows, {:8.1} us{}{}",
         case.title,
         one.by_second,
         one.by_byte_floor,
         one.by_block_floor,
         one.growth,
         one.seconds * 1e6,
-        beside.unwrap_or_default()
+        beside.unwrap_or_default(),
+        one.steps.map(|steps| format!(", {steps} steps")).unwrap_or_default()
     )
 }

@@ -41,6 +41,8 @@ pub struct Measured {
     pub growth: f64,
     /// Seconds of one call of the proved library.
     pub seconds: f64,
+    /// Steps of the match over the names of the rows, of a command made of repeated patterns.
+    pub steps: Option<usize>,
 }
 
 /// The result of a call, and the lent memory behind it.
@@ -96,7 +98,23 @@ pub fn measure(case: &Case) -> Result<[Measured; SIZES.len()], String> {
     }
     let rounds: Vec<Round> =
         (0..ROUNDS).map(|_| array::from_fn(|size| prepared[size].seconds(&mut lent))).collect();
-    Ok(array::from_fn(|size| medians(&rounds, size, case.beside().is_some())))
+    Ok(array::from_fn(|size| Measured {
+        steps: steps(case, SIZES[size]),
+        ..medians(&rounds, size, case.beside().is_some())
+    }))
+}
+
+/// The steps in which each row's name is matched: against one pattern after the other, up to the
+/// first that it matches.
+fn steps(case: &Case, rows: usize) -> Option<usize> {
+    let Call::Command(command) = case.call else { return None };
+    let patterns = command.patterns()?;
+    let of_name = |name: &[u8]| {
+        let failing = patterns.iter().take_while(|pattern| !luspemaro::matches(pattern, name));
+        let tried = patterns.len().min(failing.count() + 1);
+        patterns[..tried].iter().map(|pattern| luspemaro::match_steps(pattern, name)).sum::<usize>()
+    };
+    Some(case.table.rows(rows).iter().map(|row| of_name(&row.name)).sum())
 }
 
 fn medians(rounds: &[Round], size: usize, has_beside: bool) -> Measured {
@@ -109,6 +127,7 @@ fn medians(rounds: &[Round], size: usize, has_beside: bool) -> Measured {
         by_beside: has_beside.then(|| by(BESIDE)),
         growth: median_of(&|round| round[size][PROVED] / round[0][PROVED]),
         seconds: median_of(&|round| round[size][PROVED]),
+        steps: None,
     }
 }
 

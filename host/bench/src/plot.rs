@@ -14,7 +14,7 @@ const FRAME: &str = "fill=\"none\" stroke=\"#999\"";
 const COLOURS: [&str; CASES.len()] = [
     "#1b9e77", "#d95f02", "#7570b3", "#e7298a", "#66a61e", "#e6ab02", "#a6761d", "#666666",
     "#1f78b4", "#8dd3c7", "#fdb462", "#bebada", "#80b1d3", "#b3de69", "#fb8072", "#bc80bd",
-    "#33a02c",
+    "#33a02c", "#e31a1c", "#ff7f00", "#6a3d9a", "#b15928", "#a6cee3", "#b2df8a", "#fb9a99",
 ];
 
 /// One of the two panels: what it shows, between which values, and a line to compare with.
@@ -53,9 +53,9 @@ const PANELS: [Panel; 2] = [
 /// The whole picture.
 pub fn plot(measures: &Measures) -> String {
     let mut text = String::from(concat!(
-        r#"<svg xmlns="http://www.w3.org/2000/svg" viewBox="0 0 1000 540" "#,
+        r#"<svg xmlns="http://www.w3.org/2000/svg" viewBox="0 0 1000 660" "#,
         r#"font-family="sans-serif" font-size="12">"#,
-        "\n<rect width=\"1000\" height=\"540\" fill=\"white\"/>\n"
+        "\n<rect width=\"1000\" height=\"660\" fill=\"white\"/>\n"
     ));
     for panel in &PANELS {
         text += &panel.frame();

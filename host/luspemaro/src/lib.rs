@@ -89,6 +89,22 @@ pub fn matches(pattern: &[u8], name: &[u8]) -> bool {
     raw::matches(pattern, name)
 }
 
+/// In how many steps [`matches`] decides that, each of which looks at one place of the pattern and
+/// one of the name: at most `(pattern.len() + 1) * (name.len() + 1)`, and none for a name of over 255
+/// bytes.
+///
+/// ```
+/// // The last byte of both, then nine bytes, and the end of both.
+/// assert_eq!(luspemaro::match_steps(b"Customers", b"Customers"), 11);
+/// // The last byte of both, then the "*", which takes all that is left.
+/// assert_eq!(luspemaro::match_steps(b"*", b"Customers/ABC"), 2);
+/// // The last byte of both is enough.
+/// assert_eq!(luspemaro::match_steps(b"*%/%b", b"Customers/ABC"), 1);
+/// ```
+pub fn match_steps(pattern: &[u8], name: &[u8]) -> usize {
+    raw::match_steps(pattern, name)
+}
+
 /// Answers one command line, LIST, LSUB, NAMESPACE, SUBSCRIBE or UNSUBSCRIBE, at the front of `out`.
 ///
 /// The first `count` records are the rows; those after them are spare. An edit that is accepted changes

@@ -109,6 +109,12 @@ extern "C" {
         name: *const u8,
         name_len: usize,
     ) -> bool;
+    fn luspemaro_match_steps(
+        pattern: *const u8,
+        pattern_len: usize,
+        name: *const u8,
+        name_len: usize,
+    ) -> usize;
     fn luspemaro_answer(
         records: *mut Record,
         records_len: usize,
@@ -194,6 +200,10 @@ pub fn check_namespaces(list: &[u8]) -> bool {
 
 pub fn matches(pattern: &[u8], name: &[u8]) -> bool {
     unsafe { luspemaro_matches(pattern.as_ptr(), pattern.len(), name.as_ptr(), name.len()) }
+}
+
+pub fn match_steps(pattern: &[u8], name: &[u8]) -> usize {
+    unsafe { luspemaro_match_steps(pattern.as_ptr(), pattern.len(), name.as_ptr(), name.len()) }
 }
 
 pub fn answer(

@@ -1,9 +1,9 @@
 //! The night of Customers/ABC, called from Rust.
 
 use luspemaro::{
-    answer, check_namespaces, check_records, check_table, collect, collect_packed, matches,
-    put_go_on, read_line, write_line, Answered, Criteria, Event, Feeder, Record, Records, Refusal,
-    Walked,
+    answer, check_namespaces, check_records, check_table, collect, collect_packed, match_steps,
+    matches, put_go_on, read_line, write_line, Answered, Criteria, Event, Feeder, Record, Records,
+    Refusal, Walked,
 };
 
 /// Flags 0003, length 13, the name.
@@ -24,6 +24,8 @@ fn checks_and_matches() {
     assert!(check_records(TABLE) && !check_records(Records { count: 3, ..TABLE }));
     assert!(check_namespaces(b"") && !check_namespaces(b"\x03\0/"));
     assert!(matches(b"C%/*", b"Customers/ABC") && !matches(b"C%", b"Customers/ABC"));
+    assert_eq!(match_steps(b"Customers", b"Customers"), 11);
+    assert!((1..=5 * 14).contains(&match_steps(b"C%/*", b"Customers/ABC")));
 }
 
 /// A table that is lent to be changed.

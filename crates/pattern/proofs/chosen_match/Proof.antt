@@ -13,7 +13,7 @@ returns c =
 returns-2 : tie.Need-returns-2
 returns-2 c =
     let start = c .before .before .before .before .before in
-    c .wild-match .ensures ∙ chosen-in (start .args .levels) _ _ _ (c .before .before .ends-in-percent .ensures) (c .before .if1 .left)
+    c .run-steps .ensures .right ∙ chosen-in (start .args .levels) _ _ _ (c .before .before .ends-in-percent .ensures) (c .before .if1 .left)
 
 pub chosen-match-spec : {M : Type 1} → statement M
 chosen-match-spec =

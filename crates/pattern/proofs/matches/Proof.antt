@@ -11,7 +11,7 @@ returns c = long-name (c .before .before .before .args .name .now) _ (c .if1 .ta
 returns-2 : tie.Need-returns-2
 returns-2 c =
     let start = c .before .before .before .before .before in
-    short-name (start .args .name .now) _ _ (c .before .before .if1 .left) (c .wild-match .ensures ∙ matches-folded _ _ _ (c .before .is-inbox .ensures))
+    short-name (start .args .name .now) _ _ (c .before .before .if1 .left) (c .run-steps .ensures .right ∙ matches-folded _ _ _ (c .before .is-inbox .ensures))
 
 pub matches-spec : {M : Type 1} → statement M
 matches-spec = tie.close (tie.spec returns (λ c κs. search needs) (λ c κs. search needs) returns-2)

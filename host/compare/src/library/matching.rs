@@ -47,6 +47,16 @@ pub fn hostile(tally: &mut Tally) {
 fn match_both(tally: &mut Tally, pattern: &[u8], name: &[u8]) {
     let call = || format!("matches: pattern {}, name {}", shown(pattern), shown(name));
     tally.same(call, MATCHES.map(|matches| matches(pattern, name)));
+    let (most, steps) = (most_steps(pattern, name), luspemaro::match_steps(pattern, name));
+    tally.same_of(call, ["steps", "at most"], [steps, steps.min(most)]);
+}
+
+/// "at most (p + 1) times (n + 1) steps"; no step for a name that is not looked at.
+fn most_steps(pattern: &[u8], name: &[u8]) -> usize {
+    if name.len() > MAX_NAME {
+        return 0;
+    }
+    (pattern.len() + 1) * (name.len() + 1)
 }
 
 fn some_bytes(random: &mut Random, most: usize, of: &[u8]) -> Vec<u8> {

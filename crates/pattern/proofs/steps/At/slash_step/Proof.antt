@@ -1,0 +1,22 @@
+-- `At::slash_step` is the table of `settledAs`, row by row.
+use Rattle.pattern.specs.Steps.{settledAs}
+use borrow.Author.Needs.{needs}
+use Rattle.pattern.proofs.steps.At.slash_step.Statement.{statement}
+use Rattle.pattern.proofs.steps.At.slash_step.Tie as tie
+
+returns : tie.Need-returns
+unfolding settledAs
+returns c = rw (c .before .enum-told .given .1) (c .goes .ensures)
+
+returns-2 : tie.Need-returns-2
+unfolding settledAs
+returns-2 c = rw (c .before .before .enum-told2 .given .1, ← c .before .settle .ensures) (c .goes2 .ensures)
+
+returns-3 : tie.Need-returns-3
+unfolding settledAs
+returns-3 c = rw (c .before .enum-told3 .given .1) (c .goes3 .ensures)
+
+pub slash-step-spec : {M : Type 1} → statement M
+slash-step-spec =
+    tie.close (tie.spec (λ c. search needs) (λ c. search needs) (λ c. search needs) (λ c κs. search needs) (λ c. search needs) (λ c κs. search needs)
+    (λ c κs. search needs) (λ c. search needs) (λ c κs. search needs) returns returns-2 returns-3)

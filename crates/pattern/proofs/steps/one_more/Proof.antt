@@ -1,0 +1,18 @@
+-- `one_more` is the definition: the sum, up to the largest number.
+use native.Mathlib.Omega.{arith}
+use Rattle.pattern.specs.Steps.{oneMore}
+use borrow.Author.Needs.{needs}
+use Rattle.pattern.proofs.steps.one_more.Statement.{statement}
+use Rattle.pattern.proofs.steps.one_more.Tie as tie
+
+returns : tie.Need-returns
+unfolding oneMore
+returns c = omega arith
+
+returns-2 : tie.Need-returns-2
+unfolding oneMore
+returns-2 c = omega arith
+
+pub one-more-spec : {M : Type 1} → statement M
+one-more-spec =
+    tie.close (tie.spec returns (λ c. search needs) returns-2)

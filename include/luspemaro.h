@@ -30,8 +30,13 @@
 extern "C" {
 #endif
 
-/* ---- The mailbox table: rows, each with flags and a name, ascending by name. A row that does not exist has flags SUBSCRIBED alone; the
- * bits without a name are 0. An empty table passes. It is lent in one of two forms; rows that pass in both are walked alike.
+/* ---- The mailbox table: rows, each with flags, a set of readers and a name, ascending by name. A row that does not exist has flags
+ * SUBSCRIBED alone; the bits without a name are 0. An empty table passes. It is lent in one of two forms; rows that pass in both are
+ * walked alike.
+ *
+ * Each command and each walk comes from a reader, 0 to 7. A row that is hidden from the reader, whose bit its set lacks, counts as
+ * absent: for LIST, LSUB and the walk the table is the rows that the reader sees. Check 1 and edits look at all rows, and edits are
+ * allowed to reader 0 alone. Any set passes; nobody sees a row whose set is empty.
  *
  * Records: a struct for each row, over one area of name bytes. The names lie inside the area, in any order and without overlap; bytes
  * that are no name's are free and may hold anything. The first count records are the rows; those after them are spare and not looked at.
@@ -39,8 +44,8 @@ extern "C" {
  * that is long enough, and UNSUBSCRIBE may remove one, whose bytes become zero and free, and the last record zero and spare.
  * luspemaro_compact moves the names together, so that the free bytes are one run.
  *
- * Packed, for the entries that say so: rows without a gap, for reading. A row is its flags (2 bytes, high byte first), the name's length
- * (1 to 200), the name. */
+ * Packed, for the entries that say so: rows without a gap, for reading. A row is its flags (2 bytes, high byte first), the set of its
+ * readers (1 byte), the name's length (1 to 200), the name. */
 
 #define LUSPEMARO_FLAG_EXISTS 0x0001
 #define LUSPEMARO_FLAG_SUBSCRIBED 0x0002
@@ -57,7 +62,11 @@ extern "C" {
 #define LUSPEMARO_FLAG_SENT 0x2000
 #define LUSPEMARO_FLAG_TRASH 0x4000
 
+/* A set of readers has bit r for reader r. */
+#define LUSPEMARO_READERS_ALL 0xFF
+
 /* The most that passes. */
+#define LUSPEMARO_MAX_READER 7    /* above it, 16 */
 #define LUSPEMARO_MAX_AREA 32768  /* bytes of an area of names */
 #define LUSPEMARO_MAX_TABLE 32768 /* bytes of a packed table */
 #define LUSPEMARO_MAX_ROWS 512
@@ -65,11 +74,12 @@ extern "C" {
 #define LUSPEMARO_MAX_LEVELS 16 /* levels of a name, parted by "/" */
 
 /* A record of 6 bytes. flags: of LUSPEMARO_FLAG_ .. start: the place of the name's first byte in the area. len: the name's length, 1 to
- * 200. The last byte belongs to no member: it is not looked at, and nothing is said of it after an edit or a compaction. */
+ * 200. readers: the set of those who see the row. */
 struct luspemaro_record {
     uint16_t flags;
     uint16_t start;
     uint8_t len;
+    uint8_t readers;
 };
 
 /* ---- The namespace list: entries without a gap. An entry is its class, the prefix's length (0 to 64), the prefix, the delimiter (0
@@ -140,10 +150,12 @@ struct luspemaro_record {
 #define LUSPEMARO_REFUSAL_BAD_FRAME 13           /* the program of frames alone: no entry gives it */
 #define LUSPEMARO_REFUSAL_UNLAWFUL_NAME 14       /* SUBSCRIBE: an unlawful name, or one below a row with no inferiors */
 #define LUSPEMARO_REFUSAL_NO_ROOM 15             /* SUBSCRIBE would insert a row: 512 rows, no spare record, or no free run long enough */
+#define LUSPEMARO_REFUSAL_READER 16              /* the reader is above 7, or an edit comes from another reader than 0 */
 
 /* ---- Rooms: lengths of lent memory with which 9, 10 and 11 are never given, whatever the table and the command. Less suffices for a
- * table of t bytes, those of the names and 3 for each row: an answer to a line of n bytes has at most 59 t + n + 1,666 bytes; scratch
- * needs at most 42 t + 11, found t and pending 15 t. These are counted from the rules and are no part of a promise. */
+ * table of t bytes, those of the names and 4 for each row: an answer to a line of n bytes has at most 58 t + n + 1,666 bytes; scratch
+ * needs at most 34 t + 11, found t and pending 15 t. Rows that are hidden from the reader need not be counted. These are counted from
+ * the rules and are no part of a promise. */
 
 #define LUSPEMARO_ROOM_ANSWER 1572864
 #define LUSPEMARO_ROOM_SCRATCH 147456
@@ -241,39 +253,44 @@ bool luspemaro_matches(const uint8_t *pattern, size_t pattern_length, const uint
  * (pattern_length + 1) * (name_length + 1), and 0 of a name of over 255 bytes. */
 size_t luspemaro_match_steps(const uint8_t *pattern, size_t pattern_length, const uint8_t *name, size_t name_length);
 
-/* The answer to one command line, LIST, LSUB, NAMESPACE, SUBSCRIBE or UNSUBSCRIBE, its CR LF included, at the front of out. Refusals, in
- * this order: 1, 2, 3, 4 for the tag, 5, 4 for the rest, 6, 7, 8, 14, 15, 9; 6 and 7 are of LIST, 8 of LIST and LSUB, 14 and 15 of
- * SUBSCRIBE. The bytes after the answer stay; a refusal changes no byte of out, no record and no byte of the area.
+/* The answer to one command line of a reader, LIST, LSUB, NAMESPACE, SUBSCRIBE or UNSUBSCRIBE, its CR LF included, at the front of out.
+ * Refusals, in this order: 16 for a reader above 7, 1, 2, 3, 4 for the tag, 5, 4 for the rest, 6, 7, 8, 16 for an edit from another
+ * reader than 0, 14, 15, 9; 6 and 7 are of LIST, 8 of LIST and LSUB, 14 and 15 of SUBSCRIBE. The bytes after the answer stay; a refusal
+ * changes no byte of out, no record and no byte of the area.
  *
- * SUBSCRIBE and UNSUBSCRIBE edit the rows. A name whose first level is INBOX in any case of letters is spelled INBOX first. SUBSCRIBE sets
- * the flag SUBSCRIBED of the name's row, or inserts a row with that flag alone; UNSUBSCRIBE clears the flag, removes a row that has no
- * other flag, and is done where the name has no subscription. The other rows keep flags, name and order, and where the names lie; the
- * records after the place move by one. Other commands change no record and no byte of the area. */
-struct luspemaro_outcome luspemaro_answer(struct luspemaro_record *records, size_t records_length, size_t count, uint8_t *area,
-                                          size_t area_length, const uint8_t *namespaces, size_t namespaces_length,
+ * SUBSCRIBE and UNSUBSCRIBE edit the rows. A name whose first level is INBOX in any case of letters is spelled INBOX first. SUBSCRIBE
+ * sets the flag SUBSCRIBED of the name's row, or inserts a row with that flag alone, which all readers see; UNSUBSCRIBE clears the flag,
+ * removes a row that has no other flag, and is done where the name has no subscription. The row keeps its readers, whether reader 0 is
+ * among them or not. The other rows keep flags, readers, name and order, and where the names lie; the records after the place move by
+ * one. Other commands change no record and no byte of the area.
+ *
+ * Of two tables that pass and have the same names with the same flags visible to a reader, LIST and LSUB give that reader the same bytes
+ * and numbers, and so does the walk, with the same count. */
+struct luspemaro_outcome luspemaro_answer(struct luspemaro_record *records, size_t records_length, size_t count, uint8_t reader,
+                                          uint8_t *area, size_t area_length, const uint8_t *namespaces, size_t namespaces_length,
                                           const uint8_t *line, size_t line_length, uint8_t *out, size_t out_length);
 
 /* Moves the names of the rows together, in the order of their starts, to the front of the area; the bytes after them, all that no row
  * uses, become zero. LUSPEMARO_DONE, or 1 for a table that does not pass: then no record and no byte of the area changes.
  *
  * Of the first count records the starts change and nothing else; those after them stay. Every command and every walk is answered as
- * before, but that a SUBSCRIBE which was refused with 15 may find room. Straight after it, no edit between, 15 for want of bytes is given
- * exactly if all free bytes together are fewer than the name's. */
+ * before, but that a SUBSCRIBE which was refused with 15 may find room. Straight after it, no edit between, 15 for want of bytes is
+ * given exactly if all free bytes together are fewer than the name's. */
 uint8_t luspemaro_compact(struct luspemaro_record *records, size_t records_length, size_t count, uint8_t *area, size_t area_length);
 
-/* The collector's walk. option: the sum of LUSPEMARO_OPTION_ .. Finds lie at the front of found, length bytes of them, and the names
- * that were asked below at the front of pending, count - 1 of them; each as a length byte (1 to 200) and the name, in walk order. The
- * bytes after them, and all of scratch, are zero. Refusals: 1, 6, then in the walk's own order 9 (scratch), 10, 11; a refusal leaves
- * all three zero. */
-struct luspemaro_outcome luspemaro_collect(const struct luspemaro_record *records, size_t records_length, size_t count,
+/* The collector's walk for a reader. option: the sum of LUSPEMARO_OPTION_ .. Finds lie at the front of found, length bytes of them, and
+ * the names that were asked below at the front of pending, count - 1 of them; each as a length byte (1 to 200) and the name, in walk
+ * order. The bytes after them, and all of scratch, are zero. Refusals: 16 for a reader above 7, 1, 6, then in the walk's own order 9
+ * (scratch), 10, 11; a refusal leaves all three zero. */
+struct luspemaro_outcome luspemaro_collect(const struct luspemaro_record *records, size_t records_length, size_t count, uint8_t reader,
                                            const uint8_t *area, size_t area_length, uint8_t option, uint8_t *scratch,
                                            size_t scratch_length, uint8_t *found, size_t found_length, uint8_t *pending,
                                            size_t pending_length);
 
 /* luspemaro_collect over a packed table. */
-struct luspemaro_outcome luspemaro_collect_packed(const uint8_t *table, size_t table_length, uint8_t option, uint8_t *scratch,
-                                                  size_t scratch_length, uint8_t *found, size_t found_length, uint8_t *pending,
-                                                  size_t pending_length);
+struct luspemaro_outcome luspemaro_collect_packed(const uint8_t *table, size_t table_length, uint8_t reader, uint8_t option,
+                                                  uint8_t *scratch, size_t scratch_length, uint8_t *found, size_t found_length,
+                                                  uint8_t *pending, size_t pending_length);
 
 /* The LIST line of these parts at the front of out: any attributes, a name of the table's shape, and criteria 0 to 3; or the root line,
  * for NOSELECT, an empty name and no criteria. Refusals, in this order: 12 for criteria above 3, 12 for other parts, 9. The bytes after

@@ -210,11 +210,11 @@ static void short_buffers(void)
 /* Nothing at all is lent. */
 static void nothing_lent(void)
 {
-    struct luspemaro_record none = {1, 2, 3};
+    struct luspemaro_record none = {1, 2, 3, 4};
     uint8_t nothing = FILLER;
-    struct luspemaro_outcome r = luspemaro_answer(&none, 0, 0, &nothing, 0, &nothing, 0, &nothing, 0, &nothing, 0);
+    struct luspemaro_outcome r = luspemaro_answer(&none, 0, 0, 0, &nothing, 0, &nothing, 0, &nothing, 0, &nothing, 0);
     EXPECT(is_refusal(r, LUSPEMARO_REFUSAL_LINE_SHAPE));
-    EXPECT(nothing == FILLER && none.flags == 1 && none.start == 2 && none.len == 3);
+    EXPECT(nothing == FILLER && none.flags == 1 && none.start == 2 && none.len == 3 && none.readers == 4);
 }
 
 /* The room that suffices for every answer: here 512 rows of 16 levels, of which the pattern matches every ancestor and no row, so that
@@ -230,8 +230,31 @@ static void room_of_an_answer(void)
     EXPECT(table->length == LUSPEMARO_MAX_AREA + HEAD * LUSPEMARO_MAX_ROWS);
     struct luspemaro_outcome r = answer_to(table, line, sizeof line, LUSPEMARO_ROOM_ANSWER);
     EXPECT(r.number == LUSPEMARO_DONE);
-    EXPECT(LUSPEMARO_ROOM_ANSWER / 5 * 4 < r.length && r.length <= 59 * table->length + sizeof line + 1666);
+    EXPECT(LUSPEMARO_ROOM_ANSWER / 5 * 4 < r.length && r.length <= 58 * table->length + sizeof line + 1666);
     EXPECT(refused(answer_to(table, line, sizeof line, r.length - 1), LUSPEMARO_REFUSAL_SHORT_BUFFER));
+}
+
+/* What suffices for a table of t bytes: 58 t + n + 1,666. Rows at the end of 16 levels of one byte, each level with a line. */
+static void room_by_bytes(void)
+{
+    static const char *const lines[] = {
+        "a LIST (SUBSCRIBED RECURSIVEMATCH SPECIAL-USE REMOTE) \"\" * RETURN (CHILDREN)\r\n",
+        "a LIST (SUBSCRIBED RECURSIVEMATCH SPECIAL-USE REMOTE) \"\" (% %/% %/%/%) RETURN (CHILDREN)\r\n",
+        "a LIST (REMOTE) \"\" *% RETURN (CHILDREN SUBSCRIBED SPECIAL-USE)\r\n",
+    };
+    static struct rows rows;
+    rows.length = 0;
+    for (unsigned byte = '"'; byte <= 'z'; byte++) {
+        uint8_t name[2 * LUSPEMARO_MAX_LEVELS];
+        if (byte == '%' || byte == '*' || byte == '/')
+            continue;
+        memset(name, '/', sizeof name);
+        for (unsigned level = 0; level < LUSPEMARO_MAX_LEVELS; level++)
+            name[2 * level] = (uint8_t)byte;
+        add_row_of(&rows, 0x7F5F, name, 2 * LUSPEMARO_MAX_LEVELS - 1);
+    }
+    for (size_t i = 0; i < sizeof lines / sizeof lines[0]; i++)
+        EXPECT(answer_text(&rows, lines[i], 58 * rows.length + strlen(lines[i]) + 1666).number == LUSPEMARO_DONE);
 }
 
 const struct test answer_tests[] = {
@@ -246,5 +269,6 @@ const struct test answer_tests[] = {
     {"answer: short buffers", short_buffers},
     {"answer: nothing lent", nothing_lent},
     {"answer: the room that suffices", room_of_an_answer},
+    {"answer: the room that suffices, by bytes", room_by_bytes},
     {NULL, NULL},
 };

@@ -10,6 +10,7 @@
 enum { FRONT = 64, PAGE = 4096 };
 
 enum form form;
+uint8_t reader;
 
 static bool test_holds;
 
@@ -102,9 +103,22 @@ void add_row_of(struct rows *rows, unsigned flags, const uint8_t *name, size_t l
     }
     row[0] = (uint8_t)(flags >> 8);
     row[1] = (uint8_t)flags;
-    row[2] = (uint8_t)length;
+    row[2] = LUSPEMARO_READERS_ALL;
+    row[3] = (uint8_t)length;
     memcpy(row + HEAD, name, length);
     rows->length += HEAD + length;
+}
+
+void add_row_for(struct rows *rows, unsigned readers, unsigned flags, const char *name)
+{
+    size_t at = rows->length;
+    add_row(rows, flags, name);
+    rows->bytes[at + 2] = (uint8_t)readers;
+}
+
+size_t row_length(const struct rows *rows, size_t at)
+{
+    return (size_t)HEAD + rows->bytes[at + HEAD - 1];
 }
 
 void add_row(struct rows *rows, unsigned flags, const char *name)
@@ -160,14 +174,14 @@ size_t lent_records_length(void)
 /* Whether a whole row begins at this place. */
 static bool is_row(const struct rows *rows, size_t at)
 {
-    return rows->length - at >= HEAD && rows->length - at - HEAD >= rows->bytes[at + 2];
+    return rows->length - at >= HEAD && rows->length - at >= row_length(rows, at);
 }
 
 size_t lend_records(const struct rows *rows)
 {
     size_t count = 0, names = 0, at = 0, row = 0;
-    for (; at < rows->length && is_row(rows, at); at += (size_t)HEAD + rows->bytes[at + 2]) {
-        names += rows->bytes[at + 2];
+    for (; at < rows->length && is_row(rows, at); at += row_length(rows, at)) {
+        names += row_length(rows, at) - HEAD;
         count++;
     }
     bool is_cut = at < rows->length;
@@ -176,17 +190,19 @@ size_t lend_records(const struct rows *rows)
     size_t start = names;
     for (at = 0; row < count; row++) {
         const uint8_t *head = rows->bytes + at;
-        start -= head[2];
-        memcpy(area + start, head + HEAD, head[2]);
+        start -= head[3];
+        memcpy(area + start, head + HEAD, head[3]);
         records[row].flags = (uint16_t)(head[0] << 8 | head[1]);
         records[row].start = (uint16_t)start;
-        records[row].len = head[2];
-        at += (size_t)HEAD + head[2];
+        records[row].len = head[3];
+        records[row].readers = head[2];
+        at += row_length(rows, at);
     }
     if (is_cut) {
         records[count].flags = LUSPEMARO_FLAG_EXISTS;
         records[count].start = (uint16_t)names;
         records[count].len = 1;
+        records[count].readers = LUSPEMARO_READERS_ALL;
     }
     return count + is_cut;
 }
@@ -199,6 +215,7 @@ void lend_store(const struct store *store)
         lent_records()[i].flags = (uint16_t)store->rows[i].flags;
         lent_records()[i].start = (uint16_t)store->rows[i].start;
         lent_records()[i].len = (uint8_t)store->rows[i].len;
+        lent_records()[i].readers = (uint8_t)store->rows[i].readers;
     }
 }
 
@@ -206,7 +223,8 @@ bool is_store(const struct store *store)
 {
     for (size_t i = 0; i < store->records; i++) {
         const struct luspemaro_record *record = lent_records() + i;
-        if (record->flags != store->rows[i].flags || record->start != store->rows[i].start || record->len != store->rows[i].len)
+        const struct stored_row *row = store->rows + i;
+        if (record->flags != row->flags || record->start != row->start || record->len != row->len || record->readers != row->readers)
             return false;
     }
     for (size_t i = 0; i < lent_length(NAMES); i++)
@@ -244,7 +262,7 @@ struct luspemaro_outcome answer_lent(size_t count, const void *line, size_t line
     lend_bytes(LINE, line, line_length);
     lend(OUT, room);
     keep_rows();
-    return luspemaro_answer(lent_records(), lent_records_length(), count, lent(NAMES), lent_length(NAMES), lent(NAMESPACES),
+    return luspemaro_answer(lent_records(), lent_records_length(), count, reader, lent(NAMES), lent_length(NAMES), lent(NAMESPACES),
                             lent_length(NAMESPACES), lent(LINE), line_length, lent(OUT), room);
 }
 
@@ -271,11 +289,11 @@ struct luspemaro_outcome walk(const struct rows *rows, unsigned option, size_t s
     lend(FOUND, found);
     lend(PENDING, pending);
     if (form == PACKED)
-        return luspemaro_collect_packed(lend_packed(rows), rows->length, (uint8_t)option, lent(SCRATCH), scratch, lent(FOUND), found,
-                                        lent(PENDING), pending);
+        return luspemaro_collect_packed(lend_packed(rows), rows->length, reader, (uint8_t)option, lent(SCRATCH), scratch, lent(FOUND),
+                                        found, lent(PENDING), pending);
     size_t count = lend_records(rows);
-    return luspemaro_collect(lent_records(), count, count, lent(NAMES), lent_length(NAMES), (uint8_t)option, lent(SCRATCH), scratch,
-                             lent(FOUND), found, lent(PENDING), pending);
+    return luspemaro_collect(lent_records(), count, count, reader, lent(NAMES), lent_length(NAMES), (uint8_t)option, lent(SCRATCH),
+                             scratch, lent(FOUND), found, lent(PENDING), pending);
 }
 
 bool is_refusal(struct luspemaro_outcome outcome, unsigned number)
@@ -297,6 +315,7 @@ static void run(const struct test *test, const char *note)
     for (; test->name != NULL; test++) {
         for (int area = 0; area < AREAS; area++)
             lend((enum area)area, 0);
+        reader = 0;
         test_holds = true;
         test->run();
         if (test_holds) {
@@ -312,7 +331,7 @@ int main(void)
 {
     static const struct test *const of_tables[] = {table_tests, walk_tests};
     static const struct test *const others[] = {answer_tests, record_tests, edit_tests, compaction_tests,
-                                                check_tests,  line_tests,   feeder_tests};
+                                                reader_tests, check_tests,  line_tests, feeder_tests};
     for (size_t group = 0; group < sizeof of_tables / sizeof of_tables[0]; group++) {
         form = PACKED;
         run(of_tables[group], ", packed");

@@ -16,12 +16,15 @@ struct test {
 };
 
 /* The tests of one topic, up to a row without a name. Those of tables and walks run once for each form of a table. */
-extern const struct test table_tests[], answer_tests[], walk_tests[], record_tests[], edit_tests[], compaction_tests[], check_tests[],
-    line_tests[], feeder_tests[];
+extern const struct test table_tests[], answer_tests[], walk_tests[], record_tests[], edit_tests[], compaction_tests[], reader_tests[],
+    check_tests[], line_tests[], feeder_tests[];
 
 /* The form in which `struct rows` are lent. */
 enum form { PACKED, RECORDS };
 extern enum form form;
+
+/* Of whom commands and walks come: reader 0 at the start of each test. */
+extern uint8_t reader;
 
 /* Memory to lend, filled with FILLER. An access past its end stops the program: a page that no one may touch begins there. One area
  * lends one run at a time, of at most AREA_ROOM bytes. */
@@ -42,13 +45,19 @@ bool untouched(enum area area);
 bool front_untouched(enum area area);
 
 /* A mailbox table in the making, in the packed form. */
-enum { HEAD = 3 };
+enum { HEAD = 4 };
 struct rows {
     size_t length;
     uint8_t bytes[LUSPEMARO_MAX_TABLE + (HEAD + 1) * LUSPEMARO_MAX_ROWS];
 };
 void add_row_of(struct rows *rows, unsigned flags, const uint8_t *name, size_t length);
 void add_row(struct rows *rows, unsigned flags, const char *name);
+
+/* The same for a set of readers; the others add rows that all see. */
+void add_row_for(struct rows *rows, unsigned readers, unsigned flags, const char *name);
+
+/* The length of the row at a place, by its length byte. */
+size_t row_length(const struct rows *rows, size_t at);
 
 extern const struct rows NO_ROWS;
 
@@ -68,7 +77,7 @@ size_t lent_records_length(void);
 
 /* A record in digits. */
 struct stored_row {
-    unsigned flags, start, len;
+    unsigned flags, start, len, readers;
 };
 
 /* A table as it is lent, or as a call leaves it: records, of which count are rows, and names. A byte 0 of the names that a call leaves is

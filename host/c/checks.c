@@ -38,7 +38,7 @@ static void table_cut_short(void)
     for (size_t length = 0; length <= whole; length++) {
         bool at_end = length == end;
         if (at_end && end < whole)
-            end += (size_t)HEAD + rows.bytes[end + 2];
+            end += row_length(&rows, end);
         rows.length = length;
         EXPECT(table_passes(&rows) == at_end);
     }
@@ -59,6 +59,35 @@ static void every_flags(void)
         const struct row row[] = {{flags, "a"}, {0, NULL}};
         EXPECT(passes(row) == lawful_flags(flags));
     }
+}
+
+/* Any set of readers passes, the empty one too. */
+static void every_set(void)
+{
+    for (unsigned readers = 0; readers <= 0xFF; readers++) {
+        rows.length = 0;
+        add_row_for(&rows, readers, LUSPEMARO_FLAG_EXISTS, "a");
+        add_row_for(&rows, ~readers & 0xFF, LUSPEMARO_FLAG_SUBSCRIBED, "b");
+        EXPECT(table_passes(&rows));
+    }
+}
+
+/* What is hidden from all is checked as any other row. */
+static void hidden_rows(void)
+{
+    static const struct row bad[][4] = {
+        {{1, "b"}, {1, "a"}},
+        {{0x11, "a"}, {1, "a/b"}},
+        {{0x8001, "a"}},
+        {{1, "inbox"}},
+    };
+    for (size_t i = 0; i < sizeof bad / sizeof bad[0]; i++)
+        for (unsigned readers = 0; readers <= 0xFF; readers += 0x55) {
+            rows.length = 0;
+            for (const struct row *row = bad[i]; row->name != NULL; row++)
+                add_row_for(&rows, readers, row->flags, row->name);
+            EXPECT(!table_passes(&rows));
+        }
 }
 
 static void every_name_byte(void)
@@ -139,8 +168,8 @@ static void limits_of_a_table(void)
 /* The bytes before a name count for a packed table, and not for the area of records. */
 static void bytes_of_a_table(void)
 {
-    EXPECT(passes_with(161, 200, 82) && rows.length == LUSPEMARO_MAX_TABLE);
-    EXPECT(passes_with(161, 200, 83) == (form == RECORDS) && rows.length == LUSPEMARO_MAX_TABLE + 1);
+    EXPECT(passes_with(160, 200, 124) && rows.length == LUSPEMARO_MAX_TABLE);
+    EXPECT(passes_with(160, 200, 125) == (form == RECORDS) && rows.length == LUSPEMARO_MAX_TABLE + 1);
     EXPECT(passes_with(163, 200, 168) == (form == RECORDS) && rows.length == LUSPEMARO_MAX_AREA + 164 * HEAD);
     EXPECT(!passes_with(163, 200, 169));
 }
@@ -292,6 +321,8 @@ const struct test table_tests[] = {
     {"check 1: table E", table_e_passes},
     {"check 1: a table cut short", table_cut_short},
     {"check 1: every flags", every_flags},
+    {"check 1: every set of readers", every_set},
+    {"check 1: hidden rows", hidden_rows},
     {"check 1: every byte as a name", every_name_byte},
     {"check 1: names", names_of_a_table},
     {"check 1: limits", limits_of_a_table},

@@ -22,8 +22,10 @@ static bool refuses(size_t count)
 }
 
 /* Bar exists, Foo takes no inferiors, Moo does not exist; two spare records; runs of 1, 2, 1 and 3 free bytes. */
-static const struct store TREE = {"-Moo--Foo-Bar...", 3, 5, {{0x7F2D, 10, 3}, {0x53, 6, 3}, {2, 1, 3}, {7, 8, 9}, {10, 11, 12}}};
-static const struct store MOVED = {"MooFooBar???????", 3, 5, {{0x7F2D, 6, 3}, {0x53, 3, 3}, {2, 0, 3}, {7, 8, 9}, {10, 11, 12}}};
+static const struct store TREE = {
+    "-Moo--Foo-Bar...", 3, 5, {{0x7F2D, 10, 3, 0x05}, {0x53, 6, 3, 0x80}, {2, 1, 3, 0xFF}, {7, 8, 9, 10}, {10, 11, 12, 13}}};
+static const struct store MOVED = {
+    "MooFooBar???????", 3, 5, {{0x7F2D, 6, 3, 0x05}, {0x53, 3, 3, 0x80}, {2, 0, 3, 0xFF}, {7, 8, 9, 10}, {10, 11, 12, 13}}};
 
 /* Names in the order of their starts; free bytes at the front, between names and at the end become zeros at the end. */
 static void moves(void)
@@ -31,16 +33,17 @@ static void moves(void)
     static const struct {
         struct store before, after;
     } cases[] = {
-        {{"", 0, 0, {{0, 0, 0}}}, {"", 0, 0, {{0, 0, 0}}}},
-        {{"%*", 0, 1, {{7, 8, 9}}}, {"??", 0, 1, {{7, 8, 9}}}},
-        {{"x", 1, 1, {{1, 0, 1}}}, {"x", 1, 1, {{1, 0, 1}}}},
-        {{"..x", 1, 1, {{1, 2, 1}}}, {"x??", 1, 1, {{1, 0, 1}}}},
-        {{"x..", 1, 1, {{1, 0, 1}}}, {"x??", 1, 1, {{1, 0, 1}}}},
-        {{"x.y", 2, 2, {{1, 0, 1}, {1, 2, 1}}}, {"xy?", 2, 2, {{1, 0, 1}, {1, 1, 1}}}},
-        {{"y.x", 2, 2, {{1, 2, 1}, {1, 0, 1}}}, {"yx?", 2, 2, {{1, 1, 1}, {1, 0, 1}}}},
-        {{"yx", 2, 2, {{1, 1, 1}, {1, 0, 1}}}, {"yx", 2, 2, {{1, 1, 1}, {1, 0, 1}}}},
-        {{"xxyy", 2, 2, {{1, 1, 1}, {1, 2, 1}}}, {"xy??", 2, 2, {{1, 0, 1}, {1, 1, 1}}}},
-        {{"-c-a/b-a", 3, 3, {{1, 7, 1}, {2, 3, 3}, {2, 1, 1}}}, {"ca/ba???", 3, 3, {{1, 4, 1}, {2, 1, 3}, {2, 0, 1}}}},
+        {{"", 0, 0, {{0, 0, 0, 0}}}, {"", 0, 0, {{0, 0, 0, 0}}}},
+        {{"%*", 0, 1, {{7, 8, 9, 10}}}, {"??", 0, 1, {{7, 8, 9, 10}}}},
+        {{"x", 1, 1, {{1, 0, 1, 0x05}}}, {"x", 1, 1, {{1, 0, 1, 0x05}}}},
+        {{"..x", 1, 1, {{1, 2, 1, 0x05}}}, {"x??", 1, 1, {{1, 0, 1, 0x05}}}},
+        {{"x..", 1, 1, {{1, 0, 1, 0x05}}}, {"x??", 1, 1, {{1, 0, 1, 0x05}}}},
+        {{"x.y", 2, 2, {{1, 0, 1, 0x05}, {1, 2, 1, 0x05}}}, {"xy?", 2, 2, {{1, 0, 1, 0x05}, {1, 1, 1, 0x05}}}},
+        {{"y.x", 2, 2, {{1, 2, 1, 0x05}, {1, 0, 1, 0x05}}}, {"yx?", 2, 2, {{1, 1, 1, 0x05}, {1, 0, 1, 0x05}}}},
+        {{"yx", 2, 2, {{1, 1, 1, 0x05}, {1, 0, 1, 0x05}}}, {"yx", 2, 2, {{1, 1, 1, 0x05}, {1, 0, 1, 0x05}}}},
+        {{"xxyy", 2, 2, {{1, 1, 1, 0x05}, {1, 2, 1, 0x05}}}, {"xy??", 2, 2, {{1, 0, 1, 0x05}, {1, 1, 1, 0x05}}}},
+        {{"-c-a/b-a", 3, 3, {{1, 7, 1, 0x05}, {2, 3, 3, 0xFF}, {2, 1, 1, 0xFF}}},
+         {"ca/ba???", 3, 3, {{1, 4, 1, 0x05}, {2, 1, 3, 0xFF}, {2, 0, 1, 0xFF}}}},
     };
     EXPECT(makes(&TREE, &MOVED));
     for (size_t i = 0; i < sizeof cases / sizeof cases[0]; i++)
@@ -50,8 +53,10 @@ static void moves(void)
 /* The rows are the first records; those after them stay, and their bytes are free. */
 static void counts(void)
 {
-    static const struct store none = {"????????????????", 0, 5, {{0x7F2D, 10, 3}, {0x53, 6, 3}, {2, 1, 3}, {7, 8, 9}, {10, 11, 12}}};
-    static const struct store one = {"Bar?????????????", 1, 5, {{0x7F2D, 0, 3}, {0x53, 6, 3}, {2, 1, 3}, {7, 8, 9}, {10, 11, 12}}};
+    static const struct store none = {
+        "????????????????", 0, 5, {{0x7F2D, 10, 3, 0x05}, {0x53, 6, 3, 0x80}, {2, 1, 3, 0xFF}, {7, 8, 9, 10}, {10, 11, 12, 13}}};
+    static const struct store one = {
+        "Bar?????????????", 1, 5, {{0x7F2D, 0, 3, 0x05}, {0x53, 6, 3, 0x80}, {2, 1, 3, 0xFF}, {7, 8, 9, 10}, {10, 11, 12, 13}}};
     static const struct store *const after[] = {&none, &one};
     for (size_t count = 0; count < 2; count++) {
         lend_store(&TREE);
@@ -69,16 +74,16 @@ static void counts(void)
 static void refusals(void)
 {
     static const struct store tables[] = {
-        {"ba", 2, 2, {{1, 0, 1}, {1, 1, 1}}},
-        {"aa", 2, 2, {{1, 0, 1}, {1, 1, 1}}},
-        {"ab", 2, 2, {{1, 0, 1}, {1, 0, 2}}},
-        {"ab", 1, 1, {{1, 1, 2}}},
-        {"ab", 1, 1, {{1, 0xFFFF, 2}}},
-        {"ab", 1, 1, {{1, 0, 0}}},
-        {"-%", 1, 1, {{1, 1, 1}}},
-        {"-a", 1, 1, {{0, 1, 1}}},
-        {"-a", 1, 1, {{0x8001, 1, 1}}},
-        {"-a-a/b", 2, 2, {{0x11, 1, 1}, {1, 3, 3}}},
+        {"ba", 2, 2, {{1, 0, 1, 0x05}, {1, 1, 1, 0x05}}},
+        {"aa", 2, 2, {{1, 0, 1, 0x05}, {1, 1, 1, 0x05}}},
+        {"ab", 2, 2, {{1, 0, 1, 0x05}, {1, 0, 2, 0x05}}},
+        {"ab", 1, 1, {{1, 1, 2, 0x05}}},
+        {"ab", 1, 1, {{1, 0xFFFF, 2, 0x05}}},
+        {"ab", 1, 1, {{1, 0, 0, 0x05}}},
+        {"-%", 1, 1, {{1, 1, 1, 0x05}}},
+        {"-a", 1, 1, {{0, 1, 1, 0x05}}},
+        {"-a", 1, 1, {{0x8001, 1, 1, 0x05}}},
+        {"-a-a/b", 2, 2, {{0x11, 1, 1, 0x80}, {1, 3, 3, 0x05}}},
     };
     for (size_t i = 0; i < sizeof tables / sizeof tables[0]; i++) {
         lend_store(&tables[i]);
@@ -94,14 +99,14 @@ static void refusals(void)
     }
 }
 
-/* The byte after a record's members, whatever it is. */
-static void bytes_between_records(void)
+/* Every set of readers stays, of rows and of spare records. */
+static void sets_of_readers(void)
 {
-    for (unsigned byte = 0; byte <= 0xFF; byte++) {
-        lend_store(&TREE);
-        for (size_t at = 5; at < lent_length(RECORD); at += sizeof(struct luspemaro_record))
-            lent(RECORD)[at] = (uint8_t)byte;
-        EXPECT(compact_lent(3) == LUSPEMARO_DONE && is_store(&MOVED));
+    for (unsigned readers = 0; readers <= 0xFF; readers++) {
+        struct store before = TREE, after = MOVED;
+        for (size_t i = 0; i < before.records; i++)
+            before.rows[i].readers = after.rows[i].readers = (readers + (unsigned)i) & 0xFF;
+        EXPECT(makes(&before, &after));
     }
 }
 
@@ -121,6 +126,7 @@ static void lend_many(size_t rows, size_t length, size_t gap)
         records[row].flags = LUSPEMARO_FLAG_EXISTS;
         records[row].start = (uint16_t)start;
         records[row].len = (uint8_t)length;
+        records[row].readers = (uint8_t)row;
     }
 }
 
@@ -132,6 +138,8 @@ static bool are_together(size_t rows, size_t length)
         char digits[8];
         snprintf(digits, sizeof digits, "%04zu", row % 10000);
         if (record->flags != LUSPEMARO_FLAG_EXISTS || record->len != length || record->start != (rows - 1 - row) * length)
+            return false;
+        if (record->readers != (uint8_t)row)
             return false;
         if (memcmp(lent(NAMES) + record->start, digits, 4) != 0 || !all_are(lent(NAMES) + record->start + 4, length - 4, 'n'))
             return false;
@@ -176,7 +184,8 @@ static void room(void)
         compact_lent(3);
         EXPECT((subscribe(length).number == LUSPEMARO_REFUSAL_NO_ROOM) == (length > 7));
     }
-    static const struct store after = {"MooFooBarnnnnnnn", 4, 5, {{0x7F2D, 6, 3}, {0x53, 3, 3}, {2, 0, 3}, {2, 9, 7}, {10, 11, 12}}};
+    static const struct store after = {
+        "MooFooBarnnnnnnn", 4, 5, {{0x7F2D, 6, 3, 0x05}, {0x53, 3, 3, 0x80}, {2, 0, 3, 0xFF}, {2, 9, 7, 0xFF}, {10, 11, 12, 13}}};
     lend_store(&TREE);
     EXPECT(is_refusal_of_rows(subscribe(7), LUSPEMARO_REFUSAL_NO_ROOM, 3) && compact_lent(3) == LUSPEMARO_DONE);
     struct luspemaro_outcome r = subscribe(7);
@@ -212,8 +221,8 @@ static struct luspemaro_outcome walk_lent(uint8_t option)
     lend(SCRATCH, ROOM);
     lend(FOUND, ROOM);
     lend(PENDING, ROOM);
-    return luspemaro_collect(lent_records(), lent_records_length(), 3, lent(NAMES), lent_length(NAMES), option, lent(SCRATCH), ROOM,
-                             lent(FOUND), ROOM, lent(PENDING), ROOM);
+    return luspemaro_collect(lent_records(), lent_records_length(), 3, reader, lent(NAMES), lent_length(NAMES), option, lent(SCRATCH),
+                             ROOM, lent(FOUND), ROOM, lent(PENDING), ROOM);
 }
 
 static void walks(void)
@@ -234,7 +243,7 @@ const struct test compaction_tests[] = {
     {"compactions: names and zeros", moves},
     {"compactions: counts and spare records", counts},
     {"compactions: tables that do not pass", refusals},
-    {"compactions: bytes between records", bytes_between_records},
+    {"compactions: sets of readers", sets_of_readers},
     {"compactions: the largest tables", largest},
     {"compactions: room by the free bytes in all", room},
     {"compactions: answers as before", answers},

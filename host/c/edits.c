@@ -28,13 +28,16 @@ static bool refuses(const struct store *before, size_t count, const char *line, 
 }
 
 /* Bar exists, Foo takes no inferiors, Moo does not exist; two spare records; runs of 2, 1 and 4 free bytes. */
-static const struct store TREE = {"Moo--Foo-Bar....", 3, 5, {{1, 9, 3}, {0x13, 5, 3}, {2, 0, 3}, {7, 8, 9}, {10, 11, 12}}};
+static const struct store TREE = {
+    "Moo--Foo-Bar....", 3, 5, {{1, 9, 3, 0x05}, {0x13, 5, 3, 0x80}, {2, 0, 3, 0xFF}, {7, 8, 9, 10}, {10, 11, 12, 13}}};
 
 /* The flag is set and cleared, and nothing else changes; a flag that is as it should be stays. */
 static void flags(void)
 {
-    static const struct store set = {"Moo--Foo-Bar....", 3, 5, {{3, 9, 3}, {0x13, 5, 3}, {2, 0, 3}, {7, 8, 9}, {10, 11, 12}}};
-    static const struct store cleared = {"Moo--Foo-Bar....", 3, 5, {{1, 9, 3}, {0x11, 5, 3}, {2, 0, 3}, {7, 8, 9}, {10, 11, 12}}};
+    static const struct store set = {
+        "Moo--Foo-Bar....", 3, 5, {{3, 9, 3, 0x05}, {0x13, 5, 3, 0x80}, {2, 0, 3, 0xFF}, {7, 8, 9, 10}, {10, 11, 12, 13}}};
+    static const struct store cleared = {
+        "Moo--Foo-Bar....", 3, 5, {{1, 9, 3, 0x05}, {0x11, 5, 3, 0x80}, {2, 0, 3, 0xFF}, {7, 8, 9, 10}, {10, 11, 12, 13}}};
     EXPECT(makes(&TREE, "a SUBSCRIBE Bar\r\n", &set));
     EXPECT(makes(&TREE, "a subscribe \"Bar\"\r\n", &set));
     EXPECT(makes(&TREE, "a UNSUBSCRIBE {3}\r\nFoo\r\n", &cleared));
@@ -47,11 +50,15 @@ static void flags(void)
 /* A row is inserted at its place, over the lowest run that is long enough; other spare records and free bytes stay. */
 static void insertions(void)
 {
-    static const struct store first = {"Moo--Foo-BarBaa.", 4, 5, {{2, 12, 3}, {1, 9, 3}, {0x13, 5, 3}, {2, 0, 3}, {10, 11, 12}}};
-    static const struct store between = {"MooC-Foo-Bar....", 4, 5, {{1, 9, 3}, {2, 3, 1}, {0x13, 5, 3}, {2, 0, 3}, {10, 11, 12}}};
-    static const struct store last = {"MoozzFoo-Bar....", 4, 5, {{1, 9, 3}, {0x13, 5, 3}, {2, 0, 3}, {2, 3, 2}, {10, 11, 12}}};
-    static const struct store filled = {"Moo--Foo-BarFoo0", 4, 5, {{1, 9, 3}, {0x13, 5, 3}, {2, 12, 4}, {2, 0, 3}, {10, 11, 12}}};
-    static const struct store none = {".....", 0, 1, {{9, 9, 9}}}, inbox = {"INBOX", 1, 1, {{2, 0, 5}}};
+    static const struct store first = {
+        "Moo--Foo-BarBaa.", 4, 5, {{2, 12, 3, 0xFF}, {1, 9, 3, 0x05}, {0x13, 5, 3, 0x80}, {2, 0, 3, 0xFF}, {10, 11, 12, 13}}};
+    static const struct store between = {
+        "MooC-Foo-Bar....", 4, 5, {{1, 9, 3, 0x05}, {2, 3, 1, 0xFF}, {0x13, 5, 3, 0x80}, {2, 0, 3, 0xFF}, {10, 11, 12, 13}}};
+    static const struct store last = {
+        "MoozzFoo-Bar....", 4, 5, {{1, 9, 3, 0x05}, {0x13, 5, 3, 0x80}, {2, 0, 3, 0xFF}, {2, 3, 2, 0xFF}, {10, 11, 12, 13}}};
+    static const struct store filled = {
+        "Moo--Foo-BarFoo0", 4, 5, {{1, 9, 3, 0x05}, {0x13, 5, 3, 0x80}, {2, 12, 4, 0xFF}, {2, 0, 3, 0xFF}, {10, 11, 12, 13}}};
+    static const struct store none = {".....", 0, 1, {{9, 9, 9, 9}}}, inbox = {"INBOX", 1, 1, {{2, 0, 5, 0xFF}}};
     EXPECT(makes(&TREE, "a SUBSCRIBE Baa\r\n", &first));
     EXPECT(makes(&TREE, "a SUBSCRIBE C\r\n", &between));
     EXPECT(makes(&TREE, "a SUBSCRIBE zz\r\n", &last));
@@ -62,10 +69,10 @@ static void insertions(void)
 /* A row with the flag alone is removed; the freed record and the freed bytes become zero. */
 static void removals(void)
 {
-    static const struct store three = {"cc.a.bbb", 3, 4, {{2, 3, 1}, {2, 5, 3}, {2, 0, 2}, {7, 8, 9}}};
-    static const struct store no_a = {"cc.?.bbb", 2, 4, {{2, 5, 3}, {2, 0, 2}, {0, 0, 0}, {7, 8, 9}}};
-    static const struct store no_b = {"cc.a.???", 2, 4, {{2, 3, 1}, {2, 0, 2}, {0, 0, 0}, {7, 8, 9}}};
-    static const struct store no_c = {"??.a.bbb", 2, 4, {{2, 3, 1}, {2, 5, 3}, {0, 0, 0}, {7, 8, 9}}};
+    static const struct store three = {"cc.a.bbb", 3, 4, {{2, 3, 1, 0xFF}, {2, 5, 3, 0xFF}, {2, 0, 2, 0xFF}, {7, 8, 9, 10}}};
+    static const struct store no_a = {"cc.?.bbb", 2, 4, {{2, 5, 3, 0xFF}, {2, 0, 2, 0xFF}, {0, 0, 0, 0}, {7, 8, 9, 10}}};
+    static const struct store no_b = {"cc.a.???", 2, 4, {{2, 3, 1, 0xFF}, {2, 0, 2, 0xFF}, {0, 0, 0, 0}, {7, 8, 9, 10}}};
+    static const struct store no_c = {"??.a.bbb", 2, 4, {{2, 3, 1, 0xFF}, {2, 5, 3, 0xFF}, {0, 0, 0, 0}, {7, 8, 9, 10}}};
     EXPECT(makes(&three, "a UNSUBSCRIBE a\r\n", &no_a));
     EXPECT(makes(&three, "a UNSUBSCRIBE bbb\r\n", &no_b));
     EXPECT(makes(&three, "a UNSUBSCRIBE cc\r\n", &no_c));
@@ -117,7 +124,7 @@ static void refusals(void)
 /* No spare record, though the names have room; the rows that are there can be edited. */
 static void no_spare_record(void)
 {
-    static const struct store full = {"a..", 1, 1, {{1, 0, 1}}}, set = {"a..", 1, 1, {{3, 0, 1}}};
+    static const struct store full = {"a..", 1, 1, {{1, 0, 1, 0x05}}}, set = {"a..", 1, 1, {{3, 0, 1, 0x05}}};
     EXPECT(refuses(&full, 1, "a SUBSCRIBE b\r\n", ROOM, LUSPEMARO_REFUSAL_NO_ROOM));
     EXPECT(makes(&full, "a SUBSCRIBE a\r\n", &set));
 }
@@ -137,6 +144,7 @@ static void longest_name(void)
             EXPECT(is_refusal_of_rows(r, LUSPEMARO_REFUSAL_UNLAWFUL_NAME, 0) && rows_untouched());
         } else {
             EXPECT(r.number == LUSPEMARO_DONE && r.count == 1 && lent_records()->flags == LUSPEMARO_FLAG_SUBSCRIBED);
+            EXPECT(lent_records()->readers == LUSPEMARO_READERS_ALL);
             EXPECT(lent_records()->start == 0 && lent_records()->len == length && all_are(lent(NAMES), length, 'n'));
             EXPECT(all_are(lent(NAMES) + length, LUSPEMARO_MAX_AREA - length, '-'));
         }
@@ -156,12 +164,15 @@ static void most_rows(void)
         records[row].flags = LUSPEMARO_FLAG_SUBSCRIBED;
         records[row].start = (uint16_t)(3 * row);
         records[row].len = 3;
+        records[row].readers = (uint8_t)row;
     }
     EXPECT(is_refusal_of_rows(edit(MANY, "a SUBSCRIBE x\r\n", ROOM), LUSPEMARO_REFUSAL_NO_ROOM, MANY) && rows_untouched());
     EXPECT(edit(MANY, "a SUBSCRIBE 007\r\n", ROOM).count == MANY && rows_untouched());
     EXPECT(edit(MANY, "a UNSUBSCRIBE 007\r\n", ROOM).count == MANY - 1 && all_are(lent(NAMES) + 21, 3, 0));
     EXPECT(records[7].start == 24 && records[MANY - 1].flags == 0 && records[MANY - 1].start == 0 && records[MANY - 1].len == 0);
+    EXPECT(records[6].readers == 6 && records[7].readers == 8 && records[MANY - 1].readers == 0);
     EXPECT(edit(MANY - 1, "a SUBSCRIBE 0070\r\n", ROOM).count == MANY && records[7].start == 3 * MANY && records[7].len == 4);
+    EXPECT(records[6].readers == 6 && records[7].readers == LUSPEMARO_READERS_ALL && records[8].readers == 8);
     EXPECT(edit(MANY, "a UNSUBSCRIBE 0070\r\n", ROOM).count == MANY - 1);
     EXPECT(edit(MANY - 1, "a SUBSCRIBE xyz\r\n", ROOM).count == MANY && records[MANY - 1].start == 21);
 }

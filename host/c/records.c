@@ -9,11 +9,12 @@ struct place {
 /* Lends records of these places; at most 8. */
 static void lend_places(const struct place *places, size_t count)
 {
-    struct luspemaro_record records[8] = {{0, 0, 0}};
+    struct luspemaro_record records[8] = {{0, 0, 0, 0}};
     for (size_t i = 0; i < count; i++) {
         records[i].flags = LUSPEMARO_FLAG_EXISTS;
         records[i].start = (uint16_t)places[i].start;
         records[i].len = (uint8_t)places[i].len;
+        records[i].readers = LUSPEMARO_READERS_ALL;
     }
     lend_bytes(RECORD, records, count * sizeof records[0]);
 }
@@ -101,6 +102,7 @@ static void limits(void)
         records[row].flags = LUSPEMARO_FLAG_EXISTS;
         records[row].start = (uint16_t)(2 * row);
         records[row].len = 2;
+        records[row].readers = (uint8_t)row;
     }
     EXPECT(lent_pass(LUSPEMARO_MAX_ROWS) && !lent_pass(MANY));
 }
@@ -120,18 +122,6 @@ static void counts(void)
     }
 }
 
-/* The byte after a record's members, whatever it is. */
-static void bytes_between_records(void)
-{
-    static const struct place places[] = {{0, 1}, {1, 1}};
-    lend_bytes(NAMES, "ab", 2);
-    for (unsigned byte = 0; byte <= 0xFF; byte++) {
-        lend_places(places, 2);
-        lent(RECORD)[5] = lent(RECORD)[11] = (uint8_t)byte;
-        EXPECT(lent_pass(2));
-    }
-}
-
 /* ---- answers and walks */
 
 enum { ROOM = 2000 };
@@ -146,8 +136,8 @@ static struct luspemaro_outcome walk_lent(size_t count, uint8_t option)
     lend(SCRATCH, ROOM);
     lend(FOUND, ROOM);
     lend(PENDING, ROOM);
-    return luspemaro_collect(lent_records(), lent_records_length(), count, lent(NAMES), lent_length(NAMES), option, lent(SCRATCH), ROOM,
-                             lent(FOUND), ROOM, lent(PENDING), ROOM);
+    return luspemaro_collect(lent_records(), lent_records_length(), count, reader, lent(NAMES), lent_length(NAMES), option,
+                             lent(SCRATCH), ROOM, lent(FOUND), ROOM, lent(PENDING), ROOM);
 }
 
 /* Whether 1 is given before every other refusal, and the lent memory is as it is after a refusal. */
@@ -235,7 +225,6 @@ const struct test record_tests[] = {
     {"records: every start and length", every_place},
     {"records: limits", limits},
     {"records: counts and spare records", counts},
-    {"records: bytes between records", bytes_between_records},
     {"records: 1 before every refusal", refusals},
     {"records: the count of an answer", count_of_an_answer},
     {"records: a packed table in its place", packed_in_place},

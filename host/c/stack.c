@@ -96,9 +96,9 @@ static size_t table_length, count, namespaces_length, line_length;
 static uint8_t out[LUSPEMARO_ROOM_ANSWER], scratch[LUSPEMARO_ROOM_SCRATCH], found[LUSPEMARO_ROOM_FOUND],
     pending[LUSPEMARO_ROOM_PENDING], command[LUSPEMARO_ROOM_COMMAND];
 
-/* Tables in both forms that are as full as may be: 512 rows in 16 levels, all existing, subscribed and with a use. The names have all
- * the bytes there are: 61 each in the packed form, 64 each in the area, where they lie in the other order. */
-enum { FLAGS = 0x0100 | LUSPEMARO_FLAG_EXISTS | LUSPEMARO_FLAG_SUBSCRIBED, PACKED_NAME = 61, NAME = 64 };
+/* Tables in both forms that are as full as may be: 512 rows in 16 levels, all existing, subscribed and with a use, for all readers but one.
+ * The names have all the bytes there are: 60 each in the packed form, 64 each in the area, where they lie in the other order. */
+enum { FLAGS = 0x0100 | LUSPEMARO_FLAG_EXISTS | LUSPEMARO_FLAG_SUBSCRIBED, PACKED_NAME = 60, NAME = 64, NOT_FOR = 6 };
 
 static void fill_name(uint8_t *at, unsigned row, unsigned length)
 {
@@ -115,12 +115,14 @@ static void fill_tables(void)
         uint8_t *at = table + 64 * row;
         at[0] = FLAGS >> 8;
         at[1] = FLAGS & 0xFF;
-        at[2] = PACKED_NAME;
-        fill_name(at + 3, row, PACKED_NAME);
+        at[2] = (uint8_t)~(1u << NOT_FOR);
+        at[3] = PACKED_NAME;
+        fill_name(at + 4, row, PACKED_NAME);
         unsigned start = NAME * (LUSPEMARO_MAX_ROWS - 1 - row);
         records[row].flags = FLAGS;
         records[row].start = (uint16_t)start;
         records[row].len = NAME;
+        records[row].readers = (uint8_t)~(1u << NOT_FOR);
         fill_name(area + start, row, NAME);
     }
     table_length = sizeof table;
@@ -184,7 +186,7 @@ static struct luspemaro_line parts;
 static struct luspemaro_fed fed;
 static bool truth;
 static size_t place;
-static uint8_t option, number;
+static uint8_t reader, option, number;
 
 static void call_check_records(void)
 {
@@ -213,8 +215,8 @@ static void call_match_steps(void)
 
 static void call_answer(void)
 {
-    outcome = luspemaro_answer(records, LUSPEMARO_MAX_ROWS, count, area, sizeof area, namespaces, namespaces_length, line, line_length,
-                               out, sizeof out);
+    outcome = luspemaro_answer(records, LUSPEMARO_MAX_ROWS, count, reader, area, sizeof area, namespaces, namespaces_length, line,
+                               line_length, out, sizeof out);
 }
 
 static void call_compact(void)
@@ -224,13 +226,13 @@ static void call_compact(void)
 
 static void call_collect(void)
 {
-    outcome = luspemaro_collect(records, LUSPEMARO_MAX_ROWS, LUSPEMARO_MAX_ROWS, area, sizeof area, option, scratch, sizeof scratch,
-                                found, sizeof found, pending, sizeof pending);
+    outcome = luspemaro_collect(records, LUSPEMARO_MAX_ROWS, LUSPEMARO_MAX_ROWS, reader, area, sizeof area, option, scratch,
+                                sizeof scratch, found, sizeof found, pending, sizeof pending);
 }
 
 static void call_collect_packed(void)
 {
-    outcome = luspemaro_collect_packed(table, table_length, option, scratch, sizeof scratch, found, sizeof found, pending,
+    outcome = luspemaro_collect_packed(table, table_length, reader, option, scratch, sizeof scratch, found, sizeof found, pending,
                                        sizeof pending);
 }
 
@@ -305,6 +307,17 @@ static void measure_answers(const struct entry *entry)
     measure_outcome(entry, "the root line", LUSPEMARO_DONE);
     set_line("a NAMESPACE\r\n");
     measure_outcome(entry, "a full namespace list", LUSPEMARO_DONE);
+    set_line("a LIST \"\" *% RETURN (CHILDREN SUBSCRIBED SPECIAL-USE)\r\n");
+    for (unsigned row = 0; row < LUSPEMARO_MAX_ROWS; row += 2)
+        records[row].readers = LUSPEMARO_READERS_ALL;
+    reader = NOT_FOR;
+    measure_outcome(entry, "every level of half of a full table, the rest hidden", LUSPEMARO_DONE);
+    fill_tables();
+    measure_outcome(entry, "a full table that is hidden", LUSPEMARO_DONE);
+    claim(outcome.length == strlen("a OK done\r\n"), entry->name, "a full table that is hidden");
+    reader = LUSPEMARO_MAX_READER + 1;
+    measure_outcome(entry, "no such reader", LUSPEMARO_REFUSAL_READER);
+    reader = 0;
 }
 
 /* An edit over a full table, which it changes and which is filled again. */
@@ -335,6 +348,9 @@ static void measure_edits(const struct entry *entry)
     measure_edit(entry, "a row inserted before 511", LUSPEMARO_DONE, ALL);
     set_edit_line("SUBSCRIBE", NULL);
     measure_edit(entry, "no room for a row", LUSPEMARO_REFUSAL_NO_ROOM, ALL);
+    reader = 1;
+    measure_edit(entry, "another reader than 0", LUSPEMARO_REFUSAL_READER, ALL);
+    reader = 0;
     set_line("a SUBSCRIBE {0}\r\n\r\n");
     measure_edit(entry, "an unlawful name", LUSPEMARO_REFUSAL_UNLAWFUL_NAME, ALL);
     set_long_line("a SUBSCRIBE \"", 'n', "\"\r\n");
@@ -366,6 +382,12 @@ static void measure_walks(const struct entry *entry)
     option = 3;
     measure_outcome(entry, "a full table", LUSPEMARO_DONE);
     claim(outcome.count == 1 + 512 * 15, entry->name, "the commands of a full table");
+    reader = NOT_FOR;
+    measure_outcome(entry, "a full table that is hidden", LUSPEMARO_DONE);
+    claim(outcome.count == 1 && outcome.length == 0, entry->name, "a full table that is hidden");
+    reader = LUSPEMARO_MAX_READER + 1;
+    measure_outcome(entry, "no such reader", LUSPEMARO_REFUSAL_READER);
+    reader = 0;
     option = 8;
     measure_outcome(entry, "an option byte that is not lawful", LUSPEMARO_REFUSAL_OPTION);
 }

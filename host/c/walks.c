@@ -104,9 +104,9 @@ static void nothing_lent(void)
  * attribute that a row may have. */
 static void rooms_of_a_walk(void)
 {
-    const struct rows *table = largest_table(161, LUSPEMARO_MAX_LEVELS, 0x7F03);
+    const struct rows *table = largest_table(160, LUSPEMARO_MAX_LEVELS, 0x7F03);
     struct luspemaro_outcome r = walk(table, 0, LUSPEMARO_ROOM_SCRATCH, LUSPEMARO_ROOM_FOUND, LUSPEMARO_ROOM_PENDING);
-    EXPECT(r.number == LUSPEMARO_DONE && r.count == 1 + 161 * 15 && r.length == 161 * 201);
+    EXPECT(r.number == LUSPEMARO_DONE && r.count == 1 + 160 * 15 && r.length == 160 * 201);
     size_t names = 0, pending = 0;
     for (; lent(PENDING)[pending] != 0; names++)
         pending += 1u + lent(PENDING)[pending];
@@ -117,8 +117,27 @@ static void rooms_of_a_walk(void)
     size_t scratch = LUSPEMARO_ROOM_SCRATCH / 5 * 4;
     EXPECT(is_refusal(walk(table, 3, scratch, LUSPEMARO_ROOM_FOUND, 0), LUSPEMARO_REFUSAL_SHORT_BUFFER));
     r = walk(table, 3, LUSPEMARO_ROOM_SCRATCH, LUSPEMARO_ROOM_FOUND, 0);
-    EXPECT(r.number == LUSPEMARO_DONE && r.count == 1 && r.length == table->length - 2 * LUSPEMARO_MAX_ROWS);
-    EXPECT(r.length == (form == RECORDS ? LUSPEMARO_ROOM_FOUND : LUSPEMARO_MAX_ROWS * 62));
+    EXPECT(r.number == LUSPEMARO_DONE && r.count == 1 && r.length == table->length - 3 * LUSPEMARO_MAX_ROWS);
+    EXPECT(r.length == (form == RECORDS ? LUSPEMARO_ROOM_FOUND : LUSPEMARO_MAX_ROWS * 61));
+}
+
+/* What suffices for a table of t bytes: 34 t + 11, t and 15 t. Rows of one byte with most attributes, and one at the end of 16 levels. */
+static void rooms_by_bytes(void)
+{
+    static struct rows rows;
+    for (unsigned levels = 1; levels <= LUSPEMARO_MAX_LEVELS; levels++) {
+        uint8_t name[2 * LUSPEMARO_MAX_LEVELS];
+        memset(name, '/', sizeof name);
+        rows.length = 0;
+        for (unsigned byte = '"'; byte <= 'z'; byte++) {
+            if (byte == '%' || byte == '*' || byte == '/')
+                continue;
+            for (unsigned level = 0; level < levels; level++)
+                name[2 * level] = (uint8_t)byte;
+            add_row_of(&rows, 0x7F5F, name, 2 * levels - 1);
+        }
+        EXPECT(walk(&rows, 3, 34 * rows.length + 11, rows.length, 15 * rows.length).number == LUSPEMARO_DONE);
+    }
 }
 
 const struct test walk_tests[] = {
@@ -129,5 +148,6 @@ const struct test walk_tests[] = {
     {"collect: short buffers, 9 to 11", short_buffers},
     {"collect: nothing lent", nothing_lent},
     {"collect: the rooms that suffice", rooms_of_a_walk},
+    {"collect: the rooms that suffice, by bytes", rooms_by_bytes},
     {NULL, NULL},
 };

@@ -123,7 +123,7 @@ stayed = (stay-none-slice (0 ∷ []) tt (plain (λ _. T.the-row)) yes, (stay-non
 
 -- what a place past the end would hold
 abbrev zero-record : Record
-zero-record = record {{ flags = 0; start = 0; len = 0 }}
+zero-record = record {{ flags = 0; start = 0; len = 0; readers = 0 }}
 
 -- the bytes of a record: the number that the MIR has
 abbrev size : ℕ

@@ -5,12 +5,12 @@ from head import specs_of
 
 TABLE = [('area', 'shr')]
 MOVING = [('area', 'mut')]
-EDIT = [('area', 'mut'), ('namespaces', 'shr'), ('line', 'shr'), ('out', 'mut')]
-WALK = [('area', 'shr'), ('option', 'u8'), ('scratch', 'mut'), ('found', 'mut'), ('pending', 'mut')]
+EDIT = [('reader', 'u8'), ('area', 'mut'), ('namespaces', 'shr'), ('line', 'shr'), ('out', 'mut')]
+WALK = [('reader', 'u8'), ('area', 'shr'), ('option', 'u8'), ('scratch', 'mut'), ('found', 'mut'), ('pending', 'mut')]
 
 # a collection: what is lent, and that it is the same of tables that are alike
 LENT = 'option scratch found pending'
-COLLECTED_ALIKE = f'collected-alike t u {LENT} a'
+COLLECTED_ALIKE = f'collected-by-alike t u reader {LENT} (a .seen)'
 
 
 def passing():
@@ -20,15 +20,15 @@ def passing():
 def collected(result, moves, owner):
     """The clauses of a collection: the result, the three buffers, and demand 3 for the result `owner`."""
     def buffer(name):
-        return Clause(name, f'{name}′ ≡ {name}Of t {LENT}', f'e ∙ ap ({name}After (length {name})) ({COLLECTED_ALIKE})')
-    owed = 'lawfulByte option ≡ true → WholeWalk v option (length scratch) (length found) (length pending) ' + owner.replace(' t ', ' v ')
+        return Clause(name, f'{name}′ ≡ {name}Of reader t {LENT}', f'e ∙ ap ({name}After (length {name})) ({COLLECTED_ALIKE})')
     return [Clause('result', result, moves), buffer('scratch'), buffer('found'), buffer('pending'),
-            Clause('demand3', f'OwesDemand3 t {LENT} {owner} found′ pending′', f'owed-alike t u (λ v. {owed} found′ pending′) a e')]
+            Clause('demand3', f'OwesDemand3 reader all t {LENT} {owner} found′ pending′',
+                   f'owes-alike reader {LENT} (λ v. {owner.replace(" t ", " v ")}) found′ pending′ a e')]
 
 
 def collector(own):
-    return ('use mathlib.Core.Bool.{true}\nuse Rattle.listing_rules.specs.Walk.{lawfulByte, scratchAfter, foundAfter, pendingAfter, collected}\n'
-            f'use {specs_of("collector", own)}.Result.{{collectedIs, collectedOf, scratchOf, foundOf, pendingOf, WholeWalk, OwesDemand3}}\n')
+    return ('use Rattle.listing_rules.specs.Walk.{scratchAfter, foundAfter, pendingAfter, collectedBy}\n'
+            f'use {specs_of("collector", own)}.Result.{{collectedIs, collectedOf, scratchOf, foundOf, pendingOf, OwesDemand3}}\n')
 
 
 def compacting(crate, fn):
@@ -52,7 +52,7 @@ edit_entry('server', 'answer', ('server', 'answer_words'), EDIT, COMMAND, Done('
 compacting('compaction', 'compact')
 
 entry('collector', 'collect', ('collector', 'collect_words'), WALK, declared('collector', 'Collected', 'collector', enum=True),
-      collected(f'r ≡ collectedOf t {LENT}', f'e ∙ ap collectedIs ({COLLECTED_ALIKE})', 'r'), collector('collector'))
+      collected(f'r ≡ collectedOf reader t {LENT}', f'e ∙ ap collectedIs ({COLLECTED_ALIKE})', 'r'), collector('collector'))
 
 # ---- The same for C, over cores that answer in a struct of numbers.
 
@@ -70,5 +70,5 @@ edit_entry('exports', 'luspemaro_answer', ('exports', 'answer_words'), EDIT, COM
 compacting('exports', 'luspemaro_compact')
 
 entry('exports', 'luspemaro_collect', ('exports', 'collect_words'), WALK, OUTCOME,
-      collected(f'r ≡ walkOutcome (collected t {LENT})', f'e ∙ ap walkOutcome ({COLLECTED_ALIKE})', f'(collectedOf t {LENT})'),
+      collected(f'r ≡ walkOutcome (collectedBy reader t {LENT})', f'e ∙ ap walkOutcome ({COLLECTED_ALIKE})', f'(collectedOf reader t {LENT})'),
       collector('exports') + OUTCOMES + '{walkOutcome}\n')

@@ -5,7 +5,8 @@ An entry is `fn NAME(records: &[Record], count: usize, ..) -> R` with the body
     let n = copy_in(records, count, &mut words);
     CORE(&words[..n], count, ..)
 and the core, which is covered, has the same parameters after `&[u64]`. Each clause that the core promises of `wordTable` the entry
-promises of `lentTable`: it says how a clause is moved from a table to one that is alike. (`edit_entry.py` has those that write records.)
+promises of `lentTable`: it says how a clause is moved from a table to one that is alike. Where there is a reader, the clauses speak of all
+rows and of those that it sees: of `wordSeen` too, and of `lentSeen`. (`edit_entry.py` has those that write records.)
 """
 from head import MODELS, capital, dashed, foot, head, known, promises, proofs_of, specs_of, write
 from walk import Walk
@@ -15,8 +16,6 @@ WIDTHS = {'usize': 'w64', 'u8': 'w8', 'u16': 'w16', 'u64': 'w64'}
 ARRAY = '(Array u64 512)'
 FITS_512 = '(tt, (tt, (record { fits = lit< tt }, tt)))'  # a slice of 512 has its type
 US = 'z1 .1 .1 .0'  # the words as `copy_in` left them
-WORD_TABLE = f'wordTable area (take n ({US})) count'
-LENT_TABLE = 'lentTable area records count'
 
 
 def nested(parts):
@@ -137,9 +136,34 @@ def declared(crate, name, own, enum, short='R'):
     return Result(last, f'{short}.the-row', f'LL.lawful {short}.the-type {short}′.the-laws 𝓤 H A W', uses, f'LL.makes {short}.the-type {short}′.the-plain 𝓤 H A')
 
 
+class Tables:
+    """The tables that the clauses speak of: their names in a clause, and the names of those that are alike to them; what each is called, after
+    `word` or `lent`; what says that they are alike, and its law; and the file of laws, by its crate, with what is used of it."""
+
+    def __init__(self, names, others, called, alike, law, laws):
+        self.names, self.others, self.called, self.alike, self.law, self.laws = names, others, called, alike, law, laws
+        self.types = 'Table → ' * len(called)
+
+    def word(self, words):
+        return ' '.join(f'(word{c} area (take n {words}) count)' for c in self.called)
+
+    def lent(self):
+        return ' '.join(f'(lent{c} area records count)' for c in self.called)
+
+    def uses(self, own):
+        crate, file = self.laws
+        return f'use {specs_of("records", own)}.Lent.{{lentTable, wordTable, lentSeen, wordSeen}}\nuse {proofs_of(crate, own)}.{file}\n'
+
+
+ROWS = Tables('t', 'u', ['Table'], 'Alike', 'words-alike area', ('records', 'WordsAlike.{words-alike}'))
+SEEN = Tables('all t', 'every u', ['Table', 'Seen reader'], 'SeenAlike', 'words-seen-alike reader area',
+              ('collector', 'SeenAlike.{SeenAlike, words-seen-alike, owes-alike}'))
+
+
 class Clause:
-    """A clause that the core promises: what it says of the table `t`, the result `r` and the last lists NAME′ of the bytes that are lent
-    as `&mut`; and, of a table `u` that is alike (`a`), how it is moved there from `e`. (`EditEntry` says it of a command.)"""
+    """A clause that the core promises: what it says of the table `t` (and, with a reader, of `all` rows, of which `t` has those that are
+    seen), the result `r` and the last lists NAME′ of the bytes that are lent as `&mut`; and, of a table `u` that is alike (`a`), how it is
+    moved there from `e`. (`EditEntry` says it of a command.)"""
 
     def __init__(self, name, says, moves):
         self.name, self.says, self.moves = name, says, moves
@@ -364,6 +388,7 @@ class Entry(Lender):
     def __init__(self, crate, fn, core, rest, result, clauses, uses):
         super().__init__(crate, fn, core, [('records', 'no_words'), ('records', 'copy_in'), core], [('records', 'records'), ('count', 'usize')] + rest,
                          result, clauses, uses, 'own_r')
+        self.tables = SEEN if any(p.name == 'reader' for p in self.params) else ROWS
         # the locals: the result, the parameters, the words, their count, and what the compiler adds for each operand
         self.copied, self.made = self.p + 2, self.p + 3
         self.locals = self.p + 8 + 2 * len(self.muts)
@@ -416,7 +441,7 @@ class Entry(Lender):
         self.hands(w, self.core[1], to, ['wsl'] + owns, ['lftξ'] + self.tokens[1:])
         w.call(callee, to, [w.ld_later(self.p + 7)] + operands, 'v3')
         w.told(callee, self.core_lifetimes('ξ ∷ []'), self.core_tokens('ξ'), r.row, r.denot, self.core_args(f'words {self.place} δ₂ (take n ({US}))'), 'r', 'v3',
-               [('s-' + c.name, f'Says-{c.name} ({WORD_TABLE}) r{self.last}') for c in self.clauses], 'z3')
+               [('s-' + c.name, f'Says-{c.name} {self.tables.word(f"({US})")} r{self.last}') for c in self.clauses], 'z3')
         w.opens(f'peeks ! {r.row} (Is {r.row}) (shows 𝓤 H A {r.row}) r (v3 ∷ []) (λ is3.', [], [])
         w.say(f'land ! (from ! (stop !)) (init ! {w.at(0)} refl ({r.lawful} .typed r _ is3 .0)) $')
         w.split('fsplit', 'lasts', *['c%d' % k for k in range(self.p)], 'none3')
@@ -431,7 +456,7 @@ class Entry(Lender):
         for part in (self.copies, self.lends_front, self.calls_core, self.leaves):
             part(w)
         w.keep(*self.had)
-        w.say(f'by ! (exits r v3{self.last} ({WORD_TABLE}) (same xs ({US}) n (is0 .1 .0 .1) e1){self.given})' + ')' * (w.open + self.locals))
+        w.say(f'by ! (exits r v3{self.last} {self.tables.word(f"({US})")} (same xs ({US}) n (is0 .1 .0 .1) e1){self.given})' + ')' * (w.open + self.locals))
         return w.text(8)
 
     # ---- The file.
@@ -441,15 +466,16 @@ class Entry(Lender):
 
     def facts(self):
         """What is promised of a table, and that it moves to a table that is alike; and that the copied words are such a table."""
-        kept = '\n'.join(f'''  abbrev Says-{c.name} : Table → {self.result.denot} → {'List ℕ → ' * len(self.muts)}Type 0
-  Says-{c.name} t r{self.primes} = {c.says}
+        tables = self.tables
+        kept = '\n'.join(f'''  abbrev Says-{c.name} : {tables.types}{self.result.denot} → {'List ℕ → ' * len(self.muts)}Type 0
+  Says-{c.name} {tables.names} r{self.primes} = {c.says}
 ''' for c in self.clauses)
-        moved = '\n'.join(f'''    moved-{c.name} : Says-{c.name} t r{self.primes} → Says-{c.name} u r{self.primes}
+        moved = '\n'.join(f'''    moved-{c.name} : Says-{c.name} {tables.names} r{self.primes} → Says-{c.name} {tables.others} r{self.primes}
     moved-{c.name} e = {c.moves}
 ''' for c in self.clauses)
         return f'''  -- what is promised of a table, and that it is so of a table that is alike
 {kept}
-  module _ (t u : Table) (a : Alike t u) (r : {self.result.denot}){self.lists} where
+  module _ ({tables.names} {tables.others} : Table) (a : {tables.alike} {tables.names} {tables.others}) (r : {self.result.denot}){self.lists} where
 {moved}
   -- what `copy_in` promises of the words us, where they were xs; so n of them are a table alike to the records'
   abbrev Copied : List ℕ → List ℕ → ℕ → Type 0
@@ -459,20 +485,22 @@ class Entry(Lender):
   held : (xs us : List ℕ) (n : ℕ) → length xs ≡ 512 → length us ≡ 512 → Copied xs us n → n ≤ length us
   held xs us n l k c = let e : n ≡ min count (min (length records) (length xs)) = c .0 in omega (arith, l, k, e)
 
-  same : (xs us : List ℕ) (n : ℕ) → length xs ≡ 512 → Copied xs us n → Alike (wordTable area (take n us) count) ({LENT_TABLE})
-  same xs us n l c = words-alike area records us count n (c .0 ∙ ap (λ (k : ℕ). min count (min (length records) k)) l) (c .2)
+  same : (xs us : List ℕ) (n : ℕ) → length xs ≡ 512 → Copied xs us n → {tables.alike} {tables.word('us')} {tables.lent()}
+  same xs us n l c = {tables.law} records us count n (c .0 ∙ ap (λ (k : ℕ). min count (min (length records) k)) l) (c .2)
 '''
 
     def told_type(self):
-        premises = ''.join(f'Says-{c.name} t r{self.primes} → ' for c in self.clauses) + ''.join(f'length {m.name}′ ≡ length {m.name} → ' for m in self.muts)
-        return f'(r : {self.result.denot}) (v : Val){self.lists} (t : Table) → Alike t ({LENT_TABLE}) → {premises}'
+        tables = self.tables
+        premises = ''.join(f'Says-{c.name} {tables.names} r{self.primes} → ' for c in self.clauses) + ''.join(f'length {m.name}′ ≡ length {m.name} → ' for m in self.muts)
+        return f'(r : {self.result.denot}) (v : Val){self.lists} ({tables.names} : Table) → {tables.alike} {tables.names} {tables.lent()} → {premises}'
 
     def told_names(self):
-        return f'r v{self.primes} t a{self.given}'
+        return f'r v{self.primes} {self.tables.names} a{self.given}'
 
     def stated(self):
-        return self.each_stated([f'(Says-{c.name} ({LENT_TABLE}) r{self.primes})' for c in self.clauses],
-                                [f'moved-{c.name} t ({LENT_TABLE}) a r{self.primes} s-{c.name}' for c in self.clauses])
+        names, lent = self.tables.names, self.tables.lent()
+        return self.each_stated([f'(Says-{c.name} {lent} r{self.primes})' for c in self.clauses],
+                                [f'moved-{c.name} {names} {lent} a r{self.primes} s-{c.name}' for c in self.clauses])
 
     def to_callees(self):
         first, core = self.records, capital(self.core[1])
@@ -491,12 +519,10 @@ class Entry(Lender):
 -- with the words; its first part is lent to `{self.core[1].split('.')[-1]}`. All that the proof knows of the callees is that they meet their contracts.'''
         specs, proofs = specs_of('records', self.crate), proofs_of('records', self.crate)
         return self.file(doc, f'''use Rattle.listing_rules.specs.Table.{{Table}}
-use Rattle.listing_rules.proofs.Alike.{{Alike, owed-alike, served-alike, collected-alike}}
+use Rattle.listing_rules.proofs.Alike.{{Alike, collected-by-alike}}
 use {specs}.declared.Record.{{Record}}
 use {specs}.Words.{{wordOf, recordOf, meant}}
-use {specs}.Lent.{{lentTable, wordTable}}
-use {proofs}.WordsAlike.{{words-alike}}
-use {proofs}.Clauses.{{says-each}}
+{self.tables.uses(self.crate)}use {proofs}.Clauses.{{says-each}}
 ''')
 
 

@@ -1,41 +1,39 @@
--- The table of a walk: what is counted of the words of a table that passes, and a packed table turned into words. Rests on RecordLaws of
--- listing_rules.
-use mathlib.Core.Path.{_≡_}
-use mathlib.Core.Bool.{true, false, false≢true}
+-- The table of a walk: the words of the rows that a reader sees, of an index and of a packed table turned into words, are the table that it sees. Rests
+-- on ReaderLaws of listing_rules, and on SeenLaws and UnpackedLaws of mailbox_table.
+use mathlib.Core.Path.{_≡_, sym, ap, _∙_}
+use mathlib.Core.Bool.{true}
 use mathlib.Core.List.{List, map}
-use Prim.Native.Nat.{ℕ, _≤_}
-use native.Mathlib.Decide.{decLe}
-use native.Mathlib.Omega.{arith}
-use lib.Dec.{leb}
+use Prim.Native.Nat.{ℕ}
 use lib.ListN.{length, take, length-map}
-use lib.Seq.{length-take-le, take-all}
-use borrow.Author.Tests.{le-leb, lt-leb}
+use lib.Seq.{take-length}
+use Rattle.listing_rules.specs.Lists.{keep}
 use Rattle.listing_rules.specs.Table.{passes}
-use Rattle.listing_rules.specs.Records.{recordTable}
-use Rattle.listing_rules.proofs.ListLaws.{map-take}
+use Rattle.listing_rules.specs.Records.{recordTable, packedRecords}
+use Rattle.listing_rules.specs.Readers.{sees, visible, seen, recordsSeen, packedSeen}
+use Rattle.listing_rules.proofs.ReaderLaws.{kept-table}
 use Rattle.records.specs.Words.{recordOf}
-use Rattle.records.specs.Lent.{wordTable}
+use Rattle.records.specs.Lent.{wordTable, wordSeen}
+use Rattle.mailbox_table.specs.declared.Indexing.the-variants.{Rows}
+use Rattle.mailbox_table.specs.Packed.{Unpacks}
+use Rattle.mailbox_table.specs.Seen.{seenWords}
+use Rattle.mailbox_table.proofs.SeenLaws.{seen-records}
+use Rattle.mailbox_table.proofs.UnpackedLaws.{unpacked-turned}
 use Rattle.collector.specs.Held.{heldTable}
 
-module _ (area words : List ℕ) (count : ℕ) where
-  -- a table that passes has as many words as are counted
-  pub counted : passes (wordTable area words count) ≡ true → count ≤ length words
-  unfolding recordTable passes
-  counted h = go (decLe count (length words))
-    where
-      go : Dec (count ≤ length words) → count ≤ length words
-      go (yes k) = k
-      go (no k) =
-          let short : leb count (length (map recordOf words)) ≡ false = lt-leb count (length (map recordOf words)) (omega (arith, length-map words recordOf)) in
-          absurd (false≢true (rw short at h))
+-- words `index` that tell the counted records of a table that passes: those that the reader sees are the table that it sees
+pub held-seen : (reader : ℕ) (area words : List ℕ) (count : ℕ) (index : List ℕ) → passes (wordTable area words count) ≡ true
+    → map recordOf index ≡ take count (map recordOf words) → heldTable area (seenWords reader index) ≡ wordSeen reader area words count
+held-seen reader area words count index ok told =
+    let kept : map recordOf (seenWords reader index) ≡ keep (sees reader) (take count (map recordOf words)) = seen-records reader index ∙ ap
+    (keep (sees reader)) told in
+    let many = sym (length-map (seenWords reader index) recordOf) ∙ ap length kept in
+    (λ i. recordTable area (kept i) (many i)) ∙ kept-table reader area (map recordOf words) count ok
 
-  -- its first words, all of them counted, are the same table
-  pub held-same : count ≤ length words → heldTable area (take count words) ≡ wordTable area words count
-  unfolding recordTable
-  held-same h =
-      let rs = map recordOf words in
-      let long : count ≤ length rs = omega (arith, length-map words recordOf) in
-      let size : length (take count words) ≡ count = length-take-le count words h in
-      let first : map recordOf (take count words) ≡ take count rs = map-take recordOf count words in
-      let same : take count (take count rs) ≡ take count rs = take-all count (take count rs) (omega (arith, length-take-le count rs long)) in
-      rw (size, first, same, le-leb count (length (take count rs)) (omega (arith, length-take-le count rs long)), le-leb count (length rs) long)
+-- the words that a packed table was turned into are seen as it is
+pub turned-seen : (reader : ℕ) {t before after : List ℕ} {n : ℕ} → Unpacks t before after (Rows n) →
+    wordSeen reader t (take n after) n ≡ packedSeen reader t
+unfolding recordsSeen packedSeen
+turned-seen reader {t} {before} {after} {n} x =
+    let whole : take n (map recordOf (take n after)) ≡ packedRecords t = (λ i. take (x .records .0 i) (x .records .1 i)) ∙ take-length
+    (packedRecords t) in
+    λ i. seen (unpacked-turned x .table i) (visible reader t (whole i))

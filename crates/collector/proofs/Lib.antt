@@ -11,3 +11,4 @@ mod QueueLaws
 mod HeldLaws
 mod WalkLaws
 pub mod WholeLaws
+pub mod SeenAlike

@@ -1,14 +1,16 @@
 -- The collector's promise: its answer's number, count and length, the order of its refusals, what a refused walk and one that came to
 -- its end leave, and demand 3, which follows from the equations. Rests on the law of the definitions, `demand-3-holds`.
-use mathlib.Core.Path.{_≡_, refl, sym, ap, _∙_}
+use mathlib.Core.Path.{_≡_, refl, sym, ap, subst, _∙_}
 use mathlib.Core.Bool.{true, false}
 use mathlib.Core.List.{List, [], _∷_}
-use Prim.Native.Nat.{ℕ, _+_}
+use Prim.Native.Nat.{ℕ, _+_, _≤_, _<_}
 use native.Mathlib.Omega.{arith}
 use lib.ListN.{length, replicate}
+use borrow.Author.Tests.{le-leb, lt-leb}
 use Rattle.listing_rules.specs.Bytes.{oneOf}
 use Rattle.listing_rules.specs.Table.{Table, rows, passes}
-use Rattle.listing_rules.specs.Walk.{lawfulByte, WalkReply, walkRefused, walked, walk, walkNumber, walkCount, foundLength, packed, zeroBehind, foundAfter, pendingAfter, scratchAfter, collected}
+use Rattle.listing_rules.specs.Readers.{isReader}
+use Rattle.listing_rules.specs.Walk.{lawfulByte, WalkReply, walkRefused, walked, walk, walkNumber, walkCount, foundLength, packed, zeroBehind, foundAfter, pendingAfter, scratchAfter, collected, walkBy, collectedBy}
 use Rattle.listing_rules.specs.Demand3.{Demand3, meetingNames, meetingAncestors, tooSmall}
 use Rattle.listing_rules.proofs.Demand3.{demand-3-holds}
 use Rattle.collector.specs.Result.{collectedIs, numberOfWalk, countOf, lengthOf, collectedOf, scratchOf, foundOf, pendingOf, WholeWalk, OwesDemand3}
@@ -32,45 +34,77 @@ unfolding lengthOf collectedIs foundLength
 length-of-walk (walkRefused k) = refl
 length-of-walk (walked count f p) = refl
 
-module _ (table : Table) (o : ℕ) (scratch found pending : List ℕ) where
-  -- "1, 6, then the walk"
-  pub refuses-table : passes table ≡ false → collected table o scratch found pending ≡ walkRefused 1
-  unfolding collected walk
-  refuses-table e = rw e
+-- 16, "1, 6, then the walk", over the table that the reader sees
+module _ (reader : ℕ) (table : Table) (o : ℕ) (scratch found pending : List ℕ) where
+  pub refuses-reader : 7 < reader → collectedBy reader table o scratch found pending ≡ walkRefused 16
+  unfolding collectedBy walkBy isReader
+  refuses-reader h = rw (lt-leb reader 7 h)
 
-  pub refuses-option : passes table ≡ true → lawfulByte o ≡ false → collected table o scratch found pending ≡ walkRefused 6
-  unfolding collected walk
-  refuses-option e g = rw (e, g)
+  -- a reader up to 7 is walked for
+  pub reader-walks : reader ≤ 7 → collectedBy reader table o scratch found pending ≡ collected table o scratch found pending
+  unfolding collectedBy walkBy isReader collected
+  reader-walks h = rw (le-leb reader 7 h)
 
-  -- the promise of `collect`, of its answer and what lies in the buffers after it
-  abbrev pub Promise : Collected → List ℕ → List ℕ → List ℕ → Type 0
-  Promise r s f p =
-      (r ≡ collectedOf table o scratch found pending)
-      × ((s ≡ scratchOf table o scratch found pending)
-      × ((f ≡ foundOf table o scratch found pending)
-      × ((p ≡ pendingOf table o scratch found pending) × OwesDemand3 table o scratch found pending r f p)))
+  pub refuses-table : reader ≤ 7 → passes table ≡ false → collectedBy reader table o scratch found pending ≡ walkRefused 1
+  unfolding collectedBy walkBy isReader walk
+  refuses-table h e = rw (le-leb reader 7 h, e)
 
-  promised : (r : Collected) (s f p : List ℕ) → r ≡ collectedOf table o scratch found pending → s ≡ scratchOf table o scratch found pending →
-      f ≡ foundOf table o scratch found pending → p ≡ pendingOf table o scratch found pending → Promise r s f p
-  unfolding collected
+  pub refuses-option : reader ≤ 7 → passes table ≡ true → lawfulByte o ≡ false → collectedBy reader table o scratch found pending ≡ walkRefused 6
+  unfolding collectedBy walkBy isReader walk
+  refuses-option h e g = rw (le-leb reader 7 h, e, g)
+
+  -- the walk goes by the lengths of the buffers
+  pub collected-by-long : (s f p : List ℕ) → length s ≡ length scratch → length f ≡ length found → length p ≡ length pending →
+      collectedBy reader table o s f p ≡ collectedBy reader table o scratch found pending
+  unfolding collectedBy
+  collected-by-long s f p ls lf lp = λ i. walkBy reader table o (ls i) (lf i) (lp i)
+
+-- the promise of `collect`, of its answer and what lies in the buffers after it: of the rows that the reader sees, and of all where they pass
+abbrev pub Promise : ℕ → Table → Table → ℕ → List ℕ → List ℕ → List ℕ → Collected → List ℕ → List ℕ → List ℕ → Type 0
+Promise reader all table o scratch found pending r s f p =
+    (r ≡ collectedOf reader table o scratch found pending)
+    × ((s ≡ scratchOf reader table o scratch found pending)
+    × ((f ≡ foundOf reader table o scratch found pending)
+    × ((p ≡ pendingOf reader table o scratch found pending) × OwesDemand3 reader all table o scratch found pending r f p)))
+
+-- it is one of tables that are the same
+pub promise-same : (reader o : ℕ) (scratch found pending : List ℕ) (r : Collected) (s f p : List ℕ) {all every t u : Table} → all ≡ every → t ≡ u
+    → Promise reader all t o scratch found pending r s f p → Promise reader every u o scratch found pending r s f p
+promise-same reader o scratch found pending r s f p {all} {every} {t} {u} a e held =
+    subst (λ (v : Table). Promise reader v u o scratch found pending r s f p) a
+    (subst (λ (v : Table). Promise reader all v o scratch found pending r s f p) e held)
+
+-- what is seen passes where all rows do
+module _ (reader : ℕ) (all table : Table) (o : ℕ) (scratch found pending : List ℕ) (alike : passes table ≡ passes all) where
+  promised : (r : Collected) (s f p : List ℕ) → r ≡ collectedOf reader table o scratch found pending →
+      s ≡ scratchOf reader table o scratch found pending →
+      f ≡ foundOf reader table o scratch found pending → p ≡ pendingOf reader table o scratch found pending →
+      Promise reader all table o scratch found pending r s f p
+  unfolding collectedBy walkBy
   promised r s f p er es ef ep = (er, (es, (ef, (ep, whole))))
     where
-      whole : OwesDemand3 table o scratch found pending r f p
-      whole ok lawful =
+      whole : OwesDemand3 reader all table o scratch found pending r f p
+      whole is ok lawful =
+          let by : walkBy reader table o (length scratch) (length found) (length pending) ≡ walk table o (length scratch) (length found)
+          (length pending) = rw is in
           record {
             reply = walk table o (length scratch) (length found) (length pending);
-            owed = demand-3-holds table o (length scratch) (length found) (length pending) ok lawful;
-            result = er;
-            found-holds = ef;
-            pending-holds = ep;
+            owed = demand-3-holds table o (length scratch) (length found) (length pending) (alike ∙ ok) lawful;
+            result = er ∙ ap collectedIs by;
+            found-holds = ef ∙ ap (foundAfter (length found)) by;
+            pending-holds = ep ∙ ap (pendingAfter (length pending)) by;
           }
 
   module _ {s f p : List ℕ} (zs : s ≡ replicate (length scratch) 0) where
-    pub promise-refused : {k : ℕ} → collected table o scratch found pending ≡ walkRefused k → f ≡ replicate (length found) 0 → p ≡ replicate (length pending) 0 → Promise (Refused k) s f p
+    pub promise-refused : {r : Collected} {k : ℕ} → r ≡ Refused k → collectedBy reader table o scratch found pending ≡ walkRefused k
+        → f ≡ replicate (length found) 0 → p ≡ replicate (length pending) 0 → Promise reader all table o scratch found pending r s f p
     unfolding collectedIs scratchAfter foundAfter pendingAfter
-    promise-refused {k} e zf zp = promised (Refused k) s f p (sym (ap collectedIs e)) zs (zf ∙ sym (ap (foundAfter (length found)) e)) (zp ∙ sym (ap (pendingAfter (length pending)) e))
+    promise-refused {r} {k} er e zf zp =
+        promised r s f p (er ∙ sym (ap collectedIs e)) zs (zf ∙ sym (ap (foundAfter (length found)) e))
+        (zp ∙ sym (ap (pendingAfter (length pending)) e))
 
-    pub promise-done : {count len : ℕ} → Comes (collected table o scratch found pending) f p count len → length f ≡ length found → length p ≡ length pending → Promise (Done count len) s f p
+    pub promise-done : {count len : ℕ} → Comes (collectedBy reader table o scratch found pending) f p count len → length f ≡ length found →
+        length p ≡ length pending → Promise reader all table o scratch found pending (Done count len) s f p
     unfolding collectedIs scratchAfter foundAfter pendingAfter
     promise-done {count} {len} C lf lp =
         promised (Done count len) s f p
@@ -85,7 +119,8 @@ unfolding collectedIs
 reply-refused (walkRefused j) {k} e = let y : j ≡ k = cc in ap walkRefused y
 reply-refused (walked c f p) e = cc
 
-reply-done : (w : WalkReply) {count len : ℕ} → collectedIs w ≡ Done count len → (f : List ℕ) × (p : List ℕ) × (w ≡ walked count f p) × (length f ≡ len)
+reply-done : (w : WalkReply) {count len : ℕ} → collectedIs w ≡ Done count len →
+    (f : List ℕ) × (p : List ℕ) × (w ≡ walked count f p) × (length f ≡ len)
 unfolding collectedIs
 reply-done (walkRefused j) e = let y : _≡_ {A = ℕ} 0 1 = cc in absurd (omega arith)
 reply-done (walked c f p) {count} {len} e = let y : c ≡ count = cc in let z : length f ≡ len = cc in (f, p, ap (λ (n : ℕ). walked n f p) y, z)

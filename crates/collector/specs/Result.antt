@@ -5,7 +5,8 @@ use mathlib.Core.List.{List}
 use Prim.Native.Nat.{ℕ}
 use lib.ListN.{length}
 use Rattle.listing_rules.specs.Table.{Table, passes}
-use Rattle.listing_rules.specs.Walk.{lawfulByte, WalkReply, walkRefused, walked, collected, scratchAfter, foundAfter, pendingAfter}
+use Rattle.listing_rules.specs.Readers.{isReader}
+use Rattle.listing_rules.specs.Walk.{lawfulByte, WalkReply, walkRefused, walked, collectedBy, scratchAfter, foundAfter, pendingAfter}
 use Rattle.listing_rules.specs.Demand3.{Demand3}
 use Rattle.collector.specs.declared.Collected.{Collected}
 use Rattle.collector.specs.declared.Collected.the-variants.{Done, Refused}
@@ -28,19 +29,20 @@ unfoldable pub lengthOf : Collected → ℕ
 lengthOf (Refused k) = 0
 lengthOf (Done count len) = len
 
--- One collection, by the table, the option byte and the three buffers as they were lent: the answer, and what each buffer holds then.
-module _ (table : Table) (o : ℕ) (scratch found pending : List ℕ) where
+-- One collection, by its reader, the table that the reader sees, the option byte and the three buffers as they were lent: the answer, and what
+-- each buffer holds then.
+module _ (reader : ℕ) (table : Table) (o : ℕ) (scratch found pending : List ℕ) where
   abbrev pub collectedOf : Collected
-  collectedOf = collectedIs (collected table o scratch found pending)
+  collectedOf = collectedIs (collectedBy reader table o scratch found pending)
 
   abbrev pub scratchOf : List ℕ
-  scratchOf = scratchAfter (length scratch) (collected table o scratch found pending)
+  scratchOf = scratchAfter (length scratch) (collectedBy reader table o scratch found pending)
 
   abbrev pub foundOf : List ℕ
-  foundOf = foundAfter (length found) (collected table o scratch found pending)
+  foundOf = foundAfter (length found) (collectedBy reader table o scratch found pending)
 
   abbrev pub pendingOf : List ℕ
-  pendingOf = pendingAfter (length pending) (collected table o scratch found pending)
+  pendingOf = pendingAfter (length pending) (collectedBy reader table o scratch found pending)
 
 -- The whole walk, by the lengths of the three buffers: the answer, and what lies in found and in pending then, are those of a reply
 -- that demand 3 allows.
@@ -51,7 +53,8 @@ pub record WholeWalk (table : Table) (o scratch found pending : ℕ) (r : Collec
   pub found-holds : inFound ≡ foundAfter found reply
   pub pending-holds : inPending ≡ pendingAfter pending reply
 
--- demand 3 is owed for a table that passes and a lawful option byte
-abbrev pub OwesDemand3 : Table → ℕ → List ℕ → List ℕ → List ℕ → Collected → List ℕ → List ℕ → Type 0
-OwesDemand3 table o scratch found pending r inFound inPending =
-    passes table ≡ true → lawfulByte o ≡ true → WholeWalk table o (length scratch) (length found) (length pending) r inFound inPending
+-- demand 3 is owed over the rows that a reader sees, for readers 0 to 7, a table all of whose rows pass and a lawful option byte
+abbrev pub OwesDemand3 : ℕ → Table → Table → ℕ → List ℕ → List ℕ → List ℕ → Collected → List ℕ → List ℕ → Type 0
+OwesDemand3 reader all table o scratch found pending r inFound inPending =
+    isReader reader ≡ true → passes all ≡ true → lawfulByte o ≡ true
+    → WholeWalk table o (length scratch) (length found) (length pending) r inFound inPending

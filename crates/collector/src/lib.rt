@@ -1,7 +1,7 @@
 // The collector: walks a mailbox table as a client does, by sending commands to the server side and reading its lines back.
 //
-// The table serves check 1 and the calls of the server side's command entry, and nothing else. A command is made from the option byte and a
-// pending name, finds and pending names come from the answer and the option byte.
+// The table serves check 1, the choice of the rows that the reader sees, and the calls of the server side's command entry, and nothing
+// else. A command is made from the option byte and a pending name, finds and pending names come from the answer and the option byte.
 mod command;
 mod lines;
 mod names;
@@ -9,7 +9,10 @@ mod options;
 mod packed;
 mod walk;
 
-use mailbox_table::check_words;
+use mailbox_table::Indexing;
+use mailbox_table::MAX_READER;
+use mailbox_table::index_words;
+use mailbox_table::see_rows;
 use octets::clear;
 use octets::refusals;
 use options::Asked;
@@ -21,8 +24,8 @@ use records::no_words;
 use walk::walk_table;
 ghost use mathlib.Core.Path.{_≡_};
 ghost use lib.ListN.{length, replicate};
-ghost use Rattle.listing_rules.specs.Walk.{collected};
-ghost use Rattle.records.specs.Lent.{lentTable, wordTable};
+ghost use Rattle.listing_rules.specs.Walk.{collectedBy};
+ghost use Rattle.records.specs.Lent.{lentTable, wordTable, lentSeen, wordSeen};
 ghost use Rattle.collector.specs.Result.{collectedOf, scratchOf, foundOf, pendingOf, OwesDemand3};
 ghost use Rattle.collector.specs.Ends.{Ends};
 
@@ -32,59 +35,70 @@ pub enum Collected {
     Refused(u8),
 }
 
-// The whole walk. Finds lie at the front of `found` and the names that were asked below at the front of `pending`, zero after
+// The whole walk of a reader. Finds lie at the front of `found` and the names that were asked below at the front of `pending`, zero after
 // them; `scratch` takes the answers, and is zero in the end. A refusal zeroes all three.
 pub fn collect(
     records: &[Record],
     count: usize,
+    reader: u8,
     area: &[u8],
     option: u8,
     scratch: &mut [u8],
     found: &mut [u8],
     pending: &mut [u8],
 ) -> Collected
-    ensures result { λ r. ⌜ r ≡ collectedOf (lentTable (now (area .entry)) (now (records .entry)) count)
+    ensures result { λ r. ⌜ r ≡ collectedOf reader (lentSeen reader (now (area .entry)) (now (records .entry)) count)
         option (now (scratch .entry)) (now (found .entry)) (now (pending .entry)) ⌝ }
-    ensures scratch { λ _. ⌜ now (scratch .exit) ≡ scratchOf (lentTable (now (area .entry)) (now (records .entry)) count)
+    ensures scratch { λ _. ⌜ now (scratch .exit) ≡ scratchOf reader (lentSeen reader (now (area .entry)) (now (records .entry)) count)
         option (now (scratch .entry)) (now (found .entry)) (now (pending .entry)) ⌝ }
-    ensures found { λ _. ⌜ now (found .exit) ≡ foundOf (lentTable (now (area .entry)) (now (records .entry)) count)
+    ensures found { λ _. ⌜ now (found .exit) ≡ foundOf reader (lentSeen reader (now (area .entry)) (now (records .entry)) count)
         option (now (scratch .entry)) (now (found .entry)) (now (pending .entry)) ⌝ }
-    ensures pending { λ _. ⌜ now (pending .exit) ≡ pendingOf (lentTable (now (area .entry)) (now (records .entry)) count)
+    ensures pending { λ _. ⌜ now (pending .exit) ≡ pendingOf reader (lentSeen reader (now (area .entry)) (now (records .entry)) count)
         option (now (scratch .entry)) (now (found .entry)) (now (pending .entry)) ⌝ }
-    ensures demand3 { λ r. ⌜ OwesDemand3 (lentTable (now (area .entry)) (now (records .entry)) count)
-        option (now (scratch .entry)) (now (found .entry)) (now (pending .entry))
+    ensures demand3 { λ r. ⌜ OwesDemand3 reader (lentTable (now (area .entry)) (now (records .entry)) count)
+        (lentSeen reader (now (area .entry)) (now (records .entry)) count) option (now (scratch .entry)) (now (found .entry)) (now (pending .entry))
         r (now (found .exit)) (now (pending .exit)) ⌝ }
 {
     let mut words = no_words();
     let n = copy_in(records, count, &mut words);
-    collect_words(&words[..n], count, area, option, scratch, found, pending)
+    collect_words(
+        &words[..n],
+        count,
+        reader,
+        area,
+        option,
+        scratch,
+        found,
+        pending,
+    )
 }
 
 // The same over records, each as a number: the first `count` words are the rows, over the area of names.
 pub fn collect_words(
     words: &[u64],
     count: usize,
+    reader: u8,
     area: &[u8],
     option: u8,
     scratch: &mut [u8],
     found: &mut [u8],
     pending: &mut [u8],
 ) -> Collected
-    ensures result { λ r. ⌜ r ≡ collectedOf (wordTable (now (area .entry)) (now (words .entry)) count)
+    ensures result { λ r. ⌜ r ≡ collectedOf reader (wordSeen reader (now (area .entry)) (now (words .entry)) count)
         option (now (scratch .entry)) (now (found .entry)) (now (pending .entry)) ⌝ }
-    ensures scratch { λ _. ⌜ now (scratch .exit) ≡ scratchOf (wordTable (now (area .entry)) (now (words .entry)) count)
+    ensures scratch { λ _. ⌜ now (scratch .exit) ≡ scratchOf reader (wordSeen reader (now (area .entry)) (now (words .entry)) count)
         option (now (scratch .entry)) (now (found .entry)) (now (pending .entry)) ⌝ }
-    ensures found { λ _. ⌜ now (found .exit) ≡ foundOf (wordTable (now (area .entry)) (now (words .entry)) count)
+    ensures found { λ _. ⌜ now (found .exit) ≡ foundOf reader (wordSeen reader (now (area .entry)) (now (words .entry)) count)
         option (now (scratch .entry)) (now (found .entry)) (now (pending .entry)) ⌝ }
-    ensures pending { λ _. ⌜ now (pending .exit) ≡ pendingOf (wordTable (now (area .entry)) (now (words .entry)) count)
+    ensures pending { λ _. ⌜ now (pending .exit) ≡ pendingOf reader (wordSeen reader (now (area .entry)) (now (words .entry)) count)
         option (now (scratch .entry)) (now (found .entry)) (now (pending .entry)) ⌝ }
-    ensures demand3 { λ r. ⌜ OwesDemand3 (wordTable (now (area .entry)) (now (words .entry)) count)
-        option (now (scratch .entry)) (now (found .entry)) (now (pending .entry))
+    ensures demand3 { λ r. ⌜ OwesDemand3 reader (wordTable (now (area .entry)) (now (words .entry)) count)
+        (wordSeen reader (now (area .entry)) (now (words .entry)) count) option (now (scratch .entry)) (now (found .entry)) (now (pending .entry))
         r (now (found .exit)) (now (pending .exit)) ⌝ }
 {
     clear(found);
     clear(pending);
-    let result = run(words, count, area, option, scratch, found, pending);
+    let result = run(words, count, reader, area, option, scratch, found, pending);
     clear(scratch);
     if let Collected::Refused(number) = result {
         clear(found);
@@ -94,10 +108,11 @@ pub fn collect_words(
     result
 }
 
-// Refusals 1 and 6, then the walk. Found and pending are zero; a refusal leaves them anyhow.
+// Refusals 16, 1 and 6, then the walk over the rows that the reader sees. Found and pending are zero; a refusal leaves them anyhow.
 fn run(
     words: &[u64],
     count: usize,
+    reader: u8,
     area: &[u8],
     option: u8,
     scratch: &mut [u8],
@@ -106,14 +121,19 @@ fn run(
 ) -> Collected
     requires { ⌜ now found ≡ replicate (length (now found)) 0 ⌝ }
     requires { ⌜ now pending ≡ replicate (length (now pending)) 0 ⌝ }
-    ensures { λ r. ⌜ Ends (collected (wordTable (now (area .entry)) (now (words .entry)) count) option
+    ensures { λ r. ⌜ Ends (collectedBy reader (wordSeen reader (now (area .entry)) (now (words .entry)) count) option
         (now (scratch .entry)) (now (found .entry)) (now (pending .entry))) (now (found .exit)) (now (pending .exit)) r ⌝ }
 {
-    if !check_words(words, count, area) {
-        return Collected::Refused(refusals::TABLE);
+    if MAX_READER < reader {
+        return Collected::Refused(refusals::READER);
     }
+    let mut rows = no_words();
+    let Indexing::Rows(n) = index_words(area, words, count, &mut rows) else {
+        return Collected::Refused(refusals::TABLE);
+    };
     let Asked::Of(options) = WalkOptions::of_byte(option) else {
         return Collected::Refused(refusals::OPTION);
     };
-    walk_table(&words[..count], area, options, scratch, found, pending)
+    let seen = see_rows(&mut rows[..n], reader);
+    walk_table(&rows[..seen], area, options, scratch, found, pending)
 }

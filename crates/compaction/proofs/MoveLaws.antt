@@ -37,7 +37,8 @@ module _ (rs : List Record) where
   kept-used k (b ∷ t) = go (anyOf (uses k) rs) (kept-used (suc k) t)
     where
       go : (o : Bool) → kept (freeFrom rs (suc k) t) t ≡ usedFrom rs (suc k) t
-          → cond (not o) (kept (freeFrom rs (suc k) t) t) (b ∷ kept (freeFrom rs (suc k) t) t) ≡ cond o (b ∷ usedFrom rs (suc k) t) (usedFrom rs (suc k) t)
+          → cond (not o) (kept (freeFrom rs (suc k) t) t) (b ∷ kept (freeFrom rs (suc k) t) t) ≡ cond o (b ∷ usedFrom rs (suc k) t)
+          (usedFrom rs (suc k) t)
       go true e = ap (λ (l : List ℕ). b ∷ l) e
       go false e = e
 
@@ -48,7 +49,8 @@ module _ (rs : List Record) where
   free-front (suc j) k (b ∷ t) = ap (λ (l : List Bool). not (anyOf (uses k) rs) ∷ l) (free-front j (suc k) t)
 
   -- gathered, and cleared from the end on
-  pub moves-bytes : {marks : List Bool} {area gathered places : List ℕ} {end : ℕ} → marks ≡ freeFrom rs 0 area → Gathers marks area gathered places end
+  pub moves-bytes : {marks : List Bool} {area gathered places : List ℕ} {end : ℕ} → marks ≡ freeFrom rs 0 area →
+      Gathers marks area gathered places end
       → (zeros : List ℕ) → zeros ≡ replicate (length (take (length gathered - end) (drop end gathered))) 0
       → MovesBytes rs area (take end gathered ++ (zeros ++ drop (length gathered - end) (drop end gathered))) places
   unfolding together placeAfter keptBefore
@@ -75,7 +77,8 @@ module _ (rs : List Record) where
       none = drop-of-length-le (drop end gathered) {i = length gathered - end} (omega (arith, after))
 
 -- the words with the places of their starts mean the records whose names have moved
-module _ (rs : List Record) (area places : List ℕ) (small : length area ≤ 32768) (are : (k : ℕ) → k < length area → getD places k 0 ≡ placeAfter rs area k) where
+module _ (rs : List Record) (area places : List ℕ) (small : length area ≤ 32768)
+    (are : (k : ℕ) → k < length area → getD places k 0 ≡ placeAfter rs area k) where
   pub places-fit : (k : ℕ) → k < length area → getD places k 0 < 65536
   places-fit k h = omega (arith, are k h, place-most rs area k (omega arith), used-most rs 0 area, small)
 
@@ -86,14 +89,17 @@ module _ (rs : List Record) (area places : List ℕ) (small : length area ≤ 32
       let read : getD (take (length area) places) s 0 ≡ getD places s 0 = getD-take (length area) places s 0 h in
       let start : recordOf w .start ≡ s = unfold recordOf in refl in
       start-means w (getD (take (length area) places) s 0) (omega (arith, read, places-fit s h))
-      ∙ (λ i. record { flags = recordOf w .flags; start = (read ∙ are s h ∙ ap (placeAfter rs area) (sym start)) i; len = recordOf w .len })
+      ∙ (λ i. record
+      { flags = recordOf w .flags; start = (read ∙ are s h ∙ ap (placeAfter rs area) (sym start)) i; len = recordOf w .len; readers = recordOf w .readers })
 
-  pub all-restarted : (ws : List ℕ) → Starts ws (length area) → map recordOf (map (restarted (take (length area) places)) ws) ≡ map (moved rs area) (map recordOf ws)
+  pub all-restarted : (ws : List ℕ) → Starts ws (length area) →
+      map recordOf (map (restarted (take (length area) places)) ws) ≡ map (moved rs area) (map recordOf ws)
   all-restarted [] h = refl
   all-restarted (w ∷ ws) h = λ i. restarted-means w (h 0 (omega arith)) i ∷ all-restarted ws (λ k l. h (suc k) (omega arith)) i
 
 -- so names are moved
-pub moves-names : {ws area area′ places vs : List ℕ} → Within ws area → MovesBytes (map recordOf ws) area area′ places → vs ≡ map (restarted (take (length area) places)) ws
+pub moves-names : {ws area area′ places vs : List ℕ} → Within ws area → MovesBytes (map recordOf ws) area area′ places →
+    vs ≡ map (restarted (take (length area) places)) ws
     → MovesNames ws area vs area′
 moves-names {ws} {area} {area′} {places} {vs} w m e =
     record {
@@ -109,7 +115,8 @@ starts-inside area [] h k l = absurd (omega arith)
 starts-inside area (w ∷ ws) h zero l =
     let n = take (w / 4294967296 % 256) (drop (w / 65536 % 65536) area) in
     let lawful = and-l (lawfulName n) (every (λ (r : Row). lawfulName (r .name)) (recordRows area (map recordOf ws))) h in
-    let long : 1 ≤ length n = leb-true 1 (length n) (and-l (leb 1 (length n)) (leb (length n) 200) (and-l _ _ (and-l _ _ (and-l _ _ (and-l _ _ lawful))))) in
+    let long : 1 ≤ length n = leb-true 1 (length n) (and-l (leb 1 (length n)) (leb (length n) 200)
+    (and-l _ _ (and-l _ _ (and-l _ _ (and-l _ _ lawful))))) in
     omega (arith, long, length-take (w / 4294967296 % 256) (drop (w / 65536 % 65536) area), length-drop (w / 65536 % 65536) area)
 starts-inside area (w ∷ ws) h (suc k) l = starts-inside area ws
     (and-r (lawfulName (rowOf area (recordOf w) .name)) (every (λ (r : Row). lawfulName (r .name)) (recordRows area (map recordOf ws))) h) k
@@ -176,7 +183,9 @@ module _ (ws : List ℕ) (lent count : ℕ) (area : List ℕ) (n : ℕ) (n-is : 
     rows-within =
         record {
           short = p .laid .small;
-          starts = starts-inside area (take count ws) (subst (λ (rs : List Record). every (λ (r : Row). lawfulName (r .name)) (recordRows area rs) ≡ true) rows-are (p .parts .lawful-names));
+          starts =
+              starts-inside area (take count ws) (subst (λ (rs : List Record). every (λ (r : Row). lawfulName (r .name)) (recordRows area rs) ≡ true)
+              rows-are (p .parts .lawful-names));
         }
 
     module _ (vs area′ : List ℕ) (m : MovesNames (take count ws) area vs area′) where

@@ -33,7 +33,11 @@ start-part b s h = omega arith
 top-is : (w : ℕ) → w / 65536 / 65536 ≡ w / 4294967296
 top-is w = omega arith
 
-pub start-means : (w s : ℕ) → s < 65536 → recordOf (withStart s w) ≡ record { flags = recordOf w .flags; start = s; len = recordOf w .len }
+readers-top : (w : ℕ) → w / 281474976710656 % 256 ≡ w / 4294967296 / 65536 % 256
+readers-top w = omega arith
+
+pub start-means : (w s : ℕ) → s < 65536 →
+    recordOf (withStart s w) ≡ record { flags = recordOf w .flags; start = s; len = recordOf w .len; readers = recordOf w .readers }
 unfolding recordOf withStart
 start-means w s h =
     let b : ℕ = w / 65536 / 65536 in
@@ -43,6 +47,8 @@ start-means w s h =
       flags = flags-part b s f small i;
       start = (ap (λ (n : ℕ). n % 65536) (upper-part b s f small) ∙ start-part b s h) i;
       len = ap (λ (n : ℕ). n % 256) (top-part b s f h small ∙ top-is w) i;
+      readers =
+          (readers-top (65536 * (65536 * b + s) + f) ∙ ap (λ (n : ℕ). n / 65536 % 256) (top-part b s f h small ∙ top-is w) ∙ sym (readers-top w)) i;
     })
 
 -- A loop that changes word after word by f: those before i are changed.
@@ -73,7 +79,8 @@ module _ {f : ℕ → ℕ} {ws e : List ℕ} {i : ℕ} (m : Mapped f ws e i) whe
         words =
             ap (λ (l : List ℕ). set l i x) (m .words ∙ ap (λ (r : List ℕ). map f (take i ws) ++ r) (drop-cons ws i 0 h))
             ∙ set-at (map f (take i ws)) (getD ws i 0) (drop (suc i) ws) x i front-length
-            ∙ rw (q, add-one i, take-suc ws i 0 h, map-snoc f (take i ws) (getD ws i 0)) (sym (append-snoc (map f (take i ws)) (f (getD ws i 0)) (drop (suc i) ws)));
+            ∙ rw (q, add-one i, take-suc ws i 0 h, map-snoc f (take i ws) (getD ws i 0))
+            (sym (append-snoc (map f (take i ws)) (f (getD ws i 0)) (drop (suc i) ws)));
       }
 
   pub mapped-all : length ws ≤ i → e ≡ map f ws

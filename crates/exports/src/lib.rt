@@ -27,13 +27,14 @@ ghost use Prim.Native.Nat.{_+_, _*_, _≤_};
 ghost use lib.Dec.{leb};
 ghost use lib.ListN.{length, take};
 ghost use Rattle.listing_rules.specs.Table.{passes, packedTable};
+ghost use Rattle.listing_rules.specs.Readers.{packedSeen};
 ghost use Rattle.listing_rules.specs.Namespaces.{namespacesPass};
 ghost use Rattle.listing_rules.specs.Match.{matches};
 ghost use Rattle.listing_rules.specs.Reader.{written, readLine};
 ghost use Rattle.listing_rules.specs.Server.{bufferAfter};
-ghost use Rattle.listing_rules.specs.Walk.{collected};
+ghost use Rattle.listing_rules.specs.Walk.{collectedBy};
 ghost use Rattle.records.specs.Words.{recordOf, meant};
-ghost use Rattle.records.specs.Lent.{lentTable, wordTable};
+ghost use Rattle.records.specs.Lent.{lentTable, lentSeen, wordTable, wordSeen};
 ghost use Rattle.records.specs.Stores.{lentCommand, wordCommand, lentCompaction, Between};
 ghost use Rattle.pattern.specs.Steps.{countedIs};
 ghost use Rattle.list_line.specs.Members.{members};
@@ -84,30 +85,31 @@ pub extern "C" fn luspemaro_match_steps(pattern: &[u8], name: &[u8]) -> usize
     counted.steps
 }
 
-// The answer to one command at the front of `out`. SUBSCRIBE and UNSUBSCRIBE change records and area; `count` of the outcome is the
+// The answer to one command of a reader at the front of `out`. SUBSCRIBE and UNSUBSCRIBE change records and area; `count` of the outcome is the
 // number of rows given back, on a refusal the one that was passed.
 #[no_mangle]
 pub extern "C" fn luspemaro_answer(
     records: &mut [Record],
     count: usize,
+    reader: u8,
     area: &mut [u8],
     namespaces: &[u8],
     line: &[u8],
     out: &mut [u8],
 ) -> Outcome
     ensures result { λ r. ⌜ r ≡ outcomeOf
-        (lentCommand (now (records .entry)) count (now (area .entry)) (now (namespaces .entry)) (now (line .entry)) (now (out .entry)) .reply)
-        (lentCommand (now (records .entry)) count (now (area .entry)) (now (namespaces .entry)) (now (line .entry)) (now (out .entry)) .store .count) ⌝ }
+        (lentCommand (now (records .entry)) count reader (now (area .entry)) (now (namespaces .entry)) (now (line .entry)) (now (out .entry)) .reply)
+        (lentCommand (now (records .entry)) count reader (now (area .entry)) (now (namespaces .entry)) (now (line .entry)) (now (out .entry)) .store .count) ⌝ }
     ensures bytes { λ _. ⌜ now (out .exit) ≡ bufferAfter (now (out .entry))
-        (lentCommand (now (records .entry)) count (now (area .entry)) (now (namespaces .entry)) (now (line .entry)) (now (out .entry)) .reply) ⌝ }
+        (lentCommand (now (records .entry)) count reader (now (area .entry)) (now (namespaces .entry)) (now (line .entry)) (now (out .entry)) .reply) ⌝ }
     ensures area { λ _. ⌜ now (area .exit)
-        ≡ lentCommand (now (records .entry)) count (now (area .entry)) (now (namespaces .entry)) (now (line .entry)) (now (out .entry)) .store .area ⌝ }
+        ≡ lentCommand (now (records .entry)) count reader (now (area .entry)) (now (namespaces .entry)) (now (line .entry)) (now (out .entry)) .store .area ⌝ }
     ensures records { λ _. ⌜ map meant (now (records .exit))
-        ≡ lentCommand (now (records .entry)) count (now (area .entry)) (now (namespaces .entry)) (now (line .entry)) (now (out .entry)) .store .records ⌝ }
+        ≡ lentCommand (now (records .entry)) count reader (now (area .entry)) (now (namespaces .entry)) (now (line .entry)) (now (out .entry)) .store .records ⌝ }
 {
     let mut words = no_words();
     let lent = copy_in(records, records.len(), &mut words);
-    let done = answer_words(&mut words, lent, count, area, namespaces, line, out);
+    let done = answer_words(&mut words, lent, count, reader, area, namespaces, line, out);
     copy_back(records, done.from, done.to, &words);
     done.outcome
 }
@@ -117,23 +119,24 @@ fn answer_words(
     words: &mut [u64],
     lent: usize,
     count: usize,
+    reader: u8,
     area: &mut [u8],
     namespaces: &[u8],
     line: &[u8],
     out: &mut [u8],
 ) -> Done
     ensures result { λ r. ⌜ r .outcome ≡ outcomeOf
-        (wordCommand (now (words .entry)) lent count (now (area .entry)) (now (namespaces .entry)) (now (line .entry)) (now (out .entry)) .reply)
-        (wordCommand (now (words .entry)) lent count (now (area .entry)) (now (namespaces .entry)) (now (line .entry)) (now (out .entry)) .store .count) ⌝ }
+        (wordCommand (now (words .entry)) lent count reader (now (area .entry)) (now (namespaces .entry)) (now (line .entry)) (now (out .entry)) .reply)
+        (wordCommand (now (words .entry)) lent count reader (now (area .entry)) (now (namespaces .entry)) (now (line .entry)) (now (out .entry)) .store .count) ⌝ }
     ensures bytes { λ _. ⌜ now (out .exit) ≡ bufferAfter (now (out .entry))
-        (wordCommand (now (words .entry)) lent count (now (area .entry)) (now (namespaces .entry)) (now (line .entry)) (now (out .entry)) .reply) ⌝ }
+        (wordCommand (now (words .entry)) lent count reader (now (area .entry)) (now (namespaces .entry)) (now (line .entry)) (now (out .entry)) .reply) ⌝ }
     ensures area { λ _. ⌜ now (area .exit)
-        ≡ wordCommand (now (words .entry)) lent count (now (area .entry)) (now (namespaces .entry)) (now (line .entry)) (now (out .entry)) .store .area ⌝ }
+        ≡ wordCommand (now (words .entry)) lent count reader (now (area .entry)) (now (namespaces .entry)) (now (line .entry)) (now (out .entry)) .store .area ⌝ }
     ensures words { λ r. ⌜ (map recordOf (take lent (now (words .exit)))
-        ≡ wordCommand (now (words .entry)) lent count (now (area .entry)) (now (namespaces .entry)) (now (line .entry)) (now (out .entry)) .store .records)
+        ≡ wordCommand (now (words .entry)) lent count reader (now (area .entry)) (now (namespaces .entry)) (now (line .entry)) (now (out .entry)) .store .records)
         × Between (now (words .entry)) (now (words .exit)) lent (r .from) (r .to) ⌝ }
 {
-    let stored = server::answer_words(words, lent, count, area, namespaces, line, out);
+    let stored = server::answer_words(words, lent, count, reader, area, namespaces, line, out);
     command_done(stored)
 }
 
@@ -151,83 +154,107 @@ pub extern "C" fn luspemaro_compact(records: &mut [Record], count: usize, area: 
     done.number
 }
 
-// The whole walk: finds at the front of `found`, the names that were asked below at the front of `pending`.
+// The whole walk of a reader: finds at the front of `found`, the names that were asked below at the front of `pending`.
 #[no_mangle]
 pub extern "C" fn luspemaro_collect(
     records: &[Record],
     count: usize,
+    reader: u8,
     area: &[u8],
     option: u8,
     scratch: &mut [u8],
     found: &mut [u8],
     pending: &mut [u8],
 ) -> Outcome
-    ensures result { λ r. ⌜ r ≡ walkOutcome (collected (lentTable (now (area .entry)) (now (records .entry)) count)
+    ensures result { λ r. ⌜ r ≡ walkOutcome (collectedBy reader (lentSeen reader (now (area .entry)) (now (records .entry)) count)
         option (now (scratch .entry)) (now (found .entry)) (now (pending .entry))) ⌝ }
-    ensures scratch { λ _. ⌜ now (scratch .exit) ≡ scratchOf (lentTable (now (area .entry)) (now (records .entry)) count)
+    ensures scratch { λ _. ⌜ now (scratch .exit) ≡ scratchOf reader (lentSeen reader (now (area .entry)) (now (records .entry)) count)
         option (now (scratch .entry)) (now (found .entry)) (now (pending .entry)) ⌝ }
-    ensures found { λ _. ⌜ now (found .exit) ≡ foundOf (lentTable (now (area .entry)) (now (records .entry)) count)
+    ensures found { λ _. ⌜ now (found .exit) ≡ foundOf reader (lentSeen reader (now (area .entry)) (now (records .entry)) count)
         option (now (scratch .entry)) (now (found .entry)) (now (pending .entry)) ⌝ }
-    ensures pending { λ _. ⌜ now (pending .exit) ≡ pendingOf (lentTable (now (area .entry)) (now (records .entry)) count)
+    ensures pending { λ _. ⌜ now (pending .exit) ≡ pendingOf reader (lentSeen reader (now (area .entry)) (now (records .entry)) count)
         option (now (scratch .entry)) (now (found .entry)) (now (pending .entry)) ⌝ }
-    ensures demand3 { λ _. ⌜ OwesDemand3 (lentTable (now (area .entry)) (now (records .entry)) count)
+    ensures demand3 { λ _. ⌜ OwesDemand3 reader (lentTable (now (area .entry)) (now (records .entry)) count)
+        (lentSeen reader (now (area .entry)) (now (records .entry)) count)
         option (now (scratch .entry)) (now (found .entry)) (now (pending .entry))
-        (collectedOf (lentTable (now (area .entry)) (now (records .entry)) count) option (now (scratch .entry)) (now (found .entry)) (now (pending .entry)))
+        (collectedOf reader (lentSeen reader (now (area .entry)) (now (records .entry)) count) option (now (scratch .entry)) (now (found .entry)) (now (pending .entry)))
         (now (found .exit)) (now (pending .exit)) ⌝ }
 {
     let mut words = no_words();
     let n = copy_in(records, count, &mut words);
-    collect_words(&words[..n], count, area, option, scratch, found, pending)
+    collect_words(
+        &words[..n],
+        count,
+        reader,
+        area,
+        option,
+        scratch,
+        found,
+        pending,
+    )
 }
 
 // The same over records, each as a number.
 fn collect_words(
     words: &[u64],
     count: usize,
+    reader: u8,
     area: &[u8],
     option: u8,
     scratch: &mut [u8],
     found: &mut [u8],
     pending: &mut [u8],
 ) -> Outcome
-    ensures result { λ r. ⌜ r ≡ walkOutcome (collected (wordTable (now (area .entry)) (now (words .entry)) count)
+    ensures result { λ r. ⌜ r ≡ walkOutcome (collectedBy reader (wordSeen reader (now (area .entry)) (now (words .entry)) count)
         option (now (scratch .entry)) (now (found .entry)) (now (pending .entry))) ⌝ }
-    ensures scratch { λ _. ⌜ now (scratch .exit) ≡ scratchOf (wordTable (now (area .entry)) (now (words .entry)) count)
+    ensures scratch { λ _. ⌜ now (scratch .exit) ≡ scratchOf reader (wordSeen reader (now (area .entry)) (now (words .entry)) count)
         option (now (scratch .entry)) (now (found .entry)) (now (pending .entry)) ⌝ }
-    ensures found { λ _. ⌜ now (found .exit) ≡ foundOf (wordTable (now (area .entry)) (now (words .entry)) count)
+    ensures found { λ _. ⌜ now (found .exit) ≡ foundOf reader (wordSeen reader (now (area .entry)) (now (words .entry)) count)
         option (now (scratch .entry)) (now (found .entry)) (now (pending .entry)) ⌝ }
-    ensures pending { λ _. ⌜ now (pending .exit) ≡ pendingOf (wordTable (now (area .entry)) (now (words .entry)) count)
+    ensures pending { λ _. ⌜ now (pending .exit) ≡ pendingOf reader (wordSeen reader (now (area .entry)) (now (words .entry)) count)
         option (now (scratch .entry)) (now (found .entry)) (now (pending .entry)) ⌝ }
-    ensures demand3 { λ _. ⌜ OwesDemand3 (wordTable (now (area .entry)) (now (words .entry)) count)
+    ensures demand3 { λ _. ⌜ OwesDemand3 reader (wordTable (now (area .entry)) (now (words .entry)) count)
+        (wordSeen reader (now (area .entry)) (now (words .entry)) count)
         option (now (scratch .entry)) (now (found .entry)) (now (pending .entry))
-        (collectedOf (wordTable (now (area .entry)) (now (words .entry)) count) option (now (scratch .entry)) (now (found .entry)) (now (pending .entry)))
+        (collectedOf reader (wordSeen reader (now (area .entry)) (now (words .entry)) count) option (now (scratch .entry)) (now (found .entry)) (now (pending .entry)))
         (now (found .exit)) (now (pending .exit)) ⌝ }
 {
-    collected_outcome(collector::collect_words(words, count, area, option, scratch, found, pending))
+    collected_outcome(collector::collect_words(
+        words,
+        count,
+        reader,
+        area,
+        option,
+        scratch,
+        found,
+        pending,
+    ))
 }
 
 // The same over a packed table.
 #[no_mangle]
 pub extern "C" fn luspemaro_collect_packed(
     table: &[u8],
+    reader: u8,
     option: u8,
     scratch: &mut [u8],
     found: &mut [u8],
     pending: &mut [u8],
 ) -> Outcome
-    ensures result { λ r. ⌜ r ≡ walkOutcome (collected (packedTable (now (table .entry)))
+    ensures result { λ r. ⌜ r ≡ walkOutcome (collectedBy reader (packedSeen reader (now (table .entry)))
         option (now (scratch .entry)) (now (found .entry)) (now (pending .entry))) ⌝ }
-    ensures scratch { λ _. ⌜ now (scratch .exit) ≡ scratchOf (packedTable (now (table .entry)))
+    ensures scratch { λ _. ⌜ now (scratch .exit) ≡ scratchOf reader (packedSeen reader (now (table .entry)))
         option (now (scratch .entry)) (now (found .entry)) (now (pending .entry)) ⌝ }
-    ensures found { λ _. ⌜ now (found .exit) ≡ foundOf (packedTable (now (table .entry)))
+    ensures found { λ _. ⌜ now (found .exit) ≡ foundOf reader (packedSeen reader (now (table .entry)))
         option (now (scratch .entry)) (now (found .entry)) (now (pending .entry)) ⌝ }
-    ensures pending { λ _. ⌜ now (pending .exit) ≡ pendingOf (packedTable (now (table .entry)))
+    ensures pending { λ _. ⌜ now (pending .exit) ≡ pendingOf reader (packedSeen reader (now (table .entry)))
         option (now (scratch .entry)) (now (found .entry)) (now (pending .entry)) ⌝ }
-    ensures demand3 { λ _. ⌜ OwesDemand3 (packedTable (now (table .entry))) option (now (scratch .entry)) (now (found .entry)) (now (pending .entry))
-        (collectedOf (packedTable (now (table .entry))) option (now (scratch .entry)) (now (found .entry)) (now (pending .entry)))
+    ensures demand3 { λ _. ⌜ OwesDemand3 reader (packedTable (now (table .entry)))
+        (packedSeen reader (now (table .entry))) option (now (scratch .entry)) (now (found .entry)) (now (pending .entry))
+        (collectedOf reader (packedSeen reader (now (table .entry))) option (now (scratch .entry)) (now (found .entry)) (now (pending .entry)))
         (now (found .exit)) (now (pending .exit)) ⌝ }
 {
-    collected_outcome(collector::collect_packed(table, option, scratch, found, pending))
+    collected_outcome(collector::collect_packed(table, reader, option, scratch, found, pending))
 }
 
 // The line writer: the line of these parts at the front of `out`. The criteria are those that CHILDINFO names: 1 SUBSCRIBED, 2

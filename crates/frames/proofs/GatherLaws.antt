@@ -21,20 +21,21 @@ use Rattle.frames.proofs.FrameLaws.{bad-long, bad-short}
 pub holds-none : (line : List ℕ) → Holds line gatheredNone []
 holds-none line = (refl, omega arith, omega arith)
 
--- one character more, in a line of 4,100 bytes or more
-holds-more : (over : Bool) (len : ℕ) (d p : List ℕ) (c : ℕ) → 4100 ≤ length d → HoldsIf over len d p →
+-- one character more, in a line of 4,102 bytes or more
+holds-more : (over : Bool) (len : ℕ) (d p : List ℕ) (c : ℕ) → 4102 ≤ length d → HoldsIf over len d p →
     Holds (gatheredLine d (record { len = len; over = over }) c) (gatheredIs (length d) (record { len = len; over = over })) (p ++ (c ∷ []))
 unfolding gatheredLine gatheredIs hasRoom
 holds-more true len d p c room h = omega (arith, length-append p (c ∷ []))
-holds-more false len d p c room h = go (ltb len 4100) refl
+holds-more false len d p c room h = go (ltb len 4102) refl
   where
-    go : (o : Bool) → ltb len 4100 ≡ o →
+    go : (o : Bool) → ltb len 4102 ≡ o →
         Holds (cond (o && ltb len (length d)) (set d len c) d)
         (cond (o && ltb len (length d)) (record { len = len + 1; over = false }) (record { len = len; over = true })) (p ++ (c ∷ []))
     go true e =
-        let inside : len < length d = omega (arith, ltb-true len 4100 e) in
-        rw (lt-ltb len (length d) inside) (rw (h .0, add-one) (sym (take-suc-set d len c inside)), omega (arith, length-set d len c), omega (arith, ltb-true len 4100 e))
-    go false e = omega (arith, ltb-false len 4100 e, length-append p (c ∷ []), ap length (h .0), length-take-le len d (h .1))
+        let inside : len < length d = omega (arith, ltb-true len 4102 e) in
+        rw (lt-ltb len (length d) inside)
+        (rw (h .0, add-one) (sym (take-suc-set d len c inside)), omega (arith, length-set d len c), omega (arith, ltb-true len 4102 e))
+    go false e = omega (arith, ltb-false len 4102 e, length-append p (c ∷ []), ap length (h .0), length-take-le len d (h .1))
 
 -- the answer and the bytes are all that a character more promises
 pub gathers : (d e : List ℕ) (g : Gathered) (c : ℕ) (r : Gathered) → r ≡ gatheredIs (length d) g → e ≡ gatheredLine d g c → Gathers d e g c r
@@ -60,7 +61,8 @@ empty-is false len line [] h = eq-eqb len 0 (omega (arith, ap length (h .0), len
 empty-is false len line (x ∷ t) h = ne-eqb len 0 (λ e. omega (arith, ap length (h .0), length-take-le len line (h .1)))
 
 -- the characters that are read make the same frame as those that came
-text-read : (over : Bool) (len : ℕ) (line p : List ℕ) → HoldsIf over len line p → readFrame (gatheredText line (record { len = len; over = over })) ≡ readFrame p
+text-read : (over : Bool) (len : ℕ) (line p : List ℕ) → HoldsIf over len line p →
+    readFrame (gatheredText line (record { len = len; over = over })) ≡ readFrame p
 unfolding gatheredText
 text-read true len line p h = bad-short [] (omega arith) ∙ sym (bad-long p h)
 text-read false len line p h = rw (le-ltb (length line) len (h .1)) (ap readFrame (sym (h .0)))

@@ -11,10 +11,10 @@ use Rattle.frames.specs.declared.gathering.Gathered.{Gathered}
 use Rattle.frames.specs.declared.reading.Frame.{Frame}
 use Rattle.frames.specs.Reading.{frameIs, FrameRead}
 
--- The line holds the characters `partial` of a frame so far: all of them, or, of more than 4,100, only that they are so many.
+-- The line holds the characters `partial` of a frame so far: all of them, or, of more than 4,102, only that they are so many.
 abbrev pub HoldsIf : Bool → ℕ → List ℕ → List ℕ → Type 0
-HoldsIf true len line partial = 4100 < length partial
-HoldsIf false len line partial = (partial ≡ take len line) × (len ≤ length line) × (len ≤ 4100)
+HoldsIf true len line partial = 4102 < length partial
+HoldsIf false len line partial = (partial ≡ take len line) × (len ≤ length line) × (len ≤ 4102)
 
 abbrev pub Holds : List ℕ → Gathered → List ℕ → Type 0
 Holds line g partial = HoldsIf (g .over) (g .len) line partial
@@ -25,7 +25,7 @@ gatheredNone = record { len = 0; over = false }
 
 -- there is room for one character more in a line of so many bytes
 unfoldable pub hasRoom : ℕ → Gathered → Bool
-hasRoom room g = not (g .over) && (ltb (g .len) 4100 && ltb (g .len) room)
+hasRoom room g = not (g .over) && (ltb (g .len) 4102 && ltb (g .len) room)
 
 -- what is gathered with one character more
 unfoldable pub gatheredIs : ℕ → Gathered → Gathered
@@ -37,8 +37,8 @@ gatheredLine d g c = cond (hasRoom (length d) g) (set d (g .len) c) d
 
 -- The character `c` was added to the line `d`, which leaves `e`; `r` is what is gathered then.
 pub record Gathers (d e : List ℕ) (g : Gathered) (c : ℕ) (r : Gathered) : Type 0 where
-  -- a line of 4,100 bytes goes on holding the characters
-  pub holds : 4100 ≤ length d → (partial : List ℕ) → Holds d g partial → Holds e r (partial ++ (c ∷ []))
+  -- a line of 4,102 bytes goes on holding the characters
+  pub holds : 4102 ≤ length d → (partial : List ℕ) → Holds d g partial → Holds e r (partial ++ (c ∷ []))
   -- whatever is lent: the answer, and every byte
   pub answer : r ≡ gatheredIs (length d) g
   pub bytes : e ≡ gatheredLine d g c

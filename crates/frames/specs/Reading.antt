@@ -3,9 +3,9 @@ use mathlib.Core.Path.{_≡_}
 use mathlib.Core.List.{List, [], _∷_}
 use mathlib.Core.Bool.{cond}
 use lib.Dec.{eqb, leb}
-use lib.ListN.{length, take}
+use lib.ListN.{length, take, drop}
 use lib.Seq.{sets}
-use Prim.Native.Nat.{ℕ, _≤_}
+use Prim.Native.Nat.{ℕ, _+_, _-_, _≤_}
 use Rattle.listing_rules.specs.Frames.{Frame as Meant, tableBytes, namespaceBytes, command, walkWith, badFrame, readFrame}
 use Rattle.frames.specs.declared.reading.Frame.{Frame}
 use Rattle.frames.specs.declared.reading.Frame.the-variants.{Table, Namespaces, Command, Walk, Bad}
@@ -14,32 +14,32 @@ use Rattle.frames.specs.declared.reading.Frame.the-variants.{Table, Name
 unfoldable pub frameIs : List ℕ → Frame → Meant
 frameIs bytes (Table n) = tableBytes (take n bytes)
 frameIs bytes (Namespaces n) = namespaceBytes (take n bytes)
-frameIs bytes (Command n) = command (take n bytes)
-frameIs bytes (Walk o) = walkWith o
+frameIs bytes (Command r n) = command r (take n (drop 1 bytes))
+frameIs bytes (Walk r o) = walkWith r o
 frameIs bytes Bad = badFrame
 
 -- the answer of a frame
 unfoldable pub answerIs : Meant → Frame
 answerIs (tableBytes bs) = Table (length bs)
 answerIs (namespaceBytes bs) = Namespaces (length bs)
-answerIs (command bs) = Command (length bs)
-answerIs (walkWith o) = Walk o
+answerIs (command r l) = Command r (length l)
+answerIs (walkWith r o) = Walk r o
 answerIs badFrame = Bad
 
 -- the bytes behind a frame's first byte; a bad frame has none
 unfoldable pub behindKind : Meant → List ℕ
 behindKind (tableBytes bs) = bs
 behindKind (namespaceBytes bs) = bs
-behindKind (command bs) = bs
-behindKind (walkWith o) = o ∷ []
+behindKind (command r l) = r ∷ l
+behindKind (walkWith r o) = r ∷ o ∷ []
 behindKind badFrame = []
 
 -- how many of the lent bytes an answer speaks of
 unfoldable pub sizeOf : Frame → ℕ
 sizeOf (Table n) = n
 sizeOf (Namespaces n) = n
-sizeOf (Command n) = n
-sizeOf (Walk o) = 1
+sizeOf (Command r n) = n + 1
+sizeOf (Walk r o) = 2
 sizeOf Bad = 0
 
 -- a frame whose bytes do not fit is bad
@@ -50,11 +50,13 @@ fitting room f = cond (leb (length (behindKind f)) room) f badFrame
 unfoldable pub readWithin : ℕ → List ℕ → Meant
 readWithin room line = fitting room (readFrame line)
 
--- the answer of a first byte k with n bytes behind it, of which o is the first; "57 with other than one byte behind it" is bad
-unfoldable pub kindIs : ℕ → ℕ → ℕ → Frame
-kindIs k n o =
+-- the answer of a first byte k with n bytes behind it, of which r and o are the first; a command without a reader is bad, and so is a walk
+-- without exactly one byte more
+unfoldable pub kindIs : ℕ → ℕ → ℕ → ℕ → Frame
+kindIs k n r o =
     cond (eqb k 0x4D) (Table n)
-    (cond (eqb k 0x4E) (Namespaces n) (cond (eqb k 0x43) (Command n) (cond (eqb k 0x57) (cond (eqb n 1) (Walk o) Bad) Bad)))
+    (cond (eqb k 0x4E) (Namespaces n)
+    (cond (eqb k 0x43) (cond (eqb n 0) Bad (Command r (n - 1))) (cond (eqb k 0x57) (cond (eqb n 2) (Walk r o) Bad) Bad)))
 
 -- The frame `line` was read over the lent bytes `d`, which leaves `e`; `r` is the answer.
 pub record FrameRead (line d e : List ℕ) (r : Frame) : Type 0 where

@@ -28,7 +28,7 @@ impl Gathered {
 }
 
 // One character more. That a line feed ends the frame is the caller's to see: here it is a character as any other. The line is
-// lent 4,100 bytes or more, of which the first 4,100 are used; a shorter one is full earlier.
+// lent 4,102 bytes or more, of which the first 4,102 are used; a shorter one is full earlier.
 pub fn gather(line: &mut [u8], g: Gathered, c: u8) -> Gathered
     ensures { λ r. ⌜ Gathers (now (line .entry)) (now (line .exit)) g c r ⌝ }
 {

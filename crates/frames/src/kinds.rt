@@ -1,6 +1,6 @@
 // The first bytes of frames and of the lines that answer them.
 
-// "4D and a row", "4E and an entry", "43 is a command", "57 one option byte".
+// "4D and a row", "4E and an entry", "43 is a command", "57 one option byte"; W9: the last two "carry the reader as their first byte".
 pub(crate) const TABLE: u8 = 0x4D;
 
 pub(crate) const NAMESPACES: u8 = 0x4E;

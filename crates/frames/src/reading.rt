@@ -10,30 +10,36 @@ use crate::kinds::NAMESPACES;
 use crate::kinds::TABLE;
 use crate::kinds::WALK;
 
-// "at most 4,100 digits".
-pub const MAX_DIGITS: usize = 4100;
+// W9: "the frame limit becomes 4,102 digits".
+pub const MAX_DIGITS: usize = 4102;
 
-// What a frame says. The bytes behind its first byte lie at the front of the lent bytes: here is how many, or the one option
-// byte of a walk.
+// What a frame says. The bytes behind its first byte lie at the front of the lent bytes: of a row or an entry, how many. Of a command its
+// reader, which is the first of them, and how many are its line behind that; of a walk its reader and option byte.
 pub enum Frame {
     Table(usize),
     Namespaces(usize),
-    Command(usize),
-    Walk(u8),
+    Command(u8, usize),
+    Walk(u8, u8),
     Bad,
 }
 
-// The frame of a first byte with n bytes behind it, of which `option` is the first.
-fn kind_of(kind: u8, n: usize, option: u8) -> Frame
-    ensures { λ r. ⌜ r ≡ kindIs kind n option ⌝ }
+// The frame of a first byte with n bytes behind it, of which these are the first two.
+fn kind_of(kind: u8, n: usize, reader: u8, option: u8) -> Frame
+    ensures { λ r. ⌜ r ≡ kindIs kind n reader option ⌝ }
 {
     match kind {
         TABLE => Frame::Table(n),
         NAMESPACES => Frame::Namespaces(n),
-        COMMAND => Frame::Command(n),
+        COMMAND => {
+            if n == 0 {
+                Frame::Bad
+            } else {
+                Frame::Command(reader, n - 1)
+            }
+        },
         WALK => {
-            if n == 1 {
-                Frame::Walk(option)
+            if n == 2 {
+                Frame::Walk(reader, option)
             } else {
                 Frame::Bad
             }
@@ -60,8 +66,9 @@ pub(crate) fn read_frame(line: &[u8], bytes: &mut [u8]) -> Frame
     if bytes.len() < n {
         return Frame::Bad;
     }
-    let option = pair_value(octets::byte_at(line, 2), octets::byte_at(line, 3));
-    let frame = kind_of(pair_value(line[0], line[1]), n, option);
+    let reader = pair_value(octets::byte_at(line, 2), octets::byte_at(line, 3));
+    let option = pair_value(octets::byte_at(line, 4), octets::byte_at(line, 5));
+    let frame = kind_of(pair_value(line[0], line[1]), n, reader, option);
     if let Frame::Bad = frame {
         return Frame::Bad;
     }

@@ -25,7 +25,7 @@ use Rattle.mailbox_table.specs.Words.{rowOfWord}
 use Rattle.mailbox_table.specs.Shared.{sharedLen}
 use Rattle.mailbox_table.specs.Index.{nameAt, nthRow, nthName, rowAtWord, rowsAt, Indexed, Index, Lawful}
 use Rattle.mailbox_table.specs.Below.{marksOf}
-use Rattle.mailbox_table.proofs.ScanLaws.{marks-with, row-with}
+use Rattle.mailbox_table.proofs.WordLaws.{marks-with, row-with}
 use Rattle.pattern.specs.Packed.{unpacked}
 use Rattle.pattern.specs.Chosen.{chosen}
 use Rattle.pattern.proofs.Chosen.{chosen-all}
@@ -64,7 +64,8 @@ pub matched-is : (o : Options) (ps : List (List ℕ)) (area : List ℕ) (w : ℕ
 matched-is o ps area w meeting recursive level n em er el en m e =
     e
     ∙ (λ i. ((em i || er i) || el i) && (leb (length (en i)) 255 && matchesAny (chosen (el i) ps) (en i)))
-    ∙ ap (λ (b : Bool). ((meetsMark o row || o .selRecursive) || levelOnly o ps (row .flags)) && (b && matchesAny (chosen (levelOnly o ps (row .flags)) ps) (row .name))) (name-short area w)
+    ∙ ap (λ (b : Bool). ((meetsMark o row || o .selRecursive) || levelOnly o ps (row .flags)) &&
+    (b && matchesAny (chosen (levelOnly o ps (row .flags)) ps) (row .name))) (name-short area w)
   where
     row : Row
     row = rowAtWord area w
@@ -99,7 +100,8 @@ module _ (area words : List ℕ) (o : Options) (ps : List (List ℕ)) (marked : 
 -- Marks made one by one
 
 module _ (f : ℕ → ℕ) (words : List ℕ) where
-  pub words-more : (ms : List ℕ) (i : ℕ) → i < length words → i < length ms → take i ms ≡ map f (take i words) → take (i + 1) (set ms i (f (getD words i 0))) ≡ map f (take (i + 1) words)
+  pub words-more : (ms : List ℕ) (i : ℕ) → i < length words → i < length ms → take i ms ≡ map f (take i words) →
+      take (i + 1) (set ms i (f (getD words i 0))) ≡ map f (take (i + 1) words)
   words-more ms i h g e =
       rw (add-one, take-suc-set ms i (f (getD words i 0)) g, take-suc words i 0 h, map-append f (take i words) (getD words i 0 ∷ []), e)
 
@@ -160,9 +162,12 @@ module _ (area patterns : List ℕ) (q : Question) where
 
   marked-marks : (w : ℕ) → marksOf (mark w) ≡ rowMarks (optionsIs (q .options)) (unpacked patterns) (rowAtWord area w)
   unfolding markedWord
-  marked-marks w = marks-with (rowMarks (optionsIs (q .options)) (unpacked patterns) (rowAtWord area w)) w (marks-few (optionsIs (q .options)) (unpacked patterns) (rowAtWord area w))
+  marked-marks w =
+      marks-with (rowMarks (optionsIs (q .options)) (unpacked patterns) (rowAtWord area w)) w
+      (marks-few (optionsIs (q .options)) (unpacked patterns) (rowAtWord area w))
 
-  nth-marks : (ws : List ℕ) (k : ℕ) → k < length ws → marksOf (getD (map mark ws) k 0) ≡ rowMarks (optionsIs (q .options)) (unpacked patterns) (rowAtWord area (getD ws k 0))
+  nth-marks : (ws : List ℕ) (k : ℕ) → k < length ws →
+      marksOf (getD (map mark ws) k 0) ≡ rowMarks (optionsIs (q .options)) (unpacked patterns) (rowAtWord area (getD ws k 0))
   nth-marks [] k h = absurd (omega arith)
   nth-marks (w ∷ ws) zero h = marked-marks w
   nth-marks (w ∷ ws) (suc k) h = nth-marks ws k (omega arith)
@@ -178,7 +183,9 @@ module _ (area patterns : List ℕ) (q : Question) where
           few = omega (arith, size, x .few);
           lawful = subst Lawful (sym (marked-rows ws)) (x .lawful);
         };
-        marked = λ j h. nth-marks ws j (omega (arith, size)) ∙ ap (rowMarks (optionsIs (q .options)) (unpacked patterns)) (sym (nth-same area mark marked-row ws j));
+        marked =
+            λ j h. nth-marks ws j (omega (arith, size)) ∙ ap (rowMarks (optionsIs (q .options)) (unpacked patterns))
+            (sym (nth-same area mark marked-row ws j));
         knows = k;
       }
     where
@@ -187,4 +194,5 @@ module _ (area patterns : List ℕ) (q : Question) where
 
   -- the answer over them is that over the words as they were
   pub marked-reply : (ws ms tag : List ℕ) → ms ≡ map (markedWord area patterns q) ws → replyTo area ms patterns q tag ≡ replyTo area ws patterns q tag
-  marked-reply ws ms tag e = ap (λ (rs : List Row). answered (answerFor (q .word) rs tag (optionsIs (q .options)) (unpacked patterns))) (ap (rowsAt area) e ∙ marked-rows ws)
+  marked-reply ws ms tag e =
+      ap (λ (rs : List Row). answered (answerFor (q .word) rs tag (optionsIs (q .options)) (unpacked patterns))) (ap (rowsAt area) e ∙ marked-rows ws)

@@ -13,8 +13,9 @@ use lib.Seq.{length-take-le, take-all}
 use borrow.Author.Tests.{le-leb, leb-true, leb-false, lt-leb}
 use Rattle.listing_rules.specs.Table.{Row, Table, rows, rowsPass, passes}
 use Rattle.listing_rules.specs.Records.{Record, rowOf, recordRows, laidOut, recordTable}
-use Rattle.listing_rules.specs.Server.{refusal, answer, limited, served}
-use Rattle.listing_rules.specs.Walk.{walkRefused, walk, collected}
+use Rattle.listing_rules.specs.Readers.{isReader}
+use Rattle.listing_rules.specs.Server.{refusal, answer, limited, served, fromReader, servedTo}
+use Rattle.listing_rules.specs.Walk.{WalkReply, walkRefused, walk, collected, walkBy, collectedBy}
 use Rattle.listing_rules.proofs.Passes.{rows-parts}
 
 abbrev pub Alike : Table → Table → Type 0
@@ -49,12 +50,24 @@ module _ (t u : Table) where
       fails : (v : Table) → passes v ≡ false → served v spaces l buffer ≡ refusal 1
       fails v e = rw e refl
 
-  pub collected-alike : (o : ℕ) (scratch found pending : List ℕ) → Alike t u → collected t o scratch found pending ≡ collected u o scratch found pending
+  pub collected-alike : (o : ℕ) (scratch found pending : List ℕ) → Alike t u →
+      collected t o scratch found pending ≡ collected u o scratch found pending
   unfolding collected walk
   collected-alike o scratch found pending = alike (λ v. collected v o scratch found pending) (walkRefused 1) fails
     where
       fails : (v : Table) → passes v ≡ false → collected v o scratch found pending ≡ walkRefused 1
       fails v e = rw e refl
+
+  -- and so for a reader (W9), where the tables are what it sees
+  pub served-to-alike : (reader : ℕ) (spaces l buffer : List ℕ) → Alike t u → servedTo reader t spaces l buffer ≡ servedTo reader u spaces l buffer
+  unfolding servedTo
+  served-to-alike reader spaces l buffer a = ap (fromReader reader) (served-alike spaces l buffer a)
+
+  pub collected-by-alike : (reader o : ℕ) (scratch found pending : List ℕ) → Alike t u
+      → collectedBy reader t o scratch found pending ≡ collectedBy reader u o scratch found pending
+  unfolding collectedBy walkBy collected
+  collected-by-alike reader o scratch found pending a =
+      ap (λ (r : WalkReply). cond (isReader reader) r (walkRefused 16)) (collected-alike o scratch found pending a)
 
 -- A count above the records lent, or above 512, fails.
 module _ (area : List ℕ) (rs : List Record) (count : ℕ) where
@@ -95,7 +108,8 @@ module _ (area : List ℕ) (rs : List Record) (count : ℕ) where
       rw (take-all count (take count rs) (omega (arith, held)), held, le-leb count count (le-refl count), le-leb count (length rs) h) refl
 
 -- The first records are alike to all of them, where there are as many as the count, the records and 512 allow.
-pub front-alike : (area : List ℕ) (rs : List Record) (count n : ℕ) → n ≡ min count (min (length rs) 512) → Alike (recordTable area (take n rs) count) (recordTable area rs count)
+pub front-alike : (area : List ℕ) (rs : List Record) (count n : ℕ) → n ≡ min count (min (length rs) 512) →
+    Alike (recordTable area (take n rs) count) (recordTable area rs count)
 front-alike area rs count n e = by-count (leb count n) refl
   where
     short : length (take n rs) ≡ n

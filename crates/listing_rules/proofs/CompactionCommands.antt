@@ -1,4 +1,4 @@
--- W7 over commands as they are sent: once names are moved together, each command is answered as before and leaves the same rows, but for a
+-- W7 over commands as they are sent: once names are moved together, each command of each reader is answered as before and leaves the same rows, but for a
 -- SUBSCRIBE's 15; that is then given for want of bytes exactly if the free bytes in all are too few. Rests on CompactionLaws and CommandLaws.
 use mathlib.Core.Path.{_≡_, refl, sym, ap, _∙_, subst}
 use mathlib.Core.Logic.{_⊎_, inl, inr}
@@ -15,18 +15,21 @@ use Rattle.listing_rules.specs.Table.{Row, Table, rows, hasRow, passes}
 use Rattle.listing_rules.specs.Namespaces.{namespacesPass}
 use Rattle.listing_rules.specs.Lines.{okLine}
 use Rattle.listing_rules.specs.Command.{Edit, subscribe, unsubscribe, Parsed, refused, namespace, listing, rootOf, subscriptions, editing, parsed}
-use Rattle.listing_rules.specs.Subscriptions.{Store, storeTable, storeRows, spelled, rowsBefore, belowNoInferiors, freeRun, withSubscribed, withoutSubscribed, nth}
+use Rattle.listing_rules.specs.Readers.{isReader}
+use Rattle.listing_rules.specs.Subscriptions.{Store, storeTable, storeSeen, storeRows, spelled, rowsBefore, belowNoInferiors, freeRun, withSubscribed, withoutSubscribed, nth}
 use Rattle.listing_rules.specs.Subscriptions.{flagged, inserted, removed, Edited, denied, stored, insertion, subscribing, unsubscribing, edited}
-use Rattle.listing_rules.specs.Server.{Reply, refusal, answered, answerTo, answer, limited, numberOf, Commanded, attempted, unchangedBy, concluded, commanded}
-use Rattle.listing_rules.specs.Walk.{collected}
+use Rattle.listing_rules.specs.Server.{Reply, refusal, answered, answerTo, answer, limited, numberOf, Commanded, attempted, unchangedBy, concluded}
+use Rattle.listing_rules.specs.Server.{commandedOver, commanded}
+use Rattle.listing_rules.specs.Walk.{collectedBy}
 use Rattle.listing_rules.specs.Compaction.{compacted, Compaction, compaction}
 use Rattle.listing_rules.proofs.Bools.{and-l, and-r}
 use Rattle.listing_rules.proofs.LawfulNames.{good-parts}
+use Rattle.listing_rules.proofs.ReaderLaws.{store-seen-passes}
 use Rattle.listing_rules.proofs.FreeRuns.{FreeAt, run-free}
 use Rattle.listing_rules.proofs.EditRows.{rowsWith}
 use Rattle.listing_rules.proofs.SubscriptionLaws.{nameOf, subscribes, rowAfter, roomForRow, edited-rows}
 use Rattle.listing_rules.proofs.CommandLaws.{refusal-not}
-use Rattle.listing_rules.proofs.CompactionLaws.{freeBytes, run-most, compaction-refused, compaction-made, stays, compacted-passes, table-stays, room-in-all}
+use Rattle.listing_rules.proofs.CompactionLaws.{freeBytes, run-most, compaction-refused, compaction-made, stays, compacted-passes, seen-stays, room-in-all}
 
 -- what an edit comes to, over any store
 module _ (s : Store) (n : List ℕ) where
@@ -36,11 +39,13 @@ module _ (s : Store) (n : List ℕ) where
       let k = rowsBefore (storeRows s) n in
       (flagged s k (withSubscribed (nth (s .records) k .flags)), rw h)
 
-  subscribing-refused : hasRow (storeRows s) n ≡ false → (lawfulName n && not (belowNoInferiors (storeRows s) n)) ≡ false → subscribing s n ≡ denied 14
+  subscribing-refused : hasRow (storeRows s) n ≡ false → (lawfulName n && not (belowNoInferiors (storeRows s) n)) ≡ false →
+      subscribing s n ≡ denied 14
   unfolding subscribing
   subscribing-refused h e = rw (h, e)
 
-  subscribing-puts : hasRow (storeRows s) n ≡ false → (lawfulName n && not (belowNoInferiors (storeRows s) n)) ≡ true → subscribing s n ≡ insertion s n
+  subscribing-puts : hasRow (storeRows s) n ≡ false → (lawfulName n && not (belowNoInferiors (storeRows s) n)) ≡ true →
+      subscribing s n ≡ insertion s n
   unfolding subscribing
   subscribing-puts h e = rw (h, e)
 
@@ -51,7 +56,8 @@ module _ (s : Store) (n : List ℕ) where
       k : ℕ
       k = rowsBefore (storeRows s) n
 
-      go : (o b : Bool) → (t : Store) × (cond o (cond b (stored (removed s k)) (stored (flagged s k (withoutSubscribed (nth (s .records) k .flags))))) (stored s) ≡ stored t)
+      go : (o b : Bool) → (t : Store) × (cond o (cond b (stored (removed s k)) (stored (flagged s k (withoutSubscribed (nth (s .records) k .flags)))))
+          (stored s) ≡ stored t)
       go true true = (removed s k, refl)
       go true false = (flagged s k (withoutSubscribed (nth (s .records) k .flags)), refl)
       go false b = (s, refl)
@@ -100,16 +106,23 @@ data Tried (p : Parsed) (x y : Edited) : Type 0 where
   both-made : (t u : Store) → x ≡ stored t → y ≡ stored u → storeRows u ≡ storeRows t → Tried p x y
   room-made : isSubscribe p ≡ true → (u : Store) → x ≡ denied 15 → y ≡ stored u → Tried p x y
 
+-- "edits are allowed to reader 0 only"
+allowed-tried : (p : Parsed) (b : Bool) (x y : Edited) → Tried p x y → Tried p (cond b x (denied 16)) (cond b y (denied 16))
+allowed-tried p true x y w = w
+allowed-tried p false x y w = both-refused 16 refl refl
+
 -- How a command ends over a store (d), and over one that has room for more (e).
 data Ended (p : Parsed) (room : ℕ) (r : Reply) (d e : Commanded) : Type 0 where
   as-before : e .reply ≡ d .reply → storeRows (e .store) ≡ storeRows (d .store) → Ended p room r d e
   room-given : isSubscribe p ≡ true → d .reply ≡ refusal 15 → e .reply ≡ limited room r → Ended p room r d e
 
-tried-ends : (s c : Store) → storeRows c ≡ storeRows s → (p : Parsed) (room : ℕ) (r : Reply) (x y : Edited) → Tried p x y → Ended p room r (concluded s room x r) (concluded c room y r)
+tried-ends : (s c : Store) → storeRows c ≡ storeRows s → (p : Parsed) (room : ℕ) (r : Reply) (x y : Edited) → Tried p x y →
+    Ended p room r (concluded s room x r) (concluded c room y r)
 unfolding concluded unchangedBy limited
 tried-ends s c q p room r x y w = go r w
   where
-    over : (r : Reply) (x′ y′ : Edited) → x ≡ x′ → y ≡ y′ → Ended p room r (concluded s room x′ r) (concluded c room y′ r) → Ended p room r (concluded s room x r) (concluded c room y r)
+    over : (r : Reply) (x′ y′ : Edited) → x ≡ x′ → y ≡ y′ → Ended p room r (concluded s room x′ r) (concluded c room y′ r) →
+        Ended p room r (concluded s room x r) (concluded c room y r)
     over r x′ y′ e f d =
         subst (λ (z : Edited). Ended p room r (concluded s room z r) (concluded c room y r)) (sym e)
         (subst (λ (z : Edited). Ended p room r (concluded s room x′ r) (concluded c room z r)) (sym f) d)
@@ -138,7 +151,8 @@ module _ (s : Store) (h : passes (storeTable s) ≡ true) where
   row-alike : (n : List ℕ) {o : Bool} → hasRow (storeRows s) n ≡ o → hasRow (storeRows (compacted s)) n ≡ o
   row-alike n e = ap (λ (r : List Row). hasRow r n) same-rows ∙ e
 
-  lawful-alike : (n : List ℕ) {o : Bool} → (lawfulName n && not (belowNoInferiors (storeRows s) n)) ≡ o → (lawfulName n && not (belowNoInferiors (storeRows (compacted s)) n)) ≡ o
+  lawful-alike : (n : List ℕ) {o : Bool} → (lawfulName n && not (belowNoInferiors (storeRows s) n)) ≡ o →
+      (lawfulName n && not (belowNoInferiors (storeRows (compacted s)) n)) ≡ o
   lawful-alike n e = ap (λ (r : List Row). lawfulName n && not (belowNoInferiors r n)) same-rows ∙ e
 
   -- edits that are accepted before and after leave the same rows
@@ -166,9 +180,11 @@ module _ (s : Store) (h : passes (storeTable s) ≡ true) where
       put l x y (inl e) (inl f) = both-refused 15 (x ∙ e) (y ∙ f)
       put l x y (inl e) (inr f) = room-made refl (f .after) (x ∙ e) (y ∙ f .made)
       put l x y (inr e) (inl f) = absurd (room-stays (spelled n) l e f)
-      put l x y (inr e) (inr f) = both-made (e .after) (f .after) (x ∙ e .made) (y ∙ f .made) (made-alike (subscribe n) (e .after) (f .after) (x ∙ e .made) (y ∙ f .made))
+      put l x y (inr e) (inr f) = both-made (e .after) (f .after) (x ∙ e .made) (y ∙ f .made)
+          (made-alike (subscribe n) (e .after) (f .after) (x ∙ e .made) (y ∙ f .made))
 
-      lawful : hasRow (storeRows s) (spelled n) ≡ false → (o : Bool) → (lawfulName (spelled n) && not (belowNoInferiors (storeRows s) (spelled n))) ≡ o → Both
+      lawful : hasRow (storeRows s) (spelled n) ≡ false → (o : Bool) →
+          (lawfulName (spelled n) && not (belowNoInferiors (storeRows s) (spelled n))) ≡ o → Both
       lawful e true l =
           put (and-l (lawfulName (spelled n)) (not (belowNoInferiors (storeRows s) (spelled n))) l) (subscribing-puts s (spelled n) e l)
           (subscribing-puts (compacted s) (spelled n) (row-alike (spelled n) e) (lawful-alike (spelled n) l))
@@ -191,50 +207,72 @@ module _ (s : Store) (h : passes (storeTable s) ≡ true) where
       let y = unsubscribing-made (compacted s) (spelled n) in
       both-made (x .0) (y .0) (x .1) (y .1) (made-alike (unsubscribe n) (x .0) (y .0) (x .1) (y .1))
 
-  command-tried : (p : Parsed) → Tried p (attempted s p) (attempted (compacted s) p)
+  command-tried : (reader : ℕ) (p : Parsed) → Tried p (attempted reader s p) (attempted reader (compacted s) p)
   unfolding attempted
-  command-tried (refused k) = both-made s (compacted s) refl refl same-rows
-  command-tried (namespace tag) = both-made s (compacted s) refl refl same-rows
-  command-tried (listing tag o ps) = both-made s (compacted s) refl refl same-rows
-  command-tried (rootOf tag) = both-made s (compacted s) refl refl same-rows
-  command-tried (subscriptions tag ps) = both-made s (compacted s) refl refl same-rows
-  command-tried (editing tag (subscribe n)) = subscribe-tried tag n
-  command-tried (editing tag (unsubscribe n)) = unsubscribe-tried tag n
+  command-tried reader (refused k) = both-made s (compacted s) refl refl same-rows
+  command-tried reader (namespace tag) = both-made s (compacted s) refl refl same-rows
+  command-tried reader (listing tag o ps) = both-made s (compacted s) refl refl same-rows
+  command-tried reader (rootOf tag) = both-made s (compacted s) refl refl same-rows
+  command-tried reader (subscriptions tag ps) = both-made s (compacted s) refl refl same-rows
+  command-tried reader (editing tag (subscribe n)) =
+      allowed-tried (editing tag (subscribe n)) (eqb reader 0) (edited s (subscribe n)) (edited (compacted s) (subscribe n)) (subscribe-tried tag n)
+  command-tried reader (editing tag (unsubscribe n)) =
+      allowed-tried (editing tag (unsubscribe n)) (eqb reader 0) (edited s (unsubscribe n)) (edited (compacted s) (unsubscribe n))
+      (unsubscribe-tried tag n)
 
-  command-ended : (spaces l buffer : List ℕ) → Ended (parsed l) (length buffer) (answer (storeTable s) spaces l) (commanded s spaces l buffer) (commanded (compacted s) spaces l buffer)
-  unfolding commanded
-  command-ended spaces l buffer =
-      subst (λ (r : Reply). Ended (parsed l) (length buffer) (answer (storeTable s) spaces l)
-      (concluded s (length buffer) (attempted s (parsed l)) (answer (storeTable s) spaces l))
-      (concluded (compacted s) (length buffer) (attempted (compacted s) (parsed l)) r))
-      (ap (λ (t : Table). answer t spaces l) (sym (table-stays s h)))
-      (tried-ends s (compacted s) same-rows (parsed l) (length buffer) (answer (storeTable s) spaces l) (attempted s (parsed l)) (attempted (compacted s) (parsed l)) (command-tried (parsed l)))
+  command-ended : (reader : ℕ) (spaces l buffer : List ℕ)
+      → Ended (parsed l) (length buffer) (answer (storeSeen reader s) spaces l) (commanded reader s spaces l buffer)
+      (commanded reader (compacted s) spaces l buffer)
+  unfolding commanded commandedOver unchangedBy
+  command-ended reader spaces l buffer = go (isReader reader)
+    where
+      said : Reply
+      said = answer (storeSeen reader s) spaces l
+
+      over : Store → Reply → Commanded
+      over v r = concluded v (length buffer) (attempted reader v (parsed l)) r
+
+      went : Ended (parsed l) (length buffer) said (over s said) (over (compacted s) (answer (storeSeen reader (compacted s)) spaces l))
+      went =
+          subst (λ (r : Reply). Ended (parsed l) (length buffer) said (over s said) (over (compacted s) r))
+          (ap (λ (t : Table). answer t spaces l) (sym (seen-stays s h reader)))
+          (tried-ends s (compacted s) same-rows (parsed l) (length buffer) said (attempted reader s (parsed l))
+          (attempted reader (compacted s) (parsed l)) (command-tried reader (parsed l)))
+
+      go : (b : Bool) → Ended (parsed l) (length buffer) said (cond b (over s said) (unchangedBy s 16))
+          (cond b (over (compacted s) (answer (storeSeen reader (compacted s)) spaces l)) (unchangedBy (compacted s) 16))
+      go true = went
+      go false = as-before refl same-rows
 
 -- "every answer but a SUBSCRIBE's 15": such an answer
-abbrev pub Full : Store → List ℕ → List ℕ → List ℕ → Type 0
-Full s spaces l buffer = (isSubscribe (parsed l) ≡ true) × (commanded s spaces l buffer .reply ≡ refusal 15)
+abbrev pub Full : ℕ → Store → List ℕ → List ℕ → List ℕ → Type 0
+Full reader s spaces l buffer = (isSubscribe (parsed l) ≡ true) × (commanded reader s spaces l buffer .reply ≡ refusal 15)
 
--- "every answer but a SUBSCRIBE's 15 stay as they were": a command over a store (s), and over another (c)
-pub record AsBefore (s c : Store) (spaces l buffer : List ℕ) : Type 0 where
+-- "every answer but a SUBSCRIBE's 15 stay as they were": a reader's command over a store (s), and over another (c)
+pub record AsBefore (reader : ℕ) (s c : Store) (spaces l buffer : List ℕ) : Type 0 where
   -- the number or the bytes, and the rows that it leaves
-  pub same-reply : (Full s spaces l buffer → ⊥) → commanded c spaces l buffer .reply ≡ commanded s spaces l buffer .reply
-  pub same-left : (Full s spaces l buffer → ⊥) → storeRows (commanded c spaces l buffer .store) ≡ storeRows (commanded s spaces l buffer .store)
+  pub same-reply : (Full reader s spaces l buffer → ⊥) → commanded reader c spaces l buffer .reply ≡ commanded reader s spaces l buffer .reply
+  pub same-left : (Full reader s spaces l buffer → ⊥) →
+      storeRows (commanded reader c spaces l buffer .store) ≡ storeRows (commanded reader s spaces l buffer .store)
   -- so what was answered is answered
-  pub same-answer : (a : List ℕ) → commanded s spaces l buffer .reply ≡ answered a → commanded c spaces l buffer .reply ≡ answered a
+  pub same-answer : (a : List ℕ) → commanded reader s spaces l buffer .reply ≡ answered a → commanded reader c spaces l buffer .reply ≡ answered a
   -- a SUBSCRIBE's 15 stays, or is what would have been said but for it
-  pub still-full : Full s spaces l buffer → (commanded c spaces l buffer .reply ≡ refusal 15) ⊎ (commanded c spaces l buffer .reply ≡ limited (length buffer) (answer (storeTable s) spaces l))
+  pub still-full : Full reader s spaces l buffer
+      → (commanded reader c spaces l buffer .reply ≡ refusal 15)
+      ⊎ (commanded reader c spaces l buffer .reply ≡ limited (length buffer) (answer (storeSeen reader s) spaces l))
 
-ended-before : (s c : Store) (spaces l buffer : List ℕ)
-    → Ended (parsed l) (length buffer) (answer (storeTable s) spaces l) (commanded s spaces l buffer) (commanded c spaces l buffer)
-    → AsBefore s c spaces l buffer
-ended-before s c spaces l buffer (as-before e f) =
+ended-before : (reader : ℕ) (s c : Store) (spaces l buffer : List ℕ)
+    → Ended (parsed l) (length buffer) (answer (storeSeen reader s) spaces l) (commanded reader s spaces l buffer)
+    (commanded reader c spaces l buffer)
+    → AsBefore reader s c spaces l buffer
+ended-before reader s c spaces l buffer (as-before e f) =
     record {
       same-reply = λ n. e;
       same-left = λ n. f;
       same-answer = λ a q. e ∙ q;
       still-full = λ w. inl (e ∙ w .1);
     }
-ended-before s c spaces l buffer (room-given i d e) =
+ended-before reader s c spaces l buffer (room-given i d e) =
     record {
       same-reply = λ n. absurd (n (i, d));
       same-left = λ n. absurd (n (i, d));
@@ -242,29 +280,36 @@ ended-before s c spaces l buffer (room-given i d e) =
       still-full = λ w. inr e;
     }
 
--- One theorem over commands: any line, namespace list and answer buffer.
-commanded-before : (s : Store) → passes (storeTable s) ≡ true → (spaces l buffer : List ℕ) → AsBefore s (compacted s) spaces l buffer
-commanded-before s h spaces l buffer = ended-before s (compacted s) spaces l buffer (command-ended s h spaces l buffer)
+-- One theorem over commands: any reader, line, namespace list and answer buffer.
+commanded-before : (reader : ℕ) (s : Store) → passes (storeTable s) ≡ true → (spaces l buffer : List ℕ) →
+    AsBefore reader s (compacted s) spaces l buffer
+commanded-before reader s h spaces l buffer = ended-before reader s (compacted s) spaces l buffer (command-ended s h reader spaces l buffer)
 
 -- and over every store, whether it passes or is left unchanged
-pub compaction-before : (s : Store) (spaces l buffer : List ℕ) → AsBefore s (compaction s .store) spaces l buffer
-compaction-before s spaces l buffer = go (passes (storeTable s)) refl
+pub compaction-before : (reader : ℕ) (s : Store) (spaces l buffer : List ℕ) → AsBefore reader s (compaction s .store) spaces l buffer
+compaction-before reader s spaces l buffer = go (passes (storeTable s)) refl
   where
-    go : (b : Bool) → passes (storeTable s) ≡ b → AsBefore s (compaction s .store) spaces l buffer
-    go true h = subst (λ (c : Store). AsBefore s c spaces l buffer) (ap (λ (d : Compaction). d .store) (sym (compaction-made s h))) (commanded-before s h spaces l buffer)
-    go false h = subst (λ (c : Store). AsBefore s c spaces l buffer) (ap (λ (d : Compaction). d .store) (sym (compaction-refused s h))) (ended-before s s spaces l buffer (as-before refl refl))
+    go : (b : Bool) → passes (storeTable s) ≡ b → AsBefore reader s (compaction s .store) spaces l buffer
+    go true h =
+        subst (λ (c : Store). AsBefore reader s c spaces l buffer) (ap (λ (d : Compaction). d .store) (sym (compaction-made s h)))
+        (commanded-before reader s h spaces l buffer)
+    go false h =
+        subst (λ (c : Store). AsBefore reader s c spaces l buffer) (ap (λ (d : Compaction). d .store) (sym (compaction-refused s h)))
+        (ended-before reader s s spaces l buffer (as-before refl refl))
 
--- and the walk, which looks at the table alone
-pub walked-before : (s : Store) → passes (storeTable s) ≡ true → (o : ℕ) (scratch found pending : List ℕ)
-    → collected (storeTable (compacted s)) o scratch found pending ≡ collected (storeTable s) o scratch found pending
-walked-before s h o scratch found pending = ap (λ (t : Table). collected t o scratch found pending) (table-stays s h)
+-- and the walk, which looks at what its reader sees alone
+pub walked-before : (reader : ℕ) (s : Store) → passes (storeTable s) ≡ true → (o : ℕ) (scratch found pending : List ℕ)
+    → collectedBy reader (storeSeen reader (compacted s)) o scratch found pending ≡ collectedBy reader (storeSeen reader s) o scratch found pending
+walked-before reader s h o scratch found pending = ap (λ (t : Table). collectedBy reader t o scratch found pending) (seen-stays s h reader)
 
--- A SUBSCRIBE that would insert a row, with a record for it: 15 straight after the operation is for want of bytes.
-module _ (s : Store) (h : passes (storeTable s) ≡ true) (spaces l buffer tag n : List ℕ) (namespaces : namespacesPass spaces ≡ true) (line : parsed l ≡ editing tag (subscribe n)) where
+-- A SUBSCRIBE of reader 0 that would insert a row, with a record for it: 15 straight after the operation is for want of bytes.
+module _ (s : Store) (h : passes (storeTable s) ≡ true) (spaces l buffer tag n : List ℕ) (namespaces : namespacesPass spaces ≡ true)
+    (line : parsed l ≡ editing tag (subscribe n)) where
   -- what it comes to, up to the edit
-  subscribe-comes : (x : Edited) → edited (compacted s) (subscribe n) ≡ x → commanded (compacted s) spaces l buffer ≡ concluded (compacted s) (length buffer) x (answered (okLine tag))
-  unfolding commanded answer answerTo attempted
-  subscribe-comes x e = rw (line, compacted-passes s h, namespaces, e)
+  subscribe-comes : (x : Edited) → edited (compacted s) (subscribe n) ≡ x →
+      commanded 0 (compacted s) spaces l buffer ≡ concluded (compacted s) (length buffer) x (answered (okLine tag))
+  unfolding commanded commandedOver isReader answer answerTo attempted
+  subscribe-comes x e = rw (line, store-seen-passes 0 (compacted s) ∙ compacted-passes s h, namespaces, e)
 
   not-fifteen : (t : Store) → concluded (compacted s) (length buffer) (stored t) (answered (okLine tag)) .reply ≡ refusal 15 → ⊥
   unfolding concluded unchangedBy numberOf
@@ -277,17 +322,23 @@ module _ (s : Store) (h : passes (storeTable s) ≡ true) (spaces l buffer tag n
   -- "Straight after the operation, no edit between, 15 for want of bytes is given exactly if the free bytes in all are fewer than the name's."
   pub fifteen-exactly : hasRow (storeRows s) (spelled n) ≡ false → (lawfulName (spelled n) && not (belowNoInferiors (storeRows s) (spelled n))) ≡ true
       → s .count < 512 → s .count < length (s .records)
-      → (commanded (compacted s) spaces l buffer .reply ≡ refusal 15 → freeBytes s < length (spelled n))
-      × (freeBytes s < length (spelled n) → commanded (compacted s) spaces l buffer .reply ≡ refusal 15)
+      → (commanded 0 (compacted s) spaces l buffer .reply ≡ refusal 15 → freeBytes s < length (spelled n))
+      × (freeBytes s < length (spelled n) → commanded 0 (compacted s) spaces l buffer .reply ≡ refusal 15)
   unfolding concluded unchangedBy edited
-  fifteen-exactly e law few room = (λ r. go r (insertion-ends (compacted s) (spelled n)), λ want. ap (λ (c : Commanded). c .reply) (subscribe-comes (denied 15) (puts ∙ exact .1 want)))
+  fifteen-exactly e law few room =
+      (λ r. go r (insertion-ends (compacted s) (spelled n)), λ want. ap (λ (c : Commanded). c .reply) (subscribe-comes (denied 15) (puts ∙ exact .1 want)))
     where
       puts : edited (compacted s) (subscribe n) ≡ insertion (compacted s) (spelled n)
       puts = subscribing-puts (compacted s) (spelled n) (row-alike s h (spelled n) e) (lawful-alike s h (spelled n) law)
 
-      exact : (insertion (compacted s) (spelled n) ≡ denied 15 → freeBytes s < length (spelled n)) × (freeBytes s < length (spelled n) → insertion (compacted s) (spelled n) ≡ denied 15)
-      exact = room-in-all s h (spelled n) (omega (arith, good-parts (spelled n) (and-l (lawfulName (spelled n)) (not (belowNoInferiors (storeRows s) (spelled n))) law) .least)) few room
+      exact : (insertion (compacted s) (spelled n) ≡ denied 15 → freeBytes s < length (spelled n)) ×
+          (freeBytes s < length (spelled n) → insertion (compacted s) (spelled n) ≡ denied 15)
+      exact =
+          room-in-all s h (spelled n) (omega
+          (arith, good-parts (spelled n) (and-l (lawfulName (spelled n)) (not (belowNoInferiors (storeRows s) (spelled n))) law) .least)) few room
 
-      go : commanded (compacted s) spaces l buffer .reply ≡ refusal 15 → (insertion (compacted s) (spelled n) ≡ denied 15) ⊎ Put (compacted s) (spelled n) → freeBytes s < length (spelled n)
+      go : commanded 0 (compacted s) spaces l buffer .reply ≡ refusal 15 →
+          (insertion (compacted s) (spelled n) ≡ denied 15) ⊎ Put (compacted s) (spelled n) → freeBytes s < length (spelled n)
       go r (inl q) = exact .0 q
-      go r (inr w) = absurd (not-fifteen (w .after) (ap (λ (c : Commanded). c .reply) (sym (subscribe-comes (stored (w .after)) (puts ∙ w .made))) ∙ r))
+      go r (inr w) = absurd (not-fifteen (w .after) (ap (λ (c : Commanded). c .reply) (sym (subscribe-comes (stored (w .after)) (puts ∙ w .made))) ∙
+          r))

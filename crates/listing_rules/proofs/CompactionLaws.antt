@@ -2,7 +2,7 @@
 -- the end, and done twice is done once. Rests on UsedBytes and SubscriptionLaws.
 use mathlib.Core.Path.{_≡_, refl, sym, ap, _∙_, subst}
 use mathlib.Core.Logic.{_⊎_, inl, inr}
-use mathlib.Core.Bool.{Bool, true, false, _&&_, _||_, and-false}
+use mathlib.Core.Bool.{Bool, true, false, cond, _&&_, _||_, and-false}
 use mathlib.Core.List.{List, [], _∷_, _++_, map, List·Memᴰ, List·Memᴰ·head, List·Memᴰ·tail, append-nil}
 use mathlib.Core.Option.{none, some}
 use Prim.Native.Nat.{ℕ, _+_, _-_, _≤_, _<_}
@@ -14,10 +14,11 @@ use borrow.Author.Tests.{leb-true, leb-false, le-leb, ltb-true, le-ltb}
 use Rattle.listing_rules.specs.Lists.{every, anyOf, keep}
 use Rattle.listing_rules.specs.Table.{Row, passes}
 use Rattle.listing_rules.specs.Records.{Record, rowOf, recordRows, recordTable, liesInside, apart, allApart}
-use Rattle.listing_rules.specs.Subscriptions.{Store, storeTable, held, storeRows, uses, freeFrom, freeRun, denied, insertion}
+use Rattle.listing_rules.specs.Readers.{sees, visible, seen, recordsSeen}
+use Rattle.listing_rules.specs.Subscriptions.{Store, storeTable, storeSeen, held, storeRows, uses, freeFrom, freeRun, denied, insertion}
 use Rattle.listing_rules.specs.Compaction.{usedFrom, placeAfter, moved, compacted, compaction}
 use Rattle.listing_rules.proofs.Bools.{and-l, and-r, and-i, or-cases, or-l, or-r}
-use Rattle.listing_rules.proofs.ListLaws.{every-mem, mem-every, some-mem, mem-map, map-mem}
+use Rattle.listing_rules.proofs.ListLaws.{every-mem, mem-every, some-mem, keep-mem, mem-map, map-mem}
 use Rattle.listing_rules.proofs.Passes.{TableParts}
 use Rattle.listing_rules.proofs.FreeRuns.{FreeAt, run-none, none-run}
 use Rattle.listing_rules.proofs.EditLists.{mem-none}
@@ -36,8 +37,19 @@ module _ {A B : Type 0} where
   map-through f g h [] e = refl
   map-through f g h (x ∷ l) e = λ i. e x (List·Memᴰ·head refl) i ∷ map-through f g h l (λ z m. e z (List·Memᴰ·tail m)) i
 
+-- a test that says of a changed member what it said of it
+keep-mapped : {A : Type 0} (p : A → Bool) (f : A → A) → ((z : A) → p (f z) ≡ p z) → (l : List A) → keep p (map f l) ≡ map f (keep p l)
+unfolding keep
+keep-mapped p f e [] = refl
+keep-mapped p f e (x ∷ l) = (λ i. cond (e x i) (f x ∷ keep-mapped p f e l i) (keep-mapped p f e l i)) ∙ go (p x)
+  where
+    go : (o : Bool) → cond o (f x ∷ map f (keep p l)) (map f (keep p l)) ≡ map f (cond o (x ∷ keep p l) (keep p l))
+    go true = refl
+    go false = refl
+
 -- records whose starts change, each two of them apart as before
-apart-mapped : (f : Record → Record) (l : List Record) → ((r q : Record) → List·Memᴰ r l → List·Memᴰ q l → apart r q ≡ true → apart (f r) (f q) ≡ true) → allApart l ≡ true → allApart (map f l) ≡ true
+apart-mapped : (f : Record → Record) (l : List Record) →
+    ((r q : Record) → List·Memᴰ r l → List·Memᴰ q l → apart r q ≡ true → apart (f r) (f q) ≡ true) → allApart l ≡ true → allApart (map f l) ≡ true
 unfolding allApart
 apart-mapped f [] e h = refl
 apart-mapped f (r ∷ l) e h =
@@ -47,7 +59,8 @@ apart-mapped f (r ∷ l) e h =
     others : (z : Record) → List·Memᴰ z (map f l) → apart (f r) z ≡ true
     others z m =
         let w = map-mem f z l m in
-        ap (apart (f r)) (w .2) ∙ e r (w .0) (List·Memᴰ·head refl) (List·Memᴰ·tail (w .1)) (every-mem (apart r) l (and-l (every (apart r) l) (allApart l) h) (w .0) (w .1))
+        ap (apart (f r)) (w .2) ∙ e r (w .0) (List·Memᴰ·head refl) (List·Memᴰ·tail (w .1))
+        (every-mem (apart r) l (and-l (every (apart r) l) (allApart l) h) (w .0) (w .1))
 
 -- the number of places of the area that no row uses
 abbrev pub freeBytes : Store → ℕ
@@ -110,11 +123,21 @@ module _ (s : Store) (p : StoreParts s) where
   unfolding compacted moved rowOf
   row-moved r m =
       ap (λ (n : List ℕ). record { flags = r .flags; name = n })
-      (read-placed (held s) (s .area) (r .start) (r .len) (lies r m) (own-used (held s) r m) (replicate (length (s .area) - length (namesTogether s)) 0))
+      (read-placed (held s) (s .area) (r .start) (r .len) (lies r m) (own-used (held s) r m)
+      (replicate (length (s .area) - length (namesTogether s)) 0))
 
   rows-moved : storeRows (compacted s) ≡ storeRows s
   unfolding storeRows recordRows
   rows-moved = ap (map (rowOf (compacted s .area))) held-moved ∙ map-through at (rowOf (compacted s .area)) (rowOf (s .area)) (held s) row-moved
+
+  -- and so are those that a reader sees: a record keeps its readers
+  pub visible-moved : (reader : ℕ) → visible reader (compacted s .area) (held (compacted s)) ≡ visible reader (s .area) (held s)
+  unfolding visible recordRows sees moved
+  visible-moved reader =
+      ap (λ (l : List Record). map (rowOf (compacted s .area)) (keep (sees reader) l)) held-moved
+      ∙ ap (map (rowOf (compacted s .area))) (keep-mapped (sees reader) at (λ r. refl) (held s))
+      ∙ map-through at (rowOf (compacted s .area)) (rowOf (s .area)) (keep (sees reader) (held s))
+      (λ r m. row-moved r (keep-mem (sees reader) (held s) r m .0))
 
   -- of two names apart, the one that ended before the other's start still does
   before-moved : (r q : Record) → List·Memᴰ r (held s) → List·Memᴰ q (held s) → r .start + r .len ≤ q .start → at r .start + at r .len ≤ at q .start
@@ -145,7 +168,8 @@ module _ (s : Store) (p : StoreParts s) where
       inside z m =
           let w = map-mem at z (held s) m in
           ap (liesInside (compacted s .area)) (w .2)
-          ∙ le-leb (at (w .0) .start + at (w .0) .len) (length (compacted s .area)) (omega (arith, moved-inside (w .0) (w .1), same-area s, used-most (held s) 0 (s .area)))
+          ∙ le-leb (at (w .0) .start + at (w .0) .len) (length (compacted s .area))
+          (omega (arith, moved-inside (w .0) (w .1), same-area s, used-most (held s) 0 (s .area)))
 
   compacted-parts : StoreParts (compacted s)
   compacted-parts =
@@ -170,8 +194,10 @@ module _ (s : Store) (p : StoreParts s) where
       let low = leb-true (r .start) j (and-l (leb (r .start) j) (ltb j (r .start + r .len)) (v .2)) in
       let high = ltb-true j (r .start + r .len) (and-r (leb (r .start) j) (ltb j (r .start + r .len)) (v .2)) in
       let d : r .start + (j - r .start) ≡ j = omega arith in
-      let far = place-end (held s) (s .area) (r .start) (j - r .start) (omega (arith, w .1)) (λ i a b. own-used (held s) r (v .1) i a (omega arith)) in
-      let there : placeAfter (held s) (s .area) j ≡ placeAfter (held s) (s .area) (r .start) + (j - r .start) = ap (placeAfter (held s) (s .area)) (sym d) ∙ far in
+      let far = place-end (held s) (s .area) (r .start) (j - r .start) (omega (arith, w .1))
+      (λ i a b. own-used (held s) r (v .1) i a (omega arith)) in
+      let there : placeAfter (held s) (s .area) j ≡ placeAfter (held s) (s .area) (r .start) + (j - r .start) = ap (placeAfter (held s) (s .area))
+      (sym d) ∙ far in
       subst (λ (l : List Record). anyOf (uses k) l ≡ true) (sym held-moved)
       (own-used (map at (held s)) (at r) (mem-map at (v .1)) k (omega (arith, there, w .3)) (omega (arith, there, w .3)))
 
@@ -199,7 +225,7 @@ module _ (s : Store) (p : StoreParts s) where
 
   record-twice : (r : Record) → List·Memᴰ r (held (compacted s)) → moved (held (compacted s)) (compacted s .area) r ≡ r
   unfolding moved placeAfter
-  record-twice r m = ap (λ (k : ℕ). record { flags = r .flags; start = k; len = r .len }) start-stays
+  record-twice r m = ap (λ (k : ℕ). record { flags = r .flags; start = k; len = r .len; readers = r .readers }) start-stays
     where
       inside : r .start + r .len ≤ length (namesTogether s)
       inside =
@@ -210,13 +236,16 @@ module _ (s : Store) (p : StoreParts s) where
       front = length-take-le (r .start) (compacted s .area) (omega (arith, inside, same-area s, used-most (held s) 0 (s .area)))
 
       start-stays : length (usedFrom (held (compacted s)) 0 (take (r .start) (compacted s .area))) ≡ r .start
-      start-stays = ap length (used-all (held (compacted s)) 0 (take (r .start) (compacted s .area)) (λ k a b. below-used k (omega (arith, inside, front)))) ∙ front
+      start-stays =
+          ap length (used-all (held (compacted s)) 0 (take (r .start) (compacted s .area)) (λ k a b. below-used k (omega (arith, inside, front)))) ∙
+          front
 
   twice : compacted (compacted s) ≡ compacted s
   unfolding compacted
   twice = λ i. record { records = records i; count = s .count; area = area i }
     where
-      records : map (moved (held (compacted s)) (compacted s .area)) (held (compacted s)) ++ drop (s .count) (compacted s .records) ≡ map at (held s) ++ drop (s .count) (s .records)
+      records : map (moved (held (compacted s)) (compacted s .area)) (held (compacted s)) ++ drop (s .count) (compacted s .records) ≡ map at (held s)
+          ++ drop (s .count) (s .records)
       records = λ i. (map-same (moved (held (compacted s)) (compacted s .area)) (held (compacted s)) record-twice ∙ held-moved) i ++ spare-stay i
 
       area : namesTogether (compacted s) ++ replicate (length (compacted s .area) - length (namesTogether (compacted s))) 0
@@ -225,7 +254,8 @@ module _ (s : Store) (p : StoreParts s) where
 
   -- straight after it, as many bytes are free as before, and they are one run
   free-twice : freeBytes (compacted s) ≡ freeBytes s
-  free-twice = omega (arith, used-or-free (held s) 0 (s .area), used-or-free (held (compacted s)) 0 (compacted s .area), same-area s, ap length names-twice)
+  free-twice =
+      omega (arith, used-or-free (held s) 0 (s .area), used-or-free (held (compacted s)) 0 (compacted s .area), same-area s, ap length names-twice)
 
   run-after : (len : ℕ) → len ≤ freeBytes s → FreeAt (compacted s) len (length (namesTogether s))
   run-after len h =
@@ -277,6 +307,11 @@ module _ (s : Store) (h : passes (storeTable s) ≡ true) where
       let p = store-parts s h in
       parts-table (compacted s) (compacted-parts s p) ∙ ap (λ (l : List Row). some l) (rows-moved s p) ∙ sym (parts-table s p)
 
+  -- and over what each reader sees of it
+  pub seen-stays : (reader : ℕ) → storeSeen reader (compacted s) ≡ storeSeen reader s
+  unfolding storeSeen recordsSeen storeTable held
+  seen-stays reader = λ i. seen (table-stays i) (visible-moved s (store-parts s h) reader i)
+
   -- done twice is done once
   pub compacted-twice : compacted (compacted s) ≡ compacted s
   compacted-twice = twice s (store-parts s h)
@@ -287,20 +322,24 @@ module _ (s : Store) (h : passes (storeTable s) ≡ true) where
 
   -- "free bytes form one run": a run is long enough exactly if the free bytes in all are
   pub free-in-all : (n : ℕ) → 0 < n → (freeRun (compacted s) n ≡ none → freeBytes s < n) × (freeBytes s < n → freeRun (compacted s) n ≡ none)
-  free-in-all n l = (λ e. go e (leb n (freeBytes s)) refl, λ few. none-run (compacted s) n (λ at f. omega (arith, free-stays, run-most (compacted s) n at f)))
+  free-in-all n l =
+      (λ e. go e (leb n (freeBytes s)) refl, λ few. none-run (compacted s) n (λ at f. omega (arith, free-stays, run-most (compacted s) n at f)))
     where
       go : freeRun (compacted s) n ≡ none → (b : Bool) → leb n (freeBytes s) ≡ b → freeBytes s < n
-      go e true q = absurd (run-none (compacted s) n (omega arith) e (length (namesTogether s)) (run-after s (store-parts s h) n (leb-true n (freeBytes s) q)))
+      go e true q =
+          absurd (run-none (compacted s) n (omega arith) e (length (namesTogether s)) (run-after s (store-parts s h) n (leb-true n (freeBytes s) q)))
       go e false q = leb-false n (freeBytes s) q
 
   -- "Straight after the operation, no edit between, 15 for want of bytes is given exactly if the free bytes in all are fewer than the name's."
   pub room-in-all : (n : List ℕ) → 0 < length n → s .count < 512 → s .count < length (s .records)
       → (insertion (compacted s) n ≡ denied 15 → freeBytes s < length n) × (freeBytes s < length n → insertion (compacted s) n ≡ denied 15)
-  room-in-all n l few room = (λ e. go e (leb (length n) (freeBytes s)) refl, λ q. run-refused (compacted s) n (λ at f. omega (arith, free-stays, run-most (compacted s) (length n) at f)))
+  room-in-all n l few room =
+      (λ e. go e (leb (length n) (freeBytes s)) refl, λ q. run-refused (compacted s) n (λ at f. omega (arith, free-stays, run-most (compacted s) (length n) at f)))
     where
       go : insertion (compacted s) n ≡ denied 15 → (b : Bool) → leb (length n) (freeBytes s) ≡ b → freeBytes s < length n
       go e true q =
           let at = run-after s (store-parts s h) (length n) (leb-true (length n) (freeBytes s) q) in
-          let w = insertion-made (compacted s) n (omega (arith, stays .count)) (omega (arith, stays .count, stays .records)) (length (namesTogether s)) (omega arith) at in
+          let w = insertion-made (compacted s) n (omega (arith, stays .count)) (omega (arith, stays .count, stays .records))
+          (length (namesTogether s)) (omega arith) at in
           absurd (refused-not 15 _ (sym e ∙ w .2))
       go e false q = leb-false (length n) (freeBytes s) q

@@ -18,7 +18,8 @@ use Rattle.listing_rules.proofs.EditLists.{every-append, every-right}
 use Rattle.listing_rules.proofs.EditBytes.{apart-sym}
 
 -- "without overlap": a record put in between others that are apart from it
-apart-put : (a : List Record) (w : Record) (b : List Record) → allApart (a ++ b) ≡ true → every (apart w) (a ++ b) ≡ true → allApart (a ++ (w ∷ b)) ≡ true
+apart-put : (a : List Record) (w : Record) (b : List Record) → allApart (a ++ b) ≡ true → every (apart w) (a ++ b) ≡ true →
+    allApart (a ++ (w ∷ b)) ≡ true
 unfolding allApart every
 apart-put [] w b h e = and-i (every (apart w) b) (allApart b) e h
 apart-put (r ∷ a) w b h e =
@@ -36,7 +37,8 @@ unfolding allApart every
 apart-others [] w b h = and-l (every (apart w) b) (allApart b) h
 apart-others (r ∷ a) w b h =
     and-i (apart w r) (every (apart w) (a ++ b))
-    (apart-sym r w (and-l (apart r w) (every (apart r) b) (every-right (apart r) a (w ∷ b) (and-l (every (apart r) (a ++ (w ∷ b))) (allApart (a ++ (w ∷ b))) h))))
+    (apart-sym r w (and-l (apart r w) (every (apart r) b) (every-right (apart r) a (w ∷ b)
+    (and-l (every (apart r) (a ++ (w ∷ b))) (allApart (a ++ (w ∷ b))) h))))
     (apart-others a w b (and-r (every (apart r) (a ++ (w ∷ b))) (allApart (a ++ (w ∷ b))) h))
 
 every-out : (p : Record → Bool) (a : List Record) (w : Record) (b : List Record) → every p (a ++ (w ∷ b)) ≡ true → every p (a ++ b) ≡ true
@@ -72,7 +74,8 @@ unfolding laidOut
 parts-laid area rs p = simp (le-leb (length area) 32768 (p .small), p .inside, p .apart-all)
 
 -- over an area of the same length
-inside-alike : (area new : List ℕ) → length new ≡ length area → (rs : List Record) → every (liesInside area) rs ≡ true → every (liesInside new) rs ≡ true
+inside-alike : (area new : List ℕ) → length new ≡ length area → (rs : List Record) → every (liesInside area) rs ≡ true →
+    every (liesInside new) rs ≡ true
 unfolding liesInside
 inside-alike area new e rs h = mem-every (liesInside new) rs (λ r m. ap (leb (r .start + r .len)) e ∙ every-mem (liesInside area) rs h r m)
 
@@ -88,7 +91,8 @@ laid-put area new e a w b p i h =
       apart-all = apart-put a w b (p .apart-all) h;
     }
 
-pub laid-taken : (area new : List ℕ) → length new ≡ length area → (a : List Record) (w : Record) (b : List Record) → LaidParts area (a ++ (w ∷ b)) → LaidParts new (a ++ b)
+pub laid-taken : (area new : List ℕ) → length new ≡ length area → (a : List Record) (w : Record) (b : List Record) → LaidParts area (a ++ (w ∷ b)) →
+    LaidParts new (a ++ b)
 laid-taken area new e a w b p =
     record {
       small = omega (arith, e, p .small);
@@ -113,7 +117,9 @@ module _ (s : Store) (front mid back spare : List Record) (p : Parts s front mid
   parts-held = ap (take (s .count)) regroup ∙ take-at (front ++ (mid ++ back)) spare (s .count) all-held
 
   pub parts-length : length (s .records) ≡ s .count + length spare
-  parts-length = omega (arith, ap length (p .all-records), p .all-rows, length-append front (mid ++ (back ++ spare)), length-append mid (back ++ spare), length-append back spare)
+  parts-length =
+      omega
+      (arith, ap length (p .all-records), p .all-rows, length-append front (mid ++ (back ++ spare)), length-append mid (back ++ spare), length-append back spare)
 
   parts-spare : drop (s .count) (s .records) ≡ spare
   parts-spare = ap (drop (s .count)) regroup ∙ drop-at (front ++ (mid ++ back)) spare (s .count) all-held
@@ -127,7 +133,8 @@ drop-past [] x b = refl
 drop-past (y ∷ a) x b = drop-past a x b
 
 -- any store has such parts for its rows
-pub parts-whole : (s : Store) (front mid back : List Record) → s .count ≤ length (s .records) → held s ≡ front ++ (mid ++ back) → Parts s front mid back (drop (s .count) (s .records))
+pub parts-whole : (s : Store) (front mid back : List Record) → s .count ≤ length (s .records) → held s ≡ front ++ (mid ++ back) →
+    Parts s front mid back (drop (s .count) (s .records))
 unfolding held
 parts-whole s front mid back h e =
     record {
@@ -136,36 +143,43 @@ parts-whole s front mid back h e =
           ∙ ap (λ (l : List Record). l ++ drop (s .count) (s .records)) e
           ∙ append-assoc front (mid ++ back) (drop (s .count) (s .records))
           ∙ ap (λ (l : List Record). front ++ l) (append-assoc mid back (drop (s .count) (s .records)));
-      all-rows = omega (arith, sym (length-take-le (s .count) (s .records) h), ap length e, length-append front (mid ++ back), length-append mid back);
+      all-rows =
+          omega (arith, sym (length-take-le (s .count) (s .records) h), ap length e, length-append front (mid ++ back), length-append mid back);
     }
 
 -- the record at the place
-pub parts-nth : (s : Store) (front : List Record) (it : Record) (back spare : List Record) → Parts s front (it ∷ []) back spare → nth (s .records) (length front) ≡ it
+pub parts-nth : (s : Store) (front : List Record) (it : Record) (back spare : List Record) → Parts s front (it ∷ []) back spare →
+    nth (s .records) (length front) ≡ it
 unfolding nth
-parts-nth s front it back spare p = ap (λ (l : List Record). getD l (length front) zeroRecord) (p .all-records) ∙ getD-append-seam front it (back ++ spare) zeroRecord
+parts-nth s front it back spare p =
+    ap (λ (l : List Record). getD l (length front) zeroRecord) (p .all-records) ∙ getD-append-seam front it (back ++ spare) zeroRecord
 
 -- "sets the flag", "clears the flag": the record at the place has other flags
 pub parts-flagged : (s : Store) (front : List Record) (it : Record) (back spare : List Record) (f : ℕ) → Parts s front (it ∷ []) back spare
-    → Parts (flagged s (length front) f) front (record { flags = f; start = it .start; len = it .len } ∷ []) back spare
+    → Parts (flagged s (length front) f) front (record { flags = f; start = it .start; len = it .len; readers = it .readers } ∷ []) back spare
 unfolding flagged
 parts-flagged s front it back spare f p =
     record {
-      all-records = λ i. parts-front s front (it ∷ []) back spare p i
-          ++ (record { flags = f; start = parts-nth s front it back spare p i .start; len = parts-nth s front it back spare p i .len } ∷ rest i);
+      all-records = λ i. parts-front s front (it ∷ []) back spare p i ++ (flagging (parts-nth s front it back spare p i) ∷ rest i);
       all-rows = p .all-rows;
     }
   where
+    flagging : Record → Record
+    flagging r = record { flags = f; start = r .start; len = r .len; readers = r .readers }
+
     rest : drop (suc (length front)) (s .records) ≡ back ++ spare
     rest = ap (drop (suc (length front))) (p .all-records) ∙ drop-past front it (back ++ spare)
 
 -- "inserts a row 0002"
 pub parts-inserted : (s : Store) (front back : List Record) (x : Record) (spare : List Record) (start : ℕ) (n : List ℕ)
     → Parts s front [] back (x ∷ spare)
-    → Parts (inserted s (length front) start n) front (record { flags = 0x0002; start = start; len = length n } ∷ []) back spare
+    → Parts (inserted s (length front) start n) front (record { flags = 0x0002; start = start; len = length n; readers = 0xFF } ∷ []) back spare
 unfolding inserted
 parts-inserted s front back x spare start n p =
     record {
-      all-records = λ i. parts-front s front [] back (x ∷ spare) p i ++ (record { flags = 0x0002; start = start; len = length n } ∷ (moved i ++ left i));
+      all-records =
+          λ i. parts-front s front [] back (x ∷ spare) p i ++
+          (record { flags = 0x0002; start = start; len = length n; readers = 0xFF } ∷ (moved i ++ left i));
       all-rows = omega (arith, p .all-rows);
     }
   where

@@ -47,8 +47,12 @@ store-parts s h = go (leb (s .count) (length (s .records)) && laidOut (s .area) 
         → passes (cond b (some (recordRows (s .area) (take (s .count) (s .records)))) none) ≡ true → StoreParts s
     go true e k =
         record {
-          counted = leb-true (s .count) (length (s .records)) (and-l (leb (s .count) (length (s .records))) (laidOut (s .area) (take (s .count) (s .records))) e);
-          laid = laid-parts (s .area) (take (s .count) (s .records)) (and-r (leb (s .count) (length (s .records))) (laidOut (s .area) (take (s .count) (s .records))) e);
+          counted =
+              leb-true (s .count) (length (s .records)) (and-l (leb (s .count) (length (s .records)))
+              (laidOut (s .area) (take (s .count) (s .records))) e);
+          laid =
+              laid-parts (s .area) (take (s .count) (s .records))
+              (and-r (leb (s .count) (length (s .records))) (laidOut (s .area) (take (s .count) (s .records))) e);
           parts = rows-parts (recordRows (s .area) (take (s .count) (s .records))) k;
         }
     go false e k = absurd (false≢true k)
@@ -63,9 +67,38 @@ pub rows-count : (s : Store) → s .count ≤ length (s .records) → length (st
 unfolding storeRows recordRows held
 rows-count s h = length-map (take (s .count) (s .records)) (rowOf (s .area)) ∙ length-take-le (s .count) (s .records) h
 
-rows-in-parts : (area : List ℕ) (a b d : List Record) → recordRows area (a ++ (b ++ d)) ≡ recordRows area a ++ (recordRows area b ++ recordRows area d)
+pub rows-in-parts : (area : List ℕ) (a b d : List Record) →
+    recordRows area (a ++ (b ++ d)) ≡ recordRows area a ++ (recordRows area b ++ recordRows area d)
 unfolding recordRows
 rows-in-parts area a b d = map-append (rowOf area) a (b ++ d) ∙ ap (λ (l : List Row). map (rowOf area) a ++ l) (map-append (rowOf area) b d)
+
+-- the readers of a name's record after an edit: those that it had, or all eight
+abbrev pub readersAfter : List Record → ℕ
+readersAfter [] = 0xFF
+readersAfter (r ∷ rs) = r .readers
+
+-- records with this set of readers
+abbrev pub Readers : ℕ → List Record → Type 0
+Readers set rs = map (λ (r : Record). r .readers) rs ≡ map (λ (r : Record). set) rs
+
+-- the records before and after an edit of the name n: those of lower and of higher names stay, and mean the same rows; the name's own keeps its
+-- readers (W9)
+pub record Swap (s t : Store) (n : List ℕ) (row : List Row) : Type 0 where
+  pub front : List Record
+  pub mid : List Record
+  pub mid′ : List Record
+  pub back : List Record
+  pub was : held s ≡ front ++ (mid ++ back)
+  pub is : held t ≡ front ++ (mid′ ++ back)
+  pub front-rows : recordRows (t .area) front ≡ recordRows (s .area) front
+  pub back-rows : recordRows (t .area) back ≡ recordRows (s .area) back
+  pub mid-rows : recordRows (t .area) mid′ ≡ row
+  pub lower : allLower (recordRows (s .area) front) n
+  pub higher : allHigher (recordRows (s .area) back) n
+  pub own : every (λ (r : Row). same (r .name) n) (recordRows (s .area) mid) ≡ true
+  pub own-after : every (λ (r : Row). same (r .name) n) row ≡ true
+  pub readers : Readers (readersAfter mid) mid
+  pub readers-after : Readers (readersAfter mid) mid′
 
 -- what an accepted edit of the name n does; afterwards n has this row, or none
 pub record Done (s t : Store) (n : List ℕ) (row : List Row) : Type 0 where
@@ -74,6 +107,7 @@ pub record Done (s t : Store) (n : List ℕ) (row : List Row) : Type 0 where
   pub after : StoreParts t
   pub change : Change (storeRows s) (storeRows t) n
   pub row-after : change .new ≡ row
+  pub swap : Swap s t n row
 
 -- the row, or none, that the name n has afterwards
 record NewRows (s : Store) (n : List ℕ) (new : List Row) : Type 0 where
@@ -82,7 +116,8 @@ record NewRows (s : Store) (n : List ℕ) (new : List Row) : Type 0 where
   lawful-flags : every (λ (r : Row). lawfulFlags (r .flags)) new ≡ true
   single : Asc byteOrder (names new)
   open-above : (r : Row) → List·Memᴰ r (storeRows s) → noInferiors (r .flags) ≡ true → (q : Row) → List·Memᴰ q new → below (r .name) (q .name) ≡ false
-  shut-before : (r : Row) → List·Memᴰ r new → noInferiors (r .flags) ≡ true → (o : Row) × List·Memᴰ o (storeRows s) × (o .name ≡ r .name) × (noInferiors (o .flags) ≡ true)
+  shut-before : (r : Row) → List·Memᴰ r new → noInferiors (r .flags) ≡ true →
+      (o : Row) × List·Memᴰ o (storeRows s) × (o .name ≡ r .name) × (noInferiors (o .flags) ≡ true)
 
 no-row : (s : Store) (n : List ℕ) → NewRows s n []
 unfolding every names
@@ -108,23 +143,27 @@ one-row s n f l g above shut =
       lawful-flags = and-i (lawfulFlags f) true g refl;
       single = (tt, tt);
       open-above = λ r m e q k. ap (λ (x : Row). below (r .name) (x .name)) (only q k) ∙ above r m e;
-      shut-before = λ r m e. let w = shut (ap (λ (x : Row). noInferiors (x .flags)) (sym (only r m)) ∙ e) in (w .0, w .1, w .2 ∙ ap (λ (x : Row). x .name) (sym (only r m)), w .3);
+      shut-before =
+          λ r m e. let w = shut (ap (λ (x : Row). noInferiors (x .flags)) (sym (only r m)) ∙
+          e) in (w .0, w .1, w .2 ∙ ap (λ (x : Row). x .name) (sym (only r m)), w .3);
     }
   where
     only : (q : Row) → List·Memᴰ q (record { flags = f; name = n } ∷ []) → q ≡ record { flags = f; name = n }
     only q k = ⊎-elim (λ e. e) (λ j. absurd (List·Memᴰ·not-nil j)) (List·Memᴰ·cases-cons k)
 
 -- an edit, from the records before and after it
-module _ (s t : Store) (n : List ℕ) (sp : StoreParts s) (front mid mid′ back spare spare′ : List Record) (p : Parts s front mid back spare) (q : Parts t front mid′ back spare′) where
+module _ (s t : Store) (n : List ℕ) (sp : StoreParts s) (front mid mid′ back spare spare′ : List Record) (p : Parts s front mid back spare)
+    (q : Parts t front mid′ back spare′) where
   done : (new : List Row) → length mid + length spare ≡ length mid′ + length spare′ → length (t .area) ≡ length (s .area)
       → recordRows (t .area) front ≡ recordRows (s .area) front → recordRows (t .area) back ≡ recordRows (s .area) back
       → recordRows (t .area) mid′ ≡ new → allLower (recordRows (s .area) front) n → allHigher (recordRows (s .area) back) n
       → every (λ (r : Row). same (r .name) n) (recordRows (s .area) mid) ≡ true → NewRows s n new → LaidParts (t .area) (front ++ (mid′ ++ back))
-      → t .count ≤ 512 → Done s t n new
+      → t .count ≤ 512 → Readers (readersAfter mid) mid → Readers (readersAfter mid) mid′ → Done s t n new
   unfolding storeRows
-  done new lengths areas rows-front rows-back rows-mid low high own w laid few =
+  done new lengths areas rows-front rows-back rows-mid low high own w laid few by by′ =
       record {
-        same-records = omega (arith, parts-length s front mid back spare p, parts-length t front mid′ back spare′ q, p .all-rows, q .all-rows, lengths);
+        same-records =
+            omega (arith, parts-length s front mid back spare p, parts-length t front mid′ back spare′ q, p .all-rows, q .all-rows, lengths);
         same-area = areas;
         after =
             record {
@@ -134,8 +173,29 @@ module _ (s t : Store) (n : List ℕ) (sp : StoreParts s) (front mid mid′ back
             };
         change = change;
         row-after = refl;
+        swap = swap;
       }
     where
+      swap : Swap s t n new
+      swap =
+          record {
+            front = front;
+            mid = mid;
+            mid′ = mid′;
+            back = back;
+            was = parts-held s front mid back spare p;
+            is = parts-held t front mid′ back spare′ q;
+            front-rows = rows-front;
+            back-rows = rows-back;
+            mid-rows = rows-mid;
+            lower = low;
+            higher = high;
+            own = own;
+            own-after = w .own-name;
+            readers = by;
+            readers-after = by′;
+          }
+
       counted : t .count ≤ length (t .records)
       counted = omega (arith, parts-length t front mid′ back spare′ q)
 
@@ -172,12 +232,15 @@ few-rows : (s : Store) → StoreParts s → s .count ≤ 512
 few-rows s sp = omega (arith, rows-count s (sp .counted), sp .parts .few)
 
 -- the row of a record
-record-row : (s : Store) (front : List Record) (it : Record) (back : List Record) → held s ≡ front ++ (it ∷ back) → List·Memᴰ (rowOf (s .area) it) (storeRows s)
+record-row : (s : Store) (front : List Record) (it : Record) (back : List Record) → held s ≡ front ++ (it ∷ back) →
+    List·Memᴰ (rowOf (s .area) it) (storeRows s)
 unfolding storeRows recordRows
-record-row s front it back e = mem-map (rowOf (s .area)) (subst (λ (l : List Record). List·Memᴰ it l) (sym e) (Memᴰ·append-right front (List·Memᴰ·head refl)))
+record-row s front it back e =
+    mem-map (rowOf (s .area)) (subst (λ (l : List Record). List·Memᴰ it l) (sym e) (Memᴰ·append-right front (List·Memᴰ·head refl)))
 
 -- a row lies below no row with no inferiors
-row-open : (s : Store) → StoreParts s → (q : Row) → List·Memᴰ q (storeRows s) → (r : Row) → List·Memᴰ r (storeRows s) → noInferiors (r .flags) ≡ true → below (r .name) (q .name) ≡ false
+row-open : (s : Store) → StoreParts s → (q : Row) → List·Memᴰ q (storeRows s) → (r : Row) → List·Memᴰ r (storeRows s) →
+    noInferiors (r .flags) ≡ true → below (r .name) (q .name) ≡ false
 unfolding noneBelow
 row-open s sp q k r m e = none-mem (λ (x : Row). below (r .name) (x .name)) (storeRows s) none q k
   where
@@ -195,7 +258,8 @@ has-bytes s sp r m =
     omega (arith, good-parts (rowOf (s .area) r .name) l .least, length-take (r .len) (drop (r .start) (s .area)))
 
 -- "below a row with no inferiors": not this name
-open-for : (s : Store) (n : List ℕ) → belowNoInferiors (storeRows s) n ≡ false → (r : Row) → List·Memᴰ r (storeRows s) → noInferiors (r .flags) ≡ true → below (r .name) n ≡ false
+open-for : (s : Store) (n : List ℕ) → belowNoInferiors (storeRows s) n ≡ false → (r : Row) → List·Memᴰ r (storeRows s) →
+    noInferiors (r .flags) ≡ true → below (r .name) n ≡ false
 unfolding belowNoInferiors
 open-for s n b r m e =
     sym (ap (λ (o : Bool). o && below (r .name) n) e) ∙ none-mem (λ (x : Row). noInferiors (x .flags) && below (x .name) n) (storeRows s) b r m
@@ -230,25 +294,31 @@ module _ (s : Store) (n : List ℕ) (sp : StoreParts s) where
     own-member = record-row s (w .front) (w .it) (w .back) (w .whole)
 
     own-lawful : lawfulName n ≡ true
-    own-lawful = ap lawfulName (sym (w .named)) ∙ every-mem (λ (r : Row). lawfulName (r .name)) (storeRows s) (sp .parts .lawful-names) (rowOf (s .area) (w .it)) own-member
+    own-lawful =
+        ap lawfulName (sym (w .named)) ∙ every-mem (λ (r : Row). lawfulName (r .name)) (storeRows s) (sp .parts .lawful-names)
+        (rowOf (s .area) (w .it)) own-member
 
     own-inside : w .it .start + w .it .len ≤ length (s .area)
     unfolding liesInside every
     own-inside =
         leb-true (w .it .start + w .it .len) (length (s .area))
-        (and-l (liesInside (s .area) (w .it)) (every (liesInside (s .area)) (w .back)) (every-right (liesInside (s .area)) (w .front) (w .it ∷ w .back) (own-laid .inside)))
+        (and-l (liesInside (s .area) (w .it)) (every (liesInside (s .area)) (w .back))
+        (every-right (liesInside (s .area)) (w .front) (w .it ∷ w .back) (own-laid .inside)))
 
     -- "sets the flag", "clears the flag"
-    pub flagged-done : (f : ℕ) → lawfulFlags f ≡ true → noInferiors f ≡ noInferiors (w .it .flags) → Done s (flagged s (length (w .front)) f) n (record { flags = f; name = n } ∷ [])
+    pub flagged-done : (f : ℕ) → lawfulFlags f ≡ true → noInferiors f ≡ noInferiors (w .it .flags) →
+        Done s (flagged s (length (w .front)) f) n (record { flags = f; name = n } ∷ [])
     unfolding flagged recordRows rowOf apart
     flagged-done f l e =
-        done s (flagged s (length (w .front)) f) n sp (w .front) (w .it ∷ []) (it′ ∷ []) (w .back) (drop (s .count) (s .records)) (drop (s .count) (s .records)) own-parts
+        done s (flagged s (length (w .front)) f) n sp (w .front) (w .it ∷ []) (it′ ∷ []) (w .back) (drop (s .count) (s .records))
+        (drop (s .count) (s .records)) own-parts
         (parts-flagged s (w .front) (w .it) (w .back) (drop (s .count) (s .records)) f own-parts)
         (record { flags = f; name = n } ∷ []) refl refl refl refl named (w .lower) (w .higher) own-row
         (one-row s n f own-lawful l open-above shut-before) (laid (apart-others (w .front) (w .it) (w .back) (own-laid .apart-all))) (few-rows s sp)
+        refl refl
       where
         it′ : Record
-        it′ = record { flags = f; start = w .it .start; len = w .it .len }
+        it′ = record { flags = f; start = w .it .start; len = w .it .len; readers = w .it .readers }
 
         named : recordRows (s .area) (it′ ∷ []) ≡ record { flags = f; name = n } ∷ []
         named = λ i. record { flags = f; name = w .named i } ∷ []
@@ -260,25 +330,31 @@ module _ (s : Store) (n : List ℕ) (sp : StoreParts s) where
         shut-before k = (rowOf (s .area) (w .it), own-member, w .named, sym e ∙ k)
 
         laid : every (apart (w .it)) (w .front ++ w .back) ≡ true → LaidParts (s .area) (w .front ++ (it′ ∷ w .back))
-        laid a = laid-put (s .area) (s .area) refl (w .front) it′ (w .back) (laid-taken (s .area) (s .area) refl (w .front) (w .it) (w .back) own-laid) (inside-area (s .area) it′ own-inside) a
+        laid a =
+            laid-put (s .area) (s .area) refl (w .front) it′ (w .back) (laid-taken (s .area) (s .area) refl (w .front) (w .it) (w .back) own-laid)
+            (inside-area (s .area) it′ own-inside) a
 
     -- "removes a row 0002 entirely"
     pub removed-done : Done s (removed s (length (w .front))) n []
     unfolding removed recordRows
     removed-done =
-        done s (removed s (length (w .front))) n sp (w .front) (w .it ∷ []) [] (w .back) (drop (s .count) (s .records)) (zeroRecord ∷ drop (s .count) (s .records)) own-parts
+        done s (removed s (length (w .front))) n sp (w .front) (w .it ∷ []) [] (w .back) (drop (s .count) (s .records))
+        (zeroRecord ∷ drop (s .count) (s .records)) own-parts
         (parts-removed s (w .front) (w .it) (w .back) (drop (s .count) (s .records)) own-parts)
         [] (omega arith) (ap length area-is ∙ length-overwritten (s .area) (w .it .start) zeros fits)
         (stay (w .front) (every-left (apart (w .it)) (w .front) (w .back) others))
         (stay (w .back) (every-right (apart (w .it)) (w .front) (w .back) others)) refl (w .lower) (w .higher) own-row (no-row s n)
-        (laid-taken (s .area) (removed s (length (w .front)) .area) (ap length area-is ∙ length-overwritten (s .area) (w .it .start) zeros fits) (w .front) (w .it) (w .back) own-laid)
-        (omega (arith, few-rows s sp))
+        (laid-taken (s .area) (removed s (length (w .front)) .area) (ap length area-is ∙ length-overwritten (s .area) (w .it .start) zeros fits)
+        (w .front) (w .it) (w .back) own-laid)
+        (omega (arith, few-rows s sp)) refl refl
       where
         zeros : List ℕ
         zeros = replicate (w .it .len) 0
 
         area-is : removed s (length (w .front)) .area ≡ overwritten (s .area) (w .it .start) zeros
-        area-is = ap (λ (r : Record). overwritten (s .area) (r .start) (replicate (r .len) 0)) (parts-nth s (w .front) (w .it) (w .back) (drop (s .count) (s .records)) own-parts)
+        area-is =
+            ap (λ (r : Record). overwritten (s .area) (r .start) (replicate (r .len) 0))
+            (parts-nth s (w .front) (w .it) (w .back) (drop (s .count) (s .records)) own-parts)
 
         fits : w .it .start + length zeros ≤ length (s .area)
         fits = omega (arith, length-replicate {A = ℕ} (w .it .len) 0, own-inside)
@@ -287,7 +363,9 @@ module _ (s : Store) (n : List ℕ) (sp : StoreParts s) where
         others = apart-others (w .front) (w .it) (w .back) (own-laid .apart-all)
 
         stay : (rs : List Record) → every (apart (w .it)) rs ≡ true → recordRows (removed s (length (w .front)) .area) rs ≡ recordRows (s .area) rs
-        stay rs a = ap (λ (x : List ℕ). recordRows x rs) area-is ∙ rows-stay (s .area) (w .it .start) zeros fits (w .it) rs refl (sym (length-replicate {A = ℕ} (w .it .len) 0)) a
+        stay rs a =
+            ap (λ (x : List ℕ). recordRows x rs) area-is ∙ rows-stay (s .area) (w .it .start) zeros fits (w .it) rs refl
+            (sym (length-replicate {A = ℕ} (w .it .len) 0)) a
 
   -- "inserts a row 0002", its name in free bytes
   pub inserted-done : (w : Gap (s .area) (held s) n) (start : ℕ) → lawfulName n ≡ true → belowNoInferiors (storeRows s) n ≡ false
@@ -297,7 +375,7 @@ module _ (s : Store) (n : List ℕ) (sp : StoreParts s) where
   inserted-done w start l b f few room = go (drop (s .count) (s .records)) (parts-whole s (w .front) [] (w .back) (sp .counted) (w .whole))
     where
       it : Record
-      it = record { flags = 0x0002; start = start; len = length n }
+      it = record { flags = 0x0002; start = start; len = length n; readers = 0xFF }
 
       others : every (apart it) (w .front ++ w .back) ≡ true
       others = mem-every (apart it) (w .front ++ w .back)
@@ -313,7 +391,8 @@ module _ (s : Store) (n : List ℕ) (sp : StoreParts s) where
       row : NewRows s n (record { flags = 0x0002; name = n } ∷ [])
       row = one-row s n 0x0002 l (two .0) (open-for s n b) (λ e. absurd (false≢true (sym (two .1) ∙ e)))
 
-      go : (spare : List Record) → Parts s (w .front) [] (w .back) spare → Done s (inserted s (length (w .front)) start n) n (record { flags = 0x0002; name = n } ∷ [])
+      go : (spare : List Record) → Parts s (w .front) [] (w .back) spare →
+          Done s (inserted s (length (w .front)) start n) n (record { flags = 0x0002; name = n } ∷ [])
       go [] p = absurd (omega (arith, parts-length s (w .front) [] (w .back) [] p))
       go (x ∷ spare) p =
           done s (inserted s (length (w .front)) start n) n sp (w .front) [] (it ∷ []) (w .back) (x ∷ spare) spare p
@@ -322,13 +401,15 @@ module _ (s : Store) (n : List ℕ) (sp : StoreParts s) where
           (rows-stay (s .area) start n (f .inside) it (w .front) refl refl (every-left (apart it) (w .front) (w .back) others))
           (rows-stay (s .area) start n (f .inside) it (w .back) refl refl (every-right (apart it) (w .front) (w .back) others))
           named (w .lower) (w .higher) (empty-row n) row
-          (laid-put (s .area) (overwritten (s .area) start n) lengths (w .front) it (w .back) (subst (LaidParts (s .area)) (w .whole) (sp .laid)) (inside-area (s .area) it (f .inside)) others)
-          (omega arith)
+          (laid-put (s .area) (overwritten (s .area) start n) lengths (w .front) it (w .back) (subst (LaidParts (s .area)) (w .whole) (sp .laid))
+          (inside-area (s .area) it (f .inside)) others)
+          (omega arith) refl refl
 
   -- a name with no row, and none afterwards
   pub unchanged-done : Gap (s .area) (held s) n → Done s s n []
   unfolding recordRows
   unchanged-done w =
       let p = parts-whole s (w .front) [] (w .back) (sp .counted) (w .whole) in
-      done s s n sp (w .front) [] [] (w .back) (drop (s .count) (s .records)) (drop (s .count) (s .records)) p p [] refl refl refl refl refl (w .lower) (w .higher) (empty-row n) (no-row s n)
-      (subst (LaidParts (s .area)) (w .whole) (sp .laid)) (few-rows s sp)
+      done s s n sp (w .front) [] [] (w .back) (drop (s .count) (s .records)) (drop (s .count) (s .records)) p p [] refl refl refl refl refl
+      (w .lower) (w .higher) (empty-row n) (no-row s n)
+      (subst (LaidParts (s .area)) (w .whole) (sp .laid)) (few-rows s sp) refl refl

@@ -66,7 +66,7 @@ none-lower rs n h =
     turned : (x : List ℕ) → byteOrder n x ≡ Ordering·lt → byteOrder x n ≡ Ordering·gt
     turned x e = bytes-total .turned n x ∙ ap swap e
 
-none-named : (rs : List Row) (n : List ℕ) → allHigher rs n → hasRow rs n ≡ true → ⊥
+pub none-named : (rs : List Row) (n : List ℕ) → allHigher rs n → hasRow rs n ≡ true → ⊥
 unfolding hasRow
 none-named rs n h e =
     let w = some-mem (λ (r : Row). same (r .name) n) rs e in

@@ -9,7 +9,8 @@ use Rattle.listing_rules.specs.Names.{lawfulName}
 use Rattle.listing_rules.specs.Flags.{exists, subscribed, remote, noSelect, noInferiors, marked, unmarked, uses, hasUse, lawfulFlags}
 use Rattle.listing_rules.specs.Table.{rows, names, noneBelow, rowsPass, passes, rowAt, rowsAfter, packedRows, rowsFill, packedTable, hasRow, flagsOf}
 use Rattle.listing_rules.specs.Records.{rowOf, recordRows, liesInside, apart, allApart, laidOut, recordTable, recordsAfter, packedRecords}
-use Rattle.listing_rules.specs.Subscriptions.{storeTable, held, storeRows, spelledAs, spelled, rowsBefore, belowNoInferiors, uses as usesByte}
+use Rattle.listing_rules.specs.Readers.{isReader, sees, visible, seen, recordsSeen, packedSeen}
+use Rattle.listing_rules.specs.Subscriptions.{storeTable, storeSeen, held, storeRows, spelledAs, spelled, rowsBefore, belowNoInferiors, uses as usesByte}
 use Rattle.listing_rules.specs.Subscriptions.{freeFrom, freeFront, lowestRun, freeRun, overwritten, withSubscribed, withoutSubscribed, zeroRecord}
 use Rattle.listing_rules.specs.Subscriptions.{nth, flagged, inserted, removed, insertion, subscribing, unsubscribing, edited, storeAfter, isIn}
 use Rattle.listing_rules.specs.Subscriptions.{subscribedNames, setEdited, setAfter, editedAll, setAll}
@@ -33,7 +34,8 @@ use Rattle.listing_rules.specs.Lines.{attributeNames, chosen, spacedTail
 use Rattle.listing_rules.specs.Lines.{childInfoText, wordLine, listLine, rootLine, okLine}
 use Rattle.listing_rules.specs.Lsub.{isSubscribed, subscribedMatch, subscribedBelow, aboveSubscribed, lsubListed, lsubNames, lsubAttributes, lsubLine}
 use Rattle.listing_rules.specs.Server.{lineOf, listAnswer, lsubAnswer, delimiterText, entryText, classText, namespaceAnswer, answerTo, answer}
-use Rattle.listing_rules.specs.Server.{limited, bufferAfter, numberOf, isAnswered, lengthOf, served, attempted, unchangedBy, concluded, commanded}
+use Rattle.listing_rules.specs.Server.{limited, bufferAfter, numberOf, isAnswered, lengthOf, served, fromReader, servedTo}
+use Rattle.listing_rules.specs.Server.{attempted, unchangedBy, concluded, commandedOver, commanded}
 use Rattle.listing_rules.specs.Series.{sentTo, commandedAll, setCommanded, setSent}
 use Rattle.listing_rules.specs.Compaction.{usedFrom, placeAfter, moved, compacted, compaction}
 use Rattle.listing_rules.specs.Reader.{separated, readChosen, criteriaSets, readAmong, childInfoRead, readParts, orBad, readLine}
@@ -42,12 +44,12 @@ use Rattle.listing_rules.specs.Reader.{rootParts, lineFrom, written}
 use Rattle.listing_rules.specs.Walk.{wantsRemote, wantsSpecial, dropsSubscribed, lawfulByte, when, commandLine, linesOf, packed}
 use Rattle.listing_rules.specs.Walk.{_then_, attr, useAttr, isFind, withName, fits, takenIn, takenAll, replied, asked}
 use Rattle.listing_rules.specs.Walk.{walkFrom, walkAll, ended, walk, walkNumber, walkCount, foundLength, zeroBehind, foundAfter}
-use Rattle.listing_rules.specs.Walk.{pendingAfter, scratchAfter, collected}
+use Rattle.listing_rules.specs.Walk.{pendingAfter, scratchAfter, collected, walkBy, collectedBy}
 use Rattle.listing_rules.specs.Demand3.{walkOptions, meetingNames, meetingAncestors, declaredWalk, walkAnswer, scratchTooSmall}
 use Rattle.listing_rules.specs.Demand3.{foundTooSmall, pendingTooSmall, tooSmall, Demand3}
-use Rattle.listing_rules.specs.Frames.{digit, bytesOf, walkFrame, frameOf, readFrame, hexDigit, hex, answerLine, refusalLine}
+use Rattle.listing_rules.specs.Frames.{digit, bytesOf, commandFrame, walkFrame, frameOf, readFrame, hexDigit, hex, answerLine, refusalLine}
 use Rattle.listing_rules.specs.Frames.{replyLine, walkLine, answering, addRow, addEntry, framed, step, start, fed, behind, fedAll}
-use Rattle.listing_rules.specs.Frames.{atEnd, programOutput, recordsFrom, filledTo, programStore, keptTable, keptStore}
+use Rattle.listing_rules.specs.Frames.{atEnd, programOutput, recordsFrom, filledTo, programStore, keptSeen, keptStore}
 use Rattle.listing_rules.specs.Frames.{addRowTo, commandOver, accepted, commandStep}
 
 unfoldable pub openBytes : Unit {0}
@@ -78,8 +80,12 @@ unfoldable pub openRecords : Unit {0}
 unfolding rowOf recordRows liesInside apart allApart laidOut recordTable recordsAfter packedRecords
 openRecords = tt
 
+unfoldable pub openReaders : Unit {0}
+unfolding isReader sees visible seen recordsSeen packedSeen
+openReaders = tt
+
 unfoldable pub openSubscriptions : Unit {0}
-unfolding storeTable held storeRows spelledAs spelled rowsBefore belowNoInferiors usesByte freeFrom freeFront lowestRun freeRun overwritten
+unfolding storeTable storeSeen held storeRows spelledAs spelled rowsBefore belowNoInferiors usesByte freeFrom freeFront lowestRun freeRun overwritten
     withSubscribed withoutSubscribed zeroRecord nth flagged inserted removed insertion subscribing unsubscribing edited storeAfter isIn
     subscribedNames setEdited setAfter editedAll setAll
 openSubscriptions = tt
@@ -89,11 +95,13 @@ unfolding entryAt entriesAfter entries entriesFill lawfulEntry classesRise ofCla
 openNamespaces = tt
 
 unfoldable pub openTokens : Unit {0}
-unfolding got _>>=_ at after withFirst atomByte tagByte astringByte patternByte run unlessEmpty run₁ atom unquoted lineByte quotedText digitByte decimal number literal stringOr astring pattern
+unfolding got _>>=_ at after withFirst atomByte tagByte astringByte patternByte run unlessEmpty run₁ atom unquoted lineByte quotedText digitByte
+    decimal number literal stringOr astring pattern
 openTokens = tt
 
 unfoldable pub openFeeder : Unit {0}
-unfolding endsLine lastIs announcedAt orElse announced goOnLine first gives dropped offends refusing awaiting lineEnded textByte fedByte saying feedAll feedChunks allowed stillOne oneCommand
+unfolding endsLine lastIs announcedAt orElse announced goOnLine first gives dropped offends refusing awaiting lineEnded textByte fedByte saying
+    feedAll feedChunks allowed stillOne oneCommand
 openFeeder = tt
 
 unfoldable pub openOptions : Unit {0}
@@ -110,7 +118,8 @@ unfolding anyTail anyTailInLevel headThen wildMatch matches matchesAny
 openMatch = tt
 
 unfoldable pub openListing : Unit {0}
-unfolding candidates implied meetsCriteria candidateMeets meetsBelow meetsUnmatchedBelow unselective endsInPercent levelAbove listed childInfo hasChildren inOrder attributesFor attributes listedNames
+unfolding candidates implied meetsCriteria candidateMeets meetsBelow meetsUnmatchedBelow unselective endsInPercent levelAbove listed childInfo
+    hasChildren inOrder attributesFor attributes listedNames
 openListing = tt
 
 unfoldable pub openLines : Unit {0}
@@ -123,7 +132,7 @@ openLsub = tt
 
 unfoldable pub openServer : Unit {0}
 unfolding lineOf listAnswer lsubAnswer delimiterText entryText classText namespaceAnswer answerTo answer limited bufferAfter numberOf isAnswered
-    lengthOf served attempted unchangedBy concluded commanded
+    lengthOf served fromReader servedTo attempted unchangedBy concluded commandedOver commanded
 openServer = tt
 
 unfoldable pub openSeries : Unit {0}
@@ -142,6 +151,7 @@ openReader = tt
 unfoldable pub openWalk : Unit {0}
 unfolding wantsRemote wantsSpecial dropsSubscribed lawfulByte when commandLine linesOf packed _then_ attr useAttr isFind withName fits takenIn
     takenAll replied asked walkFrom walkAll ended walk walkNumber walkCount foundLength zeroBehind foundAfter pendingAfter scratchAfter collected
+    walkBy collectedBy
 openWalk = tt
 
 unfoldable pub openDemand3 : Unit {0}
@@ -149,12 +159,14 @@ unfolding walkOptions meetingNames meetingAncestors declaredWalk walkAnswer scra
 openDemand3 = tt
 
 unfoldable pub openFrames : Unit {0}
-unfolding digit bytesOf walkFrame frameOf readFrame hexDigit hex answerLine refusalLine replyLine walkLine recordsFrom filledTo programStore keptTable
+unfolding digit bytesOf commandFrame walkFrame frameOf readFrame hexDigit hex answerLine refusalLine replyLine walkLine recordsFrom filledTo
+    programStore keptSeen
     keptStore answering addRowTo addRow addEntry commandOver accepted commandStep framed step start fed behind fedAll atEnd programOutput
 openFrames = tt
 
 -- opens every definition that the cases of the two tables compute
 unfoldable pub openAll : Unit {0}
-unfolding openBytes openLists openOrders openNames openFlags openTable openRecords openSubscriptions openNamespaces openTokens openFeeder openOptions
+unfolding openBytes openLists openOrders openNames openFlags openTable openRecords openReaders openSubscriptions openNamespaces openTokens openFeeder
+    openOptions
     openCommand openMatch openListing openLines openLsub openServer openSeries openCompaction openReader openWalk openDemand3 openFrames
 openAll = tt

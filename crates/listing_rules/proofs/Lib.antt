@@ -33,12 +33,13 @@ pub mod Demand3
 pub mod RecordLaws
 pub mod RecordPlaces
 pub mod Alike
+pub mod EditLists
+pub mod ReaderLaws
 pub mod InputCut
 pub mod Places
 pub mod Tables
 pub mod LsubLaws
 pub mod FreeRuns
-pub mod EditLists
 pub mod EditRows
 pub mod EditPlaces
 pub mod EditBytes
@@ -48,10 +49,12 @@ pub mod EditPasses
 pub mod SubscriptionLaws
 pub mod ProgramStore
 pub mod CommandLaws
+pub mod SeenAlike
 pub mod SpareLaws
 pub mod UsedBytes
 pub mod CompactionLaws
 pub mod CompactionCommands
+pub mod EditReaders
 pub mod CompactionSpare
 pub mod WalkReads
 pub mod LineLength

@@ -1,5 +1,6 @@
 -- The store that the program makes of its packed bytes at the first accepted edit (W6): it has 512 records and 16,384 name bytes, it is the packed
--- table, and so a command over the packed bytes is the command over that store. Rests on Passes and EditLayout.
+-- table, every reader sees the same of both (W9), and so a command over the packed bytes is the command over that store. Rests on Passes, RecordLaws
+-- and EditLayout.
 use mathlib.Core.Path.{_≡_, refl, sym, ap, _∙_}
 use mathlib.Core.Bool.{Bool, true, false, cond, _&&_, _||_}
 use mathlib.Core.List.{List, [], _∷_, _++_, append-assoc}
@@ -8,70 +9,107 @@ use Prim.Native.Nat.{ℕ, zero, suc, _+_, _-_, _≤_}
 use native.Mathlib.Omega.{arith}
 use lib.Dec.{leb}
 use lib.ListN.{length, take, drop, getD, replicate, length-append, length-replicate, length-take, length-drop}
-use lib.Seq.{take-append-seam, drop-append-seam, drop-drop, take-at}
-use borrow.Author.Tests.{le-leb}
-use Rattle.listing_rules.specs.Lists.{every, joined}
+use lib.Seq.{drop-drop, take-at, drop-at}
+use borrow.Author.Tests.{le-leb, leb-true}
+use Rattle.listing_rules.specs.Bytes.{bit}
+use Rattle.listing_rules.specs.Lists.{every, keep, joined}
 use Rattle.listing_rules.specs.Table.{Row, Table, rows, names, passes, rowAt, rowsAfter, packedRows, rowsFill, packedTable}
-use Rattle.listing_rules.specs.Records.{Record, rowOf, recordRows, liesInside, apart, allApart, recordTable}
-use Rattle.listing_rules.specs.Subscriptions.{Store, storeTable, zeroRecord}
-use Rattle.listing_rules.specs.Command.{parsed}
-use Rattle.listing_rules.specs.Server.{answer, attempted, concluded, commanded}
-use Rattle.listing_rules.specs.Frames.{bytes, records, recordsFrom, filledTo, programStore, keptTable, keptStore, commandOver}
-use Rattle.listing_rules.proofs.Bools.{and-i, or-l}
-use Rattle.listing_rules.proofs.Passes.{passes-some}
+use Rattle.listing_rules.specs.Records.{Record, rowOf, recordRows, liesInside, apart, allApart, recordTable, packedRecords}
+use Rattle.listing_rules.specs.Readers.{sees, visible, seen, recordsSeen, packedSeen}
+use Rattle.listing_rules.specs.Subscriptions.{Store, storeTable, storeSeen, zeroRecord}
+use Rattle.listing_rules.specs.Server.{answer, commandedOver, commanded}
+use Rattle.listing_rules.specs.Frames.{bytes, records, recordsFrom, filledTo, programStore, keptSeen, keptStore, commandOver}
+use Rattle.listing_rules.proofs.Bools.{and-l, and-r, and-i, or-l}
+use Rattle.listing_rules.proofs.ListLaws.{mem-every}
+use Rattle.listing_rules.proofs.Passes.{packed-parts, packed-some}
+use Rattle.listing_rules.proofs.RecordLaws.{packed-rows-are, packed-inside}
+use Rattle.listing_rules.proofs.EditLists.{keep-all}
 use Rattle.listing_rules.proofs.EditLayout.{LaidParts, parts-laid}
 
 -- how many bytes the names have
 abbrev pub namesLength : List Row → ℕ
 namesLength rs = length (joined (names rs))
 
--- names without gaps from a place on: the records mean the rows
-rows-at : (area : List ℕ) (rs : List Row) (at : ℕ) (z : List ℕ) → drop at area ≡ joined (names rs) ++ z → recordRows area (recordsFrom at rs) ≡ rs
-unfolding recordRows recordsFrom rowOf joined names
-rows-at area [] at z e = refl
-rows-at area (r ∷ rs) at z e =
-    let whole = e ∙ append-assoc (r .name) (joined (names rs)) z in
-    let first : take (length (r .name)) (drop at area) ≡ r .name = ap (take (length (r .name))) whole ∙ take-append-seam (r .name) (joined (names rs) ++ z) in
-    let after : drop (at + length (r .name)) area ≡ joined (names rs) ++ z = sym (drop-drop (length (r .name)) at area)
-    ∙ ap (drop (length (r .name))) whole ∙ drop-append-seam (r .name) (joined (names rs) ++ z) in
-    let rest = rows-at area rs (at + length (r .name)) z after in
-    λ i. record { flags = r .flags; name = first i } ∷ rest i
+-- a name that lies inside is as long as its record says
+name-length : (t : List ℕ) (r : Record) → liesInside t r ≡ true → length (rowOf t r .name) ≡ r .len
+unfolding liesInside rowOf
+name-length t r h =
+    omega (arith, leb-true (r .start + r .len) (length t) h, length-take (r .len) (drop (r .start) t), length-drop (r .start) t)
 
-rows-from : (before : List ℕ) (rs : List Row) (z : List ℕ) → recordRows (before ++ (joined (names rs) ++ z)) (recordsFrom (length before) rs) ≡ rs
-rows-from before rs z = rows-at (before ++ (joined (names rs) ++ z)) rs (length before) z (drop-append-seam before (joined (names rs) ++ z))
+-- Names without gaps from a place on: of those records whose readers pass a test, the rows are the same as before.
+rows-at : (p : ℕ → Bool) (t area : List ℕ) (rs : List Record) (at : ℕ) (z : List ℕ) → every (liesInside t) rs ≡ true →
+    drop at area ≡ joined (names (recordRows t rs)) ++ z
+    → recordRows area (keep (λ r. p (r .readers)) (recordsFrom at rs)) ≡ recordRows t (keep (λ r. p (r .readers)) rs)
+unfolding recordRows recordsFrom keep every joined names
+rows-at p t area [] at z h e = refl
+rows-at p t area (r ∷ rs) at z h e =
+    pick (p (r .readers)) (rows-at p t area rs (at + r .len) z (and-r (liesInside t r) (every (liesInside t) rs) h) after)
+  where
+    name : List ℕ
+    name = rowOf t r .name
 
--- a record for each row
-pub count-from : (at : ℕ) (rs : List Row) → length (recordsFrom at rs) ≡ length rs
+    size : length name ≡ r .len
+    size = name-length t r (and-l (liesInside t r) (every (liesInside t) rs) h)
+
+    whole : drop at area ≡ name ++ (joined (names (recordRows t rs)) ++ z)
+    whole = e ∙ append-assoc name (joined (names (recordRows t rs))) z
+
+    after : drop (at + r .len) area ≡ joined (names (recordRows t rs)) ++ z
+    after = sym (drop-drop (r .len) at area) ∙ ap (drop (r .len)) whole ∙ drop-at name (joined (names (recordRows t rs)) ++ z) (r .len) size
+
+    placed : Record
+    placed = record { flags = r .flags; start = at; len = r .len; readers = r .readers }
+
+    first : rowOf area placed ≡ rowOf t r
+    first = unfold rowOf in
+        let named : take (r .len) (drop at area) ≡ name = ap (take (r .len)) whole ∙ take-at name (joined (names (recordRows t rs)) ++ z) (r .len)
+        size in
+        λ i. record { flags = r .flags; name = named i }
+
+    old : List Record
+    old = keep (λ q. p (q .readers)) rs
+
+    new : List Record
+    new = keep (λ q. p (q .readers)) (recordsFrom (at + r .len) rs)
+
+    pick : (o : Bool) → recordRows area new ≡ recordRows t old → recordRows area (cond o (placed ∷ new) new) ≡ recordRows t (cond o (r ∷ old) old)
+    pick true ih = λ i. first i ∷ ih i
+    pick false ih = ih
+
+-- a record for each record
+pub count-from : (at : ℕ) (rs : List Record) → length (recordsFrom at rs) ≡ length rs
 unfolding recordsFrom
 count-from at [] = refl
-count-from at (r ∷ rs) = ap suc (count-from (at + length (r .name)) rs)
+count-from at (r ∷ rs) = ap suc (count-from (at + r .len) rs)
 
 -- "Names lie inside the area"
-inside-from : (area : List ℕ) (at : ℕ) (rs : List Row) → at + namesLength rs ≤ length area → every (liesInside area) (recordsFrom at rs) ≡ true
-unfolding recordsFrom every liesInside joined names
-inside-from area at [] h = refl
-inside-from area at (r ∷ rs) h =
-    let l = length-append (r .name) (joined (names rs)) in
-    and-i (leb (at + length (r .name)) (length area)) (every (liesInside area) (recordsFrom (at + length (r .name)) rs))
-    (le-leb (at + length (r .name)) (length area) (omega (arith, h, l)))
-    (inside-from area (at + length (r .name)) rs (omega (arith, h, l)))
+inside-from : (t area : List ℕ) (at : ℕ) (rs : List Record) → every (liesInside t) rs ≡ true → at + namesLength (recordRows t rs) ≤ length area
+    → every (liesInside area) (recordsFrom at rs) ≡ true
+unfolding recordsFrom every liesInside recordRows joined names
+inside-from t area at [] i h = refl
+inside-from t area at (r ∷ rs) i h =
+    let l = length-append (rowOf t r .name) (joined (names (recordRows t rs))) in
+    let n = name-length t r (and-l (liesInside t r) (every (liesInside t) rs) i) in
+    and-i (leb (at + r .len) (length area)) (every (liesInside area) (recordsFrom (at + r .len) rs))
+    (le-leb (at + r .len) (length area) (omega (arith, h, l, n)))
+    (inside-from t area (at + r .len) rs (and-r (liesInside t r) (every (liesInside t) rs) i) (omega (arith, h, l, n)))
 
 -- "without overlap": each name starts where the one before it ends
-apart-from : (w : Record) (at : ℕ) (rs : List Row) → w .start + w .len ≤ at → every (apart w) (recordsFrom at rs) ≡ true
+apart-from : (w : Record) (at : ℕ) (rs : List Record) → w .start + w .len ≤ at → every (apart w) (recordsFrom at rs) ≡ true
 unfolding recordsFrom every apart
 apart-from w at [] h = refl
 apart-from w at (r ∷ rs) h =
-    and-i (leb (w .start + w .len) at || leb (at + length (r .name)) (w .start)) (every (apart w) (recordsFrom (at + length (r .name)) rs))
-    (or-l (leb (w .start + w .len) at) (leb (at + length (r .name)) (w .start)) (le-leb (w .start + w .len) at h))
-    (apart-from w (at + length (r .name)) rs (omega (arith, h)))
+    and-i (leb (w .start + w .len) at || leb (at + r .len) (w .start)) (every (apart w) (recordsFrom (at + r .len) rs))
+    (or-l (leb (w .start + w .len) at) (leb (at + r .len) (w .start)) (le-leb (w .start + w .len) at h))
+    (apart-from w (at + r .len) rs (omega (arith, h)))
 
-all-apart-from : (at : ℕ) (rs : List Row) → allApart (recordsFrom at rs) ≡ true
+all-apart-from : (at : ℕ) (rs : List Record) → allApart (recordsFrom at rs) ≡ true
 unfolding recordsFrom allApart
 all-apart-from at [] = refl
 all-apart-from at (r ∷ rs) =
-    let after = recordsFrom (at + length (r .name)) rs in
-    let w : Record = record { flags = r .flags; start = at; len = length (r .name) } in
-    and-i (every (apart w) after) (allApart after) (apart-from w (at + length (r .name)) rs (omega arith)) (all-apart-from (at + length (r .name)) rs)
+    let after = recordsFrom (at + r .len) rs in
+    let w : Record = record { flags = r .flags; start = at; len = r .len; readers = r .readers } in
+    and-i (every (apart w) after) (allApart after) (apart-from w (at + r .len) rs (omega arith)) (all-apart-from (at + r .len) rs)
 
 -- filled up to a length
 length-filled : {A : Type 0} (n : ℕ) (z : A) (xs : List A) → length xs ≤ n → length (filledTo n z xs) ≡ n
@@ -79,13 +117,13 @@ unfolding filledTo
 length-filled n z xs h = omega (arith, h, length-append xs (replicate (n - length xs) z), length-replicate (n - length xs) z)
 
 -- "The program keeps 512 records .. 16,384 bytes"
-pub program-records : (rs : List Row) → length rs ≤ 512 → length (programStore rs .records) ≡ 512
+pub program-records : (t : List ℕ) → length (packedRecords t) ≤ 512 → length (programStore t .records) ≡ 512
 unfolding programStore
-program-records rs h = length-filled 512 zeroRecord (recordsFrom 0 rs) (omega (arith, h, count-from 0 rs))
+program-records t h = length-filled 512 zeroRecord (recordsFrom 0 (packedRecords t)) (omega (arith, h, count-from 0 (packedRecords t)))
 
-program-area : (rs : List Row) → namesLength rs ≤ 16384 → length (programStore rs .area) ≡ 16384
+program-area : (t : List ℕ) → namesLength (packedRows t) ≤ 16384 → length (programStore t .area) ≡ 16384
 unfolding programStore names
-program-area rs h = length-filled 16384 0 (joined (names rs)) h
+program-area t h = length-filled 16384 0 (joined (names (packedRows t))) h
 
 -- the names of packed bytes are no longer than the bytes
 names-after : (skip : ℕ) (u : List ℕ) → namesLength (rowsAfter skip u) ≤ length u - skip
@@ -94,69 +132,111 @@ names-after skip [] = omega arith
 names-after zero (h ∷ u) =
     omega (
       arith,
-      length-append (take (getD u 1 0) (drop 2 u)) (joined (names (rowsAfter (suc (suc (getD u 1 0))) u))),
-      length-take (getD u 1 0) (drop 2 u),
-      length-drop 2 u,
-      names-after (suc (suc (getD u 1 0))) u,
+      length-append (take (getD u 2 0) (drop 3 u)) (joined (names (rowsAfter (suc (suc (suc (getD u 2 0)))) u))),
+      length-take (getD u 2 0) (drop 3 u),
+      length-drop 3 u,
+      names-after (suc (suc (suc (getD u 2 0)))) u,
     )
 names-after (suc k) (h ∷ u) = omega (arith, names-after k u)
 
+pub packed-rows-fit : (t : List ℕ) → namesLength (packedRows t) ≤ length t
+unfolding packedRows
+packed-rows-fit t = omega (arith, names-after 0 t)
+
 pub packed-names-fit : (t : List ℕ) → namesLength (rows (packedTable t)) ≤ length t
-unfolding packedTable rows packedRows names joined
+unfolding packedTable rows names joined
 packed-names-fit t = go (leb (length t) 32768 && rowsFill 0 t)
   where
-    go : (b : Bool) → namesLength (rows (cond b (some (rowsAfter 0 t)) none)) ≤ length t
-    go true = omega (arith, names-after 0 t)
+    go : (b : Bool) → namesLength (rows (cond b (some (packedRows t)) none)) ≤ length t
+    go true = packed-rows-fit t
     go false = omega arith
 
--- the store is the rows that it was made from
-pub program-store-rows : (rs : List Row) → namesLength rs ≤ 16384 → storeTable (programStore rs) ≡ some rs
-unfolding storeTable recordTable
-program-store-rows rs h =
-    rw (
-      hold,
-      le-leb (programStore rs .count) (length (programStore rs .records)) counted,
-      parts-laid (programStore rs .area) (recordsFrom 0 rs) laid,
-      rows-same,
-    )
-  where
-    spare : List Record
-    spare = replicate (512 - length (recordsFrom 0 rs)) zeroRecord
+-- The program's store is the packed table, and a reader sees the same of both.
+module _ (t : List ℕ) (h : length t ≤ 16384) (p : passes (packedTable t) ≡ true) where
+  abbrev laidRecords : List Record
+  laidRecords = recordsFrom 0 (packedRecords t)
 
-    hold : take (programStore rs .count) (programStore rs .records) ≡ recordsFrom 0 rs
-    hold = unfold programStore filledTo in take-at (recordsFrom 0 rs) spare (length rs) (count-from 0 rs)
+  fits : namesLength (packedRows t) ≤ 16384
+  fits = omega (arith, h, packed-rows-fit t)
 
-    counted : programStore rs .count ≤ length (programStore rs .records)
-    counted = unfold programStore filledTo in omega (arith, length-append (recordsFrom 0 rs) spare, count-from 0 rs)
+  inside : every (liesInside t) (packedRecords t) ≡ true
+  inside = packed-inside t (packed-parts t p .fills)
 
-    laid : LaidParts (programStore rs .area) (recordsFrom 0 rs)
-    laid =
-        record {
-          small = omega (arith, program-area rs h);
-          inside = inside-from (programStore rs .area) 0 rs (omega (arith, h, program-area rs h));
-          apart-all = all-apart-from 0 rs;
-        }
+  pub program-holds : take (programStore t .count) (programStore t .records) ≡ laidRecords
+  unfolding programStore filledTo
+  program-holds = take-at laidRecords (replicate (512 - length laidRecords) zeroRecord) (length (packedRecords t)) (count-from 0 (packedRecords t))
 
-    rows-same : recordRows (programStore rs .area) (recordsFrom 0 rs) ≡ rs
-    rows-same = unfold programStore filledTo names in rows-from [] rs (replicate (16384 - namesLength rs) 0)
+  -- the names lie in the area, one after the other
+  area-is : drop 0 (programStore t .area) ≡ joined (names (recordRows t (packedRecords t))) ++ replicate (16384 - namesLength (packedRows t)) 0
+  unfolding programStore filledTo
+  area-is = ap (λ (rs : List Row). joined (names rs) ++ replicate (16384 - namesLength (packedRows t)) 0) (sym (packed-rows-are t))
 
--- The program's store is the packed table.
-program-store-table : (t : List ℕ) → length t ≤ 16384 → passes (packedTable t) ≡ true → storeTable (programStore (rows (packedTable t))) ≡ packedTable t
-program-store-table t h p =
-    program-store-rows (rows (packedTable t)) (omega (arith, h, packed-names-fit t))
-    ∙ sym (passes-some (packedTable t) p)
+  -- those whose readers pass a test mean the same rows
+  rows-from : (q : ℕ → Bool) → recordRows (programStore t .area) (keep (λ r. q (r .readers)) laidRecords) ≡ recordRows t
+      (keep (λ r. q (r .readers)) (packedRecords t))
+  rows-from q = rows-at q t (programStore t .area) (packedRecords t) 0 (replicate (16384 - namesLength (packedRows t)) 0) inside area-is
 
--- so a command is answered over the packed bytes as over the store
-module _ (t : List ℕ) (h : length t ≤ 16384) (p : passes (packedTable t) ≡ true) (spaces l : List ℕ) where
-  pub answered-over-store : answer (keptTable (bytes t)) spaces l ≡ answer (storeTable (keptStore (bytes t))) spaces l
-  unfolding keptTable keptStore
-  answered-over-store = ap (λ (u : Table). answer u spaces l) (sym (program-store-table t h p))
+  pub program-store-table : storeTable (programStore t) ≡ packedTable t
+  unfolding storeTable recordTable
+  program-store-table =
+      rw (
+        program-holds,
+        le-leb (programStore t .count) (length (programStore t .records)) counted,
+        parts-laid (programStore t .area) laidRecords laid,
+      ) (ap some (rows-same ∙ packed-rows-are t) ∙ sym (packed-some t (packed-parts t p .size) (packed-parts t p .fills)))
+    where
+      counted : programStore t .count ≤ length (programStore t .records)
+      counted = unfold programStore filledTo in
+          omega (arith, length-append laidRecords (replicate (512 - length laidRecords) zeroRecord), count-from 0 (packedRecords t))
 
-  pub command-over-bytes : (buffer : List ℕ) → length buffer ≡ 16384 → commandOver (bytes t) spaces l ≡ commanded (keptStore (bytes t)) spaces l buffer
+      laid : LaidParts (programStore t .area) laidRecords
+      laid =
+          record {
+            small = omega (arith, program-area t fits);
+            inside = inside-from t (programStore t .area) 0 (packedRecords t) inside
+                (omega (arith, fits, program-area t fits, ap namesLength (packed-rows-are t)));
+            apart-all = all-apart-from 0 (packedRecords t);
+          }
+
+      any : Record → Bool
+      any r = true
+
+      every-any : (rs : List Record) → every any rs ≡ true
+      every-any rs = mem-every any rs (λ z m. refl)
+
+      rows-same : recordRows (programStore t .area) laidRecords ≡ recordRows t (packedRecords t)
+      rows-same =
+          ap (recordRows (programStore t .area)) (sym (keep-all any laidRecords (every-any laidRecords)))
+          ∙ rows-from (λ n. true)
+          ∙ ap (recordRows t) (keep-all any (packedRecords t) (every-any (packedRecords t)))
+
+  pub program-store-passes : passes (storeTable (programStore t)) ≡ true
+  program-store-passes = ap passes program-store-table ∙ p
+
+  pub program-store-seen : (reader : ℕ) → storeSeen reader (programStore t) ≡ packedSeen reader t
+  unfolding storeSeen recordsSeen packedSeen storeTable
+  program-store-seen reader =
+      let visible-same : visible reader (programStore t .area) (take (programStore t .count) (programStore t .records)) ≡ visible reader t
+      (packedRecords t)
+      = ap (visible reader (programStore t .area)) program-holds ∙ (unfold visible sees in rows-from (bit reader)) in
+      λ i. seen (program-store-table i) (visible-same i)
+
+-- So a reader's command is answered over the packed bytes as over the store.
+module _ (reader : ℕ) (t : List ℕ) (h : length t ≤ 16384) (p : passes (packedTable t) ≡ true) (spaces l : List ℕ) where
+  kept-seen : keptSeen reader (bytes t) ≡ storeSeen reader (keptStore (bytes t))
+  unfolding keptSeen keptStore
+  kept-seen = sym (program-store-seen t h p reader)
+
+  pub answered-over-store : answer (keptSeen reader (bytes t)) spaces l ≡ answer (storeSeen reader (keptStore (bytes t))) spaces l
+  answered-over-store = ap (λ (u : Table). answer u spaces l) kept-seen
+
+  pub command-over-bytes : (buffer : List ℕ) → length buffer ≡ 16384 →
+      commandOver reader (bytes t) spaces l ≡ commanded reader (keptStore (bytes t)) spaces l buffer
   unfolding commandOver commanded
-  command-over-bytes buffer b = let room = sym b in λ i. concluded (keptStore (bytes t)) (room i) (attempted (keptStore (bytes t)) (parsed l)) (answered-over-store i)
+  command-over-bytes buffer b = let room = sym b in λ i. commandedOver reader (keptStore (bytes t)) (kept-seen i) spaces l (room i)
 
 -- and over the store that is kept from the first accepted edit on
-pub command-over-records : (s : Store) (spaces l buffer : List ℕ) → length buffer ≡ 16384 → commandOver (records s) spaces l ≡ commanded s spaces l buffer
-unfolding commandOver commanded keptTable keptStore
-command-over-records s spaces l buffer b = ap (λ (n : ℕ). concluded s n (attempted s (parsed l)) (answer (storeTable s) spaces l)) (sym b)
+pub command-over-records : (reader : ℕ) (s : Store) (spaces l buffer : List ℕ) → length buffer ≡ 16384 →
+    commandOver reader (records s) spaces l ≡ commanded reader s spaces l buffer
+unfolding commandOver commanded keptSeen keptStore
+command-over-records reader s spaces l buffer b = ap (λ (n : ℕ). commandedOver reader s (storeSeen reader s) spaces l n) (sym b)

@@ -20,27 +20,31 @@ records-drop (suc k) at (x ∷ t) = let e : suc at + k ≡ at + suc k = omega ar
 
 -- the record whose row begins at a place
 abbrev pub recordThere : List ℕ → ℕ → Record
-recordThere t at = record { flags = 256 * getD t at 0 + getD t (at + 1) 0; start = at + 3; len = getD t (at + 2) 0 }
+recordThere t at = record { flags = 256 * getD t at 0 + getD t (at + 1) 0; start = at + 4; len = getD t (at + 3) 0; readers = getD t (at + 2) 0 }
 
 module _ (t : List ℕ) (at : ℕ) where
   pub records-end : length t ≤ at → recordsAfter at 0 (drop at t) ≡ []
   unfolding recordsAfter
   records-end h = rw (drop-of-length-le t h)
 
-  pub records-at : at < length t → recordsAfter at 0 (drop at t) ≡ recordThere t at ∷ recordsAfter (at + 3 + getD t (at + 2) 0) 0 (drop (at + 3 + getD t (at + 2) 0) t)
+  pub records-at : at < length t → recordsAfter at 0 (drop at t) ≡ recordThere t at ∷
+      recordsAfter (at + 4 + getD t (at + 3) 0) 0 (drop (at + 4 + getD t (at + 3) 0) t)
   unfolding recordsAfter
   records-at h =
       let a : suc at + 0 ≡ at + 1 = omega arith in
       let b : suc at + 1 ≡ at + 2 = omega arith in
-      let c : suc at + suc (suc (getD t (at + 2) 0)) ≡ at + 3 + getD t (at + 2) 0 = omega arith in
+      let d : suc at + 2 ≡ at + 3 = omega arith in
+      let c : suc at + suc (suc (suc (getD t (at + 3) 0))) ≡ at + 4 + getD t (at + 3) 0 = omega arith in
       rw (
         drop-cons t at 0 h,
         getD-drop (suc at) t 0 0,
         getD-drop (suc at) t 1 0,
+        getD-drop (suc at) t 2 0,
         a,
         b,
-        records-drop (suc (suc (getD t (at + 2) 0))) (suc at) (drop (suc at) t),
-        drop-drop (suc (suc (getD t (at + 2) 0))) (suc at) t,
+        d,
+        records-drop (suc (suc (suc (getD t (at + 3) 0)))) (suc at) (drop (suc at) t),
+        drop-drop (suc (suc (suc (getD t (at + 3) 0)))) (suc at) t,
         c,
       )
 
@@ -67,7 +71,8 @@ all-apart-snoc [] r a e = refl
 all-apart-snoc (q ∷ rs) r a e =
     and-i (every (apart q) (rs ++ r ∷ [])) (allApart (rs ++ r ∷ []))
     (every-snoc (apart q) rs r
-    ∙ and-i (every (apart q) rs) (apart q r) (and-l (every (apart q) rs) (allApart rs) a) (apart-turned q r ∙ and-l (apart r q) (every (apart r) rs) e))
+    ∙ and-i (every (apart q) rs) (apart q r) (and-l (every (apart q) rs) (allApart rs) a)
+    (apart-turned q r ∙ and-l (apart r q) (every (apart r) rs) e))
     (all-apart-snoc rs r (and-r (every (apart q) rs) (allApart rs) a) (and-r (apart r q) (every (apart r) rs) e))
 
 every-middle : (p : Record → Bool) (rs : List Record) (r : Record) (qs : List Record) → every p (rs ++ r ∷ qs) ≡ true → p r ≡ true

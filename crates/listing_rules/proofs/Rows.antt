@@ -27,28 +27,31 @@ rows-drop (suc k) [] = refl
 rows-drop (suc k) (x ∷ t) = rows-drop k t
 
 -- one row, at a place of the table
-pub fills-row : (t : List ℕ) (n : ℕ) → 3 ≤ length t → getD t 2 0 ≡ n → 3 + n ≤ length t → rowsFill 0 t ≡ rowsFill 0 (drop (3 + n) t)
+pub fills-row : (t : List ℕ) (n : ℕ) → 4 ≤ length t → getD t 3 0 ≡ n → 4 + n ≤ length t → rowsFill 0 t ≡ rowsFill 0 (drop (4 + n) t)
 unfolding rowsFill
 fills-row [] n h e g = absurd (omega arith)
 fills-row (a ∷ []) n h e g = absurd (omega arith)
 fills-row (a ∷ b ∷ []) n h e g = absurd (omega arith)
-fills-row (a ∷ b ∷ c ∷ t) n h e g =
-    let d : 3 + n ≡ suc (suc (suc n)) = omega arith in
-    rw (e, d) (fills-drop n t (omega arith))
+fills-row (a ∷ b ∷ c ∷ []) n h e g = absurd (omega arith)
+fills-row (a ∷ b ∷ c ∷ d ∷ t) n h e g =
+    let k : 4 + n ≡ suc (suc (suc (suc n))) = omega arith in
+    rw (e, k) (fills-drop n t (omega arith))
 
-fills-bad : (t : List ℕ) (n : ℕ) → 3 ≤ length t → getD t 2 0 ≡ n → length t < 3 + n → rowsFill 0 t ≡ false
+fills-bad : (t : List ℕ) (n : ℕ) → 4 ≤ length t → getD t 3 0 ≡ n → length t < 4 + n → rowsFill 0 t ≡ false
 unfolding rowsFill
 fills-bad [] n h e g = absurd (omega arith)
 fills-bad (a ∷ []) n h e g = absurd (omega arith)
 fills-bad (a ∷ b ∷ []) n h e g = absurd (omega arith)
-fills-bad (a ∷ b ∷ c ∷ t) n h e g = rw e (fills-short n t (omega arith))
+fills-bad (a ∷ b ∷ c ∷ []) n h e g = absurd (omega arith)
+fills-bad (a ∷ b ∷ c ∷ d ∷ t) n h e g = rw e (fills-short n t (omega arith))
 
-fills-stub : (t : List ℕ) → 0 < length t → length t < 3 → rowsFill 0 t ≡ false
+fills-stub : (t : List ℕ) → 0 < length t → length t < 4 → rowsFill 0 t ≡ false
 unfolding rowsFill
 fills-stub [] h g = absurd (omega arith)
 fills-stub (a ∷ []) h g = refl
 fills-stub (a ∷ b ∷ []) h g = refl
-fills-stub (a ∷ b ∷ c ∷ t) h g = absurd (omega arith)
+fills-stub (a ∷ b ∷ c ∷ []) h g = refl
+fills-stub (a ∷ b ∷ c ∷ d ∷ t) h g = absurd (omega arith)
 
 -- the same at a place of the table, as a loop over it has them
 module _ (t : List ℕ) (at : ℕ) where
@@ -56,15 +59,15 @@ module _ (t : List ℕ) (at : ℕ) where
   unfolding rowsFill
   at-end h = rw (drop-of-length-le t h)
 
-  pub at-stub : at < length t → length t - at < 3 → rowsFill 0 (drop at t) ≡ false
+  pub at-stub : at < length t → length t - at < 4 → rowsFill 0 (drop at t) ≡ false
   at-stub h g = fills-stub (drop at t) (omega (arith, length-drop at t)) (omega (arith, length-drop at t))
 
-  pub at-bad : 3 ≤ length t - at → length t - at - 3 < getD t (at + 2) 0 → rowsFill 0 (drop at t) ≡ false
-  at-bad h g = fills-bad (drop at t) (getD t (at + 2) 0) (omega (arith, length-drop at t)) (getD-drop at t 2 0) (omega (arith, length-drop at t))
+  pub at-bad : 4 ≤ length t - at → length t - at - 4 < getD t (at + 3) 0 → rowsFill 0 (drop at t) ≡ false
+  at-bad h g = fills-bad (drop at t) (getD t (at + 3) 0) (omega (arith, length-drop at t)) (getD-drop at t 3 0) (omega (arith, length-drop at t))
 
-  pub at-row : 3 ≤ length t - at → getD t (at + 2) 0 ≤ length t - at - 3 → rowsFill 0 (drop at t) ≡ rowsFill 0 (drop (at + 3 + getD t (at + 2) 0) t)
+  pub at-row : 4 ≤ length t - at → getD t (at + 3) 0 ≤ length t - at - 4 → rowsFill 0 (drop at t) ≡ rowsFill 0 (drop (at + 4 + getD t (at + 3) 0) t)
   at-row h g =
-      let n = getD t (at + 2) 0 in
-      let e : at + (3 + n) ≡ at + 3 + n = omega arith in
-      fills-row (drop at t) (getD t (at + 2) 0) (omega (arith, length-drop at t)) (getD-drop at t 2 0) (omega (arith, length-drop at t))
-      ∙ ap (λ (l : List ℕ). rowsFill 0 l) (drop-drop (3 + getD t (at + 2) 0) at t ∙ ap (λ (k : ℕ). drop k t) e)
+      let n = getD t (at + 3) 0 in
+      let e : at + (4 + n) ≡ at + 4 + n = omega arith in
+      fills-row (drop at t) (getD t (at + 3) 0) (omega (arith, length-drop at t)) (getD-drop at t 3 0) (omega (arith, length-drop at t))
+      ∙ ap (λ (l : List ℕ). rowsFill 0 l) (drop-drop (4 + getD t (at + 3) 0) at t ∙ ap (λ (k : ℕ). drop k t) e)

@@ -208,7 +208,7 @@ module _ (s : Store) (n : List ℕ) where
       go (some start) e = (start, refl, rw (lt-ltb (s .count) 512 few, lt-ltb (s .count) (length (s .records)) room))
 
 -- what an accepted edit does
-edited-done : (s t : Store) (e : Edit) → passes (storeTable s) ≡ true → edited s e ≡ stored t → Done s t (nameOf e) (rowAfter (storeRows s) e)
+pub edited-done : (s t : Store) (e : Edit) → passes (storeTable s) ≡ true → edited s e ≡ stored t → Done s t (nameOf e) (rowAfter (storeRows s) e)
 unfolding edited
 edited-done s t (subscribe n) h q = subscribing-done s t (spelled n) (store-parts s h) q
 edited-done s t (unsubscribe n) h q = unsubscribing-done s t (spelled n) (store-parts s h) q

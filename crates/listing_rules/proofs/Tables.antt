@@ -9,6 +9,7 @@ use Rattle.listing_rules.specs.Limits.{lsub-lines, lsub-grammar}
 use Rattle.listing_rules.specs.Limits.{records-layout, records-size, records-answered}
 use Rattle.listing_rules.specs.Limits.{edits-made, edits-inbox, edits-refused, edits-layout, edits-commanded, edits-in-order, edits-in-series, program-edits}
 use Rattle.listing_rules.specs.Limits.{compactions, compactions-size, compactions-make-room}
+use Rattle.listing_rules.specs.Limits.{readers-answered, readers-walked, readers-refused, readers-edits, program-readers}
 use Rattle.listing_rules.specs.Limits.{namespace-classes, uses-by-name, flags-by-name, attributes-together}
 use Rattle.listing_rules.specs.Limits.{children-and-empty-patterns, special-use-selected, quotes-and-wildcards}
 use Rattle.listing_rules.specs.Limits.{childinfo-and-uses-shown, levels-listed, levels-not-listed, levels-counted, inbox-alone}
@@ -92,6 +93,26 @@ compactions-size-hold = refl
 compactions-make-room-hold : failures 1 compactions-make-room ≡ []
 unfolding openAll
 compactions-make-room-hold = refl
+
+readers-answered-hold : failures 1 readers-answered ≡ []
+unfolding openAll
+readers-answered-hold = refl
+
+readers-walked-hold : failures 1 readers-walked ≡ []
+unfolding openAll
+readers-walked-hold = refl
+
+readers-refused-hold : failures 1 readers-refused ≡ []
+unfolding openAll
+readers-refused-hold = refl
+
+readers-edits-hold : failures 1 readers-edits ≡ []
+unfolding openAll
+readers-edits-hold = refl
+
+program-readers-hold : failures 1 program-readers ≡ []
+unfolding openAll
+program-readers-hold = refl
 
 namespace-entries-hold : failures 1 namespace-entries ≡ []
 unfolding openAll
@@ -284,6 +305,11 @@ pub record Limits-hold : Type 0 where
   pub compactions-stand : failures 1 compactions ≡ []
   pub compactions-size-stand : failures 1 compactions-size ≡ []
   pub compactions-make-room-stand : failures 1 compactions-make-room ≡ []
+  pub readers-answered-stand : failures 1 readers-answered ≡ []
+  pub readers-walked-stand : failures 1 readers-walked ≡ []
+  pub readers-refused-stand : failures 1 readers-refused ≡ []
+  pub readers-edits-stand : failures 1 readers-edits ≡ []
+  pub program-readers-stand : failures 1 program-readers ≡ []
   pub namespace-entries-stand : failures 1 namespace-entries ≡ []
   pub namespace-classes-stand : failures 1 namespace-classes ≡ []
   pub uses-by-name-stand : failures 1 uses-by-name ≡ []
@@ -348,6 +374,11 @@ limits-hold =
       compactions-stand = compactions-hold;
       compactions-size-stand = compactions-size-hold;
       compactions-make-room-stand = compactions-make-room-hold;
+      readers-answered-stand = readers-answered-hold;
+      readers-walked-stand = readers-walked-hold;
+      readers-refused-stand = readers-refused-hold;
+      readers-edits-stand = readers-edits-hold;
+      program-readers-stand = program-readers-hold;
       namespace-entries-stand = namespace-entries-hold;
       namespace-classes-stand = namespace-classes-hold;
       uses-by-name-stand = uses-by-name-hold;

@@ -9,24 +9,31 @@ use Rattle.listing_rules.specs.Bytes.{text, crlf, same, isEmpty}
 use Rattle.listing_rules.specs.Lists.{every, anyOf}
 use Rattle.listing_rules.specs.Table.{Table, rows, passes, packedTable}
 use Rattle.listing_rules.specs.Records.{Record, recordTable}
+use Rattle.listing_rules.specs.Readers.{isReader, recordsSeen, packedSeen}
 use Rattle.listing_rules.specs.Command.{Edit}
 use Rattle.listing_rules.specs.Subscriptions.{Store, Edited, denied as refusedEdit, stored, edited, subscribedNames}
 use Rattle.listing_rules.specs.Namespaces.{namespacesPass}
 use Rattle.listing_rules.specs.Feeder.{Event, handed, goOn, denied, quiet, goOnLine, Feeder, reading, inLiteral, dropping, first, feedChunks}
 use Rattle.listing_rules.specs.Options.{criteriaNumber}
-use Rattle.listing_rules.specs.Server.{Reply, refusal, answered, limited, answer, served, numberOf, lengthOf, bufferAfter, commanded}
+use Rattle.listing_rules.specs.Server.{Reply, refusal, answered, answer, limited, fromReader, servedTo, numberOf, lengthOf, bufferAfter, commanded}
 use Rattle.listing_rules.specs.Series.{Sent, commandedAll}
 use Rattle.listing_rules.specs.Compaction.{compaction}
 use Rattle.listing_rules.specs.Reader.{Read, line, root, bad, readLine, readNumber, attributesRead, childInfoOf, nameBytes, sameBools, lineFrom}
 use Rattle.listing_rules.specs.Reader.{written}
-use Rattle.listing_rules.specs.Walk.{lawfulByte, WalkReply, walkRefused, walked, walk, collected, walkNumber, walkCount, foundLength}
+use Rattle.listing_rules.specs.Walk.{lawfulByte, WalkReply, walkRefused, walked, walkBy, collectedBy, walkNumber, walkCount, foundLength}
 use Rattle.listing_rules.specs.Walk.{scratchAfter, foundAfter, pendingAfter}
 use Rattle.listing_rules.specs.Demand3.{declaredWalk, tooSmall}
 use Rattle.listing_rules.specs.Frames.{Kept, bytes, records, programOutput, step, walkLine}
 
--- a row and an entry in bytes
+-- a row of these readers, one that all eight see, and an entry, in bytes
+abbrev pub rowFor : ℕ → ℕ → List ℕ → List ℕ
+rowFor readers f n = f / 256 ∷ f % 256 ∷ readers ∷ length n ∷ n
+
 abbrev pub row : ℕ → List ℕ → List ℕ
-row f n = f / 256 ∷ f % 256 ∷ length n ∷ n
+row f n = rowFor 0xFF f n
+
+abbrev pub mailboxFor : ℕ → ℕ → String → List ℕ
+mailboxFor readers f n = rowFor readers f (text n)
 
 abbrev pub mailbox : ℕ → String → List ℕ
 mailbox f n = row f (text n)
@@ -55,7 +62,18 @@ pub record Lent : Type 0 where
 abbrev pub lentTable : Lent → Table
 lentTable t = recordTable (t .area) (t .records) (t .count)
 
+abbrev pub lentSeen : ℕ → Lent → Table
+lentSeen reader t = recordsSeen reader (t .area) (t .records) (t .count)
+
+-- Where no reader is named, reader 0 asks.
 pub data Case : Type 0 where
+  -- a reader, a table and each of these command lines, with an empty namespace list, are answered so, in a buffer of this length
+  repliesTo : ℕ → List ℕ → ℕ → List (List ℕ) → Reply → Case
+  -- a reader, a table and an option byte, with 16,384 bytes of scratch and 64 of found and of pending, are walked so; as demand 3 declares
+  walksFor : ℕ → List ℕ → ℕ → WalkReply → Case
+  -- of a reader: records, a namespace list and each of these command lines, the others not sent, are answered so, in a buffer of this
+  -- length, and leave this
+  commandsOf : ℕ → Lent → ℕ → List ℕ → List (List ℕ) → Reply → Lent → Case
   -- a table, a namespace list and a command line are answered so, in a buffer of this length
   replies : ℕ → List ℕ → List ℕ → List ℕ → Reply → Case
   -- each of these lines, over an empty table and an empty namespace list, is refused with this number
@@ -120,7 +138,7 @@ abbrev pub sameRecords : List Record → List Record → Bool
 sameRecords [] [] = true
 sameRecords [] (q ∷ qs) = false
 sameRecords (r ∷ rs) [] = false
-sameRecords (r ∷ rs) (q ∷ qs) = eqb (r .flags) (q .flags) && eqb (r .start) (q .start) && eqb (r .len) (q .len) && sameRecords rs qs
+sameRecords (r ∷ rs) (q ∷ qs) = eqb (r .flags) (q .flags) && eqb (r .start) (q .start) && eqb (r .len) (q .len) && eqb (r .readers) (q .readers) && sameRecords rs qs
 
 abbrev pub sameStore : Store → Store → Bool
 sameStore s t = sameRecords (s .records) (t .records) && eqb (s .count) (t .count) && same (s .area) (t .area)
@@ -133,7 +151,7 @@ sameEdited (stored s) (stored t) = sameStore s t
 
 -- a line as it is sent in a series
 abbrev pub sentLine : List ℕ → Sent
-sentLine l = record { namespaces = []; line = l; buffer = times 64 0 }
+sentLine l = record { reader = 0; namespaces = []; line = l; buffer = times 64 0 }
 
 abbrev pub sameNames : List (List ℕ) → List (List ℕ) → Bool
 sameNames [] [] = true
@@ -180,10 +198,14 @@ isFirst (reading kept l) = isEmpty kept
 isFirst (inLiteral kept n) = false
 isFirst (dropping cr) = false
 
--- what demand 3 says of a walk with this result
+-- what demand 3 says of a walk with this result, over the table that the reader sees
 abbrev pub asDeclared : Table → ℕ → ℕ → ℕ → ℕ → WalkReply → Bool
 asDeclared t o s f p (walkRefused k) = not (passes t) || not (lawfulByte o) || tooSmall (rows t) o s f p
 asDeclared t o s f p (walked c fs ps) = not (tooSmall (rows t) o s f p) && sameWalk (declaredWalk t o) (walked c fs ps)
+
+-- a reader's walk comes to this, and so demand 3 declares it
+abbrev pub walksSo : ℕ → Table → ℕ → ℕ → ℕ → ℕ → WalkReply → Bool
+walksSo reader t o s f p r = sameWalk (walkBy reader t o s f p) r && (not (isReader reader) || asDeclared t o s f p r)
 
 -- how many packed bytes are stored: none once there are records
 abbrev pub packedLength : Kept → ℕ
@@ -191,24 +213,28 @@ packedLength (bytes t) = length t
 packedLength (records s) = 0
 
 abbrev pub holds : Case → Bool
-holds (replies room t ns l r) = sameReply (limited room (answer (packedTable t) ns l)) r
-holds (refuses k ls) = every (λ l. sameReply (answer (packedTable []) [] l) (refusal k)) ls
-holds (walks t o s f p r) = sameWalk (walk (packedTable t) o s f p) r && asDeclared (packedTable t) o s f p r
+holds (repliesTo reader t room ls r) = every (λ l. sameReply (fromReader reader (limited room (answer (packedSeen reader t) [] l))) r) ls
+holds (walksFor reader t o r) = walksSo reader (packedSeen reader t) o 16384 64 64 r
+holds (commandsOf reader t room ns ls r u) =
+    every (λ l. let c = commanded reader (lentStore t) ns l (times room 0) in sameReply (c .reply) r && sameStore (c .store) (lentStore u)) ls
+holds (replies room t ns l r) = sameReply (fromReader 0 (limited room (answer (packedSeen 0 t) ns l))) r
+holds (refuses k ls) = every (λ l. sameReply (fromReader 0 (answer (packedSeen 0 []) [] l)) (refusal k)) ls
+holds (walks t o s f p r) = walksSo 0 (packedSeen 0 t) o s f p r
 holds (tables good poor) = every (λ t. passes (packedTable t)) good && not (anyOf (λ t. passes (packedTable t)) poor)
 holds (layouts good poor) = every passes (map lentTable good) && not (anyOf passes (map lentTable poor))
-holds (repliesOver t room ns l r) = sameReply (limited room (answer (lentTable t) ns l)) r
-holds (walksOver t o s f p r) = sameWalk (walk (lentTable t) o s f p) r && asDeclared (lentTable t) o s f p r
+holds (repliesOver t room ns l r) = sameReply (fromReader 0 (limited room (answer (lentSeen 0 t) ns l))) r
+holds (walksOver t o s f p r) = walksSo 0 (lentSeen 0 t) o s f p r
 holds (edits t es r) = passes (lentTable t) && every (λ e. sameEdited (edited (lentStore t) e) r) es
 holds (commands t room ns ls r u) =
-    every (λ l. let c = commanded (lentStore t) ns l (times room 0) in sameReply (c .reply) r && sameStore (c .store) (lentStore u)) ls
+    every (λ l. let c = commanded 0 (lentStore t) ns l (times room 0) in sameReply (c .reply) r && sameStore (c .store) (lentStore u)) ls
 holds (series t ls ns) = sameNames (subscribedNames (commandedAll (lentStore t) (map sentLine ls))) ns
 holds (compacts t k u) = let c = compaction (lentStore t) in eqb (c .number) k && sameStore (c .store) (lentStore u)
 holds (spaces good poor) = every namespacesPass good && not (anyOf namespacesPass poor)
 holds (answersInto d t ns l k n e) =
-    let r = served (packedTable t) ns l d in
+    let r = servedTo 0 (packedSeen 0 t) ns l d in
     eqb (numberOf r) k && eqb (lengthOf r) n && same (bufferAfter d r) e
 holds (walksInto t o s f p k c n f′ p′) =
-    let r = collected (packedTable t) o s f p in
+    let r = collectedBy 0 (packedSeen 0 t) o s f p in
     eqb (walkNumber r) k && eqb (walkCount r) c && eqb (foundLength r) n
     && same (scratchAfter (length s) r) (times (length s) 0) && same (foundAfter (length f) r) f′ && same (pendingAfter (length p) r) p′
 holds (writes room bs n c r) = sameReply (limited room (lineFrom bs n c)) r

@@ -19,7 +19,7 @@ placeAfter rs area k = length (usedFrom rs 0 (take k area))
 
 -- a record whose name has moved
 unfoldable pub moved : List Record → List ℕ → Record → Record
-moved rs area r = record { flags = r .flags; start = placeAfter rs area (r .start); len = r .len }
+moved rs area r = record { flags = r .flags; start = placeAfter rs area (r .start); len = r .len; readers = r .readers }
 
 -- "moves names together, in the order of their starts, so that free bytes form one run of zeros at the end"; "Names, flags, order, spare
 -- records .. stay as they were"

@@ -7,13 +7,14 @@ use lib.ListN.{length, replicate}
 use Prim.Native.Nat.{ℕ, _+_, _-_, _*_, _/_, _%_}
 use Rattle.listing_rules.specs.Bytes.{within, isEmpty, digit0, digit9, capitalA, capitalF, smallA, smallF, LF}
 use Rattle.listing_rules.specs.Lists.{joined}
-use Rattle.listing_rules.specs.Table.{Row, Table, rows, packedTable}
-use Rattle.listing_rules.specs.Records.{Record}
+use Rattle.listing_rules.specs.Table.{Table, names, packedRows}
+use Rattle.listing_rules.specs.Records.{Record, packedRecords}
+use Rattle.listing_rules.specs.Readers.{packedSeen}
 use Rattle.listing_rules.specs.Tokens.{_>>=_}
 use Rattle.listing_rules.specs.Command.{Parsed, isEdit, parsed}
-use Rattle.listing_rules.specs.Subscriptions.{Store, storeTable, zeroRecord}
-use Rattle.listing_rules.specs.Server.{Reply, refusal, answered, isAnswered, answer, Commanded, attempted, concluded}
-use Rattle.listing_rules.specs.Walk.{WalkReply, walkRefused, walked, walk}
+use Rattle.listing_rules.specs.Subscriptions.{Store, storeSeen, zeroRecord}
+use Rattle.listing_rules.specs.Server.{Reply, refusal, answered, isAnswered, Commanded, commandedOver}
+use Rattle.listing_rules.specs.Walk.{WalkReply, walkRefused, walked, walkBy}
 
 -- what the digits A to F, or a to f, have over their numbers, 10 to 15
 abbrev pub capitalOver : ℕ
@@ -40,15 +41,21 @@ bytesOf (h ∷ l ∷ t) =
 pub data Frame : Type 0 where
   tableBytes : List ℕ → Frame
   namespaceBytes : List ℕ → Frame
-  command : List ℕ → Frame
-  walkWith : ℕ → Frame
+  command : ℕ → List ℕ → Frame
+  walkWith : ℕ → ℕ → Frame
   badFrame : Frame
 
--- "57 one option byte": "57 with other than one byte behind it" is a bad frame
+-- W9: "Frames 43 and 57 carry the reader as their first byte (none: 13, as is 57 without exactly one byte more)": a command's reader and
+-- line, a walk's reader and option byte
+unfoldable pub commandFrame : List ℕ → Frame
+commandFrame [] = badFrame
+commandFrame (r ∷ l) = command r l
+
 unfoldable pub walkFrame : List ℕ → Frame
 walkFrame [] = badFrame
-walkFrame (o ∷ []) = walkWith o
-walkFrame (o ∷ x ∷ t) = badFrame
+walkFrame (r ∷ []) = badFrame
+walkFrame (r ∷ o ∷ []) = walkWith r o
+walkFrame (r ∷ o ∷ x ∷ t) = badFrame
 
 -- "4D and a row, or 4E and an entry"; "43 is a command, 57 one option byte"; "another first byte" is a bad frame, and so is an empty one
 unfoldable pub frameOf : Option (List ℕ) → Frame
@@ -56,11 +63,11 @@ frameOf none = badFrame
 frameOf (some []) = badFrame
 frameOf (some (k ∷ bs)) =
     cond (eqb k 0x4D) (tableBytes bs)
-    (cond (eqb k 0x4E) (namespaceBytes bs) (cond (eqb k 0x43) (command bs) (cond (eqb k 0x57) (walkFrame bs) badFrame)))
+    (cond (eqb k 0x4E) (namespaceBytes bs) (cond (eqb k 0x43) (commandFrame bs) (cond (eqb k 0x57) (walkFrame bs) badFrame)))
 
--- "at most 4,100 digits"
+-- W9: "the frame limit becomes 4,102 digits"
 unfoldable pub readFrame : List ℕ → Frame
-readFrame line = cond (leb (length line) 4100) (frameOf (bytesOf line)) badFrame
+readFrame line = cond (leb (length line) 4102) (frameOf (bytesOf line)) badFrame
 
 -- "Answers in upper case, LF behind each"
 unfoldable pub hexDigit : ℕ → ℕ
@@ -92,31 +99,32 @@ pub data Kept : Type 0 where
   bytes : List ℕ → Kept
   records : Store → Kept
 
--- "names at first in row order without gaps": the records of rows, the first name at a place
-unfoldable pub recordsFrom : ℕ → List Row → List Record
+-- "names at first in row order without gaps": records, the first name at a place
+unfoldable pub recordsFrom : ℕ → List Record → List Record
 recordsFrom at [] = []
-recordsFrom at (r ∷ rs) = record { flags = r .flags; start = at; len = length (r .name) } ∷ recordsFrom (at + length (r .name)) rs
+recordsFrom at (r ∷ rs) = record { flags = r .flags; start = at; len = r .len; readers = r .readers } ∷ recordsFrom (at + r .len) rs
 
 -- n of them, the others as z is
 unfoldable pub filledTo : {A : Type 0} → ℕ → A → List A → List A
 filledTo n z xs = xs ++ replicate (n - length xs) z
 
 -- "The program keeps 512 records, names at first in row order without gaps from the start of 16,384 bytes"; the others are zero
-unfoldable pub programStore : List Row → Store
-programStore rs =
+unfoldable pub programStore : List ℕ → Store
+programStore t =
     record {
-      records = filledTo 512 zeroRecord (recordsFrom 0 rs);
-      count = length rs;
-      area = filledTo 16384 0 (joined (map (λ r. r .name) rs));
+      records = filledTo 512 zeroRecord (recordsFrom 0 (packedRecords t));
+      count = length (packedRecords t);
+      area = filledTo 16384 0 (joined (names (packedRows t)));
     }
 
-unfoldable pub keptTable : Kept → Table
-keptTable (bytes t) = packedTable t
-keptTable (records s) = storeTable s
+-- the table that a reader sees of it
+unfoldable pub keptSeen : ℕ → Kept → Table
+keptSeen reader (bytes t) = packedSeen reader t
+keptSeen reader (records s) = storeSeen reader s
 
 -- "every edit is judged on them"
 unfoldable pub keptStore : Kept → Store
-keptStore (bytes t) = programStore (rows (packedTable t))
+keptStore (bytes t) = programStore t
 keptStore (records s) = s
 
 -- the stored table and the stored bytes of the namespace list
@@ -150,18 +158,18 @@ addEntry s bs =
     (answering (record { table = s .table; namespaces = s .namespaces ++ bs }) [])
     (answering s (refusalLine 2))
 
--- a command over what is kept: its reply, and the store that an accepted edit leaves
-unfoldable pub commandOver : Kept → List ℕ → List ℕ → Commanded
-commandOver k spaces l = concluded (keptStore k) 16384 (attempted (keptStore k) (parsed l)) (answer (keptTable k) spaces l)
+-- a reader's command over what is kept: its reply, and the store that an accepted edit leaves
+unfoldable pub commandOver : ℕ → Kept → List ℕ → List ℕ → Commanded
+commandOver reader k spaces l = commandedOver reader (keptStore k) (keptSeen reader k) spaces l 16384
 
 -- an edit is accepted if it is answered OK, also where it changed no row
 unfoldable pub accepted : Parsed → Reply → Bool
 accepted p r = isEdit p && isAnswered r
 
 -- what a command answers, and what is kept after it
-unfoldable pub commandStep : Stored → List ℕ → Stepped
-commandStep s l =
-    let c = commandOver (s .table) (s .namespaces) l in
+unfoldable pub commandStep : Stored → ℕ → List ℕ → Stepped
+commandStep s reader l =
+    let c = commandOver reader (s .table) (s .namespaces) l in
     record {
       stored = record {
         table = cond (accepted (parsed l) (c .reply)) (records (c .store)) (s .table);
@@ -174,8 +182,8 @@ commandStep s l =
 unfoldable pub framed : Stored → Frame → Stepped
 framed s (tableBytes bs) = addRow s bs
 framed s (namespaceBytes bs) = addEntry s bs
-framed s (command l) = commandStep s l
-framed s (walkWith o) = answering s (walkLine (walk (keptTable (s .table)) o 16384 8192 8192))
+framed s (command reader l) = commandStep s reader l
+framed s (walkWith reader o) = answering s (walkLine (walkBy reader (keptSeen reader (s .table)) o 16384 8192 8192))
 framed s badFrame = answering s (refusalLine 13)
 
 -- One frame a line, given by its characters without the LF.

@@ -6,6 +6,7 @@ pub mod Names
 pub mod Flags
 pub mod Table
 pub mod Records
+pub mod Readers
 pub mod Subscriptions
 pub mod Namespaces
 pub mod Tokens

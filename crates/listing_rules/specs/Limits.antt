@@ -18,6 +18,7 @@ use Rattle.listing_rules.specs.Walk.{walkRefused, walked, packed}
 use Rattle.listing_rules.specs.Cases.{row, mailbox, entry, times, sends, lines, Case, replies, refuses, walks, tables, spaces, answersInto}
 use Rattle.listing_rules.specs.Cases.{commands, walksInto, writes, writesInto, gives, reads, program, steps, answersFrame, counts, feeds, continues}
 use Rattle.listing_rules.specs.Cases.{Lent, layouts, repliesOver, walksOver, edits, leaves, series, compacts}
+use Rattle.listing_rules.specs.Cases.{mailboxFor, repliesTo, walksFor, commandsOf}
 use Rattle.listing_rules.specs.ExpertSheet.{tableE}
 
 abbrev named : List ℕ → List ℕ
@@ -106,9 +107,15 @@ levels-table =
     ∷ mailbox 0x0001 "T/u/v"
     ∷ [])
 
--- a record, and records over the bytes of a text
+-- a record that these readers see, one that all eight see, one of zeros, and records over the bytes of a text
+abbrev atFor : ℕ → ℕ → ℕ → ℕ → Record
+atFor readers f s l = record { flags = f; start = s; len = l; readers = readers }
+
 abbrev at : ℕ → ℕ → ℕ → Record
-at f s l = record { flags = f; start = s; len = l }
+at f s l = atFor 0xFF f s l
+
+abbrev blank : Record
+blank = atFor 0 0 0 0
 
 abbrev lent : String → List Record → ℕ → Lent
 lent a rs n = record { area = text a; records = rs; count = n }
@@ -157,7 +164,7 @@ b-alone = lent "%ad%bb%" (at 0x0013 1 1 ∷ at 0x0002 4 2 ∷ at 0x0003 2 1 ∷ 
 
 -- INBOX, not subscribed, and room for a row of nine bytes
 abbrev inbox-lent : ℕ → Lent
-inbox-lent f = lent "INBOX?????????" (at f 0 5 ∷ at 0x0000 0 0 ∷ []) 1
+inbox-lent f = lent "INBOX?????????" (at f 0 5 ∷ blank ∷ []) 1
 
 -- two free bytes, one, four and two, between names of one byte
 abbrev gaps : List Record → ℕ → String → Lent
@@ -195,14 +202,14 @@ abbrev pub order-of-rows : List Case
 order-of-rows =
     tables (all-named ("Foo" ∷ "Foo x" ∷ "Foo-x" ∷ "Foo.x" ∷ "Foo/Bar" ∷ []) ∷ (mailbox 0x0011 "a" ++ mailbox 0x0001 "a-b/c") ∷ [])
     (all-named ("b" ∷ "a" ∷ []) ∷ all-named ("a" ∷ "a" ∷ []) ∷ all-named ("ab" ∷ "a" ∷ []) ∷ (mailbox 0x0011 "a" ++ mailbox 0x0001 "a/b")
-    ∷ (mailbox 0x0011 "a" ++ (mailbox 0x0001 "a-b" ++ mailbox 0x0002 "a/b/c")) ∷ (0 ∷ 1 ∷ []) ∷ (0 ∷ 1 ∷ 2 ∷ 97 ∷ []) ∷ (mailbox 0x0001 "a" ++ (0
+    ∷ (mailbox 0x0011 "a" ++ (mailbox 0x0001 "a-b" ++ mailbox 0x0002 "a/b/c")) ∷ (0 ∷ 1 ∷ 255 ∷ []) ∷ (0 ∷ 1 ∷ 255 ∷ 2 ∷ 97 ∷ []) ∷ (mailbox 0x0001 "a" ++ (0
     ∷ [])) ∷ [])
     ∷ []
 
 -- 512 rows and 32,768 bytes
 abbrev pub size-of-a-table : List Case
 size-of-a-table =
-    tables (many 512 0 59 ∷ []) (many 513 0 0 ∷ (many 511 0 59 ++ named (80 ∷ 96 ∷ times 60 97)) ∷ [])
+    tables (many 512 0 58 ∷ []) (many 513 0 0 ∷ (many 511 0 58 ++ named (80 ∷ 96 ∷ times 59 97)) ∷ [])
     ∷ []
 
 -- Records (W4) over an area: names at both ends and in any order of their bytes, unused bytes with anything in them, spare records with
@@ -259,10 +266,10 @@ edits-made =
     ∷ edits (lent "Foo/Bar%%%" (at 0x0001 0 7 ∷ at 0x0001 0 1 ∷ []) 1) (sub "Foo" ∷ []) (leaves (lent "Foo/BarFoo" (at 0x0002 7 3 ∷ at 0x0001 0 7 ∷ []) 2))
     ∷ edits (lent "??" (at 0x0001 0 1 ∷ []) 0) (sub "a" ∷ []) (leaves (lent "a?" (at 0x0002 0 1 ∷ []) 1))
     ∷ edits b-alone (unsub "bb" ∷ [])
-    (leaves (record { area = text "%ad%" ++ (0 ∷ 0 ∷ text "%"); records = at 0x0013 1 1 ∷ at 0x0003 2 1 ∷ at 0x0000 0 0 ∷ at 0xFFFF 3 9 ∷ []; count = 2 }))
+    (leaves (record { area = text "%ad%" ++ (0 ∷ 0 ∷ text "%"); records = at 0x0013 1 1 ∷ at 0x0003 2 1 ∷ blank ∷ at 0xFFFF 3 9 ∷ []; count = 2 }))
     ∷ edits b-alone (unsub "d" ∷ []) (leaves (lent "%ad%bb%" (at 0x0013 1 1 ∷ at 0x0002 4 2 ∷ at 0x0001 2 1 ∷ at 0xFFFF 3 9 ∷ []) 3))
     ∷ edits b-alone (unsub "b" ∷ unsub "bbb" ∷ unsub "" ∷ unsub "%" ∷ unsub "a/x" ∷ unsub "inbox/" ∷ unsubscribe (times 201 97) ∷ sub "bb" ∷ []) (leaves b-alone)
-    ∷ edits (lent "a" (at 0x0002 0 1 ∷ []) 1) (unsub "a" ∷ []) (leaves (record { area = 0 ∷ []; records = at 0x0000 0 0 ∷ []; count = 0 }))
+    ∷ edits (lent "a" (at 0x0002 0 1 ∷ []) 1) (unsub "a" ∷ []) (leaves (record { area = 0 ∷ []; records = blank ∷ []; count = 0 }))
     ∷ []
 
 -- a first level INBOX in any case of letters is spelled INBOX, and no other is
@@ -282,17 +289,17 @@ edits-inbox =
 abbrev pub edits-refused : List Case
 edits-refused =
     edits b-and-d (subs ("" ∷ "%" ∷ "a%" ∷ "*" ∷ "/" ∷ "a/" ∷ "/a" ∷ "\u{1f}" ∷ "\u{7f}" ∷ [])) (refusedEdit 14)
-    ∷ edits (lent "" (at 0x0000 0 0 ∷ []) 0) (subscribe (times 201 97) ∷ subscribe (deep 16) ∷ subscribe (128 ∷ []) ∷ []) (refusedEdit 14)
-    ∷ edits (lent "" (at 0x0000 0 0 ∷ []) 0) (subscribe (times 200 97) ∷ subscribe (deep 15) ∷ sub "a" ∷ []) (refusedEdit 15)
-    ∷ edits (lent "a??????" (at 0x0011 0 1 ∷ at 0x0000 0 0 ∷ []) 1) (subs ("a/b" ∷ "a/b/c" ∷ [])) (refusedEdit 14)
-    ∷ edits (lent "a???" (at 0x0011 0 1 ∷ at 0x0000 0 0 ∷ []) 1) (sub "a-b" ∷ []) (leaves (lent "aa-b" (at 0x0011 0 1 ∷ at 0x0002 1 3 ∷ []) 2))
-    ∷ edits (lent "a/b??????" (at 0x0011 0 3 ∷ at 0x0000 0 0 ∷ []) 1) (sub "a" ∷ []) (leaves (lent "a/ba?????" (at 0x0002 3 1 ∷ at 0x0011 0 3 ∷ []) 2))
+    ∷ edits (lent "" (blank ∷ []) 0) (subscribe (times 201 97) ∷ subscribe (deep 16) ∷ subscribe (128 ∷ []) ∷ []) (refusedEdit 14)
+    ∷ edits (lent "" (blank ∷ []) 0) (subscribe (times 200 97) ∷ subscribe (deep 15) ∷ sub "a" ∷ []) (refusedEdit 15)
+    ∷ edits (lent "a??????" (at 0x0011 0 1 ∷ blank ∷ []) 1) (subs ("a/b" ∷ "a/b/c" ∷ [])) (refusedEdit 14)
+    ∷ edits (lent "a???" (at 0x0011 0 1 ∷ blank ∷ []) 1) (sub "a-b" ∷ []) (leaves (lent "aa-b" (at 0x0011 0 1 ∷ at 0x0002 1 3 ∷ []) 2))
+    ∷ edits (lent "a/b??????" (at 0x0011 0 3 ∷ blank ∷ []) 1) (sub "a" ∷ []) (leaves (lent "a/ba?????" (at 0x0002 3 1 ∷ at 0x0011 0 3 ∷ []) 2))
     ∷ edits (lent "b?" (at 0x0001 0 1 ∷ []) 1) (subs ("a" ∷ "c" ∷ [])) (refusedEdit 15)
     ∷ edits (lent "b?" (at 0x0001 0 1 ∷ []) 1) (sub "a%" ∷ sub "" ∷ []) (refusedEdit 14)
     ∷ edits (lent "a" (at 0x0011 0 1 ∷ []) 1) (sub "a/b" ∷ []) (refusedEdit 14)
     ∷ edits (lent "b" (at 0x0001 0 1 ∷ []) 1) (sub "b" ∷ []) (leaves (lent "b" (at 0x0003 0 1 ∷ []) 1))
     ∷ edits b-and-d (subs ("aaaa" ∷ "zzzz" ∷ [])) (refusedEdit 15)
-    ∷ edits (lent "?b??d?" (at 0x0001 1 1 ∷ at 0x0001 4 1 ∷ at 0x0000 0 0 ∷ []) 2) (sub "aaa" ∷ []) (refusedEdit 15)
+    ∷ edits (lent "?b??d?" (at 0x0001 1 1 ∷ at 0x0001 4 1 ∷ blank ∷ []) 2) (sub "aaa" ∷ []) (refusedEdit 15)
     ∷ []
 
 -- the lowest free run that is long enough, the name at its start; bytes free on either side of a freed name, or under spare records, are one run
@@ -303,9 +310,9 @@ edits-layout =
     ∷ edits (gaps (at 0xFFFF 0 2 ∷ at 0xFFFF 5 4 ∷ []) 3 "??a?b????c??") (sub "ddd" ∷ []) (leaves (gaps (at 0x0002 5 3 ∷ at 0xFFFF 5 4 ∷ []) 4 "??a?bddd?c??"))
     ∷ edits (gaps (at 0xFFFF 0 2 ∷ []) 3 "??a?b????c?????") (sub "ddddd" ∷ []) (leaves (gaps (at 0x0002 10 5 ∷ []) 4 "??a?b????cddddd"))
     ∷ edits (gaps (at 0xFFFF 0 2 ∷ []) 3 "??a?b????c????") (sub "ddddd" ∷ []) (refusedEdit 15)
-    ∷ edits (record { area = text "a?" ++ (0 ∷ 0 ∷ text "?c"); records = at 0x0001 0 1 ∷ at 0x0001 5 1 ∷ at 0x0000 0 0 ∷ []; count = 2 }) (sub "bbbb" ∷ [])
+    ∷ edits (record { area = text "a?" ++ (0 ∷ 0 ∷ text "?c"); records = at 0x0001 0 1 ∷ at 0x0001 5 1 ∷ blank ∷ []; count = 2 }) (sub "bbbb" ∷ [])
     (leaves (lent "abbbbc" (at 0x0001 0 1 ∷ at 0x0002 1 4 ∷ at 0x0001 5 1 ∷ []) 3))
-    ∷ edits (lent "???" (at 0x0000 0 0 ∷ []) 0) (sub "abc" ∷ []) (leaves (lent "abc" (at 0x0002 0 3 ∷ []) 1))
+    ∷ edits (lent "???" (blank ∷ []) 0) (sub "abc" ∷ []) (leaves (lent "abc" (at 0x0002 0 3 ∷ []) 1))
     ∷ []
 
 -- W6 as commands: the word in any case, the name bare, quoted or a literal; the OK line alone; other commands leave everything as it is
@@ -379,10 +386,103 @@ compactions-size =
 -- SUBSCRIBE before and after: the free bytes in all, and one more
 abbrev pub compactions-make-room : List Case
 compactions-make-room =
-    edits (lent "?b??d?" (at 0x0001 1 1 ∷ at 0x0001 4 1 ∷ at 0x0000 0 0 ∷ []) 2) (subs ("aaa" ∷ "aaaa" ∷ "aaaaa" ∷ [])) (refusedEdit 15)
-    ∷ compacts (lent "?b??d?" (at 0x0001 1 1 ∷ at 0x0001 4 1 ∷ at 0x0000 0 0 ∷ []) 2) 0 (together "bd" 4 (at 0x0001 0 1 ∷ at 0x0001 1 1 ∷ at 0x0000 0 0 ∷ []) 2)
-    ∷ edits (together "bd" 4 (at 0x0001 0 1 ∷ at 0x0001 1 1 ∷ at 0x0000 0 0 ∷ []) 2) (sub "aaaa" ∷ []) (leaves (lent "bdaaaa" (at 0x0002 2 4 ∷ at 0x0001 0 1 ∷ at 0x0001 1 1 ∷ []) 3))
-    ∷ edits (together "bd" 4 (at 0x0001 0 1 ∷ at 0x0001 1 1 ∷ at 0x0000 0 0 ∷ []) 2) (sub "aaaaa" ∷ []) (refusedEdit 15)
+    edits (lent "?b??d?" (at 0x0001 1 1 ∷ at 0x0001 4 1 ∷ blank ∷ []) 2) (subs ("aaa" ∷ "aaaa" ∷ "aaaaa" ∷ [])) (refusedEdit 15)
+    ∷ compacts (lent "?b??d?" (at 0x0001 1 1 ∷ at 0x0001 4 1 ∷ blank ∷ []) 2) 0 (together "bd" 4 (at 0x0001 0 1 ∷ at 0x0001 1 1 ∷ blank ∷ []) 2)
+    ∷ edits (together "bd" 4 (at 0x0001 0 1 ∷ at 0x0001 1 1 ∷ blank ∷ []) 2) (sub "aaaa" ∷ []) (leaves (lent "bdaaaa" (at 0x0002 2 4 ∷ at 0x0001 0 1 ∷ at 0x0001 1 1 ∷ []) 3))
+    ∷ edits (together "bd" 4 (at 0x0001 0 1 ∷ at 0x0001 1 1 ∷ blank ∷ []) 2) (sub "aaaaa" ∷ []) (refusedEdit 15)
+    ∷ []
+
+-- W9: a parent that reader 0 alone sees above a row that reader 3 alone sees, one that all see above a row of reader 7's, a row with no
+-- inferiors that nobody sees, and a use for readers 0 and 3
+abbrev readers-table : List ℕ
+readers-table =
+    joined (mailboxFor 0x01 0x0001 "A" ∷ mailboxFor 0x08 0x0003 "A/b" ∷ mailboxFor 0xFF 0x0001 "C" ∷ mailboxFor 0x80 0x0003 "C/d"
+    ∷ mailboxFor 0x00 0x0011 "E" ∷ mailboxFor 0x09 0x0101 "S" ∷ [])
+
+-- what a hidden row does not count for: its own line, \HasChildren, CHILDINFO, LSUB; a hidden parent is an implied name without its flags
+abbrev pub readers-answered : List Case
+readers-answered =
+    repliesTo 0 readers-table 16384 (sends "a LIST \"\" * RETURN (CHILDREN SPECIAL-USE)" ∷ [])
+    (answered (lines ("* LIST (\\HasNoChildren) \"/\" \"A\"" ∷ "* LIST (\\HasNoChildren) \"/\" \"C\"" ∷ "* LIST (\\All \\HasNoChildren) \"/\" \"S\""
+    ∷ "a OK done" ∷ [])))
+    ∷ repliesTo 3 readers-table 16384 (sends "a LIST \"\" % RETURN (CHILDREN)" ∷ [])
+    (answered (lines ("* LIST (\\NonExistent \\HasChildren) \"/\" \"A\"" ∷ "* LIST (\\HasNoChildren) \"/\" \"C\"" ∷ "* LIST (\\HasNoChildren) \"/\" \"S\""
+    ∷ "a OK done" ∷ [])))
+    ∷ repliesTo 7 readers-table 16384 (sends "a LIST \"\" * RETURN (CHILDREN)" ∷ [])
+    (answered (lines ("* LIST (\\HasChildren) \"/\" \"C\"" ∷ "* LIST (\\HasNoChildren) \"/\" \"C/d\"" ∷ "a OK done" ∷ [])))
+    ∷ repliesTo 3 readers-table 16384 (sends "a LIST (SUBSCRIBED RECURSIVEMATCH) \"\" %" ∷ [])
+    (answered (lines ("* LIST (\\NonExistent) \"/\" \"A\" (\"CHILDINFO\" (\"SUBSCRIBED\"))" ∷ "a OK done" ∷ [])))
+    ∷ repliesTo 7 readers-table 16384 (sends "a LIST (SUBSCRIBED RECURSIVEMATCH) \"\" %" ∷ [])
+    (answered (lines ("* LIST () \"/\" \"C\" (\"CHILDINFO\" (\"SUBSCRIBED\"))" ∷ "a OK done" ∷ [])))
+    ∷ repliesTo 0 readers-table 11 (map sends ("a LIST (SUBSCRIBED RECURSIVEMATCH) \"\" %" ∷ "a LSUB \"\" %" ∷ "a LIST \"\" E" ∷ "a LIST \"\" A/b" ∷ []))
+    (answered (sends "a OK done"))
+    ∷ repliesTo 1 readers-table 16384 (sends "a LIST \"\" *" ∷ []) (answered (lines ("* LIST () \"/\" \"C\"" ∷ "a OK done" ∷ [])))
+    ∷ repliesTo 3 readers-table 16384 (sends "a LSUB \"\" %" ∷ []) (answered (lines ("* LSUB (\\Noselect) \"/\" \"A\"" ∷ "a OK done" ∷ [])))
+    ∷ repliesTo 7 readers-table 16384 (sends "a LSUB \"\" *" ∷ []) (answered (lines ("* LSUB () \"/\" \"C/d\"" ∷ "a OK done" ∷ [])))
+    -- 9 counts what the reader sees
+    ∷ repliesTo 1 readers-table 30 (sends "a LIST \"\" *" ∷ []) (answered (lines ("* LIST () \"/\" \"C\"" ∷ "a OK done" ∷ [])))
+    ∷ repliesTo 1 readers-table 29 (sends "a LIST \"\" *" ∷ []) (refusal 9)
+    ∷ []
+
+-- found and the names asked below are those that the reader sees
+abbrev pub readers-walked : List Case
+readers-walked =
+    walksFor 0 readers-table 0 (walked 1 [] [])
+    ∷ walksFor 3 readers-table 0 (walked 2 (packed (text "A/b" ∷ [])) (packed (text "A" ∷ [])))
+    ∷ walksFor 7 readers-table 0 (walked 2 (packed (text "C/d" ∷ [])) (packed (text "C" ∷ [])))
+    ∷ walksFor 3 readers-table 6 (walked 1 (packed (text "S" ∷ [])) [])
+    ∷ walksFor 1 readers-table 7 (walked 1 [] [])
+    ∷ []
+
+-- 16 above reader 7, before 1, for any line, NAMESPACE too, and for a walk before 6; 1 looks at rows that nobody sees, at any set of readers
+abbrev pub readers-refused : List Case
+readers-refused =
+    repliesTo 8 (0 ∷ []) 0 (sends "a NAMESPACE" ∷ sends "a LIST \"\" *" ∷ sends "a FOO" ∷ [] ∷ (0 ∷ []) ∷ []) (refusal 16)
+    ∷ repliesTo 255 [] 64 (sends "a NAMESPACE" ∷ sends "a LIST \"\" *" ∷ sends "a SUBSCRIBE a" ∷ []) (refusal 16)
+    ∷ repliesTo 7 (0 ∷ []) 0 (sends "a NAMESPACE" ∷ []) (refusal 1)
+    ∷ repliesTo 5 (mailboxFor 0x00 0x0011 "E" ++ mailboxFor 0xFF 0x0001 "E/x") 64 (sends "a LIST \"\" *" ∷ []) (refusal 1)
+    ∷ repliesTo 5 (mailboxFor 0x00 0x0000 "E") 64 (sends "a LIST \"\" *" ∷ []) (refusal 1)
+    ∷ walksFor 8 (0 ∷ []) 4 (walkRefused 16)
+    ∷ walksFor 8 [] 0 (walkRefused 16)
+    ∷ walksFor 7 (0 ∷ []) 4 (walkRefused 1)
+    ∷ walksFor 7 [] 4 (walkRefused 6)
+    ∷ []
+
+-- a row of these readers, and two free bytes, with a spare record
+abbrev a-for : ℕ → ℕ → Lent
+a-for readers f = lent "a??" (atFor readers f 0 1 ∷ blank ∷ []) 1
+
+-- Edits come from reader 0: from another they are 16, after the grammar and before 14, 15 and 9, also where nothing would change. They look at all
+-- rows: the flag of a row that reader 0 does not see is set and its readers stay; what is inserted all eight see, what is freed is zero.
+abbrev pub readers-edits : List Case
+readers-edits =
+    commandsOf 3 (a-for 0x08 0x0001) 0 [] (map sends ("a SUBSCRIBE a" ∷ "a UNSUBSCRIBE a" ∷ "a UNSUBSCRIBE x" ∷ "a SUBSCRIBE \"\"" ∷ "a SUBSCRIBE aaaa" ∷ "a SUBSCRIBE b" ∷ []))
+    (refusal 16) (a-for 0x08 0x0001)
+    ∷ commandsOf 7 (a-for 0x08 0x0001) 16384 [] (map sends ("a SUBSCRIBE a" ∷ "a UNSUBSCRIBE x" ∷ [])) (refusal 16) (a-for 0x08 0x0001)
+    ∷ commandsOf 3 (a-for 0x08 0x0001) 0 [] (map sends ("a SUBSCRIBE a%" ∷ "a SUBSCRIBE" ∷ [])) (refusal 4) (a-for 0x08 0x0001)
+    ∷ commandsOf 3 (a-for 0x08 0x0001) 0 [] (text "a SUBSCRIBE a" ∷ []) (refusal 3) (a-for 0x08 0x0001)
+    ∷ commandsOf 3 (a-for 0x08 0x0001) 0 (9 ∷ []) (sends "a SUBSCRIBE a" ∷ []) (refusal 2) (a-for 0x08 0x0001)
+    ∷ commandsOf 3 (a-for 0x08 0x0000) 0 (9 ∷ []) (sends "a SUBSCRIBE a" ∷ []) (refusal 1) (a-for 0x08 0x0000)
+    ∷ commandsOf 8 (a-for 0x08 0x0000) 0 (9 ∷ []) (sends "a SUBSCRIBE a" ∷ []) (refusal 16) (a-for 0x08 0x0000)
+    ∷ commandsOf 0 (a-for 0x08 0x0001) 11 [] (sends "a SUBSCRIBE a" ∷ []) (answered (sends "a OK done")) (a-for 0x08 0x0003)
+    ∷ commandsOf 0 (a-for 0x00 0x0003) 11 [] (sends "a UNSUBSCRIBE a" ∷ []) (answered (sends "a OK done")) (a-for 0x00 0x0001)
+    ∷ commandsOf 0 (a-for 0x00 0x0011) 11 [] (map sends ("a SUBSCRIBE a/b" ∷ [])) (refusal 14) (a-for 0x00 0x0011)
+    ∷ commandsOf 0 (a-for 0x08 0x0001) 11 [] (sends "a SUBSCRIBE bb" ∷ []) (answered (sends "a OK done")) (lent "abb" (atFor 0x08 0x0001 0 1 ∷ atFor 0xFF 0x0002 1 2 ∷ []) 2)
+    ∷ commandsOf 0 (lent "ab" (atFor 0x08 0x0002 0 1 ∷ atFor 0x10 0x0001 1 1 ∷ atFor 0x20 0x0003 9 9 ∷ []) 2) 11 [] (sends "a UNSUBSCRIBE a" ∷ []) (answered (sends "a OK done"))
+    (record { area = 0 ∷ text "b"; records = atFor 0x10 0x0001 1 1 ∷ blank ∷ atFor 0x20 0x0003 9 9 ∷ []; count = 1 })
+    ∷ commandsOf 3 (a-for 0x08 0x0003) 30 [] (sends "a LSUB \"\" *" ∷ []) (answered (lines ("* LSUB () \"/\" \"a\"" ∷ "a OK done" ∷ []))) (a-for 0x08 0x0003)
+    ∷ compacts (lent "?b?a" (atFor 0x05 0x0001 3 1 ∷ atFor 0x00 0x0002 1 1 ∷ atFor 0x07 0x0001 0 9 ∷ []) 2) 0
+    (together "ba" 2 (atFor 0x05 0x0001 1 1 ∷ atFor 0x00 0x0002 0 1 ∷ atFor 0x07 0x0001 0 9 ∷ []) 2)
+    ∷ []
+
+-- the program: a row that reader 3 alone sees, walked from 0 and 3; an edit from 3, after which 4D goes on; a row that nobody sees; edits from 0, whose
+-- records keep the readers, one of them a removal; what is then inserted is seen by all
+abbrev pub program-readers : List Case
+program-readers =
+    program (text "4D0003080161\n570000\n570300\n4303612053554253435249424520610D0A\n4D0002000162\n570000\n4300612053554253435249424520630D0A\n4D\n"
+    ++ text "570000\n570300\n43006120554E53554253435249424520620D0A\n4300612053554253435249424520620D0A\n570700\n4308\n570800\n")
+    (text "570001\n5700010161\n5210\n570001\n4161204F4B20646F6E650D0A\n520D\n"
+    ++ text "5700010163\n57000101610163\n4161204F4B20646F6E650D0A\n4161204F4B20646F6E650D0A\n57000101620163\n5210\n5210\n")
     ∷ []
 
 -- namespace entries: class, prefix length, prefix bytes, delimiter
@@ -699,9 +799,9 @@ reader-lines =
 -- the program: document 01's whole session; then a table in two frames, each cause of 13, walks, and a last frame without LF
 abbrev pub program-frames : List Case
 program-frames =
-    program (text "4361204E414D4553504143450D0A\n4D0003\n4d0161\n\n4D0\n43 61\n57\n570000\n58\n5700\n5704\n4D00\n5700\n5700")
-    (text "412A204E414D455350414345204E494C204E494C204E494C0D0A61204F4B20646F6E650D0A\n520D\n520D\n520D\n520D\n520D\n520D\n5700010161\n5206\n5201\n520D\n")
-    ∷ program (0x34 ∷ 0x44 ∷ times 4098 0x30 ++ (10 ∷ (0x34 ∷ 0x44 ∷ times 4100 0x30 ++ (10 ∷ [])))) (text "520D\n")
+    program (text "430061204E414D4553504143450D0A\n4D0003\n4dFf0161\n\n4D0\n43 61\n43\n4300\n57\n5700\n57000000\n58\n570000\n570004\n570800\n4308\n4D00\n570000\n5700")
+    (text "412A204E414D455350414345204E494C204E494C204E494C0D0A61204F4B20646F6E650D0A\n520D\n520D\n520D\n520D\n5203\n520D\n520D\n520D\n520D\n5700010161\n5206\n5210\n5210\n5201\n520D\n")
+    ∷ program (0x34 ∷ 0x44 ∷ times 4100 0x30 ++ (10 ∷ (0x34 ∷ 0x44 ∷ times 4102 0x30 ++ (10 ∷ [])))) (text "520D\n")
     ∷ []
 
 -- digits of either case and their neighbours; stored bytes at both sides of their room; the count's two bytes
@@ -719,43 +819,43 @@ program-digits-and-room =
 -- the program and edits: 4D goes on after refused edits and is 13 after an accepted one, also where it changed no row; 4E goes on
 abbrev pub program-edits : List Case
 program-edits =
-    program (text "4D00010161\n4361205355425343524942452022220D0A\n4D00110162\n43612053554253435249424520622F630D0A\n"
-    ++ (text "43612053554253435249424520630D0A\n4D0001017A\n4D\n4E00002F\n5700\n43612053554253435249424520610D0A\n5700\n"
-    ++ (text "436120554E53554253435249424520630D0A\n4361204C535542202222202A0D0A\n5700\n")))
+    program (text "4D0001FF0161\n430061205355425343524942452022220D0A\n4D0011FF0162\n4300612053554253435249424520622F630D0A\n"
+    ++ (text "4300612053554253435249424520630D0A\n4D0001FF017A\n4D\n4E00002F\n570000\n4300612053554253435249424520610D0A\n570000\n"
+    ++ (text "43006120554E53554253435249424520630D0A\n430061204C535542202222202A0D0A\n570000\n")))
     (text "520E\n520E\n4161204F4B20646F6E650D0A\n520D\n520D\n5700010163\n4161204F4B20646F6E650D0A\n57000101610163\n"
     ++ (text "4161204F4B20646F6E650D0A\n412A204C53554220282920222F22202261220D0A61204F4B20646F6E650D0A\n5700010161\n"))
-    ∷ program (text "436120554E53554253435249424520780D0A\n4D\n5700\n")
+    ∷ program (text "43006120554E53554253435249424520780D0A\n4D\n570000\n")
     (text "4161204F4B20646F6E650D0A\n520D\n570001\n")
-    ∷ program (text "4D00010161\n4D00010161\n43612053554253435249424520610D0A\n4D\n")
+    ∷ program (text "4D0001FF0161\n4D0001FF0161\n4300612053554253435249424520610D0A\n4D\n")
     (text "5201\n")
     ∷ []
 
 -- the program's answer buffer: an answer of 16,384 bytes, and one more
 abbrev pub program-answer-room : List Case
 program-answer-room =
-    answersFrame (long-answer 0) (text "4361204C495354202222202A0D0A") 32771 (text "412A20")
-    ∷ answersFrame (long-answer 1) (text "4361204C495354202222202A0D0A") 5 (text "5209\n")
+    answersFrame (long-answer 0) (text "430061204C495354202222202A0D0A") 32771 (text "412A20")
+    ∷ answersFrame (long-answer 1) (text "430061204C495354202222202A0D0A") 5 (text "5209\n")
     ∷ []
 
 -- its scratch: an answer of 16,384 bytes, and one more
 abbrev pub program-scratch-room : List Case
 program-scratch-room =
-    answersFrame (long-scratch 0) (text "5700") 15445 (text "570001")
-    ∷ answersFrame (long-scratch 1) (text "5700") 5 (text "5209\n")
+    answersFrame (long-scratch 0) (text "570000") 15445 (text "570001")
+    ∷ answersFrame (long-scratch 1) (text "570000") 5 (text "5209\n")
     ∷ []
 
 -- found of 8,192 bytes, and one more
 abbrev pub program-found-room : List Case
 program-found-room =
-    answersFrame (long-found 0) (text "5700") 16391 (text "570001")
-    ∷ answersFrame (long-found 1) (text "5700") 5 (text "520A\n")
+    answersFrame (long-found 0) (text "570000") 16391 (text "570001")
+    ∷ answersFrame (long-found 1) (text "570000") 5 (text "520A\n")
     ∷ []
 
 -- pending of 8,192 bytes, after which a find does not fit, and one more
 abbrev pub program-pending-room : List Case
 program-pending-room =
-    answersFrame (long-pending 0) (text "5700") 5 (text "520A\n")
-    ∷ answersFrame (long-pending 1) (text "5700") 5 (text "520B\n")
+    answersFrame (long-pending 0) (text "570000") 5 (text "520A\n")
+    ∷ answersFrame (long-pending 1) (text "570000") 5 (text "520B\n")
     ∷ []
 
 -- W2: a literal as reference, as pattern, among patterns and as an item of a value; its wildcards count; 80 to FF match no name

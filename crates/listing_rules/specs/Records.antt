@@ -8,11 +8,12 @@ use Prim.Native.Nat.{ℕ, zero, suc, _+_, _*_}
 use Rattle.listing_rules.specs.Lists.{every}
 use Rattle.listing_rules.specs.Table.{Row, Table}
 
--- "records, each with flags, name start and name length"
+-- "records, each with flags, name start and name length"; W9: "Each record gains a set of eight readers"
 pub record Record : Type 0 where
   pub flags : ℕ
   pub start : ℕ
   pub len : ℕ
+  pub readers : ℕ
 
 -- "over one area of name bytes": the row that a record means, and the rows that a run of records means
 unfoldable pub rowOf : List ℕ → Record → Row
@@ -50,7 +51,7 @@ recordTable area rs count =
 unfoldable pub recordsAfter : ℕ → ℕ → List ℕ → List Record
 recordsAfter at skip [] = []
 recordsAfter at zero (h ∷ t) =
-    record { flags = 256 * h + getD t 0 0; start = at + 3; len = getD t 1 0 } ∷ recordsAfter (suc at) (suc (suc (getD t 1 0))) t
+    record { flags = 256 * h + getD t 0 0; start = at + 4; len = getD t 2 0; readers = getD t 1 0 } ∷ recordsAfter (suc at) (suc (suc (suc (getD t 2 0)))) t
 recordsAfter at (suc k) (h ∷ t) = recordsAfter (suc at) k t
 
 unfoldable pub packedRecords : List ℕ → List Record

@@ -6,14 +6,15 @@ use Rattle.listing_rules.specs.Command.{Parsed, refused, namespace, list
 use Rattle.listing_rules.specs.Subscriptions.{Store, setEdited}
 use Rattle.listing_rules.specs.Server.{Reply, refusal, answered, Commanded, commanded}
 
--- a command as it is sent: the namespace list at that time, the line, and the answer buffer as it was lent
+-- a command as it is sent: its reader, the namespace list at that time, the line, and the answer buffer as it was lent
 pub record Sent : Type 0 where
+  pub reader : ℕ
   pub namespaces : List ℕ
   pub line : List ℕ
   pub buffer : List ℕ
 
 unfoldable pub sentTo : Store → Sent → Commanded
-sentTo s c = commanded s (c .namespaces) (c .line) (c .buffer)
+sentTo s c = commanded (c .reader) s (c .namespaces) (c .line) (c .buffer)
 
 -- each command over what the one before left
 unfoldable pub commandedAll : Store → List Sent → Store

@@ -13,7 +13,8 @@ use Rattle.listing_rules.specs.Command.{Parsed, refused, namespace, list
 use Rattle.listing_rules.specs.Listing.{listedNames, attributes, childInfo}
 use Rattle.listing_rules.specs.Lines.{listLine, rootLine, okLine, quoted}
 use Rattle.listing_rules.specs.Lsub.{lsubNames, lsubLine}
-use Rattle.listing_rules.specs.Subscriptions.{Store, Edited, denied, stored, storeTable, edited}
+use Rattle.listing_rules.specs.Readers.{isReader}
+use Rattle.listing_rules.specs.Subscriptions.{Store, Edited, denied, stored, storeSeen, edited}
 
 -- a number of refusal, or the bytes of an answer
 pub data Reply : Type 0 where
@@ -58,7 +59,8 @@ answerTo rs es (rootOf tag) = answered (rootLine ++ okLine tag)
 answerTo rs es (subscriptions tag ps) = answered (lsubAnswer rs tag ps)
 answerTo rs es (editing tag e) = answered (okLine tag)
 
--- "Server order: 1, 2, 3, tag 4, 5, rest 4, 6, 7, 8, 9." The first eight; for an edit what is answered if it is not refused (`commanded`):
+-- "Server order: 1, 2, 3, tag 4, 5, rest 4, 6, 7, 8, 9." The first eight, over the table that the reader sees; for an edit what is answered if
+-- it is not refused (`commandedOver`):
 unfoldable pub answer : Table → List ℕ → List ℕ → Reply
 answer table spaces l =
     let r = answerTo (rows table) (entries spaces) (parsed l) in
@@ -89,23 +91,31 @@ unfoldable pub lengthOf : Reply → ℕ
 lengthOf (refusal k) = 0
 lengthOf (answered a) = length a
 
--- a command that only reads: the table, the namespace list, the line, and the answer buffer as it was lent
+-- a command that only reads: the table that the reader sees, the namespace list, the line, and the answer buffer as it was lent
 unfoldable pub served : Table → List ℕ → List ℕ → List ℕ → Reply
 served table spaces l buffer = limited (length buffer) (answer table spaces l)
+
+-- W9: "each command comes from reader 0 to 7 (above: 16, checked before 1)"
+unfoldable pub fromReader : ℕ → Reply → Reply
+fromReader reader r = cond (isReader reader) r (refusal 16)
+
+unfoldable pub servedTo : ℕ → Table → List ℕ → List ℕ → List ℕ → Reply
+servedTo reader table spaces l buffer = fromReader reader (served table spaces l buffer)
 
 -- What a command comes to: its reply, and the store that it leaves.
 pub record Commanded : Type 0 where
   pub reply : Reply
   pub store : Store
 
--- what a command makes of the store, if it is not refused elsewhere: an edit may be denied, another command leaves it as it is
-unfoldable pub attempted : Store → Parsed → Edited
-attempted s (editing tag e) = edited s e
-attempted s (refused k) = stored s
-attempted s (namespace tag) = stored s
-attempted s (listing tag o ps) = stored s
-attempted s (rootOf tag) = stored s
-attempted s (subscriptions tag ps) = stored s
+-- What a command makes of the store, if it is not refused elsewhere: an edit may be denied, another command leaves it as it is. W9: "edits
+-- are allowed to reader 0 only (else 16, just before 14)"; they "look at all rows".
+unfoldable pub attempted : ℕ → Store → Parsed → Edited
+attempted reader s (editing tag e) = cond (eqb reader 0) (edited s e) (denied 16)
+attempted reader s (refused k) = stored s
+attempted reader s (namespace tag) = stored s
+attempted reader s (listing tag o ps) = stored s
+attempted reader s (rootOf tag) = stored s
+attempted reader s (subscriptions tag ps) = stored s
 
 -- the number, and "A refusal changes nothing"
 unfoldable pub unchangedBy : Store → ℕ → Commanded
@@ -117,6 +127,12 @@ concluded s room e (refusal k) = unchangedBy s k
 concluded s room (denied k) (answered a) = unchangedBy s k
 concluded s room (stored t) (answered a) = cond (leb (length a) room) (record { reply = answered a; store = t }) (unchangedBy s 9)
 
--- one command over a store: the namespace list, the line, and the answer buffer as it was lent
-unfoldable pub commanded : Store → List ℕ → List ℕ → List ℕ → Commanded
-commanded s spaces l buffer = concluded s (length buffer) (attempted s (parsed l)) (answer (storeTable s) spaces l)
+-- A reader's command over a store, and over the table that the reader sees of it: the namespace list, the line, and the room of the answer
+-- buffer. "above: 16, checked before 1".
+unfoldable pub commandedOver : ℕ → Store → Table → List ℕ → List ℕ → ℕ → Commanded
+commandedOver reader s table spaces l room =
+    cond (isReader reader) (concluded s room (attempted reader s (parsed l)) (answer table spaces l)) (unchangedBy s 16)
+
+-- one command over a store: its reader, the namespace list, the line, and the answer buffer as it was lent
+unfoldable pub commanded : ℕ → Store → List ℕ → List ℕ → List ℕ → Commanded
+commanded reader s spaces l buffer = commandedOver reader s (storeSeen reader s) spaces l (length buffer)

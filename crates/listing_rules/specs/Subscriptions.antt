@@ -13,6 +13,7 @@ use Rattle.listing_rules.specs.Flags.{subscribed, noInferiors}
 use Rattle.listing_rules.specs.Command.{Edit, subscribe, unsubscribe}
 use Rattle.listing_rules.specs.Table.{Row, Table, hasRow}
 use Rattle.listing_rules.specs.Records.{Record, recordRows, recordTable}
+use Rattle.listing_rules.specs.Readers.{recordsSeen}
 
 -- The records of W4 with their count: "a row count is passed and given back, and records behind it are spare".
 pub record Store : Type 0 where
@@ -22,6 +23,10 @@ pub record Store : Type 0 where
 
 unfoldable pub storeTable : Store → Table
 storeTable s = recordTable (s .area) (s .records) (s .count)
+
+-- the table that a reader sees of it (W9)
+unfoldable pub storeSeen : ℕ → Store → Table
+storeSeen reader s = recordsSeen reader (s .area) (s .records) (s .count)
 
 -- the records that are rows, and their rows
 unfoldable pub held : Store → List Record
@@ -81,26 +86,28 @@ withoutSubscribed f = cond (subscribed f) (f - 2) f
 
 -- a record of zeros, which a freed record becomes
 unfoldable pub zeroRecord : Record
-zeroRecord = record { flags = 0; start = 0; len = 0 }
+zeroRecord = record { flags = 0; start = 0; len = 0; readers = 0 }
 
 unfoldable pub nth : List Record → ℕ → Record
 nth rs k = getD rs k zeroRecord
 
--- record k with other flags
+-- record k with other flags; W9: its readers stay
 unfoldable pub flagged : Store → ℕ → ℕ → Store
 flagged s k f =
     let r = nth (s .records) k in
     record {
-      records = take k (s .records) ++ (record { flags = f; start = r .start; len = r .len } ∷ drop (suc k) (s .records));
+      records = take k (s .records) ++ (record { flags = f; start = r .start; len = r .len; readers = r .readers } ∷ drop (suc k) (s .records));
       count = s .count;
       area = s .area;
     }
 
--- "inserts a row 0002": the rows from place k on move by one, and the first spare record is used up; the name lies at `start`
+-- "inserts a row 0002": the rows from place k on move by one, and the first spare record is used up; the name lies at `start`. W9: "An
+-- inserted row is seen by all eight."
 unfoldable pub inserted : Store → ℕ → ℕ → List ℕ → Store
 inserted s k start n =
     record {
-      records = take k (s .records) ++ (record { flags = 0x0002; start = start; len = length n } ∷ (drop k (held s) ++ drop (suc (s .count)) (s .records)));
+      records = take k (s .records)
+          ++ (record { flags = 0x0002; start = start; len = length n; readers = 0xFF } ∷ (drop k (held s) ++ drop (suc (s .count)) (s .records)));
       count = suc (s .count);
       area = overwritten (s .area) start n;
     }

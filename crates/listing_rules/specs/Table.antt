@@ -45,14 +45,15 @@ unfoldable pub passes : Table → Bool
 passes none = false
 passes (some rs) = rowsPass rs
 
--- "A row is flags (2 bytes, high byte first), name length 1 to 200, name." The row whose first byte is h, with t behind it.
+-- "A row is flags (2 bytes, high byte first), name length 1 to 200, name." W9: "A packed row has one byte of readers .. before the name
+-- length." The row whose first byte is h, with t behind it; its readers stand in its record (`Records.packedRecords`).
 unfoldable pub rowAt : ℕ → List ℕ → Row
-rowAt h t = record { flags = 256 * h + getD t 0 0; name = take (getD t 1 0) (drop 2 t) }
+rowAt h t = record { flags = 256 * h + getD t 0 0; name = take (getD t 2 0) (drop 3 t) }
 
 -- the rows of the bytes, of which the first `skip` still belong to the row before
 unfoldable pub rowsAfter : ℕ → List ℕ → List Row
 rowsAfter skip [] = []
-rowsAfter zero (h ∷ t) = rowAt h t ∷ rowsAfter (suc (suc (getD t 1 0))) t
+rowsAfter zero (h ∷ t) = rowAt h t ∷ rowsAfter (suc (suc (suc (getD t 2 0)))) t
 rowsAfter (suc k) (h ∷ t) = rowsAfter k t
 
 unfoldable pub packedRows : List ℕ → List Row
@@ -62,7 +63,7 @@ packedRows t = rowsAfter 0 t
 unfoldable pub rowsFill : ℕ → List ℕ → Bool
 rowsFill zero [] = true
 rowsFill (suc k) [] = false
-rowsFill zero (h ∷ t) = rowsFill (suc (suc (getD t 1 0))) t
+rowsFill zero (h ∷ t) = rowsFill (suc (suc (suc (getD t 2 0)))) t
 rowsFill (suc k) (h ∷ t) = rowsFill k t
 
 -- The packed form: "At most .. 32,768 bytes"; "rows fill it exactly".

@@ -7,6 +7,7 @@ use Prim.Native.Nat.{ℕ, zero, suc, _-_}
 use Rattle.listing_rules.specs.Bytes.{text, crlf, bit, slash, LF}
 use Rattle.listing_rules.specs.Lists.{joined, onFirst}
 use Rattle.listing_rules.specs.Table.{Table, rows, passes}
+use Rattle.listing_rules.specs.Readers.{isReader}
 use Rattle.listing_rules.specs.Options.{isNone}
 use Rattle.listing_rules.specs.Listing.{candidates}
 use Rattle.listing_rules.specs.Lines.{quoted, remotePlace, subscribedPlace, allPlace, archivePlace, draftsPlace, flaggedPlace, junkPlace}
@@ -133,7 +134,8 @@ unfoldable pub ended : Step Walked → WalkReply
 ended (stop k) = walkRefused k
 ended (go w) = walked (w .count) (packed (w .lists .finds)) (packed (w .lists .asks))
 
--- "Collector order: 1, 6, then the walk"; 6 is an option byte that is not lawful. No candidate is asked twice, so the candidates bound the steps.
+-- "Collector order: 1, 6, then the walk", over the table that the walk's reader sees; 6 is an option byte that is not lawful. No candidate is
+-- asked twice, so the candidates bound the steps.
 unfoldable pub walk : Table → ℕ → ℕ → ℕ → ℕ → WalkReply
 walk table o scratch found pending =
     let w = ended (walkAll table o scratch found pending (suc (suc (length (candidates (rows table)))))) in
@@ -169,6 +171,13 @@ pendingAfter room (walked c f p) = zeroBehind room p
 unfoldable pub scratchAfter : ℕ → WalkReply → List ℕ
 scratchAfter room r = replicate room 0
 
--- one collection: the table, the option byte, and the three buffers as they were lent
+-- one collection: the table that the reader sees, the option byte, and the three buffers as they were lent
 unfoldable pub collected : Table → ℕ → List ℕ → List ℕ → List ℕ → WalkReply
 collected table o scratch found pending = walk table o (length scratch) (length found) (length pending)
+
+-- a reader's walk, and collection. W9: a reader "above: 16, checked before 1"
+unfoldable pub walkBy : ℕ → Table → ℕ → ℕ → ℕ → ℕ → WalkReply
+walkBy reader table o scratch found pending = cond (isReader reader) (walk table o scratch found pending) (walkRefused 16)
+
+unfoldable pub collectedBy : ℕ → Table → ℕ → List ℕ → List ℕ → List ℕ → WalkReply
+collectedBy reader table o scratch found pending = walkBy reader table o (length scratch) (length found) (length pending)

@@ -26,7 +26,7 @@ pub record Sized (d : Lent) (line : List ℕ) : Type 0 where
   pub table : 16384 ≤ length (d .table)
   pub records : 512 ≤ length (d .records)
   pub namespaces : 1024 ≤ length (d .namespaces)
-  pub digits : 4100 ≤ length line
+  pub digits : 4102 ≤ length line
   pub out : 32771 ≤ length (d .out)
 
 -- "one frame a line ending in LF": how many frames a byte ends, and how many end in some bytes

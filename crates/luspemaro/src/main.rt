@@ -23,7 +23,7 @@ ghost use Rattle.luspemaro.specs.Serving.{Reached, Sized};
 use serving::Place;
 use serving::read_on;
 
-// The areas in document 01's sizes: stored bytes 16,384 and 1,024, digits 4,100.
+// The areas in document 01's sizes: stored bytes 16,384 and 1,024, digits 4,102.
 fn table_area() -> [u8; 16384]
     ensures { λ r. ⌜ 16384 ≡ length r ⌝ }
 {
@@ -43,10 +43,10 @@ fn namespaces_area() -> [u8; 1024]
     [0; 1024]
 }
 
-fn digits_area() -> [u8; 4100]
-    ensures { λ r. ⌜ 4100 ≡ length r ⌝ }
+fn digits_area() -> [u8; 4102]
+    ensures { λ r. ⌜ 4102 ≡ length r ⌝ }
 {
-    [0; 4100]
+    [0; 4102]
 }
 
 // Room for the longest line four times, so that a read's answers mostly go out together.

@@ -95,11 +95,13 @@ split {t} {before} {after} {n} s =
     size = roomy-fills t (length before) has
 
 -- the index of packed bytes
-pub finds-no-room : {t before after : List ℕ} → Splits t before after Fails → Finds t (packedTable t) before after Fails
+pub finds-no-room : {t before after : List ℕ} → Splits t before after Fails → Finds t (packedTable t) (packedRecords t) before after Fails
 unfolding unpackingOf
 finds-no-room {t} {before} {after} s =
     record {
-      answer = sym (indexing-no-room (length before) (packedTable t) (fails-decided (hasRoom (packedTable t) (length before)) (length (packedRecords t)) (s .answer)));
+      answer =
+          sym (indexing-no-room (length before) (packedTable t)
+          (fails-decided (hasRoom (packedTable t) (length before)) (length (packedRecords t)) (s .answer)));
       room = s .room;
       found = tt;
       stays = tt;
@@ -119,7 +121,8 @@ module _ {t before middle : List ℕ} {n : ℕ} (s : Split t before middle n) wh
   whole-length p e = length-append p (drop n middle) ∙ omega (arith, split-length, length-drop n middle, s .fits, s .room)
 
   module _ {part : List ℕ} where
-    pub finds-bad : Links t (take n middle) part (wordsPass t (take n middle)) false → Finds t (packedTable t) before (part ++ drop n middle) Fails
+    pub finds-bad : Links t (take n middle) part (wordsPass t (take n middle)) false →
+        Finds t (packedTable t) (packedRecords t) before (part ++ drop n middle) Fails
     finds-bad l =
         record {
           answer = sym (rw (s .table) (indexing-bad (length before) (packedRows t) (sym split-passes ∙ sym (l .answer))));
@@ -128,13 +131,16 @@ module _ {t before middle : List ℕ} {n : ℕ} (s : Split t before middle n) wh
           stays = tt;
         }
 
-    pub finds-rows : Links t (take n middle) part (wordsPass t (take n middle)) true → Finds t (packedTable t) before (part ++ drop n middle) (Rows n)
+    pub finds-rows : Links t (take n middle) part (wordsPass t (take n middle)) true →
+        Finds t (packedTable t) (packedRecords t) before (part ++ drop n middle) (Rows n)
     unfolding rows
     finds-rows l =
         record {
-          answer = sym (rw (s .table) (indexing-rows (length before) (packedRows t) (sym split-passes ∙ sym (l .answer)) (omega (arith, s .number, s .fits, s .room))) ∙ ap Rows (sym (s .number)));
+          answer =
+              sym (rw (s .table) (indexing-rows (length before) (packedRows t) (sym split-passes ∙ sym (l .answer))
+              (omega (arith, s .number, s .fits, s .room))) ∙ ap Rows (sym (s .number)));
           room = whole-length part (l .room);
-          found = rw (s .table, front) (s .number, same-rows, l .same .1);
+          found = rw (s .table, front) (s .number, same-rows, l .same .1, l .same .0 ∙ s .records);
           stays = drop-at part (drop n middle) n (l .room ∙ split-length) ∙ s .stays;
         }
       where
@@ -155,12 +161,14 @@ module _ (area raw : List ℕ) (count room : ℕ) where
   few-raw h = rw (length-map raw recordOf, lt-leb count (length raw) h) (indexing-none room)
 
   -- a count that there is no room for, or that is above the rows of a table
-  held-rows : count ≤ length raw → (b : Bool) → min room 512 < count → indexingOf (cond b (some (recordRows area (take count (map recordOf raw)))) none) room ≡ Fails
+  held-rows : count ≤ length raw → (b : Bool) → min room 512 < count →
+      indexingOf (cond b (some (recordRows area (take count (map recordOf raw)))) none) room ≡ Fails
   held-rows g false h = indexing-none room
   held-rows g true h = indexing-full room (recordRows area (take count (map recordOf raw))) (omega (arith, held-length))
     where
       held-length : length (recordRows area (take count (map recordOf raw))) ≡ count
-      held-length = rw (← map-take recordOf count raw, ← rows-records area (take count raw)) (rows-length area (take count raw) ∙ length-take-le count raw g)
+      held-length =
+          rw (← map-take recordOf count raw, ← rows-records area (take count raw)) (rows-length area (take count raw) ∙ length-take-le count raw g)
 
   pub words-many : min (min (length raw) room) 512 < count → indexingOf (wordTable area raw count) room ≡ Fails
   unfolding recordTable
@@ -196,7 +204,8 @@ module _ {area raw before : List ℕ} {count : ℕ} {middle : List ℕ} (x : Cop
   copied-fits = omega (arith, ap length (x .copy), length-append (take count raw) (drop count before), held-length)
 
   -- the table, by where its names lie
-  words-table : wordTable area raw count ≡ cond (every (liesInside area) (held raw count) && allApart (held raw count)) (some (rowsAt area (take count raw))) none
+  words-table : wordTable area raw count ≡ cond (every (liesInside area) (held raw count) && allApart (held raw count))
+      (some (rowsAt area (take count raw))) none
   unfolding recordTable laidOut
   words-table =
       rw (
@@ -210,7 +219,8 @@ module _ {area raw before : List ℕ} {count : ℕ} {middle : List ℕ} (x : Cop
   not-passing : wordsPass area (take count raw) ≡ false → indexingOf (wordTable area raw count) (length before) ≡ Fails
   not-passing e = rw words-table (go (every (liesInside area) (held raw count)) (allApart (held raw count)) refl e)
     where
-      go : (a b : Bool) → every (liesInside area) (held raw count) ≡ a → (every (liesInside area) (held raw count) && rowsPass (rowsAt area (take count raw))) ≡ false
+      go : (a b : Bool) → every (liesInside area) (held raw count) ≡ a →
+          (every (liesInside area) (held raw count) && rowsPass (rowsAt area (take count raw))) ≡ false
           → indexingOf (cond (a && b) (some (rowsAt area (take count raw))) none) (length before) ≡ Fails
       go false b y d = indexing-none (length before)
       go true false y d = indexing-none (length before)
@@ -233,11 +243,13 @@ module _ {area raw before : List ℕ} {count : ℕ} {middle : List ℕ} (x : Cop
     pub words-room : length (part ++ drop count middle) ≡ length before
     words-room = length-append part (drop count middle) ∙ omega (arith, part-length, ap length copied-rest, length-drop count before, x .many)
 
-    fails : indexingOf (wordTable area raw count) (length before) ≡ Fails → Finds area (wordTable area raw count) before (part ++ drop count middle) Fails
+    fails : indexingOf (wordTable area raw count) (length before) ≡ Fails →
+        Finds area (wordTable area raw count) (take count (map recordOf raw)) before (part ++ drop count middle) Fails
     fails e = record { answer = sym e; room = words-room; found = tt; stays = tt }
 
   module _ {part : List ℕ} where
-    pub words-bad : Links area (take count middle) part (wordsPass area (take count middle)) false → Finds area (wordTable area raw count) before (part ++ drop count middle) Fails
+    pub words-bad : Links area (take count middle) part (wordsPass area (take count middle)) false →
+        Finds area (wordTable area raw count) (take count (map recordOf raw)) before (part ++ drop count middle) Fails
     words-bad l = fails l (not-passing (rw copied-front at (sym (l .answer))))
 
     module _ (l : Links area (take count middle) part (wordsPass area (take count middle)) true) where
@@ -247,16 +259,20 @@ module _ {area raw before : List ℕ} {count : ℕ} {middle : List ℕ} (x : Cop
       part-records : map recordOf part ≡ held raw count
       part-records = l .same .0 ∙ ap (map recordOf) copied-front
 
-      pub words-overlap : allApart (map recordOf part) ≡ false → Finds area (wordTable area raw count) before (part ++ drop count middle) Fails
+      pub words-overlap : allApart (map recordOf part) ≡ false →
+          Finds area (wordTable area raw count) (take count (map recordOf raw)) before (part ++ drop count middle) Fails
       words-overlap e = fails l (overlapping (rw part-records at e))
 
-      pub words-rows : allApart (map recordOf part) ≡ true → Finds area (wordTable area raw count) before (part ++ drop count middle) (Rows count)
+      pub words-rows : allApart (map recordOf part) ≡ true →
+          Finds area (wordTable area raw count) (take count (map recordOf raw)) before (part ++ drop count middle) (Rows count)
       unfolding rows
       words-rows e =
           record {
-            answer = sym (rw table (indexing-rows (length before) (rowsAt area (take count raw)) rows-pass (omega (arith, rows-number, x .many))) ∙ ap Rows rows-number);
+            answer =
+                sym (rw table (indexing-rows (length before) (rowsAt area (take count raw)) rows-pass (omega (arith, rows-number, x .many))) ∙ ap Rows
+                rows-number);
             room = words-room l;
-            found = rw (table, words-front l) (sym rows-number, same-rows, l .same .1);
+            found = rw (table, words-front l) (sym rows-number, same-rows, l .same .1, part-records ∙ map-take recordOf count raw);
             stays = drop-at part (drop count middle) count (part-length l) ∙ copied-rest;
           }
         where
@@ -273,22 +289,29 @@ module _ {area raw before : List ℕ} {count : ℕ} {middle : List ℕ} (x : Cop
           same-rows = rw (rows-records area part, part-records, ← rows-records area (take count raw))
 
 -- what the passes answer is what the entries answer, once the words are cleared where they fail
-pub indexes-rows : {area : List ℕ} {t : Table} {before after : List ℕ} {n : ℕ} → Finds area t before after (Rows n) → Indexes area t before after (Rows n)
+pub indexes-rows : {area : List ℕ} {t : Table} {rs : List Record} {before after : List ℕ} {n : ℕ} → Finds area t rs before after (Rows n) →
+    Indexes area t rs before after (Rows n)
 indexes-rows x = record { answer = x .answer; room = x .room; found = x .found; rest = x .stays }
 
-cleared-length : (before after cleared : List ℕ) → length after ≡ length before → cleared ≡ replicate (length after) 0 → length cleared ≡ length before
+cleared-length : (before after cleared : List ℕ) → length after ≡ length before → cleared ≡ replicate (length after) 0 →
+    length cleared ≡ length before
 cleared-length before after cleared h e = ap length e ∙ length-replicate (length after) 0 ∙ h
 
-cleared-rest : (before after cleared : List ℕ) → length after ≡ length before → cleared ≡ replicate (length after) 0 → cleared ≡ replicate (length before) 0
+cleared-rest : (before after cleared : List ℕ) → length after ≡ length before → cleared ≡ replicate (length after) 0 →
+    cleared ≡ replicate (length before) 0
 cleared-rest before after cleared h e = e ∙ ap (λ (n : ℕ). replicate n 0) h
 
-pub indexes-fails : {area : List ℕ} {t : Table} {before after cleared : List ℕ} → Finds area t before after Fails → cleared ≡ replicate (length after) 0 → Indexes area t before cleared Fails
-indexes-fails {area} {t} {before} {after} {cleared} x e =
-    record { answer = x .answer; room = cleared-length before after cleared (x .room) e; found = tt; rest = cleared-rest before after cleared (x .room) e }
+pub indexes-fails : {area : List ℕ} {t : Table} {rs : List Record} {before after cleared : List ℕ} → Finds area t rs before after Fails →
+    cleared ≡ replicate (length after) 0 → Indexes area t rs before cleared Fails
+indexes-fails {area} {t} {rs} {before} {after} {cleared} x e =
+    record
+    { answer = x .answer; room = cleared-length before after cleared (x .room) e; found = tt; rest = cleared-rest before after cleared (x .room) e }
 
 pub unpacks-rows : {t before after : List ℕ} {n : ℕ} → Splits t before after (Rows n) → Unpacks t before after (Rows n)
 unpacks-rows x = record { answer = x .answer; room = x .room; records = x .records; rest = x .stays }
 
-pub unpacks-fails : {t before after cleared : List ℕ} → Splits t before after Fails → cleared ≡ replicate (length after) 0 → Unpacks t before cleared Fails
+pub unpacks-fails : {t before after cleared : List ℕ} → Splits t before after Fails → cleared ≡ replicate (length after) 0 →
+    Unpacks t before cleared Fails
 unpacks-fails {t} {before} {after} {cleared} x e =
-    record { answer = x .answer; room = cleared-length before after cleared (x .room) e; records = tt; rest = cleared-rest before after cleared (x .room) e }
+    record
+    { answer = x .answer; room = cleared-length before after cleared (x .room) e; records = tt; rest = cleared-rest before after cleared (x .room) e }

@@ -2,7 +2,7 @@
 -- the parts of check 1 in listing_rules.
 use mathlib.Core.Path.{_≡_, refl, sym, _∙_, subst}
 use mathlib.Core.Bool.{Bool, true, false, _&&_, false≢true}
-use mathlib.Core.List.{List}
+use mathlib.Core.List.{List, map}
 use Prim.Native.Nat.{ℕ, _≤_}
 use native.Mathlib.Omega.{arith}
 use lib.Dec.{leb}
@@ -10,6 +10,8 @@ use lib.ListN.{length, take}
 use lib.Seq.{length-take-le}
 use borrow.Author.Tests.{le-leb, leb-true}
 use Rattle.listing_rules.specs.Table.{Table, rows, passes}
+use Rattle.listing_rules.specs.Records.{Record}
+use Rattle.records.specs.Words.{recordOf}
 use Rattle.listing_rules.proofs.Bools.{and-l, and-r, and-i}
 use Rattle.listing_rules.proofs.Passes.{TableParts, passes-parts}
 use Rattle.mailbox_table.specs.declared.Indexing.{Indexing}
@@ -17,8 +19,8 @@ use Rattle.mailbox_table.specs.declared.Indexing.the-variants.{Rows, Fai
 use Rattle.mailbox_table.specs.Index.{rowsAt, Lawful, Index, indexingOf, Found, Indexes}
 use Rattle.mailbox_table.proofs.AnswerLaws.{rows-decided, fails-decided}
 
-module _ {area : List ℕ} {t : Table} {before after : List ℕ} {r : Indexing} (x : Indexes area t before after r) where
-  -- What a caller has who found n rows: the table passes, and the first n words are the index of its rows.
+module _ {area : List ℕ} {t : Table} {records : List Record} {before after : List ℕ} {r : Indexing} (x : Indexes area t records before after r) where
+  -- What a caller has who found n rows: the table passes, and the first n words are the index of its rows and tell its records.
   pub record Held (n : ℕ) : Type 0 where
     pub table-passes : passes t ≡ true
     pub number : n ≡ length (rows t)
@@ -26,6 +28,7 @@ module _ {area : List ℕ} {t : Table} {before after : List ℕ} {r : Indexing} 
     pub size : n ≡ length (take n after)
     pub same : rowsAt area (take n after) ≡ rows t
     pub index : Index area (take n after)
+    pub told : map recordOf (take n after) ≡ records
 
   pub index-held : (n : ℕ) → r ≡ Rows n → Held n
   unfolding indexingOf
@@ -41,10 +44,11 @@ module _ {area : List ℕ} {t : Table} {before after : List ℕ} {r : Indexing} 
           few = omega (arith, length-take-le n after fits, found .0, parts .few);
           lawful = subst Lawful (sym (found .1)) (parts .lawful-names);
         };
+        told = found .3;
       }
     where
-      found : Found area (rows t) after (Rows n)
-      found = subst (Found area (rows t) after) e (x .found)
+      found : Found area (rows t) records after (Rows n)
+      found = subst (Found area (rows t) records after) e (x .found)
 
       roomy : (passes t && leb (length (rows t)) (length before)) ≡ true
       roomy = rows-decided (passes t && leb (length (rows t)) (length before)) (length (rows t)) n (sym e ∙ x .answer) .0
@@ -56,7 +60,9 @@ module _ {area : List ℕ} {t : Table} {before after : List ℕ} {r : Indexing} 
       parts = passes-parts t passing
 
       fits : n ≤ length after
-      fits = omega (arith, found .0, x .room, leb-true (length (rows t)) (length before) (and-r (passes t) (leb (length (rows t)) (length before)) roomy))
+      fits =
+          omega
+          (arith, found .0, x .room, leb-true (length (rows t)) (length before) (and-r (passes t) (leb (length (rows t)) (length before)) roomy))
 
   -- with room for every row that a table may have, the index fails exactly if the table does not pass
   pub index-refused : length before ≡ 512 → r ≡ Fails → passes t ≡ false
@@ -70,4 +76,5 @@ module _ {area : List ℕ} {t : Table} {before after : List ℕ} {r : Indexing} 
       go false p = refl
       go true p =
           let few = passes-parts t p .few in
-          absurd (false≢true (sym failed ∙ and-i (passes t) (leb (length (rows t)) (length before)) p (le-leb (length (rows t)) (length before) (omega (arith, h)))))
+          absurd (false≢true (sym failed ∙ and-i (passes t) (leb (length (rows t)) (length before)) p
+          (le-leb (length (rows t)) (length before) (omega (arith, h)))))

@@ -4,6 +4,7 @@ pub mod SharedLaws
 pub mod BelowLaws
 pub mod IndexLaws
 pub mod ScanLaws
+pub mod SeenLaws
 pub mod HeldLaws
 pub mod UnpackedLaws
 mod AnswerLaws

@@ -25,8 +25,9 @@ use Rattle.mailbox_table.specs.declared.rows.Step.the-variants.{Next, Ba
 use Rattle.mailbox_table.specs.Words.{wordOf, rowOfWord, Packs}
 use Rattle.records.specs.Words.{recordOf}
 use Rattle.mailbox_table.specs.Index.{nameAt, rowsAt}
+use Rattle.mailbox_table.specs.Below.{marksOf, withMarks}
 use Rattle.mailbox_table.specs.Link.{nameIn, rowsRight, goodWord, linkedRow, stepOf, linked, Links}
-use Rattle.mailbox_table.proofs.WordLaws.{row-word, record-row, record-word, flags-fit, place-fits, rows-records}
+use Rattle.mailbox_table.proofs.WordLaws.{row-word, row-with, record-row, record-word, marks-readers, flags-fit, place-fits, rows-records}
 use Rattle.mailbox_table.proofs.SharedLaws.{shared-le-r}
 use Rattle.mailbox_table.proofs.BelowLaws.{ascends-tail}
 use Rattle.mailbox_table.proofs.RightLaws.{right-parts}
@@ -50,7 +51,8 @@ module _ (area x : List ℕ) (w : ℕ) where
   unfolding stepOf goodWord
   step-order e = simp (e, and-false)
 
-  pub step-good : rowOfWord w .start + rowOfWord w .len ≤ length area → lawfulFlags (rowOfWord w .flags .bits) ≡ true → lawfulName (nameAt area w) ≡ true
+  pub step-good : rowOfWord w .start + rowOfWord w .len ≤ length area → lawfulFlags (rowOfWord w .flags .bits) ≡ true →
+      lawfulName (nameAt area w) ≡ true
       → isLt (byteOrder x (nameAt area w)) ≡ true → stepOf area x w ≡ Next (linkedRow area x w)
   unfolding stepOf goodWord liesInside recordOf rowOfWord
   step-good h f n o = simp (le-leb (rowOfWord w .start + rowOfWord w .len) (length area) h, f, n, o)
@@ -71,7 +73,8 @@ module _ (area x : List ℕ) (w : ℕ) where
   module _ (g : goodWord area x w ≡ true) where
     good-inside : rowOfWord w .start + rowOfWord w .len ≤ length area
     unfolding goodWord liesInside recordOf rowOfWord
-    good-inside = leb-true (rowOfWord w .start + rowOfWord w .len) (length area) (and-l (leb (rowOfWord w .start + rowOfWord w .len) (length area)) _ g)
+    good-inside =
+        leb-true (rowOfWord w .start + rowOfWord w .len) (length area) (and-l (leb (rowOfWord w .start + rowOfWord w .len) (length area)) _ g)
 
     good-name : GoodParts (nameAt area w)
     unfolding goodWord
@@ -84,6 +87,10 @@ module _ (area x : List ℕ) (w : ℕ) where
     good-length : length (nameAt area w) ≡ rowOfWord w .len
     unfolding nameAt
     good-length = simp (length-take, length-drop) (omega (arith, good-inside))
+
+-- the word of a row that is linked now, with the readers of the word that it was
+abbrev relinkedWord : ℕ → Row → ℕ
+relinkedWord w r = withMarks (marksOf w) (wordOf r)
 
 -- a row that a step gives, and its word
 module _ (area x : List ℕ) (w : ℕ) (r : Row) (e : stepOf area x w ≡ Next r) where
@@ -102,13 +109,13 @@ module _ (area x : List ℕ) (w : ℕ) (r : Row) (e : stepOf area x w ≡ Next r
   bits-fit : r .flags .bits < 65536
   bits-fit = rw (step-next .0) (flags-fit w)
 
-  word-row : rowOfWord (wordOf r) ≡ linkedRow area x w
-  word-row = row-word r bits-fit step-packs ∙ step-next .0
+  word-row : rowOfWord (relinkedWord w r) ≡ linkedRow area x w
+  word-row = row-with (marksOf w) (wordOf r) ∙ row-word r bits-fit step-packs ∙ step-next .0
 
-  word-record : recordOf (wordOf r) ≡ recordOf w
-  word-record = record-word r bits-fit step-packs ∙ rw (step-next .0) (sym (record-row w))
+  word-record : recordOf (relinkedWord w r) ≡ recordOf w
+  word-record = record-word (marksOf w) r bits-fit step-packs ∙ rw (step-next .0, marks-readers w) (sym (record-row w))
 
-  word-name : nameAt area (wordOf r) ≡ nameAt area w
+  word-name : nameAt area (relinkedWord w r) ≡ nameAt area w
   unfolding nameAt
   word-name = rw word-row
 
@@ -116,10 +123,12 @@ module _ (area x : List ℕ) (w : ℕ) (r : Row) (e : stepOf area x w ≡ Next r
   unfolding nameAt
   row-name = rw (step-next .0)
 
-  word-kept : {ws : List ℕ} → Kept area ws x → Kept area (ws ++ wordOf r ∷ []) (nameIn area r)
+  word-kept : {ws : List ℕ} → Kept area ws x → Kept area (ws ++ relinkedWord w r ∷ []) (nameIn area r)
   word-kept k =
       rw (row-name, ← word-name)
-      (kept-more k (wordOf r) (rw (word-name, word-row)) (rw word-row (omega (arith, good-name area x w (step-next .1) .least, good-length area x w (step-next .1)))) (rw word-row (good-inside area x w (step-next .1))))
+      (kept-more k (relinkedWord w r) (rw (word-name, word-row))
+      (rw word-row (omega (arith, good-name area x w (step-next .1) .least, good-length area x w (step-next .1))))
+      (rw word-row (good-inside area x w (step-next .1))))
 
 -- every word is good after the one before: each name lies in the area, and the rows are right
 and-middle : (a b c d : Bool) → ((a && b) && (c && d)) ≡ ((a && c) && (b && d))
@@ -137,9 +146,11 @@ linked-is area x (w ∷ ws) =
 linked-ascend : (area ws : List ℕ) → linked area [] ws ≡ true → ascends (names (rowsAt area ws)) ≡ true
 linked-ascend area ws e =
     ascends-tail [] (names (rowsAt area ws))
-    (right-parts [] (rowsAt area ws) (and-r (every (liesInside area) (map recordOf ws)) (rowsRight [] (rowsAt area ws)) (sym (linked-is area [] ws) ∙ e)) .ascend)
+    (right-parts [] (rowsAt area ws) (and-r (every (liesInside area) (map recordOf ws)) (rowsRight [] (rowsAt area ws))
+    (sym (linked-is area [] ws) ∙ e)) .ascend)
 
-linked-cons : (area x ws : List ℕ) (i : ℕ) → i < length ws → linked area x (drop i ws) ≡ (goodWord area x (getD ws i 0) && linked area (nameAt area (getD ws i 0)) (drop (i + 1) ws))
+linked-cons : (area x ws : List ℕ) (i : ℕ) → i < length ws →
+    linked area x (drop i ws) ≡ (goodWord area x (getD ws i 0) && linked area (nameAt area (getD ws i 0)) (drop (i + 1) ws))
 unfolding linked
 linked-cons area x ws i h = rw (add-one i, drop-cons ws i 0 h)
 
@@ -174,24 +185,31 @@ module _ {area before words : List ℕ} {previous : Row} {i : ℕ} (c : Linking 
       bad = rw word-here at (rw e at (step-is area (nameIn area previous) (getD words i 0)))
 
   module _ (r : Row) (e : stepOf area (nameIn area previous) (getD words i 0) ≡ Next r) where
-    pub linking-more : Linking area before (set words i (wordOf r)) r (i + 1)
+    abbrev v : ℕ
+    v = relinkedWord (getD words i 0) r
+
+    pub linking-more : Linking area before (set words i v) r (i + 1)
     linking-more =
         record {
           inside = omega arith;
-          size = length-set words i (wordOf r) ∙ c .size;
-          later = drop-set-lt (i + 1) words i (wordOf r) (omega arith) ∙ sym (drop-drop 1 i words) ∙ ap (λ (l : List ℕ). drop 1 l) (c .later) ∙ drop-drop 1 i before;
+          size = length-set words i v ∙ c .size;
+          later =
+              drop-set-lt (i + 1) words i v (omega arith) ∙ sym (drop-drop 1 i words) ∙ ap (λ (l : List ℕ). drop 1 l) (c .later) ∙ drop-drop 1 i
+              before;
           left = left-more;
-          passed = rw (taken, taken-before, map-append recordOf (take i words) (wordOf r ∷ []), map-append recordOf (take i before) (getD before i 0 ∷ []), c .passed, told);
+          passed =
+              rw
+              (taken, taken-before, map-append recordOf (take i words) (v ∷ []), map-append recordOf (take i before) (getD before i 0 ∷ []), c .passed, told);
           kept = rw taken (word-kept area (nameIn area previous) (getD words i 0) r e (c .kept));
         }
       where
-        taken : take (i + 1) (set words i (wordOf r)) ≡ take i words ++ wordOf r ∷ []
-        taken = rw (add-one i) (take-suc-set words i (wordOf r) (omega (arith, c .size)))
+        taken : take (i + 1) (set words i v) ≡ take i words ++ v ∷ []
+        taken = rw (add-one i) (take-suc-set words i v (omega (arith, c .size)))
 
         taken-before : take (i + 1) before ≡ take i before ++ getD before i 0 ∷ []
         taken-before = rw (add-one i) (take-suc before i 0 h)
 
-        told : recordOf (wordOf r) ≡ recordOf (getD before i 0)
+        told : recordOf v ≡ recordOf (getD before i 0)
         told = word-record area (nameIn area previous) (getD words i 0) r e ∙ ap recordOf word-here
 
         good : goodWord area (nameIn area previous) (getD before i 0) ≡ true
@@ -207,9 +225,11 @@ module _ {area before after : List ℕ} where
   pub links-fails : {due : Bool} → due ≡ false → length after ≡ length before → Links area before after due false
   links-fails e h = record { answer = sym e; room = h; same = tt }
 
-  pub links-rows : {previous : Row} {i : ℕ} → Linking area before after previous i → length after ≤ i → Links area before after (linked area [] before) true
+  pub links-rows : {previous : Row} {i : ℕ} → Linking area before after previous i → length after ≤ i →
+      Links area before after (linked area [] before) true
   unfolding linked
-  links-rows {previous} {i} c h = record { answer = sym decided; room = c .size; same = (same-records, kept-indexed (rw whole at (c .kept)) ascending) }
+  links-rows {previous} {i} c h = record
+      { answer = sym decided; room = c .size; same = (same-records, kept-indexed (rw whole at (c .kept)) ascending) }
     where
       whole : take i after ≡ after
       whole = take-all i after h

@@ -3,7 +3,7 @@
 use mathlib.Core.Path.{_≡_, refl, sym, ap, _∙_}
 use mathlib.Core.Bool.{Bool, true, false, cond, _&&_, and-false}
 use mathlib.Core.List.{List, [], _∷_, _++_, map, append-nil}
-use Prim.Native.Nat.{ℕ, suc, _+_, _-_, _*_, _≤_, _<_, min}
+use Prim.Native.Nat.{ℕ, suc, _+_, _-_, _*_, _%_, _≤_, _<_, min}
 use native.Mathlib.Nat.{add-zero, zero-add}
 use native.Mathlib.Numerals.{add-one}
 use native.Mathlib.Omega.{arith}
@@ -24,27 +24,28 @@ use Rattle.mailbox_table.specs.declared.rows.Step.{Step}
 use Rattle.mailbox_table.specs.declared.rows.Step.the-variants.{Next, Bad}
 use Rattle.mailbox_table.specs.Words.{wordOf, Packs}
 use Rattle.records.specs.Words.{recordOf}
+use Rattle.mailbox_table.specs.Below.{withMarks}
 use Rattle.mailbox_table.specs.Packed.{wholeThere, rowThere, stepAt, hasRoom, unpackingOf, Splits}
 use Rattle.mailbox_table.proofs.WordLaws.{record-word}
 
 -- the row at a place, by the tests of the code
 module _ (t : List ℕ) (at : ℕ) where
-  pub step-stub : length t - at < 3 → stepAt t at ≡ Bad
+  pub step-stub : length t - at < 4 → stepAt t at ≡ Bad
   unfolding stepAt wholeThere
-  step-stub h = rw (lt-leb 3 (length t - at) h)
+  step-stub h = rw (lt-leb 4 (length t - at) h)
 
-  pub step-short : length t - at - 3 < getD t (at + 2) 0 → stepAt t at ≡ Bad
+  pub step-short : length t - at - 4 < getD t (at + 3) 0 → stepAt t at ≡ Bad
   unfolding stepAt wholeThere
-  step-short h = simp (lt-leb (getD t (at + 2) 0) (length t - at - 3) h, and-false)
+  step-short h = simp (lt-leb (getD t (at + 3) 0) (length t - at - 4) h, and-false)
 
-  pub step-whole : 3 ≤ length t - at → getD t (at + 2) 0 ≤ length t - at - 3 → stepAt t at ≡ Next (rowThere t at)
+  pub step-whole : 4 ≤ length t - at → getD t (at + 3) 0 ≤ length t - at - 4 → stepAt t at ≡ Next (rowThere t at)
   unfolding stepAt wholeThere
-  step-whole h k = simp (le-leb 3 (length t - at) h, le-leb (getD t (at + 2) 0) (length t - at - 3) k)
+  step-whole h k = simp (le-leb 4 (length t - at) h, le-leb (getD t (at + 3) 0) (length t - at - 4) k)
 
   -- the row that the code makes
-  pub row-there : {bits len : ℕ} → bits ≡ 256 * getD t at 0 + getD t (at + 1) 0 → len ≡ getD t (at + 2) 0
-      → record { flags = record { bits = bits }; start = at + 3; len = len; shared = 0 } ≡ rowThere t at
-  row-there f l = λ i. record { flags = record { bits = f i }; start = at + 3; len = l i; shared = 0 }
+  pub row-there : {bits len : ℕ} → bits ≡ 256 * getD t at 0 + getD t (at + 1) 0 → len ≡ getD t (at + 3) 0
+      → record { flags = record { bits = bits }; start = at + 4; len = len; shared = 0 } ≡ rowThere t at
+  row-there f l = λ i. record { flags = record { bits = f i }; start = at + 4; len = l i; shared = 0 }
 
   -- what a step says
   abbrev pub StepIs : Step → Type 0
@@ -59,12 +60,16 @@ module _ (t : List ℕ) (at : ℕ) where
       go true p = (refl, p)
       go false p = p
 
-  whole-fits : wholeThere t at ≡ true → (3 ≤ length t - at) × (getD t (at + 2) 0 ≤ length t - at - 3)
+  whole-fits : wholeThere t at ≡ true → (4 ≤ length t - at) × (getD t (at + 3) 0 ≤ length t - at - 4)
   unfolding wholeThere
   whole-fits w =
       let left = length t - at in
-      let len = getD t (at + 2) 0 in
-      (leb-true 3 left (and-l (leb 3 left) (leb len (left - 3)) w), leb-true len (left - 3) (and-r (leb 3 left) (leb len (left - 3)) w))
+      let len = getD t (at + 3) 0 in
+      (leb-true 4 left (and-l (leb 4 left) (leb len (left - 4)) w), leb-true len (left - 4) (and-r (leb 4 left) (leb len (left - 4)) w))
+
+-- the word of a row that begins at a place, with its readers
+abbrev wordThere : List ℕ → ℕ → Row → ℕ
+wordThere t at r = withMarks (getD t (at + 2) 0) (wordOf r)
 
 -- a row that a step gives: where it lies, and what its word tells
 module _ (t : List ℕ) (at : ℕ) (r : Row) (e : stepAt t at ≡ Next r) where
@@ -74,23 +79,26 @@ module _ (t : List ℕ) (at : ℕ) (r : Row) (e : stepAt t at ≡ Next r) where
   pub step-inside : r .start + r .len ≤ length t
   step-inside = rw (step-next .0) (omega (arith, whole-fits t at (step-next .1)))
 
-  pub step-start : r .start ≡ at + 3
+  pub step-start : r .start ≡ at + 4
   step-start = rw (step-next .0)
 
-  step-end : r .start + r .len ≡ at + 3 + getD t (at + 2) 0
+  step-end : r .start + r .len ≡ at + 4 + getD t (at + 3) 0
   step-end = rw (step-next .0)
 
   module _ (h : length t ≤ 32768) (b : (k : ℕ) → getD t k 0 < 256) where
     pub step-packs : Packs r
     step-packs =
         rw (step-next .0)
-        (record { start = omega (arith, whole-fits t at (step-next .1)); len = omega (arith, b (at + 2)); shared = omega arith })
+        (record { start = omega (arith, whole-fits t at (step-next .1)); len = omega (arith, b (at + 3)); shared = omega arith })
 
-    word-there : recordOf (wordOf r) ≡ recordThere t at
-    word-there = record-word r bits step-packs ∙ rw (step-next .0)
+    word-there : recordOf (wordThere t at r) ≡ recordThere t at
+    word-there = record-word (getD t (at + 2) 0) r bits step-packs ∙ rw (step-next .0, readers)
       where
         bits : r .flags .bits < 65536
         bits = rw (step-next .0) (omega (arith, b at, b (at + 1)))
+
+        readers : getD t (at + 2) 0 % 256 ≡ getD t (at + 2) 0
+        readers = omega (arith, b (at + 2))
 
 -- the bytes from a place on are rows, with room for them beside n rows
 unfoldable pub splits : ℕ → ℕ → ℕ → List ℕ → Bool
@@ -105,22 +113,22 @@ module _ (t : List ℕ) (limit n at : ℕ) where
     splits-full : limit ≤ n → splits limit n at t ≡ false
     unfolding splits
     splits-full k =
-        let more = recordsAfter (at + 3 + getD t (at + 2) 0) 0 (drop (at + 3 + getD t (at + 2) 0) t) in
+        let more = recordsAfter (at + 4 + getD t (at + 3) 0) 0 (drop (at + 4 + getD t (at + 3) 0) t) in
         rw (records-at t at h) (simp (lt-leb (n + suc (length more)) limit (omega arith), and-false))
 
     splits-bad : wholeThere t at ≡ false → splits limit n at t ≡ false
     unfolding splits wholeThere
-    splits-bad e = go (leb 3 (length t - at)) refl e
+    splits-bad e = go (leb 4 (length t - at)) refl e
       where
-        go : (o : Bool) → leb 3 (length t - at) ≡ o → (o && leb (getD t (at + 2) 0) (length t - at - 3)) ≡ false → splits limit n at t ≡ false
-        go true p d = rw (at-bad t at (leb-true 3 (length t - at) p) (leb-false (getD t (at + 2) 0) (length t - at - 3) d))
-        go false p d = rw (at-stub t at h (leb-false 3 (length t - at) p))
+        go : (o : Bool) → leb 4 (length t - at) ≡ o → (o && leb (getD t (at + 3) 0) (length t - at - 4)) ≡ false → splits limit n at t ≡ false
+        go true p d = rw (at-bad t at (leb-true 4 (length t - at) p) (leb-false (getD t (at + 3) 0) (length t - at - 4) d))
+        go false p d = rw (at-stub t at h (leb-false 4 (length t - at) p))
 
-    splits-next : wholeThere t at ≡ true → splits limit n at t ≡ splits limit (n + 1) (at + 3 + getD t (at + 2) 0) t
+    splits-next : wholeThere t at ≡ true → splits limit n at t ≡ splits limit (n + 1) (at + 4 + getD t (at + 3) 0) t
     unfolding splits
     splits-next w =
         let k = whole-fits t at w in
-        let more = recordsAfter (at + 3 + getD t (at + 2) 0) 0 (drop (at + 3 + getD t (at + 2) 0) t) in
+        let more = recordsAfter (at + 4 + getD t (at + 3) 0) 0 (drop (at + 4 + getD t (at + 3) 0) t) in
         let e : n + suc (length more) ≡ n + 1 + length more = omega arith in
         rw (records-at t at h, at-row t at (k .0) (k .1), e)
 
@@ -154,21 +162,23 @@ module _ {t before : List ℕ} {limit : ℕ} {words : List ℕ} {n at : ℕ} (c 
         bad = rw e at (step-is t at)
 
     pub splitting-more : length t ≤ 32768 → ((k : ℕ) → getD t k 0 < 256) → n < limit → limit ≤ length before → (r : Row) → stepAt t at ≡ Next r
-        → Splitting t before limit (set words n (wordOf r)) (n + 1) (r .start + r .len)
+        → Splitting t before limit (set words n (wordThere t at r)) (n + 1) (r .start + r .len)
     splitting-more h b k l r e =
         record {
           inside = step-inside t at r e;
           count = omega arith;
-          size = length-set words n (wordOf r) ∙ c .size;
-          later = drop-set-lt (n + 1) words n (wordOf r) (omega arith) ∙ sym (drop-drop 1 n words) ∙ ap (λ (l : List ℕ). drop 1 l) (c .later) ∙ drop-drop 1 n before;
+          size = length-set words n (wordThere t at r) ∙ c .size;
+          later =
+              drop-set-lt (n + 1) words n (wordThere t at r) (omega arith) ∙ sym (drop-drop 1 n words) ∙ ap (λ (l : List ℕ). drop 1 l) (c .later) ∙
+              drop-drop 1 n before;
           left = rw (step-end t at r e) (sym (splits-next t limit n at inside (step-next t at r e .1)) ∙ c .left);
           passed =
-              rw (taken, step-end t at r e, records-snoc (take n words) (wordOf r) (recordsAfter (at + 3 + getD t (at + 2) 0) 0 (drop (at + 3 + getD t (at + 2) 0) t)), word-there t at r e h b)
+              rw (taken, step-end t at r e, records-snoc (take n words) (wordThere t at r) (recordsAfter (at + 4 + getD t (at + 3) 0) 0 (drop (at + 4 + getD t (at + 3) 0) t)), word-there t at r e h b)
               (c .passed ∙ rw (records-at t at inside));
         }
       where
-        taken : take (n + 1) (set words n (wordOf r)) ≡ take n words ++ wordOf r ∷ []
-        taken = rw (add-one n) (take-suc-set words n (wordOf r) (omega (arith, c .size)))
+        taken : take (n + 1) (set words n (wordThere t at r)) ≡ take n words ++ wordThere t at r ∷ []
+        taken = rw (add-one n) (take-suc-set words n (wordThere t at r) (omega (arith, c .size)))
 
   splitting-done : length t ≤ at → (splits limit 0 0 t ≡ true) × (map recordOf (take n words) ≡ packedRecords t)
   splitting-done h = (
@@ -198,5 +208,6 @@ module _ {t before after : List ℕ} (limit : ℕ) (e : limit ≡ min (length be
   unfolding unpackingOf
   splits-rows {n} c k =
       let w = splitting-done c k in
-      let number : n ≡ length (packedRecords t) = omega (arith, ap length (w .1), length-map (take n after) recordOf, length-take n after, c .size, c .count) in
+      let number : n ≡ length (packedRecords t) = omega
+      (arith, ap length (w .1), length-map (take n after) recordOf, length-take n after, c .size, c .count) in
       record { answer = rw (has-room t (length before) h, ← e, w .0) (ap Rows number); room = c .size; records = (number, w .1); stays = c .later }

@@ -1,8 +1,8 @@
--- The scan: what row k says of the rows from there on, in the words of the code's tests; and what marks leave of a word.
+-- The scan: what row k says of the rows from there on, in the words of the code's tests.
 use mathlib.Core.Path.{_≡_, refl, sym, _∙_, subst}
 use mathlib.Core.Bool.{Bool, true, false, _&&_, _||_}
 use mathlib.Core.List.{List, [], _∷_}
-use Prim.Native.Nat.{ℕ, zero, suc, _+_, _-_, _/_, _%_, _≤_, _<_}
+use Prim.Native.Nat.{ℕ, zero, suc, _+_, _-_, _≤_, _<_}
 use native.Mathlib.Numerals.{add-one}
 use native.Mathlib.Omega.{arith}
 use lib.Dec.{eqb}
@@ -13,37 +13,12 @@ use Rattle.listing_rules.specs.Orders.{byteOrder, isLt, ascendsFrom}
 use Rattle.listing_rules.specs.Names.{below}
 use Rattle.listing_rules.specs.Table.{names}
 use Rattle.octets.specs.Sets.{contains}
-use Rattle.mailbox_table.specs.Words.{rowOfWord}
 use Rattle.mailbox_table.specs.Shared.{sharedLen}
 use Rattle.mailbox_table.specs.Index.{nameAt, nthRow, nthName, rowsAt}
-use Rattle.mailbox_table.specs.Below.{marksOf, withMarks, markedBelow, belowFrom, prefixOf, Begins}
+use Rattle.mailbox_table.specs.Below.{marksOf, markedBelow, belowFrom, prefixOf, Begins}
 use Rattle.listing_rules.proofs.Bools.{and-l, and-r}
 use Rattle.mailbox_table.proofs.BelowLaws.{starts, starts-take, starts-on, starts-below, Behind, behind-below, behind-byte, behind-shared, behind-on, ascends-from, earlier-below}
 use Rattle.mailbox_table.proofs.IndexLaws.{names-length, name-at, name-length, names-ascend, shared-at}
-
--- a marked word has its marks, and tells its row
-pub marks-with : (m w : ℕ) → m < 65536 → marksOf (withMarks m w) ≡ m
-unfolding marksOf withMarks
-marks-with m w h = omega arith
-
-pub row-with : (m w : ℕ) → rowOfWord (withMarks m w) ≡ rowOfWord w
-unfolding rowOfWord withMarks
-row-with m w = λ i. record { flags = record { bits = flags i }; start = start i; len = size i; shared = shared i }
-  where
-    v : ℕ
-    v = withMarks m w
-
-    flags : v % 65536 ≡ w % 65536
-    flags = omega arith
-
-    start : v / 65536 % 65536 ≡ w / 65536 % 65536
-    start = omega arith
-
-    size : v / 4294967296 % 256 ≡ w / 4294967296 % 256
-    size = omega arith
-
-    shared : v / 1099511627776 % 256 ≡ w / 1099511627776 % 256
-    shared = omega arith
 
 -- words that a test passes over
 any-drop : (f : ℕ → Bool) (ws : List ℕ) (i : ℕ) → ((k : ℕ) → k < i → f (getD ws k 0) ≡ false) → anyOf f ws ≡ anyOf f (drop i ws)
@@ -60,7 +35,8 @@ names-drop area [] (suc n) = refl
 names-drop area (w ∷ ws) (suc n) = names-drop area ws n
 
 -- nothing below p follows a name after all that lies below p
-after-rest : (area : List ℕ) (m : ℕ) (p c ws : List ℕ) → Behind p c → ascendsFrom c (names (rowsAt area ws)) ≡ true → anyOf (markedBelow area m p) ws ≡ false
+after-rest : (area : List ℕ) (m : ℕ) (p c ws : List ℕ) → Behind p c → ascendsFrom c (names (rowsAt area ws)) ≡ true →
+    anyOf (markedBelow area m p) ws ≡ false
 unfolding anyOf names ascendsFrom
 after-rest area m p c [] e l = refl
 after-rest area m p c (w ∷ ws) e l =
@@ -122,14 +98,16 @@ module _ {area words : List ℕ} {i len : ℕ} (b : Begins area words i len) whe
         pub scan-shared : nthRow words k .shared < len → found k ≡ false
         scan-shared l =
             scan-after
-            (behind-shared p (nthName area words (k - 1)) name e (names-ascend (b .indexed) (k - 1) k (omega arith) h) (omega (arith, prefix-length, shared-at (b .indexed) k g h)))
+            (behind-shared p (nthName area words (k - 1)) name e (names-ascend (b .indexed) (k - 1) k (omega arith) h)
+            (omega (arith, prefix-length, shared-at (b .indexed) k g h)))
 
         pub starts-next : len ≤ nthRow words k .shared → starts (prefixOf area words i len) (nthName area words k) ≡ true
         starts-next l = starts-on p (nthName area words (k - 1)) name e (omega (arith, prefix-length, shared-at (b .indexed) k g h))
 
     -- A row that shares less than `len` bytes with the row before is the first whose name begins with p: what is found from there on
     -- is all that is found.
-    pub scan-whole : nthRow words i .shared < len → belowFrom area words m (prefixOf area words i len) i ≡ anyOf (markedBelow area m (prefixOf area words i len)) words
+    pub scan-whole : nthRow words i .shared < len →
+        belowFrom area words m (prefixOf area words i len) i ≡ anyOf (markedBelow area m (prefixOf area words i len)) words
     unfolding belowFrom
     scan-whole h = sym (any-drop (markedBelow area m p) words i (λ k g. rw (other k g)))
       where

@@ -1,4 +1,4 @@
--- A row's number tells the row and its record, and a name that is clamped to its area is the name. Rests on the library alone.
+-- A row's number tells the row and its record, with marks or readers above it too, and a name that is clamped to its area is the name. Rests on the library alone.
 use mathlib.Core.Path.{_≡_, refl, sym, ap, _∙_}
 use mathlib.Core.List.{List, [], _∷_, map}
 use Prim.Native.Nat.{ℕ, _-_, _/_, _%_, _≤_, _<_}
@@ -11,6 +11,7 @@ use Rattle.listing_rules.specs.Records.{rowOf, recordRows}
 use Rattle.mailbox_table.specs.declared.rows.Row.{Row}
 use Rattle.mailbox_table.specs.Words.{wordOf, rowOfWord, Packs}
 use Rattle.records.specs.Words.{recordOf}
+use Rattle.mailbox_table.specs.Below.{marksOf, withMarks}
 use Rattle.mailbox_table.specs.Index.{nameAt, rowAtWord, rowsAt}
 
 pub row-word : (r : Row) → r .flags .bits < 65536 → Packs r → rowOfWord (wordOf r) ≡ r
@@ -32,20 +33,56 @@ row-word r h p = λ i. record { flags = record { bits = bits-are i }; start = st
 module _ (area : List ℕ) (start len : ℕ) where
   pub name-out : length area ≤ start → take (length area - length area) (drop (length area) area) ≡ take len (drop start area)
   name-out h =
-      rw (drop-of-length-le area (le-refl (length area)), drop-of-length-le area h, take-nil {A = ℕ} len) (take-nil {A = ℕ} (length area - length area))
+      rw (drop-of-length-le area (le-refl (length area)), drop-of-length-le area h, take-nil {A = ℕ} len)
+      (take-nil {A = ℕ} (length area - length area))
 
   pub name-cut : length area - start < len → take (length area - start) (drop start area) ≡ take len (drop start area)
-  name-cut h = take-all (length area - start) (drop start area) (omega (arith, length-drop start area)) ∙ sym (take-all len (drop start area) (omega (arith, length-drop start area)))
+  name-cut h =
+      take-all (length area - start) (drop start area) (omega (arith, length-drop start area)) ∙ sym
+      (take-all len (drop start area) (omega (arith, length-drop start area)))
 
--- what a word tells of a record is what it tells of a row
-pub record-row : (w : ℕ) → recordOf w ≡ record { flags = rowOfWord w .flags .bits; start = rowOfWord w .start; len = rowOfWord w .len }
+-- a marked word has its marks, and tells its row
+pub marks-with : (m w : ℕ) → m < 65536 → marksOf (withMarks m w) ≡ m
+unfolding marksOf withMarks
+marks-with m w h = omega arith
+
+pub row-with : (m w : ℕ) → rowOfWord (withMarks m w) ≡ rowOfWord w
+unfolding rowOfWord withMarks
+row-with m w = λ i. record { flags = record { bits = flags i }; start = start i; len = size i; shared = shared i }
+  where
+    v : ℕ
+    v = withMarks m w
+
+    flags : v % 65536 ≡ w % 65536
+    flags = omega arith
+
+    start : v / 65536 % 65536 ≡ w / 65536 % 65536
+    start = omega arith
+
+    size : v / 4294967296 % 256 ≡ w / 4294967296 % 256
+    size = omega arith
+
+    shared : v / 1099511627776 % 256 ≡ w / 1099511627776 % 256
+    shared = omega arith
+
+-- what a word tells of a record is what it tells of a row, and the readers above it
+pub record-row : (w : ℕ) → recordOf w ≡ record
+    { flags = rowOfWord w .flags .bits; start = rowOfWord w .start; len = rowOfWord w .len; readers = recordOf w .readers }
 unfolding recordOf rowOfWord
 record-row w = refl
 
-pub record-word : (r : Row) → r .flags .bits < 65536 → Packs r → recordOf (wordOf r) ≡ record { flags = r .flags .bits; start = r .start; len = r .len }
-record-word r h p =
-    let e = row-word r h p in
-    record-row (wordOf r) ∙ (λ i. record { flags = e i .flags .bits; start = e i .start; len = e i .len })
+pub record-word : (m : ℕ) (r : Row) → r .flags .bits < 65536 → Packs r
+    → recordOf (withMarks m (wordOf r)) ≡ record { flags = r .flags .bits; start = r .start; len = r .len; readers = m % 256 }
+unfolding recordOf withMarks
+record-word m r h p =
+    let e = row-with m (wordOf r) ∙ row-word r h p in
+    let readers : withMarks m (wordOf r) / 281474976710656 % 256 ≡ m % 256 = omega arith in
+    record-row (withMarks m (wordOf r)) ∙ (λ i. record { flags = e i .flags .bits; start = e i .start; len = e i .len; readers = readers i })
+
+-- the readers of a word are the low half of what stands above its row
+pub marks-readers : (w : ℕ) → marksOf w % 256 ≡ recordOf w .readers
+unfolding marksOf recordOf
+marks-readers w = omega arith
 
 -- a word tells numbers of its widths
 pub flags-fit : (w : ℕ) → rowOfWord w .flags .bits < 65536

@@ -10,6 +10,8 @@ use Rattle.listing_rules.specs.Orders.{ascends}
 use Rattle.listing_rules.specs.Names.{lawfulName}
 use Rattle.listing_rules.specs.Table as Table
 use Rattle.listing_rules.specs.Table.{rows, names, passes}
+use Rattle.listing_rules.specs.Records.{Record}
+use Rattle.records.specs.Words.{recordOf}
 use Rattle.mailbox_table.specs.declared.Indexing.{Indexing}
 use Rattle.mailbox_table.specs.declared.Indexing.the-variants.{Rows, Fails}
 use Rattle.mailbox_table.specs.declared.rows.Row.{Row}
@@ -61,19 +63,21 @@ pub record Index (area words : List ℕ) : Type 0 where
 unfoldable pub indexingOf : Table.Table → ℕ → Indexing
 indexingOf t room = cond (passes t && leb (length (rows t)) room) (Rows (length (rows t))) Fails
 
--- where rows are found, the words at the front are their index over the area
-abbrev pub Found : List ℕ → List Table.Row → List ℕ → Indexing → Type 0
-Found area rs words Fails = Unit {0}
-Found area rs words (Rows n) = (n ≡ length rs) × (rowsAt area (take n words) ≡ rs) × Indexed area (take n words)
+-- where rows are found, the words at the front are their index over the area, and tell their records
+abbrev pub Found : List ℕ → List Table.Row → List Record → List ℕ → Indexing → Type 0
+Found area rs records words Fails = Unit {0}
+Found area rs records words (Rows n) =
+    (n ≡ length rs) × (rowsAt area (take n words) ≡ rs) × Indexed area (take n words) × (map recordOf (take n words) ≡ records)
 
 -- the lent words that hold no row: after the rows they stay as they were lent, and on failure every word is zero
 abbrev pub Rest : List ℕ → List ℕ → Indexing → Type 0
 Rest before after Fails = after ≡ replicate (length before) 0
 Rest before after (Rows n) = drop n after ≡ drop n before
 
--- What an index promises of a table whose names lie in the area, of the lent words before and after it, and of its answer.
-pub record Indexes (area : List ℕ) (t : Table.Table) (before after : List ℕ) (r : Indexing) : Type 0 where
+-- What an index promises of a table with these records, whose names lie in the area, of the lent words before and after it, and of its
+-- answer.
+pub record Indexes (area : List ℕ) (t : Table.Table) (records : List Record) (before after : List ℕ) (r : Indexing) : Type 0 where
   pub answer : r ≡ indexingOf t (length before)
   pub room : length after ≡ length before
-  pub found : Found area (rows t) after r
+  pub found : Found area (rows t) records after r
   pub rest : Rest before after r

@@ -2,6 +2,7 @@
 pub mod Words
 pub mod Shared
 pub mod Index
+pub mod Seen
 pub mod Below
 pub mod Packed
 pub mod Link

@@ -18,11 +18,11 @@ use Rattle.mailbox_table.specs.Index.{Rest}
 
 -- a whole row stands at a place
 unfoldable pub wholeThere : List ℕ → ℕ → Bool
-wholeThere t at = leb 3 (length t - at) && leb (getD t (at + 2) 0) (length t - at - 3)
+wholeThere t at = leb 4 (length t - at) && leb (getD t (at + 3) 0) (length t - at - 4)
 
 -- the row that stands there, its name where it lies
 abbrev pub rowThere : List ℕ → ℕ → Row
-rowThere t at = record { flags = record { bits = 256 * getD t at 0 + getD t (at + 1) 0 }; start = at + 3; len = getD t (at + 2) 0; shared = 0 }
+rowThere t at = record { flags = record { bits = 256 * getD t at 0 + getD t (at + 1) 0 }; start = at + 4; len = getD t (at + 3) 0; shared = 0 }
 
 unfoldable pub stepAt : List ℕ → ℕ → Step
 stepAt t at = cond (wholeThere t at) (Next (rowThere t at)) Bad

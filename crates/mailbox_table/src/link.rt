@@ -1,9 +1,11 @@
 // The check that records and packed rows share, over words in row order and in place: each row is judged against the name before
-// it, wherever the bytes of the two lie, and its word gets what they share.
+// it, wherever the bytes of the two lie, and its word gets what they share. Its readers, above those bits, stay.
 use super::inferiors::inferiors_pass;
 use super::rows::Row;
 use super::rows::Step;
 use super::rows::name_of;
+use super::scan::marks_of;
+use super::scan::with_marks;
 use names::lawful_name;
 use octets::least;
 ghost use mathlib.Core.Path.{_≡_};
@@ -11,6 +13,8 @@ ghost use mathlib.Core.List.{[]};
 ghost use Prim.Native.Nat.{_≤_};
 ghost use lib.ListN.{length};
 ghost use Rattle.listing_rules.specs.Orders.{byteOrder, isLt};
+ghost use Rattle.mailbox_table.specs.Words.{wordOf, Packs};
+ghost use Rattle.mailbox_table.specs.Below.{marksOf, withMarks};
 ghost use Rattle.mailbox_table.specs.Shared.{sharedLen};
 ghost use Rattle.mailbox_table.specs.Link.{nameIn, stepOf, linked, Links, wordsPass};
 
@@ -34,14 +38,23 @@ fn link_rows(area: &[u8], words: &mut [u64]) -> bool
     let mut previous = Row::of_word(0);
     let mut i = 0;
     while i < words.len() {
-        let Step::Next(row) = next_row(area, previous, words[i]) else {
+        let word = words[i];
+        let Step::Next(row) = next_row(area, previous, word) else {
             return false;
         };
-        words[i] = row.word();
+        words[i] = relinked(row, word);
         previous = row;
         i += 1;
     }
     true
+}
+
+// The word of a row that is linked now: what stands above the row, its record's readers, stays.
+fn relinked(row: Row, word: u64) -> u64
+    requires { ⌜ Packs row ⌝ }
+    ensures { λ r. ⌜ r ≡ withMarks (marksOf word) (wordOf row) ⌝ }
+{
+    with_marks(row.word(), marks_of(word))
 }
 
 // The row of a word, linked to the row before it.

@@ -6,21 +6,28 @@ use super::flags::Flags;
 use super::link::rows_pass;
 use super::rows::Row;
 use super::rows::Step;
+use super::scan::with_marks;
+use octets::byte_at;
 use octets::least;
 use octets::wide;
 use records::MAX_ROWS;
 ghost use mathlib.Core.Path.{_≡_};
 ghost use Prim.Native.Nat.{_+_, _*_};
 ghost use Rattle.listing_rules.specs.Table.{packedTable};
+ghost use Rattle.listing_rules.specs.Records.{packedRecords};
 ghost use Rattle.mailbox_table.specs.Find.{Finds};
+ghost use lib.ListN.{getD};
+ghost use Rattle.mailbox_table.specs.Words.{wordOf, Packs};
+ghost use Rattle.mailbox_table.specs.Below.{withMarks};
 ghost use Rattle.mailbox_table.specs.Packed.{stepAt, Placed, Splits};
 
-// Flags and length come before a name.
-const HEAD: usize = 3;
+// Flags, readers and length come before a name.
+const HEAD: usize = 4;
 
 // Check 1 of the packed table, and the index of its rows. Where it fails, the words are what the passes left.
 pub(crate) fn find_rows(table: &[u8], words: &mut [u64]) -> Indexing
-    ensures { λ r. ⌜ Finds (now (table .entry)) (packedTable (now (table .entry))) (now (words .entry)) (now (words .exit)) r ⌝ }
+    ensures { λ r. ⌜ Finds (now (table .entry)) (packedTable (now (table .entry))) (packedRecords (now (table .entry)))
+        (now (words .entry)) (now (words .exit)) r ⌝ }
 {
     let Indexing::Rows(n) = split_rows(table, words) else {
         return Indexing::Fails;
@@ -49,11 +56,21 @@ pub(crate) fn split_rows(table: &[u8], words: &mut [u64]) -> Indexing
         let Step::Next(row) = row_at(table, at) else {
             return Indexing::Fails;
         };
-        words[n] = row.word();
+        words[n] = word_at(table, at, row);
         n += 1;
         at = row.start + row.len;
     }
     Indexing::Rows(n)
+}
+
+// The word of the row that begins at a place, with its record's readers above it, which stand before the length.
+fn word_at(table: &[u8], at: usize, row: Row) -> u64
+    requires { ⌜ Placed (now table) at ⌝ }
+    requires { ⌜ Packs row ⌝ }
+    ensures { λ r. ⌜ r ≡ withMarks (getD (now (table .entry)) (at + 2) 0) (wordOf row) ⌝ }
+{
+    let readers = byte_at(table, at + 2);
+    with_marks(row.word(), readers as u16)
 }
 
 // The row that begins at a place, if it ends inside the table.
@@ -65,7 +82,7 @@ fn row_at(table: &[u8], at: usize) -> Step
     if left < HEAD {
         return Step::Bad;
     }
-    let len = wide(table[at + 2]);
+    let len = wide(table[at + 3]);
     if left - HEAD < len {
         return Step::Bad;
     }

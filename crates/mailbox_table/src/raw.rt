@@ -6,16 +6,17 @@ use super::link::rows_pass;
 use octets::least;
 use records::MAX_ROWS;
 ghost use mathlib.Core.Path.{_≡_};
-ghost use mathlib.Core.List.{_++_};
+ghost use mathlib.Core.List.{map, _++_};
 ghost use Prim.Native.Nat.{_≤_};
 ghost use lib.ListN.{length, take, drop};
+ghost use Rattle.records.specs.Words.{recordOf};
 ghost use Rattle.records.specs.Lent.{wordTable};
 ghost use Rattle.mailbox_table.specs.Find.{Finds};
 
 // Check 1 of the records, and the index of their rows. Where it fails, the words are what the passes left.
 pub(crate) fn find_words(area: &[u8], raw: &[u64], count: usize, words: &mut [u64]) -> Indexing
     ensures { λ r. ⌜ Finds (now (area .entry)) (wordTable (now (area .entry)) (now (raw .entry)) count)
-        (now (words .entry)) (now (words .exit)) r ⌝ }
+        (take count (map recordOf (now (raw .entry)))) (now (words .entry)) (now (words .exit)) r ⌝ }
 {
     if MAX_BYTES < area.len() {
         return Indexing::Fails;

@@ -11,7 +11,8 @@ ghost use Prim.Native.Nat.{_+_};
 ghost use Rattle.octets.specs.Sets.{contains};
 ghost use Rattle.mailbox_table.specs.Below.{marksOf, withMarks, prefixOf, belowFrom, Begins};
 
-// The bits of a word below this tell its row, those above it are free for marks.
+// The bits of a word below this tell its row. Those above it hold the readers of its record, until the rows that a reader sees are
+// chosen (`see_rows`), and are then free for marks.
 const MARKS: u64 = 281474976710656;
 
 // What the row of a word is marked with: a set of members that the caller names.

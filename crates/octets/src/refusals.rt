@@ -44,3 +44,6 @@ pub const UNLAWFUL_NAME: u8 = 14;
 
 // SUBSCRIBE: 512 rows, no spare record, or no free run of name bytes that is long enough.
 pub const NO_ROOM: u8 = 15;
+
+// A reader above 7, or an edit from another reader than 0.
+pub const READER: u8 = 16;

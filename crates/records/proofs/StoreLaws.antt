@@ -71,21 +71,24 @@ pub record Compacts (c d : Compaction) (rs : List Record) : Type 0 where
 
 -- what `copy_in` promises of n records rs and the words us, which were xs
 abbrev pub Copied : List Record → List ℕ → List ℕ → ℕ → Type 0
-Copied rs xs us n = (n ≡ min (length rs) (min (length rs) (length xs))) × (us ≡ paste xs 0 (map wordOf rs) n) × (map recordOf (take n us) ≡ map meant (take n rs))
+Copied rs xs us n =
+    (n ≡ min (length rs) (min (length rs) (length xs))) × (us ≡ paste xs 0 (map wordOf rs) n) × (map recordOf (take n us) ≡ map meant (take n rs))
 
 -- and `copy_back` of the records rs′, which were rs, and the words vs
 abbrev pub CopiedBack : List Record → List ℕ → ℕ → ℕ → List Record → Type 0
 CopiedBack rs vs start to rs′ = rs′ ≡ paste rs start (map structOf (drop start vs)) (min to (min (length rs) (length vs)) - start)
 
 -- of the words us those between `start` and `to` became others, vs
-module _ (rs : List Record) (xs us vs : List ℕ) (lent start to : ℕ) (lx : length xs ≡ 512) (lu : length us ≡ 512) (lv : length vs ≡ 512) (c : Copied rs xs us lent) where
+module _ (rs : List Record) (xs us vs : List ℕ) (lent start to : ℕ) (lx : length xs ≡ 512) (lu : length us ≡ 512) (lv : length vs ≡ 512)
+    (c : Copied rs xs us lent) where
   short : lent ≡ min (length rs) 512
   short = let e : lent ≡ min (length rs) (min (length rs) (length xs)) = c .0 in omega (arith, e, lx)
 
   front-is : take lent (map meant rs) ≡ take lent (map recordOf us)
   front-is = sym (map-take meant lent rs) ∙ sym (c .2) ∙ map-take recordOf lent us
 
-  back-are : Between us vs lent start to → (rs′ : List Record) → CopiedBack rs vs start to rs′ → map meant rs′ ≡ map recordOf (take lent vs) ++ drop lent (map meant rs)
+  back-are : Between us vs lent start to → (rs′ : List Record) → CopiedBack rs vs start to rs′ →
+      map meant rs′ ≡ map recordOf (take lent vs) ++ drop lent (map meant rs)
   back-are b rs′ e = records-are ∙ go (decLe start to)
     where
       most : to ≤ lent
@@ -117,22 +120,25 @@ module _ (rs : List Record) (xs us vs : List ℕ) (lent start to : ℕ) (lx : le
           (map meant rs) (map recordOf us) (omega (arith, short, lr)) (omega (arith, short, lw, lu)) front-is))
       go (no h) =
           let none : to - start ≡ 0 = omega arith in
-          let same : map recordOf vs ≡ map recordOf us = words-are ∙ ap (paste (map recordOf us) start ms) none ∙ sym (paste-zero (map recordOf us) start ms) in
+          let same : map recordOf vs ≡ map recordOf us = words-are ∙ ap (paste (map recordOf us) start ms) none ∙ sym
+          (paste-zero (map recordOf us) start ms) in
           ap (paste (map meant rs) start ms) none
           ∙ sym (paste-zero (map meant rs) start ms)
           ∙ sym (rw (map-take recordOf lent vs, same, sym front-is) (take-append-drop lent (map meant rs)))
 
-  module _ (count : ℕ) (area spaces l out : List ℕ) where
+  module _ (count reader : ℕ) (area spaces l out : List ℕ) where
     -- the command over the words is the command over the first records
-    front-command : SameFront (lentStore rs count area) (wordStore us lent count area) (drop lent (map meant rs)) spaces l out
+    front-command : SameFront reader (lentStore rs count area) (wordStore us lent count area) (drop lent (map meant rs)) spaces l out
     front-command =
         subst
-        (λ (ms : List Meant). SameFront (lentStore rs count area) (record { records = ms; count = count; area = area }) (drop lent (map meant rs)) spaces l out)
+        (λ (ms : List Meant). SameFront reader (lentStore rs count area) (record { records = ms; count = count; area = area })
+        (drop lent (map meant rs)) spaces l out)
         (sym (c .2 ∙ map-take meant lent rs))
-        (same-front (map meant rs) lent (short ∙ ap (λ (k : ℕ). min k 512) (sym (length-map rs meant))) count area spaces l out)
+        (same-front reader (map meant rs) lent (short ∙ ap (λ (k : ℕ). min k 512) (sym (length-map rs meant))) count area spaces l out)
 
-    pub answers : map recordOf (take lent vs) ≡ wordCommand us lent count area spaces l out .store .records → Between us vs lent start to
-        → (rs′ : List Record) → CopiedBack rs vs start to rs′ → Answers (wordCommand us lent count area spaces l out) (lentCommand rs count area spaces l out) rs′
+    pub answers : map recordOf (take lent vs) ≡ wordCommand us lent count reader area spaces l out .store .records → Between us vs lent start to
+        → (rs′ : List Record) → CopiedBack rs vs start to rs′ →
+        Answers (wordCommand us lent count reader area spaces l out) (lentCommand rs count reader area spaces l out) rs′
     answers e b rs′ back =
         record {
           reply = sym (front-command .reply);
@@ -146,7 +152,8 @@ module _ (rs : List Record) (xs us vs : List ℕ) (lent start to : ℕ) (lx : le
     front-compaction : SameCompaction (lentStore rs count area) (wordStore us lent count area) (drop lent (map meant rs))
     front-compaction =
         subst
-        (λ (ms : List Meant). SameCompaction (lentStore rs count area) (record { records = ms; count = count; area = area }) (drop lent (map meant rs)))
+        (λ (ms : List Meant). SameCompaction (lentStore rs count area) (record { records = ms; count = count; area = area })
+        (drop lent (map meant rs)))
         (sym (c .2 ∙ map-take meant lent rs))
         (same-compaction (map meant rs) lent (short ∙ ap (λ (k : ℕ). min k 512) (sym (length-map rs meant))) count area)
 

@@ -5,9 +5,9 @@ use native.Mathlib.Omega.{arith}
 use Rattle.records.specs.declared.Record.{Record}
 use Rattle.records.specs.Words.{wordOf, recordOf, meant}
 
-pub word-tells : (r : Record) → r .flags < 65536 → r .start < 65536 → r .len < 256 → recordOf (wordOf r) ≡ meant r
+pub word-tells : (r : Record) → r .flags < 65536 → r .start < 65536 → r .len < 256 → r .readers < 256 → recordOf (wordOf r) ≡ meant r
 unfolding wordOf recordOf meant
-word-tells r f s l = λ i. record { flags = flags-are i; start = start-is i; len = len-is i }
+word-tells r f s l d = λ i. record { flags = flags-are i; start = start-is i; len = len-is i; readers = readers-are i }
   where
     flags-are : wordOf r % 65536 ≡ r .flags
     flags-are = omega arith
@@ -17,3 +17,6 @@ word-tells r f s l = λ i. record { flags = flags-are i; start = start-is i; len
 
     len-is : wordOf r / 4294967296 % 256 ≡ r .len
     len-is = omega arith
+
+    readers-are : wordOf r / 281474976710656 % 256 ≡ r .readers
+    readers-are = omega arith

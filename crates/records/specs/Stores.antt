@@ -17,12 +17,12 @@ lentStore rs count area = record { records = map meant rs; count = count; area =
 abbrev pub wordStore : List ℕ → ℕ → ℕ → List ℕ → Store
 wordStore ws lent count area = record { records = map recordOf (take lent ws); count = count; area = area }
 
--- one command over them
-abbrev pub lentCommand : List Record → ℕ → List ℕ → List ℕ → List ℕ → List ℕ → Commanded
-lentCommand rs count area spaces l out = commanded (lentStore rs count area) spaces l out
+-- one command of a reader over them
+abbrev pub lentCommand : List Record → ℕ → ℕ → List ℕ → List ℕ → List ℕ → List ℕ → Commanded
+lentCommand rs count reader area spaces l out = commanded reader (lentStore rs count area) spaces l out
 
-abbrev pub wordCommand : List ℕ → ℕ → ℕ → List ℕ → List ℕ → List ℕ → List ℕ → Commanded
-wordCommand ws lent count area spaces l out = commanded (wordStore ws lent count area) spaces l out
+abbrev pub wordCommand : List ℕ → ℕ → ℕ → ℕ → List ℕ → List ℕ → List ℕ → List ℕ → Commanded
+wordCommand ws lent count reader area spaces l out = commanded reader (wordStore ws lent count area) spaces l out
 
 -- names moved together over them (W7)
 abbrev pub lentCompaction : List Record → ℕ → List ℕ → Compaction

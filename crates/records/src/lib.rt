@@ -9,12 +9,13 @@ ghost use lib.ListN.{length, take, drop, replicate};
 ghost use lib.Seq.{paste};
 ghost use Rattle.records.specs.Words.{wordOf, recordOf, structOf, meant};
 
-// "records, each with flags, name start and name length"
+// "records, each with flags, name start and name length", and "a set of eight readers" (W9), bit r for reader r
 #[repr(C)]
 pub struct Record {
     pub flags: u16,
     pub start: u16,
     pub len: u8,
+    pub readers: u8,
 }
 
 pub const MAX_ROWS: usize = 512;
@@ -23,7 +24,10 @@ pub const MAX_ROWS: usize = 512;
 pub fn word_of(r: Record) -> u64
     ensures { λ w. ⌜ (w ≡ wordOf r) × (recordOf w ≡ meant r) ⌝ }
 {
-    (r.flags as u64) + 65536 * (r.start as u64) + 4294967296 * (r.len as u64)
+    (r.flags as u64)
+        + 65536 * (r.start as u64)
+        + 4294967296 * (r.len as u64)
+        + 281474976710656 * (r.readers as u64)
 }
 
 // The record of a number.
@@ -34,6 +38,7 @@ fn record_of(w: u64) -> Record
         flags: (w % 65536) as u16,
         start: (w / 65536 % 65536) as u16,
         len: (w / 4294967296 % 256) as u8,
+        readers: (w / 281474976710656 % 256) as u8,
     }
 }
 

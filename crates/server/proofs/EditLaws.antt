@@ -4,17 +4,20 @@ use mathlib.Core.Bool.{Bool, true, false, cond, false≢true}
 use mathlib.Core.List.{List, _++_, map}
 use Prim.Native.Nat.{ℕ, _≤_}
 use native.Mathlib.Omega.{arith}
-use lib.Dec.{leb}
+use lib.Dec.{eqb, leb}
 use lib.ListN.{length, take, drop, length-append}
 use lib.Seq.{paste-zero, length-take-le, take-append-seam, take-at}
 use Rattle.octets.specs.Put.{Put}
 use Rattle.octets.proofs.Puts.{put-length, front}
-use Rattle.listing_rules.specs.Command.{Parsed, editing, refused, namespace, listing, rootOf, subscriptions, parsed, isEdit}
+use Rattle.listing_rules.specs.Command.{editing, refused, parsed, isEdit}
 use Rattle.listing_rules.specs.Namespaces.{entries, namespacesPass}
 use Rattle.listing_rules.specs.Table.{rows, passes}
-use Rattle.listing_rules.specs.Subscriptions.{Store, storeTable, spelled, Edited, stored}
+use Rattle.listing_rules.specs.Readers.{isReader, visible}
+use Rattle.listing_rules.specs.Subscriptions.{Store, storeTable, storeSeen, held, spelled, Edited, denied, stored, edited}
+use Rattle.listing_rules.proofs.ReaderLaws.{records-seen-is, store-seen-passes}
+use Rattle.listing_rules.proofs.CommandLaws.{attempted-reads, concluded-reads}
 use Rattle.listing_rules.specs.Lines.{okLine}
-use Rattle.listing_rules.specs.Server.{Reply, refusal, answered, answerTo, answer, limited, bufferAfter, Commanded, attempted, unchangedBy, concluded, commanded}
+use Rattle.listing_rules.specs.Server.{Reply, refusal, answered, answerTo, answer, limited, bufferAfter, Commanded, attempted, unchangedBy, concluded, commandedOver, commanded}
 use Rattle.octets.specs.declared.Written.{Written}
 use Rattle.octets.specs.declared.Written.the-variants.{Done, Refused}
 use Rattle.octets.specs.Written.{writtenIs, Gives}
@@ -32,7 +35,7 @@ use Rattle.subscriptions.proofs.StoredLaws.{plan-decides}
 use Rattle.subscriptions.specs.Applied.{Fits, wordsAfter, areaAfter, changeOf}
 use Rattle.subscriptions.specs.Stored.{wholeStore, planOf, Decides}
 use Rattle.server.specs.declared.Stored.{Stored}
-use Rattle.server.specs.Edits.{Fronts, planReply, memory, Leaves, Reads, editKind, subscribeKind, editAs, editOf, editCommand}
+use Rattle.server.specs.Edits.{Fronts, planReply, memory, Leaves, Reads, editKind, subscribeKind, editAs, editOf, editCommand, readerEdit}
 
 -- a command that was read is an edit exactly if its kind is one, and then it is this edit
 module _ (l : List ℕ) (c : Command) (r : Reads l c) where
@@ -74,45 +77,44 @@ module _ (l : List ℕ) (c : Command) (r : Reads l c) where
       go true e = ap isEdit (sym (an-edit e))
       go false e = sym (no-edit e)
 
--- what a command comes to, by the refusals in their order
-module _ (s : Store) (spaces l out : List ℕ) where
-  pub comes-1 : passes (storeTable s) ≡ false → commanded s spaces l out ≡ unchangedBy s 1
-  unfolding commanded answer concluded
-  comes-1 e = rw e
+-- what a reader's command comes to, by the refusals in their order
+module _ (reader : ℕ) (s : Store) (spaces l out : List ℕ) where
+  pub comes-16 : isReader reader ≡ false → commanded reader s spaces l out ≡ unchangedBy s 16
+  unfolding commanded commandedOver
+  comes-16 e = rw e
 
-  pub comes-2 : passes (storeTable s) ≡ true → namespacesPass spaces ≡ false → commanded s spaces l out ≡ unchangedBy s 2
-  unfolding commanded answer concluded
-  comes-2 e f = rw (e, f)
+  module _ (known : isReader reader ≡ true) where
+    pub comes-1 : passes (storeTable s) ≡ false → commanded reader s spaces l out ≡ unchangedBy s 1
+    unfolding commanded commandedOver answer concluded
+    comes-1 e = rw (known, store-seen-passes reader s, e)
 
-  -- no edit: the reply, as far as the buffer goes, and the store stays
-  reads-only : (p : Parsed) → isEdit p ≡ false → attempted s p ≡ stored s
-  unfolding attempted isEdit
-  reads-only (refused k) e = refl
-  reads-only (namespace tag) e = refl
-  reads-only (listing tag o ps) e = refl
-  reads-only (rootOf tag) e = refl
-  reads-only (subscriptions tag ps) e = refl
-  reads-only (editing tag e′) e = absurd (false≢true (sym e))
+    module _ (passed : passes (storeTable s) ≡ true) where
+      pub comes-2 : namespacesPass spaces ≡ false → commanded reader s spaces l out ≡ unchangedBy s 2
+      unfolding commanded commandedOver answer concluded
+      comes-2 f = rw (known, store-seen-passes reader s, passed, f)
 
-  stays : (r : Reply) → concluded s (length out) (stored s) r ≡ record { reply = limited (length out) r; store = s }
-  unfolding concluded limited unchangedBy
-  stays (refusal k) = refl
-  stays (answered a) = go (leb (length a) (length out))
-    where
-      go : (b : Bool) → _≡_ {A = Commanded} (cond b (record { reply = answered a; store = s }) (record { reply = refusal 9; store = s }))
-          (record { reply = cond b (answered a) (refusal 9); store = s })
-      go true = refl
-      go false = refl
+      -- a command that reads is answered over what the reader sees
+      seen-rows : rows (storeSeen reader s) ≡ visible reader (s .area) (held s)
+      unfolding storeSeen storeTable held rows
+      seen-rows = ap rows (records-seen-is reader (s .area) (s .records) (s .count) passed)
 
-  pub comes-read : passes (storeTable s) ≡ true → namespacesPass spaces ≡ true → isEdit (parsed l) ≡ false
-      → commanded s spaces l out ≡ record { reply = limited (length out) (answerTo (rows (storeTable s)) (entries spaces) (parsed l)); store = s }
-  unfolding commanded answer
-  comes-read e f g = rw (e, f, reads-only (parsed l) g) (stays (answerTo (rows (storeTable s)) (entries spaces) (parsed l)))
+      pub comes-read : namespacesPass spaces ≡ true → isEdit (parsed l) ≡ false
+          → commanded reader s spaces l out
+          ≡ record { reply = limited (length out) (answerTo (visible reader (s .area) (held s)) (entries spaces) (parsed l)); store = s }
+      unfolding commanded commandedOver answer
+      comes-read f g =
+          rw (known, store-seen-passes reader s, passed, f, attempted-reads reader s (parsed l) g, seen-rows)
+          (concluded-reads s (length out) (answerTo (visible reader (s .area) (held s)) (entries spaces) (parsed l)))
 
-  pub comes-edit : passes (storeTable s) ≡ true → namespacesPass spaces ≡ true → (c : Command) → parsed l ≡ editing (spanBytes l (c .tag)) (editOf l c)
-      → commanded s spaces l out ≡ editCommand s l c out
-  unfolding commanded answer answerTo attempted
-  comes-edit e f c g = rw (e, f, g)
+      pub comes-edit : namespacesPass spaces ≡ true → (c : Command) → parsed l ≡ editing (spanBytes l (c .tag)) (editOf l c)
+          → commanded reader s spaces l out ≡ readerEdit reader s l c out
+      unfolding commanded commandedOver answer answerTo attempted concluded
+      comes-edit f c g = rw (known, store-seen-passes reader s, passed, f, g) (go (eqb reader 0))
+        where
+          go : (b : Bool) → concluded s (length out) (cond b (edited s (editOf l c)) (denied 16)) (answered (okLine (spanBytes l (c .tag))))
+              ≡ cond b (editCommand s l c out) (unchangedBy s 16)
+          go true = refl
+          go false = refl
 
 -- a command that leaves the store as it is
 module _ (ws : List ℕ) (count : ℕ) (area out : List ℕ) where
@@ -131,10 +133,12 @@ module _ (ws : List ℕ) (count : ℕ) (area out : List ℕ) where
         between = record { order = omega arith; lent-only = omega arith; within = omega arith; size = refl; others = paste-zero ws 0 ws };
       }
 
-  pub left-refused : (c : Commanded) (k : ℕ) → c ≡ unchangedBy s k → Leaves c (memory ws area out) (memory ws area out) (record { written = Refused k; count = count; from = 0; to = 0 })
+  pub left-refused : (c : Commanded) (k : ℕ) → c ≡ unchangedBy s k →
+      Leaves c (memory ws area out) (memory ws area out) (record { written = Refused k; count = count; from = 0; to = 0 })
   unfolding unchangedBy writtenIs bufferAfter
   left-refused c k e =
-      left-alone c (Refused k) out (ap (λ (d : Commanded). d .store) e) (ap (λ (d : Commanded). writtenIs (d .reply)) (sym e)) (ap (λ (d : Commanded). bufferAfter out (d .reply)) (sym e))
+      left-alone c (Refused k) out (ap (λ (d : Commanded). d .store) e) (ap (λ (d : Commanded). writtenIs (d .reply)) (sym e))
+      (ap (λ (d : Commanded). bufferAfter out (d .reply)) (sym e))
 
 -- an edit by its plan
 module _ (ws : List ℕ) (count : ℕ) (area l : List ℕ) (c : Command) (out : List ℕ) (p : Plan) (d : Decides ws count area (editOf l c) p) where
@@ -164,7 +168,8 @@ module _ (ws : List ℕ) (count : ℕ) (area l : List ℕ) (c : Command) (out : 
       go true = refl
       go false = refl
 
-  by-plan : (q : Plan) → p ≡ q → concluded whole (length out) (carried whole name q) (answered ok) ≡ closing (limited (length out) (planReply q (spanBytes l (c .tag))))
+  by-plan : (q : Plan) → p ≡ q →
+      concluded whole (length out) (carried whole name q) (answered ok) ≡ closing (limited (length out) (planReply q (spanBytes l (c .tag))))
   unfolding carried planReply limited concluded
   by-plan Keep e = measured whole (d .leaves whole (rw e))
   by-plan (Flag k f) e = measured _ (d .leaves _ (rw e))
@@ -179,15 +184,20 @@ module _ (ws : List ℕ) (count : ℕ) (area l : List ℕ) (c : Command) (out : 
     abbrev said : Reply
     said = limited (length out) (planReply p (spanBytes l (c .tag)))
 
-    edit-refused : (k : ℕ) → w ≡ Refused k → Leaves (editCommand whole l c out) (memory ws area out) (memory ws area out′) (record { written = Refused k; count = count; from = 0; to = 0 })
+    edit-refused : (k : ℕ) → w ≡ Refused k →
+        Leaves (editCommand whole l c out) (memory ws area out) (memory ws area out′)
+        (record { written = Refused k; count = count; from = 0; to = 0 })
     unfolding unchangedBy
     edit-refused k e = go said refl (sym e ∙ g .0) (g .1)
       where
         go : (r : Reply) → said ≡ r → Refused k ≡ writtenIs r → out′ ≡ bufferAfter out r
-            → Leaves (editCommand whole l c out) (memory ws area out) (memory ws area out′) (record { written = Refused k; count = count; from = 0; to = 0 })
+            → Leaves (editCommand whole l c out) (memory ws area out) (memory ws area out′)
+            (record { written = Refused k; count = count; from = 0; to = 0 })
         go (refusal j) h f b = unfold writtenIs in unfold bufferAfter in
             left-alone ws count area out (editCommand whole l c out) (Refused k) out′
-            (ap (λ (x : Commanded). x .store) (edit-comes ∙ ap closing h)) (f ∙ ap (λ (x : Commanded). writtenIs (x .reply)) (sym (edit-comes ∙ ap closing h))) (b ∙ ap (λ (x : Commanded). bufferAfter out (x .reply)) (sym (edit-comes ∙ ap closing h)))
+            (ap (λ (x : Commanded). x .store) (edit-comes ∙ ap closing h))
+            (f ∙ ap (λ (x : Commanded). writtenIs (x .reply)) (sym (edit-comes ∙ ap closing h)))
+            (b ∙ ap (λ (x : Commanded). bufferAfter out (x .reply)) (sym (edit-comes ∙ ap closing h)))
         go (answered a) h f b = unfold writtenIs in let z : _≡_ {A = ℕ} 0 1 = cc in absurd (omega arith)
 
     edit-done : (n : ℕ) → w ≡ Done n
@@ -222,7 +232,8 @@ put-front d e bs r p h =
     whole : r ≡ length bs
     whole = omega (arith, p .place, p .fits, h)
 
-pub spelled-front : (e es bs : List ℕ) (r : ℕ) → Fronts bs e r → es ≡ spelled (take r e) → length es ≡ length (take r e) → Fronts (spelled bs) (es ++ drop r e) r
+pub spelled-front : (e es bs : List ℕ) (r : ℕ) → Fronts bs e r → es ≡ spelled (take r e) → length es ≡ length (take r e) →
+    Fronts (spelled bs) (es ++ drop r e) r
 spelled-front e es bs r f s k =
     let size : length es ≡ r = k ∙ sym (f .size) in
     record {
@@ -238,16 +249,22 @@ edit-parts true n = (refl, refl)
 edit-parts false n = (refl, refl)
 
 -- the plan that was decided on
-pub decided : (ws : List ℕ) (count : ℕ) (area l : List ℕ) (c : Command) (b : Bool) (n : List ℕ) (p : Plan) → passes (storeTable (wholeStore ws count area)) ≡ true
-    → b ≡ subscribeKind (c .kind) → n ≡ spelled (nameOf l c) → p ≡ planFor (map recordOf (take count ws)) (length ws) area b n → Decides ws count area (editOf l c) p
+pub decided : (ws : List ℕ) (count : ℕ) (area l : List ℕ) (c : Command) (b : Bool) (n : List ℕ) (p : Plan) →
+    passes (storeTable (wholeStore ws count area)) ≡ true
+    → b ≡ subscribeKind (c .kind) → n ≡ spelled (nameOf l c) → p ≡ planFor (map recordOf (take count ws)) (length ws) area b n →
+    Decides ws count area (editOf l c) p
 decided ws count area l c b n p h eb en ep =
     subst (Decides ws count area (editOf l c)) (sym same) (plan-decides ws count area (editOf l c) h)
   where
     same : p ≡ planOf ws count area (editOf l c)
-    same = let q = edit-parts (subscribeKind (c .kind)) (nameOf l c) in ep ∙ (λ i. planFor (map recordOf (take count ws)) (length ws) area ((eb ∙ sym (q .0)) i) ((en ∙ sym (q .1)) i))
+    same =
+        let q = edit-parts (subscribeKind (c .kind)) (nameOf l c) in ep ∙
+        (λ i. planFor (map recordOf (take count ws)) (length ws) area ((eb ∙ sym (q .0)) i) ((en ∙ sym (q .1)) i))
 
 -- what was answered to it, where its tag is that of the line
-module _ (ws : List ℕ) (count : ℕ) (area l : List ℕ) (c : Command) (out : List ℕ) (p : Plan) (d : Decides ws count area (editOf l c) p) (tag n : List ℕ) (same-tag : tag ≡ spanBytes l (c .tag)) (same-name : n ≡ spelled (nameOf l c)) {out′ : List ℕ} {w : Written} (g : Gives (planReply p tag) out out′ w) where
+module _ (ws : List ℕ) (count : ℕ) (area l : List ℕ) (c : Command) (out : List ℕ) (p : Plan) (d : Decides ws count area (editOf l c) p)
+    (tag n : List ℕ) (same-tag : tag ≡ spanBytes l (c .tag)) (same-name : n ≡ spelled (nameOf l c)) {out′ : List ℕ} {w : Written}
+    (g : Gives (planReply p tag) out out′ w) where
   said-so : Gives (planReply p (spanBytes l (c .tag))) out out′ w
   said-so = subst (λ (t : List ℕ). Gives (planReply p t) out out′ w) same-tag g
 
@@ -261,6 +278,8 @@ module _ (ws : List ℕ) (count : ℕ) (area l : List ℕ) (c : Command) (out : 
   pub fits-so : Fits p ws count area n
   fits-so = subst (Fits p ws count area) (sym named-so) (d .fits)
 
-  pub well-done : (k : ℕ) (vs us : List ℕ) (ch : Change) → w ≡ Done k → ch ≡ changeOf p count → vs ≡ wordsAfter p ws count n → us ≡ areaAfter p ws area n
-      → Leaves (editCommand (wholeStore ws count area) l c out) (memory ws area out) (memory vs us out′) (record { written = Done k; count = ch .count; from = ch .from; to = ch .to })
+  pub well-done : (k : ℕ) (vs us : List ℕ) (ch : Change) → w ≡ Done k → ch ≡ changeOf p count → vs ≡ wordsAfter p ws count n →
+      us ≡ areaAfter p ws area n
+      → Leaves (editCommand (wholeStore ws count area) l c out) (memory ws area out) (memory vs us out′)
+      (record { written = Done k; count = ch .count; from = ch .from; to = ch .to })
   well-done k vs us ch e f g′ h = rw (f, g′, h, named-so) (edit-done ws count area l c out p d said-so k e)

@@ -1,13 +1,16 @@
 -- The refusals in document 01's order, and the reply to a command by its kind. Rests on FewLaws of command_patterns.
 use mathlib.Core.Path.{_≡_, refl, sym, ap, _∙_}
 use mathlib.Core.Bool.{true, false}
-use mathlib.Core.List.{List}
+use mathlib.Core.List.{List, map}
 use Prim.Native.Nat.{ℕ, _≤_}
 use lib.ListN.{length}
-use Rattle.listing_rules.specs.Table.{Table, rows, passes}
+use Rattle.listing_rules.specs.Table.{Table, rows, passes, packedTable}
+use Rattle.listing_rules.specs.Records.{packedRecords}
+use Rattle.listing_rules.specs.Readers.{isReader, visible, packedSeen}
+use Rattle.listing_rules.proofs.ReaderLaws.{packed-seen-passes, packed-seen-is}
 use Rattle.listing_rules.specs.Namespaces.{entries, namespacesPass}
 use Rattle.listing_rules.specs.Command.{parsed}
-use Rattle.listing_rules.specs.Server.{refusal, answer, answerTo, limited, served, bufferAfter}
+use Rattle.listing_rules.specs.Server.{refusal, answer, answerTo, limited, served, fromReader, servedTo, bufferAfter}
 use Rattle.octets.specs.Written.{writtenIs, Gives}
 use Rattle.octets.specs.declared.Written.the-variants.{Refused}
 use Rattle.command_line.specs.declared.Kind.{Kind}
@@ -16,7 +19,10 @@ use Rattle.command_line.specs.declared.Command.{Command}
 use Rattle.command_line.specs.OptionSets.{optionsIs}
 use Rattle.command_line.specs.Commands.{meaning, meaningAs, patternsOf, Few}
 use Rattle.command_line.specs.Spans.{spanBytes}
+use Rattle.records.specs.Words.{recordOf}
 use Rattle.mailbox_table.specs.Index.{rowsAt}
+use Rattle.mailbox_table.specs.Seen.{seenWords}
+use Rattle.mailbox_table.proofs.SeenLaws.{seen-rows}
 use Rattle.server.specs.Replies.{commandReply, indexReply, spacesReply, rootReply, listingReply, subscriptionsReply, okReply}
 use Rattle.command_line.proofs.Packed.{listing-few, subscriptions-few}
 
@@ -30,9 +36,29 @@ module _ (t : Table) (s l d : List ℕ) where
   unfolding served answer
   served-1 e = rw e
 
-  pub served-on : (area words : List ℕ) → passes t ≡ true → rowsAt area words ≡ rows t → served t s l d ≡ limited (length d) (indexReply area words s l)
+  pub served-on : (area words : List ℕ) → passes t ≡ true → rowsAt area words ≡ rows t →
+      served t s l d ≡ limited (length d) (indexReply area words s l)
   unfolding served answer
   served-on area words e f = rw (e, f)
+
+-- the same of a packed table that a reader sees
+module _ (reader : ℕ) (t s l d : List ℕ) where
+  pub served-16 : isReader reader ≡ false → servedTo reader (packedSeen reader t) s l d ≡ limited (length d) (refusal 16)
+  unfolding servedTo fromReader limited
+  served-16 e = rw e
+
+  module _ (known : isReader reader ≡ true) where
+    pub packed-1 : passes (packedTable t) ≡ false → servedTo reader (packedSeen reader t) s l d ≡ limited (length d) (refusal 1)
+    unfolding servedTo fromReader
+    packed-1 e = rw known (served-1 (packedSeen reader t) s l d (packed-seen-passes reader t ∙ e))
+
+    pub packed-on : (words : List ℕ) → passes (packedTable t) ≡ true → map recordOf words ≡ packedRecords t
+        → servedTo reader (packedSeen reader t) s l d ≡ limited (length d) (indexReply t (seenWords reader words) s l)
+    unfolding servedTo fromReader rows
+    packed-on words e told =
+        let seen : rowsAt t (seenWords reader words) ≡ rows (packedSeen reader t)
+        = seen-rows reader t words ∙ ap (visible reader t) told ∙ sym (ap rows (packed-seen-is reader t e)) in
+        rw known (served-on (packedSeen reader t) s l d t (seenWords reader words) (packed-seen-passes reader t ∙ e) seen)
 
 -- over an index: the namespace list, then the command
 module _ (area words s l : List ℕ) where

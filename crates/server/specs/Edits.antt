@@ -1,15 +1,16 @@
 -- What a command leaves of words, area and answer buffer, and what an edit that was read comes to.
 use mathlib.Core.Path.{_≡_}
-use mathlib.Core.Bool.{Bool, true, false}
+use mathlib.Core.Bool.{Bool, true, false, cond}
 use mathlib.Core.List.{List, map}
 use Prim.Native.Nat.{ℕ, _≤_}
+use lib.Dec.{eqb}
 use lib.ListN.{length, take}
 use Rattle.listing_rules.specs.Command.{Edit, subscribe, unsubscribe, parsed}
 use Rattle.listing_rules.specs.Subscriptions.{Store, edited}
 use Rattle.listing_rules.specs.Lines.{okLine}
 use Rattle.subscriptions.specs.declared.Plan.{Plan}
 use Rattle.subscriptions.specs.declared.Plan.the-variants.{Keep, Flag, Insert, Remove, Refused as Refuses}
-use Rattle.listing_rules.specs.Server.{Reply, Commanded, refusal, answered, concluded, bufferAfter}
+use Rattle.listing_rules.specs.Server.{Reply, Commanded, refusal, answered, unchangedBy, concluded, bufferAfter}
 use Rattle.octets.specs.Written.{writtenIs}
 use Rattle.records.specs.Words.{recordOf}
 use Rattle.records.specs.Stores.{Between}
@@ -78,6 +79,10 @@ editOf line c = editAs (subscribeKind (c .kind)) (nameOf line c)
 -- what an edit comes to, over a table that passes and beside a namespace list that passes
 abbrev pub editCommand : Store → List ℕ → Command → List ℕ → Commanded
 editCommand s line c out = concluded s (length out) (edited s (editOf line c)) (answered (okLine (spanBytes line (c .tag))))
+
+-- the same of an edit from a reader: 16 if it is not reader 0
+abbrev pub readerEdit : ℕ → Store → List ℕ → Command → List ℕ → Commanded
+readerEdit reader s line c out = cond (eqb reader 0) (editCommand s line c out) (unchangedBy s 16)
 
 -- what is answered to an edit by its plan, if the buffer has room for it
 unfoldable pub planReply : Plan → List ℕ → Reply

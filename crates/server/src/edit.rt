@@ -7,6 +7,7 @@ use command_line::put_name;
 use command_tokens::raw;
 use names::spell;
 use octets::Written;
+use octets::refusals::READER;
 use subscriptions::Plan;
 use subscriptions::carry_out;
 use subscriptions::decide;
@@ -19,7 +20,7 @@ ghost use Rattle.listing_rules.specs.Subscriptions.{storeTable, spelled};
 ghost use Rattle.command_line.specs.Commands.{Inside, nameOf};
 ghost use Rattle.subscriptions.specs.Stored.{wholeStore};
 ghost use Rattle.octets.specs.Written.{Gives};
-ghost use Rattle.server.specs.Edits.{Fronts, planReply, Leaves, memory, Reads, editKind, subscribeKind, editCommand};
+ghost use Rattle.server.specs.Edits.{Fronts, planReply, Leaves, memory, Reads, editKind, subscribeKind, editCommand, readerEdit};
 
 // Room for the name of any command line.
 const NAME_ROOM: usize = 2048;
@@ -93,8 +94,32 @@ fn put_spelled(line: &[u8], command: Command, name: &mut [u8]) -> usize
     end
 }
 
-// The edit of a command that was read, over words whose table passes: 14, 15, then 9, all before any change.
-pub(crate) fn edit(
+// The edit of a command that was read, over words whose table passes: 16 for another reader than 0, then 14, 15 and 9, all before any
+// change.
+pub(crate) fn edit_from(
+    words: &mut [u64],
+    count: usize,
+    reader: u8,
+    area: &mut [u8],
+    line: &[u8],
+    command: Command,
+    out: &mut [u8],
+) -> Stored
+    requires { ⌜ passes (storeTable (wholeStore (now words) count (now area))) ≡ true ⌝ }
+    requires { ⌜ Reads (now line) command × (editKind (command .kind) ≡ true) ⌝ }
+    ensures { λ r. ⌜ Leaves
+        (readerEdit reader (wholeStore (now (words .entry)) count (now (area .entry))) (now (line .entry)) command (now (out .entry)))
+        (memory (now (words .entry)) (now (area .entry)) (now (out .entry)))
+        (memory (now (words .exit)) (now (area .exit)) (now (out .exit))) r ⌝ }
+{
+    if reader != 0 {
+        return unchanged(Written::Refused(READER), count);
+    }
+    edit(words, count, area, line, command, out)
+}
+
+// The same from reader 0.
+fn edit(
     words: &mut [u64],
     count: usize,
     area: &mut [u8],

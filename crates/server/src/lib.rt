@@ -9,14 +9,17 @@ mod reading;
 mod replies;
 
 use command_line::read_command;
-use edit::edit;
+use edit::edit_from;
 use edit::is_edit;
 use edit::unchanged;
 use mailbox_table::Indexing;
+use mailbox_table::MAX_READER;
 use mailbox_table::index_words;
+use mailbox_table::see_rows;
 use octets::Written;
 use octets::least;
 use octets::refusals::NAMESPACES;
+use octets::refusals::READER;
 use octets::refusals::TABLE;
 pub use packed::is_edit_line;
 pub use packed::read_packed;
@@ -40,11 +43,12 @@ pub struct Answered {
     pub count: usize,
 }
 
-// The answer to one command at the front of `out`. The first `count` records are the table's rows, over the area of name bytes; those
-// after them are spare. SUBSCRIBE and UNSUBSCRIBE change records, area and count; a refusal, and any other command, leaves them.
+// The answer to one command of a reader at the front of `out`. The first `count` records are the table's rows, over the area of name bytes;
+// those after them are spare. SUBSCRIBE and UNSUBSCRIBE change records, area and count; a refusal, and any other command, leaves them.
 pub fn answer(
     records: &mut [Record],
     count: usize,
+    reader: u8,
     area: &mut [u8],
     namespaces: &[u8],
     line: &[u8],
@@ -52,19 +56,19 @@ pub fn answer(
 ) -> Answered
     ensures result { λ r. ⌜
         (r .written ≡ writtenIs
-        (lentCommand (now (records .entry)) count (now (area .entry)) (now (namespaces .entry)) (now (line .entry)) (now (out .entry)) .reply))
+        (lentCommand (now (records .entry)) count reader (now (area .entry)) (now (namespaces .entry)) (now (line .entry)) (now (out .entry)) .reply))
         × (r .count
-        ≡ lentCommand (now (records .entry)) count (now (area .entry)) (now (namespaces .entry)) (now (line .entry)) (now (out .entry)) .store .count) ⌝ }
+        ≡ lentCommand (now (records .entry)) count reader (now (area .entry)) (now (namespaces .entry)) (now (line .entry)) (now (out .entry)) .store .count) ⌝ }
     ensures bytes { λ _. ⌜ now (out .exit) ≡ bufferAfter (now (out .entry))
-        (lentCommand (now (records .entry)) count (now (area .entry)) (now (namespaces .entry)) (now (line .entry)) (now (out .entry)) .reply) ⌝ }
+        (lentCommand (now (records .entry)) count reader (now (area .entry)) (now (namespaces .entry)) (now (line .entry)) (now (out .entry)) .reply) ⌝ }
     ensures area { λ _. ⌜ now (area .exit)
-        ≡ lentCommand (now (records .entry)) count (now (area .entry)) (now (namespaces .entry)) (now (line .entry)) (now (out .entry)) .store .area ⌝ }
+        ≡ lentCommand (now (records .entry)) count reader (now (area .entry)) (now (namespaces .entry)) (now (line .entry)) (now (out .entry)) .store .area ⌝ }
     ensures records { λ _. ⌜ map meant (now (records .exit))
-        ≡ lentCommand (now (records .entry)) count (now (area .entry)) (now (namespaces .entry)) (now (line .entry)) (now (out .entry)) .store .records ⌝ }
+        ≡ lentCommand (now (records .entry)) count reader (now (area .entry)) (now (namespaces .entry)) (now (line .entry)) (now (out .entry)) .store .records ⌝ }
 {
     let mut words = no_words();
     let lent = copy_in(records, records.len(), &mut words);
-    let done = answer_words(&mut words, lent, count, area, namespaces, line, out);
+    let done = answer_words(&mut words, lent, count, reader, area, namespaces, line, out);
     copy_back(records, done.from, done.to, &words);
     Answered {
         written: done.written,
@@ -87,6 +91,7 @@ pub fn answer_words(
     words: &mut [u64],
     lent: usize,
     count: usize,
+    reader: u8,
     area: &mut [u8],
     namespaces: &[u8],
     line: &[u8],
@@ -94,17 +99,20 @@ pub fn answer_words(
 ) -> Stored
     ensures result { λ r. ⌜
         (r .written ≡ writtenIs
-        (wordCommand (now (words .entry)) lent count (now (area .entry)) (now (namespaces .entry)) (now (line .entry)) (now (out .entry)) .reply))
+        (wordCommand (now (words .entry)) lent count reader (now (area .entry)) (now (namespaces .entry)) (now (line .entry)) (now (out .entry)) .reply))
         × (r .count
-        ≡ wordCommand (now (words .entry)) lent count (now (area .entry)) (now (namespaces .entry)) (now (line .entry)) (now (out .entry)) .store .count) ⌝ }
+        ≡ wordCommand (now (words .entry)) lent count reader (now (area .entry)) (now (namespaces .entry)) (now (line .entry)) (now (out .entry)) .store .count) ⌝ }
     ensures bytes { λ _. ⌜ now (out .exit) ≡ bufferAfter (now (out .entry))
-        (wordCommand (now (words .entry)) lent count (now (area .entry)) (now (namespaces .entry)) (now (line .entry)) (now (out .entry)) .reply) ⌝ }
+        (wordCommand (now (words .entry)) lent count reader (now (area .entry)) (now (namespaces .entry)) (now (line .entry)) (now (out .entry)) .reply) ⌝ }
     ensures area { λ _. ⌜ now (area .exit)
-        ≡ wordCommand (now (words .entry)) lent count (now (area .entry)) (now (namespaces .entry)) (now (line .entry)) (now (out .entry)) .store .area ⌝ }
+        ≡ wordCommand (now (words .entry)) lent count reader (now (area .entry)) (now (namespaces .entry)) (now (line .entry)) (now (out .entry)) .store .area ⌝ }
     ensures words { λ r. ⌜ (map recordOf (take lent (now (words .exit)))
-        ≡ wordCommand (now (words .entry)) lent count (now (area .entry)) (now (namespaces .entry)) (now (line .entry)) (now (out .entry)) .store .records)
+        ≡ wordCommand (now (words .entry)) lent count reader (now (area .entry)) (now (namespaces .entry)) (now (line .entry)) (now (out .entry)) .store .records)
         × Between (now (words .entry)) (now (words .exit)) lent (r .from) (r .to) ⌝ }
 {
+    if MAX_READER < reader {
+        return unchanged(Written::Refused(READER), count);
+    }
     let mut rows = no_words();
     let n = least(lent, words.len());
     let Indexing::Rows(m) = index_words(area, &words[..n], count, &mut rows) else {
@@ -116,8 +124,9 @@ pub fn answer_words(
     let command = read_command(line);
     let kind = command.kind;
     if is_edit(kind) {
-        return edit(&mut words[..n], count, area, line, command, out);
+        return edit_from(&mut words[..n], count, reader, area, line, command, out);
     }
-    let written = respond(area, &rows[..m], namespaces, line, command, out);
+    let seen = see_rows(&mut rows[..m], reader);
+    let written = respond(area, &rows[..seen], namespaces, line, command, out);
     unchanged(written, count)
 }

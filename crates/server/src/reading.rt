@@ -24,8 +24,8 @@ ghost use Rattle.mailbox_table.specs.Index.{Index};
 ghost use Rattle.server.specs.Replies.{commandReply, indexReply};
 ghost use Rattle.server.specs.Edits.{Reads};
 
-// A command that is no edit, over words that are lent for reading: for a walk, within which no edit falls. That the line is none is
-// its requirement, since an edit has nothing here to change.
+// A command that is no edit, over words that are lent for reading, all of which its reader sees: for a walk, within which no edit falls. That
+// the line is none is its requirement, since an edit has nothing here to change.
 pub fn read_words(
     words: &[u64],
     count: usize,

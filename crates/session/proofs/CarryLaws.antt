@@ -8,8 +8,8 @@ use lib.Dec.{leb}
 use lib.ListN.{length, take, drop, length-append}
 use lib.Seq.{sets, sets-eq, length-take-le, drop-at}
 use borrow.Author.Tests.{leb-true, le-leb}
-use Rattle.listing_rules.specs.Walk.{walk}
-use Rattle.listing_rules.specs.Frames.{bytes, records, Stored, Stepped, refusalLine, walkLine, keptTable, answering, addRowTo, addRow, addEntry, framed}
+use Rattle.listing_rules.specs.Walk.{walkBy}
+use Rattle.listing_rules.specs.Frames.{bytes, records, Stored, Stepped, refusalLine, walkLine, keptSeen, answering, addRowTo, addRow, addEntry, framed}
 use Rattle.octets.specs.Put.{Put}
 use Rattle.frames.specs.declared.reading.Frame.{Frame}
 use Rattle.frames.specs.declared.reading.Frame.the-variants.{Table, Namespaces, Command, Walk, Bad}
@@ -29,7 +29,8 @@ use Rattle.session.proofs.LentLaws.{says-none, says-refusal, carries-sa
 behind-added : (d bs : List ℕ) (used : ℕ) → used + length bs ≤ length d → drop (used + length bs) (sets d used bs) ≡ drop (used + length bs) d
 behind-added d bs used h =
     ap (drop (used + length bs)) (sets-eq bs d used h)
-    ∙ drop-at (take used d ++ bs) (drop (used + length bs) d) (used + length bs) (omega (arith, length-append (take used d) bs, length-take-le used d (omega arith)))
+    ∙ drop-at (take used d ++ bs) (drop (used + length bs) d) (used + length bs)
+    (omega (arith, length-append (take used d) bs, length-take-le used d (omega arith)))
 
 -- bytes added, or no room for them
 module _ {d e : List ℕ} {used limit : ℕ} {bs : List ℕ} {r : StoredNow} (inside : limit ≤ length d) (s : Stores d e used limit bs r) where
@@ -46,7 +47,8 @@ module _ {d e : List ℕ} {used limit : ℕ} {bs : List ℕ} {r : StoredNow} (in
         says = rw (q .0) (says-none o);
       }
 
-  pub keeps-full : (number w : ℕ) (o p : List ℕ) → used ≤ limit → r ≡ NoRoom → Put o p 0 (refusalLine number) w → Keeps limit number used bs d e o p (record { len = used; written = w })
+  pub keeps-full : (number w : ℕ) (o p : List ℕ) → used ≤ limit → r ≡ NoRoom → Put o p 0 (refusalLine number) w →
+      Keeps limit number used bs d e o p (record { len = used; written = w })
   keeps-full number w o p h a put =
       let q = stored-full s a inside in
       record {
@@ -70,13 +72,16 @@ unfolding answering
 adding true number area bs stored = refl
 adding false number area bs stored = refl
 
-row-added : (t spaces bs : List ℕ) → addRow (record { table = bytes t; namespaces = spaces }) bs ≡ added 16384 1 t bs (λ (u : List ℕ). record { table = bytes u; namespaces = spaces })
+row-added : (t spaces bs : List ℕ) →
+    addRow (record { table = bytes t; namespaces = spaces }) bs ≡ added 16384 1 t bs (λ (u : List ℕ). record { table = bytes u; namespaces = spaces })
 unfolding addRow addRowTo
 row-added t spaces bs = adding (leb (length t + length bs) 16384) 1 t bs (λ (u : List ℕ). record { table = bytes u; namespaces = spaces })
 
-entry-added : (s : Stored) (bs : List ℕ) → addEntry s bs ≡ added 1024 2 (s .namespaces) bs (λ (n : List ℕ). record { table = s .table; namespaces = n })
+entry-added : (s : Stored) (bs : List ℕ) →
+    addEntry s bs ≡ added 1024 2 (s .namespaces) bs (λ (n : List ℕ). record { table = s .table; namespaces = n })
 unfolding addEntry
-entry-added s bs = adding (leb (length (s .namespaces) + length bs) 1024) 2 (s .namespaces) bs (λ (n : List ℕ). record { table = s .table; namespaces = n })
+entry-added s bs =
+    adding (leb (length (s .namespaces) + length bs) 1024) 2 (s .namespaces) bs (λ (n : List ℕ). record { table = s .table; namespaces = n })
 
 -- A row: 13 where records are kept, else added or not for want of room.
 module _ (n : Lengths) (row t o : List ℕ) (rows : n .table ≤ 16384) where
@@ -107,7 +112,8 @@ module _ (n : Lengths) (row t o : List ℕ) (rows : n .table ≤ 16384) where
 
 -- a frame by the code's answer to its characters, over the bytes at its side
 module _ (d : Lent) (n : Lengths) (w : Within n (d .table) (d .records) (d .namespaces)) (f : Frame) (bs : List ℕ) where
-  pub kind-row : (size : ℕ) (t o : List ℕ) (r : Outcome) → f ≡ Table size → AddsRow n (take size bs) (d .table) t (d .out) o r → CarriesOut n bs f d (lent t (d .records) (d .namespaces) o) r
+  pub kind-row : (size : ℕ) (t o : List ℕ) (r : Outcome) → f ≡ Table size → AddsRow n (take size bs) (d .table) t (d .out) o r →
+      CarriesOut n bs f d (lent t (d .records) (d .namespaces) o) r
   unfolding framed frameIs
   kind-row size t o r e x = rw e (x (d .records) (d .namespaces) (w .entries))
 
@@ -116,7 +122,8 @@ module _ (d : Lent) (n : Lengths) (w : Within n (d .table) (d .records) (d .name
       CarriesOut n bs f d (lent (d .table) (d .records) m o) (outcomeIs (lengthsIs (n .table) (k .len) (n .edited)) (k .written))
   unfolding framed frameIs
   kind-entry size m o k e x =
-      rw (e, entry-added (storedIn d n) (take size bs), length-take-le (n .namespaces) (d .namespaces) (omega (arith, w .entries, w .namespaces))) (record {
+      rw (e, entry-added (storedIn d n) (take size bs), length-take-le (n .namespaces) (d .namespaces) (omega (arith, w .entries, w .namespaces)))
+      (record {
         table = refl;
         namespaces = x .front;
         table-room = w .held .rows;
@@ -128,17 +135,21 @@ module _ (d : Lent) (n : Lengths) (w : Within n (d .table) (d .records) (d .name
         says = x .says;
       })
 
-  pub kind-command : (size : ℕ) (t v o : List ℕ) (r : Outcome) → f ≡ Command size → Obeys n (take size bs) d (lent t v (d .namespaces) o) r → CarriesOut n bs f d (lent t v (d .namespaces) o) r
+  pub kind-command : (reader size part : ℕ) (t v o : List ℕ) (r : Outcome) → f ≡ Command reader size →
+      Obeys n reader (take part (drop 1 bs)) d (lent t v (d .namespaces) o) r →
+      part ≡ size → CarriesOut n bs f d (lent t v (d .namespaces) o) r
   unfolding framed frameIs
-  kind-command size t v o r e x = rw e x
+  kind-command reader size part t v o r e x same = rw (e, sym same) x
 
-  pub kind-walk : (option : ℕ) (o : List ℕ) (k : ℕ) → f ≡ Walk option →
-      Says (walkLine (walk (keptTable (keptIn d n)) option 16384 8192 8192)) (d .out) o k →
+  pub kind-walk : (reader option : ℕ) (o : List ℕ) (k : ℕ) → f ≡ Walk reader option →
+      Says (walkLine (walkBy reader (keptSeen reader (keptIn d n)) option 16384 8192 8192)) (d .out) o k →
       CarriesOut n bs f d (lent (d .table) (d .records) (d .namespaces) o) (outcomeIs n k)
   unfolding framed frameIs
-  kind-walk option o k e x = rw e (carries-said d n (w .held .rows) (w .entries) (walkLine (walk (keptTable (keptIn d n)) option 16384 8192 8192)) o k x)
+  kind-walk reader option o k e x =
+      rw e (carries-said d n (w .held .rows) (w .entries) (walkLine (walkBy reader (keptSeen reader (keptIn d n)) option 16384 8192 8192)) o k x)
 
-  pub kind-bad : (o : List ℕ) (k : ℕ) → f ≡ Bad → Put (d .out) o 0 (refusalLine 13) k → CarriesOut n bs f d (lent (d .table) (d .records) (d .namespaces) o) (outcomeIs n k)
+  pub kind-bad : (o : List ℕ) (k : ℕ) → f ≡ Bad → Put (d .out) o 0 (refusalLine 13) k →
+      CarriesOut n bs f d (lent (d .table) (d .records) (d .namespaces) o) (outcomeIs n k)
   unfolding framed frameIs
   kind-bad o k e x = rw e (carries-said d n (w .held .rows) (w .entries) (refusalLine 13) o k (says-refusal 13 x))
 
@@ -152,6 +163,6 @@ module _ {f : Frame} {n : ℕ} (s : List ℕ) (h : sizeOf f ≤ length s) where
   unfolding sizeOf
   whole-entry e = sym (length-take-le n s (rw e at h))
 
-  pub whole-command : f ≡ Command n → n ≡ length (take n s)
+  pub whole-command : {reader : ℕ} → f ≡ Command reader n → n + 1 ≤ length s
   unfolding sizeOf
-  whole-command e = sym (length-take-le n s (rw e at h))
+  whole-command e = rw e at h

@@ -38,7 +38,8 @@ unfolding programOutput
 program-cut ps = ap (λ (f : Came). f .output ++ atEnd (f .session)) (cutting start ps)
 
 -- a ready memory is never refused
-pub never-refused : (chunk : List ℕ) (d e : Lent) (line line′ : List ℕ) (st : State) → readyIn d line st ≡ true → FeedIs chunk d e line line′ st Refused → ⊥
+pub never-refused : (chunk : List ℕ) (d e : Lent) (line line′ : List ℕ) (st : State) → readyIn d line st ≡ true →
+    FeedIs chunk d e line line′ st Refused → ⊥
 never-refused chunk d e line line′ st h r = let z : _≡_ {A = ℕ} 0 1 = cc in absurd (omega arith)
 
 -- a line that is said lies at the front of an output with room for it
@@ -47,11 +48,13 @@ said-front {line} {o} {p} {r} x h =
     ap (take r) (x .bytes ∙ sets-eq line o 0 (omega arith)) ∙ take-at line (drop (0 + length line) o) r (sym (x .written))
 
 -- memory that is lent again holds the same session
-lent-frame : (over : Bool) (len : ℕ) (line line′ p : List ℕ) → 4100 ≤ length line′ → take len line′ ≡ take len line → HoldsIf over len line p → HoldsIf over len line′ p
+lent-frame : (over : Bool) (len : ℕ) (line line′ p : List ℕ) → 4102 ≤ length line′ → take len line′ ≡ take len line → HoldsIf over len line p →
+    HoldsIf over len line′ p
 lent-frame true len line line′ p room e h = h
 lent-frame false len line line′ p room e h = (h .0 ∙ sym e, omega (arith, h .2), h .2)
 
-holds-again : {d e : Lent} {line line′ : List ℕ} {st : State} {s : Session} → LentAgain st d e line line′ → readyIn e line′ st ≡ true → Holds d line st s → Holds e line′ st s
+holds-again : {d e : Lent} {line line′ : List ℕ} {st : State} {s : Session} → LentAgain st d e line line′ → readyIn e line′ st ≡ true →
+    Holds d line st s → Holds e line′ st s
 holds-again {d} {e} {line} {line′} {st} {s} a r h =
     let z = sizes (length (e .table)) (length (e .records)) (length (e .namespaces)) (length line′) (length (e .out)) st r in
     record {
@@ -87,7 +90,8 @@ calls-come (x ∷ xs) st d line s input h c t =
 
     said : take (x .answer .written) (x .after .out) ≡ fedAll s front .output
     said =
-        let z = sizes (length (x .before .table)) (length (x .before .records)) (length (x .before .namespaces)) (length (x .line)) (length (x .before .out)) st ready in
+        let z = sizes (length (x .before .table)) (length (x .before .records)) (length (x .before .namespaces)) (length (x .line))
+        (length (x .before .out)) st ready in
         said-front (w .says) (omega (arith, w .says .fits, z .out))
 
     taken : take (x .answer .used) input ≡ front

@@ -29,32 +29,32 @@ pub record Sizes (t w n l o : ℕ) (st : State) : Type 0 where
   pub table : 16384 ≤ t
   pub records : 512 ≤ w
   pub namespaces : 1024 ≤ n
-  pub line : 4100 ≤ l
+  pub line : 4102 ≤ l
   pub out : 32771 ≤ o
   pub rows : st .stored .table ≤ 16384
   pub entries : st .stored .namespaces ≤ 1024
-  pub digits : (st .gathered .over || leb (st .gathered .len) 4100) ≡ true
+  pub digits : (st .gathered .over || leb (st .gathered .len) 4102) ≡ true
 
 pub sizes : (t w n l o : ℕ) (st : State) → ready t w n l o st ≡ true → Sizes t w n l o st
 sizes t w n l o st h =
-    let d = st .gathered .over || leb (st .gathered .len) 4100 in
+    let d = st .gathered .over || leb (st .gathered .len) 4102 in
     let e = leb (st .stored .namespaces) 1024 && d in
     let r = leb (st .stored .table) 16384 && e in
     let u = leb 32771 o && r in
-    let v = leb 4100 l && u in
+    let v = leb 4102 l && u in
     let x = leb 1024 n && v in
     let y = leb 512 w && x in
     let hy = and-r (leb 16384 t) y h in
     let hx = and-r (leb 512 w) x hy in
     let hv = and-r (leb 1024 n) v hx in
-    let hu = and-r (leb 4100 l) u hv in
+    let hu = and-r (leb 4102 l) u hv in
     let hr = and-r (leb 32771 o) r hu in
     let he = and-r (leb (st .stored .table) 16384) e hr in
     record {
       table = leb-true 16384 t (and-l (leb 16384 t) y h);
       records = leb-true 512 w (and-l (leb 512 w) x hy);
       namespaces = leb-true 1024 n (and-l (leb 1024 n) v hx);
-      line = leb-true 4100 l (and-l (leb 4100 l) u hv);
+      line = leb-true 4102 l (and-l (leb 4102 l) u hv);
       out = leb-true 32771 o (and-l (leb 32771 o) r hu);
       rows = leb-true (st .stored .table) 16384 (and-l (leb (st .stored .table) 16384) e hr);
       entries = leb-true (st .stored .namespaces) 1024 (and-l (leb (st .stored .namespaces) 1024) d he);
@@ -72,7 +72,15 @@ within d line st h =
 
 pub ready-again : (t w n l o : ℕ) (st : State) → Sizes t w n l o st → ready t w n l o st ≡ true
 ready-again t w n l o st z =
-    rw (le-leb 16384 t (z .table), le-leb 512 w (z .records), le-leb 1024 n (z .namespaces), le-leb 4100 l (z .line), le-leb 32771 o (z .out), le-leb (st .stored .table) 16384 (z .rows), le-leb (st .stored .namespaces) 1024 (z .entries)) (z .digits)
+    rw (
+      le-leb 16384 t (z .table),
+      le-leb 512 w (z .records),
+      le-leb 1024 n (z .namespaces),
+      le-leb 4102 l (z .line),
+      le-leb 32771 o (z .out),
+      le-leb (st .stored .table) 16384 (z .rows),
+      le-leb (st .stored .namespaces) 1024 (z .entries),
+    ) (z .digits)
 
 -- at the start any memory holds the session at its start
 pub holds-start : (d : Lent) (line : List ℕ) → Holds d line (startIs) start
@@ -80,9 +88,9 @@ unfolding start
 holds-start d line = record { table = refl; namespaces = refl; frame = holds-none line }
 
 -- a ready memory holds some session always
-frame-some : (over : Bool) (len : ℕ) (line : List ℕ) → 4100 ≤ length line → (over || leb len 4100) ≡ true → (p : List ℕ) × HoldsIf over len line p
-frame-some true len line h e = (replicate 4101 0, omega (arith, length-replicate {A = ℕ} 4101 0))
-frame-some false len line h e = (take len line, (refl, omega (arith, leb-true len 4100 e), leb-true len 4100 e))
+frame-some : (over : Bool) (len : ℕ) (line : List ℕ) → 4102 ≤ length line → (over || leb len 4102) ≡ true → (p : List ℕ) × HoldsIf over len line p
+frame-some true len line h e = (replicate 4103 0, omega (arith, length-replicate {A = ℕ} 4103 0))
+frame-some false len line h e = (take len line, (refl, omega (arith, leb-true len 4102 e), leb-true len 4102 e))
 
 pub holds-some : (d : Lent) (line : List ℕ) (st : State) → readyIn d line st ≡ true → (s : Session) × Holds d line st s
 holds-some d line st h =
@@ -90,15 +98,16 @@ holds-some d line st h =
     let f = frame-some (st .gathered .over) (st .gathered .len) line (z .line) (z .digits) in
     (record { stored = storedIn d (st .stored); partial = f .0 }, record { table = refl; namespaces = refl; frame = f .1 })
 
-frame-bounded : (over : Bool) (len : ℕ) (line p : List ℕ) → HoldsIf over len line p → (over || leb len 4100) ≡ true
+frame-bounded : (over : Bool) (len : ℕ) (line p : List ℕ) → HoldsIf over len line p → (over || leb len 4102) ≡ true
 frame-bounded true len line p h = refl
-frame-bounded false len line p h = le-leb len 4100 (h .2)
+frame-bounded false len line p h = le-leb len 4102 (h .2)
 
 -- the stored bytes of a session that the memory holds
 stored-is : {d : Lent} {line : List ℕ} {st : State} {s : Session} → Holds d line st s → storedIn d (st .stored) ≡ s .stored
 stored-is h = λ i. record { table = h .table i; namespaces = h .namespaces i }
 
-module _ (chunk : List ℕ) (d : Lent) (line line′ : List ℕ) (st : State) (g : Gathered) (h : readyIn d line st ≡ true) (run : g ≡ gatheredAll (length line) (st .gathered) (beforeLine chunk)) (bytes : line′ ≡ lineAfter line (st .gathered) (beforeLine chunk)) where
+module _ (chunk : List ℕ) (d : Lent) (line line′ : List ℕ) (st : State) (g : Gathered) (h : readyIn d line st ≡ true)
+    (run : g ≡ gatheredAll (length line) (st .gathered) (beforeLine chunk)) (bytes : line′ ≡ lineAfter line (st .gathered) (beforeLine chunk)) where
   is-sized : Sizes (length (d .table)) (length (d .records)) (length (d .namespaces)) (length line) (length (d .out)) st
   is-sized = sizes (length (d .table)) (length (d .records)) (length (d .namespaces)) (length line) (length (d .out)) st h
 
@@ -118,7 +127,8 @@ module _ (chunk : List ℕ) (d : Lent) (line line′ : List ℕ) (st : State) (g
         used = omega (arith, u, w .1, ap length (w .0));
         comes =
             λ s x.
-            subst (λ (f : Came). Comes f d d line′ (record { state = record { stored = st .stored; gathered = g }; used = used; written = 0 })) (sym (ap (fedAll s) whole ∙ fed-before chunk s))
+            subst (λ (f : Came). Comes f d d line′ (record { state = record { stored = st .stored; gathered = g }; used = used; written = 0 }))
+            (sym (ap (fedAll s) whole ∙ fed-before chunk s))
             (record {
               holds = record { table = x .table; namespaces = x .namespaces; frame = goes-on (s .partial) (x .frame) };
               says = says-none (d .out);
@@ -130,7 +140,8 @@ module _ (chunk : List ℕ) (d : Lent) (line line′ : List ℕ) (st : State) (g
         line-bytes = bytes;
         gathered = run ∙ rw (le-ltb (length (beforeLine chunk)) (length chunk) (omega arith));
         ready-on =
-            ready-again (length (d .table)) (length (d .records)) (length (d .namespaces)) (length line) (length (d .out)) (record { stored = st .stored; gathered = g })
+            ready-again (length (d .table)) (length (d .records)) (length (d .namespaces)) (length line) (length (d .out))
+            (record { stored = st .stored; gathered = g })
             (record {
               table = z .table;
               records = z .records;
@@ -155,8 +166,12 @@ module _ (chunk : List ℕ) (d : Lent) (line line′ : List ℕ) (st : State) (g
         used = omega (arith, u, w .0);
         comes =
             λ s y.
-            let same : framed (storedIn d (st .stored)) (x .frame) ≡ step (s .stored) (s .partial ++ beforeLine chunk) = λ i. framed (stored-is y i) (x .read (s .partial ++ beforeLine chunk) (goes-on (s .partial) (y .frame)) i) in
-            subst (λ (f : Came). Comes f d e line′ (record { state = record { stored = r .stored; gathered = gatheredNone }; used = used + 1; written = r .written })) (sym (ap (fedAll s) (w .1) ∙ fed-line chunk s ∙ sym (ap (λ (f : Stepped). record { session = record { stored = f .stored; partial = [] }; output = f .output }) same)))
+            let same : framed (storedIn d (st .stored)) (x .frame) ≡ step (s .stored) (s .partial ++ beforeLine chunk) = λ i. framed (stored-is y i)
+            (x .read (s .partial ++ beforeLine chunk) (goes-on (s .partial) (y .frame)) i) in
+            subst (λ (f : Came). Comes f d e line′ (record
+            { state = record { stored = r .stored; gathered = gatheredNone }; used = used + 1; written = r .written }))
+            (sym (ap (fedAll s) (w .1) ∙ fed-line chunk s ∙ sym
+            (ap (λ (f : Stepped). record { session = record { stored = f .stored; partial = [] }; output = f .output }) same)))
             (record { holds = record { table = c .table; namespaces = c .namespaces; frame = holds-none line′ }; says = c .says });
         table-behind = c .table-behind;
         records-behind = c .records-behind;
@@ -165,7 +180,8 @@ module _ (chunk : List ℕ) (d : Lent) (line line′ : List ℕ) (st : State) (g
         line-bytes = bytes;
         gathered = rw (lt-ltb (length (beforeLine chunk)) (length chunk) (omega arith));
         ready-on =
-            ready-again (length (d .table)) (length (d .records)) (length (d .namespaces)) (length line) (length (d .out)) (record { stored = r .stored; gathered = gatheredNone })
+            ready-again (length (d .table)) (length (d .records)) (length (d .namespaces)) (length line) (length (d .out))
+            (record { stored = r .stored; gathered = gatheredNone })
             (record {
               table = z .table;
               records = z .records;
@@ -184,7 +200,8 @@ pub feed-taken : {chunk : List ℕ} {d e : Lent} {line line′ : List ℕ} {st :
 feed-taken {chunk} {d} {e} {line} {line′} {st} t q so f = subst (λ (x : Fed). FeedIs chunk d e line line′ st x) (sym q) (so, f)
 
 -- the end of the input: nothing was gathered, or a frame without its line feed
-pub finishes : (o p : List ℕ) (st : State) (r : ℕ) (empty : Bool) → IsEmpty (st .gathered) empty → Says (cond empty [] (refusalLine 13)) o p r → Finishes o p st r
+pub finishes : (o p : List ℕ) (st : State) (r : ℕ) (empty : Bool) → IsEmpty (st .gathered) empty → Says (cond empty [] (refusalLine 13)) o p r →
+    Finishes o p st r
 unfolding atEnd
 finishes o p st r empty i x =
     record {

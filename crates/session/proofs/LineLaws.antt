@@ -44,7 +44,8 @@ before-all (c ∷ t) h = go (eqb c 10) h (before-all t)
     go false g ih = let w = ih (omega arith) in (ap (λ (l : List ℕ). c ∷ l) (w .0), ap suc (w .1))
 
 -- a piece with a line feed: what is taken are the characters before it and itself
-pub through-line : (s : List ℕ) → length (beforeLine s) < length s → (throughLine s ≡ length (beforeLine s) + 1) × (take (throughLine s) s ≡ beforeLine s ++ (10 ∷ []))
+pub through-line : (s : List ℕ) → length (beforeLine s) < length s →
+    (throughLine s ≡ length (beforeLine s) + 1) × (take (throughLine s) s ≡ beforeLine s ++ (10 ∷ []))
 unfolding beforeLine throughLine
 through-line [] h = absurd (omega arith)
 through-line (c ∷ t) h = go (eqb c 10) refl h (through-line t)
@@ -76,7 +77,8 @@ through-less (c ∷ t) = go (eqb c 10)
     go false = omega arith
 
 -- a line that holds characters goes on holding them with some more
-pub holds-all : (cs d : List ℕ) (g : Gathered) (p : List ℕ) → 4100 ≤ length d → Holds d g p → Holds (lineAfter d g cs) (gatheredAll (length d) g cs) (p ++ cs)
+pub holds-all : (cs d : List ℕ) (g : Gathered) (p : List ℕ) → 4102 ≤ length d → Holds d g p →
+    Holds (lineAfter d g cs) (gatheredAll (length d) g cs) (p ++ cs)
 unfolding lineAfter gatheredAll
 holds-all [] d g p room h = rw (append-nil p) h
 holds-all (c ∷ cs) d g p room h =
@@ -85,7 +87,8 @@ holds-all (c ∷ cs) d g p room h =
     rw (w .kept, append-assoc p (c ∷ []) cs) at more
 
 -- characters that are no line feed are only gathered
-pub fed-before : (chunk : List ℕ) (s : Session) → fedAll s (beforeLine chunk) ≡ record { session = record { stored = s .stored; partial = s .partial ++ beforeLine chunk }; output = [] }
+pub fed-before : (chunk : List ℕ) (s : Session) →
+    fedAll s (beforeLine chunk) ≡ record { session = record { stored = s .stored; partial = s .partial ++ beforeLine chunk }; output = [] }
 unfolding beforeLine fedAll fed behind
 fed-before [] s = rw (append-nil (s .partial))
 fed-before (c ∷ t) s = go (eqb c 10) refl (fed-before t)
@@ -122,7 +125,8 @@ pub part-start : (chunk d : List ℕ) (g : Gathered) → Part chunk d g d g 0
 part-start chunk d g = record { inside = omega arith; kept = refl; used = omega arith; gathered = refl; line = refl }
 
 module _ {chunk d : List ℕ} {g : Gathered} {e : List ℕ} {q : Gathered} {i : ℕ} (p : Part chunk d g e q i) where
-  pub part-more : (e′ : List ℕ) (q′ : Gathered) → i < length chunk → (getD chunk i 0 ≡ 10 → ⊥) → Gathers e e′ q (getD chunk i 0) q′ → Part chunk d g e′ q′ (i + 1)
+  pub part-more : (e′ : List ℕ) (q′ : Gathered) → i < length chunk → (getD chunk i 0 ≡ 10 → ⊥) → Gathers e e′ q (getD chunk i 0) q′ →
+      Part chunk d g e′ q′ (i + 1)
   unfolding gatheredAll lineAfter
   part-more e′ q′ h x w =
       let rest = beforeLine (drop (i + 1) chunk) in

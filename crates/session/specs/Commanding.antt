@@ -9,9 +9,9 @@ use Rattle.session.specs.declared.Lengths.{Lengths}
 use Rattle.session.specs.declared.outcome.Outcome.{Outcome}
 use Rattle.session.specs.Carrying.{Lent, storedIn, Carries}
 
--- the line that answers a command
-abbrev pub commandLine : Kept → List ℕ → List ℕ → List ℕ
-commandLine kept namespaces command = replyLine (commandOver kept namespaces command .reply)
+-- the line that answers a reader's command
+abbrev pub commandLine : ℕ → Kept → List ℕ → List ℕ → List ℕ
+commandLine reader kept namespaces command = replyLine (commandOver reader kept namespaces command .reply)
 
 -- the line of what the server answers: an answer lies at the front of its buffer
 unfoldable pub writtenLine : Written → List ℕ → List ℕ
@@ -29,5 +29,5 @@ pub record Fits (w : Written) (answer : List ℕ) : Type 0 where
   pub small : length answer ≤ 16384
 
 -- a command was carried out
-abbrev pub Obeys : Lengths → List ℕ → Lent → Lent → Outcome → Type 0
-Obeys stored command d e r = Carries (commandStep (storedIn d stored) command) d e r
+abbrev pub Obeys : Lengths → ℕ → List ℕ → Lent → Lent → Outcome → Type 0
+Obeys stored reader command d e r = Carries (commandStep (storedIn d stored) reader command) d e r

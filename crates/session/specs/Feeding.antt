@@ -20,17 +20,17 @@ use Rattle.session.specs.Carrying.{Lent, keptIn, reach, Says}
 abbrev pub startIs : State
 startIs = record { stored = record { table = 0; namespaces = 0; edited = false }; gathered = gatheredNone }
 
--- The memory is lent in document 01's sizes, and the state lies within them: stored bytes 16,384 and 1,024, digits 4,100; a line
+-- The memory is lent in document 01's sizes, and the state lies within them: stored bytes 16,384 and 1,024, digits 4,102; a line
 -- of output has at most 2 digits for each of 1 + 16,384 bytes and a line feed. There are words for 512 records.
 abbrev pub ready : ℕ → ℕ → ℕ → ℕ → ℕ → State → Bool
 ready table records namespaces line out st =
     leb 16384 table
     && (leb 512 records
     && (leb 1024 namespaces
-    && (leb 4100 line
+    && (leb 4102 line
     && (leb 32771 out
     && (leb (st .stored .table) 16384
-    && (leb (st .stored .namespaces) 1024 && (st .gathered .over || leb (st .gathered .len) 4100)))))))
+    && (leb (st .stored .namespaces) 1024 && (st .gathered .over || leb (st .gathered .len) 4102)))))))
 
 abbrev pub readyIn : Lent → List ℕ → State → Bool
 readyIn d line st = ready (length (d .table)) (length (d .records)) (length (d .namespaces)) (length line) (length (d .out)) st

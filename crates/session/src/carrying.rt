@@ -95,8 +95,16 @@ fn carry_out(
             let added = keep(namespaces, entries, MAX_NAMESPACES, NAMESPACES, part, out);
             with_entries(stored, added.len, added.written)
         },
-        Frame::Command(n) => obey(stored, &bytes[..n], table, records, namespaces, out),
-        Frame::Walk(option) => said(stored, walk_line(stored, table, records, option, out)),
+        Frame::Command(reader, n) => {
+            let line = &bytes[1..n + 1];
+            obey(stored, reader, line, table, records, namespaces, out)
+        },
+        Frame::Walk(reader, option) => {
+            said(
+                stored,
+                walk_line(stored, reader, table, records, option, out),
+            )
+        },
         Frame::Bad => said(stored, put_refusal(out, 0, BAD_FRAME)),
     }
 }

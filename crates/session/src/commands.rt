@@ -19,7 +19,9 @@ use frames::ANSWER;
 use frames::put_line;
 use frames::put_refusal;
 use mailbox_table::Indexing;
+use mailbox_table::MAX_READER;
 use octets::Written;
+use octets::refusals::READER;
 use octets::refusals::TABLE;
 use records::MAX_ROWS;
 use records::no_words;
@@ -38,9 +40,10 @@ fn put_reply(written: Written, answer: &[u8], out: &mut [u8]) -> usize
     }
 }
 
-// A command over what is kept.
+// A reader's command over what is kept.
 pub(crate) fn obey(
     stored: Lengths,
+    reader: u8,
     command: &[u8],
     table: &mut [u8],
     records: &mut [u64],
@@ -48,39 +51,39 @@ pub(crate) fn obey(
     out: &mut [u8],
 ) -> Outcome
     requires { ⌜ Within stored (now table) (now records) (now namespaces) ⌝ }
-    ensures { λ r. ⌜ Obeys stored (now (command .entry))
+    ensures { λ r. ⌜ Obeys stored reader (now (command .entry))
         (lent (now (table .entry)) (now (records .entry)) (now (namespaces .entry)) (now (out .entry)))
         (lent (now (table .exit)) (now (records .exit)) (now (namespaces .entry)) (now (out .exit))) r ⌝ }
 {
     if stored.edited {
-        return obey_records(stored, command, table, records, namespaces, out);
+        return obey_records(stored, reader, command, table, records, namespaces, out);
     }
     if is_edit_line(command) {
-        return first_edit(stored, command, table, records, namespaces, out);
+        return first_edit(stored, reader, command, table, records, namespaces, out);
     }
     let rows = stored.table;
     let entries = stored.namespaces;
-    said(
-        stored,
-        read_line(&table[..rows], &namespaces[..entries], command, out),
-    )
+    let spaces = &namespaces[..entries];
+    let written = read_line(&table[..rows], reader, spaces, command, out);
+    said(stored, written)
 }
 
 // A command that is no edit, over the packed bytes.
-fn read_line(table: &[u8], namespaces: &[u8], command: &[u8], out: &mut [u8]) -> usize
+fn read_line(table: &[u8], reader: u8, namespaces: &[u8], command: &[u8], out: &mut [u8]) -> usize
     requires { ⌜ isEdit (parsed (now command)) ≡ false ⌝ }
     requires { ⌜ length (now table) ≤ 16384 ⌝ }
-    ensures { λ r. ⌜ Says (commandLine (bytes (now (table .entry))) (now (namespaces .entry)) (now (command .entry)))
+    ensures { λ r. ⌜ Says (commandLine reader (bytes (now (table .entry))) (now (namespaces .entry)) (now (command .entry)))
         (now (out .entry)) (now (out .exit)) r ⌝ }
 {
     let mut answer = no_bytes();
-    let written = read_packed(table, namespaces, command, &mut answer);
+    let written = read_packed(table, reader, namespaces, command, &mut answer);
     put_reply(written, &answer, out)
 }
 
 // A command over the records.
 fn obey_records(
     stored: Lengths,
+    reader: u8,
     command: &[u8],
     table: &mut [u8],
     records: &mut [u64],
@@ -89,7 +92,7 @@ fn obey_records(
 ) -> Outcome
     requires { ⌜ Within stored (now table) (now records) (now namespaces) ⌝ }
     requires { ⌜ stored .edited ≡ true ⌝ }
-    ensures { λ r. ⌜ Obeys stored (now (command .entry))
+    ensures { λ r. ⌜ Obeys stored reader (now (command .entry))
         (lent (now (table .entry)) (now (records .entry)) (now (namespaces .entry)) (now (out .entry)))
         (lent (now (table .exit)) (now (records .exit)) (now (namespaces .entry)) (now (out .exit))) r ⌝ }
 {
@@ -99,7 +102,16 @@ fn obey_records(
     let words = &mut records[..MAX_ROWS];
     let area = &mut table[..MAX_TABLE];
     let mut answer = no_bytes();
-    let done = answer_words(words, MAX_ROWS, count, area, spaces, command, &mut answer);
+    let done = answer_words(
+        words,
+        MAX_ROWS,
+        count,
+        reader,
+        area,
+        spaces,
+        command,
+        &mut answer,
+    );
     let reply = done.written;
     let written = put_reply(reply, &answer, out);
     with_records(stored, done.count, written)
@@ -108,6 +120,7 @@ fn obey_records(
 // An edit over the packed bytes: judged on the store that they become, which is kept if the edit is accepted.
 fn first_edit(
     stored: Lengths,
+    reader: u8,
     command: &[u8],
     table: &mut [u8],
     records: &mut [u64],
@@ -116,10 +129,13 @@ fn first_edit(
 ) -> Outcome
     requires { ⌜ Within stored (now table) (now records) (now namespaces) ⌝ }
     requires { ⌜ (stored .edited ≡ false) × (isEdit (parsed (now command)) ≡ true) ⌝ }
-    ensures { λ r. ⌜ Obeys stored (now (command .entry))
+    ensures { λ r. ⌜ Obeys stored reader (now (command .entry))
         (lent (now (table .entry)) (now (records .entry)) (now (namespaces .entry)) (now (out .entry)))
         (lent (now (table .exit)) (now (records .exit)) (now (namespaces .entry)) (now (out .exit))) r ⌝ }
 {
+    if MAX_READER < reader {
+        return said(stored, put_refusal(out, 0, READER));
+    }
     let rows = stored.table;
     let entries = stored.namespaces;
     let mut words = no_words();
@@ -132,6 +148,7 @@ fn first_edit(
         &mut words,
         MAX_ROWS,
         count,
+        reader,
         &mut area,
         &namespaces[..entries],
         command,

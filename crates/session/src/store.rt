@@ -10,9 +10,10 @@ ghost use Rattle.listing_rules.specs.Table.{names};
 ghost use Rattle.listing_rules.specs.Frames.{recordsFrom};
 ghost use Rattle.records.specs.Words.{recordOf};
 ghost use Rattle.mailbox_table.specs.Index.{rowsAt};
-ghost use Rattle.session.specs.Laying.{Short, Blank, Lays};
+ghost use Rattle.session.specs.Laying.{Short, Inside, Blank, Lays};
 use mailbox_table::Indexing;
 use mailbox_table::index;
+use mailbox_table::readers_of;
 use mailbox_table::rows::Row;
 use mailbox_table::rows::name_of;
 use octets::put_all;
@@ -41,8 +42,8 @@ pub(crate) fn lay_out(table: &[u8], words: &mut [u64], area: &mut [u8]) -> Index
 
 // The names of an index one after the other, from the area's first byte on; each word becomes the record of its row there.
 fn place_names(table: &[u8], words: &mut [u64], area: &mut [u8])
-    requires { ⌜ Short (rowsAt (now table) (now words)) ⌝ }
-    ensures { λ _. ⌜ (map recordOf (now (words .exit)) ≡ recordsFrom 0 (rowsAt (now (table .entry)) (now (words .entry))))
+    requires { ⌜ Short (rowsAt (now table) (now words)) × Inside (now table) (now words) ⌝ }
+    ensures { λ _. ⌜ (map recordOf (now (words .exit)) ≡ recordsFrom 0 (map recordOf (now (words .entry))))
         × (now (area .exit) ≡ sets (now (area .entry)) 0 (joined (names (rowsAt (now (table .entry)) (now (words .entry)))))) ⌝ }
 {
     let mut at = 0;
@@ -51,10 +52,12 @@ fn place_names(table: &[u8], words: &mut [u64], area: &mut [u8])
         let row = Row::of_word(words[i]);
         let flags = row.flags;
         let name = name_of(table, row);
+        let readers = readers_of(words[i]);
         words[i] = word_of(Record {
             flags: flags.bits,
             start: at as u16,
             len: name.len() as u8,
+            readers: readers.bits,
         });
         at = put_all(area, at, name);
         i += 1;

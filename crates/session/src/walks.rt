@@ -1,8 +1,8 @@
-// A walk over what is kept, and its line.
+// A reader's walk over what is kept, and its line.
 ghost use mathlib.Core.Path.{_≡_};
 ghost use lib.ListN.{replicate};
-ghost use Rattle.listing_rules.specs.Walk.{walk};
-ghost use Rattle.listing_rules.specs.Frames.{keptTable, walkLine};
+ghost use Rattle.listing_rules.specs.Walk.{walkBy};
+ghost use Rattle.listing_rules.specs.Frames.{keptSeen, walkLine};
 ghost use Rattle.collector.specs.Result.{collectedOf, foundOf};
 ghost use Rattle.session.specs.Carrying.{keptOf, Held, Says};
 use crate::Lengths;
@@ -25,13 +25,14 @@ fn names_buffer() -> [u8; 8192]
 // The line of a walk: the number of commands and what was found, or the number of its refusal.
 pub(crate) fn walk_line(
     stored: Lengths,
+    reader: u8,
     table: &[u8],
     records: &[u64],
     option: u8,
     out: &mut [u8],
 ) -> usize
     requires { ⌜ Held stored (now table) (now records) ⌝ }
-    ensures { λ r. ⌜ Says (walkLine (walk (keptTable (keptOf stored (now (table .entry)) (now (records .entry)))) option 16384 8192 8192))
+    ensures { λ r. ⌜ Says (walkLine (walkBy reader (keptSeen reader (keptOf stored (now (table .entry)) (now (records .entry)))) option 16384 8192 8192))
         (now (out .entry)) (now (out .exit)) r ⌝ }
 {
     let mut scratch = no_bytes();
@@ -39,6 +40,7 @@ pub(crate) fn walk_line(
     let mut pending = names_buffer();
     match collect_kept(
         stored,
+        reader,
         table,
         records,
         option,
@@ -54,6 +56,7 @@ pub(crate) fn walk_line(
 // The collector over the packed bytes, or over the records.
 fn collect_kept(
     stored: Lengths,
+    reader: u8,
     table: &[u8],
     records: &[u64],
     option: u8,
@@ -62,9 +65,9 @@ fn collect_kept(
     pending: &mut [u8],
 ) -> Collected
     requires { ⌜ Held stored (now table) (now records) ⌝ }
-    ensures result { λ r. ⌜ r ≡ collectedOf (keptTable (keptOf stored (now (table .entry)) (now (records .entry))))
+    ensures result { λ r. ⌜ r ≡ collectedOf reader (keptSeen reader (keptOf stored (now (table .entry)) (now (records .entry))))
         option (now (scratch .entry)) (now (found .entry)) (now (pending .entry)) ⌝ }
-    ensures found { λ _. ⌜ now (found .exit) ≡ foundOf (keptTable (keptOf stored (now (table .entry)) (now (records .entry))))
+    ensures found { λ _. ⌜ now (found .exit) ≡ foundOf reader (keptSeen reader (keptOf stored (now (table .entry)) (now (records .entry))))
         option (now (scratch .entry)) (now (found .entry)) (now (pending .entry)) ⌝ }
 {
     let rows = stored.table;
@@ -73,6 +76,7 @@ fn collect_kept(
         return collect_words(
             words,
             rows,
+            reader,
             &table[..MAX_TABLE],
             option,
             scratch,
@@ -80,5 +84,5 @@ fn collect_kept(
             pending,
         );
     }
-    collect_packed(&table[..rows], option, scratch, found, pending)
+    collect_packed(&table[..rows], reader, option, scratch, found, pending)
 }

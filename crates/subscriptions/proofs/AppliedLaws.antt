@@ -19,9 +19,10 @@ use Rattle.subscriptions.proofs.FitLaws.{record-at}
 use Rattle.subscriptions.proofs.ShiftLaws.{length-middle}
 
 -- a word with other flags, and the word of a row 0002, as records
-flags-told : (f w : ℕ) → f < 65536 → recordOf (withFlags f w) ≡ record { flags = f; start = recordOf w .start; len = recordOf w .len }
+flags-told : (f w : ℕ) → f < 65536 →
+    recordOf (withFlags f w) ≡ record { flags = f; start = recordOf w .start; len = recordOf w .len; readers = recordOf w .readers }
 unfolding recordOf withFlags
-flags-told f w h = λ i. record { flags = bits i; start = start-is i; len = len-is i }
+flags-told f w h = λ i. record { flags = bits i; start = start-is i; len = len-is i; readers = readers-are i }
   where
     v : ℕ
     v = w - w % 65536 + f
@@ -35,9 +36,12 @@ flags-told f w h = λ i. record { flags = bits i; start = start-is i; len = len-
     len-is : v / 4294967296 % 256 ≡ w / 4294967296 % 256
     len-is = omega arith
 
-new-told : (start len : ℕ) → start < 65536 → len < 256 → recordOf (newWord start len) ≡ record { flags = 2; start = start; len = len }
+    readers-are : v / 281474976710656 % 256 ≡ w / 281474976710656 % 256
+    readers-are = omega arith
+
+new-told : (start len : ℕ) → start < 65536 → len < 256 → recordOf (newWord start len) ≡ record { flags = 2; start = start; len = len; readers = 0xFF }
 unfolding newWord meant
-new-told start len h g = word-tells (record { flags = 2; start = start; len = len }) (omega arith) h g
+new-told start len h g = word-tells (record { flags = 2; start = start; len = len; readers = 0xFF }) (omega arith) h g (omega arith)
 
 zero-told : recordOf 0 ≡ zeroRecord
 unfolding recordOf zeroRecord
@@ -45,10 +49,12 @@ zero-told = refl
 
 -- the words that an insertion and a removal changed or moved
 module _ (ws : List ℕ) (k m : ℕ) where
-  pub taken-insert : (w : ℕ) (inner rest : List ℕ) → length (take k ws) ≡ k → length inner ≡ m → take (suc m) (drop k (take k ws ++ (w ∷ (inner ++ rest)))) ≡ w ∷ inner
+  pub taken-insert : (w : ℕ) (inner rest : List ℕ) → length (take k ws) ≡ k → length inner ≡ m →
+      take (suc m) (drop k (take k ws ++ (w ∷ (inner ++ rest)))) ≡ w ∷ inner
   taken-insert w inner rest h g = rw (drop-at (take k ws) (w ∷ (inner ++ rest)) k h, take-at inner rest m g)
 
-  pub taken-remove : (inner rest : List ℕ) → length (take k ws) ≡ k → length inner ≡ m → take (suc m) (drop k (take k ws ++ (inner ++ (0 ∷ rest)))) ≡ inner ++ (0 ∷ [])
+  pub taken-remove : (inner rest : List ℕ) → length (take k ws) ≡ k → length inner ≡ m →
+      take (suc m) (drop k (take k ws ++ (inner ++ (0 ∷ rest)))) ≡ inner ++ (0 ∷ [])
   taken-remove inner rest h g =
       rw (drop-at (take k ws) (inner ++ (0 ∷ rest)) k h, ← append-snoc inner 0 rest)
       (take-at (inner ++ (0 ∷ [])) rest (suc m) (length-append inner (0 ∷ []) ∙ rw g (add-one m)))
@@ -74,24 +80,33 @@ module _ (s : Store) (ws : List ℕ) (told : take (s .count) (s .records) ≡ ma
   middle k = map-drop recordOf k (take count ws) ∙ ap (λ (l : List Record). drop k l) (sym told)
 
   flag-applies : (k f : ℕ) → FlagFits ws (s .count) k f
-      → flagged s k f .records ≡ changedRecords (s .records) (record { from = k; to = k + 1; count = s .count }) (set ws k (withFlags f (getD ws k 0)))
+      → flagged s k f .records ≡ changedRecords (s .records) (record { from = k; to = k + 1; count = s .count })
+      (set ws k (withFlags f (getD ws k 0)))
   unfolding flagged changedRecords
   flag-applies k f fit =
       let one : k + 1 - k ≡ 1 = omega arith in
       let w : ℕ = withFlags f (getD ws k 0) in
-      rw
-      (one, add-one k, nth-told k (fit .row), set-split ws k w (omega (arith, fit .row, fit .words)), drop-at (take k ws) (w ∷ drop (suc k) ws) k (length-take-le k ws (omega (arith, fit .row, fit .words))), flags-told f (getD ws k 0) (fit .flags))
+      rw (
+        one,
+        add-one k,
+        nth-told k (fit .row),
+        set-split ws k w (omega (arith, fit .row, fit .words)),
+        drop-at (take k ws) (w ∷ drop (suc k) ws) k (length-take-le k ws (omega (arith, fit .row, fit .words))),
+        flags-told f (getD ws k 0) (fit .flags),
+      )
 
   insert-applies : (k start : ℕ) (n : List ℕ) → InsertFits ws (s .count) (s .area) n k start
       → inserted s k start n .records
-      ≡ changedRecords (s .records) (record { from = k; to = s .count + 1; count = s .count + 1 }) (insertedAt ws (s .count) k (newWord start (length n)))
+      ≡ changedRecords (s .records) (record { from = k; to = s .count + 1; count = s .count + 1 })
+      (insertedAt ws (s .count) k (newWord start (length n)))
   unfolding inserted changedRecords insertedAt
   insert-applies k start n fit =
       let m : count + 1 - k ≡ suc (count - k) = omega (arith, fit .place) in
       rw (
         m,
         add-one count,
-        taken-insert ws k (count - k) (newWord start (length n)) (drop k (take count ws)) (drop (suc count) ws) (length-take-le k ws (omega (arith, fit .place, fit .room))) (length-middle k count ws (omega (arith, fit .room))),
+        taken-insert ws k (count - k) (newWord start (length n)) (drop k (take count ws)) (drop (suc count) ws)
+            (length-take-le k ws (omega (arith, fit .place, fit .room))) (length-middle k count ws (omega (arith, fit .room))),
         middle k,
         new-told start (length n) (fit .start-small) (fit .name-short),
       )
@@ -103,7 +118,8 @@ module _ (s : Store) (ws : List ℕ) (told : take (s .count) (s .records) ≡ ma
       let m : count - k ≡ suc (count - suc k) = omega (arith, fit .row) in
       rw (
         m,
-        taken-remove ws k (count - suc k) (drop (suc k) (take count ws)) (drop count ws) (length-take-le k ws (omega (arith, fit .row, fit .words))) (length-middle (suc k) count ws (fit .words)),
+        taken-remove ws k (count - suc k) (drop (suc k) (take count ws)) (drop count ws) (length-take-le k ws (omega (arith, fit .row, fit .words)))
+            (length-middle (suc k) count ws (fit .words)),
         map-append recordOf (drop (suc k) (take count ws)) (0 ∷ []),
         middle (suc k),
         zero-told,
@@ -111,26 +127,32 @@ module _ (s : Store) (ws : List ℕ) (told : take (s .count) (s .records) ≡ ma
       )
 
   -- the plan by its cases
-  applied : (p : Plan) (t : Store) (n : List ℕ) → Fits p ws (s .count) (s .area) n → carried s n p ≡ stored t → Applies p s t ws (s .count) (s .area) n
+  applied : (p : Plan) (t : Store) (n : List ℕ) → Fits p ws (s .count) (s .area) n → carried s n p ≡ stored t →
+      Applies p s t ws (s .count) (s .area) n
   unfolding carried wordsAfter areaAfter changeOf changedRecords flagged inserted removed freed
   applied Keep t n fit e =
       let q : s ≡ t = cc in
       subst (λ (u : Store). Applies Keep s u ws (s .count) (s .area) n) q (record { area-is = refl; count-is = refl; records-are = refl })
   applied (Flag k f) t n fit e =
       let q : flagged s k f ≡ t = cc in
-      subst (λ (u : Store). Applies (Flag k f) s u ws (s .count) (s .area) n) q (record { area-is = refl; count-is = refl; records-are = flag-applies k f fit })
+      subst (λ (u : Store). Applies (Flag k f) s u ws (s .count) (s .area) n) q
+      (record { area-is = refl; count-is = refl; records-are = flag-applies k f fit })
   applied (Insert k start) t n fit e =
       let q : inserted s k start n ≡ t = cc in
-      subst (λ (u : Store). Applies (Insert k start) s u ws (s .count) (s .area) n) q (record { area-is = refl; count-is = sym (add-one (s .count)); records-are = insert-applies k start n fit })
+      subst (λ (u : Store). Applies (Insert k start) s u ws (s .count) (s .area) n) q
+      (record { area-is = refl; count-is = sym (add-one (s .count)); records-are = insert-applies k start n fit })
   applied (Remove k) t n fit e =
       let q : removed s k ≡ t = cc in
-      subst (λ (u : Store). Applies (Remove k) s u ws (s .count) (s .area) n) q (record { area-is = rw (nth-told k (fit .row)); count-is = refl; records-are = remove-applies k fit })
+      subst (λ (u : Store). Applies (Remove k) s u ws (s .count) (s .area) n) q
+      (record { area-is = rw (nth-told k (fit .row)); count-is = refl; records-are = remove-applies k fit })
   applied (Refused x) t n fit e = let z : _≡_ {A = ℕ} 0 1 = cc in absurd (omega arith)
 
 -- What `carried` makes of a store is what the plan done on its words and area leaves, a refusal apart, which leaves nothing to say.
 pub applied-store : (p : Plan) (s t : Store) (ws : List ℕ) (count : ℕ) (area n : List ℕ) → s .area ≡ area → s .count ≡ count
     → take count (s .records) ≡ map recordOf (take count ws) → Fits p ws count area n → carried s n p ≡ stored t → Applies p s t ws count area n
 applied-store p s t ws count area n ea ec =
-    subst (λ (a : List ℕ). take count (s .records) ≡ map recordOf (take count ws) → Fits p ws count a n → carried s n p ≡ stored t → Applies p s t ws count a n) ea
-    (subst (λ (c : ℕ). take c (s .records) ≡ map recordOf (take c ws) → Fits p ws c (s .area) n → carried s n p ≡ stored t → Applies p s t ws c (s .area) n) ec
+    subst (λ (a : List ℕ). take count (s .records) ≡ map recordOf (take count ws) → Fits p ws count a n → carried s n p ≡ stored t →
+    Applies p s t ws count a n) ea
+    (subst (λ (c : ℕ). take c (s .records) ≡ map recordOf (take c ws) → Fits p ws c (s .area) n → carried s n p ≡ stored t →
+    Applies p s t ws c (s .area) n) ec
     (λ told fit e. applied s ws told p t n fit e))

@@ -10,12 +10,12 @@ use Rattle.subscriptions.specs.declared.Plan.{Plan}
 use Rattle.subscriptions.specs.declared.Plan.the-variants.{Keep, Flag, Insert, Remove, Refused}
 use Rattle.subscriptions.specs.declared.Change.{Change}
 
--- a word with other flags, and the word of a row 0002
+-- a word with other flags, and the word of a row 0002 that all eight see
 unfoldable pub withFlags : ℕ → ℕ → ℕ
 withFlags f w = w - w % 65536 + f
 
 unfoldable pub newWord : ℕ → ℕ → ℕ
-newWord start len = wordOf (record { flags = 0x0002; start = start; len = len })
+newWord start len = wordOf (record { flags = 0x0002; start = start; len = len; readers = 0xFF })
 
 -- a word put in at place k of the first `count`, over the first spare word; and word k of them taken out, with a zero after the rest
 unfoldable pub insertedAt : List ℕ → ℕ → ℕ → ℕ → List ℕ

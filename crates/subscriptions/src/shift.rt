@@ -1,5 +1,6 @@
 // Words and bytes changed in place: flags set, a word put in or taken out, a name cleared. Rows move by one place; the loop of an
 // insertion begins at the far end, that of a removal at the near one, so that no word is lost.
+use mailbox_table::Readers;
 use records::Record;
 use records::word_of;
 ghost use mathlib.Core.Path.{_≡_};
@@ -11,6 +12,9 @@ ghost use Rattle.subscriptions.specs.Applied.{withFlags, newWord, insert
 
 // The flags of a row that is put in: subscribed and nothing else.
 const FRESH: u16 = 2;
+
+// "An inserted row is seen by all eight."
+const SEEN_BY: Readers = Readers::ALL;
 
 // Word k with other flags.
 pub(crate) fn set_flags(words: &mut [u64], k: usize, flags: u16)
@@ -30,6 +34,7 @@ pub(crate) fn insert_word(words: &mut [u64], count: usize, k: usize, start: usiz
         flags: FRESH,
         start: start as u16,
         len: len as u8,
+        readers: SEEN_BY.bits,
     });
     shift_up(words, count, k);
     words[k] = word;

@@ -5,7 +5,7 @@ use compare::tables::{table_bytes, NewRow};
 use second::name::MAX_NAME;
 use second::namespaces::Entry;
 use second::rows::Flags;
-use second::Record;
+use second::{Readers, Record};
 
 /// Rows of the tables.
 pub const SIZES: [usize; 4] = [64, 128, 256, 512];
@@ -69,6 +69,8 @@ const NO_REFERENCE: Repeated = Repeated("", 0, "");
 pub enum Table {
     /// Three levels of names, parents with and without a row, all kinds of flags.
     Tree,
+    /// The same, of which every other row is hidden from one reader, who asks.
+    Halved,
     /// Names of thirty "a" and a number, which come near to the pattern of "%a".
     ManyA,
     /// Names of sixty "a" and a number: as long as 512 names in one area can be.
@@ -90,9 +92,14 @@ pub struct Case {
     pub call: Call,
 }
 
-pub const CASES: [Case; 24] = [
+pub const CASES: [Case; 25] = [
     packed_case("check of the table", Call::Check),
     text_case(r#"`LIST "" "*"`"#, r#"a LIST "" "*""#),
+    records_case(
+        r#"`LIST "" "*"`, half of the rows hidden"#,
+        Table::Halved,
+        Call::Command(Command::Text(r#"a LIST "" "*""#)),
+    ),
     text_case(r#"`LIST "" "%"`"#, r#"a LIST "" "%""#),
     text_case(
         r#"`LIST (SUBSCRIBED RECURSIVEMATCH) "" "%"`"#,
@@ -222,7 +229,18 @@ const fn refused_edit(line: &'static str, number: u8) -> Edit {
     Edit { line, undo: None, refusal: Some(number), has_spare: false }
 }
 
+/// From whom the rows of the halved table are hidden.
+const HALF_READER: u8 = 1;
+
 impl Case {
+    /// Who asks.
+    pub fn reader(&self) -> u8 {
+        match self.table {
+            Table::Halved => HALF_READER,
+            Table::Tree | Table::ManyA | Table::LongA | Table::Levels => 0,
+        }
+    }
+
     /// Commands are answered over records alone.
     pub fn beside(&self) -> Option<Beside> {
         match (self.form, self.call) {
@@ -304,11 +322,9 @@ impl Table {
         let mut area = Vec::new();
         for place in 0..rows.len() {
             let at = place * STRIDE % rows.len();
-            let NewRow { flags, name } = &rows[at];
             area.resize(area.len() + unused(place), UNUSED);
-            let (start, len) = (area.len() as u16, name.len() as u8);
-            records[at] = Record { flags: flags.bits(), start, len };
-            area.extend_from_slice(name);
+            records[at] = rows[at].record_at(area.len());
+            area.extend_from_slice(&rows[at].name);
         }
         Layout { count: records.len(), records, area }
     }
@@ -316,16 +332,20 @@ impl Table {
     pub fn rows(self, count: usize) -> Vec<NewRow> {
         let row = |at| {
             let (name, flags) = self.row(at);
-            NewRow { flags, name: name.into_bytes() }
+            NewRow::new(flags, name.into_bytes())
         };
         let mut rows: Vec<NewRow> = (0..count).map(row).collect();
         rows.sort_by(|one, other| one.name.cmp(&other.name));
+        if self == Table::Halved {
+            let others = Readers::from_bits(!(1 << HALF_READER));
+            rows.iter_mut().step_by(2).for_each(|row| row.readers = others);
+        }
         rows
     }
 
     fn row(self, at: usize) -> (String, Flags) {
         match self {
-            Table::Tree => tree_row(at),
+            Table::Tree | Table::Halved => tree_row(at),
             Table::ManyA => (format!("{}{at:03}", "a".repeat(30)), Flags::EXISTS),
             Table::LongA => (format!("{}{at:03}", "a".repeat(60)), Flags::EXISTS),
             Table::Levels => (format!("{}{at:03}", "abb/".repeat(13)), Flags::EXISTS),

@@ -4,7 +4,7 @@ use std::array;
 use std::hint::black_box;
 
 use compare::library::both::{
-    Lent, Mailboxes, ANSWER, CHECK_TABLE, COLLECT, COMPACT, PROVED, SECOND,
+    Asked, Lent, Mailboxes, ANSWER, CHECK_TABLE, COLLECT, COMPACT, PROVED, SECOND,
 };
 
 use crate::clock::seconds_of_one;
@@ -61,6 +61,7 @@ struct Buffers {
 }
 
 struct Inputs {
+    reader: u8,
     packed: Vec<u8>,
     records: Mailboxes,
     /// The same before the first call.
@@ -147,6 +148,7 @@ impl Inputs {
         };
         let records = Mailboxes::new(case.layout(rows));
         Inputs {
+            reader: case.reader(),
             packed: case.table.bytes(rows),
             lent: records.clone(),
             records,
@@ -242,11 +244,14 @@ impl Inputs {
         let is_listing = who == BESIDE && self.beside == Some(Beside::Listing);
         match self.call {
             Call::Check => CHECK_TABLE[library](self.table(who)).then_some((0, 0)).ok_or(1),
-            Call::Walk(option) => COLLECT[library](self.table(who), option, out, found, pending),
+            Call::Walk(option) => {
+                COLLECT[library](self.reader, self.table(who), option, out, found, pending)
+            }
             Call::Compaction if !is_listing => COMPACT[library](&mut self.records).map(|()| (0, 0)),
             Call::Command(_) | Call::Edit(_) | Call::Compaction => {
                 let line = if is_listing { &self.listing } else { &self.line };
-                let answered = ANSWER[library](&mut self.records, &self.namespaces, line, out);
+                let asked = Asked { reader: self.reader, list: &self.namespaces, line };
+                let answered = ANSWER[library](&mut self.records, asked, out);
                 answered.map(|(length, count)| (count, length))
             }
         }
@@ -259,8 +264,8 @@ impl Inputs {
             self.records.restore(who, &self.lent);
         }
         if let Some(undo) = &self.undo {
-            let undone =
-                ANSWER[who](&mut self.records, &self.namespaces, undo, &mut [0; UNDO_ROOM]);
+            let asked = Asked { list: &self.namespaces, ..Asked::by_0(undo) };
+            let undone = ANSWER[who](&mut self.records, asked, &mut [0; UNDO_ROOM]);
             assert!(undone.is_ok(), "what undoes an edit is refused: {undone:?}");
         }
     }

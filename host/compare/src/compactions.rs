@@ -88,7 +88,7 @@ fn remove(random: &mut Random, table: &mut Layout, kept: usize) {
 /// Whether an edit is accepted.
 fn edit(random: &mut Random, table: &mut Layout, word: &str, name: &[u8]) -> bool {
     let line = edit_command(random, word, name);
-    table.lend(|lent| answer(lent, b"", &line, &mut [0; ROOM])).is_ok()
+    table.lend(|lent| answer(0, lent, b"", &line, &mut [0; ROOM])).is_ok()
 }
 
 /// Puts anything into the bytes that no row uses.

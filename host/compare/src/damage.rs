@@ -39,7 +39,7 @@ pub fn damaged_rows(random: &mut Random, mut rows: Vec<NewRow>) -> Vec<NewRow> {
 
 /// The number of a row, of which there is one more.
 fn damaged_place(random: &mut Random, rows: &mut Vec<NewRow>) -> usize {
-    rows.push(NewRow { flags: lawful_flags(random), name: b"~~~".to_vec() });
+    rows.push(NewRow::new(lawful_flags(random), b"~~~".to_vec()));
     random.below(rows.len())
 }
 
@@ -68,7 +68,7 @@ fn add_row_below(random: &mut Random, rows: &mut Vec<NewRow>, at: usize) {
     }
     let end = random.pick(&[b"/x".as_slice(), b"/x/y", b"-x", b"0"]);
     let name = [rows[at].name.as_slice(), end].concat();
-    rows.push(NewRow { flags: Flags::SUBSCRIBED, name });
+    rows.push(NewRow::new(Flags::SUBSCRIBED, name));
     rows.sort_by(|one, other| one.name.cmp(&other.name));
 }
 

@@ -10,18 +10,19 @@ use crate::damage::namespace_list;
 use crate::edits::{edit_command, length_near_a_run, name_of_length, some_edit, SUBSCRIBE};
 use crate::lsub::{lsub_command, subscriptions};
 use crate::random::Random;
+use crate::readers::{some_reader, veil_records};
 use crate::records::{some_layout, Layout};
 use crate::tables::{names_of, NewRow};
 
 /// A call over what the calls before it have left.
 pub enum Call {
     Answer(Command),
-    /// A walk with this option byte.
-    Walk(u8),
+    Walk { reader: u8, option: u8 },
 }
 
 /// A command, and what is lent beside the records and the area.
 pub struct Command {
+    pub reader: u8,
     /// How many of the records are said to be rows.
     pub count: usize,
     pub namespaces: Vec<u8>,
@@ -43,7 +44,7 @@ const SPARE: [usize; 5] = [0, 1, 3, 8, 40];
 /// Option bytes up to one above the lawful ones.
 const OPTIONS: usize = 9;
 
-/// The next call: mostly an edit, most of which meet a name of the table, or a free run of its area.
+/// The next call, of reader 0: mostly an edit, most of which meet a name of the table, or a free run of its area.
 pub fn some_call(random: &mut Random, table: &Layout, names: &mut Vec<Vec<u8>>) -> Call {
     let line = match random.below(20) {
         0..8 => some_edit(random, names, &passing(table)),
@@ -56,12 +57,32 @@ pub fn some_call(random: &mut Random, table: &Layout, names: &mut Vec<Vec<u8>>) 
         }
         15 | 16 => command(random, names),
         17 | 18 => lsub_command(random, names),
-        _ => return Call::Walk(random.below(OPTIONS) as u8),
+        _ => return Call::Walk { reader: 0, option: random.below(OPTIONS) as u8 },
     };
     let count = if random.percent(3) { odd_count(random, table) } else { table.count };
     let namespaces = if random.percent(3) { namespace_list(random) } else { Vec::new() };
     let room = some_room(random, &line);
-    Call::Answer(Command { count, namespaces, line, room })
+    Call::Answer(Command { reader: 0, count, namespaces, line, room })
+}
+
+/// The same of some reader, most of them reader 0, to whom alone edits are allowed.
+pub fn some_call_of_a_reader(
+    random: &mut Random,
+    table: &Layout,
+    names: &mut Vec<Vec<u8>>,
+) -> Call {
+    let by = if random.percent(60) { 0 } else { some_reader(random) };
+    match some_call(random, table, names) {
+        Call::Answer(command) => Call::Answer(Command { reader: by, ..command }),
+        Call::Walk { option, .. } => Call::Walk { reader: some_reader(random), option },
+    }
+}
+
+/// A table with some sets of readers, and the names that edits go for.
+pub fn some_veiled_table(random: &mut Random) -> (Layout, Vec<Vec<u8>>) {
+    let (mut table, names) = some_table(random);
+    veil_records(random, &mut table.records);
+    (table, names)
 }
 
 /// A table, and the names that edits go for.
@@ -84,7 +105,7 @@ pub fn some_table(random: &mut Random) -> (Layout, Vec<Vec<u8>>) {
 fn numbered_rows(random: &mut Random, count: usize, length: usize) -> Vec<NewRow> {
     let row = |number| {
         let flags = if random.percent(50) { Flags::SUBSCRIBED } else { Flags::EXISTS };
-        NewRow { flags, name: format!("{number:0length$}").into_bytes() }
+        NewRow::new(flags, format!("{number:0length$}").into_bytes())
     };
     (0..count).map(row).collect()
 }
@@ -104,15 +125,14 @@ fn in_pieces(random: &mut Random, rows: &[NewRow]) -> Layout {
     let mut area = Vec::new();
     for at in order {
         unused(random, &mut area);
-        let NewRow { flags, name } = &rows[at];
-        let (start, len) = (area.len() as u16, name.len() as u8);
-        records[at] = Record { flags: flags.bits(), start, len };
-        area.extend_from_slice(name);
+        records[at] = rows[at].record_at(area.len());
+        area.extend_from_slice(&rows[at].name);
     }
     unused(random, &mut area);
     for _ in 0..SPARE[random.below(SPARE.len())] {
         let number = |random: &mut Random| u16::from_be_bytes([random.byte(), random.byte()]);
-        records.push(Record { flags: number(random), start: number(random), len: random.byte() });
+        let (flags, start, len) = (number(random), number(random), random.byte());
+        records.push(Record { flags, start, len, readers: start as u8 });
     }
     Layout { count: rows.len(), records, area }
 }

@@ -5,8 +5,9 @@ use child::SentFrame;
 use second::frames::{Program, ENTRY, ROW, TABLE_ROOM};
 use second::name::MAX_NAME;
 use second::packed::ROW_HEAD;
+use second::readers::MAX_READER;
 use second::rows::{Flags, Row, MAX_ROWS};
-use second::Store;
+use second::{Readers, Store};
 
 use crate::commands::{command, damaged};
 use crate::damage::{damaged_table, namespace_list};
@@ -16,7 +17,8 @@ use crate::edits::{
 };
 use crate::lsub::{lsub_command, subscriptions};
 use crate::random::Random;
-use crate::sending::{Sending, MAX_PIECE};
+use crate::readers::{some_reader, veil};
+use crate::sending::{Sending, MAX_PIECE, MAX_SENT_LINE};
 use crate::tables::{good_table, names_of, table_bytes, NewRow};
 
 /// What shows the rows and the subscriptions that edits have left.
@@ -167,6 +169,29 @@ pub fn refusals(random: &mut Random) -> Vec<SentFrame> {
     editing.sending.frames
 }
 
+/// Edits, LIST, LSUB and walks, each of some reader, over a table with rows that reader 0 does not see:
+/// subscribed ones, and such as take no inferiors.
+pub fn every_reader(random: &mut Random) -> Vec<SentFrame> {
+    let count = random.within(0..=25);
+    let mut rows = subscriptions(random, count);
+    veil(random, &mut rows);
+    let mut editing = Editing::of(random, &rows);
+    for _ in 0..60 {
+        let random = &mut *editing.sending.random;
+        editing.sending.reader = if random.percent(50) { 0 } else { some_reader(random) };
+        match editing.sending.random.below(20) {
+            0..13 => editing.edit(),
+            13 => editing.refused_edit(),
+            other => editing.read(other % 3),
+        }
+    }
+    for reader in 0..=MAX_READER {
+        editing.sending.reader = reader;
+        editing.show();
+    }
+    editing.sending.frames
+}
+
 impl Editing<'_> {
     /// The rows, and edits that go for their names.
     fn of<'r>(random: &'r mut Random, rows: &[NewRow]) -> Editing<'r> {
@@ -184,7 +209,7 @@ impl Editing<'_> {
     }
 
     fn command(&mut self, line: &[u8]) {
-        self.sending.command(&line[..line.len().min(MAX_PIECE)]);
+        self.sending.command(&line[..line.len().min(MAX_SENT_LINE)]);
     }
 
     fn edit(&mut self) {
@@ -208,7 +233,8 @@ impl Editing<'_> {
     /// A frame of 4D: a row, half of one, none, or all that a frame holds.
     fn row(&mut self) {
         let name = name_to_edit(self.sending.random, &self.names);
-        let row = Row { flags: Flags::EXISTS, name: &name }.to_bytes().unwrap_or_default();
+        let row = Row { flags: Flags::EXISTS, readers: Readers::ALL, name: &name };
+        let row = row.to_bytes().unwrap_or_default();
         match self.sending.random.below(5) {
             0 => self.sending.frame(ROW, b""),
             1 => self.sending.frame(ROW, &row[..row.len() / 2]),
@@ -267,7 +293,7 @@ fn childless_rows(random: &mut Random) -> Vec<NewRow> {
 
 /// A name of this length, from 3 on: a number of three digits and filling.
 fn numbered_row(number: usize, length: usize, flags: Flags) -> NewRow {
-    NewRow { flags, name: format!("{number:03}{}", "n".repeat(length - 3)).into_bytes() }
+    NewRow::new(flags, format!("{number:03}{}", "n".repeat(length - 3)).into_bytes())
 }
 
 /// An edit with one cause of refusal, with two, or with none.

@@ -14,6 +14,7 @@ use crate::limits;
 use crate::literals;
 use crate::lsub;
 use crate::random::Random;
+use crate::reader_sessions;
 use crate::sending::Sending;
 use crate::special_uses;
 use crate::tables::{good_table, names_of, rows_named, table_bytes};
@@ -42,7 +43,7 @@ pub fn kinds() -> impl Iterator<Item = Kind> {
     GENERATORS.into_iter().map(|(name, generator)| Kind { name, generator })
 }
 
-const GENERATORS: [(&str, Generator); 32] = [
+const GENERATORS: [(&str, Generator); 37] = [
     ("a table and commands", commands_over_a_table),
     ("a growing table", growing_table),
     ("a damaged table", damaged_tables),
@@ -75,6 +76,11 @@ const GENERATORS: [(&str, Generator); 32] = [
     ("edits of names in pieces", edit_sessions::names_in_pieces),
     ("rows and entries around edits", edit_sessions::rows_and_entries),
     ("refusals of edits", edit_sessions::refusals),
+    ("every reader", reader_sessions::every_reader),
+    ("growing views", reader_sessions::growing_views),
+    ("hidden parents", reader_sessions::hidden_parents),
+    ("changes of what is hidden", reader_sessions::hidden_changes),
+    ("edits of every reader", edit_sessions::every_reader),
 ];
 
 fn commands_over_a_table(random: &mut Random) -> Vec<SentFrame> {
@@ -235,18 +241,41 @@ fn bad_frames(random: &mut Random) -> Vec<SentFrame> {
         }
     }
     for digits in [MAX_DIGITS - 2, MAX_DIGITS, MAX_DIGITS + 1, MAX_DIGITS + 2, 3 * MAX_DIGITS] {
-        sending.raw(&[b"43".as_slice(), &b"6".repeat(digits - 2)].concat());
+        sending.raw(&[b"4300".as_slice(), &b"6".repeat(digits - 4)].concat());
     }
     sending.command_text("a LIST \"\" %");
     if sending.random.percent(50) {
-        let text = sending.random.pick(&[b"5700".as_slice(), b"4", b"4D0001", b"x", b"43"]);
+        let text = sending.random.pick(&[b"570000".as_slice(), b"4", b"4D0001", b"x", b"4300"]);
         sending.cut(text);
     }
     sending.frames
 }
 
-/// Empty, odd, with other characters, with other first bytes, and walks without one option.
-const BAD_FRAMES: [&str; 20] = [
-    "", "4", "434", "0x43", "43 0D0A", "4G", " 43", "43\r", "\r", "00", "41", "52", "6D", "57",
-    "570000", "5700 ", "57FF00", "4d4", "4E\t", "4D\0",
+/// Empty, odd, with other characters, with other first bytes, without a reader, and walks without one
+/// option.
+const BAD_FRAMES: [&str; 24] = [
+    "",
+    "4",
+    "434",
+    "0x43",
+    "4300 0D0A",
+    "4G",
+    " 43",
+    "4300\r",
+    "\r",
+    "00",
+    "41",
+    "52",
+    "6D",
+    "57",
+    "5700",
+    "570000 ",
+    "57FF0000",
+    "4d4",
+    "4E\t",
+    "4D\0",
+    "43",
+    "5708",
+    "57080000",
+    "43080",
 ];

@@ -38,7 +38,7 @@ pub fn levels_above(random: &mut Random) -> Vec<SentFrame> {
     let levels: Vec<Vec<u8>> =
         rows.iter().flat_map(|row| name::ancestors(&row.name)).map(<[u8]>::to_vec).collect();
     let mut sending = Sending::over(random, &rows);
-    sending.commands(30, |random| command(random, &levels));
+    sending.commands(30, |random| level_command(random, &levels));
     sending.every_walk();
     sending.frames
 }
@@ -46,20 +46,20 @@ pub fn levels_above(random: &mut Random) -> Vec<SentFrame> {
 /// Rows of two to four levels. Of the levels above them most have no row, some a row 0002, a few
 /// a mailbox. Rows below one level are remote, 0002 or local, so some levels have no local
 /// mailbox below them, or none at all.
-fn tree(random: &mut Random) -> Vec<NewRow> {
+pub fn tree(random: &mut Random) -> Vec<NewRow> {
     let mut rows: Vec<NewRow> = Vec::new();
     for _ in 0..random.within(1..=9) {
         let mut name = if random.percent(25) { INBOX.to_vec() } else { first_level(random) };
         for _ in 0..random.within(1..=3) {
             match random.below(10) {
-                0 | 1 => rows.push(NewRow { flags: Flags::SUBSCRIBED, name: name.clone() }),
-                2 => rows.push(NewRow { flags: mailbox(random), name: name.clone() }),
+                0 | 1 => rows.push(NewRow::new(Flags::SUBSCRIBED, name.clone())),
+                2 => rows.push(NewRow::new(mailbox(random), name.clone())),
                 _ => {}
             }
             name = [name.as_slice(), b"/", &level(random)].concat();
         }
         let flags = if random.percent(20) { Flags::SUBSCRIBED } else { mailbox(random) };
-        rows.push(NewRow { flags, name });
+        rows.push(NewRow::new(flags, name));
     }
     rows.sort_by(|one, other| one.name.cmp(&other.name));
     rows.dedup_by(|one, other| one.name == other.name);
@@ -88,7 +88,7 @@ fn mailbox(random: &mut Random) -> Flags {
 }
 
 /// A LIST with one pattern, or with several of which one ends in "%".
-fn command(random: &mut Random, levels: &[Vec<u8>]) -> Vec<u8> {
+pub fn level_command(random: &mut Random, levels: &[Vec<u8>]) -> Vec<u8> {
     let mut line = format!("a LIST{} ", random.pick(&SELECTIONS)).into_bytes();
     let first = pattern(random, levels);
     let at = if random.percent(50) { 0 } else { random.below(first.len() + 1) };

@@ -278,22 +278,22 @@ fn pending_length(rows: &[NewRow]) -> usize {
 
 /// The length of an answer that is not refused.
 fn answer_length(table: &[u8], line: &str) -> usize {
-    answer_reading(Table::Packed(table), &[], line.as_bytes(), &mut vec![0; AMPLE_ROOM])
+    answer_reading(0, Table::Packed(table), &[], line.as_bytes(), &mut vec![0; AMPLE_ROOM])
         .unwrap_or(0)
 }
 
 /// Rows of one length, ascending: a number of three digits and filling.
 fn numbered_rows(count: usize, length: usize, flags: Flags) -> Vec<NewRow> {
     let name = |number| format!("{number:03}{}", "n".repeat(length - 3));
-    (0..count).map(|number| NewRow { flags, name: name(number).into_bytes() }).collect()
+    (0..count).map(|number| NewRow::new(flags, name(number).into_bytes())).collect()
 }
 
 /// The rows with levels before and behind their names.
 fn rows_around(above: &str, rows: &[NewRow], below: &str) -> Vec<NewRow> {
     let name = |row: &NewRow| [above.as_bytes(), &row.name, below.as_bytes()].concat();
-    rows.iter().map(|row| NewRow { flags: row.flags, name: name(row) }).collect()
+    rows.iter().map(|row| NewRow::new(row.flags, name(row))).collect()
 }
 
 fn row_named(name: String, flags: Flags) -> NewRow {
-    NewRow { flags, name: name.into_bytes() }
+    NewRow::new(flags, name.into_bytes())
 }

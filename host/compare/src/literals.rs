@@ -146,7 +146,7 @@ fn change_digit(random: &mut Random, line: &mut [u8]) {
 /// each at its limit or one over it.
 pub fn limits(random: &mut Random) -> Vec<SentFrame> {
     let mut sending = Sending::new(random);
-    sending.table(b"\x00\x01\x01x");
+    sending.table(b"\x00\x01\xFF\x01x");
     for over in 0..2 {
         let literal = |length: usize, byte: &str| header_of(length, 0) + &byte.repeat(length);
         let longest = literal(MAX_LITERAL + over, "r");

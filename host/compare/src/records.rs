@@ -176,9 +176,7 @@ fn of_pieces(random: &mut Random, rows: &[NewRow], mut pieces: Vec<Piece>) -> La
             push_unused(&mut area, random, rows);
         }
         for (at, place) in piece.names {
-            let NewRow { flags, name } = &rows[at];
-            let (start, len) = ((area.len() + place) as u16, name.len() as u8);
-            records[at] = Record { flags: flags.bits(), start, len };
+            records[at] = rows[at].record_at(area.len() + place);
         }
         area.extend_from_slice(&piece.bytes);
     }
@@ -206,11 +204,12 @@ fn push_spare(random: &mut Random, layout: &mut Layout) {
     for _ in 0..random.within(1..=4) {
         let spare = match random.below(3) {
             0 if layout.count > 0 => layout.records[random.below(layout.count)],
-            1 => Record { flags: u16::MAX, start: u16::MAX, len: LONGEST },
+            1 => Record { flags: u16::MAX, start: u16::MAX, len: LONGEST, readers: u8::MAX },
             _ => {
                 let number =
                     |random: &mut Random| u16::from_be_bytes([random.byte(), random.byte()]);
-                Record { flags: number(random), start: number(random), len: random.byte() }
+                let (flags, start, len) = (number(random), number(random), random.byte());
+                Record { flags, start, len, readers: start as u8 }
             }
         };
         layout.records.push(spare);
@@ -231,7 +230,7 @@ fn odd_count(random: &mut Random, layout: &Layout) -> usize {
 
 /// A record whose name lies elsewhere, by a byte or by far, or whose end would wrap around.
 fn odd_record(random: &mut Random, record: Record, area: usize) -> Record {
-    let Record { flags, start, len } = record;
+    let Record { flags, start, len, .. } = record;
     let length = usize::from(len);
     let place = |start: usize| (start & LAST_START) as u16;
     match random.below(12) {

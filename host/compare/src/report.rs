@@ -102,8 +102,9 @@ fn answer_text(line: &[u8]) -> String {
 /// The records, spare ones too, and the area, a line each.
 pub fn show_layout(Layout { records, count, area }: &Layout) -> String {
     let mut text = format!("{count} of {} records over {} bytes\n", records.len(), area.len());
-    for Record { flags, start, len } in records {
-        text += &format!("    flags {flags:04X}, start {start}, length {len}\n");
+    for Record { flags, start, len, readers } in records {
+        text +=
+            &format!("    flags {flags:04X}, start {start}, length {len}, readers {readers:02X}\n");
     }
     text + &format!("    area {}\n", shown(area))
 }

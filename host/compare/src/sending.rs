@@ -11,16 +11,20 @@ use crate::walks::{REFUSED_OPTIONS, WALKS};
 
 /// The most bytes behind the first one of a frame.
 pub const MAX_PIECE: usize = MAX_DIGITS / 2 - 1;
+/// The longest line of a frame, behind its reader.
+pub const MAX_SENT_LINE: usize = MAX_PIECE - 1;
 
 /// A session under way.
 pub struct Sending<'r> {
     pub random: &'r mut Random,
     pub frames: Vec<SentFrame>,
+    /// From whom commands and walks come.
+    pub reader: u8,
 }
 
 impl Sending<'_> {
     pub fn new(random: &mut Random) -> Sending<'_> {
-        Sending { random, frames: Vec::new() }
+        Sending { random, frames: Vec::new(), reader: 0 }
     }
 
     /// One that begins with a table.
@@ -31,14 +35,14 @@ impl Sending<'_> {
     }
 
     pub fn command(&mut self, line: &[u8]) {
-        self.frame(COMMAND, line);
+        self.frame(COMMAND, &[&[self.reader], line].concat());
     }
 
     /// So many commands, each as far as a frame holds it.
     pub fn commands(&mut self, count: usize, mut line: impl FnMut(&mut Random) -> Vec<u8>) {
         for _ in 0..count {
             let line = line(self.random);
-            self.command(&line[..line.len().min(MAX_PIECE)]);
+            self.command(&line[..line.len().min(MAX_SENT_LINE)]);
         }
     }
 
@@ -48,7 +52,7 @@ impl Sending<'_> {
     }
 
     pub fn walk(&mut self, option: u8) {
-        self.frame(WALK, &[option]);
+        self.frame(WALK, &[self.reader, option]);
     }
 
     /// A walk with each lawful option byte, and with some that are refused.

@@ -2,6 +2,7 @@
 
 use second::name::{self, INBOX, MAX_LEVELS, MAX_NAME};
 use second::rows::{Flags, Row};
+use second::{Readers, Record};
 
 use crate::random::Random;
 
@@ -9,7 +10,21 @@ use crate::random::Random;
 #[derive(Clone)]
 pub struct NewRow {
     pub flags: Flags,
+    pub readers: Readers,
     pub name: Vec<u8>,
+}
+
+impl NewRow {
+    /// A row that all readers see.
+    pub fn new(flags: Flags, name: Vec<u8>) -> NewRow {
+        NewRow { flags, readers: Readers::ALL, name }
+    }
+
+    /// The record of the row, with its name at a place.
+    pub fn record_at(&self, start: usize) -> Record {
+        let (flags, readers) = (self.flags.bits(), self.readers.bits());
+        Record { flags, start: start as u16, len: self.name.len() as u8, readers }
+    }
 }
 
 /// Levels that sort on both sides of "/", that need quotes, and spellings of INBOX.
@@ -52,7 +67,7 @@ pub fn good_table(random: &mut Random, count: usize) -> Vec<NewRow> {
 pub fn rows_named(random: &mut Random, mut names: Vec<Vec<u8>>) -> Vec<NewRow> {
     names.sort();
     names.dedup();
-    let row = |name| NewRow { flags: lawful_flags(random), name };
+    let row = |name| NewRow::new(lawful_flags(random), name);
     let mut rows: Vec<NewRow> = names.into_iter().map(row).collect();
     allow_inferiors(&mut rows);
     rows
@@ -60,7 +75,9 @@ pub fn rows_named(random: &mut Random, mut names: Vec<Vec<u8>>) -> Vec<NewRow> {
 
 /// The bytes of rows. A name has at most 255 bytes.
 pub fn table_bytes(rows: &[NewRow]) -> Vec<u8> {
-    let bytes = |row: &NewRow| Row { flags: row.flags, name: &row.name }.to_bytes();
+    let bytes = |NewRow { flags, readers, name }: &NewRow| {
+        Row { flags: *flags, readers: *readers, name }.to_bytes()
+    };
     rows.iter().filter_map(bytes).flatten().collect()
 }
 

@@ -9,22 +9,32 @@
 //! back. `compact` moves names together where removals have left holes between them. The packed form,
 //! rows without a gap, is for reading: it is checked and walked by the functions whose name says so.
 //!
+//! Each command and each walk comes from a [`Reader`]. A record has the set of readers who see its row,
+//! and a row that is hidden from the reader counts as absent. Edits are allowed to reader 0 alone; they
+//! look at all rows, and so does check 1.
+//!
 //! ```
-//! use luspemaro::{answer, Answered, Record};
+//! use luspemaro::{answer, Answered, Reader, Record, READERS_ALL};
 //!
 //! // One mailbox that exists, and a spare record; its name, and three bytes that no name uses.
-//! let mut records = [Record { flags: 1, start: 0, len: 13 }, Record::default()];
+//! let row = Record { flags: 1, start: 0, len: 13, readers: Reader::EDITOR.bit() };
+//! let mut records = [row, Record::default()];
 //! let mut area = *b"Customers/ABC   ";
 //! let mut out = [0; 1_000];
 //!
-//! // A new subscription is inserted as a row.
-//! let answered = answer(&mut records, 1, &mut area, b"", b"a SUBSCRIBE Moo\r\n", &mut out);
+//! // A new subscription is inserted as a row, which all readers see.
+//! let line = b"a SUBSCRIBE Moo\r\n";
+//! let answered = answer(Reader::EDITOR, &mut records, 1, &mut area, b"", line, &mut out);
 //! assert_eq!(answered, Ok(Answered { length: 11, count: 2 }));
-//! assert_eq!(records[1], Record { flags: 2, start: 13, len: 3 });
+//! assert_eq!(records[1], Record { flags: 2, start: 13, len: 3, readers: READERS_ALL });
 //!
-//! let answered = answer(&mut records, 2, &mut area, b"", b"a LSUB \"\" *\r\n", &mut out);
+//! // Reader 3 does not see Customers/ABC.
+//! let three = Reader::new(3).expect("a reader");
+//! let line = b"a LIST (SUBSCRIBED) \"\" *\r\n";
+//! let answered = answer(three, &mut records, 2, &mut area, b"", line, &mut out);
 //! let length = answered.expect("an answer").length;
-//! assert_eq!(out[..length], *b"* LSUB () \"/\" \"Moo\"\r\na OK done\r\n");
+//! let expected = b"* LIST (\\Subscribed \\NonExistent) \"/\" \"Moo\"\r\na OK done\r\n";
+//! assert_eq!(out[..length], *expected);
 //! ```
 //!
 //! `rt staticlib exports` makes the archive; the build script finds it.
@@ -34,19 +44,21 @@
 mod feeder;
 mod line;
 mod raw;
+mod reader;
 mod refusal;
 
 pub use feeder::{feed, put_go_on, Event, Fed, Feeder, Happening, COMMAND_ROOM};
 pub use line::{read_line, write_line, write_parts, Criteria, Line};
-pub use raw::{Answered, FeederState, Record, Records, Walked, NAME_ROOM};
+pub use raw::{Answered, FeederState, Record, Records, Walked, NAME_ROOM, READERS_ALL};
+pub use reader::Reader;
 pub use refusal::Refusal;
 
 /// Check 1: whether a packed mailbox table passes.
 ///
 /// ```
-/// // Flags 0003, a name of 3 bytes.
-/// assert!(luspemaro::check_table(b"\0\x03\x03Foo"));
-/// assert!(!luspemaro::check_table(b"\0\x03\x04Foo"));
+/// // Flags 0003, all readers, a name of 3 bytes.
+/// assert!(luspemaro::check_table(b"\0\x03\xFF\x03Foo"));
+/// assert!(!luspemaro::check_table(b"\0\x03\xFF\x04Foo"));
 /// ```
 pub fn check_table(table: &[u8]) -> bool {
     raw::check_table(table)
@@ -57,7 +69,8 @@ pub fn check_table(table: &[u8]) -> bool {
 /// ```
 /// use luspemaro::{check_records, Record, Records};
 ///
-/// let records = [Record { flags: 3, start: 2, len: 3 }, Record::default()];
+/// // Nobody sees the row: the check does.
+/// let records = [Record { flags: 3, start: 2, len: 3, readers: 0 }, Record::default()];
 /// let table = Records { records: &records, count: 1, area: b"--Foo" };
 /// assert!(check_records(table));
 /// // The second record is spare: as a row it would have no name.
@@ -105,29 +118,36 @@ pub fn match_steps(pattern: &[u8], name: &[u8]) -> usize {
     raw::match_steps(pattern, name)
 }
 
-/// Answers one command line, LIST, LSUB, NAMESPACE, SUBSCRIBE or UNSUBSCRIBE, at the front of `out`.
+/// Answers one command line of a reader, LIST, LSUB, NAMESPACE, SUBSCRIBE or UNSUBSCRIBE, at the front of
+/// `out`.
 ///
 /// The first `count` records are the rows; those after them are spare. An edit that is accepted changes
 /// the records, the area and the count; where it is refused, and for every other command, all of them
-/// stay. A new row takes the first spare record and the lowest free bytes of the area.
+/// stay. A new row takes the first spare record and the lowest free bytes of the area. An edit from
+/// another reader than 0 is refused with 16.
 ///
 /// ```
-/// use luspemaro::{answer, Record, Refusal};
+/// use luspemaro::{answer, Reader, Record, Refusal, READERS_ALL};
 ///
-/// let mut records = [Record { flags: 3, start: 0, len: 13 }];
+/// let mut records = [Record { flags: 3, start: 0, len: 13, readers: READERS_ALL }];
 /// let mut area = *b"Customers/ABC";
 /// let mut out = [0; 100];
 ///
 /// let line = b"a LIST (SUBSCRIBED RECURSIVEMATCH) \"\" %\r\n";
-/// let answered = answer(&mut records, 1, &mut area, b"", line, &mut out)?;
+/// let answered = answer(Reader::EDITOR, &mut records, 1, &mut area, b"", line, &mut out)?;
 /// let expected = b"* LIST (\\NonExistent) \"/\" \"Customers\" (\"CHILDINFO\" (\"SUBSCRIBED\"))\r\na OK done\r\n";
 /// assert_eq!(&out[..answered.length], expected);
 ///
-/// let refused = answer(&mut records, 1, &mut area, b"", b"a SUBSCRIBE Moo\r\n", &mut out);
+/// let line = b"a SUBSCRIBE Moo\r\n";
+/// let refused = answer(Reader::EDITOR, &mut records, 1, &mut area, b"", line, &mut out);
 /// assert_eq!(refused, Err(Refusal::NoRoom));
+/// let three = Reader::new(3).expect("a reader");
+/// let refused = answer(three, &mut records, 1, &mut area, b"", line, &mut out);
+/// assert_eq!(refused, Err(Refusal::Reader));
 /// # Ok::<(), Refusal>(())
 /// ```
 pub fn answer(
+    reader: Reader,
     records: &mut [Record],
     count: usize,
     area: &mut [u8],
@@ -135,31 +155,52 @@ pub fn answer(
     line: &[u8],
     out: &mut [u8],
 ) -> Result<Answered, Refusal> {
-    raw::answer(records, count, area, namespaces, line, out).answered(count)
+    answer_from(reader.number(), records, count, area, namespaces, line, out)
+}
+
+/// `answer` from the number of a reader: one above 7 is refused with 16, first.
+///
+/// ```
+/// use luspemaro::{answer_from, Refusal};
+///
+/// let refused = answer_from(8, &mut [], 9, &mut [], b"", b"", &mut []);
+/// assert_eq!(refused, Err(Refusal::Reader));
+/// ```
+pub fn answer_from(
+    reader: u8,
+    records: &mut [Record],
+    count: usize,
+    area: &mut [u8],
+    namespaces: &[u8],
+    line: &[u8],
+    out: &mut [u8],
+) -> Result<Answered, Refusal> {
+    raw::answer(reader, records, count, area, namespaces, line, out).answered(count)
 }
 
 /// Moves the names of the rows together, in the order of their starts, to the front of the area; the
 /// bytes after them, all that no row uses, become zero.
 ///
-/// Of the first `count` records the starts change and nothing else; spare records stay. Every command and
-/// every walk is answered as before, but that a SUBSCRIBE which was refused with 15 may find room.
+/// Of the first `count` records the starts change and nothing else, so their readers stay; spare records
+/// stay. Every command and every walk is answered as before, but that a SUBSCRIBE which was refused with 15 may find room.
 /// Straight after it, no edit between, 15 for want of bytes is given exactly if all free bytes together
 /// are fewer than the name's. A table that does not pass is refused with 1, and then nothing changes.
 ///
 /// ```
-/// use luspemaro::{answer, compact, Record, Refusal};
+/// use luspemaro::{answer, compact, Reader, Record, Refusal, READERS_ALL};
 ///
-/// let mut records = [Record { flags: 1, start: 2, len: 3 }, Record::default()];
+/// let row = Record { flags: 1, start: 2, len: 3, readers: READERS_ALL };
+/// let mut records = [row, Record::default()];
 /// let mut area = *b"--Foo--";
 /// let mut out = [0; 100];
 ///
 /// // No run of free bytes is long enough; all of them together are.
 /// let line = b"a SUBSCRIBE Mood\r\n";
-/// let refused = answer(&mut records, 1, &mut area, b"", line, &mut out);
+/// let refused = answer(Reader::EDITOR, &mut records, 1, &mut area, b"", line, &mut out);
 /// assert_eq!(refused, Err(Refusal::NoRoom));
 /// compact(&mut records, 1, &mut area)?;
 /// assert_eq!((records[0].start, area), (0, *b"Foo\0\0\0\0"));
-/// let answered = answer(&mut records, 1, &mut area, b"", line, &mut out)?;
+/// let answered = answer(Reader::EDITOR, &mut records, 1, &mut area, b"", line, &mut out)?;
 /// assert_eq!((answered.count, area), (2, *b"FooMood"));
 /// # Ok::<(), Refusal>(())
 /// ```
@@ -167,51 +208,99 @@ pub fn compact(records: &mut [Record], count: usize, area: &mut [u8]) -> Result<
     Refusal::check(raw::compact(records, count, area))
 }
 
-/// The walk of a table. Found and pending hold their names afterwards, each with a length byte.
+/// The walk of a table for a reader. Found and pending hold their names afterwards, each with a length
+/// byte.
 ///
 /// ```
-/// use luspemaro::{collect, Record, Records, Walked};
+/// use luspemaro::{collect, Reader, Record, Records, Walked};
 ///
-/// let records = [Record { flags: 3, start: 0, len: 13 }];
+/// let seven = Reader::new(7).expect("a reader");
+/// let records = [Record { flags: 3, start: 0, len: 13, readers: seven.bit() }];
 /// let table = Records { records: &records, count: 1, area: b"Customers/ABC" };
 /// let (mut scratch, mut found, mut pending) = ([0; 100], [0; 20], [0; 20]);
 ///
 /// // The top level is asked, then what lies below Customers.
-/// let walked = collect(table, 0, &mut scratch, &mut found, &mut pending);
+/// let walked = collect(seven, table, 0, &mut scratch, &mut found, &mut pending);
 /// assert_eq!(walked, Ok(Walked { commands: 2, found: 14 }));
 /// assert_eq!(&found[..14], b"\x0DCustomers/ABC");
 /// assert_eq!(&pending[..10], b"\x09Customers");
+///
+/// // To reader 0 the table is empty.
+/// let walked = collect(Reader::EDITOR, table, 0, &mut scratch, &mut found, &mut pending);
+/// assert_eq!(walked, Ok(Walked { commands: 1, found: 0 }));
 /// ```
 pub fn collect(
+    reader: Reader,
     table: Records,
     option: u8,
     scratch: &mut [u8],
     found: &mut [u8],
     pending: &mut [u8],
 ) -> Result<Walked, Refusal> {
-    raw::collect(table, option, scratch, found, pending).walked()
+    collect_from(reader.number(), table, option, scratch, found, pending)
+}
+
+/// `collect` from the number of a reader: one above 7 is refused with 16, first.
+///
+/// ```
+/// use luspemaro::{collect_from, Records, Refusal};
+///
+/// let table = Records { records: &[], count: 1, area: b"" };
+/// let refused = collect_from(8, table, 9, &mut [], &mut [], &mut []);
+/// assert_eq!(refused, Err(Refusal::Reader));
+/// ```
+pub fn collect_from(
+    reader: u8,
+    table: Records,
+    option: u8,
+    scratch: &mut [u8],
+    found: &mut [u8],
+    pending: &mut [u8],
+) -> Result<Walked, Refusal> {
+    raw::collect(reader, table, option, scratch, found, pending).walked()
 }
 
 /// `collect` over a packed table.
 ///
 /// ```
-/// use luspemaro::{collect_packed, Refusal, Walked};
+/// use luspemaro::{collect_packed, Reader, Refusal, Walked};
 ///
-/// let table = b"\0\x03\x03Foo";
+/// let table = b"\0\x03\xFF\x03Foo";
 /// let (mut scratch, mut found) = ([0; 100], [0; 4]);
-/// let walked = collect_packed(table, 0, &mut scratch, &mut found, &mut []);
+/// let walked = collect_packed(Reader::EDITOR, table, 0, &mut scratch, &mut found, &mut []);
 /// assert_eq!(walked, Ok(Walked { commands: 1, found: 4 }));
 /// assert_eq!(&found, b"\x03Foo");
 ///
-/// let refused = collect_packed(table, 0, &mut scratch, &mut found[1..], &mut []);
+/// let found = &mut found[1..];
+/// let refused = collect_packed(Reader::EDITOR, table, 0, &mut scratch, found, &mut []);
 /// assert_eq!(refused, Err(Refusal::FoundFull));
 /// ```
 pub fn collect_packed(
+    reader: Reader,
     table: &[u8],
     option: u8,
     scratch: &mut [u8],
     found: &mut [u8],
     pending: &mut [u8],
 ) -> Result<Walked, Refusal> {
-    raw::collect_packed(table, option, scratch, found, pending).walked()
+    collect_packed_from(reader.number(), table, option, scratch, found, pending)
+}
+
+/// `collect_packed` from the number of a reader: one above 7 is refused with 16, first.
+///
+/// ```
+/// use luspemaro::{collect_packed_from, Refusal};
+///
+/// let refused = collect_packed_from(255, b"?", 9, &mut [], &mut [], &mut []);
+/// assert_eq!(refused, Err(Refusal::Reader));
+/// ```
+pub fn collect_packed_from(
+    reader: u8,
+    table: &[u8],
+    option: u8,
+    scratch: &mut [u8],
+    found: &mut [u8],
+    pending: &mut [u8],
+) -> Result<Walked, Refusal> {
+    raw::collect_packed(reader, table, option, scratch, found, pending).walked()
 }

@@ -5,6 +5,8 @@ use crate::refusal::Refusal;
 
 /// The bytes of the area that a name is read into.
 pub const NAME_ROOM: usize = 200;
+/// The set of all eight readers.
+pub const READERS_ALL: u8 = 0xFF;
 
 /// `Outcome` of the crate `exports`.
 #[repr(C)]
@@ -42,7 +44,7 @@ pub struct LineParts {
     pub name: [u8; NAME_ROOM],
 }
 
-/// A record of a mailbox table, as the archive has it.
+/// A record of a mailbox table, as the archive has it. The default is a spare one, all zero.
 #[repr(C)]
 #[derive(Clone, Copy, Debug, Default, PartialEq, Eq)]
 pub struct Record {
@@ -52,6 +54,8 @@ pub struct Record {
     pub start: u16,
     /// The length of the name, 1 to 200 where it passes.
     pub len: u8,
+    /// The set of readers who see the row, bit r for reader r; any set passes.
+    pub readers: u8,
 }
 
 /// A mailbox table as records over an area of name bytes.
@@ -119,6 +123,7 @@ extern "C" {
         records: *mut Record,
         records_len: usize,
         count: usize,
+        reader: u8,
         area: *mut u8,
         area_len: usize,
         namespaces: *const u8,
@@ -139,6 +144,7 @@ extern "C" {
         records: *const Record,
         records_len: usize,
         count: usize,
+        reader: u8,
         area: *const u8,
         area_len: usize,
         option: u8,
@@ -152,6 +158,7 @@ extern "C" {
     fn luspemaro_collect_packed(
         table: *const u8,
         table_len: usize,
+        reader: u8,
         option: u8,
         scratch: *mut u8,
         scratch_len: usize,
@@ -207,6 +214,7 @@ pub fn match_steps(pattern: &[u8], name: &[u8]) -> usize {
 }
 
 pub fn answer(
+    reader: u8,
     records: &mut [Record],
     count: usize,
     area: &mut [u8],
@@ -219,6 +227,7 @@ pub fn answer(
             records.as_mut_ptr(),
             records.len(),
             count,
+            reader,
             area.as_mut_ptr(),
             area.len(),
             namespaces.as_ptr(),
@@ -237,6 +246,7 @@ pub fn compact(records: &mut [Record], count: usize, area: &mut [u8]) -> u8 {
 }
 
 pub fn collect(
+    reader: u8,
     table: Records,
     option: u8,
     scratch: &mut [u8],
@@ -249,6 +259,7 @@ pub fn collect(
             records.as_ptr(),
             records.len(),
             count,
+            reader,
             area.as_ptr(),
             area.len(),
             option,
@@ -263,6 +274,7 @@ pub fn collect(
 }
 
 pub fn collect_packed(
+    reader: u8,
     table: &[u8],
     option: u8,
     scratch: &mut [u8],
@@ -273,6 +285,7 @@ pub fn collect_packed(
         luspemaro_collect_packed(
             table.as_ptr(),
             table.len(),
+            reader,
             option,
             scratch.as_mut_ptr(),
             scratch.len(),

@@ -47,6 +47,7 @@ refusals! {
     NotSuchLine = 12, "not a LIST line, or not the parts of one";
     UnlawfulName = 14, "SUBSCRIBE: an unlawful name, or one below a row with no inferiors";
     NoRoom = 15, "SUBSCRIBE would insert a row: 512 rows, no spare record, or no free run long enough";
+    Reader = 16, "the reader is above 7, or an edit comes from another reader than 0";
 }
 
 impl Refusal {

@@ -1,18 +1,19 @@
 //! Names moved together, called from Rust.
 
 use luspemaro::{
-    answer, check_records, collect, compact, Answered, Record, Records, Refusal, Walked,
+    answer, check_records, collect, compact, Answered, Reader, Record, Records, Refusal, Walked,
+    READERS_ALL,
 };
 
 const OK: &[u8] = b"a OK done\r\n";
 
 /// Foo exists, INBOX takes no inferiors, Moo does not exist; the last two records are spare.
 const RECORDS: [Record; 5] = [
-    Record { flags: 0x7F29, start: 13, len: 3 },
-    Record { flags: 0x53, start: 6, len: 5 },
-    Record { flags: 2, start: 1, len: 3 },
-    Record { flags: 9, start: 9, len: 9 },
-    Record { flags: 0xFFFF, start: 0xFFFF, len: 0xFF },
+    Record { flags: 0x7F29, start: 13, len: 3, readers: READERS_ALL },
+    Record { flags: 0x53, start: 6, len: 5, readers: 1 },
+    Record { flags: 2, start: 1, len: 3, readers: 0x81 },
+    Record { flags: 9, start: 9, len: 9, readers: 9 },
+    Record { flags: 0xFFFF, start: 0xFFFF, len: 0xFF, readers: 0x5A },
 ];
 const COUNT: usize = 3;
 const AREA: [u8; 18] = *b"-Moo--INBOX\0\0Foo%%";
@@ -77,7 +78,8 @@ fn room_after_15() {
     let (mut records, mut area) = (RECORDS, AREA);
     let line = |length: usize| format!("a SUBSCRIBE {}\r\n", "n".repeat(length));
     let subscribe = |records: &mut [Record], area: &mut [u8], length: usize| {
-        answer(records, COUNT, area, b"", line(length).as_bytes(), &mut [0; 20])
+        let line = line(length);
+        answer(Reader::EDITOR, records, COUNT, area, b"", line.as_bytes(), &mut [0; 20])
     };
     for length in [3, 7, 8] {
         assert_eq!(subscribe(&mut records, &mut area, length), Err(Refusal::NoRoom));
@@ -89,7 +91,7 @@ fn room_after_15() {
     let answered = subscribe(&mut records, &mut area, 7);
     assert_eq!(answered, Ok(Answered { length: OK.len(), count: 4 }));
     assert_eq!(&area, b"MooINBOXFoonnnnnnn");
-    assert_eq!(records[3], Record { flags: 2, start: 11, len: 7 });
+    assert_eq!(records[3], Record { flags: 2, start: 11, len: 7, readers: READERS_ALL });
     assert_eq!(records[4], RECORDS[4]);
 }
 
@@ -108,14 +110,16 @@ fn answers_stay() {
     ] {
         let given = tables.map(|(mut records, mut area)| {
             let mut out = [b'.'; 200];
-            (answer(&mut records, COUNT, &mut area, b"", line.as_bytes(), &mut out), out)
+            let line = line.as_bytes();
+            (answer(Reader::EDITOR, &mut records, COUNT, &mut area, b"", line, &mut out), out)
         });
         assert_eq!(given[0], given[1], "{line}");
     }
     let walks = tables.each_ref().map(|(records, area)| {
         let (mut scratch, mut found, mut pending) = ([1; 200], [1; 30], [1; 30]);
         let table = Records { records, count: COUNT, area };
-        (collect(table, 0, &mut scratch, &mut found, &mut pending), found, pending)
+        let walked = collect(Reader::EDITOR, table, 0, &mut scratch, &mut found, &mut pending);
+        (walked, found, pending)
     });
     assert_eq!(walks[0], walks[1]);
     assert_eq!(walks[0].0, Ok(Walked { commands: 1, found: 10 }));

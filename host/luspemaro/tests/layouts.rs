@@ -37,6 +37,7 @@ fn layouts_are_those_of_the_header() {
         ("luspemaro_record", Some("flags"), offset_of!(Record, flags)),
         ("luspemaro_record", Some("start"), offset_of!(Record, start)),
         ("luspemaro_record", Some("len"), offset_of!(Record, len)),
+        ("luspemaro_record", Some("readers"), offset_of!(Record, readers)),
         ("luspemaro_record", None, size_of::<Record>()),
         ("luspemaro_outcome", Some("number"), offset_of!(Outcome, number)),
         ("luspemaro_outcome", Some("length"), offset_of!(Outcome, length)),

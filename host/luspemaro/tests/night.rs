@@ -2,15 +2,19 @@
 
 use luspemaro::{
     answer, check_namespaces, check_records, check_table, collect, collect_packed, match_steps,
-    matches, put_go_on, read_line, write_line, Answered, Criteria, Event, Feeder, Record, Records,
-    Refusal, Walked,
+    matches, put_go_on, read_line, write_line, Answered, Criteria, Event, Feeder, Reader, Record,
+    Records, Refusal, Walked, READERS_ALL,
 };
 
-/// Flags 0003, length 13, the name.
-const PACKED: &[u8] = b"\0\x03\x0DCustomers/ABC";
+/// Flags 0003, all readers, length 13, the name.
+const PACKED: &[u8] = b"\0\x03\xFF\x0DCustomers/ABC";
 /// The same mailbox; the second record is spare.
-const RECORDS: [Record; 2] =
-    [Record { flags: 3, start: 2, len: 13 }, Record { flags: 9, start: 9, len: 9 }];
+const RECORDS: [Record; 2] = [
+    Record { flags: 3, start: 2, len: 13, readers: READERS_ALL },
+    Record { flags: 9, start: 9, len: 9, readers: 9 },
+];
+/// What an edit inserts.
+const INSERTED: Record = Record { flags: 2, start: 0, len: 2, readers: READERS_ALL };
 const AREA: [u8; 16] = *b"%%Customers/ABC%";
 const TABLE: Records = Records { records: &RECORDS, count: 1, area: &AREA };
 const OK: &[u8] = b"a OK done\r\n";
@@ -44,7 +48,7 @@ impl Lent {
     fn answer(&mut self, line: &[u8], room: usize) -> Result<Vec<u8>, Refusal> {
         let mut out = vec![b'.'; room];
         let Lent { records, count, area } = self;
-        let answered = answer(records, *count, area, b"", line, &mut out);
+        let answered = answer(Reader::EDITOR, records, *count, area, b"", line, &mut out);
         match answered {
             Ok(Answered { length, count: given }) => {
                 *count = given;
@@ -81,7 +85,8 @@ fn an_answer_and_refusals() {
     assert_eq!(refusal.to_string(), "9: the answer, or the line, is longer than its buffer");
     assert!(lent.is_as_lent());
     let mut records = RECORDS;
-    let past_the_area = answer(&mut records, 1, &mut [b'C'; 9], b"", command, &mut [0; 200]);
+    let (mut area, mut out) = ([b'C'; 9], [0; 200]);
+    let past_the_area = answer(Reader::EDITOR, &mut records, 1, &mut area, b"", command, &mut out);
     assert_eq!(past_the_area, Err(Refusal::Table));
     assert_eq!(records, RECORDS);
 }
@@ -104,10 +109,10 @@ fn edits() {
 
     assert_eq!(lent.answer(b"a SUBSCRIBE ab\r\n", 200), Ok(OK.to_vec()));
     assert_eq!((lent.count, &lent.area), (2, b"abCustomers/ABC%"));
-    assert_eq!(lent.records, [RECORDS[0], Record { flags: 2, start: 0, len: 2 }]);
+    assert_eq!(lent.records, [RECORDS[0], INSERTED]);
     assert_eq!(lent.answer(b"a UNSUBSCRIBE Customers/ABC\r\n", 200), Ok(OK.to_vec()));
     let row = Record { flags: 1, ..RECORDS[0] };
-    assert_eq!(lent.records, [row, Record { flags: 2, start: 0, len: 2 }]);
+    assert_eq!(lent.records, [row, INSERTED]);
     let listed = lent.answer(b"a LSUB \"\" *\r\n", 200).expect("an answer");
     assert_eq!(listed, [b"* LSUB () \"/\" \"ab\"\r\n", OK].concat());
     assert_eq!(lent.answer(b"a UNSUBSCRIBE ab\r\n", 200), Ok(OK.to_vec()));
@@ -118,14 +123,16 @@ fn edits() {
 #[test]
 fn the_walk() {
     let (mut scratch, mut found, mut pending) = ([1; 200], [1; 30], [1; 30]);
-    let walked = collect(TABLE, 0, &mut scratch, &mut found, &mut pending);
+    let walked = collect(Reader::EDITOR, TABLE, 0, &mut scratch, &mut found, &mut pending);
     assert_eq!(walked, Ok(Walked { commands: 2, found: 14 }));
-    assert_eq!((&found[..14], &pending[..10]), (&PACKED[2..], b"\x09Customers".as_slice()));
+    assert_eq!((&found[..14], &pending[..10]), (&PACKED[3..], b"\x09Customers".as_slice()));
     assert!(scratch.iter().chain(&found[14..]).chain(&pending[10..]).all(|&byte| byte == 0));
     let (mut packed_found, mut packed_pending) = ([1; 30], [1; 30]);
-    let packed = collect_packed(PACKED, 0, &mut scratch, &mut packed_found, &mut packed_pending);
+    let (found_again, pending_again) = (&mut packed_found, &mut packed_pending);
+    let packed =
+        collect_packed(Reader::EDITOR, PACKED, 0, &mut scratch, found_again, pending_again);
     assert_eq!((packed, packed_found, packed_pending), (walked, found, pending));
-    let refused = collect(TABLE, 4, &mut scratch, &mut found, &mut pending);
+    let refused = collect(Reader::EDITOR, TABLE, 4, &mut scratch, &mut found, &mut pending);
     assert_eq!(refused, Err(Refusal::UnknownOption));
 }
 

@@ -23,7 +23,7 @@ fn refusals_are_those_of_the_header() {
 #[test]
 fn no_other_number_is_one() {
     for number in 0..=u8::MAX {
-        let is_one = matches!(number, 1..=12 | 14 | 15);
+        let is_one = matches!(number, 1..=12 | 14..=16);
         let refusal = Refusal::from_number(number);
         assert_eq!(refusal.map(Refusal::number), is_one.then_some(number));
     }

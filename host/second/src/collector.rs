@@ -4,6 +4,7 @@ use crate::fault::Fault;
 use crate::line::{read_line, Attributes, Criteria, Line};
 use crate::name::descendant_prefix;
 use crate::quoted::push_quoted;
+use crate::readers::Reader;
 use crate::refusal::Refusal;
 use crate::server::answer_reading;
 use crate::table::{checked_rows, Table};
@@ -30,11 +31,12 @@ struct Names<'b> {
     used: usize,
 }
 
-/// The walk of a table. The result is the number of commands sent and the length of found.
+/// The walk of a table for a reader. The result is the number of commands sent and the length of found.
 ///
 /// "On success pending holds its names; room behind the lengths, and all scratch, is zero."
 /// "Its refusals give count 0 and length 0 and zero all three buffers."
 pub fn collect(
+    reader: u8,
     table: Table,
     option: u8,
     scratch: &mut [u8],
@@ -43,7 +45,7 @@ pub fn collect(
 ) -> Result<(usize, usize), Refusal> {
     let mut found = Names { bytes: found, used: 0 };
     let mut pending = Names { bytes: pending, used: 0 };
-    let result = walk(table, option, scratch, &mut found, &mut pending);
+    let result = walk(reader, table, option, scratch, &mut found, &mut pending);
     scratch.fill(0);
     if result.is_err() {
         found.used = 0;
@@ -54,31 +56,35 @@ pub fn collect(
     result.map(|count| (count, found.used))
 }
 
-/// Why a walk is refused with 1 or 6, or none if it is not.
-pub fn walk_fault(table: Table, option: u8) -> Option<Fault> {
-    checked(table, option).err()
+/// Why a walk is refused with 16, 1 or 6, or none if it is not.
+pub fn walk_fault(reader: u8, table: Table, option: u8) -> Option<Fault> {
+    checked(reader, table, option).err()
 }
 
-fn checked(table: Table, option: u8) -> Result<WalkOptions, Fault> {
+fn checked(reader: u8, table: Table, option: u8) -> Result<WalkOptions, Fault> {
+    Reader::checked(reader)?;
     checked_rows(table).map_err(Fault::Table)?;
     let rule = "an option byte is 0 to 7, and 4 stands beside 2";
     WalkOptions::from_byte(option).ok_or(Fault::OptionByte(rule))
 }
 
-/// "Collector order: 1, 6, then the walk". Gives the number of commands sent.
+/// "Collector order: 1, 6, then the walk"; a reader above 7 is 16, "checked before 1" (W9). Each command
+/// comes from the reader. Gives the number of commands sent.
 fn walk(
+    reader: u8,
     table: Table,
     option: u8,
     scratch: &mut [u8],
     found: &mut Names,
     pending: &mut Names,
 ) -> Result<usize, Refusal> {
-    let options = checked(table, option).map_err(Fault::refusal)?;
+    let options = checked(reader, table, option).map_err(Fault::refusal)?;
     let mut reference = Vec::new();
     let mut asked = 0;
     let mut count = 0;
     loop {
-        let length = answer_reading(table, NO_NAMESPACES, &options.command(&reference), scratch)?;
+        let command = options.command(&reference);
+        let length = answer_reading(reader, table, NO_NAMESPACES, &command, scratch)?;
         count += 1;
         take_lines(&scratch[..length], options, found, pending)?;
         let Some((name, behind)) = pending.name_at(asked) else {

@@ -48,6 +48,8 @@ pub struct LsubRequest {
 /// "SUBSCRIBE and UNSUBSCRIBE with one mailbox name (an astring)" (document 02, W6)
 pub struct EditRequest {
     pub edit: Edit,
+    /// The place of the word in the line.
+    pub word_at: usize,
     /// As it is written, not spelled in any other way.
     pub name: Vec<u8>,
     /// The place of the name in the line.
@@ -100,8 +102,8 @@ pub fn read_command(line: &[u8]) -> Result<Command<'_>, LineFault> {
         b"LIST" => judge(read_list(cursor)?)?,
         b"LSUB" => Request::Lsub(read_lsub(cursor)?),
         b"NAMESPACE" => cursor.end().map(|()| Request::Namespace)?,
-        b"SUBSCRIBE" => Request::Edit(read_edit(Edit::Subscribe, cursor)?),
-        b"UNSUBSCRIBE" => Request::Edit(read_edit(Edit::Unsubscribe, cursor)?),
+        b"SUBSCRIBE" => Request::Edit(read_edit(Edit::Subscribe, at, cursor)?),
+        b"UNSUBSCRIBE" => Request::Edit(read_edit(Edit::Unsubscribe, at, cursor)?),
         _ => {
             let rule = "the word is LIST, LSUB, NAMESPACE, SUBSCRIBE or UNSUBSCRIBE";
             return Err(LineFault { refusal: Refusal::Word, at, rule });
@@ -157,14 +159,14 @@ fn read_lsub(mut cursor: Cursor) -> Result<LsubRequest, LineFault> {
     Ok(LsubRequest { canonical_pattern: canonical.into_iter().next() })
 }
 
-/// The rest of a SUBSCRIBE or UNSUBSCRIBE: SP mailbox. What the name is refused for hangs on the
-/// table.
-fn read_edit(edit: Edit, mut cursor: Cursor) -> Result<EditRequest, LineFault> {
+/// The rest of a SUBSCRIBE or UNSUBSCRIBE: SP mailbox. What it is refused for otherwise hangs on the
+/// reader and on the table.
+fn read_edit(edit: Edit, word_at: usize, mut cursor: Cursor) -> Result<EditRequest, LineFault> {
     cursor.space()?;
     let name_at = cursor.place();
     let name = cursor.mailbox()?;
     cursor.end()?;
-    Ok(EditRequest { edit, name, name_at })
+    Ok(EditRequest { edit, word_at, name, name_at })
 }
 
 /// Refusals 6, 7 and 8, in this order, over the whole command.

@@ -16,7 +16,7 @@ pub struct ListFault {
 /// A place of a command line that breaks a rule.
 #[derive(Clone, Copy, Debug, PartialEq, Eq)]
 pub struct LineFault {
-    /// From 3 to 8; of the name of an edit, 14 or 15.
+    /// From 3 to 8; of the word of an edit, 16; of its name, 14 or 15.
     pub refusal: Refusal,
     /// The byte of the line, from 0 on; the line's length is its end.
     pub at: usize,
@@ -44,6 +44,8 @@ pub struct RoomFault {
 /// the number does.
 #[derive(Clone, Copy, Debug, PartialEq, Eq)]
 pub enum Fault {
+    /// The number of the reader.
+    Reader(&'static str),
     Table(ListFault),
     TableRoom(RoomFault),
     Namespaces(ListFault),
@@ -59,6 +61,7 @@ impl Fault {
     /// What it is refused with.
     pub fn refusal(self) -> Refusal {
         match self {
+            Fault::Reader(_) => Refusal::Reader,
             Fault::Table(_) | Fault::TableRoom(_) => Refusal::Table,
             Fault::Namespaces(_) | Fault::NamespacesRoom(_) => Refusal::Namespaces,
             Fault::Line(fault) => fault.refusal,

@@ -1,13 +1,13 @@
 //! The program: frames of hexadecimal in, answers of hexadecimal out (document 01, 'Frames of
-//! the program'; document 02, W6).
+//! the program'; document 02, W6 and W9).
 
 use std::borrow::Cow;
 use std::io::{self, BufRead, BufReader, BufWriter, Read, Write};
 use std::process::ExitCode;
-use std::slice;
 
 use crate::collector::{collect, walk_fault};
 use crate::fault::{Fault, RoomFault};
+use crate::readers::Reader;
 use crate::refusal::Refusal;
 use crate::server::{answer, command_fault};
 use crate::store::Store;
@@ -26,8 +26,8 @@ pub const ANSWER: u8 = 0x41;
 /// First byte of a refusal.
 pub const REFUSAL: u8 = 0x52;
 
-/// "at most 4,100 digits", the LF not counted.
-pub const MAX_DIGITS: usize = 4_100;
+/// "the frame limit becomes 4,102 digits" (W9), of every frame, the LF not counted.
+pub const MAX_DIGITS: usize = 4_102;
 /// "the stored bytes (16,384 and 1,024 …)".
 pub const TABLE_ROOM: usize = 16_384;
 pub const NAMESPACES_ROOM: usize = 1_024;
@@ -42,8 +42,8 @@ pub const PENDING_ROOM: usize = 8_192;
 pub enum Frame {
     Row(Vec<u8>),
     Entry(Vec<u8>),
-    Command(Vec<u8>),
-    Walk(u8),
+    Command { reader: u8, line: Vec<u8> },
+    Walk { reader: u8, option: u8 },
 }
 
 /// What a frame is answered with, if with anything.
@@ -126,12 +126,17 @@ impl Program {
             Err(rule) => Some(Fault::Frame(rule)),
             Ok(Frame::Row(row)) => self.check_row(&row).err(),
             Ok(Frame::Entry(entry)) => self.check_entry(&entry).err(),
-            Ok(Frame::Command(line)) => self.records().map_or_else(Some, |store| {
-                command_fault(Table::Records(store.as_records()), &self.namespaces, &line)
-            }),
-            Ok(Frame::Walk(option)) => self
-                .records()
-                .map_or_else(Some, |store| walk_fault(Table::Records(store.as_records()), option)),
+            Ok(Frame::Command { reader, line }) => {
+                self.records_for(reader).map_or_else(Some, |store| {
+                    let table = Table::Records(store.as_records());
+                    command_fault(reader, table, &self.namespaces, &line)
+                })
+            }
+            Ok(Frame::Walk { reader, option }) => {
+                self.records_for(reader).map_or_else(Some, |store| {
+                    walk_fault(reader, Table::Records(store.as_records()), option)
+                })
+            }
         }
     }
 
@@ -139,8 +144,8 @@ impl Program {
         match Frame::decode(text).map_err(|_| Refusal::Frame)? {
             Frame::Row(row) => self.store_row(&row).map(|()| None).map_err(Fault::refusal),
             Frame::Entry(entry) => self.store_entry(&entry).map(|()| None).map_err(Fault::refusal),
-            Frame::Command(line) => self.answer_command(&line).map(Some),
-            Frame::Walk(option) => self.answer_walk(option).map(Some),
+            Frame::Command { reader, line } => self.answer_command(reader, &line).map(Some),
+            Frame::Walk { reader, option } => self.answer_walk(reader, option).map(Some),
         }
     }
 
@@ -168,11 +173,17 @@ impl Program {
         }
     }
 
+    /// The same for a command or a walk of a reader, whose number is looked at before the rows.
+    fn records_for(&self, reader: u8) -> Result<Cow<'_, Store>, Fault> {
+        Reader::checked(reader)?;
+        self.records()
+    }
+
     /// An edit that is accepted, also one that changes no row, makes the program keep the records.
-    fn answer_command(&mut self, line: &[u8]) -> Result<Answer, Refusal> {
+    fn answer_command(&mut self, reader: u8, line: &[u8]) -> Result<Answer, Refusal> {
         let mut out = vec![0; ANSWER_ROOM];
-        let mut store = self.records().map_err(Fault::refusal)?.into_owned();
-        let answered = store.lend(|lent| answer(lent, &self.namespaces, line, &mut out))?;
+        let mut store = self.records_for(reader).map_err(Fault::refusal)?.into_owned();
+        let answered = store.lend(|lent| answer(reader, lent, &self.namespaces, line, &mut out))?;
         if answered.is_edit {
             self.store = Some(store);
         }
@@ -180,13 +191,14 @@ impl Program {
         Ok(Answer::Lines(out))
     }
 
-    fn answer_walk(&self, option: u8) -> Result<Answer, Refusal> {
+    fn answer_walk(&self, reader: u8, option: u8) -> Result<Answer, Refusal> {
         let mut scratch = vec![0; SCRATCH_ROOM];
         let mut found = vec![0; FOUND_ROOM];
         let mut pending = vec![0; PENDING_ROOM];
-        let store = self.records().map_err(Fault::refusal)?;
+        let store = self.records_for(reader).map_err(Fault::refusal)?;
         let table = Table::Records(store.as_records());
-        let (count, length) = collect(table, option, &mut scratch, &mut found, &mut pending)?;
+        let (count, length) =
+            collect(reader, table, option, &mut scratch, &mut found, &mut pending)?;
         found.truncate(length);
         // At most 4,097: each command but the first took two bytes or more of pending.
         Ok(Answer::Walked { count: count as u16, found })
@@ -197,7 +209,7 @@ impl Frame {
     /// Reads a frame without its LF, or says why it is bad, which is 13.
     pub fn decode(text: &[u8]) -> Result<Frame, &'static str> {
         if text.len() > MAX_DIGITS {
-            return Err("a frame has at most 4,100 digits");
+            return Err("a frame has at most 4,102 digits");
         }
         if !text.iter().all(u8::is_ascii_hexdigit) {
             return Err("a frame holds hexadecimal digits alone");
@@ -206,9 +218,12 @@ impl Frame {
         match bytes.as_slice() {
             [ROW, row @ ..] => Ok(Frame::Row(row.to_vec())),
             [ENTRY, entry @ ..] => Ok(Frame::Entry(entry.to_vec())),
-            [COMMAND, line @ ..] => Ok(Frame::Command(line.to_vec())),
-            [WALK, option] => Ok(Frame::Walk(*option)),
-            [WALK, ..] => Err("57 is followed by one byte"),
+            [COMMAND, reader, line @ ..] => {
+                Ok(Frame::Command { reader: *reader, line: line.to_vec() })
+            }
+            [COMMAND] => Err("43 is followed by the byte of the reader"),
+            [WALK, reader, option] => Ok(Frame::Walk { reader: *reader, option: *option }),
+            [WALK, ..] => Err("57 is followed by the byte of the reader and one byte more"),
             [] => Err("a frame is not empty"),
             _ => Err("the first byte of a frame is 4D, 4E, 43 or 57"),
         }
@@ -216,13 +231,12 @@ impl Frame {
 
     /// The frame in upper case, without its LF.
     pub fn encode(&self) -> Vec<u8> {
-        let (first, behind): (u8, &[u8]) = match self {
-            Frame::Row(row) => (ROW, row),
-            Frame::Entry(entry) => (ENTRY, entry),
-            Frame::Command(line) => (COMMAND, line),
-            Frame::Walk(option) => (WALK, slice::from_ref(option)),
-        };
-        hex_of(&[&[first], behind].concat())
+        hex_of(&match self {
+            Frame::Row(row) => [&[ROW], row.as_slice()].concat(),
+            Frame::Entry(entry) => [&[ENTRY], entry.as_slice()].concat(),
+            Frame::Command { reader, line } => [&[COMMAND, *reader], line.as_slice()].concat(),
+            Frame::Walk { reader, option } => vec![WALK, *reader, *option],
+        })
     }
 }
 

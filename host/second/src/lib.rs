@@ -1,10 +1,10 @@
 //! The second program of the listing rules: written from the papers alone, document 01 and of
-//! document 02 requests W1 to W7, to be compared with the proved program and to be the plain
+//! document 02 requests W1 to W7 and W9, to be compared with the proved program and to be the plain
 //! measure of its speed.
 //!
 //! The entries are those of document 01: the two checks, the command entry, the line writer,
 //! the line reader, the collector and the frames of the program; W2's feeder; and W7's operation that
-//! moves names together. A table is given in either of its forms, and as records for the command
+//! moves names together. Each command and each walk comes from a reader (W9). A table is given in either of its forms, and as records for the command
 //! entry, which edits them, and for W7's. Left out, as there: login, SELECT, FETCH, modified UTF-7,
 //! sockets.
 
@@ -24,6 +24,7 @@ pub mod namespaces;
 pub mod packed;
 mod pattern;
 pub mod quoted;
+pub mod readers;
 pub mod records;
 pub mod refusal;
 pub mod rows;
@@ -39,6 +40,7 @@ pub use feeder::{Event, Feeder};
 pub use line::{read_line, write_line, write_parts, Criteria, Line};
 pub use namespaces::check_namespaces;
 pub use pattern::matches;
+pub use readers::{Reader, Readers};
 pub use records::{Record, Records, RecordsMut};
 pub use refusal::Refusal;
 pub use server::{answer, answer_reading, Answered};

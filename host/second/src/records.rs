@@ -1,19 +1,23 @@
-//! Mailboxes as records beside their names (document 02, W4).
+//! Mailboxes as records beside their names (document 02, W4 and W9).
 
 use std::ops::Range;
 
 use crate::fault::ListFault;
+use crate::readers::Readers;
 use crate::rows::{check_rows, Flags, Row};
 
 /// "the area (at most 32,768 bytes)"
 pub const MAX_AREA: usize = 32_768;
 
-/// "records, each with flags, name start and name length"
+/// "records, each with flags, name start and name length" (W4); "Each record gains a set of eight
+/// readers" (W9). The default is a record that was freed: all zero.
 #[derive(Clone, Copy, Debug, Default, PartialEq, Eq)]
 pub struct Record {
     pub flags: u16,
     pub start: u16,
     pub len: u8,
+    /// Bit r for reader r.
+    pub readers: u8,
 }
 
 /// Records "over one area of name bytes".
@@ -75,7 +79,8 @@ impl<'t> Records<'t> {
         let row = |(at, record): (usize, &Record)| {
             let name = self.area.get(record.place());
             let name = name.ok_or(fault(at, "names lie inside the area"))?;
-            Ok(Row { flags: Flags::from_bits(record.flags), name })
+            let readers = Readers::from_bits(record.readers);
+            Ok(Row { flags: Flags::from_bits(record.flags), readers, name })
         };
         held.iter().enumerate().map(row).collect()
     }

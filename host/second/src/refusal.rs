@@ -36,13 +36,15 @@ pub enum Refusal {
     UnlawfulName = 14,
     /// SUBSCRIBE: there is no room for the row that would be inserted.
     NoRoom = 15,
+    /// The reader is above 7, or an edit comes from another reader than 0.
+    Reader = 16,
 }
 
 use Refusal::*;
 
 impl Refusal {
     /// All of them, by their numbers.
-    pub const ALL: [Refusal; 15] = [
+    pub const ALL: [Refusal; 16] = [
         Table,
         Namespaces,
         LineShape,
@@ -58,6 +60,7 @@ impl Refusal {
         Frame,
         UnlawfulName,
         NoRoom,
+        Reader,
     ];
 
     /// The papers' number, from 1 on.
@@ -88,6 +91,7 @@ impl Refusal {
             Frame => "bad frame",
             UnlawfulName => "unlawful name, or below a row with no inferiors",
             NoRoom => "no room to insert a row",
+            Reader => "a reader above 7, or an edit from another reader than 0",
         }
     }
 }

@@ -4,6 +4,7 @@ use std::ops::Range;
 
 use crate::fault::ListFault;
 use crate::name;
+use crate::readers::{Reader, Readers};
 
 /// Document 01: "At most 512 rows".
 pub const MAX_ROWS: usize = 512;
@@ -97,7 +98,14 @@ impl Flags {
 #[derive(Clone, Copy, Debug)]
 pub struct Row<'t> {
     pub flags: Flags,
+    /// Who sees the row. Check 1 asks nothing of them.
+    pub readers: Readers,
     pub name: &'t [u8],
+}
+
+/// The rows that a reader sees: "A row hidden from the reader counts as absent". They ascend too.
+pub(crate) fn visible_rows<'t>(rows: &[Row<'t>], reader: Reader) -> Vec<Row<'t>> {
+    rows.iter().filter(|row| row.readers.has(reader)).copied().collect()
 }
 
 /// What check 1 asks of the rows, however they are stored. The fault is told by the places of the
@@ -128,7 +136,7 @@ fn first_broken(rows: &[Row]) -> Option<Broken> {
 
 /// The first rule that a row breaks by itself, or with the row before.
 fn broken_alone(rows: &[Row], row: usize) -> Option<Broken> {
-    let Row { flags, name } = rows[row];
+    let Row { flags, name, .. } = rows[row];
     if let Some(rule) = name::broken_rule(name) {
         return Some(Broken { row, rule, other: None });
     }

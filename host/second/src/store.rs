@@ -1,4 +1,4 @@
-//! The records that the program keeps from the first accepted edit on (document 02, W6).
+//! The records that the program keeps from the first accepted edit on (document 02, W6 and W9).
 
 use crate::records::{Record, Records, RecordsMut};
 use crate::rows::{Row, MAX_ROWS};
@@ -22,9 +22,9 @@ impl Store {
     /// packed table that passes and had room, so they are at most 512 and their names fit.
     pub fn of_rows(rows: &[Row]) -> Store {
         let (mut records, mut area) = (Vec::new(), Vec::new());
-        for Row { flags, name } in rows {
+        for Row { flags, readers, name } in rows {
             let (start, len) = (area.len() as u16, name.len() as u8);
-            records.push(Record { flags: flags.bits(), start, len });
+            records.push(Record { flags: flags.bits(), start, len, readers: readers.bits() });
             area.extend_from_slice(name);
         }
         records.resize(STORE_RECORDS, Record::default());

@@ -1,4 +1,5 @@
-//! SUBSCRIBE and UNSUBSCRIBE (document 02, W6): what an edit is refused for, and what it leaves.
+//! SUBSCRIBE and UNSUBSCRIBE (document 02, W6): what an edit is refused for, and what it leaves. "all
+//! edits look at all rows" (W9), and the readers of a row stay.
 
 use std::collections::BTreeMap;
 
@@ -6,6 +7,7 @@ use crate::command::{Edit, EditRequest};
 use crate::fault::{EditFault, LineFault};
 use crate::name;
 use crate::packed::packed_records;
+use crate::readers::Readers;
 use crate::records::{Record, Records, RecordsMut};
 use crate::refusal::Refusal;
 use crate::rows::{Flags, MAX_ROWS};
@@ -77,8 +79,9 @@ fn edited_rows(table: Records, edit: Edit, name: &[u8]) -> Result<Edited, Denied
             check_name(&rows, name)?;
             place = place_for(table, name.len()).map_err(no_room)?;
             bytes = name.to_vec();
-            let flags = Flags::SUBSCRIBED.bits();
-            rows.insert(name, Record { flags, start: place as u16, len: name.len() as u8 });
+            let (flags, readers) = (Flags::SUBSCRIBED.bits(), Readers::ALL.bits());
+            let (start, len) = (place as u16, name.len() as u8);
+            rows.insert(name, Record { flags, start, len, readers });
         }
         // "removes a row 0002 entirely"
         (Edit::Unsubscribe, Some(row)) if row.flags == Flags::SUBSCRIBED.bits() => {

@@ -1,5 +1,5 @@
-//! Why a frame is refused, and what an edit does, as the second program sees it: the proved program
-//! decides, and says no more than the number, or OK.
+//! Why a frame is refused, what an edit does, and what is hidden from a reader, as the second program
+//! sees it: the proved program decides, and says no more than the number, or its answer.
 
 use second::command::{read_command, Request};
 use second::fault::{EditFault, Fault, LineFault, ListFault, RoomFault};
@@ -7,19 +7,22 @@ use second::frames::{hex_of, Answer, Frame, Program};
 use second::name;
 use second::namespaces::entry_at;
 use second::packed::row_at;
-use second::rows::Flags;
+use second::rows::{rows_below, Flags, Row};
 use second::table::checked_rows;
-use second::{Refusal, Table};
+use second::{Reader, Readers, Refusal, Table};
 
 use crate::item::Sent;
-use crate::show::{beside, refusal_text};
+use crate::show::{beside, counted, reader_text, refusal_text};
 use crate::text::{line_text, name_text, shortened};
+use crate::words::word_of_readers;
 
 /// Beside every explanation.
 pub const UNPROVED: &str = "explained by the second program, not proved";
 
 /// Of bytes that are no row or entry no more digits than this are shown.
 const MOST_OF_BYTES: usize = 40;
+/// Of hidden rows no more than this are named.
+const MOST_HIDDEN: usize = 12;
 
 /// What a program has stored after the frames so far, and from which line each byte of it is; from the
 /// first accepted edit on, its records.
@@ -52,25 +55,41 @@ impl Stored {
 
     /// Follows a command that was answered: an edit is made here too, and what it does is told.
     pub fn follow(&mut self, sent: &Sent, frame: Option<&Frame>) -> Option<String> {
-        let Some(Frame::Command(line)) = frame else {
+        let Some(Frame::Command { line, .. }) = frame else {
             return None;
         };
         let Request::Edit(edit) = read_command(line).ok()?.request else {
             return None;
         };
         let name = name::spelled(&edit.name);
-        let before = self.flags_of(&name);
+        let before = self.row_of(&name);
         Some(match self.program.answer(&sent.frame.text) {
-            Some(Answer::Lines(_)) => effect_text(&name, before, self.flags_of(&name)),
+            Some(Answer::Lines(_)) => effect_text(&name, before, self.row_of(&name)),
             _ => "the programs differ: the second one refuses this".to_string(),
         })
     }
 
-    /// The flags of the row of a name, if it has one.
-    fn flags_of(&self, name: &[u8]) -> Option<Flags> {
+    /// What is hidden from the reader of a LIST, an LSUB or a walk that was answered, if anything is.
+    pub fn hidden(&self, frame: Option<&Frame>) -> Option<Vec<String>> {
+        let reader = match frame? {
+            Frame::Command { reader, line } => match read_command(line).ok()?.request {
+                Request::List(_) | Request::Lsub(_) => *reader,
+                Request::Namespace | Request::Root | Request::Edit(_) => return None,
+            },
+            Frame::Walk { reader, .. } => *reader,
+            Frame::Row(_) | Frame::Entry(_) => return None,
+        };
+        let reader = Reader::checked(reader).ok()?;
         let store = self.program.records().ok()?;
         let rows = checked_rows(Table::Records(store.as_records())).ok()?;
-        rows.iter().find(|row| row.name == name).map(|row| row.flags)
+        hidden_text(&rows, reader)
+    }
+
+    /// The flags and the readers of the row of a name, if it has one.
+    fn row_of(&self, name: &[u8]) -> Option<(Flags, Readers)> {
+        let store = self.program.records().ok()?;
+        let rows = checked_rows(Table::Records(store.as_records())).ok()?;
+        rows.iter().find(|row| row.name == name).map(|row| (row.flags, row.readers))
     }
 
     /// Why a frame was refused with a number. A buffer that is too small needs no explanation.
@@ -100,6 +119,11 @@ impl Stored {
             Fault::Table(fault) => fault_text(fault, |at| self.row_text(at)),
             Fault::Namespaces(fault) => fault_text(fault, |at| self.entry_text(at)),
             Fault::TableRoom(room) | Fault::NamespacesRoom(room) => room_text(room),
+            Fault::Reader(rule) => sender_text(&sent.frame.text) + rule,
+            Fault::Line(fault) if fault.refusal == Refusal::Reader => {
+                let text = line_fault_text(&sent.frame.text, fault);
+                sender_text(&sent.frame.text) + &text
+            }
             Fault::Line(fault) => line_fault_text(&sent.frame.text, fault),
             Fault::Edit(fault) => self.edit_fault_text(&sent.frame.text, fault),
             Fault::OptionByte(rule) | Fault::Frame(rule) => rule.to_string(),
@@ -111,8 +135,11 @@ impl Stored {
         let text = line_fault_text(frame, name);
         let above = above.and_then(|number| {
             let store = self.program.records().ok()?;
-            let name = store.area.get(store.records.get(number)?.place())?;
-            Some(format!(" (beside {})", in_quotes(name)))
+            let record = store.records.get(number)?;
+            let name = store.area.get(record.place())?;
+            let is_seen = Readers::from_bits(record.readers).has(Reader::EDITOR);
+            let hidden = if is_seen { "" } else { ", which is hidden from reader 0" };
+            Some(format!(" (beside {}{hidden})", in_quotes(name)))
         });
         text + &above.unwrap_or_default()
     }
@@ -132,9 +159,69 @@ impl Stored {
     }
 }
 
-/// What an edit does to the subscription of a name, and to its row.
-fn effect_text(name: &[u8], before: Option<Flags>, after: Option<Flags>) -> String {
+/// The rows that a reader does not see, and which of them lie above one that it sees.
+fn hidden_text(rows: &[Row], reader: Reader) -> Option<Vec<String>> {
+    let hidden: Vec<&Row> = rows.iter().filter(|row| !row.readers.has(reader)).collect();
+    if hidden.is_empty() {
+        return None;
+    }
+    let is_above =
+        |row: &&&Row| rows_below(rows, row.name).iter().any(|row| row.readers.has(reader));
+    let above: Vec<&Row> = hidden.iter().filter(is_above).copied().collect();
+    let who = reader_text(reader.number());
+    let count = format!("{} of {}", hidden.len(), counted(rows.len(), "row", "rows"));
+    let mut lines = vec![format!("from {who}, {count}: {}", names_text(&hidden))];
+    if !above.is_empty() {
+        let names = names_text(&above);
+        lines.push(format!(
+            "of these, above what {who} sees, so that the name itself may be listed: {names}"
+        ));
+    }
+    Some(lines)
+}
+
+fn names_text(rows: &[&Row]) -> String {
+    let names: Vec<String> =
+        rows.iter().take(MOST_HIDDEN).map(|row| name_text(row.name) + &beside(row.name)).collect();
+    let more = rows.len().saturating_sub(MOST_HIDDEN);
+    let more = if more > 0 { format!(" and {more} more") } else { String::new() };
+    names.join(", ") + &more
+}
+
+/// Who sent a command or a walk, before what is wrong with that.
+fn sender_text(frame: &[u8]) -> String {
+    match Frame::decode(frame) {
+        Ok(Frame::Command { reader, .. } | Frame::Walk { reader, .. }) => {
+            format!("it comes from {}: ", reader_text(reader))
+        }
+        _ => String::new(),
+    }
+}
+
+/// What an edit does to the subscription of a name, and to its row; and who sees a row that not all
+/// readers see.
+fn effect_text(
+    name: &[u8],
+    before: Option<(Flags, Readers)>,
+    after: Option<(Flags, Readers)>,
+) -> String {
     let name = name_text(name) + &beside(name);
+    let seen = after.filter(|(_, readers)| *readers != Readers::ALL);
+    let seen = seen.map(|(_, readers)| format!("; {} its row", who_sees_text(readers)));
+    change_text(&name, before.map(|(flags, _)| flags), after.map(|(flags, _)| flags))
+        + &seen.unwrap_or_default()
+}
+
+fn who_sees_text(readers: Readers) -> String {
+    let word = word_of_readers(readers);
+    match Reader::all().filter(|&reader| readers.has(reader)).count() {
+        0 => "no reader sees".to_string(),
+        1 => format!("only reader {word} sees"),
+        _ => format!("only readers {word} see"),
+    }
+}
+
+fn change_text(name: &str, before: Option<Flags>, after: Option<Flags>) -> String {
     let is_subscribed =
         |flags: Option<Flags>| flags.is_some_and(|flags| flags.has(Flags::SUBSCRIBED));
     match (is_subscribed(before), is_subscribed(after)) {
@@ -173,7 +260,7 @@ fn room_text(RoomFault { stored, added, room }: RoomFault) -> String {
 }
 
 fn line_fault_text(frame: &[u8], LineFault { at, rule, .. }: LineFault) -> String {
-    let Ok(Frame::Command(line)) = Frame::decode(frame) else {
+    let Ok(Frame::Command { line, .. }) = Frame::decode(frame) else {
         return rule.to_string();
     };
     match line.get(at..) {

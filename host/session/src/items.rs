@@ -36,6 +36,8 @@ pub struct Items {
     /// The next line, if it was looked at already.
     ahead: Option<Line>,
     has_failed: bool,
+    /// Of the commands and walks to come.
+    reader: u8,
 }
 
 impl Iterator for Items {
@@ -59,7 +61,7 @@ impl Iterator for Items {
 
 impl Items {
     pub fn new(input: Box<dyn BufRead + Send>, lines: Lines) -> Items {
-        Items { input, lines, number: 0, ahead: None, has_failed: false }
+        Items { input, lines, number: 0, ahead: None, has_failed: false, reader: 0 }
     }
 
     fn take_line(&mut self) -> io::Result<Option<Line>> {
@@ -87,7 +89,7 @@ impl Items {
         if is_command(&text) {
             length += self.take_continuations(&mut text)?;
         }
-        let parsed = match parse_line(&text) {
+        let parsed = match parse_line(&text, self.reader) {
             Ok(_) if length > MAX_ITEM_LINE as u64 => Err(format!("over {MAX_ITEM_LINE} bytes")),
             parsed => parsed,
         };
@@ -107,6 +109,10 @@ impl Items {
             Parsed::Nothing => None,
             Parsed::Comment(comment) => Some(Content::Comment(comment)),
             Parsed::AsGiven => Some(Content::AsGiven),
+            Parsed::Reader(reader) => {
+                self.reader = reader;
+                None
+            }
             Parsed::Frame(text, origin) => {
                 let (length, expected) = (text.len() as u64, self.take_expectation()?);
                 let frame = SentFrame { text, is_cut: false };

@@ -6,12 +6,14 @@
 //! | Item | Example |
 //! |---|---|
 //! | a row of the table | `mailbox Foo/Baz exists subscribed`, `mailbox "a b" 0003` |
+//! | a row that some readers see | `mailbox Foo exists readers 0,3`, `readers none`, `readers all` |
+//! | who sends what comes after | `reader 3` |
 //! | a namespace entry | `namespace personal "" "/"`, `namespace shared "#mh/" NIL` |
 //! | a command; CR LF is added | `command a LIST "" "*"` |
 //! | a command with literals | `command a LIST "" {3}`, and in the next line `+ Foo RETURN ()` |
 //! | an edit, sent as a command | `subscribe Foo/Baz`, `unsubscribe "a b"` |
 //! | a walk | `walk`, `walk remote`, `walk special-use without-subscribed`, `walk 6` |
-//! | a frame as it is sent | `frame 57FF` |
+//! | a frame as it is sent | `frame 5700FF` |
 //! | what the item before is refused with | `expect 7` |
 //! | mailbox lines stay as they stand | `order as-given` |
 //!
@@ -23,6 +25,9 @@
 //! Rows are sent by the bytes of their names, among those that stand between two items which are
 //! answered; entries in the order in which they stand. After an edit that was answered, the program
 //! takes no row.
+//!
+//! All readers see a row that does not say who does. Commands, edits and walks come from reader 0 up to
+//! the first `reader`, and then from the one that the last `reader` before them names.
 //!
 //! A file whose first line is a frame is a file of frames, and its lines are sent as they stand.
 

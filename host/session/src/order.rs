@@ -9,8 +9,8 @@ use std::collections::VecDeque;
 use crate::error::SessionError;
 use crate::item::{Content, Item, Origin};
 
-/// No more rows than this are put in order together. No table has as many: 16,384 bytes hold 5,461
-/// rows of three bytes.
+/// No more rows than this are put in order together. No table has as many: 16,384 bytes hold 4,096
+/// rows of four bytes.
 const MOST_ROWS: usize = 6_000;
 
 type Read = Result<Item, SessionError>;

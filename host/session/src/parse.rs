@@ -5,12 +5,13 @@ use second::line::CRLF;
 use second::namespaces::Entry;
 use second::quoted::{push_quoted, read_quoted};
 use second::rows::Row;
-use second::Refusal;
+use second::{Readers, Refusal};
 
 use crate::item::Origin;
 use crate::text::{comment_text, line_text, shortened};
 use crate::words::{
-    class_of_word, class_words, flag_words, flags_of_words, walk_option_of_words, walk_words,
+    class_of_word, class_words, flag_words, flags_of_words, readers_of_word, walk_option_of_words,
+    walk_words, READERS,
 };
 
 /// What a line says.
@@ -19,6 +20,8 @@ pub enum Parsed {
     Nothing,
     Comment(String),
     AsGiven,
+    /// Commands and walks after this line come from this reader.
+    Reader(u8),
     /// The text of a frame, and what it was made from.
     Frame(Vec<u8>, Origin),
 }
@@ -26,8 +29,8 @@ pub enum Parsed {
 /// The bytes of a string, and what comes after it.
 type StringAndRest<'t> = (Vec<u8>, &'t [u8]);
 
-const ITEM_WORDS: &str = "mailbox, namespace, command, subscribe, unsubscribe, walk, frame, \
-                          expect, order, or # for a comment";
+const ITEM_WORDS: &str = "mailbox, namespace, reader, command, subscribe, unsubscribe, walk, \
+                          frame, expect, order, or # for a comment";
 const LONE_CONTINUATION: &str = "+ goes on with a command, which stands in the line before";
 const LONE_EXPECTATION: &str = "expect says what the item in the line before is refused with";
 const ORDERS: &str = "the one order is as-given; without it mailbox lines are sorted";
@@ -35,8 +38,8 @@ const ORDERS: &str = "the one order is as-given; without it mailbox lines are so
 const MOST_OF_WORD: usize = 40;
 
 /// One line without its line end, or a command with the lines that go on with it, CR LF between
-/// them; or what is wrong with it.
-pub fn parse_line(line: &[u8]) -> Result<Parsed, String> {
+/// them; or what is wrong with it. A command or a walk comes from this reader.
+pub fn parse_line(line: &[u8], reader: u8) -> Result<Parsed, String> {
     if line.is_empty() {
         return Ok(Parsed::Nothing);
     }
@@ -47,10 +50,11 @@ pub fn parse_line(line: &[u8]) -> Result<Parsed, String> {
     match keyword {
         b"mailbox" => parse_mailbox(rest),
         b"namespace" => parse_namespace(rest),
-        b"command" => Ok(other(&Frame::Command([rest, CRLF].concat()))),
-        b"subscribe" => parse_edit("s SUBSCRIBE ", rest),
-        b"unsubscribe" => parse_edit("u UNSUBSCRIBE ", rest),
-        b"walk" => parse_walk(rest),
+        b"reader" => parse_reader(rest),
+        b"command" => Ok(other(&Frame::Command { reader, line: [rest, CRLF].concat() })),
+        b"subscribe" => parse_edit(reader, "s SUBSCRIBE ", rest),
+        b"unsubscribe" => parse_edit(reader, "u UNSUBSCRIBE ", rest),
+        b"walk" => parse_walk(reader, rest),
         b"frame" => Ok(Parsed::Frame(rest.to_vec(), Origin::Other)),
         b"order" if rest.trim_ascii() == b"as-given" => Ok(Parsed::AsGiven),
         b"order" => Err(ORDERS.to_string()),
@@ -81,7 +85,7 @@ pub fn expectation_of(line: &[u8]) -> Option<Result<Refusal, String>> {
 fn parse_expectation(text: &[u8]) -> Result<Refusal, String> {
     let number = words_of(text)?.parse().ok();
     let refusal = number.and_then(Refusal::from_number);
-    refusal.ok_or_else(|| "expect takes the number of a refusal, 1 to 15".to_string())
+    refusal.ok_or_else(|| "expect takes the number of a refusal, 1 to 16".to_string())
 }
 
 /// The word that a line starts with, and what comes after it and one space or tab.
@@ -99,18 +103,39 @@ fn other(frame: &Frame) -> Parsed {
     Parsed::Frame(frame.encode(), Origin::Other)
 }
 
-/// NAME FLAG...
+/// NUMBER, also one that no reader has
+fn parse_reader(text: &[u8]) -> Result<Parsed, String> {
+    let number = words_of(text)?.parse().ok();
+    let message = "reader takes a number, 0 to 7; up to 255 it is sent, and refused with 16";
+    number.map(Parsed::Reader).ok_or_else(|| message.to_string())
+}
+
+/// NAME FLAG... [readers READERS]
 fn parse_mailbox(text: &[u8]) -> Result<Parsed, String> {
     let (name, words) = parse_string(text)?.ok_or("a mailbox has a name and flags")?;
-    let words = words_of(words)?;
-    if words.is_empty() {
+    let words: Vec<&str> = words_of(words)?.split_whitespace().collect();
+    let (flags, readers) = split_readers(&words)?;
+    if flags.is_empty() {
         return Err("the mailbox has no flags; 0000 stands for none".to_string());
     }
     let flags =
-        flags_of_words(words).map_err(|word| unknown("flag", word.as_bytes(), &flag_words()))?;
-    let row = Row { flags, name: &name }.to_bytes();
+        flags_of_words(flags).map_err(|word| unknown("flag", word.as_bytes(), &flag_words()))?;
+    let row = Row { flags, readers, name: &name }.to_bytes();
     let row = row.ok_or("a name has at most 255 bytes in a row")?;
     Ok(Parsed::Frame(Frame::Row(row).encode(), Origin::Mailbox(name)))
+}
+
+/// The words before `readers`, and the set that the word after it names; all readers without it.
+fn split_readers<'w, 't>(words: &'w [&'t str]) -> Result<(&'w [&'t str], Readers), String> {
+    const SHAPE: &str = "after readers stands one word: 0 to 7 parted by commas, all or none";
+    let Some(at) = words.iter().position(|&word| word == READERS) else {
+        return Ok((words, Readers::ALL));
+    };
+    let readers = match words[at + 1..] {
+        [word] => readers_of_word(word),
+        _ => None,
+    };
+    Ok((&words[..at], readers.ok_or(SHAPE)?))
 }
 
 /// CLASS PREFIX DELIMITER, the last of them quoted or NIL
@@ -134,7 +159,7 @@ fn parse_namespace(text: &[u8]) -> Result<Parsed, String> {
 }
 
 /// NAME, sent in quotes, or as a literal where it has bytes that quotes may not hold
-fn parse_edit(start: &str, text: &[u8]) -> Result<Parsed, String> {
+fn parse_edit(reader: u8, start: &str, text: &[u8]) -> Result<Parsed, String> {
     const SHAPE: &str = "one name is subscribed or unsubscribed, in quotes if it has spaces";
     let (name, rest) = parse_string(text)?.ok_or(SHAPE)?;
     if !rest.trim_ascii().is_empty() {
@@ -147,15 +172,15 @@ fn parse_edit(start: &str, text: &[u8]) -> Result<Parsed, String> {
         line.extend_from_slice(format!("{{{}}}\r\n", name.len()).as_bytes());
         line.extend_from_slice(&name);
     }
-    Ok(other(&Frame::Command([&line, CRLF].concat())))
+    Ok(other(&Frame::Command { reader, line: [&line, CRLF].concat() }))
 }
 
 /// *(remote / special-use / without-subscribed / NUMBER)
-fn parse_walk(text: &[u8]) -> Result<Parsed, String> {
+fn parse_walk(reader: u8, text: &[u8]) -> Result<Parsed, String> {
     let option = walk_option_of_words(words_of(text)?);
     let option =
         option.map_err(|word| unknown("option of a walk", word.as_bytes(), &walk_words()))?;
-    Ok(other(&Frame::Walk(option)))
+    Ok(other(&Frame::Walk { reader, option }))
 }
 
 const BAD_QUOTED: &str = "a quoted string ends with a quote, and a backslash in it stands \

@@ -116,6 +116,12 @@ impl<'o, W: Write> Printer<'o, W> {
         self.print_shown(&Shown::new("Effect", lines))
     }
 
+    /// What was hidden from the reader of a command or a walk that was answered.
+    pub fn print_hidden(&mut self, mut lines: Vec<String>) -> io::Result<()> {
+        lines.push(format!("({UNPROVED})"));
+        self.print_shown(&Shown::new("Hidden", lines))
+    }
+
     /// The last line of the text.
     pub fn print_summary(&mut self, summary: &Summary) -> io::Result<()> {
         if self.form == Form::Text && self.previous.is_some() {

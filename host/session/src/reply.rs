@@ -33,8 +33,8 @@ impl Reply {
     pub fn to_frame(line: &[u8], frame: Option<&Frame>) -> Reply {
         let reply = Reply::of(line);
         let fits = match &reply {
-            Reply::Lines(_) => matches!(frame, Some(Frame::Command(_))),
-            Reply::Walked { .. } => matches!(frame, Some(Frame::Walk(_))),
+            Reply::Lines(_) => matches!(frame, Some(Frame::Command { .. })),
+            Reply::Walked { .. } => matches!(frame, Some(Frame::Walk { .. })),
             Reply::Refused(_) | Reply::Unreadable(_) => true,
         };
         if fits {

@@ -110,6 +110,11 @@ impl<W: Write> Run<'_, '_, W> {
         if let Some(effect) = effect {
             self.printer.print_effect(&effect).map_err(RunError::Output)?;
         }
+        if let Some(Reply::Lines(_) | Reply::Walked { .. }) = reply {
+            if let Some(hidden) = self.stored.hidden(frame.as_ref()) {
+                self.printer.print_hidden(hidden).map_err(RunError::Output)?;
+            }
+        }
         self.progress.count();
         match reply {
             Some(Reply::Unreadable(_)) => Err(program_error("what it answers is no answer")),

@@ -9,12 +9,12 @@ use second::line::{read_line, CRLF};
 use second::namespaces::{split_entries, Entry};
 use second::packed::split_rows;
 use second::rows::Row;
-use second::Refusal;
+use second::{Reader, Readers, Refusal};
 
 use crate::reply::Reply;
 use crate::text::{line_text, name_text, quoted, quoted_text, shortened};
 use crate::utf7::decoded;
-use crate::words::{word_of_class, words_of_flags, words_of_walk_option};
+use crate::words::{word_of_class, word_of_readers, words_of_flags, words_of_walk_option, READERS};
 
 /// The columns before the text.
 const LABEL_WIDTH: usize = 11;
@@ -25,30 +25,39 @@ const MOST_OF_BAD_FRAME: usize = 60;
 /// Of bytes that are no row or entry no more digits than this are shown.
 const MOST_OF_BYTES: usize = 200;
 
-/// Lines of text under one label.
-pub struct Shown {
-    label: &'static str,
-    lines: Vec<String>,
-}
+/// Lines of text, each with its label, which is empty where a line goes on.
+pub struct Shown(Vec<(&'static str, String)>);
 
 impl Shown {
+    /// Lines under one label.
     pub fn new(label: &'static str, lines: Vec<String>) -> Shown {
-        Shown { label, lines }
+        Shown([label].into_iter().chain(iter::repeat("")).zip(lines).collect())
     }
 
     pub fn one_line(label: &'static str, line: String) -> Shown {
         Shown::new(label, vec![line])
     }
+
+    /// What comes from a reader, who is told but for reader 0.
+    fn and_reader(mut self, reader: u8) -> Shown {
+        if reader != Reader::EDITOR.number() {
+            self.0.push(("From", reader_text(reader)));
+        }
+        self
+    }
 }
 
 impl fmt::Display for Shown {
     fn fmt(&self, formatter: &mut fmt::Formatter) -> fmt::Result {
-        let labels = [self.label].into_iter().chain(iter::repeat(""));
-        for (label, line) in labels.zip(&self.lines) {
+        for (label, line) in &self.0 {
             writeln!(formatter, "{label:LABEL_WIDTH$}{line}")?;
         }
         Ok(())
     }
+}
+
+pub fn reader_text(reader: u8) -> String {
+    format!("reader {reader}")
 }
 
 /// A frame as it is sent.
@@ -59,8 +68,12 @@ pub fn show_frame(frame: &SentFrame) -> Shown {
     match Frame::decode(&frame.text) {
         Ok(Frame::Row(table)) => show_table(&table),
         Ok(Frame::Entry(list)) => show_namespaces(&list),
-        Ok(Frame::Command(line)) => Shown::new("Command", command_lines(&line)),
-        Ok(Frame::Walk(option)) => Shown::one_line("Walk", walk_text(option)),
+        Ok(Frame::Command { reader, line }) => {
+            Shown::new("Command", command_lines(&line)).and_reader(reader)
+        }
+        Ok(Frame::Walk { reader, option }) => {
+            Shown::one_line("Walk", walk_text(option)).and_reader(reader)
+        }
         Err(_) => Shown::one_line("Frame", bad_frame_text(&frame.text)),
     }
 }
@@ -129,9 +142,13 @@ fn bad_frame_text(text: &[u8]) -> String {
     shortened(&line_text(text), MOST_OF_BAD_FRAME)
 }
 
+/// Who sees the row is told where not all readers do.
 fn row_text(row: &Row) -> String {
-    let flags = words_of_flags(row.flags);
-    format!("{:NAME_WIDTH$} {flags}{}", name_text(row.name), beside(row.name))
+    let mut words = words_of_flags(row.flags);
+    if row.readers != Readers::ALL {
+        words += &format!(" {READERS} {}", word_of_readers(row.readers));
+    }
+    format!("{:NAME_WIDTH$} {words}{}", name_text(row.name), beside(row.name))
 }
 
 fn entry_text(entry: &Entry) -> String {

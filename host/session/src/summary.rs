@@ -83,8 +83,8 @@ impl Summary {
         match frame {
             Some(Frame::Row(_)) => self.rows.count(is_kept),
             Some(Frame::Entry(_)) => self.entries.count(is_kept),
-            Some(Frame::Command(_)) => self.commands += 1,
-            Some(Frame::Walk(_)) => self.walks += 1,
+            Some(Frame::Command { .. }) => self.commands += 1,
+            Some(Frame::Walk { .. }) => self.walks += 1,
             None => self.bad_frames += 1,
         }
     }

@@ -1,7 +1,8 @@
-//! The words of a session file for flags, classes of namespaces and options of a walk.
+//! The words of a session file for flags, readers, classes of namespaces and options of a walk.
 
 use second::collector::{OPTION_REMOTE, OPTION_SPECIAL_USE, OPTION_WITHOUT_SUBSCRIBED};
 use second::rows::Flags;
+use second::{Reader, Readers};
 
 /// Words, each with the bits that it stands for.
 type Words = [(&'static str, u16)];
@@ -15,14 +16,18 @@ const WALK_WORDS: &Words = &[
 /// In the order of their numbers, 0 to 2.
 const CLASS_WORDS: [&str; 3] = ["personal", "other-users", "shared"];
 
+/// The word before a set of readers.
+pub const READERS: &str = "readers";
+const ALL_READERS: &str = "all";
+const NO_READERS: &str = "none";
+
 /// The digits of a flag number, as 0003.
 const FLAG_DIGITS: usize = 4;
 
-/// The flags that words or four-digit numbers, parted by spaces, name together; or the first
-/// word that names none.
-pub fn flags_of_words(words: &str) -> Result<Flags, &str> {
+/// The flags that words or four-digit numbers name together; or the first word that names none.
+pub fn flags_of_words<'w>(words: &[&'w str]) -> Result<Flags, &'w str> {
     let mut bits = 0;
-    for word in words.split_whitespace() {
+    for &word in words {
         bits |= bits_of_word(&flag_bits(), word).or_else(|| flag_number(word)).ok_or(word)?;
     }
     Ok(Flags::from_bits(bits))
@@ -31,6 +36,34 @@ pub fn flags_of_words(words: &str) -> Result<Flags, &str> {
 /// The flags in words, or in four digits where words do not say all of them.
 pub fn words_of_flags(flags: Flags) -> String {
     words_of_bits(&flag_bits(), flags.bits()).unwrap_or_else(|| format!("{:04X}", flags.bits()))
+}
+
+/// The readers that a word names, as `0,3`, `all` or `none`.
+pub fn readers_of_word(word: &str) -> Option<Readers> {
+    match word {
+        ALL_READERS => return Some(Readers::ALL),
+        NO_READERS => return Some(Readers::NONE),
+        _ => {}
+    }
+    let mut readers = Readers::NONE;
+    for number in word.split(',') {
+        let is_digit = number.len() == 1 && number.as_bytes()[0].is_ascii_digit();
+        let number = number.parse().ok().filter(|_| is_digit)?;
+        readers.add(Reader::checked(number).ok()?);
+    }
+    Some(readers)
+}
+
+/// The word for a set of readers.
+pub fn word_of_readers(readers: Readers) -> String {
+    match readers {
+        Readers::ALL => ALL_READERS.to_string(),
+        Readers::NONE => NO_READERS.to_string(),
+        _ => {
+            let numbers = Reader::all().filter(|&reader| readers.has(reader));
+            numbers.map(|reader| reader.number().to_string()).collect::<Vec<_>>().join(",")
+        }
+    }
 }
 
 /// The option byte that words or decimal numbers name together; or the first word that names

@@ -1,6 +1,9 @@
 -- `mailbox_table::index_words` meets its contract: what `find_words` answers, with every word cleared where it fails. By FindLaws.
 use mathlib.Core.Path.{subst}
 use Rattle.mailbox_table.specs.declared.Indexing.{Indexing}
+use mathlib.Core.List.{map}
+use lib.ListN.{take}
+use Rattle.records.specs.Words.{recordOf}
 use Rattle.records.specs.Lent.{wordTable}
 use Rattle.mailbox_table.specs.Find.{Finds}
 use Rattle.mailbox_table.proofs.FindLaws.{indexes-rows, indexes-fails}
@@ -16,7 +19,8 @@ returns c =
     let a = start .args in
     let found = after-find-words .find-words in
     let t = wordTable (a .area .now) (a .raw .now) (a .count) in
-    indexes-fails (subst (λ (r : Indexing). Finds (a .area .now) t (a .words .now) (found .last .1 .1 .1 .0) r) (after-enum-told .enum-told .given .1) (found .ensures)) (c .before .before .clear-words .ensures)
+    indexes-fails (subst (λ (r : Indexing). Finds (a .area .now) t (take (a .count) (map recordOf (a .raw .now))) (a .words .now)
+    (found .last .1 .1 .1 .0) r) (after-enum-told .enum-told .given .1) (found .ensures)) (c .before .before .clear-words .ensures)
 
 returns-2 : tie.Need-returns-2
 returns-2 c =
@@ -25,7 +29,8 @@ returns-2 c =
     let a = start .args in
     let found = after-find-words .find-words in
     let t = wordTable (a .area .now) (a .raw .now) (a .count) in
-    indexes-rows (subst (λ (r : Indexing). Finds (a .area .now) t (a .words .now) (found .last .1 .1 .1 .0) r) (c .before .n .given .1) (found .ensures))
+    indexes-rows (subst (λ (r : Indexing). Finds (a .area .now) t (take (a .count) (map recordOf (a .raw .now))) (a .words .now)
+    (found .last .1 .1 .1 .0) r) (c .before .n .given .1) (found .ensures))
 
 pub index-words-spec : {M : Type 1} → statement M
 index-words-spec =

@@ -77,7 +77,7 @@ stayed =
 
 -- what a place past the end would hold
 abbrev zero-record : Record
-zero-record = record { flags = 0; start = 0; len = 0 }
+zero-record = record { flags = 0; start = 0; len = 0; readers = 0 }
 
 -- the bytes of a record: the number that the MIR has
 abbrev size : ℕ

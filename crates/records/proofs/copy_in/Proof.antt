@@ -76,7 +76,7 @@ stayed = (stay-none-slice (0 ∷ []) tt (plain (λ _. T.the-row)) yes, (stay-non
 
 -- what a place past the end would hold
 abbrev zero-record : Record
-zero-record = record { flags = 0; start = 0; len = 0 }
+zero-record = record { flags = 0; start = 0; len = 0; readers = 0 }
 
 -- the bytes of a record: the number that the MIR has
 abbrev size : ℕ
@@ -195,7 +195,8 @@ module _ {M : Type 1} (𝓤 : URA M) (H : Heap 𝓤) (A : Atoms 𝓤) (W : Given
           ‵ (fshr-bor κ (λ u. arr-parts (shares T.the-row) (length
           ys) .part u ys b o)) ∷ ‵ (fres γ (codedHoleys T.the-row .code (heres T.the-row ys))) ∷ ‵ (at-slice T.the-row (x .0) (at .0)) ∷
           ‵ (usize .own count (vint w64 count ∷ [])) ∷ ‵ (fobor κ′ q′
-          (Held u64 (length ws) b′ o′ γ′)) ∷ ‵ (fobs γ′ (codedHoleys u64 .code (heres u64 ws))) ∷ ‵ (fauth γ′ (codedHoleys u64 .code (heres u64 ws))) ∷
+          (Held u64 (length ws) b′ o′ γ′)) ∷ ‵ (fobs γ′ (codedHoleys u64 .code (heres u64 ws))) ∷
+          ‵ (fauth γ′ (codedHoleys u64 .code (heres u64 ws))) ∷
           ‵ (fdies word l0) ∷ ‵ (fdies recs l1) ∷ ‵ (fdies
           word l2) ∷ ‵ (fdies wrds l3) ∷ ‵ (fdies word l4) ∷ ‵ (fdies word l5) ∷ ‵ (fdies word l6) ∷ ‵ (fdies word l7) ∷ ‵ (fdies tyBool l8) ∷
           ‵ (fdies word l9) ∷ ‵ (fdies word l10) ∷ ‵ (fdies tyPtr

@@ -10,4 +10,4 @@ unfolding structOf
 returns c = refl
 
 pub record-of-spec : {M : Type 1} → statement M
-record-of-spec = tie.close (tie.spec (λ c. search needs) (λ c. search needs) (λ c. search needs) returns)
+record-of-spec = tie.close (tie.spec (λ c. search needs) (λ c. search needs) (λ c. search needs) (λ c. search needs) returns)

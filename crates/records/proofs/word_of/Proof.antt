@@ -8,9 +8,11 @@ use Rattle.records.proofs.word_of.Tie as tie
 
 returns : tie.Need-returns
 unfolding wordOf
-returns c = let start = c .before .before .before in (refl, word-tells (start .args .r) (search needs) (search needs) (search needs))
+returns c =
+    let start = c .before .before .before .before in (refl, word-tells (start .args .r) (search needs) (search needs) (search needs) (search needs))
 
 pub word-of-spec : {M : Type 1} → statement M
 word-of-spec =
     tie.close (tie.spec (λ c. search needs) (λ c. search needs) (λ c. search needs) (λ c. search needs) (λ c. search needs) (λ c. search needs)
+    (λ c. search needs) (λ c. search needs) (λ c. search needs)
     (λ c. search needs) returns)

@@ -1,8 +1,8 @@
 //! `compare-library [--group TEXT] [--least N]`
 //!
 //! Compares the proved library with the second program's: lines written and read, patterns, the two
-//! checks, commands, walks, records, edits, compactions and the feeder. With `--group` only the groups
-//! whose name has TEXT in it. Groups that go on seed by seed compare at least N times, or 100,000 times.
+//! checks, commands, walks, records, edits, readers, compactions and the feeder. With `--group` only the
+//! groups whose name has TEXT in it. Groups that go on seed by seed compare at least N times, or 100,000 times.
 //!
 //! Each difference is printed; the last line is `N passed, M failed`, by groups of comparisons.
 //! Status 1 is a difference; status 2 a wrong call.

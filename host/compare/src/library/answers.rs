@@ -3,7 +3,7 @@
 use second::{answer_reading, Refusal, Table};
 use session::show_namespaces;
 
-use super::both::{Lent, Mailboxes, ANSWER, PROVED, SECOND};
+use super::both::{Asked, Lent, Mailboxes, ANSWER, PROVED, SECOND};
 use super::compared::Compared;
 use super::tally::{shown, Tally, Text, SEED};
 use crate::commands::{command, damaged};
@@ -33,7 +33,7 @@ pub fn commands(tally: &mut Tally) {
             if random.percent(30) {
                 line = damaged(&mut random, line);
             }
-            answer_in_rooms(tally, &mut table, &list, &line);
+            answer_in_rooms(tally, &mut table, Asked { reader: 0, list: &list, line: &line });
         }
     }
 }
@@ -51,38 +51,32 @@ pub fn lsub(tally: &mut Tally) {
             if random.percent(20) {
                 line = damaged(&mut random, line);
             }
-            answer_in_rooms(tally, &mut table, b"", &line);
+            answer_in_rooms(tally, &mut table, Asked::by_0(&line));
         }
     }
 }
 
 /// Answers in a buffer with room enough, and in buffers on both sides of the answer's length; a command
 /// that is no edit.
-pub fn answer_in_rooms(tally: &mut Tally, table: &mut Compared, list: &[u8], line: &[u8]) {
-    let need = answer_over(tally, table, list, line, ROOM);
+pub fn answer_in_rooms(tally: &mut Tally, table: &mut Compared, asked: Asked) {
+    let need = answer_over(tally, table, asked, ROOM);
     for room in [0, need.saturating_sub(1), need, need + 1] {
-        answer_over(tally, table, list, line, room);
+        answer_over(tally, table, asked, room);
     }
 }
 
 /// Answers by both libraries over records, or by the second program over a packed table and by the
 /// proved one over its records, and gives the length of the answer, 0 if it was refused. A packed table
 /// that has no records is not answered.
-pub fn answer_over(
-    tally: &mut Tally,
-    table: &mut Compared,
-    list: &[u8],
-    line: &[u8],
-    room: usize,
-) -> usize {
+pub fn answer_over(tally: &mut Tally, table: &mut Compared, asked: Asked, room: usize) -> usize {
     match table {
-        Compared::Records(records) => answer_both(tally, records, list, line, room),
+        Compared::Records(records) => answer_both(tally, records, asked, room),
         Compared::Packed { records: None, .. } => 0,
         Compared::Packed { table, records: Some(records) } => {
             let mut out = [PROVED, SECOND].map(|_| vec![FILL; room]);
-            let proved = ANSWER[PROVED](records, list, line, &mut out[PROVED]);
-            let table = Table::Packed(table);
-            let second = answer_reading(table, list, line, &mut out[SECOND]);
+            let proved = ANSWER[PROVED](records, asked, &mut out[PROVED]);
+            let (table, Asked { reader, list, line }) = (Table::Packed(table), asked);
+            let second = answer_reading(reader, table, list, line, &mut out[SECOND]);
             let second = second.map_err(Refusal::number);
             let results = [proved.map(|(length, _)| length), second];
             let [proved_out, second_out] = out.map(Text);
@@ -90,7 +84,7 @@ pub fn answer_over(
                 (results[PROVED], proved_out, records.difference()),
                 (results[SECOND], second_out, None),
             ];
-            tally.same(|| call_text(records, list, line, room), given);
+            tally.same(|| call_text(records, asked, room), given);
             second.unwrap_or(0)
         }
     }
@@ -98,27 +92,23 @@ pub fn answer_over(
 
 /// Answers by both libraries, each over its own records, which an edit changes. Result, count, buffer,
 /// every record and every byte of the area are compared.
-pub fn answer_both(
-    tally: &mut Tally,
-    table: &mut Mailboxes,
-    list: &[u8],
-    line: &[u8],
-    room: usize,
-) -> usize {
+pub fn answer_both(tally: &mut Tally, table: &mut Mailboxes, asked: Asked, room: usize) -> usize {
     let given = [PROVED, SECOND].map(|who| {
         let mut out = vec![FILL; room];
-        let result = ANSWER[who](table, list, line, &mut out);
+        let result = ANSWER[who](table, asked, &mut out);
         (result, Text(out))
     });
     let length = given[SECOND].0.map_or(0, |(length, _)| length);
     let [(proved, proved_out), (second, second_out)] = given;
     let given = [(proved, proved_out, table.difference()), (second, second_out, None)];
-    tally.same(|| call_text(table, list, line, room), given);
+    tally.same(|| call_text(table, asked, room), given);
     length
 }
 
 /// The call, with the table as it is after it.
-pub fn call_text(table: &Mailboxes, list: &[u8], line: &[u8], room: usize) -> String {
+pub fn call_text(table: &Mailboxes, asked: Asked, room: usize) -> String {
+    let Asked { reader, list, line } = asked;
     let (line, table, list) = (shown(line), Lent::Records(table), show_namespaces(list));
-    format!("answer: line {line}, room {room}, table afterwards and namespace list\n{table}{list}")
+    let asked = format!("answer: reader {reader}, line {line}, room {room}");
+    format!("{asked}, table afterwards and namespace list\n{table}{list}")
 }

@@ -19,6 +19,21 @@ pub enum Lent<'m> {
     Records(&'m Mailboxes),
 }
 
+/// A command, and what is lent beside the table and the buffer.
+#[derive(Clone, Copy)]
+pub struct Asked<'a> {
+    pub reader: u8,
+    pub list: &'a [u8],
+    pub line: &'a [u8],
+}
+
+impl Asked<'_> {
+    /// A command of reader 0, with an empty namespace list.
+    pub fn by_0(line: &[u8]) -> Asked<'_> {
+        Asked { reader: 0, list: b"", line }
+    }
+}
+
 /// Records over an area, for each of the two libraries a table of its own, which its calls change.
 #[derive(Clone)]
 pub struct Mailboxes {
@@ -37,9 +52,10 @@ pub type Check = fn(Lent) -> bool;
 pub type CheckList = fn(&[u8]) -> bool;
 pub type Matches = fn(&[u8], &[u8]) -> bool;
 /// Of a command, the answer's length and the count that is given back.
-pub type Answer = fn(&mut Mailboxes, &[u8], &[u8], &mut [u8]) -> Result<(usize, usize), u8>;
+pub type Answer = fn(&mut Mailboxes, Asked, &mut [u8]) -> Result<(usize, usize), u8>;
 pub type Compact = fn(&mut Mailboxes) -> Result<(), u8>;
-pub type Collect = fn(Lent, u8, &mut [u8], &mut [u8], &mut [u8]) -> Result<(usize, usize), u8>;
+/// Of a walk of a reader, with an option byte.
+pub type Collect = fn(u8, Lent, u8, &mut [u8], &mut [u8], &mut [u8]) -> Result<(usize, usize), u8>;
 pub type WriteLine = fn(u16, &[u8], u8, &mut [u8]) -> Result<usize, u8>;
 
 pub const CHECK_TABLE: [Check; 2] = [
@@ -54,15 +70,15 @@ pub const CHECK_NAMESPACES: [CheckList; 2] =
 pub const MATCHES: [Matches; 2] = [luspemaro::matches, second::matches];
 
 pub const ANSWER: [Answer; 2] = [
-    |table, list, line, out| {
+    |table, Asked { reader, list, line }, out| {
         let ProvedTable { records, count, area } = &mut table.proved;
-        let answered = luspemaro::answer(records, *count, area, list, line, out)
+        let answered = luspemaro::answer_from(reader, records, *count, area, list, line, out)
             .map_err(luspemaro::Refusal::number)?;
         *count = answered.count;
         Ok((answered.length, answered.count))
     },
-    |table, list, line, out| {
-        let answered = table.second.lend(|lent| second::answer(lent, list, line, out));
+    |table, Asked { reader, list, line }, out| {
+        let answered = table.second.lend(|lent| second::answer(reader, lent, list, line, out));
         let answered = answered.map_err(Refusal::number)?;
         Ok((answered.length, table.second.count))
     },
@@ -77,19 +93,21 @@ pub const COMPACT: [Compact; 2] = [
 ];
 
 pub const COLLECT: [Collect; 2] = [
-    |table, option, scratch, found, pending| {
+    |reader, table, option, scratch, found, pending| {
         let walked = match table {
             Lent::Packed(bytes) => {
-                luspemaro::collect_packed(bytes, option, scratch, found, pending)
+                luspemaro::collect_packed_from(reader, bytes, option, scratch, found, pending)
             }
             Lent::Records(mailboxes) => {
-                luspemaro::collect(mailboxes.proved(), option, scratch, found, pending)
+                let table = mailboxes.proved();
+                luspemaro::collect_from(reader, table, option, scratch, found, pending)
             }
         };
         walked.map(|walked| (walked.commands, walked.found)).map_err(luspemaro::Refusal::number)
     },
-    |table, option, scratch, found, pending| {
-        second::collect(table.second(), option, scratch, found, pending).map_err(Refusal::number)
+    |reader, table, option, scratch, found, pending| {
+        second::collect(reader, table.second(), option, scratch, found, pending)
+            .map_err(Refusal::number)
     },
 ];
 
@@ -144,11 +162,11 @@ impl Mailboxes {
         Some(format!("byte {at} of the area: {pair:?}"))
     }
 
-    /// Names and flags of the rows that the proved library has, of a table that passes.
-    pub fn proved_rows(&self) -> Vec<(u16, &[u8])> {
+    /// Flags, readers and names of the rows that the proved library has, of a table that passes.
+    pub fn proved_rows(&self) -> Vec<(u16, u8, &[u8])> {
         let ProvedTable { records, count, area } = &self.proved;
         let name = |row: &luspemaro::Record| &area[usize::from(row.start)..][..row.len.into()];
-        records[..*count].iter().map(|row| (row.flags, name(row))).collect()
+        records[..*count].iter().map(|row| (row.flags, row.readers, name(row))).collect()
     }
 
     /// Makes one of the two tables what it is in another of as many records and bytes.
@@ -168,8 +186,9 @@ impl Mailboxes {
     }
 }
 
-fn proved_record(&second::Record { flags, start, len }: &second::Record) -> luspemaro::Record {
-    luspemaro::Record { flags, start, len }
+fn proved_record(record: &second::Record) -> luspemaro::Record {
+    let second::Record { flags, start, len, readers } = *record;
+    luspemaro::Record { flags, start, len, readers }
 }
 
 impl fmt::Display for Lent<'_> {

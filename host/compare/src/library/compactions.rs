@@ -3,7 +3,7 @@
 use second::rows::MAX_ROWS;
 
 use super::answers::{answer_both, call_text};
-use super::both::{Lent, Mailboxes, ANSWER, COMPACT, PROVED, SECOND};
+use super::both::{Asked, Lent, Mailboxes, ANSWER, COMPACT, PROVED, SECOND};
 use super::records::{each_limit, each_small_area};
 use super::tally::{Tally, Text};
 use super::walks::{collect_both, Rooms, OPTIONS};
@@ -13,6 +13,7 @@ use crate::edit_series::some_room;
 use crate::edits::{edit_command, some_edit, SUBSCRIBE};
 use crate::lsub::lsub_command;
 use crate::random::Random;
+use crate::readers::{some_reader, veil_records};
 use crate::records::Layout;
 
 /// Of each table: edits, and names about as long as its free bytes.
@@ -27,20 +28,27 @@ const FILL: u8 = b'.';
 pub fn of_holes(tally: &mut Tally) {
     tally.for_each_seed(|tally, seed| {
         let mut random = Random::of("library: compactions", seed);
-        let (layout, mut names) = some_table(&mut random);
+        let (mut layout, mut names) = some_table(&mut random);
+        let mut veiling = Random::of("library: readers of compactions", seed);
+        veil_records(&mut veiling, &mut layout.records);
+        let reader = some_reader(&mut veiling);
         let before = Mailboxes::new(layout);
         let mut after = before.clone();
         if !compact_both(tally, &mut after) {
             return;
         }
         compact_again(tally, &after);
-        let mut lines = vec![command(&mut random, &names), lsub_command(&mut random, &names)];
+        let mut lines = vec![
+            (reader, command(&mut random, &names)),
+            (reader, lsub_command(&mut random, &names)),
+        ];
         for _ in 0..EDITS {
-            lines.push(some_edit(&mut random, &mut names, before.layout()));
+            lines.push((0, some_edit(&mut random, &mut names, before.layout())));
         }
-        for line in lines {
+        for (reader, line) in lines {
             let room = some_room(&mut random, &line);
-            answer_before_and_after(tally, [&before, &after], &line, room);
+            let asked = Asked { reader, ..Asked::by_0(&line) };
+            answer_before_and_after(tally, [&before, &after], asked, room);
         }
         for _ in 0..NAMES {
             insert(tally, &mut random, [&before, &after]);
@@ -48,7 +56,7 @@ pub fn of_holes(tally: &mut Tally) {
         let option = random.below(usize::from(OPTIONS)) as u8;
         for proved in [&before, &after] {
             let tables = [proved, &after].map(Lent::Records);
-            collect_both(tally, tables, option, Rooms::AMPLE);
+            collect_both(tally, reader, tables, option, Rooms::AMPLE);
         }
     });
 }
@@ -90,21 +98,21 @@ fn compact_again(tally: &mut Tally, once: &Mailboxes) {
 fn answer_before_and_after(
     tally: &mut Tally,
     [before, after]: [&Mailboxes; 2],
-    line: &[u8],
+    asked: Asked,
     room: usize,
 ) {
-    answer_both(tally, &mut after.clone(), b"", line, room);
+    answer_both(tally, &mut after.clone(), asked, room);
     let mut tables = [before.clone(), after.clone()];
     let [then, now] = tables.each_mut().map(|table| {
         let mut out = vec![FILL; room];
-        let result = ANSWER[PROVED](table, b"", line, &mut out);
+        let result = ANSWER[PROVED](table, asked, &mut out);
         (result, Text(out))
     });
     if then.0 == Err(NO_ROOM) {
         return;
     }
     let [rows_then, rows_now] = tables.each_ref().map(Mailboxes::proved_rows);
-    let call = || call_text(before, b"", line, room);
+    let call = || call_text(before, asked, room);
     tally.same_of(call, ["before", "after"], [(then, rows_then), (now, rows_now)]);
 }
 
@@ -116,12 +124,12 @@ fn insert(tally: &mut Tally, random: &mut Random, tables: [&Mailboxes; 2]) {
     let name = name_near_the_room(random, after.layout());
     let line = edit_command(random, SUBSCRIBE, &name);
     let room = some_room(random, &line);
-    answer_before_and_after(tally, tables, &line, room);
-    if after.proved_rows().iter().any(|&(_, row)| row == name) {
+    answer_before_and_after(tally, tables, Asked::by_0(&line), room);
+    if after.proved_rows().iter().any(|&(_, _, row)| row == name) {
         return;
     }
     let has_room = *count < MAX_ROWS.min(records.len()) && name.len() <= free_bytes(after.layout());
-    let result = ANSWER[PROVED](&mut after.clone(), b"", &line, &mut vec![FILL; room]);
-    let call = || call_text(after, b"", &line, room);
+    let result = ANSWER[PROVED](&mut after.clone(), Asked::by_0(&line), &mut vec![FILL; room]);
+    let call = || call_text(after, Asked::by_0(&line), room);
     tally.same_of(call, ["15 is given", "15 is due"], [result == Err(NO_ROOM), !has_room]);
 }

@@ -29,9 +29,10 @@ impl Compared {
         self.forms().into_iter().for_each(|form| check_both(tally, form));
     }
 
-    /// A walk, by the proved library over each form, and what found and pending need.
-    pub fn collect(&self, tally: &mut Tally, option: u8, rooms: Rooms) -> Rooms {
-        let walks = self.forms().into_iter().map(|form| collect_both(tally, form, option, rooms));
+    /// A walk of a reader, by the proved library over each form, and what found and pending need.
+    pub fn collect(&self, tally: &mut Tally, reader: u8, option: u8, rooms: Rooms) -> Rooms {
+        let forms = self.forms().into_iter();
+        let walks = forms.map(|form| collect_both(tally, reader, form, option, rooms));
         walks.last().unwrap_or(rooms)
     }
 

@@ -11,6 +11,7 @@ mod edits;
 mod feeding;
 mod lines;
 mod matching;
+mod readers;
 mod reading;
 mod records;
 mod tables;
@@ -22,7 +23,7 @@ pub use tally::Tally;
 /// A name, and what compares.
 pub type Group = (&'static str, fn(&mut Tally));
 
-pub const GROUPS: [Group; 26] = [
+pub const GROUPS: [Group; 30] = [
     ("every set of attributes, written and read back", lines::every_set),
     ("every number of a set of criteria", lines::every_criteria_byte),
     ("names at the limits, buffers on both sides of the line's length", lines::names_and_rooms),
@@ -43,6 +44,10 @@ pub const GROUPS: [Group; 26] = [
     ("records at every place of small areas", records::small_areas),
     ("records at the limits", records::limits),
     ("series of edits over lent records and areas", edits::series),
+    ("series of edits of every reader", edits::series_of_every_reader),
+    ("commands of every reader, over records and packed tables", readers::commands),
+    ("walks of every reader, over records and packed tables", readers::walks),
+    ("two tables that one reader sees alike", readers::views),
     ("compactions of areas full of holes, with commands and walks", compactions::of_holes),
     ("compactions at every place of small areas", compactions::small_areas),
     ("compactions at the limits", compactions::limits),

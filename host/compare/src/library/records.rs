@@ -6,6 +6,7 @@ use second::records::{Record, MAX_AREA};
 use second::rows::{Flags, MAX_ROWS};
 
 use super::answers::{answer_in_rooms, answer_over};
+use super::both::Asked;
 use super::compared::Compared;
 use super::tables::numbered;
 use super::tally::Tally;
@@ -69,7 +70,7 @@ pub fn lsub(tally: &mut Tally) {
         let layouts = [laid_out(&mut random, &rows), some_layout(&mut random, &rows)];
         let packed = Compared::packed(table_bytes(&rows));
         for mut table in layouts.map(Compared::records).into_iter().chain([packed]) {
-            answer_in_rooms(tally, &mut table, b"", &line);
+            answer_in_rooms(tally, &mut table, Asked::by_0(&line));
         }
     });
 }
@@ -84,12 +85,12 @@ fn calls(tally: &mut Tally, random: &mut Random, table: &mut Compared, rows: &[N
                 line = damaged(random, line);
             }
             let list = if random.percent(10) { namespace_list(random) } else { Vec::new() };
-            answer_in_rooms(tally, table, &list, &line);
+            answer_in_rooms(tally, table, Asked { reader: 0, list: &list, line: &line });
         }
         3..5 => {
             let option = random.below(usize::from(OPTIONS)) as u8;
-            let need = table.collect(tally, option, Rooms::AMPLE);
-            table.collect(tally, option, need.near(random));
+            let need = table.collect(tally, 0, option, Rooms::AMPLE);
+            table.collect(tally, 0, option, need.near(random));
         }
         _ => {}
     }
@@ -112,7 +113,8 @@ pub fn each_small_area(compare: &mut dyn FnMut(Layout)) {
     let three =
         [b"abcd", b"dcba", b"bdac", b"cadb", b"a/ab"].map(|area| (&area[..], 3, 0..=3, 1..=3));
     for (area, names, starts, lengths) in one.into_iter().chain(two).chain(three) {
-        let place = |start| lengths.clone().map(move |len| Record { flags: 1, start, len });
+        let place =
+            |start| lengths.clone().map(move |len| Record { flags: 1, start, len, readers: len });
         let places: Vec<Record> = starts.flat_map(place).collect();
         each_choice(area, &places, names, &mut Vec::new(), compare);
     }
@@ -142,7 +144,7 @@ fn each_choice(
 pub fn limits(tally: &mut Tally) {
     each_limit(&mut |layout| every_call(tally, Compared::records(layout)));
     for count in [MAX_ROWS - 1, MAX_ROWS, MAX_ROWS + 1] {
-        for length in [4, 60, 61, 62] {
+        for length in [4, 59, 60, 61] {
             every_call(tally, Compared::packed(table_bytes(&subscribed(count, length))));
         }
     }
@@ -179,10 +181,8 @@ fn side_by_side(rows: &[NewRow], turned: bool, size: usize) -> Layout {
         if number == 1 {
             area.resize(area.len() + size.saturating_sub(used), b'/');
         }
-        let NewRow { flags, name } = &rows[at];
-        records[at] =
-            Record { flags: flags.bits(), start: area.len() as u16, len: name.len() as u8 };
-        area.extend_from_slice(name);
+        records[at] = rows[at].record_at(area.len());
+        area.extend_from_slice(&rows[at].name);
     }
     area.resize(area.len().max(size), b'/');
     Layout { count: records.len(), records, area }
@@ -199,11 +199,11 @@ fn subscribed(rows: usize, length: usize) -> Vec<NewRow> {
 fn every_call(tally: &mut Tally, mut table: Compared) {
     table.check(tally);
     for line in COMMANDS {
-        answer_over(tally, &mut table, b"", line, MAX_ANSWER);
+        answer_over(tally, &mut table, Asked::by_0(line), MAX_ANSWER);
     }
-    answer_over(tally, &mut table, b"\x09", b"", 0);
+    answer_over(tally, &mut table, Asked { reader: 0, list: b"\x09", line: b"" }, 0);
     for option in [1, OPTIONS] {
-        table.collect(tally, option, MAX_ROOMS);
+        table.collect(tally, 0, option, MAX_ROOMS);
     }
 }
 

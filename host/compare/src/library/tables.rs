@@ -1,6 +1,6 @@
 //! The two checks.
 
-use second::packed::MAX_TABLE;
+use second::packed::{MAX_TABLE, ROW_HEAD};
 use second::rows::{Flags, MAX_ROWS};
 use session::show_namespaces;
 
@@ -29,10 +29,10 @@ pub fn limits(tally: &mut Tally) {
     for rows in MAX_ROWS - 1..=MAX_ROWS + 1 {
         check_packed(tally, &table_of(rows, 8));
     }
-    // 162 rows of 203 bytes less a few, so that one more byte in the last name decides.
+    // Rows of 204 bytes, and one for which 128 bytes are left, so that one byte more in its name decides.
     for length in 1..=200 {
-        let mut rows = numbered(MAX_TABLE / 203, 200);
-        rows.push(NewRow { flags: Flags::EXISTS, name: vec![b'~'; length] });
+        let mut rows = numbered(MAX_TABLE / (ROW_HEAD + 200), 200);
+        rows.push(NewRow::new(Flags::EXISTS, vec![b'~'; length]));
         check_packed(tally, &table_bytes(&rows));
     }
     for length in 0..=255 {
@@ -66,5 +66,5 @@ fn table_of(rows: usize, length: usize) -> Vec<u8> {
 /// Rows with ascending names of one length, where it is at least 4.
 pub fn numbered(rows: usize, length: usize) -> Vec<NewRow> {
     let name = |at: usize| format!("{at:04}{}", "n".repeat(length)).into_bytes()[..length].to_vec();
-    (0..rows).map(|at| NewRow { flags: Flags::EXISTS, name: name(at) }).collect()
+    (0..rows).map(|at| NewRow::new(Flags::EXISTS, name(at))).collect()
 }

@@ -44,9 +44,9 @@ pub fn walks(tally: &mut Tally) {
         let table = if bad { damaged_table(&mut random, rows) } else { table_bytes(&rows) };
         let table = [Lent::Packed(&table); 2];
         for option in 0..OPTIONS {
-            let need = collect_both(tally, table, option, Rooms::AMPLE);
+            let need = collect_both(tally, 0, table, option, Rooms::AMPLE);
             for _ in 0..3 {
-                collect_both(tally, table, option, need.near(&mut random));
+                collect_both(tally, 0, table, option, need.near(&mut random));
             }
         }
     }
@@ -61,12 +61,20 @@ fn near(random: &mut Random, need: usize) -> usize {
     }
 }
 
-/// Walks by both libraries, each over its form of the table, and gives what found and pending need.
-pub fn collect_both(tally: &mut Tally, tables: [Lent; 2], option: u8, rooms: Rooms) -> Rooms {
+/// Walks of a reader by both libraries, each over its form of the table, and gives what found and
+/// pending need.
+pub fn collect_both(
+    tally: &mut Tally,
+    reader: u8,
+    tables: [Lent; 2],
+    option: u8,
+    rooms: Rooms,
+) -> Rooms {
     let given = [PROVED, SECOND].map(|who| {
         let [mut scratch, mut found, mut pending] =
             [rooms.scratch, rooms.found, rooms.pending].map(|room| vec![FILL; room]);
-        let result = COLLECT[who](tables[who], option, &mut scratch, &mut found, &mut pending);
+        let result =
+            COLLECT[who](reader, tables[who], option, &mut scratch, &mut found, &mut pending);
         (result, Text(scratch), Text(found), Text(pending))
     });
     let (result, _, _, pending) = &given[SECOND];
@@ -75,7 +83,9 @@ pub fn collect_both(tally: &mut Tally, tables: [Lent; 2], option: u8, rooms: Roo
         found: result.map_or(0, |(_, length)| length),
         pending: names_length(&pending.0),
     };
-    let call = || format!("collect: option {option}, {rooms:?}, table\n{}", tables[PROVED]);
+    let call = || {
+        format!("collect: reader {reader}, option {option}, {rooms:?}, table\n{}", tables[PROVED])
+    };
     tally.same(call, given);
     need
 }

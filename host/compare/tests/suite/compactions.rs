@@ -43,7 +43,7 @@ fn insertion(random: &mut Random, before: &Store, after: &Store) -> &'static str
     let name = name_near_the_room(random, after);
     let line = [b"a SUBSCRIBE ", name.as_slice(), b"\r\n"].concat();
     let subscribe = |table: &Store| {
-        let answered = table.clone().lend(|lent| answer(lent, b"", &line, &mut [0; 20]));
+        let answered = table.clone().lend(|lent| answer(0, lent, b"", &line, &mut [0; 20]));
         answered.map(drop)
     };
     match (subscribe(before), subscribe(after)) {

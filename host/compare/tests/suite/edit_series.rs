@@ -1,6 +1,8 @@
 //! What series of calls over lent records reach (document 02, W6).
 
-use compare::edit_series::{some_call, some_table, Call, Command};
+use compare::edit_series::{
+    some_call, some_call_of_a_reader, some_table, some_veiled_table, Call, Command,
+};
 use compare::edits::free_runs;
 use compare::random::Random;
 use second::records::MAX_AREA;
@@ -16,7 +18,8 @@ const CALLS: usize = 40;
 fn outcome(table: &mut Store, command: &Command) -> String {
     let (before, mut out) = (table.clone(), vec![0; command.room]);
     table.count = command.count;
-    let result = table.lend(|lent| answer(lent, &command.namespaces, &command.line, &mut out));
+    let Command { reader, namespaces, line, .. } = command;
+    let result = table.lend(|lent| answer(*reader, lent, namespaces, line, &mut out));
     match result.map_err(Refusal::number) {
         Err(number) => {
             table.count = before.count;
@@ -44,15 +47,20 @@ fn insertion(before: &Store, after: &Store) -> &'static str {
     }
 }
 
-#[test]
-fn what_the_series_reach() {
+/// What the calls of series reach.
+fn reached_by(
+    stream: &str,
+    some_table: fn(&mut Random) -> (Store, Vec<Vec<u8>>),
+    some_call: fn(&mut Random, &Store, &mut Vec<Vec<u8>>) -> Call,
+) -> Reached {
     let mut reached = Reached::default();
     for seed in 0..SEEDS {
-        let mut random = Random::of("library: edits", seed);
+        let mut random = Random::of(stream, seed);
         let (mut table, mut names) = some_table(&mut random);
         for _ in 0..CALLS {
             match some_call(&mut random, &table, &mut names) {
-                Call::Walk(_) => reached.add("a walk"),
+                Call::Walk { reader, .. } if reader > 7 => reached.add("a walk of no reader"),
+                Call::Walk { .. } => reached.add("a walk"),
                 Call::Answer(command) => {
                     reached.add(outcome(&mut table, &command));
                     let is_above = command.count > table.records.len();
@@ -66,6 +74,12 @@ fn what_the_series_reach() {
             ("no spare record", table.count == table.records.len()),
         ]);
     }
+    reached
+}
+
+#[test]
+fn what_the_series_reach() {
+    let reached = reached_by("library: edits", some_table, some_call);
     reached.check(&[
         ("refused with 1", 800),
         ("refused with 2", 50),
@@ -88,5 +102,27 @@ fn what_the_series_reach() {
         ("512 rows", 30),
         ("the largest area", 10),
         ("no spare record", 100),
+    ]);
+}
+
+/// The same of every reader, to one of whom alone edits are allowed.
+#[test]
+fn what_the_series_of_every_reader_reach() {
+    let stream = "library: edits of readers";
+    let reached = reached_by(stream, some_veiled_table, some_call_of_a_reader);
+    reached.check(&[
+        ("refused with 1", 500),
+        ("refused with 9", 1_000),
+        ("refused with 14", 300),
+        ("refused with 15", 1_000),
+        ("refused with 16", 10_000),
+        ("inserted into the first run", 200),
+        ("inserted into a later run", 200),
+        ("removed", 500),
+        ("flag changed", 300),
+        ("nothing changed", 500),
+        ("read", 2_000),
+        ("a walk", 1_000),
+        ("a walk of no reader", 50),
     ]);
 }

@@ -79,11 +79,25 @@ fn what_the_sessions_reach() {
     );
     let refusals = ["1", "2", "3", "4", "5", "14", "15"].map(|number| (number, 20));
     often("refusals of edits", &refusals);
+    often(
+        "edits of every reader",
+        &[
+            ("16", 200),
+            ("14", 30),
+            ("4", 5),
+            ("inserted at the end", 30),
+            ("removed", 20),
+            ("flag changed", 30),
+            ("nothing changed", 50),
+            ("lines", 200),
+            ("a walk", 50),
+        ],
+    );
 }
 
 #[test]
 fn free_runs_of_areas() {
-    let record = |start, len| Record { flags: 1, start, len };
+    let record = |start, len| Record { flags: 1, start, len, readers: 0 };
     let store = |records: &[Record], area: &[u8]| Store {
         records: records.to_vec(),
         count: records.len(),

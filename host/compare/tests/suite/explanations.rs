@@ -1,4 +1,4 @@
-//! Explanations on generated damage: what is refused with 1 to 8 or 13 to 15 is explained, and
+//! Explanations on generated damage: what is refused with 1 to 8 or 13 to 16 is explained, and
 //! nothing else is.
 
 use child::sender_of;
@@ -9,7 +9,7 @@ use crate::common::second;
 use crate::reached::Reached;
 
 /// Kinds of sessions with something wrong in them.
-const DAMAGED: [&str; 9] = [
+const DAMAGED: [&str; 11] = [
     "a damaged table",
     "namespace lists",
     "damaged commands",
@@ -19,6 +19,8 @@ const DAMAGED: [&str; 9] = [
     "bad frames",
     "rows and entries around edits",
     "refusals of edits",
+    "every reader",
+    "edits of every reader",
 ];
 /// Of each kind.
 const SEEDS: u64 = 12;
@@ -56,6 +58,6 @@ fn refusals_are_explained_and_answers_are_not() {
             }
         }
     }
-    reached.check(&["1", "2", "3", "4", "13", "14", "15"].map(|number| (number, 21)));
+    reached.check(&["1", "2", "3", "4", "13", "14", "15", "16"].map(|number| (number, 21)));
     reached.check(&[("answered", 101)]);
 }

@@ -8,5 +8,6 @@ mod edits;
 mod explanations;
 mod lsub;
 mod reached;
+mod readers;
 mod records;
 mod streams;

@@ -96,13 +96,15 @@ fn rows_below_no_inferiors() {
 
 #[test]
 fn table_as_bytes() {
-    let tables: [(&[u8], bool); 6] = [
-        (b"\x00\x01\x01a", true),
-        (b"\x00\x01\x01", false),
+    let tables: [(&[u8], bool); 8] = [
+        (b"\x00\x01\xFF\x01a", true),
+        (b"\x00\x01\x00\x01a", true),
+        (b"\x00\x01\xFF\x01", false),
+        (b"\x00\x01\xFF", false),
         (b"\x00\x01", false),
         (b"\x00", false),
-        (b"\x00\x01\x00", false),
-        (b"\x00\x01\x01ab", false),
+        (b"\x00\x01\xFF\x00", false),
+        (b"\x00\x01\xFF\x01ab", false),
     ];
     for (table, passes) in tables {
         assert_eq!(check_table(Table::Packed(table)), passes, "{table:?}");
@@ -120,8 +122,8 @@ fn numbers_of_rows() {
 
 #[test]
 fn numbers_of_bytes() {
-    const LONG_ROWS: usize = 161;
-    for (last_name, passes) in [(82, true), (83, false)] {
+    const LONG_ROWS: usize = 160;
+    for (last_name, passes) in [(124, true), (125, false)] {
         let long = |number| format!("{number:03}{}", "n".repeat(197));
         let mut names: Vec<_> = (0..LONG_ROWS).map(long).collect();
         names.push("z".repeat(last_name));

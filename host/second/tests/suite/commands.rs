@@ -27,7 +27,7 @@ fn line_shapes() {
     ];
     for (line, expected) in lines {
         let result =
-            answer_reading(Table::EMPTY, &[], line, &mut [0; 100]).map_err(Refusal::number);
+            answer_reading(0, Table::EMPTY, &[], line, &mut [0; 100]).map_err(Refusal::number);
         assert_eq!(result, expected, "{line:?}");
     }
 }

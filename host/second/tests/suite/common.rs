@@ -4,13 +4,17 @@ use second::namespaces::Entry;
 use second::packed::packed_records;
 use second::rows::{Flags, Row};
 use second::{
-    answer, answer_reading, check_table, collect, frames, Record, Records, Refusal, Store, Table,
+    answer, answer_reading, check_table, collect, frames, Reader, Readers, Record, Records,
+    Refusal, Store, Table,
 };
 
 /// What a lent buffer holds before a call.
 pub const FILL: u8 = 0xA5;
+/// The set of all readers.
+pub const ALL: u8 = 0xFF;
 
-/// Rows, each as a name and its flags in words or in four digits.
+/// Rows, each as a name and its flags in words or in four digits. All readers see a row, or those whose
+/// digits stand after `to:` as a last word.
 pub type Rows<'a> = [(&'a str, &'a str)];
 /// Namespace entries, each as class, prefix and delimiter.
 pub type Entries<'a> = [(u8, &'a str, Option<u8>)];
@@ -33,7 +37,8 @@ impl Numbers {
 /// The bytes of a table.
 pub fn table_of(rows: &Rows) -> Vec<u8> {
     let row = |&(name, words): &(&str, &str)| {
-        Row { flags: flags_of(words), name: name.as_bytes() }
+        let (words, readers) = split_readers(words);
+        Row { flags: flags_of(words), readers, name: name.as_bytes() }
             .to_bytes()
             .expect("a name of at most 255 bytes")
     };
@@ -63,7 +68,7 @@ impl Forms {
             record.start = u16::try_from(area.len()).expect("a small area");
             area.extend_from_slice(name.as_bytes());
         }
-        turned.push(Record { flags: 0xFFFF, start: 0, len: 0xFF });
+        turned.push(Record { flags: 0xFFFF, start: 0, len: 0xFF, readers: ALL });
         Forms { packed, in_place, turned, area }
     }
 
@@ -110,23 +115,28 @@ pub fn check_dialogue_with(rows: &Rows, entries: &Entries, dialogue: &str) {
     }
 }
 
-/// Runs each command, no edit, over every form of the same table, and checks its answer, the bytes
-/// behind it, and on refusal every byte of the buffer. Records stay as they are.
+/// Runs each command of reader 0, no edit, over every form of the same table, and checks its answer, the
+/// bytes behind it, and on refusal every byte of the buffer. Records stay as they are.
 pub fn check(rows: &Rows, exchanges: &[Exchange]) {
-    check_with(rows, &[], exchanges);
+    check_from(0, rows, &[], exchanges);
 }
 
 /// The same with a namespace list.
 pub fn check_with(rows: &Rows, entries: &Entries, exchanges: &[Exchange]) {
+    check_from(0, rows, entries, exchanges);
+}
+
+/// The same of any reader.
+pub fn check_from(reader: u8, rows: &Rows, entries: &Entries, exchanges: &[Exchange]) {
     let namespaces: Vec<u8> = entries.iter().flat_map(entry_bytes).collect();
     let forms = Forms::of(rows);
     for table in forms.tables() {
-        check_answers(exchanges, |line, out| answer_reading(table, &namespaces, line, out));
+        check_answers(exchanges, |line, out| answer_reading(reader, table, &namespaces, line, out));
     }
     for mut store in forms.stores() {
         let before = store.clone();
         check_answers(exchanges, |line, out| {
-            let answered = store.lend(|lent| answer(lent, &namespaces, line, out))?;
+            let answered = store.lend(|lent| answer(reader, lent, &namespaces, line, out))?;
             assert!(!answered.is_edit);
             Ok(answered.length)
         });
@@ -147,7 +157,8 @@ pub fn check_rooms(rows: &Rows, command: &str, lines: &[&str]) {
         };
         for table in Forms::of(rows).tables() {
             let mut out = vec![FILL; room];
-            assert_eq!(answer_reading(table, &[], line.as_bytes(), &mut out), result, "{command}");
+            let given = answer_reading(0, table, &[], line.as_bytes(), &mut out);
+            assert_eq!(given, result, "{command}");
             let (text, behind) = out.split_at(written.len());
             assert_eq!(text, written.as_bytes(), "{command}");
             assert!(behind.iter().all(|&byte| byte == FILL), "{command}: bytes behind changed");
@@ -172,17 +183,32 @@ fn check_answers(
     }
 }
 
-/// Runs a walk over every form of a table in buffers of these lengths, and checks every byte of the
-/// three.
+/// Runs a walk of reader 0 over every form of a table in buffers of these lengths, and checks every byte
+/// of the three.
 pub fn check_walk(rows: &Rows, option: u8, rooms: [usize; 3], expected: Result<Walked, u8>) {
+    check_walk_from(0, rows, option, rooms, expected);
+}
+
+/// The same of any reader.
+pub fn check_walk_from(
+    reader: u8,
+    rows: &Rows,
+    option: u8,
+    rooms: [usize; 3],
+    expected: Result<Walked, u8>,
+) {
     for table in Forms::of(rows).tables() {
-        check_table_walk(table, option, rooms, expected);
+        let [mut scratch, mut found, mut pending] = rooms.map(|room| vec![FILL; room]);
+        let result = collect(reader, table, option, &mut scratch, &mut found, &mut pending);
+        check_walked(result, [scratch, found, pending], expected);
     }
 }
 
-fn check_table_walk(table: Table, option: u8, rooms: [usize; 3], expected: Result<Walked, u8>) {
-    let [mut scratch, mut found, mut pending] = rooms.map(|room| vec![FILL; room]);
-    let result = collect(table, option, &mut scratch, &mut found, &mut pending);
+fn check_walked(
+    result: Result<(usize, usize), Refusal>,
+    [scratch, found, pending]: [Vec<u8>; 3],
+    expected: Result<Walked, u8>,
+) {
     let (found_names, pending_names) = match expected {
         Ok((_, found, pending)) => (names_bytes(found), names_bytes(pending)),
         Err(_) => (vec![], vec![]),
@@ -196,6 +222,18 @@ fn check_table_walk(table: Table, option: u8, rooms: [usize; 3], expected: Resul
         assert_eq!(buffer[..names.len()], names);
         assert!(buffer[names.len()..].iter().all(|&byte| byte == 0));
     }
+}
+
+/// The words of flags, and the readers whose digits stand after them, or all.
+fn split_readers(words: &str) -> (&str, Readers) {
+    let Some((words, digits)) = words.split_once(" to:") else {
+        return (words, Readers::ALL);
+    };
+    let mut readers = Readers::NONE;
+    for digit in digits.bytes() {
+        readers.add(Reader::checked(digit - b'0').expect("a digit of a reader"));
+    }
+    (words, readers)
 }
 
 /// Flags from their words, or from four digits.

@@ -198,7 +198,7 @@ type Walked = (Result<(usize, usize), Refusal>, Vec<Vec<u8>>);
 fn walked(store: &Store, option: u8) -> Walked {
     let mut lent = vec![vec![FILL; ROOM]; 3];
     let [scratch, found, pending] = lent.as_mut_slice() else { unreachable!() };
-    (collect(Table::Records(store.as_records()), option, scratch, found, pending), lent)
+    (collect(0, Table::Records(store.as_records()), option, scratch, found, pending), lent)
 }
 
 const COMMANDS: [&str; 18] = [

@@ -137,7 +137,7 @@ fn e8_lengths_of_lines() {
     for (length, expected) in [(2_048, Ok(())), (2_049, Err(Refusal::LineShape))] {
         let rest = " NAMESPACE\r\n";
         let line = "t".repeat(length - rest.len()) + rest;
-        let result = answer_reading(Table::EMPTY, &[], line.as_bytes(), &mut [0; ROOM]);
+        let result = answer_reading(0, Table::EMPTY, &[], line.as_bytes(), &mut [0; ROOM]);
         assert_eq!(result.map(drop), expected, "a line of {length} bytes");
     }
 }

@@ -7,7 +7,7 @@ use second::packed::row_at;
 use second::table::checked_rows;
 use second::{Record, Records, Refusal, Store, Table};
 
-use crate::common::{table_of, Rows};
+use crate::common::{table_of, Rows, ALL};
 
 const ASCEND: &str = "names strictly ascend by bytes";
 const BELOW: &str = "no row lies below a row with no inferiors";
@@ -44,17 +44,17 @@ fn rows() {
 fn tables_as_a_whole() {
     let rows = |table: &[u8]| checked_rows(Table::Packed(table)).map(|rows| rows.len());
     assert_eq!(rows(b""), Ok(0));
-    assert_eq!(rows(b"\0\x01\x01a\0\x01"), Err(fault(4, "rows fill the table exactly")));
+    assert_eq!(rows(b"\0\x01\xFF\x01a\0\x01"), Err(fault(5, "rows fill the table exactly")));
     let many: Vec<u8> =
-        (0..513).flat_map(|n| [b"\0\x01\x03", row_name(n).as_bytes()].concat()).collect();
-    assert_eq!(rows(&many), Err(fault(512 * 6, "a table has at most 512 rows")));
-    assert_eq!(rows(&many[..512 * 6]), Ok(512));
+        (0..513).flat_map(|n| [b"\0\x01\xFF\x03", row_name(n).as_bytes()].concat()).collect();
+    assert_eq!(rows(&many), Err(fault(512 * 7, "a table has at most 512 rows")));
+    assert_eq!(rows(&many[..512 * 7]), Ok(512));
 }
 
 /// Of records the faults are told by numbers; the rest of check 1 is that of the packed table.
 #[test]
 fn records() {
-    let record = |start, len| Record { flags: 1, start, len };
+    let record = |start, len| Record { flags: 1, start, len, readers: ALL };
     let lists: [(&[Record], usize, &[u8], ListFault); 7] = [
         (&[record(0, 1)], 2, b"a", fault(1, "there are as many records as the count says")),
         (&[], 0, &[0; 32_769], fault(0, "an area has at most 32,768 bytes")),
@@ -129,7 +129,7 @@ fn lines() {
         ("a LIST (REMOTE RECURSIVEMATCH) \"\" *\r\n", 7, 15, "SUBSCRIBED or SPECIAL-USE"),
         ("a LIST \"\" (1 2 3 4 5 6 7 8 9)\r\n", 8, 10, "a command has at most 8 patterns"),
     ]);
-    assert_eq!(fault_of(COMMAND, b"a LIST \"\" {1}\r\nx\r\n"), None);
+    assert_eq!(fault_of(COMMAND, b"\0a LIST \"\" {1}\r\nx\r\n"), None);
 }
 
 /// The same of LSUB (document 02, W5).
@@ -149,7 +149,7 @@ fn lines_of_lsub() {
             "a canonical pattern has at most 255 bytes",
         ),
     ]);
-    assert_eq!(fault_of(COMMAND, b"a LSUB \"\" {1}\r\nx\r\n"), None);
+    assert_eq!(fault_of(COMMAND, b"\0a LSUB \"\" {1}\r\nx\r\n"), None);
 }
 
 /// The same of SUBSCRIBE and UNSUBSCRIBE (document 02, W6).
@@ -162,8 +162,8 @@ fn lines_of_edits() {
         ("a SUBSCRIBE a%\r\n", 4, 13, "the end of the line is expected"),
         ("a UNSUBSCRIBE a b\r\n", 4, 15, "the end of the line is expected"),
     ]);
-    assert_eq!(fault_of(COMMAND, b"a SUBSCRIBE {1}\r\nx\r\n"), None);
-    assert_eq!(fault_of(COMMAND, b"a UNSUBSCRIBE \"\"\r\n"), None);
+    assert_eq!(fault_of(COMMAND, b"\0a SUBSCRIBE {1}\r\nx\r\n"), None);
+    assert_eq!(fault_of(COMMAND, b"\0a UNSUBSCRIBE \"\"\r\n"), None);
 }
 
 /// What an edit is refused for hangs on the table: the place of the name, the rule, and the row with
@@ -173,7 +173,7 @@ fn names_of_edits() {
     let table = table_of(&[("A", "0001"), ("b", "0011"), ("c/d", "0011")]);
     let mut program = Program { table, ..Program::default() };
     let fault = |program: &Program, line: &str| {
-        program.fault(&hex_of(&[&[COMMAND], line.as_bytes(), b"\r\n"].concat()))
+        program.fault(&hex_of(&[&[COMMAND, 0], line.as_bytes(), b"\r\n"].concat()))
     };
     let edit_fault = |refusal, at, rule, above| {
         Some(Fault::Edit(EditFault { name: LineFault { refusal, at, rule }, above }))
@@ -202,7 +202,7 @@ fn names_of_edits() {
     let spare = "a row is inserted where a record is spare";
     assert_eq!(fault(&program, "a SUBSCRIBE x"), no_room(spare));
     let rows: Vec<u8> =
-        (0..512).flat_map(|n| [b"\0\x01\x03", row_name(n).as_bytes()].concat()).collect();
+        (0..512).flat_map(|n| [b"\0\x01\xFF\x03", row_name(n).as_bytes()].concat()).collect();
     let program = Program { table: rows, ..Program::default() };
     let most = "a row is inserted where there are under 512";
     assert_eq!(fault(&program, "a SUBSCRIBE x"), no_room(most));
@@ -210,13 +210,32 @@ fn names_of_edits() {
 
 fn check_lines(lines: &[(&str, u8, usize, &str)]) {
     for &(line, number, at, rule) in lines {
-        let Some(Fault::Line(fault)) = fault_of(COMMAND, line.as_bytes()) else {
+        let Some(Fault::Line(fault)) = fault_of(COMMAND, &[b"\0", line.as_bytes()].concat()) else {
             panic!("{line:?}: no fault of the line");
         };
         let LineFault { refusal, at: place, rule: told } = fault;
         assert_eq!((refusal.number(), place), (number, at), "{line:?}: {told}");
         assert!(told.starts_with(rule), "{line:?}: {told}");
     }
+}
+
+/// 16: a reader above 7, by whatever it sends, and the word of an edit from another reader than 0.
+#[test]
+fn readers() {
+    let bad_table = Program { table: vec![0], ..Program::default() };
+    let no_reader = Some(Fault::Reader("a reader is 0 to 7"));
+    for program in [&Program::default(), &bad_table] {
+        for frame in [[COMMAND, 8].as_slice(), &[COMMAND, 255, 0], &[WALK, 8, 0], &[WALK, 9, 9]] {
+            assert_eq!(program.fault(&hex_of(frame)), no_reader, "{frame:?}");
+        }
+    }
+    let rule = "edits are allowed to reader 0 only";
+    for (line, at) in [("a SUBSCRIBE \"\"\r\n", 2), ("tag unsubscribe {1}\r\nx\r\n", 4)] {
+        let fault = fault_of(COMMAND, &[b"\x03", line.as_bytes()].concat());
+        assert_eq!(fault, Some(Fault::Line(LineFault { refusal: Refusal::Reader, at, rule })));
+    }
+    assert_eq!(fault_of(COMMAND, b"\x07a LSUB \"\" *\r\n"), None);
+    assert_eq!(fault_of(WALK, &[7, 0]), None);
 }
 
 fn fault_of(first: u8, bytes: &[u8]) -> Option<Fault> {
@@ -230,20 +249,23 @@ fn frames_and_rooms() {
     let room = RoomFault { stored: TABLE_ROOM - 1, added: 2, room: TABLE_ROOM };
     assert_eq!(frame(&[ROW, 0, 0]), Some(Fault::TableRoom(room)));
     assert_eq!(frame(&[ROW, 0]), None);
-    assert_eq!(frame(&[WALK, 4]).map(Fault::refusal), Some(Refusal::Table));
-    assert_eq!(fault_of(WALK, &[4]).map(Fault::refusal), Some(Refusal::UnknownOption));
-    assert_eq!(fault_of(WALK, &[6]), None);
+    assert_eq!(frame(&[WALK, 0, 4]).map(Fault::refusal), Some(Refusal::Table));
+    assert_eq!(fault_of(WALK, &[0, 4]).map(Fault::refusal), Some(Refusal::UnknownOption));
+    assert_eq!(fault_of(WALK, &[0, 6]), None);
     for (text, rule) in [
         ("", "a frame is not empty"),
         ("430", "a frame has an even number of digits"),
         ("43 0", "a frame holds hexadecimal digits alone"),
         ("41", "the first byte of a frame is 4D, 4E, 43 or 57"),
-        ("570000", "57 is followed by one byte"),
+        ("43", "43 is followed by the byte of the reader"),
+        ("57", "57 is followed by the byte of the reader and one byte more"),
+        ("5700", "57 is followed by the byte of the reader and one byte more"),
+        ("57000000", "57 is followed by the byte of the reader and one byte more"),
     ] {
         assert_eq!(program.fault(text.as_bytes()), Some(Fault::Frame(rule)), "{text}");
     }
     let mut edited = Program::default();
-    edited.answer(&hex_of(&[&[COMMAND], b"a UNSUBSCRIBE x\r\n".as_slice()].concat()));
+    edited.answer(&hex_of(&[&[COMMAND, 0], b"a UNSUBSCRIBE x\r\n".as_slice()].concat()));
     let rule = "no row is added after the first SUBSCRIBE or UNSUBSCRIBE that was OK";
     assert_eq!(edited.fault(b"4D"), Some(Fault::Frame(rule)));
     assert_eq!(edited.fault(b"4E"), None);

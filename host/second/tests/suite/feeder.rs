@@ -237,7 +237,7 @@ fn other_odd_bytes_are_handed_over() {
     {
         check(whole, &[command(whole)], FIRST);
         assert_eq!(
-            answer_reading(Table::EMPTY, &[], whole, &mut [0; 99]),
+            answer_reading(0, Table::EMPTY, &[], whole, &mut [0; 99]),
             Err(if whole[0] == 1 { Refusal::Grammar } else { Refusal::LineShape }),
             "{}",
             whole.escape_ascii()
@@ -280,7 +280,9 @@ fn what_check_3_takes_is_handed_over() {
             let digits = (0..length).map(|place| number / 7usize.pow(place) % 7);
             let stream: Vec<u8> = digits.map(|digit| b"{01}\r\na"[digit]).collect();
             let (events, end) = fed([stream.as_slice()]);
-            if answer_reading(Table::EMPTY, &[], &stream, &mut [0; 99]) == Err(Refusal::LineShape) {
+            if answer_reading(0, Table::EMPTY, &[], &stream, &mut [0; 99])
+                == Err(Refusal::LineShape)
+            {
                 continue;
             }
             taken += 1;

@@ -13,7 +13,7 @@ const ROOT: Result<&[&str], u8> = Ok(&[r#"* LIST (\Noselect) "/" """#, "a OK don
 /// The number that a command of any bytes is refused with, 0 if it is answered.
 fn number_of(command: &[u8]) -> u8 {
     let table = table_of(ONE_ROW);
-    let result = answer_reading(Table::Packed(&table), &[], command, &mut [0; 4_096]);
+    let result = answer_reading(0, Table::Packed(&table), &[], command, &mut [0; 4_096]);
     result.err().map_or(0, Refusal::number)
 }
 
@@ -251,9 +251,9 @@ fn empty_and_long_literals() {
 #[test]
 fn a_frame_with_literals() {
     let frame = |first, bytes: &[u8]| [&hex_of(&[&[first], bytes].concat()), &b"\n"[..]].concat();
-    let row = frame(frames::ROW, b"\x00\x01\x01x");
-    let command = frame(frames::COMMAND, b"a LIST {0}\r\n {1}\r\nx\r\n");
-    let cut = frame(frames::COMMAND, b"a LIST {0}\r\n {1}\r\n");
+    let row = frame(frames::ROW, b"\x00\x01\xFF\x01x");
+    let command = frame(frames::COMMAND, b"\0a LIST {0}\r\n {1}\r\nx\r\n");
+    let cut = frame(frames::COMMAND, b"\0a LIST {0}\r\n {1}\r\n");
     let listed = frame(frames::ANSWER, b"* LIST () \"/\" \"x\"\r\na OK done\r\n");
     let mut output = Vec::new();
     frames::run([row, command, cut].concat().as_slice(), &mut output).expect("no error in memory");

@@ -15,6 +15,7 @@ mod matcher;
 mod modules;
 mod program;
 mod program_edits;
+mod readers;
 mod records;
 mod rfc2342;
 mod rfc3501;

@@ -17,7 +17,12 @@ pub fn frame(first: u8, behind: &[u8]) -> String {
     String::from_utf8(digits).expect("hexadecimal") + "\n"
 }
 
-const NAMESPACE: &str = "4361204E414D4553504143450D0A\n";
+/// A frame with a command of a reader, its CR LF added.
+pub fn command_from(reader: u8, text: &str) -> String {
+    frame(frames::COMMAND, &[&[reader], text.as_bytes(), b"\r\n"].concat())
+}
+
+const NAMESPACE: &str = "430061204E414D4553504143450D0A\n";
 const NAMESPACE_ANSWER: &str =
     "412A204E414D455350414345204E494C204E494C204E494C0D0A61204F4B20646F6E650D0A\n";
 pub const BAD_FRAME: &str = "520D\n";
@@ -31,8 +36,28 @@ fn the_session_of_document_01() {
 #[test]
 fn bad_frames() {
     let lines = [
-        "", "4", "434", "0x43", "43 0D0A", "4G", " 43", "43\r", "00", "41", "52", "6D", "57",
-        "570000", "5701 ", "-1", "+1",
+        "",
+        "4",
+        "434",
+        "0x43",
+        "4300 0D0A",
+        "4G",
+        " 43",
+        "4300\r",
+        "00",
+        "41",
+        "52",
+        "6D",
+        "43",
+        "57",
+        "5700",
+        "57000",
+        "57000000",
+        "570001 ",
+        "570801 ",
+        "57080100",
+        "-1",
+        "+1",
     ];
     for line in lines {
         assert_eq!(output_of(&format!("{line}\n")), BAD_FRAME, "{line:?}");
@@ -43,62 +68,66 @@ fn bad_frames() {
 #[test]
 fn input_without_a_last_lf() {
     assert_eq!(output_of(""), "");
-    assert_eq!(output_of("5700"), BAD_FRAME);
+    assert_eq!(output_of("570000"), BAD_FRAME);
     assert_eq!(output_of("4D"), BAD_FRAME);
-    assert_eq!(output_of(&format!("{NAMESPACE}43")), format!("{NAMESPACE_ANSWER}{BAD_FRAME}"));
+    assert_eq!(output_of(&format!("{NAMESPACE}4300")), format!("{NAMESPACE_ANSWER}{BAD_FRAME}"));
 }
 
-/// 4,100 digits hold a line of 2,049 bytes, which is 3; one byte more is an overlong frame.
+/// 4,102 digits hold a reader and a line of 2,049 bytes, which is 3; one byte more is an overlong frame.
 #[test]
 fn lengths_of_frames() {
     let line_shape = "5203\n";
     for (digits, answer) in [
-        (4_098, line_shape),
+        (4, line_shape),
         (4_100, line_shape),
-        (4_101, BAD_FRAME),
-        (4_102, BAD_FRAME),
+        (4_102, line_shape),
+        (4_103, BAD_FRAME),
+        (4_104, BAD_FRAME),
         (1_000_000, BAD_FRAME),
     ] {
-        let overlong = format!("43{}\n", "6".repeat(digits - 2));
+        let overlong = format!("4300{}\n", "6".repeat(digits - 4));
         assert_eq!(output_of(&(overlong + NAMESPACE)), format!("{answer}{NAMESPACE_ANSWER}"));
     }
-    let longest_row = frame(frames::ROW, &[0; 2_049]);
-    assert_eq!(output_of(&longest_row), "");
+    for first in [frames::ROW, frames::ENTRY] {
+        let room = if first == frames::ROW { "" } else { "5202\n" };
+        assert_eq!(output_of(&frame(first, &[0; 2_050])), room);
+        assert_eq!(output_of(&frame(first, &[0; 2_051])), BAD_FRAME);
+    }
 }
 
 #[test]
 fn walks() {
-    let rows = frame(frames::ROW, b"\x00\x02\x03a/b");
-    assert_eq!(output_of("5700\n"), "570001\n");
-    assert_eq!(output_of(&format!("{rows}5700\n5701\n")), "57000203612F62\n".repeat(2));
-    assert_eq!(output_of(&format!("{rows}5702\n5704\n57ff\n")), "570001\n5206\n5206\n");
-    let used = frame(frames::ROW, b"\x20\x01\x03a/b");
+    let rows = frame(frames::ROW, b"\x00\x02\xFF\x03a/b");
+    assert_eq!(output_of("570000\n"), "570001\n");
+    assert_eq!(output_of(&format!("{rows}570000\n570001\n")), "57000203612F62\n".repeat(2));
+    assert_eq!(output_of(&format!("{rows}570002\n570004\n5700ff\n")), "570001\n5206\n5206\n");
+    let used = frame(frames::ROW, b"\x20\x01\xFF\x03a/b");
     assert_eq!(
-        output_of(&format!("{used}5702\n5706\n5707\n5708\n")),
+        output_of(&format!("{used}570002\n570006\n570007\n570008\n")),
         "570001\n57000203612F62\n57000203612F62\n5206\n"
     );
     let bad_table = frame(frames::ROW, b"\x00");
-    assert_eq!(output_of(&format!("{bad_table}5704\n")), "5201\n");
+    assert_eq!(output_of(&format!("{bad_table}570004\n")), "5201\n");
     let bad_list = frame(frames::ENTRY, b"\x00");
-    assert_eq!(output_of(&format!("{bad_list}5700\n{NAMESPACE}")), "570001\n5202\n");
+    assert_eq!(output_of(&format!("{bad_list}570000\n{NAMESPACE}")), "570001\n5202\n");
 }
 
 /// A frame may hold half a row, two rows or nothing; the table is judged at the next command.
 #[test]
 fn rows_in_pieces() {
-    let list = frame(frames::COMMAND, b"a LIST \"\" %\r\n");
+    let list = command_from(0, "a LIST \"\" %");
     let two = "* LIST () \"/\" \"a\"\r\n* LIST () \"/\" \"b\"\r\na OK done\r\n";
     let listed = frame(frames::ANSWER, two.as_bytes());
     let pieces: [&[&[u8]]; 3] = [
-        &[b"\x00\x01\x01a\x00\x01\x01b"],
-        &[b"\x00\x01\x01a\x00", b"\x01\x01", b"", b"b"],
-        &[b"", b"\x00\x01\x01a", b"\x00\x01\x01b", b""],
+        &[b"\x00\x01\xFF\x01a\x00\x01\xFF\x01b"],
+        &[b"\x00\x01\xFF\x01a\x00", b"\x01\xFF\x01", b"", b"b"],
+        &[b"", b"\x00\x01\xFF\x01a", b"\x00\x01\xFF\x01b", b""],
     ];
     for rows in pieces {
         let sent: String = rows.iter().map(|row| frame(frames::ROW, row)).collect();
         assert_eq!(output_of(&(sent + &list)), listed);
     }
-    let half = frame(frames::ROW, b"\x00\x01\x01");
+    let half = frame(frames::ROW, b"\x00\x01\xFF\x01");
     let rest = frame(frames::ROW, b"a");
     assert_eq!(output_of(&format!("{half}{list}{rest}")), "5201\n");
 }
@@ -124,8 +153,8 @@ fn room_for_rows_and_entries() {
 
 #[test]
 fn a_bad_frame_keeps_the_stored_bytes() {
-    let row = frame(frames::ROW, b"\x00\x01\x01a");
-    let list = frame(frames::COMMAND, b"a LIST \"\" %\r\n");
+    let row = frame(frames::ROW, b"\x00\x01\xFF\x01a");
+    let list = command_from(0, "a LIST \"\" %");
     let listed = frame(frames::ANSWER, b"* LIST () \"/\" \"a\"\r\na OK done\r\n");
     assert_eq!(output_of(&format!("{row}4D0\n4F00\n{list}")), format!("520D\n520D\n{listed}"));
 }
@@ -140,7 +169,7 @@ fn input_in_single_bytes() {
             self.0.read(&mut room[..one])
         }
     }
-    let input = format!("{NAMESPACE}\n{}5700\n43", frame(frames::ROW, b"\x00\x02\x01a"));
+    let input = format!("{NAMESPACE}\n{}570000\n4300", frame(frames::ROW, b"\x00\x02\xFF\x01a"));
     let mut output = Vec::new();
     frames::run(SingleBytes(input.as_bytes()), &mut output).expect("no error in memory");
     assert_eq!(output, output_of(&input).into_bytes());

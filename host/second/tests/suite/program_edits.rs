@@ -4,11 +4,12 @@ use second::frames::{hex_of, Answer, Program, COMMAND, ENTRY, ROW, TABLE_ROOM};
 use second::rows::MAX_ROWS;
 use second::{Record, Refusal, Store};
 
-use crate::program::{frame, output_of, BAD_FRAME};
+use crate::common::ALL;
+use crate::program::{command_from, frame, output_of, BAD_FRAME};
 
-/// A frame with a command, its CR LF added.
+/// A frame with a command of reader 0, its CR LF added.
 fn command(text: &str) -> String {
-    frame(COMMAND, format!("{text}\r\n").as_bytes())
+    command_from(0, text)
 }
 
 fn answer(lines: &str) -> String {
@@ -16,7 +17,7 @@ fn answer(lines: &str) -> String {
 }
 
 fn row(flags: u16, name: &str) -> Vec<u8> {
-    [&flags.to_be_bytes(), &[name.len() as u8][..], name.as_bytes()].concat()
+    [&flags.to_be_bytes(), &[ALL, name.len() as u8][..], name.as_bytes()].concat()
 }
 
 fn rows(rows: &[(u16, &str)]) -> String {
@@ -44,7 +45,7 @@ fn rows_after_an_accepted_edit() {
         "a UNSUBSCRIBE \"\"",
         "a UNSUBSCRIBE a//b",
     ] {
-        for behind in [row(1, "x"), vec![], vec![0], vec![0; 2_049]] {
+        for behind in [row(1, "x"), vec![], vec![0], vec![0; 2_050]] {
             let input = format!("{start}{}{}", command(edit), frame(ROW, &behind));
             assert_eq!(output_of(&input), format!("{}{BAD_FRAME}", ok()), "{edit}");
         }
@@ -84,7 +85,7 @@ fn rows_after_refused_edits() {
     }
     for text in ["a LIST \"\" x", "a LSUB \"\" x", "a LIST () \"\" \"\""] {
         let read = format!("{}{}", rows(&[(0x11, "a")]), command(text));
-        let input = format!("{read}5700\n{}{list}", rows(&[(1, "b")]));
+        let input = format!("{read}570000\n{}{list}", rows(&[(1, "b")]));
         assert_eq!(output_of(&input), format!("{}570001\n{listed}", ok()), "{text}");
     }
 }
@@ -96,7 +97,7 @@ fn entries_after_an_edit() {
     let edit = command("a SUBSCRIBE x");
     let (entry, bad_entry) = (frame(ENTRY, b"\x00\x00/"), frame(ENTRY, b"\x09"));
     let namespace = command("a NAMESPACE");
-    let input = format!("{edit}{entry}{namespace}{bad_entry}{namespace}{edit}5700\n");
+    let input = format!("{edit}{entry}{namespace}{bad_entry}{namespace}{edit}570000\n");
     let listed = answer("* NAMESPACE ((\"\" \"/\")) NIL NIL|a OK done|");
     assert_eq!(output_of(&input), format!("{}{listed}5202\n5202\n5700010178\n", ok()));
     let row = rows(&[(1, "a")]);
@@ -107,11 +108,11 @@ fn entries_after_an_edit() {
 #[test]
 fn edits_of_rows_that_do_not_pass() {
     let edit = command("a SUBSCRIBE a");
-    let (half, rest) = (frame(ROW, b"\0\x01\x01"), frame(ROW, b"a"));
-    let input = format!("{half}{edit}{rest}{edit}5700\n{half}");
+    let (half, rest) = (frame(ROW, b"\0\x01\xFF\x01"), frame(ROW, b"a"));
+    let input = format!("{half}{edit}{rest}{edit}570000\n{half}");
     assert_eq!(output_of(&input), format!("5201\n{}5700010161\n520D\n", ok()));
     // More rows than records: without a name, they do not pass either.
-    let many = frame(ROW, &b"\0\x01\0".repeat(600));
+    let many = frame(ROW, &b"\0\x01\xFF\0".repeat(300)).repeat(2);
     assert_eq!(output_of(&format!("{many}{edit}")), "5201\n");
 }
 
@@ -120,13 +121,13 @@ fn edits_of_rows_that_do_not_pass() {
 fn commands_and_walks_after_edits() {
     let input = [
         rows(&[(1, "Customers"), (3, "INBOX")]),
-        "5700\n".to_string(),
+        "570000\n".to_string(),
         command("a SUBSCRIBE Customers/ABC"),
         command("a UNSUBSCRIBE inbox"),
-        "5700\n".to_string(),
+        "570000\n".to_string(),
         command("a LSUB \"\" %"),
         command("a UNSUBSCRIBE Customers/ABC"),
-        "5700\n".to_string(),
+        "570000\n".to_string(),
         command("a LIST (SUBSCRIBED) \"\" *"),
     ];
     let found = |count: u8, names: &str| frame(0x57, &[&[0, count], names.as_bytes()].concat());
@@ -144,7 +145,7 @@ fn commands_and_walks_after_edits() {
 }
 
 fn text_of(line: &str) -> Vec<u8> {
-    hex_of(&[&[COMMAND], line.as_bytes(), b"\r\n"].concat())
+    hex_of(&[&[COMMAND, 0], line.as_bytes(), b"\r\n"].concat())
 }
 
 /// "The program keeps 512 records, names at first in row order without gaps from the start of 16,384
@@ -158,7 +159,7 @@ fn what_the_program_keeps() {
     assert_eq!(program.answer(&text_of("a SUBSCRIBE \"\"")), refused(Refusal::UnlawfulName));
     assert_eq!(program.store, None);
     assert_eq!(program.answer(&text_of("a UNSUBSCRIBE x")), done());
-    let record = |flags, start, len| Record { flags, start, len };
+    let record = |flags, start, len| Record { flags, start, len, readers: ALL };
     let rows = [record(1, 0, 3), record(2, 3, 7), record(0x2001, 10, 4)];
     assert_eq!(program.store, Some(store(&rows, b"FooFoo/BarSent")));
     // A removal leaves a gap, which the next name that fits takes.
@@ -212,8 +213,8 @@ fn all_name_bytes() {
     let mut program = Program::default();
     let name = |number: usize| format!("{number:03}{}", "n".repeat(197));
     (0..80).for_each(|number| program.store_row(&row(2, &name(number))).expect("room"));
-    assert_eq!(program.table.len(), 80 * 203);
-    assert!(program.store_row(&[0; TABLE_ROOM - 80 * 203 + 1]).is_err());
+    assert_eq!(program.table.len(), 80 * 204);
+    assert!(program.store_row(&[0; TABLE_ROOM - 80 * 204 + 1]).is_err());
     for (line, expected) in [
         (format!("a SUBSCRIBE {}", name(80)), done()),
         (format!("a SUBSCRIBE {}", "x".repeat(185)), refused(Refusal::NoRoom)),

@@ -5,9 +5,11 @@ use second::records::MAX_AREA;
 use second::rows::MAX_ROWS;
 use second::{answer_reading, check_table, collect, Record, Records, Table};
 
-/// A record of an existing mailbox.
+use crate::common::ALL;
+
+/// A record of an existing mailbox that all readers see.
 const fn at(start: u16, len: u8) -> Record {
-    Record { flags: 1, start, len }
+    Record { flags: 1, start, len, readers: ALL }
 }
 
 fn passes(area: &[u8], records: &[Record], count: usize) -> bool {
@@ -111,7 +113,7 @@ fn lengths_of_areas() {
 /// The records after the count are not looked at; a count above the records does not pass.
 #[test]
 fn counts_and_spare_records() {
-    let odd = Record { flags: 0xFFFF, start: 65_535, len: 255 };
+    let odd = Record { flags: 0xFFFF, start: 65_535, len: 255, readers: 0 };
     let records = [at(0, 1), at(1, 1), at(0, 1), odd];
     let counts = [(0, true), (1, true), (2, true), (3, false), (4, false), (5, false)];
     for (count, expected) in counts {
@@ -155,7 +157,7 @@ fn the_rest_of_check_1() {
         (b"a//b", 0x0001, false),
     ];
     for (name, flags, expected) in rows {
-        let record = Record { flags, start: 0, len: name.len() as u8 };
+        let record = Record { flags, ..at(0, name.len() as u8) };
         assert_eq!(passes(name, &[record], 1), expected, "{}", name.escape_ascii());
     }
     let childless = Record { flags: 0x0011, ..at(3, 1) };
@@ -165,13 +167,15 @@ fn the_rest_of_check_1() {
 /// The names of a packed table stay where they lie.
 #[test]
 fn records_of_packed_tables() {
-    let tables: [(&[u8], Option<&[Record]>); 6] = [
+    let hidden = Record { readers: 0, ..at(4, 1) };
+    let tables: [(&[u8], Option<&[Record]>); 7] = [
         (b"", Some(&[])),
-        (b"\0\x01\x01a", Some(&[at(3, 1)])),
-        (b"\0\x01\x03Foo\0\x01\x01a", Some(&[at(3, 3), at(9, 1)])),
-        (b"\0\x01\x00", Some(&[at(3, 0)])),
-        (b"\0\x01\x02a", None),
-        (b"\0\x01\x01a\0", None),
+        (b"\0\x01\xFF\x01a", Some(&[at(4, 1)])),
+        (b"\0\x01\0\x01a", Some(&[hidden])),
+        (b"\0\x01\xFF\x03Foo\0\x01\xFF\x01a", Some(&[at(4, 3), at(11, 1)])),
+        (b"\0\x01\xFF\x00", Some(&[at(4, 0)])),
+        (b"\0\x01\xFF\x02a", None),
+        (b"\0\x01\xFF\x01a\0", None),
     ];
     for (table, expected) in tables {
         let records = packed_records(table);
@@ -180,9 +184,8 @@ fn records_of_packed_tables() {
         let in_place = records.is_some_and(|records| passes(table, &records, count));
         assert_eq!(in_place, check_table(Table::Packed(table)), "{}", table.escape_ascii());
     }
-    assert!(
-        packed_records(&[b"\0\x01\xC8".as_slice(), &[b'a'; 200]].concat().repeat(162)).is_none()
-    );
+    assert!(packed_records(&[b"\0\x01\xFF\xC8".as_slice(), &[b'a'; 200]].concat().repeat(161))
+        .is_none());
 }
 
 /// 1 comes before every other refusal, in commands and walks.
@@ -194,13 +197,13 @@ fn refusals_of_records_first() {
     for table in [two_for_one, past_the_area, overlapping].map(Table::Records) {
         for line in ["", "a NAMESPACE\r\n", "a LIST \"\" *\r\n"] {
             let mut out = [b'.'; 9];
-            let result = answer_reading(table, b"\x09", line.as_bytes(), &mut out);
+            let result = answer_reading(0, table, b"\x09", line.as_bytes(), &mut out);
             assert_eq!((result.map_err(|refusal| refusal.number()), out), (Err(1), [b'.'; 9]));
         }
         for option in [0, 9] {
             let mut lent = [[b'.'; 9]; 3];
             let [scratch, found, pending] = &mut lent;
-            let result = collect(table, option, scratch, found, pending);
+            let result = collect(0, table, option, scratch, found, pending);
             assert_eq!((result.map_err(|refusal| refusal.number()), lent), (Err(1), [[0; 9]; 3]));
         }
     }

@@ -170,7 +170,7 @@ fn scratch_of_each_walk() {
     for (option, selection, references) in walks {
         let length = |reference: &&str| {
             let line = format!("w LIST ({selection}) \"{reference}\" \"%\"\r\n");
-            answer_reading(Table::Packed(&table_of(TREE)), &[], line.as_bytes(), &mut [0; ROOM])
+            answer_reading(0, Table::Packed(&table_of(TREE)), &[], line.as_bytes(), &mut [0; ROOM])
                 .expect("an answer")
         };
         let longest = references.iter().map(length).max().expect("a command");
@@ -178,7 +178,7 @@ fn scratch_of_each_walk() {
             let [mut scratch, mut found, mut pending] =
                 [room, ROOM, ROOM].map(|room| vec![0; room]);
             let table = table_of(TREE);
-            collect(Table::Packed(&table), option, &mut scratch, &mut found, &mut pending)
+            collect(0, Table::Packed(&table), option, &mut scratch, &mut found, &mut pending)
         };
         assert!(walk(longest).is_ok(), "{option}");
         assert_eq!(walk(longest - 1), Err(second::Refusal::AnswerRoom), "{option}");

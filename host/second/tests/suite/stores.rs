@@ -3,15 +3,16 @@
 use second::table::checked_rows;
 use second::{answer, Record, Refusal, Store, Table};
 
-use crate::common::FILL;
+use crate::common::{ALL, FILL};
 
 /// The answer to each edit here that is accepted.
 pub const OK: &[u8] = b"a OK done\r\n";
 /// What spare records hold at first.
-const SPARE: Record = Record { flags: 0xBEEF, start: 0xFFFF, len: 0xEE };
+const SPARE: Record = Record { flags: 0xBEEF, start: 0xFFFF, len: 0xEE, readers: 0x77 };
 
+/// A row that all readers see.
 pub const fn row(flags: u16, start: u16, len: u8) -> Record {
-    Record { flags, start, len }
+    Record { flags, start, len, readers: ALL }
 }
 
 pub fn store(area: &[u8], rows: &[Record], spare: usize) -> Store {
@@ -19,19 +20,34 @@ pub fn store(area: &[u8], rows: &[Record], spare: usize) -> Store {
     Store { records, count: rows.len(), area: area.to_vec() }
 }
 
-/// Runs a command, its CR LF added, in a buffer of this length.
+/// Runs a command of reader 0, its CR LF added, in a buffer of this length.
 pub fn run_in(store: &mut Store, command: &str, room: usize) -> (Result<usize, u8>, Vec<u8>) {
+    run_from(0, store, command, room)
+}
+
+/// The same of any reader.
+pub fn run_from(
+    reader: u8,
+    store: &mut Store,
+    command: &str,
+    room: usize,
+) -> (Result<usize, u8>, Vec<u8>) {
     let mut out = vec![FILL; room];
     let line = format!("{command}\r\n");
-    let result = store.lend(|lent| answer(lent, b"", line.as_bytes(), &mut out));
+    let result = store.lend(|lent| answer(reader, lent, b"", line.as_bytes(), &mut out));
     (result.map(|answered| answered.length).map_err(Refusal::number), out)
 }
 
-/// The same in a buffer with room for the answer; checks the buffer, and that a refusal changes
-/// nothing.
+/// An edit of reader 0 in a buffer with room for the answer; checks the buffer, and that a refusal
+/// changes nothing.
 pub fn run(store: &mut Store, command: &str) -> Result<(), u8> {
+    edit_from(0, store, command)
+}
+
+/// The same of any reader.
+pub fn edit_from(reader: u8, store: &mut Store, command: &str) -> Result<(), u8> {
     let before = store.clone();
-    let (result, out) = run_in(store, command, OK.len() + 9);
+    let (result, out) = run_from(reader, store, command, OK.len() + 9);
     let (text, behind) = out.split_at(result.unwrap_or(0));
     assert!(behind.iter().all(|&byte| byte == FILL), "{command}");
     match result {

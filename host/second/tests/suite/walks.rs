@@ -101,6 +101,6 @@ fn the_first_answer_of_a_walk() {
 
 fn answer_length(command: &str) -> usize {
     let line = format!("{command}\r\n");
-    answer_reading(Table::Packed(&table_of(NESTED)), &[], line.as_bytes(), &mut [0; ROOM])
+    answer_reading(0, Table::Packed(&table_of(NESTED)), &[], line.as_bytes(), &mut [0; ROOM])
         .expect("an answer")
 }

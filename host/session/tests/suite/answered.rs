@@ -4,7 +4,7 @@ use session::Form;
 
 use crate::common::{printed, run_on, summary, told};
 
-/// A row of 203 bytes, of which 80 fit, with the line that it expects.
+/// A row of 204 bytes, of which 80 fit, with the line that it expects.
 fn rows(count: usize, expected: &str) -> String {
     let row = |number| format!("mailbox {number:03}{} exists\n", "n".repeat(197));
     (0..count).map(row).collect::<String>() + expected
@@ -17,7 +17,7 @@ fn rows_without_room() {
     let output = run_on(&source);
     assert_eq!(output.status.code(), Some(3));
     let text = String::from_utf8(output.stdout.clone()).expect("text");
-    assert!(text.contains("Explained  no room: 16240 of 16384 bytes are taken, and this has 203\n"));
+    assert!(text.contains("Explained  no room: 16320 of 16384 bytes are taken, and this has 204\n"));
     assert!(text.contains("a OK done\n"));
     let last = "Summary    80 of 82 rows and 0 of 0 entries kept; 1 command, 0 walks; 2 refused";
     assert_eq!(text.lines().last(), Some(last));
@@ -43,9 +43,11 @@ fn statuses() {
         ("frame 4D\nexpect 13\n", 3),
         ("frame 4\nexpect 13\n", 0),
         ("mailbox b exists\nfwame\n", 2),
-        ("5700\n", 0),
-        ("5709\n", 3),
-        ("5700\n5700", 3),
+        ("reader 8\nwalk\nexpect 16\n", 0),
+        ("reader 3\nsubscribe x\n", 3),
+        ("570000\n", 0),
+        ("570009\n", 3),
+        ("570000\n570000", 3),
     ];
     for (source, status) in sources {
         let output = run_on(source);
@@ -128,9 +130,10 @@ fn lone_expectations() {
         "walk\n# a\nexpect 6\n",
         "walk\nexpect 6\nexpect 6\n",
         "order as-given\nexpect 6\n",
+        "reader 8\nexpect 16\n",
         "walk\nexpect\n",
         "walk\nexpect 0\n",
-        "walk\nexpect 16\n",
+        "walk\nexpect 17\n",
         "walk\nexpect six\n",
     ] {
         let output = run_on(source);
@@ -153,5 +156,5 @@ fn many_refusals() {
 #[test]
 fn the_summary_of_frames() {
     let text = printed("walk\nwalk 9\n", Form::Frames);
-    assert_eq!(text, "> 5700\n< 570001\n> 5709\n< 5206\n");
+    assert_eq!(text, "> 570000\n< 570001\n> 570009\n< 5206\n");
 }

@@ -36,9 +36,9 @@ fn rows() {
             "mailbox \"b\\\\x80\" 0000\n",
             "line 1: 'b\\\\x80': a row that does not exist has flags exactly 0002",
         ),
-        ("frame 4D000101610001\n", "line 1: bytes 0001: rows fill the table exactly"),
+        ("frame 4D0001FF01610001\n", "line 1: bytes 0001: rows fill the table exactly"),
         (
-            "frame 4D0001\nframe 4D0161\nframe 4D00000162\n",
+            "frame 4D0001\nframe 4DFF0161\nframe 4D0000000162\n",
             "line 3: 'b': a row that does not exist has flags exactly 0002",
         ),
     ];
@@ -48,7 +48,7 @@ fn rows() {
     }
     // The same in a file of frames.
     assert_eq!(
-        explained("5700\n4D000105696E626F78\n5700\n"),
+        explained("570000\n4D0001FF05696E626F78\n570000\n"),
         "line 2: 'inbox': a first level that equals INBOX is spelled INBOX"
     );
 }
@@ -81,8 +81,8 @@ fn places_of_lines() {
     let commands = [
         ("command a LIST \"\" (%", "the end of the command, after 12 bytes: a space or a closing parenthesis is expected"),
         ("command a LIST \"\"  %", "byte 11 of the command, ' ': a pattern is a quoted string, a literal or a run of atom bytes, ] % and *"),
-        ("frame 43610A0D0A", "byte 2 of the command, '\\x0A': a line holds bytes 01 to 7F (hex), without CR and LF"),
-        ("frame 4361", "the end of the command, after 1 bytes: a line ends with CR LF"),
+        ("frame 4300610A0D0A", "byte 2 of the command, '\\x0A': a line holds bytes 01 to 7F (hex), without CR and LF"),
+        ("frame 430061", "the end of the command, after 1 bytes: a line ends with CR LF"),
         ("command a LIST {1}\n+ x{1}\n+ y", "byte 14 of the command, '{': one space is expected"),
     ];
     for (command, expected) in commands {
@@ -116,6 +116,57 @@ fn names_of_edits() {
     );
 }
 
+/// Who sent what is refused with 16, and what is hidden from the reader that edits.
+#[test]
+fn readers() {
+    let sources = [
+        ("reader 9\ncommand\n", "it comes from reader 9: a reader is 0 to 7"),
+        ("mailbox a 0000\nreader 255\nwalk 9\n", "it comes from reader 255: a reader is 0 to 7"),
+        (
+            "reader 1\ncommand tag unsubscribe x\n",
+            "it comes from reader 1: byte 5 of the command, 'u': edits are allowed to reader 0 only",
+        ),
+        (
+            "mailbox a exists noinferiors readers 1\nsubscribe a/b\n",
+            "byte 13 of the command, '\"': no name lies below a row with no inferiors (beside 'a', \
+             which is hidden from reader 0)",
+        ),
+    ];
+    for (source, expected) in sources {
+        assert_eq!(explained(source), expected, "{source}");
+    }
+}
+
+/// What is hidden is told beside LIST, LSUB and walks that were answered; of many rows the first ones.
+#[test]
+fn hidden_rows() {
+    let hidden = |source: &str| {
+        let text = printed(source, Form::Text);
+        text.lines().filter(|line| line.starts_with("Hidden")).count()
+    };
+    let rows = "mailbox a exists readers 1,2\nmailbox b exists\n";
+    for (sent, times) in [
+        ("command a LIST \"\" *", 1),
+        ("command a LSUB \"\" *", 1),
+        ("walk", 1),
+        ("reader 1\nwalk", 0),
+        ("command a NAMESPACE", 0),
+        ("command a LIST \"\" \"\"", 0),
+        ("unsubscribe x", 0),
+        ("walk 9", 0),
+        ("reader 9\nwalk", 0),
+    ] {
+        assert_eq!(hidden(&format!("{rows}{sent}\n")), times, "{sent}");
+    }
+    let many: String =
+        (0..20).map(|number| format!("mailbox {number:02} exists readers 7\n")).collect();
+    let text = printed(many + "walk\n", Form::Text);
+    let told =
+        "Hidden     from reader 0, 20 of 20 rows: 00, 01, 02, 03, 04, 05, 06, 07, 08, 09, 10, 11 \
+                and 8 more\n";
+    assert!(text.contains(told), "{text}");
+}
+
 /// A row after an edit that was accepted is a bad frame, and one after a refused edit is kept.
 #[test]
 fn rows_after_edits() {
@@ -123,7 +174,7 @@ fn rows_after_edits() {
     for source in [
         "unsubscribe x\nmailbox a exists\n",
         "mailbox a exists\nsubscribe a\nframe 4D\n",
-        "43612053554253435249424520780D0A\n4D00010161\n",
+        "4300612053554253435249424520780D0A\n4D0001FF0161\n",
     ] {
         assert_eq!(explained(source), rule, "{source}");
     }

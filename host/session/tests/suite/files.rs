@@ -15,40 +15,51 @@ fn bad_lines(source: impl AsRef<[u8]>) -> Vec<(u64, String)> {
 }
 
 /// Items, each with its frame.
-const ITEMS: [(&str, &str); 36] = [
-    ("mailbox Foo exists", "4D000103466F6F"),
-    ("mailbox \"a \\\"b\" subscribed", "4D00020461202262"),
-    ("mailbox x 00ff", "4D00FF0178"),
-    ("mailbox\tx\texists\tmarked", "4D00210178"),
-    ("mailbox \"a\tb\"\t exists", "4D000103610962"),
+const ITEMS: [(&str, &str); 47] = [
+    ("mailbox Foo exists", "4D0001FF03466F6F"),
+    ("mailbox \"a \\\"b\" subscribed", "4D0002FF0461202262"),
+    ("mailbox x 00ff", "4D00FFFF0178"),
+    ("mailbox\tx\texists\tmarked", "4D0021FF0178"),
+    ("mailbox \"a\tb\"\t exists", "4D0001FF03610962"),
     ("namespace\tpersonal\t\"\"\tNIL", "4E000000"),
-    ("command\ta\tb", "436109620D0A"),
-    ("walk\tremote\tspecial-use", "5703"),
-    ("mailbox x exists 8000 trash", "4DC0010178"),
-    ("mailbox \"\" 0000", "4D000000"),
+    ("command\ta\tb", "43006109620D0A"),
+    ("walk\tremote\tspecial-use", "570003"),
+    ("mailbox x exists 8000 trash", "4DC001FF0178"),
+    ("mailbox \"\" 0000", "4D0000FF00"),
     ("namespace personal \"\" \"/\"", "4E00002F"),
     ("namespace other-users \"~\" \"\\\"\"", "4E01017E22"),
     ("namespace shared \"#\" NIL", "4E02012300"),
-    ("command a NAMESPACE", "4361204E414D4553504143450D0A"),
-    ("command", "430D0A"),
-    ("command  x ", "432078200D0A"),
-    ("command {2}\n+ ab c", "437B327D0D0A616220630D0A"),
-    ("command x\r\n  +  y \r\n+\r\n+ z", "43780D0A2079200D0A0D0A7A0D0A"),
-    ("command {1}\n+ +", "437B317D0D0A2B0D0A"),
-    ("command\n+ x\n+", "430D0A780D0A0D0A"),
-    ("subscribe Foo", "4373205355425343524942452022466F6F220D0A"),
-    ("subscribe \t Foo \t", "4373205355425343524942452022466F6F220D0A"),
-    ("subscribe \"a \\\"b\"", "437320535542534352494245202261205C2262220D0A"),
-    ("unsubscribe \"\"", "437520554E5355425343524942452022220D0A"),
-    ("unsubscribe a\\", "437520554E5355425343524942452022615C5C220D0A"),
-    ("subscribe \u{e9}", "437320535542534352494245207B327D0D0AC3A90D0A"),
-    ("walk", "5700"),
-    ("walk remote", "5701"),
-    ("walk special-use remote", "5703"),
-    ("walk special-use without-subscribed", "5706"),
-    ("walk without-subscribed", "5704"),
-    ("walk 6 remote", "5707"),
-    ("walk 255", "57FF"),
+    ("command a NAMESPACE", "430061204E414D4553504143450D0A"),
+    ("command", "43000D0A"),
+    ("command  x ", "43002078200D0A"),
+    ("command {2}\n+ ab c", "43007B327D0D0A616220630D0A"),
+    ("command x\r\n  +  y \r\n+\r\n+ z", "4300780D0A2079200D0A0D0A7A0D0A"),
+    ("command {1}\n+ +", "43007B317D0D0A2B0D0A"),
+    ("command\n+ x\n+", "43000D0A780D0A0D0A"),
+    ("subscribe Foo", "430073205355425343524942452022466F6F220D0A"),
+    ("subscribe \t Foo \t", "430073205355425343524942452022466F6F220D0A"),
+    ("subscribe \"a \\\"b\"", "43007320535542534352494245202261205C2262220D0A"),
+    ("unsubscribe \"\"", "43007520554E5355425343524942452022220D0A"),
+    ("unsubscribe a\\", "43007520554E5355425343524942452022615C5C220D0A"),
+    ("subscribe \u{e9}", "43007320535542534352494245207B327D0D0AC3A90D0A"),
+    ("walk", "570000"),
+    ("walk remote", "570001"),
+    ("walk special-use remote", "570003"),
+    ("walk special-use without-subscribed", "570006"),
+    ("walk without-subscribed", "570004"),
+    ("walk 6 remote", "570007"),
+    ("walk 255", "5700FF"),
+    ("mailbox x exists readers 0,3", "4D0001090178"),
+    ("mailbox x exists readers 7,0,7", "4D0001810178"),
+    ("mailbox x\texists  readers\tnone ", "4D0001000178"),
+    ("mailbox x 0003 readers all", "4D0003FF0178"),
+    ("mailbox readers exists readers 1", "4D0001020772656164657273"),
+    ("reader 3\ncommand a", "4303610D0A"),
+    ("reader 3\n# x\n\nwalk 6", "570306"),
+    ("reader 255\nreader 7\nsubscribe x", "43077320535542534352494245202278220D0A"),
+    ("reader\t 8 \nunsubscribe x", "43087520554E535542534352494245202278220D0A"),
+    ("reader 3\nmailbox x exists", "4D0001FF0178"),
+    ("reader 3\nframe 570000", "570000"),
     ("frame 57fF", "57fF"),
     ("frame", ""),
     ("frame 4G 0", "4G 0"),
@@ -61,8 +72,8 @@ fn items_and_their_frames() {
         let items: Result<Vec<Item>, _> = session.items().expect("items").collect();
         let contents: Vec<Content> =
             items.expect("items").into_iter().map(|item| item.content).collect();
-        let [Content::Comment(comment), Content::Sent(sent)] = &contents[..] else {
-            panic!("{line}: not one comment and one frame");
+        let [Content::Comment(comment), .., Content::Sent(sent)] = &contents[..] else {
+            panic!("{line}: not a comment and one frame");
         };
         let Sent { frame: sent, expected, .. } = sent;
         assert_eq!((comment.as_str(), sent.is_cut), ("# a comment", false), "{line}");
@@ -71,8 +82,8 @@ fn items_and_their_frames() {
 }
 
 /// Lines, each with the start of what is wrong with it.
-const NO_ITEMS: [(&str, &str); 30] = [
-    ("mailbix Foo exists", "unknown item \"mailbix\"; known are mailbox, namespace, "),
+const NO_ITEMS: [(&str, &str); 43] = [
+    ("mailbix Foo exists", "unknown item \"mailbix\"; known are mailbox, namespace, reader, "),
     ("Mailbox Foo exists", "unknown item \"Mailbox\""),
     ("mailbox\u{a0}Foo exists", "unknown item \"mailbox\\xC2\\xA0Foo\""),
     ("57FF", "unknown item \"57FF\""),
@@ -82,6 +93,19 @@ const NO_ITEMS: [(&str, &str); 30] = [
     ("mailbox Foo exist", "unknown flag \"exist\"; known are exists, subscribed, remote, "),
     ("mailbox Foo Bar exists", "unknown flag \"Bar\""),
     ("mailbox Foo 001", "unknown flag \"001\""),
+    ("mailbox Foo readers 0", "the mailbox has no flags"),
+    ("mailbox Foo exists readers", "after readers stands one word"),
+    ("mailbox Foo exists readers 8", "after readers stands one word"),
+    ("mailbox Foo exists readers 0, 3", "after readers stands one word"),
+    ("mailbox Foo exists readers 03", "after readers stands one word"),
+    ("mailbox Foo exists readers +3", "after readers stands one word"),
+    ("mailbox Foo exists readers 0,,3", "after readers stands one word"),
+    ("mailbox Foo exists readers 0 subscribed", "after readers stands one word"),
+    ("mailbox Foo exists reader 0", "unknown flag \"reader\""),
+    ("reader", "reader takes a number, 0 to 7"),
+    ("reader 256", "reader takes a number, 0 to 7"),
+    ("reader -1", "reader takes a number, 0 to 7"),
+    ("reader 0 1", "reader takes a number, 0 to 7"),
     ("mailbox \"Foo exists", "a quoted string"),
     ("mailbox \"F\\oo\" exists", "a quoted string"),
     ("namespace", "a namespace has"),
@@ -148,7 +172,7 @@ fn messages_are_short() {
         panic!("no bad line");
     };
     assert!(error.to_string().starts_with("line 1: unknown item \"\\x00xxx"), "{error}");
-    assert!(error.to_string().len() < 200, "{error}");
+    assert!(error.to_string().len() < 220, "{error}");
 }
 
 /// What an editor leaves in a session file: CR LF, a byte order mark, no last line end.
@@ -165,12 +189,12 @@ fn files_from_other_editors() {
 #[test]
 fn files_of_frames() {
     assert_eq!(
-        printed("5700\n4G\n\n5701", Form::Frames),
-        "> 5700\n< 570001\n> 4G\n< 520D\n> \n< 520D\n> 5701\n< 520D\n"
+        printed("570000\n4G\n\n570001", Form::Frames),
+        "> 570000\n< 570001\n> 4G\n< 520D\n> \n< 520D\n> 570001\n< 520D\n"
     );
-    assert_eq!(printed("\n5700\n", Form::Frames), "> \n< 520D\n> 5700\n< 570001\n");
+    assert_eq!(printed("\n570000\n", Form::Frames), "> \n< 520D\n> 570000\n< 570001\n");
     assert_eq!(
-        printed("5700\n", Form::Text),
+        printed("570000\n", Form::Text),
         concat!("Walk       option byte 0\n", "Answer     1 command sent, 0 mailboxes found\n")
     );
 }
@@ -179,18 +203,18 @@ fn files_of_frames() {
 #[test]
 fn damaged_files_of_frames() {
     let files = [
-        ("5700\r\n5700\n", "> 5700\\x0D\n< 520D\n> 5700\n< 570001\n"),
-        ("57 00\nwalk\n", "> 57 00\n< 520D\n> walk\n< 520D\n"),
+        ("570000\r\n570000\n", "> 570000\\x0D\n< 520D\n> 570000\n< 570001\n"),
+        ("5700 00\nwalk\n", "> 5700 00\n< 520D\n> walk\n< 520D\n"),
         ("4G\n\0\n", "> 4G\n< 520D\n> \\x00\n< 520D\n"),
         ("ab\n", "> ab\n< 520D\n"),
         ("4", "> 4\n< 520D\n"),
-        ("\n\n5700", "> \n< 520D\n> \n< 520D\n> 5700\n< 520D\n"),
+        ("\n\n570000", "> \n< 520D\n> \n< 520D\n> 570000\n< 520D\n"),
     ];
     for (source, expected) in files {
         assert_eq!(printed(source, Form::Frames), expected, "{source:?}");
     }
-    for (digits, start) in [(4_100, "Command"), (4_101, "Frame  "), (4_102, "Frame  ")] {
-        let text = printed(format!("43{}\n", "6".repeat(digits - 2)), Form::Text);
+    for (digits, start) in [(4_102, "Command"), (4_103, "Frame  "), (4_104, "Frame  ")] {
+        let text = printed(format!("4300{}\n", "6".repeat(digits - 4)), Form::Text);
         assert!(text.starts_with(start), "{digits}: {text}");
     }
 }
@@ -204,10 +228,10 @@ fn overlong_frames() {
         let unproved = "(explained by the second program, not proved)";
         format!("Refused    13: bad frame\nExplained  {rule}\n           {unproved}\n")
     };
-    let (long, cut) = ("a frame has at most 4,100 digits", "the last frame ends with LF too");
+    let (long, cut) = ("a frame has at most 4,102 digits", "the last frame ends with LF too");
     let walk = "Walk       option byte 0\nAnswer     1 command sent, 0 mailboxes found\n";
     assert_eq!(
-        printed(format!("{digits}\n5700\n"), Form::Text),
+        printed(format!("{digits}\n570000\n"), Form::Text),
         format!("Frame      {shown}\n{}\n{walk}", refused(long))
     );
     assert_eq!(
@@ -232,12 +256,12 @@ fn nothing_to_run() {
 /// A file of frames whose lines end in CR LF is told as such, and run as it stands.
 #[test]
 fn frames_with_cr() {
-    let output = run_on("5700\r\n5701\r\n");
+    let output = run_on("570000\r\n570001\r\n");
     assert_eq!(output.status.code(), Some(3));
     let told = told(&output);
     let cause = "standard input: the lines of this file of frames end in CR LF; ";
     assert!(told.starts_with(cause) && told.lines().count() == 3, "{told}");
-    assert!(run_on("5700\n5701\n").stderr.is_empty());
+    assert!(run_on("570000\n570001\n").stderr.is_empty());
     assert!(run_on("walk\r\nwalk\r\n").stderr.is_empty());
 }
 
@@ -263,11 +287,11 @@ fn both_forms() {
     assert_eq!(
         printed(source, Form::Frames),
         concat!(
-            "> 4D00020161\n",
+            "> 4D0002FF0161\n",
             "> 4E020000\n",
-            "> 4361204C495354202222202A0D0A\n",
+            "> 430061204C495354202222202A0D0A\n",
             "< 4161204F4B20646F6E650D0A\n",
-            "> 5700\n",
+            "> 570000\n",
             "< 5700010161\n",
         )
     );

@@ -12,6 +12,7 @@ const LITERALS: &str = include_str!("../../../sessions/literals.session");
 const LSUB: &str = include_str!("../../../sessions/lsub.session");
 const SPECIAL_FOLDERS: &str = include_str!("../../../sessions/special-folders.session");
 const REVIEW: &str = include_str!("../../../sessions/review.session");
+const READERS: &str = include_str!("../../../sessions/readers.session");
 const README: &str = include_str!("../../../../README.md");
 
 #[test]
@@ -84,7 +85,7 @@ fn commands_with_literals() {
 #[test]
 fn odd_commands() {
     assert_eq!(
-        printed("command \"\" {4}\n+ \u{e9}\n+  x\nframe 437B317D0D0A\n", Form::Text),
+        printed("command \"\" {4}\n+ \u{e9}\n+  x\nframe 43007B317D0D0A\n", Form::Text),
         concat!(
             "Command    \"\" {4}\n",
             "           + \\xC3\\xA9\n",
@@ -257,6 +258,95 @@ fn a_review() {
     check_parts(&text, &parts.each_ref().map(String::as_str));
 }
 
+/// W9: what two readers see of one account, a hidden parent, and what is refused with 16.
+#[test]
+fn two_readers() {
+    let text = printed(READERS, Form::Text);
+    let unproved = "           (explained by the second program, not proved)\n";
+    let hidden = |rows: &str| {
+        let names = "Counsel, Customers, Customers/DEF, Sealed";
+        let above = "above what reader 3 sees, so that the name itself may be listed: Customers";
+        let first = format!("Hidden     from reader 3, {rows}: {names}\n");
+        format!("{first}           of these, {above}\n{unproved}")
+    };
+    let refused = |sent: &str, why: &str| {
+        let refusal = "a reader above 7, or an edit from another reader than 0 (as expected)";
+        format!("{sent}\nRefused    16: {refusal}\nExplained  it comes from {why}\n{unproved}")
+    };
+    let parts = [
+        concat!(
+            "Mailbox    Customers/ABC                exists subscribed readers 0,3\n",
+            "Mailbox    Customers/DEF                exists subscribed readers 0\n",
+            "Mailbox    INBOX                        exists subscribed\n",
+            "Mailbox    Sealed                       exists subscribed readers none\n",
+        )
+        .to_string(),
+        concat!(
+            "Command    a1 LIST \"\" \"%\"\n",
+            "Answer     * LIST (\\NoInferiors) \"/\" \"Counsel\"\n",
+            "           * LIST (\\Marked) \"/\" \"Customers\"\n",
+            "           * LIST () \"/\" \"INBOX\"\n",
+            "           a1 OK done\n",
+            "Hidden     from reader 0, 1 of 6 rows: Sealed\n",
+        )
+        .to_string(),
+        concat!(
+            "Command    b1 LIST \"\" \"%\"\n",
+            "From       reader 3\n",
+            "Answer     * LIST (\\NonExistent \\HasChildren) \"/\" \"Customers\"\n",
+            "           * LIST () \"/\" \"INBOX\"\n",
+            "           b1 OK done\n",
+        )
+        .to_string(),
+        hidden("4 of 6 rows"),
+        concat!(
+            "Answer     * LIST (\\Subscribed \\HasNoChildren) \"/\" \"Customers/ABC\"\n",
+            "           * LIST (\\Subscribed \\HasNoChildren) \"/\" \"INBOX\"\n",
+            "           b2 OK done\n",
+        )
+        .to_string(),
+        concat!(
+            "Answer     * LSUB (\\Noselect) \"/\" \"Customers\"\n",
+            "           * LSUB () \"/\" \"INBOX\"\n",
+            "           b3 OK done\n",
+        )
+        .to_string(),
+        concat!(
+            "Walk       option byte 0\n",
+            "From       reader 3\n",
+            "Answer     2 commands sent, 2 mailboxes found\n",
+            "           INBOX\n",
+            "           Customers/ABC\n",
+        )
+        .to_string(),
+        refused(
+            "Command    s SUBSCRIBE \"Customers/ABC\"\nFrom       reader 3",
+            "reader 3: byte 3 of the command, 'S': edits are allowed to reader 0 only",
+        ),
+        refused(
+            "Command    u UNSUBSCRIBE \"Nothing\"\nFrom       reader 3",
+            "reader 3: byte 3 of the command, 'U': edits are allowed to reader 0 only",
+        ),
+        "Refused    4: tag, or the rest after a known word, off the grammar (as expected)\n"
+            .to_string(),
+        refused("Command    c1 NAMESPACE\nFrom       reader 8", "reader 8: a reader is 0 to 7"),
+        "Effect     Customers/DEF is not subscribed any more; only reader 0 sees its row\n"
+            .to_string(),
+        "Effect     Sealed is not subscribed any more; no reader sees its row\n".to_string(),
+        "Refused    14: unlawful name, or below a row with no inferiors (as expected)\n"
+            .to_string(),
+        concat!(
+            "Answer     2 commands sent, 3 mailboxes found\n",
+            "           Archive\n",
+            "           INBOX\n",
+            "           Customers/ABC\n",
+        )
+        .to_string(),
+        hidden("4 of 7 rows"),
+    ];
+    check_parts(&text, &parts.each_ref().map(String::as_str));
+}
+
 /// The session that the README shows gives the output that it shows.
 #[test]
 fn the_session_of_the_readme() {
@@ -284,7 +374,7 @@ fn every_refusal() {
             given.insert(refusal);
         }
     }
-    assert_eq!(given, (1..=15).filter(|&number| number != 12).collect());
+    assert_eq!(given, (1..=16).filter(|&number| number != 12).collect());
 }
 
 /// Each bundled session ends well, and says what it sent and what was refused.
@@ -295,8 +385,9 @@ fn the_bundled_sessions_end_well() {
         (LITERALS, "3 of 3 rows and 0 of 0 entries kept; 10 commands, 0 walks; 6 refused, 6 of them as expected"),
         (LSUB, "7 of 7 rows and 0 of 0 entries kept; 10 commands, 0 walks; 2 refused, 2 of them as expected"),
         (SPECIAL_FOLDERS, "6 of 6 rows and 0 of 0 entries kept; 3 commands, 4 walks; 2 refused, 2 of them as expected"),
- (REVIEW, "6 of 7 rows and 0 of 0 entries kept; 13 commands, 2 walks; 3 refused, 3 of them as expected"),
-        (REFUSALS, "52 of 53 rows and 4 of 4 entries kept; 51 commands, 4 walks, 5 bad frames; 28 refused, 28 of them as expected"),
+        (REVIEW, "6 of 7 rows and 0 of 0 entries kept; 13 commands, 2 walks; 3 refused, 3 of them as expected"),
+        (READERS, "6 of 6 rows and 0 of 0 entries kept; 13 commands, 3 walks; 7 refused, 7 of them as expected"),
+        (REFUSALS, "52 of 53 rows and 4 of 4 entries kept; 54 commands, 5 walks, 7 bad frames; 34 refused, 34 of them as expected"),
     ];
     for (session, expected) in sessions {
         assert_eq!(summary(session), expected);

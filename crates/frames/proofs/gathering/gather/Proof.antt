@@ -19,7 +19,8 @@ returns-2 c =
     let if2 = c .before .if2 in
     let n = start .args .g .len in
     let d = start .args .line .now in
-    gathers _ _ _ _ _ (rw (if1 .left, lt-ltb n 4100 (if2 .taken), lt-ltb n (length d) (c .if3 .taken))) (rw (if1 .left, lt-ltb n 4100 (if2 .taken), lt-ltb n (length d) (c .if3 .taken)))
+    gathers _ _ _ _ _ (rw (if1 .left, lt-ltb n 4102 (if2 .taken), lt-ltb n (length d) (c .if3 .taken)))
+    (rw (if1 .left, lt-ltb n 4102 (if2 .taken), lt-ltb n (length d) (c .if3 .taken)))
 
 returns-3 : tie.Need-returns-3
 unfolding gatheredIs gatheredLine hasRoom
@@ -29,7 +30,8 @@ returns-3 c =
     let if2 = c .before .if2 in
     let n = start .args .g .len in
     let d = start .args .line .now in
-    gathers _ _ _ _ _ (rw (if1 .left, lt-ltb n 4100 (if2 .taken), le-ltb n (length d) (c .if3 .left))) (rw (if1 .left, lt-ltb n 4100 (if2 .taken), le-ltb n (length d) (c .if3 .left)))
+    gathers _ _ _ _ _ (rw (if1 .left, lt-ltb n 4102 (if2 .taken), le-ltb n (length d) (c .if3 .left)))
+    (rw (if1 .left, lt-ltb n 4102 (if2 .taken), le-ltb n (length d) (c .if3 .left)))
 
 returns-4 : tie.Need-returns-4
 unfolding gatheredIs gatheredLine hasRoom
@@ -37,7 +39,7 @@ returns-4 c =
     let start = c .before .before in
     let if1 = c .before .if1 in
     let n = start .args .g .len in
-    gathers _ _ _ _ _ (rw (if1 .left, le-ltb n 4100 (c .if2 .left))) (rw (if1 .left, le-ltb n 4100 (c .if2 .left)))
+    gathers _ _ _ _ _ (rw (if1 .left, le-ltb n 4102 (c .if2 .left))) (rw (if1 .left, le-ltb n 4102 (c .if2 .left)))
 
 pub gather-spec : {M : Type 1} → statement M
 gather-spec =

@@ -20,15 +20,27 @@ hexed : (c : tie.Else3) → isSome (bytesOf (c .before .before .before .before .
 hexed c = sym (c .before .is-hex .ensures) ∙ not-false _ (c .if3 .left)
 
 -- the answer by the first byte
-kinded : (c : tie.After-kind-of) → c .kind-of .result ≡ kindAnswer (c .before .before .before .before .before .before .before .before .before .before .before .before .before .before .args .line .now)
+kinded : (c : tie.After-kind-of) →
+    c .kind-of .result ≡ kindAnswer
+    (c .before .before .before .before .before .before .before .before .before .before .before .before .before .before .before .before .before .args .line .now)
 kinded c =
-    let after-pair-value = c .before .before .before .before in
+    let after-pair-value2 = c .before .before .before .before in
+    let after-byte-at4 = after-pair-value2 .before in
+    let after-byte-at3 = after-byte-at4 .before in
+    let after-pair-value = after-byte-at3 .before in
     let after-byte-at2 = after-pair-value .before in
     let after-byte-at = after-byte-at2 .before in
-    let byte = after-byte-at .byte-at in
-    let byte2 = after-byte-at2 .byte-at2 in
-    let pair = after-pair-value .pair-value in
-    c .kind-of .ensures ∙ rw (c .before .pair-value2 .ensures, pair .ensures, byte2 .ensures, byte .ensures)
+    let reader = after-pair-value .pair-value in
+    let option = after-pair-value2 .pair-value2 in
+    c .kind-of .ensures ∙ rw (
+      c .before .pair-value3 .ensures,
+      reader .ensures,
+      option .ensures,
+      after-byte-at .byte-at .ensures,
+      after-byte-at2 .byte-at2 .ensures,
+      after-byte-at3 .byte-at3 .ensures,
+      after-byte-at4 .byte-at4 .ensures,
+    )
 
 returns : tie.Need-returns
 returns c =
@@ -46,7 +58,8 @@ returns-3 : tie.Need-returns-3
 returns-3 c =
     let start = c .before .before .before .before .before .before in
     let a = start .args in
-    frame-bad (a .line .now) (a .bytes .now) (within-bad (length (a .bytes .now)) (a .line .now) (bad-text (a .line .now) (sym (c .before .is-hex .ensures) ∙ not-true _ (c .if3 .taken))))
+    frame-bad (a .line .now) (a .bytes .now) (within-bad (length (a .bytes .now)) (a .line .now)
+    (bad-text (a .line .now) (sym (c .before .is-hex .ensures) ∙ not-true _ (c .if3 .taken))))
 
 returns-4 : tie.Need-returns-4
 returns-4 c =
@@ -57,7 +70,7 @@ returns-4 c =
 
 returns-5 : tie.Need-returns-5
 returns-5 c =
-    let at-if4 = c .before .before .before .before .before .before .before .before .before in
+    let at-if4 = c .before .before .before .before .before .before .before .before .before .before .before .before in
     let stage = at-if4 .before in
     let at-if2 = stage .before .before in
     let at-if1 = at-if2 .before in
@@ -67,13 +80,14 @@ returns-5 c =
     let made = stage in
     let if4 = at-if4 .if4 in
     let a = start .args in
-    frame-other (a .line .now) (if1 .left) (if2 .left) (hexed made) (a .bytes .now) (if4 .left) (sym (kinded (c .before .before)) ∙ c .enum-told .given .1)
+    frame-other (a .line .now) (if1 .left) (if2 .left) (hexed made) (a .bytes .now) (if4 .left)
+    (sym (kinded (c .before .before)) ∙ c .enum-told .given .1)
 
 returns-6 : tie.Need-returns-6
 returns-6 c =
     let after-match = c .before .before .before .before .before in
     let stage = after-match .before in
-    let at-if4 = stage .before .before .before .before .before .before .before in
+    let at-if4 = stage .before .before .before .before .before .before .before .before .before .before in
     let stage-2 = at-if4 .before in
     let at-if2 = stage-2 .before .before in
     let at-if1 = at-if2 .before in
@@ -86,10 +100,13 @@ returns-6 c =
     let match = after-match .match in
     let a = start .args in
     let whole = take-all (length (a .line .now) - 2) (drop 2 (a .line .now)) (omega (arith, length-drop 2 (a .line .now))) in
-    frame-good (a .line .now) (if1 .left) (if2 .left) (hexed made) (a .bytes .now) (if4 .left) _ _ (kinded made-2) (λ e. miss (0 ∷ 1 ∷ 2 ∷ 3 ∷ []) 4 tt (rw e at (match .keys2))) (c .before .before .put-decoded .ensures .bytes ∙ ap (λ (x : List ℕ). sets (a .bytes .now) 0 (decoded x)) whole)
+    frame-good (a .line .now) (if1 .left) (if2 .left) (hexed made) (a .bytes .now) (if4 .left) _ _ (kinded made-2)
+    (λ e. miss (0 ∷ 1 ∷ 2 ∷ 3 ∷ []) 4 tt (rw e at (match .keys2)))
+    (c .before .before .put-decoded .ensures .bytes ∙ ap (λ (x : List ℕ). sets (a .bytes .now) 0 (decoded x)) whole)
 
 pub read-frame-spec : {M : Type 1} → statement M
 read-frame-spec =
     tie.close (tie.spec returns returns-2 (λ c κs. search needs) returns-3 (λ c. search needs) returns-4 (λ c κs. search needs) (λ c κs. search needs)
-    (λ c κs. search needs) (λ c. search needs) (λ c. search needs) (λ c κs. search needs) (λ c κs. search needs) (λ c. search needs) returns-5
-    (λ c. search needs) (λ c. search needs) (λ c. search needs) (λ c κs. search needs) (λ c. search needs) returns-6)
+    (λ c κs. search needs) (λ c κs. search needs) (λ c κs. search needs) (λ c κs. search needs) (λ c. search needs) (λ c. search needs)
+    (λ c κs. search needs) (λ c κs. search needs) (λ c. search needs) returns-5 (λ c. search needs) (λ c. search needs) (λ c. search needs)
+    (λ c κs. search needs) (λ c. search needs) returns-6)

@@ -32,7 +32,8 @@ returns c =
     let at-loop-test = c .before .before .before .before in
     let turn-2 = at-loop-test .before in
     let turn = turn-2 .loop in
-    links-fails (linking-bad (turn .inv) (omega (arith, turn .inv .size, at-loop-test .loop-test .taken)) (sym (c .before .before .next-row .ensures) ∙ c .enum-told .given .1)) (turn .inv .size)
+    links-fails (linking-bad (turn .inv) (omega (arith, turn .inv .size, at-loop-test .loop-test .taken))
+    (sym (c .before .before .next-row .ensures) ∙ c .enum-told .given .1)) (turn .inv .size)
 
 -- where a row is read
 stepped : (c : tie.After-known-told Inv-loop μ-loop) →
@@ -41,8 +42,8 @@ stepped : (c : tie.After-known-told Inv-loop μ-loop) →
     stepOf area (nameIn area (turn .previous)) (getD (turn .words) (turn .i) 0) ≡ Next (c .before .row .given .0 .0)
 stepped c = sym (c .before .before .before .next-row .ensures) ∙ c .before .row .given .1
 
-word-requires : tie.Need-word-requires Inv-loop μ-loop
-word-requires c κs =
+relinked-requires : tie.Need-relinked-requires Inv-loop μ-loop
+relinked-requires c κs =
     let turn-2 = c .before .before .before .before .before .before in
     let start = turn-2 .before .before .before .before in
     let area = start .args .area .now in
@@ -59,7 +60,8 @@ loop-again c =
     let at-loop-test = c .before .before .before .before .before .before in
     let turn-2 = at-loop-test .before in
     let turn = turn-2 .loop in
-    rw (c .word .ensures) (linking-more (turn .inv) (omega (arith, turn .inv .size, at-loop-test .loop-test .taken)) (c .before .before .row .given .0 .0) (stepped (c .before)))
+    rw (c .relinked .ensures) (linking-more (turn .inv) (omega (arith, turn .inv .size, at-loop-test .loop-test .taken))
+    (c .before .before .row .given .0 .0) (stepped (c .before)))
 
 same-length-2 : tie.Need-same-length-2 Inv-loop μ-loop
 same-length-2 c = c .before .loop .inv .size
@@ -70,5 +72,6 @@ returns-2 c = links-rows (c .before .loop .inv) (c .loop-test .left)
 pub link-rows-spec : {M : Type 1} → statement M
 link-rows-spec =
     tie.close (tie.spec Inv-loop μ-loop (λ c κs. search needs) loop-holds (λ c. search needs) (λ c. search needs) (λ c κs. search needs)
-    (λ c. search needs) (λ c. search needs) same-length returns word-requires (λ c. search needs) (λ c. search needs) (λ c. search needs) loop-less
+    (λ c. search needs) (λ c. search needs) same-length returns relinked-requires (λ c. search needs) (λ c. search needs) (λ c. search needs)
+    loop-less
     loop-again same-length-2 returns-2)

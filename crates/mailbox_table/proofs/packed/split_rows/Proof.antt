@@ -40,7 +40,8 @@ returns-2 c =
     let at-if1 = c .before .before .before .before in
     let limit = c .before .before .before .least in
     let turn = c .before .before .loop in
-    splits-fails (limit .result) (limit .ensures) (at-if1 .if1 .left) (splitting-full (turn .inv) (c .before .loop-test .taken) (c .if2 .taken)) (turn .inv .size)
+    splits-fails (limit .result) (limit .ensures) (at-if1 .if1 .left) (splitting-full (turn .inv) (c .before .loop-test .taken) (c .if2 .taken))
+    (turn .inv .size)
 
 row-at-requires : tie.Need-row-at-requires Inv-loop μ-loop
 row-at-requires c κs =
@@ -78,12 +79,15 @@ byte c k =
     let after-shared-slice-known = c .before .before .before .before .before .before .before .before .before .before in
     after-shared-slice-known .shared-slice-known .given k .fits
 
-word-requires : tie.Need-word-requires Inv-loop μ-loop
-word-requires c κs =
+word-at-requires : tie.Need-word-at-requires Inv-loop μ-loop
+word-at-requires c κs =
     let turn = c .before .before .before .before .before .before in
     let at-if1 = turn .before .before in
     let start = at-if1 .before .before .before in
-    step-packs (start .args .table .now) (turn .loop .at) (c .before .row .given .0 .0) (stepped c) (at-if1 .if1 .left) (λ k. byte c k)
+    let at-loop-test = c .before .before .before .before .before in (
+      record { inside = at-loop-test .loop-test .taken; bound = at-if1 .if1 .left },
+      step-packs (start .args .table .now) (turn .loop .at) (c .before .row .given .0 .0) (stepped c) (at-if1 .if1 .left) (λ k. byte c k),
+    )
 
 mul-words : tie.Need-mul-words Inv-loop μ-loop
 mul-words c =
@@ -118,8 +122,9 @@ loop-again c =
     let turn = at-loop-test .before in
     let after-least = turn .before in
     let at-if1 = after-least .before in
-    rw (c .before .word .ensures)
-    (splitting-more (turn .loop .inv) (at-loop-test .loop-test .taken) (at-if1 .if1 .left) (λ k. byte known k) (at-if2 .if2 .left) (omega (arith, after-least .least .ensures)) (known .before .row .given .0 .0) (stepped known))
+    rw (c .before .word-at .ensures)
+    (splitting-more (turn .loop .inv) (at-loop-test .loop-test .taken) (at-if1 .if1 .left) (λ k. byte known k) (at-if2 .if2 .left)
+    (omega (arith, after-least .least .ensures)) (known .before .row .given .0 .0) (stepped known))
 
 same-length-3 : tie.Need-same-length-3 Inv-loop μ-loop
 same-length-3 c = c .before .loop .inv .size
@@ -132,5 +137,5 @@ returns-4 c =
 pub split-rows-spec : {M : Type 1} → statement M
 split-rows-spec =
     tie.close (tie.spec Inv-loop μ-loop returns (λ c κs. search needs) loop-holds same-length returns-2 row-at-requires (λ c. search needs)
-    (λ c. search needs) same-length-2 returns-3 word-requires mul-words slice-write-words (λ c. search needs) add-at loop-less loop-again
+    (λ c. search needs) same-length-2 returns-3 word-at-requires mul-words slice-write-words (λ c. search needs) add-at loop-less loop-again
     same-length-3 returns-4)

@@ -13,22 +13,27 @@ first-edit-requires : tie.Need-first-edit-requires
 first-edit-requires c κs =
     let after-is-edit-line = c .before .before .before .before in
     let at-if1 = after-is-edit-line .before in
-    let start = at-if1 .before .before .before .before .before .before in (start .pre, (at-if1 .if1 .left, sym (after-is-edit-line .is-edit-line .ensures) ∙ c .before .before .before .if2 .taken))
+    let start =
+    at-if1 .before .before .before .before .before .before in (start .pre, (at-if1 .if1 .left, sym (after-is-edit-line .is-edit-line .ensures) ∙ c .before .before .before .if2 .taken))
+
+slice-aggregate-spaces : tie.Need-slice-aggregate-spaces
+slice-aggregate-spaces c =
+    let start = c .before .before .before .before .before .before .before .before .before in
+    whole-namespaces (start .pre)
 
 slice-aggregate-read-line : tie.Need-slice-aggregate-read-line
 slice-aggregate-read-line c =
-    let start = c .before .before .before .before .before .before .before .before .before in
-    whole-table (start .pre .held)
-
-slice-aggregate-read-line-2 : tie.Need-slice-aggregate-read-line-2
-slice-aggregate-read-line-2 c =
     let start = c .before .before .before .before .before .before .before .before .before .before in
-    whole-namespaces (start .pre)
+    whole-table (start .pre .held)
 
 read-line-requires : tie.Need-read-line-requires
 read-line-requires c κs =
     let after-is-edit-line = c .before .before .before .before in
-    let start = after-is-edit-line .before .before .before .before .before .before .before in (sym (after-is-edit-line .is-edit-line .ensures) ∙ c .before .before .before .if2 .left, omega (arith, whole-table (start .pre .held), start .pre .held .rows))
+    let start =
+    after-is-edit-line .before .before .before .before .before .before .before in (
+      sym (after-is-edit-line .is-edit-line .ensures) ∙ c .before .before .before .if2 .left,
+      omega (arith, whole-table (start .pre .held), start .pre .held .rows),
+    )
 
 returns-3 : tie.Need-returns-3
 returns-3 c =
@@ -38,10 +43,11 @@ returns-3 c =
     let start = at-if1 .before .before .before .before .before .before in
     let before = lent (start .args .table .now) (start .args .records .now) (start .args .namespaces .now) (start .args .out .now) in
     rw (c .said .ensures)
-    (obeys-read before (start .args .stored) (start .pre) (start .args .command .now) _ _ (at-if1 .if1 .left) (sym (after-is-edit-line .is-edit-line .ensures) ∙ at-if2 .if2 .left) (c .before .before .before .read-line .ensures))
+    (obeys-read before (start .args .stored) (start .pre) (start .args .reader) (start .args .command .now) _ _ (at-if1 .if1 .left)
+    (sym (after-is-edit-line .is-edit-line .ensures) ∙ at-if2 .if2 .left) (c .before .before .before .read-line .ensures))
 
 pub obey-spec : {M : Type 1} → statement M
 obey-spec =
     tie.close (tie.spec (λ c κs. search needs) (λ c. search needs) (λ c. search needs) (λ c. search needs) (λ c. search needs) (λ c κs. search needs)
-    first-edit-requires (λ c. search needs) (λ c. search needs) (λ c. search needs) (λ c. search needs) (λ c. search needs) slice-aggregate-read-line
-    slice-aggregate-read-line-2 read-line-requires (λ c κs. search needs) (λ c. search needs) (λ c. search needs) returns-3)
+    first-edit-requires (λ c. search needs) (λ c. search needs) (λ c. search needs) (λ c. search needs) slice-aggregate-spaces (λ c. search needs)
+    slice-aggregate-read-line read-line-requires (λ c κs. search needs) (λ c. search needs) (λ c. search needs) returns-3)

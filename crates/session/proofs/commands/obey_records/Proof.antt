@@ -32,7 +32,8 @@ put-reply-requires : tie.Need-put-reply-requires
 put-reply-requires c κs =
     let after-answer-words = c .before .before .before .before .before .before .before in
     let stage = after-answer-words .before .before in
-    let done = after-answer-words .answer-words in reply-fits _ _ _ (done .ensures .0 .0) (done .ensures .1 .0) (done .kept .1 .1 .1 .1 .1 .1 .0 ∙ sized stage)
+    let done = after-answer-words .answer-words in reply-fits _ _ _ (done .ensures .0 .0) (done .ensures .1 .0)
+    (done .kept .1 .1 .1 .1 .1 .1 .1 .0 ∙ sized stage)
 
 returns : tie.Need-returns
 returns c =
@@ -42,8 +43,9 @@ returns c =
     let done = after-answer-words .answer-words in
     let before = lent (start .args .table .now) (start .args .records .now) (start .args .namespaces .now) (start .args .out .now) in
     rw (c .with-records .ensures)
-    (obeys-records before (start .args .stored) (start .pre .0) (start .args .command .now) (start .pre .1) _ (done .last .1 .1 .1 .0) (done .last .0) (sized stage) _ _ _
-    (done .ensures .0 .1) (done .ensures .1 .1 .0) (done .ensures .1 .1 .1 .0) (done .kept .1 .1 .1 .0) (done .kept .0)
+    (obeys-records before (start .args .stored) (start .pre .0) (start .args .reader) (start .args .command .now) (start .pre .1) _
+    (done .last .1 .1 .1 .1 .0) (done .last .0) (sized stage) _ _ _
+    (done .ensures .0 .1) (done .ensures .1 .1 .0) (done .ensures .1 .1 .1 .0) (done .kept .1 .1 .1 .1 .0) (done .kept .0)
     (reply-says _ _ _ (done .ensures .0 .0) (done .ensures .1 .0) (c .before .before .before .put-reply .ensures)))
 
 pub obey-records-spec : {M : Type 1} → statement M

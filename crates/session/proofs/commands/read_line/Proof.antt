@@ -14,7 +14,8 @@ sized c = ap length (c .no-bytes .ensures) ∙ length-replicate {A = ℕ} 16384 
 put-reply-requires : tie.Need-put-reply-requires
 put-reply-requires c κs =
     let stage = c .before .before .before .before .before in
-    let read = c .before .before .before .read-packed in reply-fits _ _ _ (read .ensures .0) (read .ensures .1) (read .kept .1 .1 .1 .0 ∙ sized stage)
+    let read = c .before .before .before .read-packed in reply-fits _ _ _ (read .ensures .0) (read .ensures .1)
+    (read .kept .1 .1 .1 .1 .0 ∙ sized stage)
 
 returns : tie.Need-returns
 returns c =
@@ -22,7 +23,8 @@ returns c =
     let stage = after-read-packed .before .before in
     let start = stage .before .before .before .before .before in
     let read = after-read-packed .read-packed in
-    reads-line _ _ _ _ _ _ _ _ _ (sized stage) (start .pre .1) (start .pre .0) (read .ensures .0) (read .ensures .1) (c .before .before .put-reply .ensures)
+    reads-line _ _ _ _ _ _ _ _ _ _ (sized stage) (start .pre .1) (start .pre .0) (read .ensures .0) (read .ensures .1)
+    (c .before .before .put-reply .ensures)
 
 pub read-line-spec : {M : Type 1} → statement M
 read-line-spec =

@@ -3,7 +3,7 @@ use mathlib.Core.Path.{_≡_, ap, _∙_}
 use Prim.Native.Nat.{ℕ}
 use lib.ListN.{length, length-replicate}
 use Rattle.mailbox_table.proofs.HeldLaws.{index-held, index-refused}
-use Rattle.session.proofs.LayLaws.{rows-short, lays-rows}
+use Rattle.session.proofs.LayLaws.{rows-short, rows-inside, lays-rows}
 use borrow.Author.Needs.{needs}
 use Rattle.session.proofs.store.lay_out.Statement.{statement}
 use Rattle.session.proofs.store.lay_out.Tie as tie
@@ -15,7 +15,8 @@ sized start = ap length (start .pre .words) ∙ length-replicate {A = ℕ} 512 0
 returns : tie.Need-returns
 returns c =
     let after-index = c .before .before .before .before in
-    let start = after-index .before .before .before .before .before in index-refused (after-index .index .ensures) (sized start) (c .enum-told .given .1)
+    let start = after-index .before .before .before .before .before in index-refused (after-index .index .ensures) (sized start)
+    (c .enum-told .given .1)
 
 slice-relend-prefix-place-names : tie.Need-slice-relend-prefix-place-names
 slice-relend-prefix-place-names c =
@@ -29,8 +30,13 @@ slice-aggregate-place-names c =
 
 place-names-requires : tie.Need-place-names-requires
 place-names-requires c κs =
-    let after-index = c .before .before .before .before .before .before .before in
-    let start = after-index .before .before .before .before .before in rows-short (after-index .index .ensures) (sized start) _ (c .before .before .before .n .given .1) (start .pre .table)
+    let after-n = c .before .before .before in
+    let after-index = after-n .before .before .before .before in
+    let start =
+    after-index .before .before .before .before .before in (
+      rows-short (after-index .index .ensures) (sized start) _ (after-n .n .given .1) (start .pre .table),
+      rows-inside (after-index .index .ensures) (sized start) _ (after-n .n .given .1),
+    )
 
 returns-2 : tie.Need-returns-2
 returns-2 c =
@@ -39,7 +45,8 @@ returns-2 c =
     let after-index = after-n .before .before .before .before in
     let start = after-index .before .before .before .before .before in
     let placed = after-place-names .place-names .ensures in
-    lays-rows (after-index .index .ensures) (sized start) _ (after-n .n .given .1) _ _ (after-place-names .place-names .last .1 .0) (start .pre) (placed .0) (placed .1)
+    lays-rows (after-index .index .ensures) (sized start) _ (after-n .n .given .1) _ _ (after-place-names .place-names .last .1 .0) (start .pre)
+    (placed .0) (placed .1)
 
 pub lay-out-spec : {M : Type 1} → statement M
 lay-out-spec =

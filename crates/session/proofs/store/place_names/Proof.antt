@@ -18,24 +18,27 @@ abbrev μ-loop : tie.MeasureT-loop
 loop-holds : tie.Need-loop-holds Inv-loop μ-loop
 loop-holds c = placing-none _ _ _
 
-cast-t13 : tie.Need-cast-t13 Inv-loop μ-loop
-cast-t13 c =
-    let turn = c .before .before .before .before .before in
-    let start = turn .before .before .before .before in omega (arith, placing-room (turn .loop .inv) (start .pre))
+cast-t15 : tie.Need-cast-t15 Inv-loop μ-loop
+cast-t15 c =
+    let turn = c .before .before .before .before .before .before .before in
+    let start = turn .before .before .before .before in omega (arith, placing-room (turn .loop .inv) (start .pre .0))
 
-cast-t14 : tie.Need-cast-t14 Inv-loop μ-loop
-cast-t14 c = omega (arith, name-short _ _ _ _ (c .before .before .of-word .ensures) (c .name-of .ensures))
+cast-t16 : tie.Need-cast-t16 Inv-loop μ-loop
+cast-t16 c = omega (arith, name-short _ _ _ _ (c .before .before .before .before .of-word .ensures) (c .before .before .name-of .ensures))
 
 loop-again : tie.Need-loop-again Inv-loop μ-loop
 loop-again c =
     let after-word-of = c .before .before .before .before in
-    let after-name-of = after-word-of .before in
+    let after-readers-of = after-word-of .before in
+    let after-name-of = after-readers-of .before .before in
     let after-of-word = after-name-of .before .before in
     let at-loop-test = after-of-word .before .before in
     let turn-2 = at-loop-test .before in
     let start = turn-2 .before .before .before .before in
     let turn = turn-2 .loop in
-    placing-more (turn .inv) (at-loop-test .loop-test .taken) (start .pre) _ _ _ _ _ (after-of-word .of-word .ensures) (after-name-of .name-of .ensures) (after-word-of .word-of .ensures .1) (c .before .before .put-all .ensures)
+    placing-more (turn .inv) (at-loop-test .loop-test .taken) (start .pre .0) (start .pre .1) _ _ _ _ _ _ (after-of-word .of-word .ensures)
+    (after-name-of .name-of .ensures) (after-readers-of .readers-of .ensures) (after-word-of .word-of .ensures .1)
+    (c .before .before .put-all .ensures)
 
 same-length-2 : tie.Need-same-length-2 Inv-loop μ-loop
 same-length-2 c = let inv = c .before .loop .inv in ap length (inv .bytes) ∙ length-sets _ 0 (inv .done)
@@ -45,6 +48,6 @@ returns c = placing-all (c .before .loop .inv) (omega (arith, c .loop-test .left
 
 pub place-names-spec : {M : Type 1} → statement M
 place-names-spec =
-    tie.close (tie.spec Inv-loop μ-loop loop-holds (λ c. search needs) (λ c. search needs) (λ c κs. search needs) (λ c κs. search needs) cast-t13
-    cast-t14 (λ c κs. search needs) (λ c. search needs) (λ c. search needs) (λ c κs. search needs) (λ c. search needs) (λ c. search needs) loop-again
-    (λ c. search needs) same-length-2 returns)
+    tie.close (tie.spec Inv-loop μ-loop loop-holds (λ c. search needs) (λ c. search needs) (λ c κs. search needs) (λ c κs. search needs)
+    (λ c. search needs) (λ c. search needs) (λ c κs. search needs) cast-t15 cast-t16 (λ c κs. search needs) (λ c. search needs) (λ c. search needs)
+    (λ c κs. search needs) (λ c. search needs) (λ c. search needs) loop-again (λ c. search needs) same-length-2 returns)

@@ -24,8 +24,13 @@ returns c =
     let at-if1 = after-collect-words .before .before .before .before .before .before in
     let start = at-if1 .before .before .before .before .before .before in
     let walked = after-collect-words .collect-words .ensures in
-    let same = walks-records (start .args .stored) (start .args .table .now) (start .args .records .now) (at-if1 .if1 .taken) in
-    (walked .0 ∙ ap (λ (t : Table). collectedOf t (start .args .option) (start .args .scratch .now) (start .args .found .now) (start .args .pending .now)) same, walked .1 .1 .0 ∙ ap (λ (t : Table). foundOf t (start .args .option) (start .args .scratch .now) (start .args .found .now) (start .args .pending .now)) same)
+    let same = walks-records (start .args .reader) (start .args .stored) (start .args .table .now) (start .args .records .now)
+    (at-if1 .if1 .taken) in (
+      walked .0 ∙ ap (λ (t : Table). collectedOf (start .args .reader) t (start .args .option) (start .args .scratch .now) (start .args .found .now)
+          (start .args .pending .now)) same,
+      walked .1 .1 .0 ∙ ap (λ (t : Table). foundOf (start .args .reader) t (start .args .option) (start .args .scratch .now) (start .args .found .now)
+          (start .args .pending .now)) same,
+    )
 
 slice-aggregate-collect-packed : tie.Need-slice-aggregate-collect-packed
 slice-aggregate-collect-packed c =
@@ -38,8 +43,12 @@ returns-2 c =
     let at-if1 = after-collect-packed .before .before .before .before .before in
     let start = at-if1 .before .before .before .before .before .before in
     let walked = after-collect-packed .collect-packed .ensures in
-    let same = walks-packed (start .args .stored) (start .args .table .now) (start .args .records .now) (at-if1 .if1 .left) in
-    (walked .0 ∙ ap (λ (t : Table). collectedOf t (start .args .option) (start .args .scratch .now) (start .args .found .now) (start .args .pending .now)) same, walked .1 .1 .0 ∙ ap (λ (t : Table). foundOf t (start .args .option) (start .args .scratch .now) (start .args .found .now) (start .args .pending .now)) same)
+    let same = walks-packed (start .args .reader) (start .args .stored) (start .args .table .now) (start .args .records .now) (at-if1 .if1 .left) in (
+      walked .0 ∙ ap (λ (t : Table). collectedOf (start .args .reader) t (start .args .option) (start .args .scratch .now) (start .args .found .now)
+          (start .args .pending .now)) same,
+      walked .1 .1 .0 ∙ ap (λ (t : Table). foundOf (start .args .reader) t (start .args .option) (start .args .scratch .now) (start .args .found .now)
+          (start .args .pending .now)) same,
+    )
 
 pub collect-kept-spec : {M : Type 1} → statement M
 collect-kept-spec =

@@ -173,7 +173,7 @@ fn order_of_the_checks() {
     let run = |store: &mut Store, list: &[u8], line: &str| {
         let before = store.clone();
         let mut out = [FILL; 40];
-        let result = store.lend(|lent| answer(lent, list, line.as_bytes(), &mut out));
+        let result = store.lend(|lent| answer(0, lent, list, line.as_bytes(), &mut out));
         assert_eq!((&*store, out), (&before, [FILL; 40]), "{line}");
         result.map_err(Refusal::number).expect_err("a refusal")
     };
@@ -213,7 +213,7 @@ fn counts() {
         }
         let mut lent = [[FILL; 9]; 3];
         let [scratch, found, pending] = &mut lent;
-        let walked = collect(Table::Records(store.as_records()), 0, scratch, found, pending);
+        let walked = collect(0, Table::Records(store.as_records()), 0, scratch, found, pending);
         assert_eq!(walked, Err(Refusal::Table));
     }
     most.count = MAX_ROWS;
@@ -224,9 +224,9 @@ fn counts() {
 #[test]
 fn edits_of_tables_lent_for_reading() {
     let read = |table, line: &str| {
-        answer_reading(table, b"", line.as_bytes(), &mut [0; 20]).map_err(Refusal::number)
+        answer_reading(0, table, b"", line.as_bytes(), &mut [0; 20]).map_err(Refusal::number)
     };
-    let (tree, packed) = (tree(), b"\0\x01\x01a\0\x02\x01b");
+    let (tree, packed) = (tree(), b"\0\x01\xFF\x01a\0\x02\xFF\x01b");
     let records = Table::Records(tree.as_records());
     for (table, line, expected) in [
         (records, "a SUBSCRIBE Foo\r\n", Ok(OK.len())),

@@ -21,7 +21,7 @@ fn listings_and_walks_between_edits() {
         let mut lent = vec![[0; 200]; 3];
         let [scratch, found, pending] = lent.as_mut_slice() else { unreachable!() };
         let table = Table::Records(store.as_records());
-        let (count, length) = collect(table, 0, scratch, found, pending).expect("a walk");
+        let (count, length) = collect(0, table, 0, scratch, found, pending).expect("a walk");
         (count, found[..length].escape_ascii().to_string())
     };
     let lsub = "a LSUB \"\" %";

@@ -1,0 +1,13 @@
+-- `mailbox_table::readers::readers_of` meets its contract: the byte is the definition, opened.
+use mathlib.Core.Path.{refl}
+use Rattle.records.specs.Words.{recordOf}
+use borrow.Author.Needs.{needs}
+use Rattle.mailbox_table.proofs.readers.readers_of.Statement.{statement}
+use Rattle.mailbox_table.proofs.readers.readers_of.Tie as tie
+
+returns : tie.Need-returns
+unfolding recordOf
+returns c = refl
+
+pub readers-of-spec : {M : Type 1} → statement M
+readers-of-spec = tie.close (tie.spec (λ c. search needs) returns)

@@ -63,7 +63,7 @@ pub fn matching_candidates<'t>(rows: &[Row<'t>], patterns: &[Vec<u8>]) -> Matchi
 /// "A candidate meets the criteria if: it exists or SUBSCRIBED is selected; it is local or
 /// REMOTE is selected; it is subscribed if SUBSCRIBED is selected; and it has a special use if
 /// SPECIAL-USE is selected."
-fn meets_criteria(flags: Flags, selection: Selection) -> bool {
+pub fn meets_criteria(flags: Flags, selection: Selection) -> bool {
     (flags.has(Flags::EXISTS) || selection.subscribed)
         && (!flags.has(Flags::REMOTE) || selection.remote)
         && (flags.has(Flags::SUBSCRIBED) || !selection.subscribed)

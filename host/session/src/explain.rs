@@ -37,6 +37,11 @@ pub struct Stored {
 type Origins = Vec<(usize, u64)>;
 
 impl Stored {
+    /// The second program, with what it has stored.
+    pub fn program(&self) -> &Program {
+        &self.program
+    }
+
     /// Stores what a frame adds; false if it adds nothing, and then it is answered.
     pub fn store(&mut self, line: u64, frame: Option<&Frame>) -> bool {
         let program = &mut self.program;

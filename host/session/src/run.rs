@@ -11,6 +11,7 @@ use crate::explain::Stored;
 use crate::item::{Content, Item, Sent};
 use crate::printer::{Form, Part, Printer};
 use crate::reply::Reply;
+use crate::report::{Came, Report};
 use crate::session::Session;
 use crate::show::counted;
 use crate::summary::Summary;
@@ -41,8 +42,28 @@ pub fn run_session(
     form: Form,
     output: &mut impl Write,
 ) -> (Summary, Result<(), RunError>) {
+    run_printing(program, session, Printer::new(output, form), None)
+}
+
+/// The same, and fills a report, be it one of a session that stopped.
+pub fn run_reported(
+    program: &Path,
+    session: &Session,
+    form: Form,
+    output: &mut impl Write,
+    report: &mut Report,
+) -> (Summary, Result<(), RunError>) {
+    run_printing(program, session, Printer::new(output, form), Some(report))
+}
+
+fn run_printing(
+    program: &Path,
+    session: &Session,
+    printer: Printer<impl Write>,
+    report: Option<&mut Report>,
+) -> (Summary, Result<(), RunError>) {
     let mut summary = Summary::default();
-    let result = run_items(program, session, Printer::new(output, form), &mut summary);
+    let result = run_items(program, session, printer, &mut summary, report);
     (summary, result)
 }
 
@@ -51,14 +72,17 @@ fn run_items(
     session: &Session,
     printer: Printer<impl Write>,
     summary: &mut Summary,
+    report: Option<&mut Report>,
 ) -> Result<(), RunError> {
     let send = session.sender().map_err(RunError::Session)?;
     let running = Running::start(program, PATIENCE, send).map_err(RunError::Program)?;
     let progress = Progress { done: 0, length: session.length };
-    let mut run = Run { running, printer, stored: Stored::default(), summary, progress };
-    for item in session.items().map_err(RunError::Session)? {
-        run.take(&item.map_err(RunError::Session)?)?;
+    let mut run = Run { running, printer, stored: Stored::default(), summary, report, progress };
+    let result = run.take_all(session);
+    if let Some(report) = &mut run.report {
+        report.record_end(run.stored.program());
     }
+    result?;
     run.printer.print_summary(run.summary).map_err(RunError::Output)?;
     run.running.finish().map_err(RunError::Program)
 }
@@ -69,14 +93,38 @@ struct Run<'o, 's, W> {
     printer: Printer<'o, W>,
     stored: Stored,
     summary: &'s mut Summary,
+    report: Option<&'s mut Report>,
     progress: Progress,
 }
 
+/// What is told of an answer beside it.
+#[derive(Default)]
+struct Told {
+    /// Why it is a refusal.
+    explanation: Option<String>,
+    /// What an edit does.
+    effect: Option<String>,
+    /// What its reader does not see.
+    hidden: Option<Vec<String>>,
+}
+
 impl<W: Write> Run<'_, '_, W> {
+    fn take_all(&mut self, session: &Session) -> Result<(), RunError> {
+        for item in session.items().map_err(RunError::Session)? {
+            self.take(&item.map_err(RunError::Session)?)?;
+        }
+        Ok(())
+    }
+
     fn take(&mut self, item: &Item) -> Result<(), RunError> {
         let printer = &mut self.printer;
         match &item.content {
-            Content::Comment(comment) => printer.print_comment(comment).map_err(RunError::Output),
+            Content::Comment(comment) => {
+                if let Some(report) = &mut self.report {
+                    report.record_comment(comment);
+                }
+                printer.print_comment(comment).map_err(RunError::Output)
+            }
             Content::AsGiven => printer.print_order("as given").map_err(RunError::Output),
             Content::Sorted(count) => {
                 let lines = counted(*count, "mailbox line", "mailbox lines");
@@ -87,7 +135,7 @@ impl<W: Write> Run<'_, '_, W> {
         }
     }
 
-    /// Prints what is sent and what comes of it, and counts both.
+    /// Prints what is sent and what comes of it, counts both, and reports them.
     fn exchange(&mut self, line: u64, sent: &Sent) -> Result<(), RunError> {
         let whole = Some(&sent.frame).filter(|frame| !frame.is_cut);
         let frame = whole.and_then(|frame| Frame::decode(&frame.text).ok());
@@ -96,29 +144,48 @@ impl<W: Write> Run<'_, '_, W> {
         self.summary.count_sent(frame.as_ref(), is_kept);
         self.printer.print_sent(sent, part).map_err(RunError::Output)?;
         let reply = if is_kept { None } else { Some(self.next_reply(frame.as_ref())?) };
-        let explanation = match reply {
-            Some(Reply::Refused(number)) => self.stored.explanation(sent, number),
-            _ => None,
-        };
-        let effect = match reply {
-            Some(Reply::Lines(_)) => self.stored.follow(sent, frame.as_ref()),
-            _ => None,
-        };
-        let (reply, explanation) = (reply.as_ref(), explanation.as_deref());
+        let told = self.told(sent, frame.as_ref(), reply.as_ref());
+        let (reply, explanation) = (reply.as_ref(), told.explanation.as_deref());
         self.summary.count_reply(line, sent, reply, explanation);
-        self.printer.print_reply(sent, reply, explanation).map_err(RunError::Output)?;
-        if let Some(effect) = effect {
-            self.printer.print_effect(&effect).map_err(RunError::Output)?;
+        if let Some(report) = &mut self.report {
+            let program = self.stored.program();
+            let (effect, hidden) = (told.effect.as_deref(), told.hidden.as_deref());
+            let frame = frame.as_ref();
+            let came = Came { line, sent, frame, reply, explanation, effect, hidden, program };
+            report.record(&came);
         }
-        if let Some(Reply::Lines(_) | Reply::Walked { .. }) = reply {
-            if let Some(hidden) = self.stored.hidden(frame.as_ref()) {
-                self.printer.print_hidden(hidden).map_err(RunError::Output)?;
-            }
-        }
+        self.print_reply(sent, reply, &told).map_err(RunError::Output)?;
         self.progress.count();
         match reply {
             Some(Reply::Unreadable(_)) => Err(program_error("what it answers is no answer")),
             _ => Ok(()),
+        }
+    }
+
+    fn told(&mut self, sent: &Sent, frame: Option<&Frame>, reply: Option<&Reply>) -> Told {
+        match reply {
+            Some(Reply::Refused(number)) => {
+                Told { explanation: self.stored.explanation(sent, *number), ..Told::default() }
+            }
+            Some(Reply::Lines(_)) => {
+                let effect = self.stored.follow(sent, frame);
+                Told { effect, hidden: self.stored.hidden(frame), explanation: None }
+            }
+            Some(Reply::Walked { .. }) => {
+                Told { hidden: self.stored.hidden(frame), ..Told::default() }
+            }
+            Some(Reply::Unreadable(_)) | None => Told::default(),
+        }
+    }
+
+    fn print_reply(&mut self, sent: &Sent, reply: Option<&Reply>, told: &Told) -> io::Result<()> {
+        self.printer.print_reply(sent, reply, told.explanation.as_deref())?;
+        if let Some(effect) = &told.effect {
+            self.printer.print_effect(effect)?;
+        }
+        match &told.hidden {
+            Some(hidden) => self.printer.print_hidden(hidden.clone()),
+            None => Ok(()),
         }
     }
 

@@ -6,6 +6,7 @@ use crate::error::SessionError;
 use crate::item::{Content, Item};
 use crate::items::{lines_of, Items, Lines};
 use crate::order::Ordered;
+use crate::sha256::{sum_of, Sum};
 use crate::source::Source;
 
 /// Of bad lines no more are kept.
@@ -43,6 +44,11 @@ impl Session {
             return Ok(session);
         }
         Err(SessionError::Lines { bad: all_bad, more })
+    }
+
+    /// The sum of its bytes, as they stand.
+    pub fn sum(&self) -> io::Result<Sum> {
+        sum_of(self.source.open()?)
     }
 
     /// The items in the order in which they are sent.

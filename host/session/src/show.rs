@@ -38,6 +38,11 @@ impl Shown {
         Shown::new(label, vec![line])
     }
 
+    /// Each line with its label.
+    pub fn lines(&self) -> impl Iterator<Item = (&'static str, &str)> {
+        self.0.iter().map(|(label, line)| (*label, line.as_str()))
+    }
+
     /// What comes from a reader, who is told but for reader 0.
     fn and_reader(mut self, reader: u8) -> Shown {
         if reader != Reader::EDITOR.number() {
@@ -197,11 +202,16 @@ fn walk_text(option: u8) -> String {
 /// Lines without their CR LF, a LIST line with what its name says beside it.
 fn answer_lines(text: &[u8]) -> Vec<String> {
     let shown = |line: &[u8]| {
-        let beside = read_line(line).map(|line| beside(&line.name)).unwrap_or_default();
         let line = line.strip_suffix(b"\n").unwrap_or(line);
-        line_text(line.strip_suffix(b"\r").unwrap_or(line)) + &beside
+        let line = line.strip_suffix(b"\r").unwrap_or(line);
+        line_text(line) + &beside_line(line)
     };
     text.split_inclusive(|&byte| byte == b'\n').map(shown).collect()
+}
+
+/// What the name of a LIST line without its CR LF says in modified UTF-7, to stand beside the line.
+pub fn beside_line(line: &[u8]) -> String {
+    read_line(&[line, CRLF].concat()).map(|line| beside(&line.name)).unwrap_or_default()
 }
 
 fn walk_lines(count: u16, found: &[Vec<u8>]) -> Vec<String> {

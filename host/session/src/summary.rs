@@ -68,6 +68,23 @@ impl Summary {
         self.troubled == 0
     }
 
+    /// Each count, with what it counts.
+    pub fn counts(&self) -> [(&'static str, usize); 10] {
+        let unmet = self.troubled - (self.refused - self.expected);
+        [
+            ("rows given", self.rows.given),
+            ("rows kept", self.rows.kept),
+            ("entries given", self.entries.given),
+            ("entries kept", self.entries.kept),
+            ("commands", self.commands),
+            ("walks", self.walks),
+            ("bad frames", self.bad_frames),
+            ("refused", self.refused),
+            ("of these, refused as expected", self.expected),
+            ("not refused as expected", unmet),
+        ]
+    }
+
     /// How many frames were sent.
     pub fn sent(&self) -> usize {
         self.rows.given + self.entries.given + self.commands + self.walks + self.bad_frames

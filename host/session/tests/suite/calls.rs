@@ -37,7 +37,10 @@ fn wrong_calls() {
 /// `./run` tells a wrong call before it proves or builds anything.
 #[test]
 fn wrong_calls_of_run() {
-    let calls: [(&[&str], i32, &str); 9] = [
+    let calls: [(&[&str], i32, &str); 12] = [
+        (&["--report"], 2, "run: --report takes the path of the page to write\n"),
+        (&["--report", "x.html", "--date"], 2, "run: --date takes the date of the report\n"),
+        (&["--date", "x"], 2, "run: --date is the date of a report; --report is missing\n"),
         (&["--frame"], 2, "run: unknown option --frame\n"),
         (&["-x", FILE], 2, "run: unknown option -x\n"),
         (&["no such.session"], 2, "run: there is no file 'no such.session'\n"),

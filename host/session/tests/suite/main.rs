@@ -9,4 +9,7 @@ mod explained;
 mod failing;
 mod files;
 mod ordered;
+mod page;
+mod reports;
 mod sessions;
+mod sums;

@@ -1,0 +1,41 @@
+//! An IMAP4rev1 server over the proved library, for the names of mailboxes alone.
+//!
+//! Everything about LIST, LSUB, NAMESPACE, SUBSCRIBE and UNSUBSCRIBE is decided by the library: the
+//! feeder cuts the bytes of a connection into commands, and the command entry answers them. This crate
+//! moves bytes, answers the words that are not of these, and keeps the table.
+//!
+//! | Module | What it holds |
+//! |---|---|
+//! | `rooms` | the numbers of `include/luspemaro.h`: rooms and stacks |
+//! | `load` | the rows and entries of a session file, a file of frames or a packed table |
+//! | `table` | the table as records, and one command over it |
+//! | `frame_file` | a file of frames that is only added to |
+//! | `review` | the accepted edits, kept so that no crash loses one |
+//! | `record` | every command with what the library answered |
+//! | `account` | table, review and record together: one command decided and kept |
+//! | `words` | tag and word of a line, and what is answered to words that the library does not know |
+//! | `connection` | one connection: bytes in, answers out |
+//! | `listen` | connections of a socket: threads, and the limits of their number and idle time |
+//!
+//! Nothing here is proved. docs/SERVING.md says what a client is answered.
+
+mod account;
+mod connection;
+mod frame_file;
+mod listen;
+mod load;
+mod record;
+mod review;
+mod rooms;
+mod table;
+mod words;
+
+pub use account::{Account, Decided};
+pub use connection::{converse, Ending};
+pub use listen::{listen, Limits};
+pub use load::{load, LoadError, Loaded};
+pub use record::Record;
+pub use review::{Review, ReviewError};
+pub use rooms::{Rooms, THREAD_STACK};
+pub use table::{Table, TableError};
+pub use words::CAPABILITIES;

@@ -1,0 +1,171 @@
+//! The table that is served, as the library is lent it, and one command over it.
+
+use std::error::Error;
+use std::fmt;
+
+use luspemaro::{
+    answer, check_namespaces, check_records, check_table, compact, Answered, Reader, Record,
+    Records, Refusal,
+};
+use second::fault::ListFault;
+use second::frames::{Frame, TABLE_ROOM};
+use second::namespaces::{checked_entries, entry_at, split_entries};
+use second::packed::{row_at, split_rows};
+use second::rows::{Flags, Row};
+use second::table::checked_rows;
+use second::Readers;
+use session::name_text;
+
+use crate::rooms::{Rooms, MAX_ROWS};
+
+/// A table that passes both checks, and what it is lent.
+#[derive(Clone, Debug, PartialEq, Eq)]
+pub struct Table {
+    records: Vec<Record>,
+    count: usize,
+    area: Vec<u8>,
+    namespaces: Vec<u8>,
+    rooms: Rooms,
+}
+
+/// Why there is no table.
+#[derive(Debug, PartialEq, Eq)]
+pub enum TableError {
+    /// The library refuses it with 1 or 2. The text is the second program's, which is not proved.
+    Refused(Refusal, String),
+    /// It passes, but has more bytes than these rooms.
+    NoRoom(&'static str),
+}
+
+impl Table {
+    /// The table of packed rows and a namespace list: 512 records, names in row order without gaps from
+    /// the start of the area, all else zero.
+    pub fn new(rows: &[u8], namespaces: &[u8], rooms: Rooms) -> Result<Table, TableError> {
+        if !check_table(rows) {
+            return Err(TableError::Refused(Refusal::Table, table_fault(rows)));
+        }
+        if !check_namespaces(namespaces) {
+            return Err(TableError::Refused(Refusal::Namespaces, namespaces_fault(namespaces)));
+        }
+        if rooms == Rooms::PROGRAM && rows.len() > TABLE_ROOM {
+            return Err(TableError::NoRoom("a table that is recorded has at most 16,384 bytes"));
+        }
+        let (mut records, mut area) =
+            (Vec::with_capacity(MAX_ROWS), Vec::with_capacity(rooms.area));
+        let held = split_rows(rows).0;
+        for Row { flags, readers, name } in &held {
+            let (start, len) = (area.len() as u16, name.len() as u8);
+            records.push(Record { flags: flags.bits(), start, len, readers: readers.bits() });
+            area.extend_from_slice(name);
+        }
+        records.resize(MAX_ROWS, Record::default());
+        area.resize(rooms.area, 0);
+        let table =
+            Table { records, count: held.len(), area, namespaces: namespaces.to_vec(), rooms };
+        // Rows that pass in one form pass in the other.
+        if !check_records(table.records()) {
+            return Err(TableError::Refused(Refusal::Table, "as records".to_string()));
+        }
+        Ok(table)
+    }
+
+    /// The same rows, laid out anew.
+    pub fn laid_out(&self, rooms: Rooms) -> Result<Table, TableError> {
+        Table::new(&self.packed(), &self.namespaces, rooms)
+    }
+
+    /// What it is lent.
+    pub fn rooms(&self) -> Rooms {
+        self.rooms
+    }
+
+    /// The records, as the library's walk takes them.
+    pub fn records(&self) -> Records<'_> {
+        Records { records: &self.records, count: self.count, area: &self.area }
+    }
+
+    /// The rows in their packed form.
+    pub fn packed(&self) -> Vec<u8> {
+        self.rows().filter_map(|row| row.to_bytes()).flatten().collect()
+    }
+
+    /// A frame for each row, then for each entry, LF after each.
+    pub fn heading(&self) -> Vec<u8> {
+        let rows = self.rows().filter_map(|row| row.to_bytes()).map(Frame::Row);
+        let entries = split_entries(&self.namespaces).0;
+        let entries = entries.iter().filter_map(|entry| entry.to_bytes()).map(Frame::Entry);
+        rows.chain(entries).flat_map(|frame| [frame.encode(), b"\n".to_vec()].concat()).collect()
+    }
+
+    /// One command of a reader, answered at the front of `out`; the length of the answer. An edit that
+    /// is accepted changes the rows. A refusal changes none.
+    pub fn answer(
+        &mut self,
+        reader: Reader,
+        line: &[u8],
+        out: &mut [u8],
+    ) -> Result<usize, Refusal> {
+        let given = match self.answer_once(reader, line, out) {
+            Err(Refusal::NoRoom) if self.rooms.compacts => {
+                compact(&mut self.records, self.count, &mut self.area)?;
+                self.answer_once(reader, line, out)?
+            }
+            given => given?,
+        };
+        self.count = given.count;
+        Ok(given.length)
+    }
+
+    fn answer_once(
+        &mut self,
+        reader: Reader,
+        line: &[u8],
+        out: &mut [u8],
+    ) -> Result<Answered, Refusal> {
+        let Table { records, count, area, namespaces, .. } = self;
+        answer(reader, records, *count, area, namespaces, line, out)
+    }
+
+    fn rows(&self) -> impl Iterator<Item = Row<'_>> {
+        self.records.iter().take(self.count).filter_map(|record| {
+            let start = usize::from(record.start);
+            let name = self.area.get(start..start + usize::from(record.len))?;
+            let readers = Readers::from_bits(record.readers);
+            Some(Row { flags: Flags::from_bits(record.flags), readers, name })
+        })
+    }
+}
+
+/// Which row is wrong, and which rule it breaks.
+fn table_fault(rows: &[u8]) -> String {
+    let name = |at| row_at(rows, at).map(|row| name_text(row.name));
+    fault_text(checked_rows(second::Table::Packed(rows)).err(), name)
+}
+
+/// Which entry is wrong, and which rule it breaks.
+fn namespaces_fault(list: &[u8]) -> String {
+    let prefix = |at| entry_at(list, at).map(|entry| name_text(entry.prefix));
+    fault_text(checked_entries(list).err(), prefix)
+}
+
+fn fault_text(fault: Option<ListFault>, shown: impl Fn(usize) -> Option<String>) -> String {
+    let Some(ListFault { at, rule, other }) = fault else {
+        return "the programs differ: the second one does not refuse this".to_string();
+    };
+    let shown = |at| shown(at).unwrap_or_else(|| format!("byte {at}"));
+    let other = other.map(|other| format!(" (beside {})", shown(other))).unwrap_or_default();
+    format!("{}: {rule}{other}", shown(at))
+}
+
+impl fmt::Display for TableError {
+    fn fmt(&self, formatter: &mut fmt::Formatter) -> fmt::Result {
+        match self {
+            TableError::Refused(refusal, text) => {
+                write!(formatter, "refused with {refusal}; {text}")
+            }
+            TableError::NoRoom(text) => write!(formatter, "{text}"),
+        }
+    }
+}
+
+impl Error for TableError {}

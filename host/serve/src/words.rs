@@ -1,0 +1,236 @@
+//! Tag and word of a line, and what the server itself answers: to words that the library does not know,
+//! and for refusals.
+
+use luspemaro::{Reader, Refusal};
+
+/// What the server can do, as it says after CAPABILITY and in its greeting.
+pub const CAPABILITIES: &str = "IMAP4rev1 LIST-EXTENDED SPECIAL-USE CHILDREN NAMESPACE ID";
+
+const NO_MESSAGES: &str =
+    "[CANNOT] no messages are served here, only the names of mailboxes: LIST, LSUB, \
+                           NAMESPACE, SUBSCRIBE, UNSUBSCRIBE, CAPABILITY, ID, NOOP, LOGOUT";
+const CRLF: &[u8] = b"\r\n";
+/// Stands where a line has no tag.
+const NO_TAG: &[u8] = b"*";
+
+/// A line up to the end of its word.
+struct Start<'l> {
+    tag: &'l [u8],
+    word: &'l [u8],
+    /// What comes after the word, without CR LF.
+    rest: &'l [u8],
+}
+
+/// What the server itself answers, and whether the connection ends after it.
+#[derive(Debug, PartialEq, Eq)]
+pub struct Own {
+    pub lines: Vec<u8>,
+    pub is_end: bool,
+}
+
+/// The first line that a client is sent.
+pub fn greeting(reader: Reader) -> Vec<u8> {
+    let number = reader.number();
+    line(&[
+        NO_TAG,
+        format!("PREAUTH [CAPABILITY {CAPABILITIES}] Luspemaro, for reader {number}").as_bytes(),
+    ])
+}
+
+/// The last line of a connection that the server ends.
+pub fn farewell(why: &str) -> Vec<u8> {
+    line(&[NO_TAG, b"BYE", why.as_bytes()])
+}
+
+/// Whether the word of a line that the library has accepted is that of an edit.
+pub fn is_edit(line: &[u8]) -> bool {
+    Start::of(line).is_some_and(|start| start.is_word("SUBSCRIBE") || start.is_word("UNSUBSCRIBE"))
+}
+
+/// The answer to a line whose word the library does not know. A line without a word has none.
+pub fn own_answer(text: &[u8]) -> Option<Own> {
+    let start = Start::of(text).filter(|start| !start.word.is_empty())?;
+    let (lines, is_end) = if start.is_word("CAPABILITY") {
+        (start.plain(&["CAPABILITY ", CAPABILITIES].concat()), false)
+    } else if start.is_word("NOOP") {
+        (start.plain(""), false)
+    } else if start.is_word("LOGOUT") {
+        (start.plain("BYE Luspemaro"), start.rest.is_empty())
+    } else if start.is_word("ID") {
+        (start.id(), false)
+    } else {
+        (start.tagged("NO", NO_MESSAGES), false)
+    };
+    Some(Own { lines, is_end })
+}
+
+/// The line of a refusal: BAD for 3 to 8, which are about the line, and NO for all others. The text is
+/// the line that is refused, or its first bytes.
+pub fn refusal_line(text: &[u8], refusal: Refusal) -> Vec<u8> {
+    let status = match refusal.number() {
+        3..=8 => "BAD",
+        _ => "NO",
+    };
+    let told = format!("[refusal {}] {}", refusal.number(), refusal.meaning());
+    line(&[tag_of(text), status.as_bytes(), told.as_bytes()])
+}
+
+/// The line of a command that was not decided since it could not be kept.
+pub fn not_kept_line(text: &[u8], why: &str) -> Vec<u8> {
+    line(&[tag_of(text), b"NO [UNAVAILABLE]", why.as_bytes()])
+}
+
+/// The tag of a line, with a space or the end of the line after it; or `*` where it has none that is lawful.
+fn tag_of(text: &[u8]) -> &[u8] {
+    let (tag, rest) = split_run(text, is_tag_byte);
+    if tag.is_empty() || !(rest.starts_with(b" ") || rest.starts_with(CRLF)) {
+        return NO_TAG;
+    }
+    tag
+}
+
+impl<'l> Start<'l> {
+    fn of(text: &'l [u8]) -> Option<Start<'l>> {
+        let (tag, rest) = split_run(text, is_tag_byte);
+        let rest = rest.strip_prefix(b" ").filter(|_| !tag.is_empty())?;
+        let (word, rest) = split_run(rest, is_atom_byte);
+        Some(Start { tag, word, rest: rest.strip_suffix(CRLF).unwrap_or(rest) })
+    }
+
+    fn is_word(&self, word: &str) -> bool {
+        self.word.eq_ignore_ascii_case(word.as_bytes())
+    }
+
+    fn tagged(&self, status: &str, text: &str) -> Vec<u8> {
+        line(&[self.tag, status.as_bytes(), text.as_bytes()])
+    }
+
+    /// The answer to a word that stands alone: an untagged line, unless it is empty, and OK.
+    fn plain(&self, untagged: &str) -> Vec<u8> {
+        if !self.rest.is_empty() {
+            return self.tagged("BAD", "nothing comes after this word");
+        }
+        self.done(untagged)
+    }
+
+    /// id = "ID" SP (list / "NIL"); what the client says of itself is not looked at.
+    fn id(&self) -> Vec<u8> {
+        if !self.rest.starts_with(b" (") && !self.rest.eq_ignore_ascii_case(b" NIL") {
+            return self.tagged("BAD", "a list or NIL comes after ID");
+        }
+        let version = env!("CARGO_PKG_VERSION");
+        self.done(&format!("ID (\"name\" \"Luspemaro\" \"version\" \"{version}\")"))
+    }
+
+    fn done(&self, untagged: &str) -> Vec<u8> {
+        let mut lines = Vec::new();
+        if !untagged.is_empty() {
+            lines = line(&[NO_TAG, untagged.as_bytes()]);
+        }
+        lines.extend(self.tagged("OK", "done"));
+        lines
+    }
+}
+
+/// Words with one space between them, and CR LF.
+fn line(words: &[&[u8]]) -> Vec<u8> {
+    [&words.join(&b' '), CRLF].concat()
+}
+
+fn split_run(text: &[u8], is_of_it: impl Fn(u8) -> bool) -> (&[u8], &[u8]) {
+    text.split_at(text.iter().take_while(|&&byte| is_of_it(byte)).count())
+}
+
+/// Document 01's atom bytes.
+fn is_atom_byte(byte: u8) -> bool {
+    byte.is_ascii_graphic() && !b"(){%*\"\\]".contains(&byte)
+}
+
+/// tag = 1*(atom byte / "]"), no "+"
+fn is_tag_byte(byte: u8) -> bool {
+    (is_atom_byte(byte) || byte == b']') && byte != b'+'
+}
+
+#[cfg(test)]
+mod tests {
+    use crate::words::*;
+
+    fn refused(text: &str, refusal: Refusal) -> String {
+        String::from_utf8(refusal_line(text.as_bytes(), refusal)).expect("text")
+    }
+
+    #[test]
+    fn refusals_keep_the_tag() {
+        let cases = [
+            ("a1 LIST\r\n", "a1 BAD [refusal 4] "),
+            ("a1\r\n", "a1 BAD [refusal 4] "),
+            ("a]} LIST", "a]} BAD [refusal 4] "),
+            ("\r\n", "* BAD [refusal 4] "),
+            ("a+ LIST\r\n", "* BAD [refusal 4] "),
+            ("* LIST\r\n", "* BAD [refusal 4] "),
+            ("a", "* BAD [refusal 4] "),
+            ("a{3}\r\nabc", "* BAD [refusal 4] "),
+            ("a\tLIST\r\n", "* BAD [refusal 4] "),
+        ];
+        for (text, start) in cases {
+            let told = refused(text, Refusal::Grammar);
+            assert!(told.starts_with(start) && told.ends_with("grammar\r\n"), "{text:?}: {told:?}");
+        }
+    }
+
+    #[test]
+    fn bad_is_for_3_to_8() {
+        for refusal in Refusal::ALL {
+            let status = if (3..=8).contains(&refusal.number()) { "BAD" } else { "NO" };
+            let told = refused("a LIST\r\n", refusal);
+            assert_eq!(
+                told,
+                format!("a {status} [refusal {}] {}\r\n", refusal.number(), refusal.meaning())
+            );
+        }
+    }
+
+    #[test]
+    fn edits_by_their_word() {
+        for line in ["a SUBSCRIBE x\r\n", "a unsubscribe {1}\r\nx\r\n", "] sUbScRiBe \"\"\r\n"] {
+            assert!(is_edit(line.as_bytes()), "{line:?}");
+        }
+        for line in [
+            "a LIST SUBSCRIBE x\r\n",
+            "SUBSCRIBE x\r\n",
+            "a  SUBSCRIBE x\r\n",
+            "a SUBSCRIBED x\r\n",
+        ] {
+            assert!(!is_edit(line.as_bytes()), "{line:?}");
+        }
+    }
+
+    #[test]
+    fn own_words() {
+        let capability = format!("* CAPABILITY {CAPABILITIES}\r\na OK done\r\n");
+        let no = format!("a NO {NO_MESSAGES}\r\n");
+        let id = "* ID (\"name\" \"Luspemaro\" \"version\" \"0.1.0\")\r\na OK done\r\n";
+        let cases: [(&str, Option<&str>, bool); 15] = [
+            ("a CAPABILITY\r\n", Some(&capability), false),
+            ("a capability\r\n", Some(&capability), false),
+            ("a CAPABILITY x\r\n", Some("a BAD nothing comes after this word\r\n"), false),
+            ("a NOOP\r\n", Some("a OK done\r\n"), false),
+            ("a NOOP \r\n", Some("a BAD nothing comes after this word\r\n"), false),
+            ("a LOGOUT\r\n", Some("* BYE Luspemaro\r\na OK done\r\n"), true),
+            ("a LOGOUT now\r\n", Some("a BAD nothing comes after this word\r\n"), false),
+            ("a ID NIL\r\n", Some(id), false),
+            ("a id (\"name\" \"x\")\r\n", Some(id), false),
+            ("a ID\r\n", Some("a BAD a list or NIL comes after ID\r\n"), false),
+            ("a SELECT INBOX\r\n", Some(&no), false),
+            ("a LOGIN x y\r\n", Some(&no), false),
+            ("a }+\r\n", Some(&no), false),
+            ("a  NOOP\r\n", None, false),
+            ("a (NOOP\r\n", None, false),
+        ];
+        for (text, expected, is_end) in cases {
+            let own = own_answer(text.as_bytes());
+            let expected = expected.map(|text| Own { lines: text.as_bytes().to_vec(), is_end });
+            assert_eq!(own, expected, "{text:?}");
+        }
+    }
+}

@@ -1,0 +1,95 @@
+//! Pieces of a page. A piece is made of escaped text and of elements alone, so no name, command or
+//! comment can become markup.
+
+/// A piece of a page, well-formed as XML too.
+#[derive(Clone, Debug, Default)]
+pub struct Html(String);
+
+/// The attributes of an element; their values are escaped.
+pub type Attributes<'a> = &'a [(&'static str, &'a str)];
+
+impl Html {
+    pub fn text(text: impl AsRef<str>) -> Html {
+        Html(escaped(text.as_ref()))
+    }
+
+    /// An element with what stands in it.
+    pub fn element(tag: &'static str, attributes: Attributes, content: Html) -> Html {
+        Html(format!("<{tag}{}>{}</{tag}>", attributes_text(attributes), content.0))
+    }
+
+    /// An element that holds text alone.
+    pub fn of_text(tag: &'static str, attributes: Attributes, text: impl AsRef<str>) -> Html {
+        Html::element(tag, attributes, Html::text(text))
+    }
+
+    /// An element that holds nothing: of HTML those that never do, of SVG any.
+    pub fn empty(tag: &'static str, attributes: Attributes) -> Html {
+        Html(format!("<{tag}{}/>", attributes_text(attributes)))
+    }
+
+    /// The style of the page, which is the program's own text.
+    pub fn style(style: &'static str) -> Html {
+        Html(format!("<style>{style}</style>"))
+    }
+
+    pub fn joined(parts: impl IntoIterator<Item = Html>) -> Html {
+        Html(parts.into_iter().map(|part| part.0).collect())
+    }
+
+    pub fn push(&mut self, part: Html) {
+        self.0.push_str(&part.0);
+    }
+
+    /// Ends a line, so that the source of a page can be read too.
+    pub fn and_line(mut self) -> Html {
+        self.0.push('\n');
+        self
+    }
+
+    pub fn len(&self) -> usize {
+        self.0.len()
+    }
+
+    /// The whole page.
+    pub fn into_page(self) -> String {
+        format!("<!DOCTYPE html>\n{}\n", self.0)
+    }
+}
+
+fn attributes_text(attributes: Attributes) -> String {
+    attributes.iter().map(|(name, value)| format!(" {name}=\"{}\"", escaped(value))).collect()
+}
+
+fn escaped(text: &str) -> String {
+    let mut escaped = String::with_capacity(text.len());
+    for character in text.chars() {
+        match character {
+            '&' => escaped.push_str("&amp;"),
+            '<' => escaped.push_str("&lt;"),
+            '>' => escaped.push_str("&gt;"),
+            '"' => escaped.push_str("&quot;"),
+            '\'' => escaped.push_str("&#39;"),
+            _ => escaped.push(character),
+        }
+    }
+    escaped
+}
+
+/// A table with a head.
+pub fn table(class: &str, heads: &[&str], rows: impl IntoIterator<Item = Html>) -> Html {
+    let heads = heads.iter().map(|head| Html::of_text("th", &[], head));
+    let head = Html::element("thead", &[], Html::element("tr", &[], Html::joined(heads)));
+    let body = Html::element("tbody", &[], Html::joined(rows.into_iter().map(Html::and_line)));
+    Html::element("table", &[("class", class)], Html::joined([head.and_line(), body])).and_line()
+}
+
+/// A cell with text.
+pub fn cell(text: impl AsRef<str>) -> Html {
+    Html::of_text("td", &[], text)
+}
+
+/// A cell with text as it was sent.
+pub fn code_cell(text: impl AsRef<str>) -> Html {
+    Html::element("td", &[], Html::of_text("code", &[], text))
+}

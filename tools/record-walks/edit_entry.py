@@ -6,7 +6,7 @@ An entry is `fn NAME(records: &mut [Record], count: usize, ..) -> R` with the bo
     let lent = copy_in(records, records.len(), &mut words);
     let done = CORE(&mut words, lent, count, ..);
     copy_back(records, done.from, done.to, &words);
-    R { FIELD: done.FIELD, .. }    or    done.FIELD
+    done.FIELD
 and the core, which is covered, has the same parameters after `&mut [u64]` and how many words are lent. What it promises of the act over
 words (`wordCommand`, `wordCompaction`) the entry promises of the act over records (`lentCommand`, `lentCompaction`); where the core tells
 of the words at exit, the entry tells of the records.
@@ -33,43 +33,25 @@ COMPACTION = Act('Compaction', 'Compaction', 'lentCompaction', 'wordCompaction',
 
 
 class Done:
-    """The struct that a core returns, by the names of its fields; `gives` are those that the entry returns in a struct, or the one that
-    it returns as it is."""
+    """The struct that a core returns, by the names of its fields; `gives` is the one that the entry returns."""
 
     def __init__(self, crate, name, own, fields, gives):
-        self.result = declared(crate, name, own, enum=False, short='D')
+        self.result = declared(crate, name, own, short='D')
         self.fields, self.gives = fields, gives
 
     def field(self, name):
         return self.fields.index(name)
 
-    def given(self):
-        return f'r .{self.gives}' if isinstance(self.gives, str) else 'record { %s }' % '; '.join(f'{g} = r .{g}' for g in self.gives)
-
-    def shown(self):
-        """That its machine value is that of its fields, out of what is known of the fields of r (`h`)."""
-        if isinstance(self.gives, str):
-            return f'h {path(self.field(self.gives))}'
-        return f'LL.owes R.the-type R′.the-laws (given r) {nested(["h " + path(self.field(g)) for g in self.gives])}'
-
     def given_is(self, result):
         """That what is returned has its machine value."""
-        told = 'LL.owed D.the-type D′.the-laws r (v ∷ []) is'
+        told = f'LL.owed D.the-type D′.the-laws r (v ∷ []) is {path(self.field(self.gives))}'
         if result.width:
-            return f'given-is r v is = (refl, {told} {path(self.field(self.gives))} .1)\n'
+            return f'given-is r v is = (refl, {told} .1)\n'
         return f'''given-is r v is = subst (λ (vs : List Val). Is R.the-row (given r) vs) (R′.lowers .val-is (given r) _ holds) holds
   where
     holds : Is R.the-row (given r) (LL.vals R.the-type R′.the-laws (given r))
-    holds = let h = {told} in {self.shown()}
+    holds = {told}
 '''
-
-    def value(self, w, local):
-        if isinstance(self.gives, str):
-            return 'of-opd ! ' + w.ldf(local, self.field(self.gives))
-        operands = '(no-more !)'
-        for g in reversed(self.gives):
-            operands = f'(and-then ! {w.ldf(local, self.field(g))} {operands})'
-        return f'agg ! {operands}'
 
 
 class EditEntry(Lender):
@@ -175,7 +157,7 @@ class EditEntry(Lender):
     def gives(self, w):
         """The entry's result, out of the fields of the core's."""
         r = self.result
-        w.set(0, self.result_of_core.value(w, self.done), f'({r.lawful} .typed (given r) _ (given-is r v3 is3) .0)')
+        w.set(0, 'of-opd ! ' + w.ldf(self.done, self.result_of_core.field(self.result_of_core.gives)), f'({r.lawful} .typed (given r) _ (given-is r v3 is3) .0)')
         w.step(f'owned ! {r.row} (Is {r.row}) ({r.makes}) (given r) _ (given-is r v3 is3) $', [], ['own_given'])
 
     def walk(self):
@@ -201,7 +183,7 @@ unit-typed v e = subst (λ (u : Val). Holds (hasTy tyUnit u) × WT u) (sym e) (t
 
 -- what is returned of the core's result, and its machine value
 abbrev given : {core} → {self.result.denot}
-given r = {done.given()}
+given r = r .{done.gives}
 
 given-is : (r : {core}) (v : Val) → Is D.the-row r (v ∷ []) → Is {self.result.row} (given r) ({self.value} ∷ [])
 {done.given_is(self.result)}

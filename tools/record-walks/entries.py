@@ -26,37 +26,12 @@ def collected(result, moves, owner):
                    f'owes-alike reader {LENT} (λ v. {owner.replace(" t ", " v ")}) found′ pending′ a e')]
 
 
-def collector(own):
-    return ('use Rattle.listing_rules.specs.Walk.{scratchAfter, foundAfter, pendingAfter, collectedBy}\n'
-            f'use {specs_of("collector", own)}.Result.{{collectedIs, collectedOf, scratchOf, foundOf, pendingOf, OwesDemand3}}\n')
+COLLECTOR = ('use Rattle.listing_rules.specs.Walk.{scratchAfter, foundAfter, pendingAfter, collectedBy}\n'
+             f'use {specs_of("collector", "exports")}.Result.{{collectedIs, collectedOf, scratchOf, foundOf, pendingOf, OwesDemand3}}\n')
 
+# ---- The entries, over cores that answer in a struct of numbers.
 
-def compacting(crate, fn):
-    """The walk of an entry that moves names together."""
-    edit_entry(crate, fn, ('compaction', 'compact_words'), MOVING, COMPACTION,
-               Done('compaction', 'Compacted', crate, ['number', 'from', 'to'], 'number'), number('u8'),
-               [Clause('result', 'r ≡ c .number', 'e ∙ a .number'), Clause('area', 'area′ ≡ c .store .area', 'e ∙ a .area')], '')
-
-
-# ---- The entries of the crates.
-
-entry('mailbox_table', 'check_records', ('mailbox_table', 'check_words'), TABLE, truth(), passing(), 'use Rattle.listing_rules.specs.Table.{passes}\n')
-
-edit_entry('server', 'answer', ('server', 'answer_words'), EDIT, COMMAND, Done('server', 'Stored', 'server', ['written', 'count', 'from', 'to'], ['written', 'count']),
-           declared('server', 'Answered', 'server', enum=False),
-           [Clause('result', '(r .written ≡ writtenIs (c .reply)) × (r .count ≡ c .store .count)', '(e .0 ∙ ap writtenIs (a .reply), e .1 ∙ a .count)'),
-            Clause('bytes', 'out′ ≡ bufferAfter out (c .reply)', 'e ∙ ap (bufferAfter out) (a .reply)'),
-            Clause('area', 'area′ ≡ c .store .area', 'e ∙ a .area')],
-           'use Rattle.listing_rules.specs.Server.{bufferAfter}\nuse Rattle.octets.specs.Written.{writtenIs}\n')
-
-compacting('compaction', 'compact')
-
-entry('collector', 'collect', ('collector', 'collect_words'), WALK, declared('collector', 'Collected', 'collector', enum=True),
-      collected(f'r ≡ collectedOf reader t {LENT}', f'e ∙ ap collectedIs ({COLLECTED_ALIKE})', 'r'), collector('collector'))
-
-# ---- The same for C, over cores that answer in a struct of numbers.
-
-OUTCOME = declared('exports', 'outcomes.Outcome', 'exports', enum=False)
+OUTCOME = declared('exports', 'outcomes.Outcome', 'exports')
 OUTCOMES = 'use ' + specs_of('exports', 'exports') + '.Outcomes.'
 
 entry('exports', 'luspemaro_check_records', ('mailbox_table', 'check_words'), TABLE, truth(), passing(), 'use Rattle.listing_rules.specs.Table.{passes}\n')
@@ -67,8 +42,10 @@ edit_entry('exports', 'luspemaro_answer', ('exports', 'answer_words'), EDIT, COM
             Clause('area', 'area′ ≡ c .store .area', 'e ∙ a .area')],
            'use Rattle.listing_rules.specs.Server.{bufferAfter}\n' + OUTCOMES + '{outcomeOf}\n')
 
-compacting('exports', 'luspemaro_compact')
+edit_entry('exports', 'luspemaro_compact', ('compaction', 'compact_words'), MOVING, COMPACTION,
+           Done('compaction', 'Compacted', 'exports', ['number', 'from', 'to'], 'number'), number('u8'),
+           [Clause('result', 'r ≡ c .number', 'e ∙ a .number'), Clause('area', 'area′ ≡ c .store .area', 'e ∙ a .area')], '')
 
 entry('exports', 'luspemaro_collect', ('exports', 'collect_words'), WALK, OUTCOME,
       collected(f'r ≡ walkOutcome (collectedBy reader t {LENT})', f'e ∙ ap walkOutcome ({COLLECTED_ALIKE})', f'(collectedOf reader t {LENT})'),
-      collector('exports') + OUTCOMES + '{walkOutcome}\n')
+      COLLECTOR + OUTCOMES + '{walkOutcome}\n')

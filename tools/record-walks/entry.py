@@ -126,13 +126,11 @@ def number(kind):
     return Result('ℕ', kind, f'uint-lawful 𝓤 H A W {width}', makes=f'uint-makes 𝓤 H A W {width}', width=width)
 
 
-def declared(crate, name, own, enum, short='R'):
-    """A struct or an enum of this crate; `name` is its path in the crate, with dots, and `short` what the walk calls it."""
+def declared(crate, name, own, short='R'):
+    """A struct of this crate; `name` is its path in the crate, with dots, and `short` what the walk calls it."""
     last = name.split('.')[-1]
     uses = (f'use {specs_of(crate, own)}.declared.{name}.{{{last}}}\n'
             f'use {proofs_of(crate, own)}.{name} as {short}\nuse {proofs_of(crate, own)}.{name}.Laws as {short}′\n')
-    if enum:
-        return Result(last, f'{short}.the-row', f'EL.lawful {short}.the-type {short}′.the-laws 𝓤 H A W tt', uses + 'use denote.Enum.Laws as EL\n')
     return Result(last, f'{short}.the-row', f'LL.lawful {short}.the-type {short}′.the-laws 𝓤 H A W', uses, f'LL.makes {short}.the-type {short}′.the-plain 𝓤 H A')
 
 

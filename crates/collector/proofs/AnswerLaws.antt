@@ -1,8 +1,5 @@
 -- The lines of an answer taken in one after the other. Rests on LineLaws.
-use mathlib.Core.Path.{_≡_, refl, sym, ap, _∙_}
-use mathlib.Core.List.{List}
-use Prim.Native.Nat.{ℕ, _+_, _-_, _≤_, _<_}
-use lib.ListN.{length, take, drop, drop-of-length-le}
+use Rattle.listing_rules.proofs.Prelude.{_∙_, _≡_, ap, refl, sym, List, _+_, _-_, _<_, _≤_, ℕ, drop, drop-of-length-le, length, take}
 use Rattle.listing_rules.specs.Reader.{readLine}
 use Rattle.listing_rules.specs.Walk.{Lists, Step, stop, go, _then_, linesOf, takenIn, takenAll}
 use Rattle.collector.specs.Lines.{lineLength}

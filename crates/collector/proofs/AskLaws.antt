@@ -1,11 +1,6 @@
 -- One command: its line in a local buffer, the server's reply, and what the lines of the answer give. Rests on the laws of writes.
-use mathlib.Core.Path.{_≡_, refl, sym, ap, subst, _∙_}
-use mathlib.Core.Bool.{Bool, true, false, not}
-use mathlib.Core.List.{List, [], _∷_}
-use Prim.Native.Nat.{ℕ, _+_, _*_, _≤_}
-use native.Mathlib.Omega.{arith}
-use lib.ListN.{length, take, drop, replicate, length-append, length-replicate}
-use lib.Seq.{take-at}
+use Rattle.listing_rules.proofs.Prelude.{_∙_, _≡_, ap, refl, subst, sym, Bool, false, not, true, List, [], _∷_, _*_, _+_, _≤_, ℕ, arith, drop, length}
+use Rattle.listing_rules.proofs.Prelude.{length-append, length-replicate, replicate, take, take-at}
 use Rattle.listing_rules.specs.Table.{Table}
 use Rattle.listing_rules.specs.Bytes.{text, crlf, quote}
 use Rattle.listing_rules.proofs.Keys.{openBytes}

@@ -1,8 +1,6 @@
 -- The attributes that the collector tests, by their places, and that the root line is no find. Rests on OptionLaws and on the laws
 -- of octets and list_line on a member of a set.
-use mathlib.Core.Path.{_≡_, refl, sym, _∙_}
-use mathlib.Core.Bool.{false}
-use Prim.Native.Nat.{ℕ, _^_, _<_}
+use Rattle.listing_rules.proofs.Prelude.{_∙_, _≡_, refl, sym, false, _<_, _^_, ℕ}
 use Rattle.listing_rules.proofs.Keys.{openBytes}
 use Rattle.listing_rules.specs.Walk.{attr, useAttr, isFind, wantsRemote, wantsSpecial, dropsSubscribed}
 use Rattle.octets.specs.Sets.{contains}

@@ -1,11 +1,6 @@
 -- "pending is never shortened": a step only puts names after those that are to be asked. Rests on the library alone.
-use mathlib.Core.Path.{_≡_, refl, sym, ap, _∙_}
-use mathlib.Core.Bool.{Bool, true, false, cond, not}
-use mathlib.Core.List.{List, [], _∷_, _++_, append-assoc, append-nil}
-use Prim.Native.Nat.{ℕ}
-use native.Mathlib.Omega.{arith}
-use lib.Dec.{leb}
-use lib.ListN.{length}
+use Rattle.listing_rules.proofs.Prelude.{_∙_, _≡_, ap, refl, sym, Bool, cond, false, not, true, List, [], _++_, _∷_, append-assoc, append-nil, ℕ}
+use Rattle.listing_rules.proofs.Prelude.{arith, leb, length}
 use Rattle.listing_rules.specs.Table.{Table}
 use Rattle.listing_rules.specs.Options.{isNone}
 use Rattle.listing_rules.specs.Reader.{Read, line, root, bad, readLine}

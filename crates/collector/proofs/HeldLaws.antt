@@ -1,11 +1,6 @@
 -- The table of a walk: the words of the rows that a reader sees, of an index and of a packed table turned into words, are the table that it sees. Rests
 -- on ReaderLaws of listing_rules, and on SeenLaws and UnpackedLaws of mailbox_table.
-use mathlib.Core.Path.{_≡_, sym, ap, _∙_}
-use mathlib.Core.Bool.{true}
-use mathlib.Core.List.{List, map}
-use Prim.Native.Nat.{ℕ}
-use lib.ListN.{length, take, length-map}
-use lib.Seq.{take-length}
+use Rattle.listing_rules.proofs.Prelude.{_∙_, _≡_, ap, sym, true, List, map, ℕ, length, length-map, take, take-length}
 use Rattle.listing_rules.specs.Lists.{keep}
 use Rattle.listing_rules.specs.Table.{passes}
 use Rattle.listing_rules.specs.Records.{recordTable, packedRecords}

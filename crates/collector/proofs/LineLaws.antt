@@ -1,14 +1,6 @@
 -- The first line of what is left of an answer, and the lines after it. Rests on the library alone.
-use mathlib.Core.Path.{_≡_, refl, ap, _∙_}
-use mathlib.Core.Bool.{Bool, true, false, cond}
-use mathlib.Core.List.{List, [], _∷_}
-use Prim.Native.Nat.{ℕ, suc, _+_, _-_, _≤_, _<_}
-use native.Mathlib.Numerals.{add-one}
-use native.Mathlib.Omega.{arith}
-use lib.Dec.{eqb}
-use lib.ListN.{length, drop, getD, take, drop-of-length-le, length-drop}
-use lib.Seq.{drop-cons, drop-drop}
-use borrow.Author.Tests.{eq-eqb, ne-eqb}
+use Rattle.listing_rules.proofs.Prelude.{_∙_, _≡_, ap, refl, Bool, cond, false, true, List, [], _∷_, _+_, _-_, _<_, _≤_, suc, ℕ, add-one, arith, eqb}
+use Rattle.listing_rules.proofs.Prelude.{drop, drop-of-length-le, getD, length, length-drop, take, drop-cons, drop-drop, eq-eqb, ne-eqb}
 use Rattle.listing_rules.specs.Lists.{onFirst}
 use Rattle.listing_rules.specs.Walk.{linesOf}
 use Rattle.collector.specs.Lines.{lineLength}

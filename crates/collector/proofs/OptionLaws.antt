@@ -1,11 +1,6 @@
 -- The six lawful option bytes and a walk's options are one to one, and the options tell what their byte selects. Rests on the law
 -- of octets on a member by its place.
-use mathlib.Core.Path.{_≡_, refl, sym, ap, _∙_}
-use mathlib.Core.Bool.{Bool, true, false, not, cond, _||_}
-use Prim.Native.Nat.{ℕ, zero, suc, _≤_}
-use native.Mathlib.Omega.{arith}
-use lib.Dec.{leb}
-use borrow.Author.Tests.{leb-true}
+use Rattle.listing_rules.proofs.Prelude.{_∙_, _≡_, ap, refl, sym, Bool, _||_, cond, false, not, true, _≤_, suc, zero, ℕ, arith, leb, leb-true}
 use Rattle.listing_rules.proofs.Keys.{openBytes}
 use Rattle.listing_rules.specs.Walk.{wantsRemote, wantsSpecial, dropsSubscribed, lawfulByte}
 use Rattle.listing_rules.proofs.Bools.{and-l}

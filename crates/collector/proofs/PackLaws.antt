@@ -1,12 +1,6 @@
 -- Names in a buffer: none, one more, and what stands at a place. Rests on the laws of writes.
-use mathlib.Core.Path.{_≡_, refl, sym, ap, _∙_}
-use mathlib.Core.List.{List, [], _∷_, _++_, append-nil}
-use Prim.Native.Nat.{ℕ, zero, _+_, _-_, _≤_, _<_}
-use native.Mathlib.Nat.{sub-zero}
-use native.Mathlib.Omega.{arith}
-use lib.ListN.{length, replicate, length-append, length-replicate}
-use lib.Seq.{sets, sets-eq, take-at, drop-append-add}
-use borrow.Author.Tests.{le-leb, lt-leb}
+use Rattle.listing_rules.proofs.Prelude.{_∙_, _≡_, ap, refl, sym, List, [], _++_, _∷_, append-nil, _+_, _-_, _<_, _≤_, ℕ, sub-zero, arith, length}
+use Rattle.listing_rules.proofs.Prelude.{length-append, length-replicate, replicate, drop-append-add, sets, sets-eq, take-at, le-leb, lt-leb}
 use Rattle.listing_rules.specs.Lists.{joined}
 use Rattle.listing_rules.specs.Walk.{stop, go, packed, fits, zeroBehind}
 use Rattle.listing_rules.proofs.Asked.{packed-append}
@@ -60,7 +54,9 @@ module _ {d : List ℕ} {at : ℕ} {ns : List (List ℕ)} (n : List ℕ) where
       record {
         counted = rw (packed-more ns n) (omega (arith, w .place, w .fits, p .counted, length-append (packed ns) (length n ∷ n)));
         room = omega (arith, w .place, w .fits, put-length w);
-        bytes = w .bytes ∙ ap (λ (x : List ℕ). sets x at (length n ∷ n)) (p .bytes) ∙ sets-zeros (packed ns) (length n ∷ n) (length d) at (p .counted) (omega arith) ∙ rw (packed-more ns n, put-length w);
+        bytes =
+            w .bytes ∙ ap (λ (x : List ℕ). sets x at (length n ∷ n)) (p .bytes) ∙ sets-zeros (packed ns) (length n ∷ n) (length d) at (p .counted)
+            (omega arith) ∙ rw (packed-more ns n, put-length w);
       }
 
   pub packs-full : Packs d at ns → length d - at ≤ length n → length d < length (packed (ns ++ (n ∷ [])))

@@ -1,10 +1,7 @@
 -- The pending names as they lie in the buffer: the next one to be asked. Rests on PackLaws.
-use mathlib.Core.Path.{_≡_, refl, sym, ap, _∙_}
-use mathlib.Core.List.{List, [], _∷_, _++_, append-assoc}
-use Prim.Native.Nat.{ℕ, suc, _+_, _-_, _≤_, _<_}
-use native.Mathlib.Omega.{arith}
-use lib.ListN.{length, take, drop, getD, replicate, length-append, take-append-drop}
-use lib.Seq.{length-take-le, take-at, take-append-add, drop-append-add, getD-at}
+use Rattle.listing_rules.proofs.Prelude.{_∙_, _≡_, ap, refl, sym, List, [], _++_, _∷_, append-assoc, _+_, _-_, _<_, _≤_, suc, ℕ, arith, drop, getD}
+use Rattle.listing_rules.proofs.Prelude.{length, length-append, replicate, take, take-append-drop, drop-append-add, getD-at, length-take-le}
+use Rattle.listing_rules.proofs.Prelude.{take-append-add, take-at}
 use Rattle.listing_rules.specs.Lists.{joined}
 use Rattle.listing_rules.specs.Walk.{packed, zeroBehind}
 use Rattle.listing_rules.proofs.Asked.{packed-append}
@@ -56,10 +53,15 @@ module _ {b : List ℕ} {len : ℕ} {ns : List (List ℕ)} (p : Packs b len ns) 
 
     whole : b ≡ packed (take done ns) ++ (length n ∷ (n ++ others-on))
     unfolding zeroBehind others-on
-    whole = p .bytes ∙ ap (λ (x : List ℕ). x ++ replicate (length b - length (packed ns)) 0) (packed-split done ns ∙ ap (λ (y : List (List ℕ)). packed (take done ns) ++ packed y) w ∙ ap (λ (x : List ℕ). packed (take done ns) ++ x) (packed-cons n others)) ∙ simp append-assoc
+    whole =
+        p .bytes ∙ ap (λ (x : List ℕ). x ++ replicate (length b - length (packed ns)) 0)
+        (packed-split done ns ∙ ap (λ (y : List (List ℕ)). packed (take done ns) ++ packed y) w ∙ ap (λ (x : List ℕ). packed (take done ns) ++ x)
+        (packed-cons n others)) ∙ simp append-assoc
 
     from-next : drop (at + 1) b ≡ n ++ others-on
-    from-next = ap (drop (at + 1)) whole ∙ ap (λ (k : ℕ). drop (k + 1) (packed (take done ns) ++ (length n ∷ (n ++ others-on)))) e ∙ drop-append-add (packed (take done ns)) (length n ∷ (n ++ others-on)) 1
+    from-next =
+        ap (drop (at + 1)) whole ∙ ap (λ (k : ℕ). drop (k + 1) (packed (take done ns) ++ (length n ∷ (n ++ others-on)))) e ∙ drop-append-add
+        (packed (take done ns)) (length n ∷ (n ++ others-on)) 1
 
     taken : take (suc done) ns ≡ take done ns ++ (n ∷ [])
     taken =

@@ -1,9 +1,6 @@
 -- What a reader's walk goes by, of lent records and of the words that `copy_in` makes of them: the tables of all rows pass alike, and those of the rows
 -- that the reader sees are alike; so demand 3 is owed for the one as for the other. Rests on ReaderLaws and Alike of listing_rules.
-use mathlib.Core.Path.{_≡_, sym, ap, _∙_, subst}
-use mathlib.Core.List.{List, map}
-use Prim.Native.Nat.{ℕ, min}
-use lib.ListN.{length, take, length-map}
+use Rattle.listing_rules.proofs.Prelude.{_∙_, _≡_, ap, subst, sym, List, map, min, ℕ, length, length-map, take}
 use Rattle.listing_rules.specs.Table.{Table, passes}
 use Rattle.listing_rules.specs.Records.{Record as Meant}
 use Rattle.listing_rules.specs.Readers.{recordsSeen}

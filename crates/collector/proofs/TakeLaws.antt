@@ -1,13 +1,7 @@
 -- One line of an answer taken in: what the reader's answer tells of the line, and what is kept of it. Rests on PackLaws and
 -- FindLaws and on the laws of the reader.
-use mathlib.Core.Path.{_≡_, refl, sym, ap, subst, _∙_}
-use mathlib.Core.Logic.{_⊎_, inl, inr}
-use mathlib.Core.Bool.{Bool, false, not}
-use mathlib.Core.List.{List}
-use Prim.Native.Nat.{ℕ, _-_, _≤_}
-use native.Mathlib.Omega.{arith}
-use lib.ListN.{length, take, replicate, length-append}
-use lib.Seq.{take-at}
+use Rattle.listing_rules.proofs.Prelude.{_∙_, _≡_, ap, refl, subst, sym, Bool, false, not, _⊎_, inl, inr, List, _-_, _≤_, ℕ, arith, length}
+use Rattle.listing_rules.proofs.Prelude.{length-append, replicate, take, take-at}
 use Rattle.listing_rules.proofs.Keys.{openBytes}
 use Rattle.listing_rules.specs.Options.{Criteria, isNone, criteriaOf, criteriaNumber}
 use Rattle.listing_rules.specs.Lines.{rootLine}
@@ -16,11 +10,11 @@ use Rattle.listing_rules.specs.Walk.{Lists, Step, stop, go, _then_, packed, isF
 use Rattle.listing_rules.proofs.LawfulNames.{good-parts}
 use Rattle.listing_rules.proofs.ReaderWriter.{Taken, readLine-only}
 use Rattle.list_line.specs.Members.{members, setOf}
-use Rattle.list_line.specs.Lines.{lineIs}
+use Rattle.line_reader.specs.Lines.{lineIs}
 use Rattle.list_line.specs.declared.attributes.Attributes.{Attributes}
 use Rattle.list_line.specs.declared.criteria.Criteria.{Criteria as Set}
-use Rattle.list_line.specs.declared.read.Line.{Line}
-use Rattle.list_line.specs.declared.read.Line.the-variants.{Parts, Refused}
+use Rattle.line_reader.specs.declared.Line.{Line}
+use Rattle.line_reader.specs.declared.Line.the-variants.{Parts, Refused}
 use Rattle.list_line.proofs.Members.{members-setOf}
 use Rattle.listing_rules.proofs.RoundTrip.{criteria-number}
 use Rattle.collector.specs.Names.{Keeps}
@@ -86,7 +80,9 @@ module _ (l : List ℕ) (t : Attributes) (n : ℕ) (k : Set) (name : List ℕ) w
       record {
         short = let x : 0 ≡ n = cc in omega arith;
         inside = let x : 0 ≡ n = cc in omega arith;
-        taken = λ w found pending s p q. rw r (sym (rw (root-finds-none w, fits-go 10 found (s .finds) p, fits-go 11 pending (s .asks) q)) ∙ λ i. bothFit found pending (findsWith w (attributes i) (take n name) s) (asksWith (child i) (take n name) s));
+        taken =
+            λ w found pending s p q. rw r (sym (rw (root-finds-none w, fits-go 10 found (s .finds) p, fits-go 11 pending (s .asks) q)) ∙ λ i. bothFit
+            found pending (findsWith w (attributes i) (take n name) s) (asksWith (child i) (take n name) s));
       }
     where
       child : false ≡ parentOf k

@@ -1,16 +1,12 @@
 -- The walk command by command: what is left of it gives what the whole gives. Rests on QueueLaws and GrowLaws, and on the law that
 -- the bound on the steps does not matter (`walk-fuel`).
-use mathlib.Core.Path.{_≡_, sym, ap, _∙_}
-use mathlib.Core.Bool.{true}
-use mathlib.Core.List.{List, [], _∷_, _++_}
-use Prim.Native.Nat.{ℕ, suc, _+_, _-_, _≤_, _<_}
-use native.Mathlib.Omega.{arith}
-use lib.ListN.{length, take, drop, getD, replicate, length-append}
-use lib.Seq.{take-append-le}
+use Rattle.listing_rules.proofs.Prelude.{_∙_, _≡_, ap, sym, true, List, [], _++_, _∷_, _+_, _-_, _<_, _≤_, suc, ℕ, arith, drop, getD, length}
+use Rattle.listing_rules.proofs.Prelude.{length-append, replicate, take, take-append-le}
 use Rattle.listing_rules.specs.Bytes.{slash}
 use Rattle.listing_rules.specs.Table.{Table, rows, passes}
 use Rattle.listing_rules.specs.Listing.{candidates}
-use Rattle.listing_rules.specs.Walk.{Lists, Step, stop, go, _then_, packed, asked, walkFrom, walkAll, WalkReply, walkRefused, walked, ended, walk, collected}
+use Rattle.listing_rules.specs.Walk.{Lists, Step, stop, go, _then_, packed, asked, walkFrom, walkAll, WalkReply, walkRefused, walked, ended, walk}
+use Rattle.listing_rules.specs.Walk.{collected}
 use Rattle.listing_rules.proofs.WalkFuel.{walk-fuel}
 use Rattle.collector.specs.Names.{Lies, nameAt}
 use Rattle.collector.specs.Options.{byteOf}
@@ -100,7 +96,9 @@ module _ {table : Table} {w : WalkOptions} {scratch found pending : ℕ} {s d b 
       record {
         finds = packed (W .lists .finds);
         asks = packed (W .lists .asks);
-        is = sym (left-as (rw (queue-end (W .holds .asks) (W .asked-before) (W .place) h, walkFrom))) ∙ ap (λ (n : ℕ). walked n (packed (W .lists .finds)) (packed (W .lists .asks))) (sym (W .counted));
+        is =
+            sym (left-as (rw (queue-end (W .holds .asks) (W .asked-before) (W .place) h, walkFrom))) ∙ ap
+            (λ (n : ℕ). walked n (packed (W .lists .finds)) (packed (W .lists .asks))) (sym (W .counted));
         counted = W .holds .finds .counted;
         found = W .holds .finds .bytes;
         pending = W .holds .asks .bytes;

@@ -1,19 +1,16 @@
 -- The collector's promise: its answer's number, count and length, the order of its refusals, what a refused walk and one that came to
 -- its end leave, and demand 3, which follows from the equations. Rests on the law of the definitions, `demand-3-holds`.
-use mathlib.Core.Path.{_≡_, refl, sym, ap, subst, _∙_}
-use mathlib.Core.Bool.{true, false}
-use mathlib.Core.List.{List, [], _∷_}
-use Prim.Native.Nat.{ℕ, _+_, _≤_, _<_}
-use native.Mathlib.Omega.{arith}
-use lib.ListN.{length, replicate}
-use borrow.Author.Tests.{le-leb, lt-leb}
+use Rattle.listing_rules.proofs.Prelude.{_∙_, _≡_, ap, refl, subst, sym, false, true, List, [], _∷_, _+_, _<_, _≤_, ℕ, arith, length, replicate}
+use Rattle.listing_rules.proofs.Prelude.{le-leb, lt-leb}
 use Rattle.listing_rules.specs.Bytes.{oneOf}
 use Rattle.listing_rules.specs.Table.{Table, rows, passes}
 use Rattle.listing_rules.specs.Readers.{isReader}
-use Rattle.listing_rules.specs.Walk.{lawfulByte, WalkReply, walkRefused, walked, walk, walkNumber, walkCount, foundLength, packed, zeroBehind, foundAfter, pendingAfter, scratchAfter, collected, walkBy, collectedBy}
+use Rattle.listing_rules.specs.Walk.{lawfulByte, WalkReply, walkRefused, walked, walk, walkNumber, walkCount, foundLength, packed, zeroBehind}
+use Rattle.listing_rules.specs.Walk.{foundAfter, pendingAfter, scratchAfter, collected, walkBy, collectedBy}
 use Rattle.listing_rules.specs.Demand3.{Demand3, meetingNames, meetingAncestors, tooSmall}
 use Rattle.listing_rules.proofs.Demand3.{demand-3-holds}
-use Rattle.collector.specs.Result.{collectedIs, numberOfWalk, countOf, lengthOf, collectedOf, scratchOf, foundOf, pendingOf, WholeWalk, OwesDemand3}
+use Rattle.collector.specs.Result.{collectedIs, numberOfWalk, countOf, lengthOf, collectedOf, scratchOf, foundOf, pendingOf, WholeWalk}
+use Rattle.collector.specs.Result.{OwesDemand3}
 use Rattle.collector.specs.Ends.{Comes}
 use Rattle.collector.specs.declared.Collected.{Collected}
 use Rattle.collector.specs.declared.Collected.the-variants.{Done, Refused}

@@ -2,6 +2,7 @@
 //
 // The table serves check 1, the choice of the rows that the reader sees, and the calls of the server side's command entry, and nothing
 // else. A command is made from the option byte and a pending name, finds and pending names come from the answer and the option byte.
+// Who lends the records themselves calls `exports::luspemaro_collect`.
 mod command;
 mod lines;
 mod names;
@@ -18,14 +19,12 @@ use octets::refusals;
 use options::Asked;
 use options::WalkOptions;
 pub use packed::collect_packed;
-use records::Record;
-use records::copy_in;
 use records::no_words;
 use walk::walk_table;
 ghost use mathlib.Core.Path.{_≡_};
 ghost use lib.ListN.{length, replicate};
 ghost use Rattle.listing_rules.specs.Walk.{collectedBy};
-ghost use Rattle.records.specs.Lent.{lentTable, wordTable, lentSeen, wordSeen};
+ghost use Rattle.records.specs.Lent.{wordTable, wordSeen};
 ghost use Rattle.collector.specs.Result.{collectedOf, scratchOf, foundOf, pendingOf, OwesDemand3};
 ghost use Rattle.collector.specs.Ends.{Ends};
 
@@ -35,45 +34,9 @@ pub enum Collected {
     Refused(u8),
 }
 
-// The whole walk of a reader. Finds lie at the front of `found` and the names that were asked below at the front of `pending`, zero after
-// them; `scratch` takes the answers, and is zero in the end. A refusal zeroes all three.
-pub fn collect(
-    records: &[Record],
-    count: usize,
-    reader: u8,
-    area: &[u8],
-    option: u8,
-    scratch: &mut [u8],
-    found: &mut [u8],
-    pending: &mut [u8],
-) -> Collected
-    ensures result { λ r. ⌜ r ≡ collectedOf reader (lentSeen reader (now (area .entry)) (now (records .entry)) count)
-        option (now (scratch .entry)) (now (found .entry)) (now (pending .entry)) ⌝ }
-    ensures scratch { λ _. ⌜ now (scratch .exit) ≡ scratchOf reader (lentSeen reader (now (area .entry)) (now (records .entry)) count)
-        option (now (scratch .entry)) (now (found .entry)) (now (pending .entry)) ⌝ }
-    ensures found { λ _. ⌜ now (found .exit) ≡ foundOf reader (lentSeen reader (now (area .entry)) (now (records .entry)) count)
-        option (now (scratch .entry)) (now (found .entry)) (now (pending .entry)) ⌝ }
-    ensures pending { λ _. ⌜ now (pending .exit) ≡ pendingOf reader (lentSeen reader (now (area .entry)) (now (records .entry)) count)
-        option (now (scratch .entry)) (now (found .entry)) (now (pending .entry)) ⌝ }
-    ensures demand3 { λ r. ⌜ OwesDemand3 reader (lentTable (now (area .entry)) (now (records .entry)) count)
-        (lentSeen reader (now (area .entry)) (now (records .entry)) count) option (now (scratch .entry)) (now (found .entry)) (now (pending .entry))
-        r (now (found .exit)) (now (pending .exit)) ⌝ }
-{
-    let mut words = no_words();
-    let n = copy_in(records, count, &mut words);
-    collect_words(
-        &words[..n],
-        count,
-        reader,
-        area,
-        option,
-        scratch,
-        found,
-        pending,
-    )
-}
-
-// The same over records, each as a number: the first `count` words are the rows, over the area of names.
+// The whole walk of a reader. The first `count` words are the rows, each as a number (`records::word_of`), over the area of names. Finds
+// lie at the front of `found` and the names that were asked below at the front of `pending`, zero after them; `scratch` takes the
+// answers, and is zero in the end. A refusal zeroes all three.
 pub fn collect_words(
     words: &[u64],
     count: usize,

@@ -2,9 +2,9 @@
 use super::names::Kept;
 use super::names::keep;
 use super::options::WalkOptions;
+use line_reader::Line;
+use line_reader::read_line;
 use list_line::Attributes;
-use list_line::Line;
-use list_line::read_line;
 use octets::LF;
 use octets::refusals;
 ghost use mathlib.Core.Path.{_≡_};

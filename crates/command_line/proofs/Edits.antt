@@ -1,11 +1,6 @@
 -- What stands after the words SUBSCRIBE and UNSUBSCRIBE, as the code reads it: a name and the end of the line; and what the command with
 -- that name asks for. Rests on Returning and Judging, and on Binds and Plain of command_tokens.
-use mathlib.Core.Path.{_≡_, refl, sym, ap, subst, _∙_}
-use mathlib.Core.Bool.{cond}
-use mathlib.Core.List.{List as Seq}
-use mathlib.Core.Option.{Option, none, some}
-use Prim.Native.Nat.{ℕ, _≤_, _<_}
-use lib.ListN.{length, drop}
+use Rattle.listing_rules.proofs.Prelude.{_∙_, _≡_, ap, refl, subst, sym, cond, Option, none, some, List as Seq, _<_, _≤_, ℕ, drop, length}
 use Rattle.listing_rules.specs.Bytes.{text, isEmpty}
 use Rattle.listing_rules.specs.Tokens.{Got, got, _>>=_, after, astring}
 use Rattle.listing_rules.specs.Command.{Edit, subscribe, unsubscribe, editing, nameArg, orRefuse}

@@ -1,20 +1,13 @@
 -- What stands after the word LIST, as the code reads it: part by part, and what is kept of the parts is judged. Rests on Members,
 -- Returning and Refusing.
-use mathlib.Core.Path.{_≡_, refl, sym, ap, _∙_}
-use mathlib.Core.Bool.{Bool, true, false, cond, _&&_, _||_, not}
-use mathlib.Core.List.{List, []}
-use mathlib.Core.Option.{Option, none, some}
-use Prim.Native.Nat.{ℕ}
-use native.Mathlib.Decide.{decLe}
-use native.Mathlib.Omega.{arith}
-use lib.Dec.{eqb, leb, ltb}
-use lib.ListN.{length, drop, getD}
-use borrow.Author.Tests.{eqb-true, eqb-false, lt-ltb, le-ltb}
+use Rattle.listing_rules.proofs.Prelude.{_∙_, _≡_, ap, refl, sym, Bool, _&&_, _||_, cond, false, not, true, Option, none, some, List, [], ℕ, decLe}
+use Rattle.listing_rules.proofs.Prelude.{arith, eqb, leb, ltb, drop, getD, length, eqb-false, eqb-true, le-ltb, lt-ltb}
 use Rattle.listing_rules.specs.Bytes.{text, isEmpty}
 use Rattle.listing_rules.specs.Lists.{every}
 use Rattle.listing_rules.specs.Tokens.{Got, got, _>>=_, at, after}
 use Rattle.listing_rules.specs.Options.{lawfulOptions}
-use Rattle.listing_rules.specs.Command.{Opt, ListArgs, Parsed, refused, listing, rootOf, selectionPart, patterns, returnPart, isSome, listArgs, extended, knownIn, selectionWords, returnWords, optionsOf, canonical, fewPatterns, asksRoot, judged, orRefuse}
+use Rattle.listing_rules.specs.Command.{Opt, ListArgs, Parsed, refused, listing, rootOf, selectionPart, patterns, returnPart, isSome, listArgs}
+use Rattle.listing_rules.specs.Command.{extended, knownIn, selectionWords, returnWords, optionsOf, canonical, fewPatterns, asksRoot, judged, orRefuse}
 use Rattle.octets.specs.Sets.{union}
 use Rattle.command_tokens.specs.declared.Cursor.{Cursor}
 use Rattle.command_tokens.specs.declared.Behind.{Behind}
@@ -62,7 +55,9 @@ keptOf a =
 -- and it is enough for the judgement
 judged-decided : (tag : List ℕ) (a : ListArgs) → judged tag a ≡ decided tag (keptOf a)
 unfolding judged decided decidedAs keptOf fewPatterns asksRoot eight
-judged-decided tag a = ap (λ (x : Parsed). cond (every (knownIn selectionWords) (a .selection) && every (knownIn returnWords) (a .returns)) (cond (lawfulOptions (optionsOf a)) x (refused 7)) (refused 6)) (go (leb (length (a .pats)) 8))
+judged-decided tag a =
+    ap (λ (x : Parsed). cond (every (knownIn selectionWords) (a .selection) && every (knownIn returnWords) (a .returns))
+    (cond (lawfulOptions (optionsOf a)) x (refused 7)) (refused 6)) (go (leb (length (a .pats)) 8))
   where
     fine : Parsed
     fine = cond (not (extended a) && every isEmpty (a .pats)) (rootOf tag) (listing tag (optionsOf a) (canonical (a .reference) (a .pats)))
@@ -124,7 +119,10 @@ module _ (tag t : List ℕ) where
           pats = eight (p .val);
         })
     unfolding keptOf args extended sel
-    judged-is e = judged-decided tag (args s r v p e) ∙ ap (decided tag) (λ i. record { known = known-is i; set = set-is i; extended = isSome (after (text " (") t) || at 40 v || not (isEmpty (p .rest)); reference = r .val; pats = eight (p .val) })
+    judged-is e =
+        judged-decided tag (args s r v p e) ∙ ap (decided tag)
+        (λ i. record
+        { known = known-is i; set = set-is i; extended = isSome (after (text " (") t) || at 40 v || not (isEmpty (p .rest)); reference = r .val; pats = eight (p .val) })
       where
         known-is : (every (knownIn selectionWords) (s .val) && every (knownIn returnWords) e) ≡ (marked Selection noMarks (s .val) .known && marked Return noMarks e .known)
         known-is = rw (marked-known Selection noMarks (s .val), marked-known Return noMarks e)

@@ -1,14 +1,7 @@
 -- The judgement: which refusal, or which command, what is kept gives; and that a command's parts lie inside the line. Rests on Counting
 -- and Filling of command_patterns.
-use mathlib.Core.Path.{_≡_, refl, sym, ap, _∙_}
-use mathlib.Core.Bool.{Bool, true, false, cond, _&&_, not}
-use mathlib.Core.List.{List as Seq, [], _∷_, _++_}
-use mathlib.Core.Option.{none, some}
-use Prim.Native.Nat.{ℕ, zero, suc, _-_, _≤_, _<_}
-use native.Mathlib.Omega.{arith}
-use lib.Dec.{eqb}
-use lib.ListN.{length, take, getD, replicate, take-append-drop}
-use borrow.Author.Tests.{le-leb, lt-leb}
+use Rattle.listing_rules.proofs.Prelude.{_∙_, _≡_, ap, refl, sym, Bool, _&&_, cond, false, not, true, none, some, List as Seq, [], _++_, _∷_, _-_}
+use Rattle.listing_rules.proofs.Prelude.{_<_, _≤_, suc, zero, ℕ, arith, eqb, getD, length, replicate, take, take-append-drop, le-leb, lt-leb}
 use Rattle.listing_rules.specs.Lists.{every}
 use Rattle.listing_rules.specs.Options.{lawfulOptions}
 use Rattle.listing_rules.specs.Command.{Parsed, refused, namespace, listing, rootOf, canonical}
@@ -21,7 +14,8 @@ use Rattle.command_patterns.specs.declared.Patterns.{Patterns}
 use Rattle.command_line.specs.declared.list_command.Arguments.{Arguments}
 use Rattle.command_tokens.specs.Spans.{spanBytes, Lies, nowhere}
 use Rattle.command_patterns.specs.Places.{held, kept, Places, Placed}
-use Rattle.command_line.specs.Commands.{meaning, meaningAs, Inside, noOptions, namedCommand, bareCommand, refusedWith, withPatterns, usedOnly, short, Kept, decided, decidedAs, TagIn, Given, Answers}
+use Rattle.command_line.specs.Commands.{meaning, meaningAs, Inside, noOptions, namedCommand, bareCommand, refusedWith, withPatterns, usedOnly}
+use Rattle.command_line.specs.Commands.{short, Kept, decided, decidedAs, TagIn, Given, Answers}
 use Rattle.command_patterns.proofs.Counting.{none-written}
 use Rattle.command_tokens.proofs.Cuts.{lies-nowhere}
 use Rattle.command_patterns.proofs.Filling.{filled-none}

@@ -1,11 +1,6 @@
 -- The line against its text, which stands before CR LF: what a command of the text is in the line. Rests on nothing.
-use mathlib.Core.Path.{_≡_, refl, sym, ap, _∙_}
-use mathlib.Core.Bool.{true, false, cond}
-use mathlib.Core.List.{List as Seq, [], _∷_, map}
-use Prim.Native.Nat.{ℕ, zero, suc, _-_}
-use native.Mathlib.Omega.{arith}
-use lib.ListN.{length, take, drop, getD, length-take, length-drop, take-append-drop}
-use lib.Seq.{take-append-le, drop-append-le}
+use Rattle.listing_rules.proofs.Prelude.{_∙_, _≡_, ap, refl, sym, cond, false, true, List as Seq, [], _∷_, map, _-_, suc, zero, ℕ, arith, drop, getD}
+use Rattle.listing_rules.proofs.Prelude.{length, length-drop, length-take, take, take-append-drop, drop-append-le, take-append-le}
 use Rattle.listing_rules.specs.Feeder.{first, oneCommand}
 use Rattle.listing_rules.specs.Command.{refused, lineText, orRefuse, tagged, parsed}
 use Rattle.command_tokens.specs.declared.Span.{Span}

@@ -1,12 +1,6 @@
 -- Options as they are written: one option, and a list of them in parentheses. Rests on Members, and on Bytes of command_tokens.
-use mathlib.Core.Path.{_≡_, refl, sym, ap, subst, _∙_}
-use mathlib.Core.Bool.{Bool, true, false, _&&_, not, and-assoc}
-use mathlib.Core.List.{List, []}
-use mathlib.Core.Option.{Option, none, some}
-use Prim.Native.Nat.{ℕ, _+_, _≤_, _<_}
-use native.Mathlib.Omega.{arith}
-use lib.Dec.{eqb}
-use lib.ListN.{length, drop, getD}
+use Rattle.listing_rules.proofs.Prelude.{_∙_, _≡_, ap, refl, subst, sym, Bool, _&&_, and-assoc, false, not, true, Option, none, some, List, [], _+_}
+use Rattle.listing_rules.proofs.Prelude.{_<_, _≤_, ℕ, arith, eqb, drop, getD, length}
 use Rattle.listing_rules.specs.Bytes.{text}
 use Rattle.listing_rules.specs.Tokens.{Got, got, _>>=_, after, atom, withFirst}
 use Rattle.octets.specs.Sets.{union}
@@ -28,7 +22,12 @@ use Rattle.command_line.proofs.Members.{member-known}
 
 -- behind the atom: a value, or nothing more
 behindWord : Got (List ℕ) → Option (Got Opt)
-behindWord g = elim (after (text " (") (g .rest)) [ none ↦ some (got (record { word = g .val; valued = false }) (g .rest)) | some u ↦ valueOf u >>= λ v. some (got (record { word = g .val; valued = true }) v) ]
+behindWord g =
+    elim (after (text " (") (g .rest)) [
+      | none ↦ some (got (record { word = g .val; valued = false }) (g .rest))
+      | some u ↦ valueOf u >>= λ v. some
+          (got (record { word = g .val; valued = true }) v)
+    ]
 
 option-is : (t : List ℕ) → option t ≡ (atom t >>= behindWord)
 unfolding option behindWord valueOf

@@ -1,12 +1,7 @@
 -- What stands after the word LSUB, as the code reads it: a reference, one pattern, the end of the line; and 8. Rests on Refusing, and on
 -- Filling of command_patterns.
-use mathlib.Core.Path.{_≡_, sym, ap, subst, _∙_}
-use mathlib.Core.Bool.{Bool, true, false, cond}
-use mathlib.Core.List.{List, [], _∷_}
-use mathlib.Core.Option.{none, some}
-use Prim.Native.Nat.{ℕ, _≤_, _<_}
-use native.Mathlib.Omega.{arith}
-use lib.ListN.{length, drop}
+use Rattle.listing_rules.proofs.Prelude.{_∙_, _≡_, ap, subst, sym, Bool, cond, false, true, none, some, List, [], _∷_, _<_, _≤_, ℕ, arith, drop}
+use Rattle.listing_rules.proofs.Prelude.{length}
 use Rattle.listing_rules.specs.Bytes.{isEmpty}
 use Rattle.listing_rules.specs.Lists.{every}
 use Rattle.listing_rules.specs.Tokens.{Got, got, _>>=_, pattern}
@@ -31,7 +26,9 @@ onePattern tag ref v = orRefuse 4 (pattern v) (afterPattern tag ref)
 -- LSUB, part by part
 pub lsub-is : (tag t : List ℕ) → orRefuse 4 (lsubArgs t) (judgedLsub tag) ≡ referred t (onePattern tag)
 unfolding lsubArgs onePattern afterPattern
-lsub-is tag t = referred-is t (λ r v. pattern v >>= λ p. cond (isEmpty (p .rest)) (some (record { reference = r .val; pat = p .val })) none) (judgedLsub tag) (onePattern tag) (λ r v. refuse-bind (pattern v) _ (judgedLsub tag))
+lsub-is tag t =
+    referred-is t (λ r v. pattern v >>= λ p. cond (isEmpty (p .rest)) (some (record { reference = r .val; pat = p .val })) none) (judgedLsub tag)
+    (onePattern tag) (λ r v. refuse-bind (pattern v) _ (judgedLsub tag))
 
 module _ (tag ref v : List ℕ) where
   pub pattern-off : pattern v ≡ none → onePattern tag ref v ≡ refused 4
@@ -61,7 +58,9 @@ module _ (s : List ℕ) (r t : Span) (p : Patterns) (placed : p ≡ withSpan noP
   judged-as : (tag : List ℕ) (o : Bool) → every short (canonicalOf s r p) ≡ o →
       judgedLsub tag (record { reference = spanBytes s r; pat = spanBytes s t }) ≡ cond o (subscriptions tag (canonicalOf s r p)) (refused 8)
   unfolding judgedLsub
-  judged-as tag o e = ap (λ (ps : List (List ℕ)). cond (every short (canonical (spanBytes s r) ps)) (subscriptions tag (canonical (spanBytes s r) ps)) (refused 8)) (sym (filled .bytes (omega arith))) ∙ rw e
+  judged-as tag o e =
+      ap (λ (ps : List (List ℕ)). cond (every short (canonical (spanBytes s r) ps)) (subscriptions tag (canonical (spanBytes s r) ps)) (refused 8))
+      (sym (filled .bytes (omega arith))) ∙ rw e
 
   pub lsub-long : (tag : List ℕ) → every short (canonicalOf s r p) ≡ false → judgedLsub tag (record { reference = spanBytes s r; pat = spanBytes s t }) ≡ refused 8
   lsub-long tag e = judged-as tag false e

@@ -1,11 +1,6 @@
 -- Laws of option sets: which bit a word sets, and what a list of options leaves in the set.
-use mathlib.Core.Path.{_≡_, refl, sym, ap, subst, _∙_}
-use mathlib.Core.Bool.{Bool, true, false, cond, _&&_, _||_, not, or-assoc, or-false, and-assoc, and-true}
-use mathlib.Core.List.{List, [], _∷_}
-use mathlib.Core.Option.{Option, some}
-use Prim.Native.Nat.{ℕ, _<_, _^_}
-use native.Mathlib.Omega.{arith}
-use lib.Dec.{eqb}
+use Rattle.listing_rules.proofs.Prelude.{_∙_, _≡_, ap, refl, subst, sym, Bool, _&&_, _||_, and-assoc, and-true, cond, false, not, or-assoc, or-false}
+use Rattle.listing_rules.proofs.Prelude.{true, Option, some, List, [], _∷_, _<_, _^_, ℕ, arith, eqb}
 use lib.Bits.{or-lt}
 use Rattle.listing_rules.specs.Bytes.{text, bit, spells, same, raised}
 use Rattle.listing_rules.specs.Lists.{every, anyOf}
@@ -96,7 +91,9 @@ module _ (w : List ℕ) where
 
   sel-remote : bit 1 (selected w) ≡ spells w (text "REMOTE")
   unfolding bit text same
-  sel-remote = selected-is 1 ∙ go (spells w (text "SUBSCRIBED")) (spells w (text "REMOTE")) (spells w (text "RECURSIVEMATCH")) (spells w (text "SPECIAL-USE")) (apart w (text "SUBSCRIBED") (text "REMOTE") refl)
+  sel-remote =
+      selected-is 1 ∙ go (spells w (text "SUBSCRIBED")) (spells w (text "REMOTE")) (spells w (text "RECURSIVEMATCH")) (spells w (text "SPECIAL-USE"))
+      (apart w (text "SUBSCRIBED") (text "REMOTE") refl)
     where
       go : (a b c d : Bool) → (a ≡ true → b ≡ false) → cond a false (cond b true (cond c false (cond d false false))) ≡ b
       go true b c d h = sym (h refl)
@@ -107,7 +104,9 @@ module _ (w : List ℕ) where
 
   sel-recursive : bit 2 (selected w) ≡ spells w (text "RECURSIVEMATCH")
   unfolding bit text same
-  sel-recursive = selected-is 2 ∙ go (spells w (text "SUBSCRIBED")) (spells w (text "REMOTE")) (spells w (text "RECURSIVEMATCH")) (spells w (text "SPECIAL-USE")) (apart w (text "SUBSCRIBED") (text "RECURSIVEMATCH") refl) (apart w (text "REMOTE") (text "RECURSIVEMATCH") refl)
+  sel-recursive =
+      selected-is 2 ∙ go (spells w (text "SUBSCRIBED")) (spells w (text "REMOTE")) (spells w (text "RECURSIVEMATCH")) (spells w (text "SPECIAL-USE"))
+      (apart w (text "SUBSCRIBED") (text "RECURSIVEMATCH") refl) (apart w (text "REMOTE") (text "RECURSIVEMATCH") refl)
     where
       go : (a b c d : Bool) → (a ≡ true → c ≡ false) → (b ≡ true → c ≡ false) → cond a false (cond b false (cond c true (cond d false false))) ≡ c
       go true b c d h k = sym (h refl)
@@ -118,7 +117,10 @@ module _ (w : List ℕ) where
 
   sel-special : bit 3 (selected w) ≡ spells w (text "SPECIAL-USE")
   unfolding bit text same
-  sel-special = selected-is 3 ∙ go (spells w (text "SUBSCRIBED")) (spells w (text "REMOTE")) (spells w (text "RECURSIVEMATCH")) (spells w (text "SPECIAL-USE")) (apart w (text "SUBSCRIBED") (text "SPECIAL-USE") refl) (apart w (text "REMOTE") (text "SPECIAL-USE") refl) (apart w (text "RECURSIVEMATCH") (text "SPECIAL-USE") refl)
+  sel-special =
+      selected-is 3 ∙ go (spells w (text "SUBSCRIBED")) (spells w (text "REMOTE")) (spells w (text "RECURSIVEMATCH")) (spells w (text "SPECIAL-USE"))
+      (apart w (text "SUBSCRIBED") (text "SPECIAL-USE") refl) (apart w (text "REMOTE") (text "SPECIAL-USE") refl)
+      (apart w (text "RECURSIVEMATCH") (text "SPECIAL-USE") refl)
     where
       go : (a b c d : Bool) → (a ≡ true → d ≡ false) → (b ≡ true → d ≡ false) → (c ≡ true → d ≡ false) → cond a false (cond b false (cond c false (cond d true false))) ≡ d
       go true b c d h k l = sym (h refl)
@@ -171,7 +173,9 @@ module _ (w : List ℕ) where
 
   ret-special : bit 6 (returned w) ≡ spells w (text "SPECIAL-USE")
   unfolding bit text same
-  ret-special = returned-is 6 ∙ go (spells w (text "SUBSCRIBED")) (spells w (text "CHILDREN")) (spells w (text "SPECIAL-USE")) (apart w (text "SUBSCRIBED") (text "SPECIAL-USE") refl) (apart w (text "CHILDREN") (text "SPECIAL-USE") refl)
+  ret-special =
+      returned-is 6 ∙ go (spells w (text "SUBSCRIBED")) (spells w (text "CHILDREN")) (spells w (text "SPECIAL-USE"))
+      (apart w (text "SUBSCRIBED") (text "SPECIAL-USE") refl) (apart w (text "CHILDREN") (text "SPECIAL-USE") refl)
     where
       go : (a b c : Bool) → (a ≡ true → c ≡ false) → (b ≡ true → c ≡ false) → cond a false (cond b false (cond c true false)) ≡ c
       go true b c h k = sym (h refl)
@@ -201,11 +205,16 @@ module _ (os rs : List Opt) where
 
   from-selection : (k : ℕ) (word : List ℕ) → bit k 0 ≡ false → ((w : List ℕ) → bit k (selected w) ≡ spells w word) → ((w : List ℕ) → bit k (returned w) ≡ false) → named word os ≡ bit k both
   unfolding named
-  from-selection k word z h g = sym (both-bit k z ∙ rw (any-cong (λ o. bit k (selected (o .word))) (λ o. spells (o .word) word) (λ o. h (o .word)) os, any-never (λ o. bit k (returned (o .word))) (λ o. g (o .word)) rs) (or-false (anyOf (λ o. spells (o .word) word) os)))
+  from-selection k word z h g =
+      sym (both-bit k z ∙ rw
+      (any-cong (λ o. bit k (selected (o .word))) (λ o. spells (o .word) word) (λ o. h (o .word)) os, any-never (λ o. bit k (returned (o .word))) (λ o. g (o .word)) rs)
+      (or-false (anyOf (λ o. spells (o .word) word) os)))
 
   from-return : (k : ℕ) (word : List ℕ) → bit k 0 ≡ false → ((w : List ℕ) → bit k (selected w) ≡ false) → ((w : List ℕ) → bit k (returned w) ≡ spells w word) → named word rs ≡ bit k both
   unfolding named
-  from-return k word z h g = sym (both-bit k z ∙ rw (any-never (λ o. bit k (selected (o .word))) (λ o. h (o .word)) os, any-cong (λ o. bit k (returned (o .word))) (λ o. spells (o .word) word) (λ o. g (o .word)) rs))
+  from-return k word z h g =
+      sym (both-bit k z ∙ rw
+      (any-never (λ o. bit k (selected (o .word))) (λ o. h (o .word)) os, any-cong (λ o. bit k (returned (o .word))) (λ o. spells (o .word) word) (λ o. g (o .word)) rs))
 
   pub options-named : (h p r : Bool) (ref : List ℕ) (ps : List (List ℕ)) →
       optionsOf (record { selection = os; hasSelection = h; reference = ref; pats = ps; inParens = p; returns = rs; hasReturn = r }) ≡ optionsIs

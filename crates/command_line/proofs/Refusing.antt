@@ -1,10 +1,5 @@
 -- Reading on, or the refusal: one reading after the other, the reference and the space after it, the end of the line. Rests on Returning.
-use mathlib.Core.Path.{_≡_, refl, sym, _∙_}
-use mathlib.Core.Bool.{cond}
-use mathlib.Core.List.{List}
-use mathlib.Core.Option.{Option, none, some}
-use Prim.Native.Nat.{ℕ, _≤_, _<_}
-use lib.ListN.{length, drop}
+use Rattle.listing_rules.proofs.Prelude.{_∙_, _≡_, refl, sym, cond, Option, none, some, List, _<_, _≤_, ℕ, drop, length}
 use Rattle.listing_rules.specs.Bytes.{text, isEmpty}
 use Rattle.listing_rules.specs.Tokens.{Got, got, _>>=_, after, astring}
 use Rattle.listing_rules.specs.Command.{Parsed, refused, orRefuse}

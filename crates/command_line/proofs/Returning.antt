@@ -1,11 +1,6 @@
 -- The selection part and the return part: what each leaves in the set, step by step. Rests on listing_rules' TokenLaws.
-use mathlib.Core.Path.{_≡_, refl, _∙_}
-use mathlib.Core.Bool.{Bool, true, false, cond}
-use mathlib.Core.List.{List, [], _∷_}
-use mathlib.Core.Option.{Option, none, some}
-use Prim.Native.Nat.{ℕ, suc, _≤_, _<_}
-use lib.ListN.{length, drop, getD, drop-of-length-le}
-use lib.Seq.{drop-cons}
+use Rattle.listing_rules.proofs.Prelude.{_∙_, _≡_, refl, Bool, cond, false, true, Option, none, some, List, [], _∷_, _<_, _≤_, suc, ℕ, drop}
+use Rattle.listing_rules.proofs.Prelude.{drop-of-length-le, getD, length, drop-cons}
 use Rattle.listing_rules.specs.Bytes.{text, spells, isEmpty}
 use Rattle.listing_rules.specs.Tokens.{Got, got, _>>=_, after, atom}
 use Rattle.listing_rules.specs.Command.{Opt, options, selectionPart, returnPart}

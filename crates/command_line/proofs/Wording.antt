@@ -1,10 +1,6 @@
 -- The tag and the word: what the line gives, step by step. Rests on Returning and Refusing, and on Binds of command_tokens.
-use mathlib.Core.Path.{_≡_, refl, sym, ap, _∙_}
-use mathlib.Core.Bool.{Bool, true, false, cond}
-use mathlib.Core.List.{List, [], _∷_}
-use mathlib.Core.Option.{none, some, Option·none-ne-some}
-use Prim.Native.Nat.{ℕ, _≤_, _<_}
-use lib.ListN.{length, drop}
+use Rattle.listing_rules.proofs.Prelude.{_∙_, _≡_, ap, refl, sym, Bool, cond, false, true, Option·none-ne-some, none, some, List, [], _∷_, _<_, _≤_}
+use Rattle.listing_rules.proofs.Prelude.{ℕ, drop, length}
 use Rattle.listing_rules.specs.Bytes.{text, spells, same, raised, isEmpty}
 use Rattle.listing_rules.specs.Tokens.{Got, got, after, tagByte, atomByte, run, run₁, unlessEmpty, atom}
 use Rattle.listing_rules.specs.Command.{Parsed, refused, namespace, orRefuse, worded, tagged}

@@ -1,15 +1,7 @@
 -- Canonical patterns, one place at a time: an empty pattern has none, and each other one counts. Rests on nothing.
-use mathlib.Core.Path.{_≡_, refl, sym, ap, subst, _∙_}
-use mathlib.Core.Bool.{Bool, true, false, _&&_, and-assoc, and-true}
-use mathlib.Core.List.{List, [], _∷_, _++_, map}
-use Prim.Native.Nat.{ℕ, suc, _+_, _-_, _≤_, _<_, min}
-use native.Mathlib.Decide.{decLe}
-use native.Mathlib.Numerals.{add-one}
-use native.Mathlib.Omega.{arith}
-use lib.Dec.{eqb, leb}
-use lib.ListN.{length, take, drop, getD, length-append, length-take, length-map, List·getD-map, drop-of-length-le}
-use lib.Seq.{drop-cons, getD-take}
-use borrow.Author.Tests.{ne-eqb, le-leb, lt-leb}
+use Rattle.listing_rules.proofs.Prelude.{_∙_, _≡_, ap, refl, subst, sym, Bool, _&&_, and-assoc, and-true, false, true, List, [], _++_, _∷_, map, _+_}
+use Rattle.listing_rules.proofs.Prelude.{_-_, _<_, _≤_, min, suc, ℕ, add-one, decLe, arith, eqb, leb, List·getD-map, drop, drop-of-length-le, getD}
+use Rattle.listing_rules.proofs.Prelude.{length, length-append, length-map, length-take, take, drop-cons, getD-take, le-leb, lt-leb, ne-eqb}
 use Rattle.listing_rules.specs.Bytes.{isEmpty}
 use Rattle.listing_rules.specs.Lists.{every}
 use Rattle.listing_rules.specs.Command.{canonical}

@@ -1,20 +1,13 @@
 -- The canonical patterns of a command that lists are few and short. Rests on Bools of the definitions.
-use mathlib.Core.Path.{_≡_, refl}
-use mathlib.Core.Bool.{Bool, true, false, cond, _&&_}
-use mathlib.Core.List.{List, [], _∷_, _++_}
-use mathlib.Core.Option.{Option, none, some}
-use Prim.Native.Nat.{ℕ, suc, _≤_}
-use native.Mathlib.Omega.{arith}
-use lib.Dec.{leb}
-use lib.ListN.{length}
-use borrow.Author.Tests.{leb-true}
+use Rattle.listing_rules.proofs.Prelude.{_≡_, refl, Bool, _&&_, cond, false, true, Option, none, some, List, [], _++_, _∷_, _≤_, suc, ℕ, arith, leb}
+use Rattle.listing_rules.proofs.Prelude.{length, leb-true}
 use Rattle.listing_rules.specs.Bytes.{text, spells, isEmpty}
 use Rattle.listing_rules.specs.Lists.{every}
 use Rattle.listing_rules.specs.Tokens.{Got, after, run, run₁, tagByte, atomByte}
 use Rattle.listing_rules.specs.Options.{Options, lawfulOptions}
-use Rattle.listing_rules.specs.Command.{Parsed, listing, refused, namespace, rootOf, subscriptions, editing, subscribe, unsubscribe, ListArgs, LsubArgs}
-use Rattle.listing_rules.specs.Command.{parsed, lineText, tagged, worded, judged, orRefuse, listArgs, lsubArgs, judgedLsub, nameArg, fewPatterns, canonical}
-use Rattle.listing_rules.specs.Command.{asksRoot, optionsOf, knownIn, selectionWords, returnWords}
+use Rattle.listing_rules.specs.Command.{Parsed, listing, refused, namespace, rootOf, subscriptions, editing, subscribe, unsubscribe, ListArgs}
+use Rattle.listing_rules.specs.Command.{LsubArgs, parsed, lineText, tagged, worded, judged, orRefuse, listArgs, lsubArgs, judgedLsub, nameArg}
+use Rattle.listing_rules.specs.Command.{fewPatterns, canonical, asksRoot, optionsOf, knownIn, selectionWords, returnWords}
 use Rattle.listing_rules.proofs.Bools.{and-l, and-r}
 use Rattle.command_patterns.specs.Canonical.{Few}
 

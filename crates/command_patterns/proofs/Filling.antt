@@ -1,19 +1,10 @@
 -- The eight places: they hold what was read, with one pattern more as before it; and how a list of patterns is read into them. Rests on
 -- Bytes and Cuts of command_tokens.
-use mathlib.Core.Path.{_≡_, refl, sym, ap, _∙_}
-use mathlib.Core.Bool.{cond}
-use mathlib.Core.List.{List, [], _∷_, _++_, map}
-use mathlib.Core.Option.{Option, none, some}
-use Prim.Native.Nat.{ℕ, zero, suc, _+_, _-_, _≤_, _<_, min}
-use native.Mathlib.Numerals.{add-one}
-use native.Mathlib.Decide.{decLe}
-use native.Mathlib.Omega.{arith}
-use lib.Dec.{leb}
-use lib.ListN.{length, take, drop, set, replicate, getD, length-append, length-set, drop-of-length-le}
-use lib.Seq.{take-suc-set, append-snoc, drop-drop, drop-set-lt}
-use borrow.Author.Tests.{le-leb, lt-leb}
+use Rattle.listing_rules.proofs.Prelude.{_∙_, _≡_, ap, refl, sym, cond, Option, none, some, List, [], _++_, _∷_, map, _+_, _-_, _<_, _≤_, min, suc}
+use Rattle.listing_rules.proofs.Prelude.{zero, ℕ, add-one, decLe, arith, leb, drop, drop-of-length-le, getD, length, length-append, length-set}
+use Rattle.listing_rules.proofs.Prelude.{replicate, set, take, append-snoc, drop-drop, drop-set-lt, take-suc-set, le-leb, lt-leb}
 use Rattle.listing_rules.specs.Bytes.{text}
-use Rattle.listing_rules.specs.Tokens.{Got, got, _>>=_, after, withFirst, pattern}
+use Rattle.listing_rules.specs.Tokens.{Got, got, _>>=_, withFirst, pattern}
 use Rattle.listing_rules.specs.Command.{parted, patterns}
 use Rattle.command_tokens.specs.declared.Span.{Span}
 use Rattle.command_tokens.specs.declared.Behind.{Behind}
@@ -73,7 +64,9 @@ module _ (s : List ℕ) where
         record {
           count = omega (arith, one-more, f .count);
           size = length-set (p .spans) (p .count) t ∙ f .size;
-          bytes = λ k. rw (add-one, take-suc-set (p .spans) (p .count) t (omega (arith, f .size))) (map-snoc (take (p .count) (p .spans)) t ∙ ap (λ (x : List (List ℕ)). x ++ (spanBytes s t ∷ [])) (f .bytes (omega (arith, f .count))));
+          bytes =
+              λ k. rw (add-one, take-suc-set (p .spans) (p .count) t (omega (arith, f .size)))
+              (map-snoc (take (p .count) (p .spans)) t ∙ ap (λ (x : List (List ℕ)). x ++ (spanBytes s t ∷ [])) (f .bytes (omega (arith, f .count))));
           places = places-set (p .spans) (p .count) t (f .places) l;
           unused = unused-set (p .spans) (p .count) t (f .unused) h;
         }

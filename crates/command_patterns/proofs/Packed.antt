@@ -1,13 +1,6 @@
 -- Canonical patterns in a buffer: one pattern more; and what they are, and how many bytes, where each is at most 255 bytes long. Rests on octets' Puts.
-use mathlib.Core.Path.{_≡_, refl, sym, ap, subst, _∙_}
-use mathlib.Core.Bool.{true}
-use mathlib.Core.List.{List, [], _∷_, _++_, map, append-assoc, append-nil}
-use Prim.Native.Nat.{ℕ, _+_, _*_, _<_, _≤_, _%_, _^_}
-use native.Mathlib.Nat.{mod-eq-of-lt}
-use native.Mathlib.Omega.{arith}
-use lib.Dec.{leb}
-use lib.ListN.{length, length-append}
-use borrow.Author.Tests.{leb-true}
+use Rattle.listing_rules.proofs.Prelude.{_∙_, _≡_, ap, refl, subst, sym, true, List, [], _++_, _∷_, append-assoc, append-nil, map, _%_, _*_, _+_, _<_}
+use Rattle.listing_rules.proofs.Prelude.{_^_, _≤_, ℕ, mod-eq-of-lt, arith, leb, length, length-append, leb-true}
 use Rattle.listing_rules.specs.Lists.{every, joined}
 use Rattle.listing_rules.specs.Walk.{packed}
 use Rattle.listing_rules.proofs.Bools.{and-l, and-r}

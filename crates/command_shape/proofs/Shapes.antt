@@ -1,17 +1,9 @@
 -- The shape of a line, one byte at a time: from a place on it is one command exactly if the whole line is. Rests on Steps.
-use mathlib.Core.Path.{_≡_, refl, sym, ap, subst, _∙_}
-use mathlib.Core.Bool.{Bool, true, false, false≢true, cond, _&&_}
-use mathlib.Core.List.{List, [], _∷_}
-use Prim.Native.Nat.{ℕ, _+_, _≤_, _<_}
-use native.Mathlib.Decide.{decLe}
-use native.Mathlib.Numerals.{add-one}
-use native.Mathlib.Omega.{arith}
-use lib.Dec.{leb}
-use lib.ListN.{length, drop, getD, drop-of-length-le}
-use lib.Seq.{drop-cons}
-use borrow.Author.Tests.{le-leb, lt-leb}
+use Rattle.listing_rules.proofs.Prelude.{_∙_, _≡_, ap, refl, subst, sym, Bool, _&&_, cond, false, false≢true, true, List, [], _∷_, _+_, _<_, _≤_, ℕ}
+use Rattle.listing_rules.proofs.Prelude.{add-one, decLe, arith, leb, drop, drop-of-length-le, getD, length, drop-cons, le-leb, lt-leb}
 use Rattle.listing_rules.specs.Bytes.{isEmpty}
-use Rattle.listing_rules.specs.Feeder.{Feeder, reading, inLiteral, dropping, Event, quiet, handed, goOn, denied, AfterByte, gives, first, lastIs, endsLine, offends, refusing, textByte, fedByte, allowed, stillOne, oneCommand}
+use Rattle.listing_rules.specs.Feeder.{Feeder, reading, inLiteral, dropping, Event, quiet, handed, goOn, denied, AfterByte, gives, first, lastIs}
+use Rattle.listing_rules.specs.Feeder.{endsLine, offends, refusing, textByte, fedByte, allowed, stillOne, oneCommand}
 use Rattle.listing_rules.proofs.FeederLaws.{ends-snoc}
 use Rattle.command_shape.specs.declared.machine.Machine.{Machine}
 use Rattle.command_shape.specs.declared.shaping.Shaping.the-variants.{Bad, Last, Further}

@@ -1,15 +1,10 @@
 -- The machine follows the feeder: a step from the state that stands for one of the feeder's leads to the state that stands for the
 -- next, and signals what comes of the byte. Rests on Tails and on the laws of listing_rules' FeederLaws.
-use mathlib.Core.Path.{_≡_, refl, sym, ap, _∙_}
-use mathlib.Core.Bool.{Bool, true, false, false≢true, cond, not, _&&_, _||_}
-use mathlib.Core.List.{List, [], _∷_, _++_}
-use mathlib.Core.Option.{Option, none, some}
-use Prim.Native.Nat.{ℕ, suc, _+_, _-_, _<_, min}
-use native.Mathlib.Omega.{arith}
-use lib.Dec.{eqb, leb}
-use lib.ListN.{length, length-append}
-use borrow.Author.Tests.{eqb-true, le-leb, lt-leb, leb-true, leb-false}
-use Rattle.listing_rules.specs.Feeder.{Feeder, reading, inLiteral, dropping, first, lastIs, endsLine, announced, quiet, goOn, denied, gives, dropped, offends, refusing, awaiting, lineEnded, textByte, fedByte}
+use Rattle.listing_rules.proofs.Prelude.{_∙_, _≡_, ap, refl, sym, Bool, _&&_, _||_, cond, false, false≢true, not, true, Option, none, some, List, []}
+use Rattle.listing_rules.proofs.Prelude.{_++_, _∷_, _+_, _-_, _<_, min, suc, ℕ, arith, eqb, leb, length, length-append, eqb-true, le-leb, leb-false}
+use Rattle.listing_rules.proofs.Prelude.{leb-true, lt-leb}
+use Rattle.listing_rules.specs.Feeder.{Feeder, reading, inLiteral, dropping, first, lastIs, endsLine, announced, quiet, goOn, denied, gives, dropped}
+use Rattle.listing_rules.specs.Feeder.{offends, refusing, awaiting, lineEnded, textByte, fedByte}
 use Rattle.listing_rules.proofs.Bools.{and-r}
 use Rattle.listing_rules.proofs.FeederLaws.{last-snoc, ends-snoc}
 use Rattle.command_shape.specs.declared.machine.Tail.{Tail}
@@ -18,7 +13,8 @@ use Rattle.command_shape.specs.declared.machine.Place.the-variants.{Line
 use Rattle.command_shape.specs.declared.machine.Machine.{Machine}
 use Rattle.command_shape.specs.declared.machine.Signal.the-variants.{Quiet, GoOn, Whole, Refused}
 use Rattle.command_shape.specs.declared.machine.Stepped.{Stepped}
-use Rattle.command_shape.specs.Machine.{atCr, tailFrom, firstIs, steps, standing, awaitingIs, literalIs, announcedIs, textIs, lineIs, droppedIs, refusedIs, offending, stepAt, stepIs, machineOf, signalOf, steppedOf}
+use Rattle.command_shape.specs.Machine.{atCr, tailFrom, firstIs, steps, standing, awaitingIs, literalIs, announcedIs, textIs, lineIs, droppedIs}
+use Rattle.command_shape.specs.Machine.{refusedIs, offending, stepAt, stepIs, machineOf, signalOf, steppedOf}
 use Rattle.command_shape.proofs.Tails.{line-cr, tail-snoc, cappedOption, endValue, announced-is}
 
 -- ---- the end of a line
@@ -105,7 +101,8 @@ text-is kept line c = line-is tail size c ∙ ap (λ (o : Bool). cond (o && eqb 
     ends e =
         rw (eqb-true c 10 e)
         (ended-is kept (endValue tail)
-        ∙ ap steppedOf (sym (ended-capped (kept ++ (10 ∷ [])) (endValue tail)) ∙ ap (lineEnded (kept ++ (10 ∷ []))) (sym (announced-is line)) ∙ ended-capped (kept ++ (10 ∷ [])) (announced (line ++ (10 ∷ [])))))
+        ∙ ap steppedOf (sym (ended-capped (kept ++ (10 ∷ [])) (endValue tail)) ∙ ap (lineEnded (kept ++ (10 ∷ []))) (sym (announced-is line)) ∙
+        ended-capped (kept ++ (10 ∷ [])) (announced (line ++ (10 ∷ [])))))
 
     go : (o : Bool) → (lastIs 13 line && eqb c 10) ≡ o →
         cond o (endedIs (endValue tail) size) (textIs tail size c) ≡ steppedOf

@@ -1,13 +1,6 @@
 -- The end of a line, byte by byte: a tail tells whether the last byte is CR, and which header the line ends in. Rests on nothing.
-use mathlib.Core.Path.{_≡_, refl, sym, ap, _∙_}
-use mathlib.Core.Bool.{Bool, true, false, cond, _&&_}
-use mathlib.Core.List.{List, [], _∷_, _++_}
-use mathlib.Core.Option.{Option, none, some}
-use Prim.Native.Nat.{ℕ, _+_, _-_, _*_, _≤_, min}
-use native.Mathlib.Decide.{decLe}
-use native.Mathlib.Omega.{arith}
-use lib.Dec.{eqb, leb}
-use borrow.Author.Tests.{ne-eqb, eqb-true, leb-true}
+use Rattle.listing_rules.proofs.Prelude.{_∙_, _≡_, ap, refl, sym, Bool, _&&_, cond, false, true, Option, none, some, List, [], _++_, _∷_, _*_, _+_}
+use Rattle.listing_rules.proofs.Prelude.{_-_, _≤_, min, ℕ, decLe, arith, eqb, leb, eqb-true, leb-true, ne-eqb}
 use Rattle.listing_rules.specs.Bytes.{text, crlf, within, same, isEmpty}
 use Rattle.listing_rules.proofs.Keys.{openBytes}
 use Rattle.listing_rules.specs.Tokens.{Got, got, _>>=_, digitByte, decimal, number, run, run₁, unlessEmpty, withFirst}

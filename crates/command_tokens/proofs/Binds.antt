@@ -1,10 +1,5 @@
 -- Laws of reading on: what a chain of readings gives is what its parts give; what a token that was found tells.
-use mathlib.Core.Path.{_≡_, sym, ap, subst, _∙_}
-use mathlib.Core.List.{List}
-use mathlib.Core.Bool.{true, false}
-use mathlib.Core.Option.{Option, none, some}
-use Prim.Native.Nat.{ℕ, _≤_, _<_}
-use lib.ListN.{length, drop}
+use Rattle.listing_rules.proofs.Prelude.{_∙_, _≡_, ap, subst, sym, false, true, Option, none, some, List, _<_, _≤_, ℕ, drop, length}
 use Rattle.listing_rules.specs.Tokens.{Got, got, _>>=_}
 use Rattle.command_tokens.specs.declared.Span.{Span}
 use Rattle.command_tokens.specs.declared.Cursor.{Cursor}

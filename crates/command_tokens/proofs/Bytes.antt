@@ -1,16 +1,7 @@
 -- Laws of single bytes: what stands behind one, which class holds one, and where a string begins.
-use mathlib.Core.Path.{_≡_, refl, sym}
-use mathlib.Core.Bool.{Bool, true, false, cond, _||_, not, or-assoc, or-false}
-use mathlib.Core.List.{List, [], _∷_}
-use mathlib.Core.Option.{none, some}
-use Prim.Native.Nat.{ℕ, _+_, _≤_, _<_}
-use native.Mathlib.Numerals.{add-one}
-use native.Mathlib.Decide.{decLe}
-use native.Mathlib.Omega.{arith}
-use lib.ListN.{length, drop, getD, drop-of-length-le, List·getD-eq-default}
-use lib.Seq.{drop-cons}
-use lib.Dec.{eqb}
-use borrow.Author.Tests.{eq-eqb, ne-eqb, eqb-true}
+use Rattle.listing_rules.proofs.Prelude.{_≡_, refl, sym, Bool, _||_, cond, false, or-assoc, or-false, true, none, some, List, [], _∷_, _+_, _<_, _≤_}
+use Rattle.listing_rules.proofs.Prelude.{ℕ, add-one, decLe, arith, eqb, List·getD-eq-default, drop, drop-of-length-le, getD, length, drop-cons}
+use Rattle.listing_rules.proofs.Prelude.{eq-eqb, eqb-true, ne-eqb}
 use Rattle.command_tokens.specs.declared.Token.{Token}
 use Rattle.command_tokens.specs.declared.Token.the-variants.{Found, Missing}
 use Rattle.command_tokens.specs.declared.Behind.{Behind}

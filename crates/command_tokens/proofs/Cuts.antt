@@ -1,10 +1,6 @@
 -- A part of the line between two places: where there is none, and that a token lies inside the line. Rests on nothing.
-use mathlib.Core.Path.{_≡_, sym, _∙_}
-use mathlib.Core.List.{List, []}
-use Prim.Native.Nat.{ℕ, _-_, _≤_}
-use native.Mathlib.Omega.{arith}
-use lib.ListN.{length, take, drop, drop-of-length-le, length-drop}
-use lib.Seq.{take-all, take-nil}
+use Rattle.listing_rules.proofs.Prelude.{_∙_, _≡_, sym, List, [], _-_, _≤_, ℕ, arith, drop, drop-of-length-le, length, length-drop, take, take-all}
+use Rattle.listing_rules.proofs.Prelude.{take-nil}
 use Rattle.command_tokens.specs.declared.Span.{Span}
 use Rattle.command_tokens.specs.declared.Cursor.{Cursor}
 use Rattle.command_tokens.specs.Spans.{Lies, nowhere}

@@ -1,12 +1,7 @@
 -- Laws of option values: one item at a time, with no bound on the steps. Rests on Value of the definitions.
-use mathlib.Core.Path.{_≡_}
-use mathlib.Core.List.{List}
-use mathlib.Core.Option.{none, some}
-use Prim.Native.Nat.{ℕ, _+_}
-use native.Mathlib.Omega.{arith}
-use lib.ListN.{drop, getD}
+use Rattle.listing_rules.proofs.Prelude.{_≡_, none, some, List, _+_, ℕ, arith, drop, getD}
 use Rattle.listing_rules.specs.Bytes.{text}
-use Rattle.listing_rules.specs.Tokens.{_>>=_, at}
+use Rattle.listing_rules.specs.Tokens.{_>>=_}
 use Rattle.listing_rules.proofs.Value.{value-first}
 use Rattle.command_tokens.specs.Values.{valueOf, stringItem, firstItem, behindItem}
 use Rattle.command_tokens.proofs.Bytes.{at-here, at-other, after-here, after-other}

@@ -1,11 +1,6 @@
 -- Items parted by single spaces: one item at a time. `go` is what is done with the list.
-use mathlib.Core.Path.{_≡_, refl, sym, ap, _∙_}
-use mathlib.Core.Bool.{true, false}
-use mathlib.Core.List.{List, [], _∷_}
-use mathlib.Core.Option.{Option, none, some}
-use Prim.Native.Nat.{ℕ, zero, suc, _+_, _-_, _≤_, _<_}
-use native.Mathlib.Omega.{arith}
-use lib.ListN.{length, drop, getD, length-drop}
+use Rattle.listing_rules.proofs.Prelude.{_∙_, _≡_, ap, refl, sym, false, true, Option, none, some, List, [], _∷_, _+_, _-_, _<_, _≤_, suc, zero, ℕ}
+use Rattle.listing_rules.proofs.Prelude.{arith, drop, getD, length, length-drop}
 use Rattle.listing_rules.specs.Bytes.{text}
 use Rattle.listing_rules.specs.Tokens.{Got, got, _>>=_, at, after, withFirst}
 use Rattle.listing_rules.specs.Command.{parted}
@@ -14,7 +9,12 @@ use Rattle.command_tokens.proofs.Bytes.{at-here, at-other, after-here, 
 
 -- behind an item: a space and the next one, or the closing parenthesis
 stepOf : {A : Type 0} → (List ℕ → Option (Got A)) → ℕ → Got A → Option (Got (List A))
-stepOf item k g = elim (at 32 (g .rest)) [ true ↦ after (text " ") (g .rest) >>= λ u. parted item k u >>= λ r. some (withFirst (g .val) r) | false ↦ after (text ")") (g .rest) >>= λ u. some (got (g .val ∷ []) u) ]
+stepOf item k g =
+    elim (at 32 (g .rest)) [
+      | true ↦ after (text " ") (g .rest) >>= λ u. parted item k u >>= λ r. some (withFirst (g .val) r)
+      | false ↦ after
+          (text ")") (g .rest) >>= λ u. some (got (g .val ∷ []) u)
+    ]
 
 module _ {A : Type 0} (item : List ℕ → Option (Got A)) (n : ℕ) (s : List ℕ) (i : ℕ) (a : A) where
   step-close : getD s i 0 ≡ 41 → stepOf item n (got a (drop i s)) ≡ some (got (a ∷ []) (drop (i + 1) s))

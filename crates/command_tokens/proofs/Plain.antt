@@ -1,13 +1,6 @@
 -- Laws of a quoted string without its escapes: one byte at a time; and that neither it nor a span means more bytes than there are.
-use mathlib.Core.Path.{_≡_}
-use mathlib.Core.Bool.{Bool, true, false, cond, _&&_, not}
-use mathlib.Core.List.{List, [], _∷_}
-use Prim.Native.Nat.{ℕ, suc, _+_, _-_, _≤_, _<_}
-use native.Mathlib.Numerals.{add-one}
-use native.Mathlib.Omega.{arith}
-use lib.Dec.{eqb}
-use lib.ListN.{length, drop, getD, drop-of-length-le, length-take, length-drop}
-use lib.Seq.{drop-cons}
+use Rattle.listing_rules.proofs.Prelude.{_≡_, Bool, _&&_, cond, false, not, true, List, [], _∷_, _+_, _-_, _<_, _≤_, suc, ℕ, add-one, arith, eqb}
+use Rattle.listing_rules.proofs.Prelude.{drop, drop-of-length-le, getD, length, length-drop, length-take, drop-cons}
 use Rattle.command_tokens.specs.declared.Span.{Span}
 use Rattle.command_tokens.specs.Spans.{plain, rawBytes, spanBytes}
 

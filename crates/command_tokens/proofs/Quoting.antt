@@ -1,16 +1,7 @@
 -- Laws of a quoted string: one byte at a time, that its bytes are those of a line, and what the string is as a token.
-use mathlib.Core.Path.{_≡_, refl, sym, ap, _∙_}
-use mathlib.Core.Bool.{Bool, true, false, cond, _||_, _&&_, not, false≢true}
-use mathlib.Core.List.{List, [], _∷_}
-use mathlib.Core.Option.{Option, none, some}
-use Prim.Native.Nat.{ℕ, suc, _+_, _-_, _≤_, _<_}
-use native.Mathlib.Numerals.{add-one}
-use native.Mathlib.Nat.{add-zero}
-use native.Mathlib.Omega.{arith}
-use lib.ListN.{length, take, drop, getD, drop-of-length-le}
-use lib.Seq.{drop-cons, drop-drop}
-use lib.Dec.{eqb}
-use borrow.Author.Tests.{eqb-true}
+use Rattle.listing_rules.proofs.Prelude.{_∙_, _≡_, ap, refl, sym, Bool, _&&_, _||_, cond, false, false≢true, not, true, Option, none, some, List, []}
+use Rattle.listing_rules.proofs.Prelude.{_∷_, _+_, _-_, _<_, _≤_, suc, ℕ, add-zero, add-one, arith, eqb, drop, drop-of-length-le, getD, length, take}
+use Rattle.listing_rules.proofs.Prelude.{drop-cons, drop-drop, eqb-true}
 use Rattle.listing_rules.specs.Bytes.{quote, backslash, within, all}
 use Rattle.listing_rules.specs.Tokens.{Got, got, _>>=_, withFirst, unquoted, lineByte, quotedText}
 use Rattle.command_tokens.specs.declared.tokens.Quote.the-variants.{More, End, Bad}
@@ -96,7 +87,9 @@ unquoted-closing esc [] = refl
 unquoted-closing true (x ∷ xs) = go (eqb x 34 || eqb x 92) refl (unquoted-closing false xs)
   where
     go : (t : Bool) → eqb x 34 || eqb x 92 ≡ t → (unquoted false xs >>= ofLine) ≡ (closing false xs >>= behindQuote false xs)
-        → (cond t (unquoted false xs >>= λ g. some (withFirst x g)) none >>= ofLine) ≡ ((elim (cond t (More false) Bad) [ More e ↦ (closing e xs >>= λ k. some (suc k)) | End ↦ some 0 | Bad ↦ none ]) >>= behindQuote true (x ∷ xs))
+        → (cond t (unquoted false xs >>= λ g. some (withFirst x g)) none >>= ofLine) ≡
+        ((elim (cond t (More false) Bad) [ More e ↦ (closing e xs >>= λ k. some (suc k)) | End ↦ some 0 | Bad ↦ none ]) >>= behindQuote true
+        (x ∷ xs))
     go false e ih = refl
     go true e ih =
         line-first x (escaped-line x e) (unquoted false xs)
@@ -105,7 +98,9 @@ unquoted-closing true (x ∷ xs) = go (eqb x 34 || eqb x 92) refl (unquoted-clos
 unquoted-closing false (x ∷ xs) = go (eqb x 92) refl (eqb x 34) refl (lineByte x) refl (λ e. unquoted-closing e xs)
   where
     go : (t : Bool) → eqb x 92 ≡ t → (u : Bool) → eqb x 34 ≡ u → (v : Bool) → lineByte x ≡ v → ((e : Bool) → (unquoted e xs >>= ofLine) ≡ (closing e xs >>= behindQuote e xs))
-        → (cond t (unquoted true xs) (cond u (some (got [] xs)) (unquoted false xs >>= λ g. some (withFirst x g))) >>= ofLine) ≡ ((elim (cond u End (cond v (More t) Bad)) [ More e ↦ (closing e xs >>= λ k. some (suc k)) | End ↦ some 0 | Bad ↦ none ]) >>= behindQuote false (x ∷ xs))
+        → (cond t (unquoted true xs) (cond u (some (got [] xs)) (unquoted false xs >>= λ g. some (withFirst x g))) >>= ofLine) ≡
+        ((elim (cond u End (cond v (More t) Bad)) [ More e ↦ (closing e xs >>= λ k. some (suc k)) | End ↦ some 0 | Bad ↦ none ]) >>= behindQuote
+        false (x ∷ xs))
     go true e true f v l ih = absurd (omega (arith, eqb-true x 92 e, eqb-true x 34 f))
     go true e false f true l ih = ih true ∙ first-skipped x xs e (closing true xs)
     go true e false f false l ih = absurd (false≢true (sym l ∙ escaped-line x (rw (f, e))))

@@ -1,13 +1,6 @@
 -- Laws of runs: how `runEnd` moves by one byte, and what a run is as a token.
-use mathlib.Core.Path.{_≡_, refl, sym, ap, _∙_}
-use mathlib.Core.Bool.{Bool, true, false, cond}
-use mathlib.Core.List.{List, [], _∷_, _++_}
-use mathlib.Core.Option.{none, some}
-use Prim.Native.Nat.{ℕ, suc, _+_, _-_, _≤_, _<_}
-use native.Mathlib.Numerals.{add-one}
-use native.Mathlib.Omega.{arith}
-use lib.ListN.{length, take, drop, getD, drop-of-length-le}
-use lib.Seq.{drop-cons, drop-drop, take-at, drop-at}
+use Rattle.listing_rules.proofs.Prelude.{_∙_, _≡_, ap, refl, sym, Bool, cond, false, true, none, some, List, [], _++_, _∷_, _+_, _-_, _<_, _≤_, suc}
+use Rattle.listing_rules.proofs.Prelude.{ℕ, add-one, arith, drop, drop-of-length-le, getD, length, take, drop-at, drop-cons, drop-drop, take-at}
 use Rattle.listing_rules.specs.Bytes.{isEmpty}
 use Rattle.listing_rules.specs.Tokens.{Got, got, withFirst, run, run₁, unlessEmpty}
 use Rattle.listing_rules.proofs.TokenLaws.{run-split}

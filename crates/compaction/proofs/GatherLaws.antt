@@ -1,13 +1,7 @@
 -- Bytes gathered one by one: what stands at the front after i of them, and where each place came to lie. Rests on the library alone.
-use mathlib.Core.Path.{_≡_, refl, sym, ap, _∙_}
-use mathlib.Core.Bool.{Bool, true, false, cond}
-use mathlib.Core.List.{List, [], _∷_, _++_, append-nil}
-use Prim.Native.Nat.{ℕ, suc, _+_, _≤_, _<_}
-use native.Mathlib.Decide.{decLe}
-use native.Mathlib.Numerals.{add-one}
-use native.Mathlib.Omega.{arith}
-use lib.ListN.{length, take, getD, set, length-set, length-append}
-use lib.Seq.{take-suc, take-suc-set, take-all, length-take-le, getD-set-same, getD-set-other}
+use Rattle.listing_rules.proofs.Prelude.{_∙_, _≡_, ap, refl, sym, Bool, cond, false, true, List, [], _++_, _∷_, append-nil, _+_, _<_, _≤_, suc, ℕ}
+use Rattle.listing_rules.proofs.Prelude.{add-one, decLe, arith, getD, length, length-append, length-set, set, take, getD-set-other, getD-set-same}
+use Rattle.listing_rules.proofs.Prelude.{length-take-le, take-all, take-suc, take-suc-set}
 use Rattle.compaction.specs.Gathered.{kept, keptBefore, Gathers}
 
 -- one byte more

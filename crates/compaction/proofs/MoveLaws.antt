@@ -1,16 +1,11 @@
 -- Names moved together by the words of the rows: the map's bytes are those that rows use, the words mean the records whose names have moved, and so
 -- the store is the compacted one. Rests on UsedBytes of the definitions, MapLaws of subscriptions, StartLaws.
-use mathlib.Core.Path.{_≡_, refl, sym, ap, _∙_, subst}
-use mathlib.Core.Bool.{Bool, true, false, cond, not}
-use mathlib.Core.List.{List, [], _∷_, _++_, map, map-append, append-nil}
-use Prim.Native.Nat.{ℕ, zero, suc, _+_, _-_, _/_, _%_, _≤_, _<_, min}
-use native.Mathlib.Nat.{zero-add}
-use native.Mathlib.Decide.{decLe}
-use native.Mathlib.Omega.{arith}
-use lib.Dec.{leb}
-use lib.ListN.{length, take, drop, getD, replicate, length-map, length-append, length-take, length-drop, drop-of-length-le}
-use lib.Seq.{length-take-le, take-all, take-take, take-at, drop-at, take-add, take-append-add, getD-take, paste-zero}
-use borrow.Author.Tests.{leb-true}
+use Rattle.listing_rules.proofs.ListLaws.{map-drop}
+use Rattle.listing_rules.proofs.Prelude.{_∙_, _≡_, ap, refl, subst, sym, Bool, cond, false, not, true, List, [], _++_, _∷_, append-nil, map}
+use Rattle.listing_rules.proofs.Prelude.{map-append, _%_, _+_, _-_, _/_, _<_, _≤_, min, suc, zero, ℕ, zero-add, decLe, arith, leb, drop}
+use Rattle.listing_rules.proofs.Prelude.{drop-of-length-le, getD, length, length-append, length-drop, length-map, length-take, replicate, take}
+use Rattle.listing_rules.proofs.Prelude.{drop-at, getD-take, length-take-le, paste-zero, take-add, take-all, take-append-add, take-at, take-take}
+use Rattle.listing_rules.proofs.Prelude.{leb-true}
 use Rattle.listing_rules.specs.Lists.{every, anyOf}
 use Rattle.listing_rules.specs.Bytes.{within}
 use Rattle.listing_rules.specs.Names.{lawfulName}
@@ -211,17 +206,12 @@ module _ (ws : List ℕ) (lent count : ℕ) (area : List ℕ) (n : ℕ) (n-is : 
           ∙ take-append-add vs spare (lent - count)
           ∙ ap (λ (l : List ℕ). vs ++ l) spare-front
 
-      map-drop : (k : ℕ) (l : List ℕ) → map recordOf (drop k l) ≡ drop k (map recordOf l)
-      map-drop zero l = refl
-      map-drop (suc k) [] = refl
-      map-drop (suc k) (w ∷ l) = map-drop k l
-
       records-moved : map recordOf (take lent (vs ++ spare)) ≡ compacted s .records
       unfolding compacted
       records-moved =
           ap (map recordOf) taken
           ∙ map-append recordOf vs (drop count (take lent ws))
-          ∙ (λ i. (m .records-are ∙ ap (λ (rs : List Record). map (moved rs area) rs) (sym rows-are)) i ++ map-drop count (take lent ws) i)
+          ∙ (λ i. (m .records-are ∙ ap (λ (rs : List Record). map (moved rs area) rs) (sym rows-are)) i ++ map-drop recordOf count (take lent ws) i)
 
       area-moved : area′ ≡ compacted s .area
       unfolding compacted together

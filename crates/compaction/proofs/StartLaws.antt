@@ -1,12 +1,7 @@
 -- Words with other starts: what they mean, and a loop over them. Rests on the library alone.
-use mathlib.Core.Path.{_≡_, refl, sym, ap, _∙_}
-use mathlib.Core.List.{List, [], _∷_, _++_, map}
-use Prim.Native.Nat.{ℕ, suc, _+_, _-_, _*_, _/_, _%_, _≤_, _<_}
-use native.Mathlib.Numerals.{add-one}
-use native.Mathlib.Omega.{arith}
-use lib.ListN.{length, take, drop, getD, set, length-map, length-set, drop-of-length-le}
-use lib.Seq.{take-suc, drop-cons, take-all, set-at, append-snoc, length-take-le, getD-at}
-use mathlib.Core.List.{append-nil}
+use Rattle.listing_rules.proofs.Prelude.{_∙_, _≡_, ap, refl, sym, List, [], _++_, _∷_, append-nil, map, _%_, _*_, _+_, _-_, _/_, _<_, _≤_, suc, ℕ}
+use Rattle.listing_rules.proofs.Prelude.{add-one, arith, drop, drop-of-length-le, getD, length, length-map, length-set, set, take, append-snoc}
+use Rattle.listing_rules.proofs.Prelude.{drop-cons, getD-at, length-take-le, set-at, take-all, take-suc}
 use Rattle.records.specs.Words.{recordOf}
 use Rattle.compaction.specs.Moves.{withStart}
 

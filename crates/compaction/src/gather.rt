@@ -1,5 +1,6 @@
 // The bytes that rows use, gathered at the front of the area.
 use octets::clear;
+use records::MAX_BYTES;
 use subscriptions::free::all_free;
 use subscriptions::free::unmark_names;
 ghost use mathlib.Core.Path.{_≡_};
@@ -9,8 +10,6 @@ ghost use lib.ListN.{length, replicate};
 ghost use Rattle.records.specs.Words.{recordOf};
 ghost use Rattle.compaction.specs.Gathered.{Gathers};
 ghost use Rattle.compaction.specs.Moves.{MovesBytes};
-
-const MAX_BYTES: usize = 32768;
 
 pub(crate) const SHORT_BYTES: usize = 4096;
 

@@ -1,7 +1,8 @@
 // Names moved together (document 02, W7): the room that removal leaves becomes one run of zeros at the end of the area.
 //
 // One pass over the area moves the bytes that rows use to its front, in place, and notes for each place how many of them lie before it:
-// that is where a name that begins there comes to lie. So the time is in proportion to area and records, and no row is looked for.
+// that is where a name that begins there comes to lie. So the time is in proportion to area and records, and no row is looked for. Who
+// lends the records themselves calls `exports::luspemaro_compact`.
 mod gather;
 mod starts;
 
@@ -12,42 +13,25 @@ use gather::no_places;
 use mailbox_table::check_words;
 use octets::least;
 use octets::refusals::TABLE;
-use records::Record;
-use records::copy_back;
-use records::copy_in;
-use records::no_words;
 use starts::restart;
 ghost use mathlib.Core.Path.{_≡_};
 ghost use mathlib.Core.List.{map};
 ghost use Prim.Native.Nat.{_≤_};
 ghost use lib.ListN.{length, take};
-ghost use Rattle.records.specs.Words.{recordOf, meant};
-ghost use Rattle.records.specs.Stores.{lentCompaction, wordCompaction, Between};
+ghost use Rattle.records.specs.Words.{recordOf};
+ghost use Rattle.records.specs.Stores.{wordCompaction, Between};
 ghost use Rattle.compaction.specs.Moves.{Within, MovesNames};
 
-// "moves names together, in the order of their starts": 0, or the number of the refusal of a table that does not pass. The first `count`
-// records are the table's rows, over the area of name bytes. A row's record changes in its start alone, a spare one not at all.
-pub fn compact(records: &mut [Record], count: usize, area: &mut [u8]) -> u8
-    ensures result { λ r. ⌜ r ≡ lentCompaction (now (records .entry)) count (now (area .entry)) .number ⌝ }
-    ensures area { λ _. ⌜ now (area .exit) ≡ lentCompaction (now (records .entry)) count (now (area .entry)) .store .area ⌝ }
-    ensures records { λ _. ⌜ map meant (now (records .exit)) ≡ lentCompaction (now (records .entry)) count (now (area .entry)) .store .records ⌝ }
-{
-    let mut words = no_words();
-    let lent = copy_in(records, records.len(), &mut words);
-    let done = compact_words(&mut words, lent, count, area);
-    copy_back(records, done.from, done.to, &words);
-    done.number
-}
-
-// What compaction of words comes to: 0 or the number of its refusal, and the words that changed, `from` up to `to`.
+// What it comes to: 0 or the number of its refusal, and the words that changed, `from` up to `to`.
 pub struct Compacted {
     pub number: u8,
     pub from: usize,
     pub to: usize,
 }
 
-// The same over records, each as a number (`records::word_of`): the first `lent` words, or all where they are fewer, are the records,
-// and the first `count` of those are the rows.
+// "moves names together, in the order of their starts": 0, or the number of the refusal of a table that does not pass. The first `lent`
+// words, or all where they are fewer, are the records, each as a number (`records::word_of`); the first `count` of those are the table's
+// rows, over the area of name bytes. A row's word changes in its start alone, a spare one not at all.
 pub fn compact_words(words: &mut [u64], lent: usize, count: usize, area: &mut [u8]) -> Compacted
     ensures result { λ r. ⌜ r .number ≡ wordCompaction (now (words .entry)) lent count (now (area .entry)) .number ⌝ }
     ensures area { λ _. ⌜ now (area .exit) ≡ wordCompaction (now (words .entry)) lent count (now (area .entry)) .store .area ⌝ }

@@ -1,8 +1,5 @@
 -- The feeder's state goes through C's form unchanged, and so does the feeder's promise. Rests on nothing.
-use mathlib.Core.Path.{_≡_, refl, ap, _∙_}
-use mathlib.Core.Bool.{Bool, true, false}
-use mathlib.Core.List.{List}
-use Prim.Native.Nat.{ℕ}
+use Rattle.listing_rules.proofs.Prelude.{_∙_, _≡_, ap, refl, Bool, false, true, List, ℕ}
 use Rattle.command_shape.specs.declared.machine.Tail.the-variants.{Text, Cr, Open, Digits, Closed, Ending}
 use Rattle.command_shape.specs.declared.machine.Place.{Place}
 use Rattle.command_shape.specs.declared.machine.Place.the-variants.{Line, Literal, Dropping}

@@ -1,22 +1,20 @@
 -- The C forms of the answers, case by case.
-use mathlib.Core.Path.{_≡_, refl, sym, ap}
-use mathlib.Core.List.{List}
-use Prim.Native.Nat.{ℕ}
+use Rattle.listing_rules.proofs.Prelude.{_≡_, ap, refl, sym, List, ℕ}
 use Rattle.octets.specs.declared.Written.{Written}
 use Rattle.octets.specs.declared.Written.the-variants.{Done, Refused}
 use Rattle.collector.specs.declared.Collected.{Collected}
 use Rattle.collector.specs.declared.Collected.the-variants.{Done as Walked, Refused as Stopped}
 use Rattle.list_line.specs.declared.attributes.Attributes.{Attributes}
 use Rattle.list_line.specs.declared.criteria.Criteria.{Criteria}
-use Rattle.list_line.specs.declared.read.Line.{Line}
-use Rattle.list_line.specs.declared.read.Line.the-variants.{Parts, Refused as NoLine}
+use Rattle.line_reader.specs.declared.Line.{Line}
+use Rattle.line_reader.specs.declared.Line.the-variants.{Parts, Refused as NoLine}
 use Rattle.listing_rules.specs.Server.{Reply, refusal, answered, numberOf, lengthOf}
 use Rattle.listing_rules.specs.Reader.{Read, line, root, bad, nameBytes}
 use Rattle.listing_rules.proofs.Keys.{openOptions, openReader}
 use Rattle.listing_rules.specs.Walk.{WalkReply, walkRefused, walked, walkNumber, walkCount, foundLength}
 use Rattle.octets.specs.Written.{writtenIs}
 use Rattle.list_line.specs.Members.{setOf}
-use Rattle.list_line.specs.Lines.{lineIs}
+use Rattle.line_reader.specs.Lines.{lineIs}
 use Rattle.collector.specs.Result.{collectedIs}
 use Rattle.exports.specs.Outcomes.{outcomeOf, walkOutcome, partsOf, writtenCase, collectedCase, lineCase}
 

@@ -12,8 +12,8 @@ use Rattle.octets.specs.declared.Written.{Written}
 use Rattle.octets.specs.declared.Written.the-variants.{Done, Refused}
 use Rattle.collector.specs.declared.Collected.{Collected}
 use Rattle.collector.specs.declared.Collected.the-variants.{Done as Walked, Refused as Stopped}
-use Rattle.list_line.specs.declared.read.Line.{Line}
-use Rattle.list_line.specs.declared.read.Line.the-variants.{Parts, Refused as NoLine}
+use Rattle.line_reader.specs.declared.Line.{Line}
+use Rattle.line_reader.specs.declared.Line.the-variants.{Parts, Refused as NoLine}
 use Rattle.server.specs.declared.Stored.{Stored}
 use Rattle.exports.specs.declared.outcomes.Outcome.{Outcome}
 use Rattle.exports.specs.declared.outcomes.Done.{Done as Ended}

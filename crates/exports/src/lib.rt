@@ -1,7 +1,8 @@
 // The library for programs in C and Rust: the entries of document 01 under plain names; and document 02's feeder (`feeding`).
 //
-// Each function calls the entry that it is named after and repeats its promise. A slice passes as a pointer and a length, an
-// answer as a struct of numbers (`outcomes`).
+// The entries over lent records stand here and nowhere else: each copies the records in as numbers, hands these to the entry of the crate
+// below that works on them, and copies back what it changed. Every other function calls the entry that it is named after and repeats its
+// promise. A slice passes as a pointer and a length, an answer as a struct of numbers (`outcomes`).
 pub mod feeding;
 pub mod outcomes;
 
@@ -149,9 +150,9 @@ pub extern "C" fn luspemaro_compact(records: &mut [Record], count: usize, area: 
 {
     let mut words = no_words();
     let lent = copy_in(records, records.len(), &mut words);
-    let done = compact_words(&mut words, lent, count, area);
-    copy_back(records, done.from, done.to, &words);
-    done.number
+    let moved = compact_words(&mut words, lent, count, area);
+    copy_back(records, moved.from, moved.to, &words);
+    moved.number
 }
 
 // The whole walk of a reader: finds at the front of `found`, the names that were asked below at the front of `pending`.
@@ -278,5 +279,5 @@ pub extern "C" fn luspemaro_write_line(
 pub extern "C" fn luspemaro_read_line(line: &[u8]) -> LineParts
     ensures { λ r. ⌜ r ≡ partsOf (readLine (now (line .entry))) ⌝ }
 {
-    line_parts(list_line::read_line(line))
+    line_parts(line_reader::read_line(line))
 }

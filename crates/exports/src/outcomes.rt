@@ -2,8 +2,8 @@
 //
 // Each struct has more than 16 bytes, so that it comes back in memory of the caller.
 use collector::Collected;
-use list_line::Line;
-use list_line::Read;
+use line_reader::Line;
+use line_reader::Read;
 use octets::Written;
 use server::Stored;
 ghost use mathlib.Core.Path.{_≡_};

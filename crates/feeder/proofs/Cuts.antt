@@ -1,13 +1,7 @@
 -- "however the bytes are cut, commands, refusals, continuations and the state at the end are the same": a run of calls says what the
 -- whole stream comes to. Rests on FeederLaws.
-use mathlib.Core.Path.{_≡_, refl, sym, ap, _∙_}
-use mathlib.Core.Bool.{true}
-use mathlib.Core.List.{List, [], _∷_, _++_}
-use Prim.Native.Nat.{ℕ, zero, suc, _≤_}
-use native.Mathlib.Omega.{arith}
-use lib.Dec.{leb}
-use lib.ListN.{length, take, drop, take-append-drop}
-use borrow.Author.Tests.{leb-true}
+use Rattle.listing_rules.proofs.Prelude.{_∙_, _≡_, ap, refl, sym, true, List, [], _++_, _∷_, _≤_, suc, zero, ℕ, arith, leb, drop, length, take}
+use Rattle.listing_rules.proofs.Prelude.{take-append-drop, leb-true}
 use Rattle.listing_rules.specs.Lists.{joined}
 use Rattle.listing_rules.specs.Feeder.{Feeder, first, Event as Meant, Feeding, feedAll, feedChunks}
 use Rattle.listing_rules.proofs.Bools.{and-r}
@@ -49,7 +43,8 @@ calls-say : (xs : List Call) (m : Machine) (d : List ℕ) (s : Feeder) (stream :
 unfolding saidBy stateAfter
 calls-say [] m d s stream b h c t = rw t (feed-none s m (h .0))
 calls-say (x ∷ xs) m d s stream b h c t =
-    then (calls-say xs (x .answer .state) (x .after) (feedAll s front .state) (drop (x .answer .used) stream) (small (length (x .after)) (x .answer .state .size) (c .2 .fits yes)) (w .holds) (c .3) (t .1))
+    then (calls-say xs (x .answer .state) (x .after) (feedAll s front .state) (drop (x .answer .used) stream)
+    (small (length (x .after)) (x .answer .state .size) (c .2 .fits yes)) (w .holds) (c .3) (t .1))
   where
     yes : ready (length (x .before)) (m .size) ≡ true
     yes = is-ready (x .before) (m .size) (c .0) b
@@ -61,7 +56,9 @@ calls-say (x ∷ xs) m d s stream b h c t =
     front = take (x .answer .used) (x .chunk)
 
     cut : stream ≡ front ++ drop (x .answer .used) stream
-    cut = sym (take-append-drop (x .answer .used) stream) ∙ ap (λ (l : List ℕ). l ++ drop (x .answer .used) stream) (ap (take (x .answer .used)) (t .0 .1) ∙ piece (x .answer .used) (x .chunk) (t .0 .0) (c .2 .inside))
+    cut =
+        sym (take-append-drop (x .answer .used) stream) ∙ ap (λ (l : List ℕ). l ++ drop (x .answer .used) stream)
+        (ap (take (x .answer .used)) (t .0 .1) ∙ piece (x .answer .used) (x .chunk) (t .0 .0) (c .2 .inside))
 
     whole : feedAll s stream ≡ then-fed (feedAll s front .events) (feedAll (feedAll s front .state) (drop (x .answer .used) stream))
     whole = ap (feedAll s) cut ∙ feed-append s front (drop (x .answer .used) stream)
@@ -70,7 +67,10 @@ calls-say (x ∷ xs) m d s stream b h c t =
         (stateAfter (x .answer .state) xs ≡ machineOf (feedAll (feedAll s front .state) (drop (x .answer .used) stream) .state)) →
         (eventsOf (x .after) (x .answer .event) ++ saidBy xs ≡ feedAll s stream .events) ×
         (stateAfter (x .answer .state) xs ≡ machineOf (feedAll s stream .state))
-    then ih = (ap (λ (es : List Meant). es ++ saidBy xs) (sym (w .events)) ∙ ap (λ (es : List Meant). feedAll s front .events ++ es) (ih .0) ∙ ap (λ (f : Feeding). f .events) (sym whole), ih .1 ∙ ap (λ (f : Feeding). machineOf (f .state)) (sym whole))
+    then ih = (
+      ap (λ (es : List Meant). es ++ saidBy xs) (sym (w .events)) ∙ ap (λ (es : List Meant). feedAll s front .events ++ es) (ih .0) ∙ ap (λ (f : Feeding). f .events) (sym whole),
+      ih .1 ∙ ap (λ (f : Feeding). machineOf (f .state)) (sym whole),
+    )
 
 -- From the first state, whatever the memory holds.
 pub however-cut : (xs : List Call) (d stream : List ℕ) → Calls firstIs d xs → Through stream xs →

@@ -1,16 +1,7 @@
 -- The lent memory of a feeder: the bytes stored lie one behind the other, all else stays, and the state goes on to fit; and with that
 -- the whole promise of `feed`. Rests on FeedLaws.
-use mathlib.Core.Path.{_≡_, refl, sym, ap, _∙_, subst}
-use mathlib.Core.Bool.{Bool, true, false, false≢true, cond, _&&_}
-use mathlib.Core.List.{List, [], _∷_}
-use Prim.Native.Nat.{ℕ, suc, _+_, _-_, _≤_, _<_}
-use native.Mathlib.Nat.{zero-add}
-use native.Mathlib.Numerals.{add-one}
-use native.Mathlib.Omega.{arith}
-use lib.Dec.{eqb, leb}
-use lib.ListN.{length, take}
-use lib.Seq.{sets, length-sets}
-use borrow.Author.Tests.{le-leb, lt-leb}
+use Rattle.listing_rules.proofs.Prelude.{_∙_, _≡_, ap, refl, subst, sym, Bool, _&&_, cond, false, false≢true, true, List, [], _∷_, _+_, _-_, _<_, _≤_}
+use Rattle.listing_rules.proofs.Prelude.{suc, ℕ, zero-add, add-one, arith, eqb, leb, length, take, length-sets, sets, le-leb, lt-leb}
 use Rattle.listing_rules.specs.Feeder.{Feeder, feedAll}
 use Rattle.command_shape.specs.declared.machine.Machine.{Machine}
 use Rattle.command_shape.specs.declared.machine.Place.{Place}
@@ -22,8 +13,10 @@ use Rattle.command_shape.specs.declared.machine.Signal.{Signal}
 use Rattle.command_shape.specs.declared.machine.Signal.the-variants.{Quiet as quietly, GoOn as goingOn, Whole, Refused as refusing}
 use Rattle.feeder.specs.declared.Event.the-variants.{TooSmall}
 use Rattle.feeder.specs.declared.Fed.{Fed}
-use Rattle.command_shape.specs.Machine.{isDropping, offending, takes, firstIs, steps, standing, textIs, awaitingIs, announcedIs, lineIs, droppedIs, stepAt, stepIs}
-use Rattle.feeder.specs.Feed.{storedIs, eventIs, nextPlace, answers, byteIs, Outcome, outcome, isQuiet, feedFrom, startOf, putFrom, keptOf, Holds, throughEvent, Means, ready, Feeds}
+use Rattle.command_shape.specs.Machine.{isDropping, offending, takes, firstIs, steps, standing, textIs, awaitingIs, announcedIs, lineIs, droppedIs}
+use Rattle.command_shape.specs.Machine.{stepAt, stepIs}
+use Rattle.feeder.specs.Feed.{storedIs, eventIs, nextPlace, answers, byteIs, Outcome, outcome, isQuiet, feedFrom, startOf, putFrom, keptOf}
+use Rattle.feeder.specs.Feed.{Holds, throughEvent, Means, ready, Feeds}
 use Rattle.command_shape.proofs.Steps.{room-left}
 use Rattle.feeder.proofs.FeedLaws.{Follow, feed-follows, size-is}
 
@@ -203,7 +196,8 @@ memory-is (c ∷ t) used m d = go (isQuiet (eventIs (stepIs m c .signal) (nextPl
         feedFrom (used + 1) m′ d′ t .memory ≡ sets d′ (startOf m′) (putFrom m′ t) → Way m c →
         cond o (feedFrom (used + 1) m′ d′ t) (outcome m′ (used + 1) (eventIs (stepIs m c .signal) (nextPlace (m .size))) d′) .memory ≡ sets d
         (startOf m) (cond (takes m c) (c ∷ cond o (putFrom m′ t) []) (cond o (putFrom m′ t) []))
-    go true q ih (taken k s n e) = ih ∙ ap (λ (x : ℕ). sets d′ x (putFrom m′ t)) (e .1 (quiet-any (stepIs m c .signal) (m .size + 1) (nextPlace (m .size)) ∙ q) ∙ add-one (m .size)) ∙ put-taken m d c (putFrom m′ t) k s
+    go true q ih (taken k s n e) = ih ∙ ap (λ (x : ℕ). sets d′ x (putFrom m′ t))
+        (e .1 (quiet-any (stepIs m c .signal) (m .size + 1) (nextPlace (m .size)) ∙ q) ∙ add-one (m .size)) ∙ put-taken m d c (putFrom m′ t) k s
     go true q ih (dropped k s e) = ih ∙ ap (λ (x : ℕ). sets d′ x (putFrom m′ t)) (dropped-next (m .cr) c (stepIs m c) quietly e ∙ sym s) ∙ put-left m d c (startOf m) (putFrom m′ t) k
     go true q ih (refused k e) = absurd (false≢true (sym (loud-refused (nextPlace (m .size))) ∙ refused-loud (m .cr) c (stepIs m c) (nextPlace (m .size)) e ∙ q))
     go false q ih (taken k s n e) = put-taken m d c [] k s
@@ -283,7 +277,9 @@ feeds m d e chunk r h g f =
     small = subst (λ (o : Outcome). o .fed .state .size ≤ 2048) f (feed-size chunk 0 m d g)
 
     follow : (s : Feeder) → Holds d m s → Follow 0 s chunk (record { fed = r; memory = e })
-    follow s p = subst (λ (o : Outcome). Follow 0 s chunk o) (ap (λ (x : Machine). feedFrom 0 x d chunk) (sym (p .0)) ∙ f) (feed-follows chunk 0 s d (p .1 ∙ ap (λ (k : ℕ). take k d) (size s p)) (omega (arith, size s p)) h)
+    follow s p =
+        subst (λ (o : Outcome). Follow 0 s chunk o) (ap (λ (x : Machine). feedFrom 0 x d chunk) (sym (p .0)) ∙ f)
+        (feed-follows chunk 0 s d (p .1 ∙ ap (λ (k : ℕ). take k d) (size s p)) (omega (arith, size s p)) h)
       where
         size : (s : Feeder) → Holds d m s → m .size ≡ length (keptOf s)
         size s p = ap (λ (x : Machine). x .size) (p .0) ∙ size-is s

@@ -1,24 +1,18 @@
 -- Feeding a chunk: the code's way byte by byte is the feeder's. Rests on MachineLaws.
-use mathlib.Core.Path.{_≡_, refl, sym, ap, _∙_}
-use mathlib.Core.Bool.{Bool, true, false, false≢true, cond, not, _&&_, _||_}
-use mathlib.Core.List.{List, [], _∷_, _++_}
-use mathlib.Core.Option.{Option, none, some}
-use Prim.Native.Nat.{ℕ, suc, _+_, _-_, _≤_, _<_, _^_, min}
-use native.Mathlib.Nat.{add-zero}
-use native.Mathlib.Numerals.{add-one}
-use native.Mathlib.Omega.{arith}
-use lib.Dec.{eqb, leb}
-use lib.ListN.{length, take, drop, set, getD, length-append, length-set, drop-of-length-le}
-use lib.Seq.{drop-cons, take-suc-set}
-use borrow.Author.Tests.{leb-true}
-use Rattle.listing_rules.specs.Feeder.{Feeder, reading, inLiteral, dropping, first, lastIs, endsLine, announced, Event as Meant, quiet, handed, goOn, denied, AfterByte, gives, dropped, offends, refusing, awaiting, lineEnded, textByte, fedByte, Feeding, saying, feedAll}
+use Rattle.listing_rules.proofs.Prelude.{_∙_, _≡_, ap, refl, sym, Bool, _&&_, _||_, cond, false, false≢true, not, true, Option, none, some, List, []}
+use Rattle.listing_rules.proofs.Prelude.{_++_, _∷_, _+_, _-_, _<_, _^_, _≤_, min, suc, ℕ, add-zero, add-one, arith, eqb, leb, drop, drop-of-length-le}
+use Rattle.listing_rules.proofs.Prelude.{getD, length, length-append, length-set, set, take, drop-cons, take-suc-set, leb-true}
+use Rattle.listing_rules.specs.Feeder.{Feeder, reading, inLiteral, dropping, first, lastIs, endsLine, announced, Event as Meant, quiet, handed, goOn}
+use Rattle.listing_rules.specs.Feeder.{denied, AfterByte, gives, dropped, offends, refusing, awaiting, lineEnded, textByte, fedByte, Feeding, saying}
+use Rattle.listing_rules.specs.Feeder.{feedAll}
 use Rattle.command_shape.specs.declared.machine.Machine.{Machine}
 use Rattle.command_shape.specs.declared.machine.Stepped.{Stepped}
 use Rattle.feeder.specs.declared.Event.{Event}
 use Rattle.feeder.specs.declared.Event.the-variants.{Quiet, Command, GoOn, Refused, TooSmall}
 use Rattle.feeder.specs.declared.Fed.{Fed}
 use Rattle.command_shape.specs.Machine.{offending, takes, stepIs, machineOf, signalOf}
-use Rattle.feeder.specs.Feed.{storedIs, eventIs, nextPlace, answers, byteIs, FedByte, Outcome, outcome, isQuiet, feedFrom, keptOf, Holds, eventsOf, nothing, throughEvent}
+use Rattle.feeder.specs.Feed.{storedIs, eventIs, nextPlace, answers, byteIs, FedByte, Outcome, outcome, isQuiet, feedFrom, keptOf, Holds}
+use Rattle.feeder.specs.Feed.{eventsOf, nothing, throughEvent}
 use Rattle.command_shape.proofs.Steps.{step-is, offending-is}
 
 -- ---- the code, byte by byte
@@ -195,12 +189,16 @@ follows-byte (reading kept line) d c f b h = rw (stored-reading kept line d c, n
   where
     go : (o : Bool) → offends kept c ≡ o → Follows (cond o d (set d (length kept) c)) (length kept + 1) (cond o (refusing kept c) (textByte (kept ++ (c ∷ [])) (line ++ (c ∷ []))))
     go true e = follows-refusing d (length kept + 1) kept c
-    go false e = follows-text (set d (length kept) c) (length kept + 1) (kept ++ (c ∷ [])) (front-more d kept c f (omega (arith, room-left kept c e))) (omega (arith, room-left kept c e, length-append kept (c ∷ []))) (omega (arith, length-append kept (c ∷ []))) (line ++ (c ∷ []))
+    go false e =
+        follows-text (set d (length kept) c) (length kept + 1) (kept ++ (c ∷ [])) (front-more d kept c f (omega (arith, room-left kept c e)))
+        (omega (arith, room-left kept c e, length-append kept (c ∷ []))) (omega (arith, length-append kept (c ∷ []))) (line ++ (c ∷ []))
 follows-byte (inLiteral kept n) d c f b h = rw (stored-literal kept n d c, next-place (length kept) b) (go (offends kept c) refl)
   where
     go : (o : Bool) → offends kept c ≡ o → Follows (cond o d (set d (length kept) c)) (length kept + 1) (cond o (refusing kept c) (gives (awaiting (kept ++ (c ∷ [])) (n - 1)) quiet))
     go true e = follows-refusing d (length kept + 1) kept c
-    go false e = follows-literal (set d (length kept) c) (length kept + 1) (kept ++ (c ∷ [])) (front-more d kept c f (omega (arith, room-left kept c e))) (omega (arith, room-left kept c e, length-append kept (c ∷ []))) (omega (arith, length-append kept (c ∷ []))) (n - 1)
+    go false e =
+        follows-literal (set d (length kept) c) (length kept + 1) (kept ++ (c ∷ [])) (front-more d kept c f (omega (arith, room-left kept c e)))
+        (omega (arith, room-left kept c e, length-append kept (c ∷ []))) (omega (arith, length-append kept (c ∷ []))) (n - 1)
 follows-byte (dropping cr) d c f b h = follows-none _ _ (dropped cr c) quiet (kept-dropped cr c) (said-quiet _ _)
 
 -- ---- a chunk, in document 02's terms
@@ -319,7 +317,9 @@ module _ (used : ℕ) (s : Feeder) (c : ℕ) (t d : List ℕ) (n : ℕ) where
 pub feed-follows : (t : List ℕ) (used : ℕ) (s : Feeder) (d : List ℕ) → Front d (keptOf s) → length (keptOf s) ≤ 2048 → 2048 ≤ length d → Follow used s t (feedFrom used (machineOf s) d t)
 unfolding feedFrom
 feed-follows [] used s d f b h = follow-end used s d f
-feed-follows (c ∷ t) used s d f b h = rw (byte-is s c) (step (nothing (fedByte s c .event)) refl (feed-follows t (used + 1) (fedByte s c .state) (storedIs (machineOf s) d c) (g .front) (g .bound) (omega (arith, stored-length (machineOf s) d c))))
+feed-follows (c ∷ t) used s d f b h = rw (byte-is s c) (step (nothing (fedByte s c .event)) refl
+    (feed-follows t (used + 1) (fedByte s c .state) (storedIs (machineOf s) d c) (g .front) (g .bound)
+    (omega (arith, stored-length (machineOf s) d c))))
   where
     n : ℕ
     n = nextPlace (machineOf s .size)

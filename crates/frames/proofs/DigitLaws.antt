@@ -1,16 +1,8 @@
 -- Laws of digits: a character's value, the bytes of a run of characters, and the digits of a run of bytes, each from a place on.
 -- Rests on the library alone.
-use mathlib.Core.Path.{_≡_, refl, sym, _∙_}
-use mathlib.Core.Bool.{Bool, true, false, cond, _&&_, and-false}
-use mathlib.Core.List.{List, [], _∷_, _++_}
-use mathlib.Core.Option.{Option, none, some, Option·getD}
-use Prim.Native.Nat.{ℕ, suc, _+_, _*_, _-_, _/_, _%_, _≤_, _<_}
-use native.Mathlib.Numerals.{add-one}
-use native.Mathlib.Omega.{arith}
-use lib.Dec.{eqb, leb}
-use lib.ListN.{length, drop, getD, length-drop, drop-of-length-le}
-use lib.Seq.{drop-cons}
-use borrow.Author.Tests.{leb-true, eq-eqb, ne-eqb}
+use Rattle.listing_rules.proofs.Prelude.{_∙_, _≡_, refl, sym, Bool, _&&_, and-false, cond, false, true, Option, Option·getD, none, some, List, []}
+use Rattle.listing_rules.proofs.Prelude.{_++_, _∷_, _%_, _*_, _+_, _-_, _/_, _<_, _≤_, suc, ℕ, add-one, arith, eqb, leb, drop, drop-of-length-le}
+use Rattle.listing_rules.proofs.Prelude.{getD, length, length-drop, drop-cons, eq-eqb, leb-true, ne-eqb}
 use Rattle.listing_rules.specs.Bytes.{within, all}
 use Rattle.listing_rules.specs.Tokens.{_>>=_}
 use Rattle.listing_rules.specs.Frames.{digit, bytesOf, hex}

@@ -1,17 +1,10 @@
 -- Laws of frames: which characters are bad, what a frame with a first byte answers and holds, and that the answer and the bytes
 -- at its side mean the frame. Rests on DigitLaws.
-use mathlib.Core.Path.{_≡_, refl, sym, ap, _∙_}
-use mathlib.Core.Bool.{Bool, true, false, cond}
-use mathlib.Core.List.{List, [], _∷_}
-use mathlib.Core.Logic.{_⊎_, inl, inr, ⊎-elim}
-use mathlib.Core.Option.{Option, none, some}
-use Prim.Native.Nat.{ℕ, suc, _-_, _/_, _≤_, _<_}
-use native.Mathlib.Omega.{arith}
-use lib.Dec.{eqb, leb}
-use lib.ListN.{length, take, drop, getD, length-drop}
-use lib.Seq.{sets, length-sets, take-append-seam}
-use borrow.Author.Tests.{le-leb, lt-leb, leb-true, ne-eqb}
-use Rattle.listing_rules.specs.Frames.{Frame as Meant, tableBytes, namespaceBytes, command, walkWith, badFrame, bytesOf, commandFrame, walkFrame, frameOf, readFrame}
+use Rattle.listing_rules.proofs.Prelude.{_∙_, _≡_, ap, refl, sym, Bool, cond, false, true, _⊎_, inl, inr, ⊎-elim, Option, none, some, List, [], _∷_}
+use Rattle.listing_rules.proofs.Prelude.{_-_, _/_, _<_, _≤_, suc, ℕ, arith, eqb, leb, drop, getD, length, length-drop, take, length-sets, sets}
+use Rattle.listing_rules.proofs.Prelude.{take-append-seam, le-leb, leb-true, lt-leb, ne-eqb}
+use Rattle.listing_rules.specs.Frames.{Frame as Meant, tableBytes, namespaceBytes, command, walkWith, badFrame, bytesOf, commandFrame, walkFrame}
+use Rattle.listing_rules.specs.Frames.{frameOf, readFrame}
 use Rattle.octets.proofs.Puts.{front}
 use Rattle.frames.specs.declared.reading.Frame.{Frame}
 use Rattle.frames.specs.declared.reading.Frame.the-variants.{Table, Namespaces, Command, Walk, Bad}

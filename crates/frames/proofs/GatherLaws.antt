@@ -1,14 +1,7 @@
 -- Laws of gathered characters: one character more, none yet, and the frame of what was gathered. Rests on FrameLaws.
-use mathlib.Core.Path.{_≡_, refl, sym, ap, _∙_}
-use mathlib.Core.Bool.{Bool, true, false, not, cond, _&&_}
-use mathlib.Core.List.{List, [], _∷_, _++_}
-use Prim.Native.Nat.{ℕ, _+_, _≤_, _<_}
-use native.Mathlib.Numerals.{add-one}
-use native.Mathlib.Omega.{arith}
-use lib.Dec.{eqb, ltb}
-use lib.ListN.{length, set, length-set, length-append}
-use lib.Seq.{length-take-le, take-suc-set}
-use borrow.Author.Tests.{lt-ltb, le-ltb, ltb-true, ltb-false, eq-eqb, ne-eqb}
+use Rattle.listing_rules.proofs.Prelude.{_∙_, _≡_, ap, refl, sym, Bool, _&&_, cond, false, not, true, List, [], _++_, _∷_, _+_, _<_, _≤_, ℕ, add-one}
+use Rattle.listing_rules.proofs.Prelude.{arith, eqb, ltb, length, length-append, length-set, set, length-take-le, take-suc-set, eq-eqb, le-ltb}
+use Rattle.listing_rules.proofs.Prelude.{lt-ltb, ltb-false, ltb-true, ne-eqb}
 use Rattle.listing_rules.specs.Bytes.{isEmpty}
 use Rattle.listing_rules.specs.Frames.{readFrame}
 use Rattle.frames.specs.declared.gathering.Gathered.{Gathered}

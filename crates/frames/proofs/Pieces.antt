@@ -1,8 +1,5 @@
 -- A run of bytes that a loop writes piece by piece: what is written, with what is left, is the whole. Rests on octets' Puts.
-use mathlib.Core.Path.{_≡_, refl, sym, ap, subst, _∙_}
-use mathlib.Core.List.{List, [], _++_, append-assoc, append-nil}
-use Prim.Native.Nat.{ℕ, _+_, _<_, _^_}
-use lib.ListN.{length}
+use Rattle.listing_rules.proofs.Prelude.{_∙_, _≡_, ap, refl, subst, sym, List, [], _++_, append-assoc, append-nil, _+_, _<_, _^_, ℕ, length}
 use Rattle.octets.specs.Put.{Put}
 use Rattle.octets.proofs.Puts.{put-none, put-then}
 

@@ -1,13 +1,6 @@
 -- Laws of stored bytes: added after the others, or not for want of room. Rests on the library alone.
-use mathlib.Core.Path.{_≡_, refl, ap, _∙_}
-use mathlib.Core.Bool.{Bool, true, false, cond, and-false}
-use mathlib.Core.List.{List, _++_}
-use Prim.Native.Nat.{ℕ, _+_, _≤_, _<_}
-use native.Mathlib.Omega.{arith}
-use lib.Dec.{leb}
-use lib.ListN.{length, take, drop, length-append}
-use lib.Seq.{sets, sets-eq, length-sets, take-at, length-take-le}
-use borrow.Author.Tests.{le-leb, lt-leb, leb-true}
+use Rattle.listing_rules.proofs.Prelude.{_∙_, _≡_, ap, refl, Bool, and-false, cond, false, true, List, _++_, _+_, _<_, _≤_, ℕ, arith, leb, drop}
+use Rattle.listing_rules.proofs.Prelude.{length, length-append, take, length-sets, length-take-le, sets, sets-eq, take-at, le-leb, leb-true, lt-leb}
 use Rattle.listing_rules.proofs.Bools.{and-l, and-r}
 use Rattle.frames.specs.declared.storing.Stored.{Stored}
 use Rattle.frames.specs.declared.storing.Stored.the-variants.{Now, NoRoom}
@@ -16,7 +9,8 @@ use Rattle.frames.specs.Storing.{hasPlace, Stores}
 -- bytes written behind the first ones
 written-behind : (d bs : List ℕ) (used : ℕ) → used + length bs ≤ length d → take (used + length bs) (sets d used bs) ≡ take used d ++ bs
 written-behind d bs used h =
-    ap (take (used + length bs)) (sets-eq bs d used h) ∙ take-at (take used d ++ bs) (drop (used + length bs) d) (used + length bs) (omega (arith, length-append (take used d) bs, length-take-le used d (omega arith)))
+    ap (take (used + length bs)) (sets-eq bs d used h) ∙ take-at (take used d ++ bs) (drop (used + length bs) d) (used + length bs)
+    (omega (arith, length-append (take used d) bs, length-take-le used d (omega arith)))
 
 module _ (d e : List ℕ) (used limit : ℕ) (bs : List ℕ) (r : Stored) where
   -- the answer and the bytes are all that storing promises
@@ -25,7 +19,13 @@ module _ (d e : List ℕ) (used limit : ℕ) (bs : List ℕ) (r : Stored) where
   stores a b =
       record {
         answer = a;
-        front = λ h. ap (take (used + length bs)) (b ∙ rw h) ∙ written-behind d bs used (omega (arith, leb-true limit (length d) (and-l (leb limit (length d)) (leb (used + length bs) limit) h), leb-true (used + length bs) limit (and-r (leb limit (length d)) (leb (used + length bs) limit) h)));
+        front =
+            λ h. ap (take (used + length bs)) (b ∙ rw h) ∙ written-behind d bs used
+            (omega (
+              arith,
+              leb-true limit (length d) (and-l (leb limit (length d)) (leb (used + length bs) limit) h),
+              leb-true (used + length bs) limit (and-r (leb limit (length d)) (leb (used + length bs) limit) h),
+            ));
         bytes = b;
         kept = ap length b ∙ same (hasPlace (length d) used limit (length bs));
       }

@@ -1,13 +1,9 @@
 -- A beginning of row i's name that comes after all names before row i: it has the flags of row i or none. And texts of lists of names.
 -- Rests on Prefixes and on listing_rules' Sorted and NameFlags.
-use mathlib.Core.Path.{_≡_, refl, sym, ap, _∙_, subst}
-use mathlib.Core.Logic.{_⊎_, inl, inr, ⊎-elim}
-use mathlib.Core.Bool.{Bool, true, false, cond, false≢true}
-use mathlib.Core.List.{List, [], _∷_, _++_, map, nil≢cons, append-assoc, List·Memᴰ, List·Memᴰ·head, List·Memᴰ·not-nil, List·Memᴰ·cases-cons, List·Memᴰ·append-cases, List·Memᴰ·eq-of-singleton}
-use Prim.Native.Nat.{ℕ, zero, suc, _≤_}
-use native.Mathlib.Omega.{arith}
-use lib.ListN.{length, take, drop, getD, take-append-drop}
-use lib.Seq.{drop-cons, take-suc}
+use Rattle.listing_rules.proofs.Prelude.{_∙_, _≡_, ap, refl, subst, sym, Bool, cond, false, false≢true, true, _⊎_, inl, inr, ⊎-elim, List, List·Memᴰ}
+use Rattle.listing_rules.proofs.Prelude.{List·Memᴰ·append-cases, List·Memᴰ·cases-cons, List·Memᴰ·eq-of-singleton, List·Memᴰ·head, List·Memᴰ·not-nil}
+use Rattle.listing_rules.proofs.Prelude.{[], _++_, _∷_, append-assoc, map, nil≢cons, _≤_, suc, zero, ℕ, arith, drop, getD, length, take}
+use Rattle.listing_rules.proofs.Prelude.{take-append-drop, drop-cons, take-suc}
 use Rattle.listing_rules.specs.Bytes.{same}
 use Rattle.listing_rules.specs.Lists.{anyOf, keep, joined}
 use Rattle.listing_rules.specs.Orders.{byteOrder}
@@ -68,7 +64,8 @@ unfolding names
 earlier-less rs a zero r more e q m = absurd (List·Memᴰ·not-nil m)
 earlier-less [] a (suc i) r more e q m = absurd (List·Memᴰ·not-nil m)
 earlier-less (x ∷ rs) a (suc i) r more e q m =
-    ⊎-elim (λ f. rw f (names-asc x rs (a .0) r (drop-mem i rs r (subst (λ (l : List Row). List·Memᴰ r l) (sym e) (List·Memᴰ·head refl))))) (λ k. earlier-less rs (a .1) i r more e q k) (List·Memᴰ·cases-cons m)
+    ⊎-elim (λ f. rw f (names-asc x rs (a .0) r (drop-mem i rs r (subst (λ (l : List Row). List·Memᴰ r l) (sym e) (List·Memᴰ·head refl)))))
+    (λ k. earlier-less rs (a .1) i r more e q k) (List·Memᴰ·cases-cons m)
 
 -- no row: what stands after the last
 abbrev pub noRow : Row

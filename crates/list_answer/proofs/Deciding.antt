@@ -1,16 +1,9 @@
 -- What is known of a beginning of a row's name in the whole table, by the row's word and by scans from the row on.
 -- Rests on AtRow (the beginning comes after all rows before), on mailbox_table's ScanLaws, and on Marking.
-use mathlib.Core.Path.{_≡_, refl, sym, ap, _∙_, subst}
-use mathlib.Core.Logic.{⊎-elim}
-use mathlib.Core.Bool.{Bool, true, false, cond, _&&_, _||_, not, and-true, false≢true}
-use mathlib.Core.List.{List, [], _∷_, _++_, map, List·Memᴰ, List·Memᴰ·head, List·Memᴰ·cases-cons}
-use Prim.Native.Nat.{ℕ, zero, suc, _-_, _<_}
-use native.Mathlib.Decide.{decLe}
-use native.Mathlib.Omega.{arith}
-use lib.Dec.{eqb, leb}
-use lib.ListN.{length, take, drop, getD, length-map, length-take, take-append-drop}
-use lib.Seq.{drop-cons, take-all, length-take-le}
-use borrow.Author.Tests.{eqb-true, eqb-false, le-leb, leb-true}
+use Rattle.listing_rules.proofs.Prelude.{_∙_, _≡_, ap, refl, subst, sym, Bool, _&&_, _||_, and-true, cond, false, false≢true, not, true, ⊎-elim, List}
+use Rattle.listing_rules.proofs.Prelude.{List·Memᴰ, List·Memᴰ·cases-cons, List·Memᴰ·head, [], _++_, _∷_, map, _-_, _<_, suc, zero, ℕ, decLe, arith}
+use Rattle.listing_rules.proofs.Prelude.{eqb, leb, drop, getD, length, length-map, length-take, take, take-append-drop, drop-cons, length-take-le}
+use Rattle.listing_rules.proofs.Prelude.{take-all, eqb-false, eqb-true, le-leb, leb-true}
 use Rattle.listing_rules.specs.Bytes.{bit}
 use Rattle.listing_rules.specs.Lists.{anyOf}
 use Rattle.listing_rules.specs.Orders.{byteOrder}
@@ -109,9 +102,13 @@ module _ (area words : List ℕ) (x : Indexed area words) (b : Beginning) (a : A
       previous : (j : ℕ) → b .row ≡ suc j → Less (getD table j noRow .name) n
       previous j e =
           let d : b .row - 1 ≡ j = omega arith in
-          let s : nthRow words (b .row) .shared ≡ sharedLen (nthName area words j) (row .name) = subst (λ (k : ℕ). nthRow words (b .row) .shared ≡ sharedLen (nthName area words k) (row .name)) d (shared-at x (b .row) (omega arith) (a .row)) in
+          let s : nthRow words (b .row) .shared ≡ sharedLen (nthName area words j) (row .name) = subst
+          (λ (k : ℕ). nthRow words (b .row) .shared ≡ sharedLen (nthName area words k) (row .name)) d
+          (shared-at x (b .row) (omega arith) (a .row)) in
           rw (row-at j (omega (arith, a .row)))
-          (longer-between (nthName area words j) (row .name) n (lt-true (byteOrder (nthName area words j) (row .name)) (names-ascend x j (b .row) (omega arith) (a .row))) (among (sharedLen (nthName area words j) (row .name)) (omega (arith, s, a .beyond))) .0)
+          (longer-between (nthName area words j) (row .name) n
+          (lt-true (byteOrder (nthName area words j) (row .name)) (names-ascend x j (b .row) (omega arith) (a .row)))
+          (among (sharedLen (nthName area words j) (row .name)) (omega (arith, s, a .beyond))) .0)
 
   rest : drop (b .row) table ≡ row ∷ drop (suc (b .row)) table
   rest = drop-cons table (b .row) noRow (omega (arith, rows-length, a .row)) ∙ ap (λ (r : Row). r ∷ drop (suc (b .row)) table) (row-at (b .row) (a .row))
@@ -133,7 +130,9 @@ module _ (area words : List ℕ) (x : Indexed area words) (b : Beginning) (a : A
           ]
 
       own : Less n (row .name)
-      own = subst (λ (l : List ℕ). Less n l) (ap (λ (l : List ℕ). n ++ l) (sym (drop-cons (row .name) (b .len) 0 shorter)) ∙ take-append-drop (b .len) (row .name)) (prefix-less n (drop (suc (b .len)) (row .name)) (getD (row .name) (b .len) 0))
+      own =
+          subst (λ (l : List ℕ). Less n l) (ap (λ (l : List ℕ). n ++ l) (sym (drop-cons (row .name) (b .len) 0 shorter)) ∙ take-append-drop (b .len)
+          (row .name)) (prefix-less n (drop (suc (b .len)) (row .name)) (getD (row .name) (b .len) 0))
 
       later : (r : Row) → List·Memᴰ r (drop (b .row) table) → Less n (r .name)
       later r m =

@@ -1,9 +1,6 @@
 -- A name is listed by its own right or as a level, never both, so one match decides.
-use mathlib.Core.Path.{_≡_, refl, sym, ap, _∙_}
-use mathlib.Core.Bool.{Bool, true, false, _&&_, _||_, not, and-true, and-false, false≢true}
-use mathlib.Core.List.{List}
-use Prim.Native.Nat.{ℕ}
-use borrow.Author.Tests.{not-true}
+use Rattle.listing_rules.proofs.Prelude.{_∙_, _≡_, ap, refl, sym, Bool, _&&_, _||_, and-false, and-true, false, false≢true, not, true, List, ℕ}
+use Rattle.listing_rules.proofs.Prelude.{not-true}
 use Rattle.listing_rules.specs.Lists.{anyOf, keep}
 use Rattle.listing_rules.specs.Flags.{exists, remote}
 use Rattle.listing_rules.specs.Table.{Row, flagsOf}

@@ -1,10 +1,6 @@
 -- What is listed is listed among the beginnings that the server looks at, in their order.
-use mathlib.Core.Path.{_≡_, refl, sym, ap, _∙_}
-use mathlib.Core.Logic.{_⊎_, ⊎-elim}
-use mathlib.Core.Bool.{Bool, true, false, _&&_, _||_, not, false≢true}
-use mathlib.Core.List.{List, [], _∷_, _++_, map, append-nil, List·Memᴰ, List·Memᴰ·head, List·Memᴰ·cases-cons}
-use Prim.Native.Nat.{ℕ}
-use native.Mathlib.Omega.{arith}
+use Rattle.listing_rules.proofs.Prelude.{_∙_, _≡_, ap, refl, sym, Bool, _&&_, _||_, false, false≢true, not, true, _⊎_, ⊎-elim, List, List·Memᴰ}
+use Rattle.listing_rules.proofs.Prelude.{List·Memᴰ·cases-cons, List·Memᴰ·head, [], _++_, _∷_, append-nil, map, ℕ, arith}
 use Rattle.listing_rules.specs.Bytes.{slash}
 use Rattle.listing_rules.specs.Lists.{anyOf, keep, joined}
 use Rattle.listing_rules.specs.Orders.{byteOrder, ascends}
@@ -13,7 +9,8 @@ use Rattle.listing_rules.specs.Flags.{exists}
 use Rattle.listing_rules.specs.Table.{Row, names, hasRow, flagsOf}
 use Rattle.listing_rules.specs.Options.{Options}
 use Rattle.listing_rules.specs.Match.{matchesAny}
-use Rattle.listing_rules.specs.Listing.{candidates, implied, candidateMeets, meetsBelow, meetsUnmatchedBelow, unselective, endsInPercent, levelAbove, listed, listedNames}
+use Rattle.listing_rules.specs.Listing.{candidates, implied, candidateMeets, meetsBelow, meetsUnmatchedBelow, unselective, endsInPercent, levelAbove}
+use Rattle.listing_rules.specs.Listing.{listed, listedNames}
 use Rattle.list_line.specs.declared.words.LineWord.{LineWord}
 use Rattle.listing_rules.proofs.Bools.{and-l, and-r, or-cases}
 use Rattle.listing_rules.proofs.ListLaws.{every-mem, some-mem, keep-mem, mem-keep}
@@ -48,7 +45,9 @@ module _ (rs : List Row) (o : Options) (ps : List (List ℕ)) where
   level-candidate : (z : List ℕ) → levelAbove rs o ps z ≡ true → List·Memᴰ z (candidates rs)
   unfolding levelAbove meetsBelow
   level-candidate z e =
-      let w = some-mem (λ d. below z d && candidateMeets rs o d) (candidates rs) (and-r (unselective o && not (exists (flagsOf rs z)) && matchesAny (keep endsInPercent ps) z) (anyOf (λ d. below z d && candidateMeets rs o d) (candidates rs)) e) in
+      let w = some-mem (λ d. below z d && candidateMeets rs o d) (candidates rs)
+      (and-r (unselective o && not (exists (flagsOf rs z)) && matchesAny (keep endsInPercent ps) z)
+      (anyOf (λ d. below z d && candidateMeets rs o d) (candidates rs)) e) in
       candidates-closed rs z (w .0) (w .1) (below-anc z (w .0) (and-l (below z (w .0)) (candidateMeets rs o (w .0)) (w .2)))
 
   listed-candidate : (z : List ℕ) → listed rs o ps z ≡ true → List·Memᴰ z (candidates rs)
@@ -58,7 +57,8 @@ module _ (rs : List Row) (o : Options) (ps : List (List ℕ)) where
       matched : (matchesAny ps z && (candidateMeets rs o z || (o .selRecursive && meetsUnmatchedBelow rs o ps z))) ≡ true → List·Memᴰ z (candidates rs)
       matched f =
           ⊎-elim (meets-candidate z) (λ k. below-candidate z (and-r (o .selRecursive) (meetsUnmatchedBelow rs o ps z) k))
-          (or-cases (candidateMeets rs o z) (o .selRecursive && meetsUnmatchedBelow rs o ps z) (and-r (matchesAny ps z) (candidateMeets rs o z || (o .selRecursive && meetsUnmatchedBelow rs o ps z)) f))
+          (or-cases (candidateMeets rs o z) (o .selRecursive && meetsUnmatchedBelow rs o ps z)
+          (and-r (matchesAny ps z) (candidateMeets rs o z || (o .selRecursive && meetsUnmatchedBelow rs o ps z)) f))
 
   module _ (law : Lawful rs) where
     full : AllFull rs

@@ -1,15 +1,7 @@
 -- The marks of rows: what the code finds is what they say, and words with marks are an index of the same rows.
-use mathlib.Core.Path.{_≡_, refl, sym, ap, _∙_, subst}
-use mathlib.Core.Bool.{Bool, true, false, _&&_, _||_, not}
-use mathlib.Core.List.{List, [], _∷_, map, map-append}
-use Prim.Native.Nat.{ℕ, zero, suc, _+_, _/_, _^_, _≤_, _<_}
-use native.Mathlib.Numerals.{add-one}
-use native.Mathlib.Nat.{mod-lt, zero-lt-suc}
-use native.Mathlib.Omega.{arith}
-use lib.Dec.{leb}
-use lib.ListN.{length, take, drop, getD, set, length-map, length-take}
-use lib.Seq.{take-suc, take-suc-set, take-all}
-use borrow.Author.Tests.{le-leb}
+use Rattle.listing_rules.proofs.Prelude.{_∙_, _≡_, ap, refl, subst, sym, Bool, _&&_, _||_, false, not, true, List, [], _∷_, map, map-append, _+_, _/_}
+use Rattle.listing_rules.proofs.Prelude.{_<_, _^_, _≤_, suc, zero, ℕ, mod-lt, zero-lt-suc, add-one, arith, leb, drop, getD, length, length-map}
+use Rattle.listing_rules.proofs.Prelude.{length-take, set, take, take-all, take-suc, take-suc-set, le-leb}
 use Rattle.listing_rules.specs.Table.{Row, names}
 use Rattle.listing_rules.specs.Orders.{ascends}
 use Rattle.listing_rules.specs.Options.{Options}

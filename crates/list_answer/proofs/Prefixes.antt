@@ -1,15 +1,9 @@
 -- The beginnings that the server looks at ascend, and every non-empty beginning of a row's name is among them.
-use mathlib.Core.Path.{_≡_, refl, sym, ap, _∙_, subst}
-use mathlib.Core.Logic.{_⊎_, inl, inr, ⊎-elim}
-use mathlib.Core.Bool.{Bool, true, false, cond}
-use mathlib.Core.List.{List, [], _∷_, _++_, append-assoc, append-nil, nil≢cons, List·Memᴰ, List·Memᴰ·head, List·Memᴰ·tail, List·Memᴰ·not-nil, List·Memᴰ·cases-cons, List·Memᴰ·append-cases}
-use Prim.Native.Nat.{ℕ, suc, _+_, _≤_, _<_, compare, Ordering·lt, Ordering·gt}
-use native.Mathlib.Omega.{arith}
-use native.Mathlib.Decide.{decLe}
-use lib.Dec.{eqb}
-use lib.ListN.{length, take, drop, take-append-drop, getD}
-use lib.Seq.{split-at, take-append-le, drop-append-le, drop-cons}
-use borrow.Author.Tests.{eqb-true, eqb-false}
+use Rattle.listing_rules.proofs.Prelude.{_∙_, _≡_, ap, refl, subst, sym, Bool, cond, false, true, _⊎_, inl, inr, ⊎-elim, List, List·Memᴰ}
+use Rattle.listing_rules.proofs.Prelude.{List·Memᴰ·append-cases, List·Memᴰ·cases-cons, List·Memᴰ·head, List·Memᴰ·not-nil, List·Memᴰ·tail, [], _++_}
+use Rattle.listing_rules.proofs.Prelude.{_∷_, append-assoc, append-nil, nil≢cons, Ordering·gt, Ordering·lt, _+_, _<_, _≤_, compare, suc, ℕ, decLe}
+use Rattle.listing_rules.proofs.Prelude.{arith, eqb, drop, getD, length, take, take-append-drop, drop-append-le, drop-cons, split-at, take-append-le}
+use Rattle.listing_rules.proofs.Prelude.{eqb-false, eqb-true}
 use Rattle.listing_rules.specs.Orders.{lexBy, byteOrder, thenBy, ascends}
 use Rattle.listing_rules.specs.Table.{Row, names}
 use Rattle.listing_rules.proofs.Order.{bytes-total, eq-compare, View, view, less, equal, more}
@@ -124,7 +118,9 @@ prefixes-after prev (q ∷ rs) r b p s m e = ⊎-elim (λ i. here s (ap (λ (x :
     here u f =
         elim (decLe (length (b ∷ p)) (sharedLen prev (q .name))) [
           | yes h ↦ inr (shared-begins prev (b ∷ p) u (subst (λ (n : List ℕ). length (b ∷ p) ≤ sharedLen prev n) f h))
-          | no h ↦ inl (mem-left (prefixesAfter (q .name) rs) (subst (λ (n : List ℕ). List·Memᴰ (b ∷ p) (longer (sharedLen prev (q .name)) n)) (sym f) (longer-has (sharedLen prev (q .name)) (b ∷ p) u (omega arith))))
+          | no h ↦ inl (mem-left (prefixesAfter (q .name) rs)
+              (subst (λ (n : List ℕ). List·Memᴰ (b ∷ p) (longer (sharedLen prev (q .name)) n)) (sym f)
+              (longer-has (sharedLen prev (q .name)) (b ∷ p) u (omega arith))))
         ]
 
     later : List·Memᴰ (b ∷ p) (prefixesAfter (q .name) rs) ⊎ ((t : List ℕ) × (q .name ≡ (b ∷ p) ++ t)) → Found
@@ -156,7 +152,10 @@ longer-between prev n p h m = (rw (w .3) (shared-less prev n h (w .0) (w .1) (w 
 -- the beginnings of one row, before those of the rows after it
 row-above : (prev n : List ℕ) (there : List (List ℕ)) → Less prev n → Asc byteOrder there × ((z : List ℕ) → List·Memᴰ z there → Less n z) →
     Asc byteOrder (longer (sharedLen prev n) n ++ there) × ((z : List ℕ) → List·Memᴰ z (longer (sharedLen prev n) n ++ there) → Less prev z)
-row-above prev n there h ih = (asc-append byteOrder here there (unfold longer in growing-asc (take k n) (drop k n)) (ih .0) across, λ z m. ⊎-elim (first z) (λ u. bytes-total .trans prev n z h (ih .1 z u)) (List·Memᴰ·append-cases here m))
+row-above prev n there h ih = (
+  asc-append byteOrder here there (unfold longer in growing-asc (take k n) (drop k n)) (ih .0) across,
+  λ z m. ⊎-elim (first z) (λ u. bytes-total .trans prev n z h (ih .1 z u)) (List·Memᴰ·append-cases here m),
+)
   where
     k : ℕ
     k = sharedLen prev n

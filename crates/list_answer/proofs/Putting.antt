@@ -1,8 +1,5 @@
 -- A text that is put piece by piece: what is put, then what is left, is the whole.
-use mathlib.Core.Path.{_≡_, sym, ap, _∙_, subst}
-use mathlib.Core.List.{List, [], _++_, append-assoc, append-nil}
-use Prim.Native.Nat.{ℕ, _+_, _<_, _^_}
-use lib.ListN.{length}
+use Rattle.listing_rules.proofs.Prelude.{_∙_, _≡_, ap, subst, sym, List, [], _++_, append-assoc, append-nil, _+_, _<_, _^_, ℕ, length}
 use Rattle.octets.specs.Put.{Put}
 use Rattle.octets.proofs.Puts.{put-none, put-then}
 

@@ -1,9 +1,5 @@
 -- The reply to a question is that of the LIST or the LSUB command that asked it. LSUB rests on listing_rules' LsubLaws.
-use mathlib.Core.Path.{_≡_, refl, sym, ap, _∙_}
-use mathlib.Core.Bool.{Bool, true, false}
-use mathlib.Core.List.{List, _++_, map}
-use Prim.Native.Nat.{ℕ, _≤_}
-use lib.ListN.{length}
+use Rattle.listing_rules.proofs.Prelude.{_∙_, _≡_, ap, refl, sym, Bool, false, true, List, _++_, map, _≤_, ℕ, length}
 use Rattle.listing_rules.specs.Bytes.{bit}
 use Rattle.listing_rules.specs.Lists.{anyOf, joined}
 use Rattle.listing_rules.specs.Table.{Row}

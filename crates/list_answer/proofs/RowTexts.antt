@@ -1,13 +1,7 @@
 -- The text of the names that begin at a row, and of all rows, step by step. Rests on Deciding and Showing.
-use mathlib.Core.Path.{_≡_, refl, sym, ap, _∙_}
-use mathlib.Core.Bool.{Bool, true, false, cond, _||_}
-use mathlib.Core.List.{List, [], _∷_, _++_, map, map-append}
-use Prim.Native.Nat.{ℕ, zero, suc, _+_, _-_, _≤_, _<_}
-use native.Mathlib.Numerals.{add-one}
-use native.Mathlib.Omega.{arith}
-use lib.ListN.{length, take, drop, getD, drop-of-length-le, length-map}
-use lib.Seq.{drop-cons, take-suc}
-use borrow.Author.Tests.{ne-eqb}
+use Rattle.listing_rules.proofs.Prelude.{_∙_, _≡_, ap, refl, sym, Bool, _||_, cond, false, true, List, [], _++_, _∷_, map, map-append, _+_, _-_, _<_}
+use Rattle.listing_rules.proofs.Prelude.{_≤_, suc, zero, ℕ, add-one, arith, drop, drop-of-length-le, getD, length, length-map, take, drop-cons}
+use Rattle.listing_rules.proofs.Prelude.{take-suc, ne-eqb}
 use Rattle.listing_rules.specs.Lists.{joined}
 use Rattle.listing_rules.specs.Table.{Row}
 use Rattle.listing_rules.specs.Options.{Options}

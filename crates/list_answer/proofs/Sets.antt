@@ -1,12 +1,7 @@
 -- Members put together one by one make the set of them all.
-use mathlib.Core.Path.{_≡_, refl, sym, ap, _∙_}
-use mathlib.Core.Bool.{Bool, true, false}
-use mathlib.Core.List.{List, [], _∷_, _++_, append-nil, append-assoc}
-use Prim.Native.Nat.{ℕ, suc, _+_, _*_, _^_}
-use native.Mathlib.Nat.{pow-suc}
-use native.Mathlib.Omega.{arith}
+use Rattle.listing_rules.proofs.Prelude.{_∙_, _≡_, ap, refl, sym, Bool, false, true, List, [], _++_, _∷_, append-assoc, append-nil, _*_, _+_, _^_}
+use Rattle.listing_rules.proofs.Prelude.{suc, ℕ, pow-suc, arith, length, length-append}
 use lib.Bits.{or-shifted-r}
-use lib.ListN.{length, length-append}
 use Rattle.listing_rules.specs.Listing.{inOrder}
 use Rattle.listing_rules.specs.Lsub.{lsubAttributes}
 use Rattle.list_line.specs.Members.{setOf}

@@ -1,13 +1,11 @@
 -- What is shown of a name, by the tests of `decide`; and its text. Rests on Levels.
-use mathlib.Core.Path.{_≡_, refl, sym, ap, _∙_}
-use mathlib.Core.Bool.{Bool, true, false, cond, _&&_, _||_, not, and-false}
-use mathlib.Core.List.{List, []}
-use Prim.Native.Nat.{ℕ}
-use lib.ListN.{length, take, drop}
+use Rattle.listing_rules.proofs.Prelude.{_∙_, _≡_, ap, refl, sym, Bool, _&&_, _||_, and-false, cond, false, not, true, List, [], ℕ, drop, length}
+use Rattle.listing_rules.proofs.Prelude.{take}
 use Rattle.listing_rules.specs.Flags.{exists, subscribed}
 use Rattle.listing_rules.specs.Table.{Row, flagsOf}
 use Rattle.listing_rules.specs.Options.{Options, Criteria, noCriteria, criteria, criteriaOf, criteriaNumber}
-use Rattle.listing_rules.specs.Listing.{meetsCriteria, candidateMeets, meetsBelow, meetsUnmatchedBelow, levelAbove, listed, childInfo, hasChildren, attributes, attributesFor, inOrder}
+use Rattle.listing_rules.specs.Listing.{meetsCriteria, candidateMeets, meetsBelow, meetsUnmatchedBelow, levelAbove, listed, childInfo, hasChildren}
+use Rattle.listing_rules.specs.Listing.{attributes, attributesFor, inOrder}
 use Rattle.listing_rules.specs.Lines.{wordLine}
 use Rattle.listing_rules.specs.Lsub.{isSubscribed, lsubAttributes}
 use Rattle.listing_rules.proofs.NameFlags.{meets-zero}

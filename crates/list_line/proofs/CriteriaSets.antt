@@ -1,7 +1,5 @@
 -- A set of criteria by the code's tests of its two members.
-use mathlib.Core.Path.{_≡_, sym, _∙_}
-use mathlib.Core.Bool.{Bool, _||_, not}
-use Prim.Native.Nat.{ℕ}
+use Rattle.listing_rules.proofs.Prelude.{_∙_, _≡_, sym, Bool, _||_, not, ℕ}
 use Rattle.listing_rules.specs.Options.{isNone, criteriaOf}
 use Rattle.octets.specs.Sets.{contains}
 use Rattle.octets.proofs.Sets.{contains-bit}

@@ -1,16 +1,9 @@
 -- The number of a set and its sixteen members decide each other.
-use mathlib.Core.Path.{_≡_, refl, sym, ap, _∙_}
-use mathlib.Core.Bool.{Bool, true, false, cond, _&&_}
-use mathlib.Core.List.{List, [], _∷_, _++_}
-use Prim.Native.Nat.{ℕ, zero, suc, _+_, _*_, _/_, _%_, _^_, _≤_, _<_}
-use native.Mathlib.Nat.{add-zero, zero-add, add-suc, suc-add, pow-suc, pow-succ', div-one, zero-div, div-div-eq-div-mul}
-use native.Mathlib.Omega.{arith}
-use lib.Dec.{eqb}
-use native.Mathlib.Numerals.{add-one}
-use lib.ListN.{length, getD, drop, length-drop, drop-of-length-le}
-use lib.Seq.{ext-getD, drop-cons}
+use Rattle.listing_rules.proofs.Prelude.{_∙_, _≡_, ap, refl, sym, Bool, _&&_, cond, false, true, List, [], _++_, _∷_, _%_, _*_, _+_, _/_, _<_, _^_}
+use Rattle.listing_rules.proofs.Prelude.{_≤_, suc, zero, ℕ, add-suc, add-zero, div-div-eq-div-mul, div-one, pow-suc, pow-succ', suc-add, zero-add}
+use Rattle.listing_rules.proofs.Prelude.{zero-div, add-one, arith, eqb, drop, drop-of-length-le, getD, length, length-drop, drop-cons, ext-getD}
+use Rattle.listing_rules.proofs.Prelude.{eq-eqb, eqb-true, ne-eqb}
 use lib.Pow.{pow-mono}
-use borrow.Author.Tests.{eq-eqb, ne-eqb, eqb-true}
 use Rattle.listing_rules.specs.Bytes.{bit, isEmpty}
 use Rattle.listing_rules.specs.Options.{Criteria, isNone}
 use Rattle.listing_rules.specs.Reader.{sameBools, rootAttributes, rootParts}

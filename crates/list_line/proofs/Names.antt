@@ -1,20 +1,13 @@
 -- Where the names stand: one test of all sixteen places, which antt computes, gives what holds at each.
-use mathlib.Core.Path.{_≡_, refl, ap, _∙_}
-use mathlib.Core.Bool.{Bool, true, false, _&&_}
-use mathlib.Core.List.{List, _∷_}
-use Prim.Native.Nat.{ℕ, zero, suc, _+_, _-_, _≤_, _<_}
-use native.Mathlib.Decide.{decLt}
-use native.Mathlib.Omega.{arith}
-use lib.Dec.{leb}
-use lib.ListN.{length, getD, take, drop}
-use borrow.Author.Tests.{leb-true}
+use Rattle.listing_rules.proofs.Prelude.{_∙_, _≡_, ap, refl, subst, sym, Bool, _&&_, cond, false, true, List, _∷_, _+_, _-_, _<_, _≤_, suc, zero, ℕ, decLt, arith, leb}
+use Rattle.listing_rules.proofs.Prelude.{drop, getD, length, take, leb-true, lt-leb}
 use Rattle.listing_rules.specs.Bytes.{same, space}
 use Rattle.listing_rules.proofs.Keys.{openBytes, openLines}
 use Rattle.listing_rules.specs.Reader.{separated}
 use Rattle.listing_rules.proofs.Bools.{and-l, and-r}
 use Rattle.listing_rules.proofs.ListLaws.{same-true}
 use Rattle.list_line.specs.declared.texts.Span.{Span}
-use Rattle.list_line.specs.Names.{allNames, namePlaces, nameOf, NameSpan}
+use Rattle.list_line.specs.Names.{allNames, namePlaces, nameOf, spanIn, NameSpan}
 
 -- the test passes at each number below n
 abbrev eachBelow : ℕ → (ℕ → Bool) → Bool
@@ -50,17 +43,28 @@ module _ (k : ℕ) (h : k < 16) where
   alone = same-true _ _ (each-below 16 (λ i. same (part (getD namePlaces i 0 + 1) (getD namePlaces (i + 1) 0)) (nameOf i)) refl k h)
 
   -- the first name on a line, and a later one
-  pub span-first : NameSpan k true (record { start = getD namePlaces k 0 + 1; end = getD namePlaces (k + 1) 0 })
+  span-first : NameSpan k true (record { start = getD namePlaces k 0 + 1; end = getD namePlaces (k + 1) 0 })
   unfolding separated
   span-first = record { order = order; inside = inside; name = alone }
 
-  pub span-later : NameSpan k false (record { start = getD namePlaces k 0; end = getD namePlaces (k + 1) 0 })
+  span-later : NameSpan k false (record { start = getD namePlaces k 0; end = getD namePlaces (k + 1) 0 })
   unfolding separated
   span-later = record { order = omega (arith, order); inside = inside; name = behind-space }
 
-pub length-places : length namePlaces ≡ 17
+length-places : length namePlaces ≡ 17
 unfolding namePlaces
 length-places = refl
+
+-- where the table of places has name k
+pub span-named : (places : List ℕ) (k : ℕ) (first : Bool) {s : Span} → places ≡ namePlaces → k < 16 → s ≡ spanIn places k first → NameSpan k first s
+span-named places k first {s} e h is = subst (NameSpan k first) (sym (is ∙ ap (λ (l : List ℕ). spanIn l k first) e ∙ inside)) (named first)
+  where
+    inside : spanIn namePlaces k first ≡ record { start = cond first (getD namePlaces k 0 + 1) (getD namePlaces k 0); end = getD namePlaces (k + 1) 0 }
+    inside = rw (lt-leb (length namePlaces) k (omega (arith, length-places)))
+
+    named : (f : Bool) → NameSpan k f (record { start = cond f (getD namePlaces k 0 + 1) (getD namePlaces k 0); end = getD namePlaces (k + 1) 0 })
+    named true = span-first k h
+    named false = span-later k h
 
 -- name k in the text of them all, which the code has lent as `names`
 pub span-text : (names : List ℕ) {k : ℕ} {first : Bool} {s : Span} → names ≡ allNames → NameSpan k first s → take (s .end - s .start) (drop (s .start) names) ≡ separated first (nameOf k)

@@ -1,13 +1,6 @@
 -- The attributes' names one by one, what is written and what is left to write; the line writer's cases.
-use mathlib.Core.Path.{_≡_, refl, sym, ap, _∙_}
-use mathlib.Core.Bool.{Bool, true, false}
-use mathlib.Core.List.{List, [], _∷_, _++_, append-assoc, append-nil}
-use Prim.Native.Nat.{ℕ, suc, _+_, _-_, _/_, _%_, _≤_, _<_, _^_}
-use native.Mathlib.Numerals.{add-one}
-use native.Mathlib.Omega.{arith}
-use lib.ListN.{length, drop}
-use lib.Seq.{drop-cons}
-use borrow.Author.Tests.{eq-eqb, ne-eqb}
+use Rattle.listing_rules.proofs.Prelude.{_∙_, _≡_, ap, refl, sym, Bool, false, true, List, [], _++_, _∷_, append-assoc, append-nil, _%_, _+_, _-_}
+use Rattle.listing_rules.proofs.Prelude.{_/_, _<_, _^_, _≤_, suc, ℕ, add-one, arith, drop, length, drop-cons, eq-eqb, ne-eqb}
 use Rattle.listing_rules.proofs.Keys.{openBytes}
 use Rattle.listing_rules.specs.Options.{lawfulCriteria, criteriaOf}
 use Rattle.listing_rules.specs.Lines.{attributeNames, chosen, spaced, spacedTail, listLine, rootLine}

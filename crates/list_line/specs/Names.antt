@@ -1,8 +1,9 @@
 -- The attributes' names in one text, and where each stands in it.
 use mathlib.Core.Path.{_≡_}
-use mathlib.Core.Bool.{Bool}
+use mathlib.Core.Bool.{Bool, cond}
 use mathlib.Core.List.{List, [], _∷_}
-use Prim.Native.Nat.{ℕ, _-_, _≤_}
+use Prim.Native.Nat.{ℕ, _+_, _-_, _≤_}
+use lib.Dec.{leb}
 use lib.ListN.{getD, take, drop, length}
 use Rattle.listing_rules.specs.Lines.{attributeNames, spacedTail}
 use Rattle.listing_rules.specs.Reader.{separated}
@@ -18,6 +19,12 @@ namePlaces = 0 ∷ 8 ∷ 18 ∷ 28 ∷ 41 ∷ 49 ∷ 61 ∷ 74 ∷ 79 ∷ 88 ∷
 
 unfoldable pub nameOf : ℕ → List ℕ
 nameOf k = getD attributeNames k []
+
+-- the part of a text that a table of places has at place k: from there, or one byte later, up to the next place; past the table, nothing
+abbrev pub spanIn : List ℕ → ℕ → Bool → Span
+spanIn places k first =
+    cond (leb (length places) k) (record { start = 0; end = 0 })
+    (record { start = cond first (getD places k 0 + 1) (getD places k 0); end = getD places (k + 1) 0 })
 
 -- s is the part of the text that is name k, with the space before it unless it is the first on its line
 pub record NameSpan (k : ℕ) (first : Bool) (s : Span) : Type 0 where

@@ -1,20 +1,12 @@
 -- Tables that are alike: check 1 says the same of both, and where they pass they are one table. They are answered and walked alike; so
 -- are the first rows of records, and all of them. Rests on Passes.
-use mathlib.Core.Path.{_≡_, refl, sym, ap, _∙_, subst}
-use mathlib.Core.Bool.{Bool, true, false, cond, false≢true}
-use mathlib.Core.List.{List, map}
-use mathlib.Core.Option.{none, some}
-use Prim.Native.Nat.{ℕ, _≤_, _<_, min}
-use native.Mathlib.Nat.{le-refl}
-use native.Mathlib.Omega.{arith}
-use lib.Dec.{leb}
-use lib.ListN.{length, take, length-map}
-use lib.Seq.{length-take-le, take-all}
-use borrow.Author.Tests.{le-leb, leb-true, leb-false, lt-leb}
-use Rattle.listing_rules.specs.Table.{Row, Table, rows, rowsPass, passes}
+use Rattle.listing_rules.proofs.Prelude.{_∙_, _≡_, ap, refl, subst, sym, Bool, cond, false, false≢true, true, none, some, List, map, _<_, _≤_}
+use Rattle.listing_rules.proofs.Prelude.{min, ℕ, le-refl, arith, leb, length, length-map, take, length-take-le, take-all, le-leb, leb-false}
+use Rattle.listing_rules.proofs.Prelude.{leb-true, lt-leb}
+use Rattle.listing_rules.specs.Table.{Row, Table, rowsPass, passes}
 use Rattle.listing_rules.specs.Records.{Record, rowOf, recordRows, laidOut, recordTable}
 use Rattle.listing_rules.specs.Readers.{isReader}
-use Rattle.listing_rules.specs.Server.{refusal, answer, limited, served, fromReader, servedTo}
+use Rattle.listing_rules.specs.Server.{refusal, answer, limited, served}
 use Rattle.listing_rules.specs.Walk.{WalkReply, walkRefused, walk, collected, walkBy, collectedBy}
 use Rattle.listing_rules.proofs.Passes.{rows-parts}
 
@@ -36,13 +28,6 @@ module _ (t u : Table) where
       go true e = ap f (a .1 e)
       go false e = fails t e ∙ sym (fails u (sym (a .0) ∙ e))
 
-  -- what is owed for a table that passes
-  pub owed-alike : (P : Table → Type 0) → Alike t u → (passes t ≡ true → P t) → passes u ≡ true → P u
-  owed-alike P a h e = let p = a .0 ∙ e in subst P (a .1 p) (h p)
-
-  pub rows-alike : Alike t u → passes t ≡ true → rows t ≡ rows u
-  rows-alike a p = ap rows (a .1 p)
-
   pub served-alike : (spaces l buffer : List ℕ) → Alike t u → served t spaces l buffer ≡ served u spaces l buffer
   unfolding served answer limited
   served-alike spaces l buffer = alike (λ v. served v spaces l buffer) (refusal 1) fails
@@ -57,11 +42,6 @@ module _ (t u : Table) where
     where
       fails : (v : Table) → passes v ≡ false → collected v o scratch found pending ≡ walkRefused 1
       fails v e = rw e refl
-
-  -- and so for a reader (W9), where the tables are what it sees
-  pub served-to-alike : (reader : ℕ) (spaces l buffer : List ℕ) → Alike t u → servedTo reader t spaces l buffer ≡ servedTo reader u spaces l buffer
-  unfolding servedTo
-  served-to-alike reader spaces l buffer a = ap (fromReader reader) (served-alike spaces l buffer a)
 
   pub collected-by-alike : (reader o : ℕ) (scratch found pending : List ℕ) → Alike t u
       → collectedBy reader t o scratch found pending ≡ collectedBy reader u o scratch found pending

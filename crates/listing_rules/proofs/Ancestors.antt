@@ -1,12 +1,8 @@
 -- Proper ancestors: the test `below` and the list `properAncestors` agree; candidates are closed under proper ancestors. Rests on Sorted and
 -- ListLaws.
-use mathlib.Core.Path.{_≡_, refl, _∙_, subst}
-use mathlib.Core.Logic.{_⊎_, inl, inr, ⊎-elim}
-use mathlib.Core.Bool.{Bool, true, false, cond, false≢true}
-use mathlib.Core.List.{List, [], _∷_, map, List·Memᴰ, List·Memᴰ·head, List·Memᴰ·tail, List·Memᴰ·not-nil, List·Memᴰ·cases-cons}
-use Prim.Native.Nat.{ℕ}
-use lib.Dec.{eqb}
-use borrow.Author.Tests.{eqb-true, eq-eqb}
+use Rattle.listing_rules.proofs.Prelude.{_∙_, _≡_, refl, subst, Bool, cond, false, false≢true, true, _⊎_, inl, inr, ⊎-elim, List, List·Memᴰ}
+use Rattle.listing_rules.proofs.Prelude.{List·Memᴰ·cases-cons, List·Memᴰ·head, List·Memᴰ·not-nil, List·Memᴰ·tail, [], _∷_, map, ℕ, eqb, eq-eqb}
+use Rattle.listing_rules.proofs.Prelude.{eqb-true}
 use Rattle.listing_rules.specs.Bytes.{slash}
 use Rattle.listing_rules.specs.Orders.{byteOrder}
 use Rattle.listing_rules.specs.Names.{properAncestors, below}

@@ -1,11 +1,6 @@
 -- The lines of an answer are split again as they were joined. Rests on TokenLaws and LawfulNames.
-use mathlib.Core.Path.{_≡_, refl, sym, ap, _∙_}
-use mathlib.Core.Bool.{Bool, true, false, not}
-use mathlib.Core.List.{List, [], _∷_, _++_, map, append-assoc}
-use Prim.Native.Nat.{ℕ}
-use native.Mathlib.Omega.{arith}
-use lib.Dec.{eqb}
-use borrow.Author.Tests.{ne-eqb, not-true}
+use Rattle.listing_rules.proofs.Prelude.{_∙_, _≡_, ap, refl, sym, Bool, false, not, true, List, [], _++_, _∷_, append-assoc, map, ℕ, arith}
+use Rattle.listing_rules.proofs.Prelude.{eqb, ne-eqb, not-true}
 use Rattle.listing_rules.specs.Bytes.{text, quote, all}
 use Rattle.listing_rules.specs.Lists.{every, joined, onFirst}
 use Rattle.listing_rules.specs.Names.{nameByte}

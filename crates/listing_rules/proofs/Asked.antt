@@ -1,13 +1,7 @@
 -- One command of the collector: what its answer adds to found and pending, if there is room for it. Rests on Sent, AnswerLines, ReaderWriter,
 -- Passes and Outcome.
-use mathlib.Core.Path.{_≡_, refl, sym, ap, _∙_}
-use mathlib.Core.Bool.{Bool, true, false, cond, not}
-use mathlib.Core.List.{List, [], _∷_, _++_, map, append-assoc, append-nil}
-use Prim.Native.Nat.{ℕ, _≤_}
-use native.Mathlib.Omega.{arith}
-use lib.Dec.{leb}
-use lib.ListN.{length, length-append}
-use borrow.Author.Tests.{leb-true, leb-false}
+use Rattle.listing_rules.proofs.Prelude.{_∙_, _≡_, ap, refl, sym, Bool, cond, false, not, true, List, [], _++_, _∷_, append-assoc, append-nil}
+use Rattle.listing_rules.proofs.Prelude.{map, _≤_, ℕ, arith, leb, length, length-append, leb-false, leb-true}
 use Rattle.listing_rules.specs.Bytes.{text, all}
 use Rattle.listing_rules.specs.Lists.{every, keep, joined}
 use Rattle.listing_rules.specs.Names.{lawfulName, nameByte}
@@ -19,7 +13,8 @@ use Rattle.listing_rules.specs.Lines.{listLine, okLine}
 use Rattle.listing_rules.specs.Server.{answered, refusal, answer, answerTo, limited, lineOf, listAnswer}
 use Rattle.listing_rules.specs.Reader.{line, readLine}
 use Rattle.listing_rules.proofs.Keys.{openBytes, openLists, openNamespaces, openTokens, openLines, openReader}
-use Rattle.listing_rules.specs.Walk.{lawfulByte, Lists, stop, _then_, commandLine, linesOf, packed, go, isFind, withName, fits, takenIn, takenAll, replied, asked}
+use Rattle.listing_rules.specs.Walk.{lawfulByte, Lists, stop, _then_, commandLine, linesOf, packed, go, isFind, withName, fits, takenIn}
+use Rattle.listing_rules.specs.Walk.{takenAll, replied, asked}
 use Rattle.listing_rules.specs.Demand3.{walkOptions}
 use Rattle.listing_rules.proofs.Bools.{and-l, and-r}
 use Rattle.listing_rules.proofs.ListLaws.{all-imp, every-mem, mem-every, keep-mem}
@@ -29,7 +24,7 @@ use Rattle.listing_rules.proofs.Passes.{candidate-good}
 use Rattle.listing_rules.proofs.ReaderWriter.{readLine-written}
 use Rattle.listing_rules.proofs.AnswerLines.{notLF, name-notLF, lineBody, line-body, body-notLF, lines-joined, ok-lines}
 use Rattle.listing_rules.proofs.Sent.{sent}
-use Rattle.listing_rules.proofs.Outcome.{Short, scratch-short, found-short, pending-short, Outcome, went, stopped, went-to, with-fact, then-step}
+use Rattle.listing_rules.proofs.Outcome.{Short, scratch-short, found-short, pending-short, Outcome, went, stopped, with-fact, then-step}
 
 -- sizes
 pub packed-append : (a b : List (List ℕ)) → packed (a ++ b) ≡ packed a ++ packed b
@@ -97,10 +92,6 @@ module _ (o found pending : ℕ) (L : Name → List ℕ) (B : Name → List Bool
       a′ : List Name
       a′ = withName (named n) n a
 
-  pub taken-all : (ns f a : List Name) → every lawfulName ns ≡ true → Sizes found pending (f ++ findsAmong ns) (a ++ keep named ns)
-      → takenAll o found pending (listsOf f a) (map L ns ++ (okLine (text "w") ∷ [])) ≡ go (listsOf (f ++ findsAmong ns) (a ++ keep named ns))
-  taken-all ns f a g h = went-to (taken-cases ns f a g (packed-le f (findsAmong ns) found (h .0), packed-le a (keep named ns) pending (h .1))) h
-
 -- the collector's line of a name
 module _ (t : Table) (o : ℕ) (ref : List ℕ) where
   abbrev pub pats : List (List ℕ)
@@ -160,9 +151,3 @@ module _ (t : Table) (o : ℕ) (ref : List ℕ) where
           (Sizes found pending (f ++ finds) (a ++ asks))
       taken = taken-cases o found pending (λ n. listLine (attrsOf n) n (childOf n)) attrsOf childOf
           (λ n g. readLine-written (attrsOf n) n (childOf n) (sixteen n) g) names-listed f a (good-listed ok) h
-
-  pub asked-is : (scratch found pending : ℕ) → lawfulByte o ≡ true → passes t ≡ true → all lineByte ref ≡ true → length ref ≤ 254 → (f a : List Name)
-      → Answer-fits scratch → Sizes found pending (f ++ finds) (a ++ asks)
-      → asked t o scratch found pending (listsOf f a) ref ≡ go (listsOf (f ++ finds) (a ++ asks))
-  asked-is scratch found pending y ok b l f a k h =
-      went-to (asked-cases scratch found pending y ok b l f a (packed-le f finds found (h .0), packed-le a asks pending (h .1))) (k, h)

@@ -1,11 +1,7 @@
 -- A queue of names, each of which puts its children at the end, is served in walk order. Rests on WalkOrder and Sorted.
-use mathlib.Core.Path.{_≡_, refl, sym, ap, _∙_}
-use mathlib.Core.Logic.{_⊎_, inl, inr}
-use mathlib.Core.Bool.{true}
-use mathlib.Core.List.{List, [], _∷_, _++_, List·Memᴰ, List·Memᴰ·head, List·Memᴰ·tail, List·Memᴰ·append-cases}
-use Prim.Native.Nat.{ℕ, zero, suc, _<_, Ordering·lt, Ordering·gt}
-use native.Mathlib.Omega.{arith}
-use lib.ListN.{length, length-append}
+use Rattle.listing_rules.proofs.Prelude.{_∙_, _≡_, ap, refl, sym, true, _⊎_, inl, inr, List, List·Memᴰ, List·Memᴰ·append-cases, List·Memᴰ·head}
+use Rattle.listing_rules.proofs.Prelude.{List·Memᴰ·tail, [], _++_, _∷_, Ordering·gt, Ordering·lt, _<_, suc, zero, ℕ, arith, length}
+use Rattle.listing_rules.proofs.Prelude.{length-append}
 use Rattle.listing_rules.specs.Orders.{thenBy}
 use Rattle.listing_rules.specs.Names.{levels, walkOrder}
 use Rattle.listing_rules.proofs.Order.{lt-compare, gt-compare}

@@ -1,7 +1,5 @@
 -- Bools: `&&` and `||` taken apart and put together; two tests that imply each other are equal. Rests on the library alone.
-use mathlib.Core.Path.{_≡_, refl}
-use mathlib.Core.Logic.{_⊎_, inl, inr}
-use mathlib.Core.Bool.{Bool, true, false, _&&_, _||_}
+use Rattle.listing_rules.proofs.Prelude.{_≡_, refl, Bool, _&&_, _||_, false, true, _⊎_, inl, inr}
 
 pub and-l : (a b : Bool) → (a && b) ≡ true → a ≡ true
 and-l true b e = refl

@@ -2,20 +2,16 @@
 -- its reader sees at that time and leaves the store, an edit is answered to reader 0 alone, by the tagged line alone, a store that does not pass is
 -- left by every command, and after any series of commands check 1 passes and the subscribed names are those of a plain set. Rests on
 -- SubscriptionLaws and ReaderLaws.
-use mathlib.Core.Path.{_≡_, refl, sym, ap, _∙_, subst}
-use mathlib.Core.Bool.{Bool, true, false, cond, false≢true}
-use mathlib.Core.List.{List, [], _∷_}
-use Prim.Native.Nat.{ℕ}
-use lib.Dec.{eqb, leb}
-use lib.ListN.{length}
+use Rattle.listing_rules.proofs.Prelude.{_∙_, _≡_, ap, refl, subst, sym, Bool, cond, false, false≢true, true, List, [], _∷_, ℕ, eqb, leb}
+use Rattle.listing_rules.proofs.Prelude.{length}
 use Rattle.listing_rules.specs.Table.{Table, rows, passes}
 use Rattle.listing_rules.specs.Namespaces.{entries, namespacesPass}
 use Rattle.listing_rules.specs.Lines.{okLine}
 use Rattle.listing_rules.specs.Command.{Edit, Parsed, refused, namespace, listing, rootOf, subscriptions, editing, isEdit, parsed}
 use Rattle.listing_rules.specs.Readers.{isReader}
 use Rattle.listing_rules.specs.Subscriptions.{Store, storeTable, storeSeen, Edited, denied, stored, edited, isIn, subscribedNames}
-use Rattle.listing_rules.specs.Server.{Reply, refusal, answered, answerTo, answer, limited, fromReader, Commanded, attempted, unchangedBy, concluded}
-use Rattle.listing_rules.specs.Server.{commandedOver, commanded}
+use Rattle.listing_rules.specs.Server.{Reply, refusal, answered, answerTo, answer, limited, fromReader, Commanded, attempted, unchangedBy}
+use Rattle.listing_rules.specs.Server.{concluded, commandedOver, commanded}
 use Rattle.listing_rules.specs.Series.{Sent, sentTo, commandedAll, setCommanded, setSent}
 use Rattle.listing_rules.proofs.ReaderLaws.{store-seen-passes}
 use Rattle.listing_rules.proofs.SubscriptionLaws.{refused-not, stored-is, edited-passes, edited-set, set-alike}

@@ -1,25 +1,19 @@
 -- W7 over commands as they are sent: once names are moved together, each command of each reader is answered as before and leaves the same rows, but for a
 -- SUBSCRIBE's 15; that is then given for want of bytes exactly if the free bytes in all are too few. Rests on CompactionLaws and CommandLaws.
-use mathlib.Core.Path.{_≡_, refl, sym, ap, _∙_, subst}
-use mathlib.Core.Logic.{_⊎_, inl, inr}
-use mathlib.Core.Bool.{Bool, true, false, cond, _&&_, not}
-use mathlib.Core.List.{List}
-use mathlib.Core.Option.{Option, none, some}
-use Prim.Native.Nat.{ℕ, _<_}
-use native.Mathlib.Omega.{arith}
-use lib.Dec.{eqb, leb, ltb}
-use lib.ListN.{length}
-use borrow.Author.Tests.{ltb-true}
+use Rattle.listing_rules.proofs.Prelude.{_∙_, _≡_, ap, refl, subst, sym, Bool, _&&_, cond, false, not, true, _⊎_, inl, inr, Option, none, some}
+use Rattle.listing_rules.proofs.Prelude.{List, _<_, ℕ, arith, eqb, leb, ltb, length, ltb-true}
 use Rattle.listing_rules.specs.Names.{lawfulName}
-use Rattle.listing_rules.specs.Table.{Row, Table, rows, hasRow, passes}
+use Rattle.listing_rules.specs.Table.{Row, Table, hasRow, passes}
 use Rattle.listing_rules.specs.Namespaces.{namespacesPass}
 use Rattle.listing_rules.specs.Lines.{okLine}
-use Rattle.listing_rules.specs.Command.{Edit, subscribe, unsubscribe, Parsed, refused, namespace, listing, rootOf, subscriptions, editing, parsed}
+use Rattle.listing_rules.specs.Command.{Edit, subscribe, unsubscribe, Parsed, refused, namespace, listing, rootOf, subscriptions, editing}
+use Rattle.listing_rules.specs.Command.{parsed}
 use Rattle.listing_rules.specs.Readers.{isReader}
-use Rattle.listing_rules.specs.Subscriptions.{Store, storeTable, storeSeen, storeRows, spelled, rowsBefore, belowNoInferiors, freeRun, withSubscribed, withoutSubscribed, nth}
-use Rattle.listing_rules.specs.Subscriptions.{flagged, inserted, removed, Edited, denied, stored, insertion, subscribing, unsubscribing, edited}
-use Rattle.listing_rules.specs.Server.{Reply, refusal, answered, answerTo, answer, limited, numberOf, Commanded, attempted, unchangedBy, concluded}
-use Rattle.listing_rules.specs.Server.{commandedOver, commanded}
+use Rattle.listing_rules.specs.Subscriptions.{Store, storeTable, storeSeen, storeRows, spelled, rowsBefore, belowNoInferiors, freeRun}
+use Rattle.listing_rules.specs.Subscriptions.{withSubscribed, withoutSubscribed, nth, flagged, inserted, removed, Edited, denied, stored}
+use Rattle.listing_rules.specs.Subscriptions.{insertion, subscribing, unsubscribing, edited}
+use Rattle.listing_rules.specs.Server.{Reply, refusal, answered, answerTo, answer, limited, numberOf, Commanded, attempted, unchangedBy}
+use Rattle.listing_rules.specs.Server.{concluded, commandedOver, commanded}
 use Rattle.listing_rules.specs.Walk.{collectedBy}
 use Rattle.listing_rules.specs.Compaction.{compacted, Compaction, compaction}
 use Rattle.listing_rules.proofs.Bools.{and-l, and-r}
@@ -29,7 +23,8 @@ use Rattle.listing_rules.proofs.FreeRuns.{FreeAt, run-free}
 use Rattle.listing_rules.proofs.EditRows.{rowsWith}
 use Rattle.listing_rules.proofs.SubscriptionLaws.{nameOf, subscribes, rowAfter, roomForRow, edited-rows}
 use Rattle.listing_rules.proofs.CommandLaws.{refusal-not}
-use Rattle.listing_rules.proofs.CompactionLaws.{freeBytes, run-most, compaction-refused, compaction-made, stays, compacted-passes, seen-stays, room-in-all}
+use Rattle.listing_rules.proofs.CompactionLaws.{freeBytes, run-most, compaction-refused, compaction-made, stays, compacted-passes, seen-stays}
+use Rattle.listing_rules.proofs.CompactionLaws.{room-in-all}
 
 -- what an edit comes to, over any store
 module _ (s : Store) (n : List ℕ) where

@@ -1,16 +1,9 @@
 -- Names moved together (W7), over a store that passes check 1: rows, sizes and spare records stay, check 1 passes, the free bytes are one run at
 -- the end, and done twice is done once. Rests on UsedBytes and SubscriptionLaws.
-use mathlib.Core.Path.{_≡_, refl, sym, ap, _∙_, subst}
-use mathlib.Core.Logic.{_⊎_, inl, inr}
-use mathlib.Core.Bool.{Bool, true, false, cond, _&&_, _||_, and-false}
-use mathlib.Core.List.{List, [], _∷_, _++_, map, List·Memᴰ, List·Memᴰ·head, List·Memᴰ·tail, append-nil}
-use mathlib.Core.Option.{none, some}
-use Prim.Native.Nat.{ℕ, _+_, _-_, _≤_, _<_}
-use native.Mathlib.Omega.{arith}
-use lib.Dec.{leb, ltb}
-use lib.ListN.{length, take, drop, replicate, length-append, length-map, length-replicate, take-append-drop}
-use lib.Seq.{length-take-le, take-at, drop-at}
-use borrow.Author.Tests.{leb-true, leb-false, le-leb, ltb-true, le-ltb}
+use Rattle.listing_rules.proofs.Prelude.{_∙_, _≡_, ap, refl, subst, sym, Bool, _&&_, _||_, and-false, cond, false, true, _⊎_, inl, inr, none}
+use Rattle.listing_rules.proofs.Prelude.{some, List, List·Memᴰ, List·Memᴰ·head, List·Memᴰ·tail, [], _++_, _∷_, append-nil, map, _+_, _-_, _<_}
+use Rattle.listing_rules.proofs.Prelude.{_≤_, ℕ, arith, leb, ltb, drop, length, length-append, length-map, length-replicate, replicate, take}
+use Rattle.listing_rules.proofs.Prelude.{take-append-drop, drop-at, length-take-le, take-at, le-leb, le-ltb, leb-false, leb-true, ltb-true}
 use Rattle.listing_rules.specs.Lists.{every, anyOf, keep}
 use Rattle.listing_rules.specs.Table.{Row, passes}
 use Rattle.listing_rules.specs.Records.{Record, rowOf, recordRows, recordTable, liesInside, apart, allApart}
@@ -25,7 +18,8 @@ use Rattle.listing_rules.proofs.EditLists.{mem-none}
 use Rattle.listing_rules.proofs.EditLayout.{LaidParts, parts-laid}
 use Rattle.listing_rules.proofs.EditPasses.{StoreParts, store-parts, parts-store}
 use Rattle.listing_rules.proofs.SubscriptionLaws.{refused-not, run-refused, insertion-made}
-use Rattle.listing_rules.proofs.UsedBytes.{own-used, used-append, used-all, used-none, used-or-free, used-most, used-at, used-around, place-rises, place-most, place-end, read-placed}
+use Rattle.listing_rules.proofs.UsedBytes.{own-used, used-append, used-all, used-none, used-or-free, used-most, used-at, used-around}
+use Rattle.listing_rules.proofs.UsedBytes.{place-rises, place-most, place-end, read-placed}
 
 -- lists whose members are changed one by one
 map-same : {A : Type 0} (f : A → A) (l : List A) → ((z : A) → List·Memᴰ z l → f z ≡ z) → map f l ≡ l

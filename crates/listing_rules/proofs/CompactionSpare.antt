@@ -1,14 +1,8 @@
 -- Records past the 512th do not matter to names moved together (W7): what becomes of a store is what becomes of its first 512 records, with the
 -- others at their end. Rests on SpareLaws.
-use mathlib.Core.Path.{_≡_, refl, sym, ap, _∙_}
-use mathlib.Core.Bool.{Bool, true, false, cond}
-use mathlib.Core.List.{List, map, _++_, append-assoc, append-nil}
-use Prim.Native.Nat.{ℕ, _-_, _≤_, _<_, min}
-use native.Mathlib.Omega.{arith}
-use lib.Dec.{leb}
-use lib.ListN.{length, take, drop, replicate, length-take, take-append-drop, drop-of-length-le}
-use lib.Seq.{take-all, drop-append-le}
-use borrow.Author.Tests.{leb-true, leb-false}
+use Rattle.listing_rules.proofs.Prelude.{_∙_, _≡_, ap, refl, sym, Bool, cond, false, true, List, _++_, append-assoc, append-nil, map, _-_, _<_}
+use Rattle.listing_rules.proofs.Prelude.{_≤_, min, ℕ, arith, leb, drop, drop-of-length-le, length, length-take, replicate, take}
+use Rattle.listing_rules.proofs.Prelude.{take-append-drop, drop-append-le, take-all, leb-false, leb-true}
 use Rattle.listing_rules.specs.Table.{passes}
 use Rattle.listing_rules.specs.Records.{Record}
 use Rattle.listing_rules.specs.Subscriptions.{Store, storeTable, held}

@@ -1,18 +1,12 @@
 -- Demand 3 in the paper's form: the walk is refused exactly if a buffer is too small, and else comes to what the table says. Rests on WalkWhole.
-use mathlib.Core.Path.{_≡_, refl}
-use mathlib.Core.Logic.{_⊎_, inl, inr, ⊎-elim}
-use mathlib.Core.Bool.{Bool, true, false, _||_}
-use mathlib.Core.List.{[], _∷_, _++_}
-use Prim.Native.Nat.{ℕ}
-use native.Mathlib.Omega.{arith}
-use lib.Dec.{ltb}
-use lib.ListN.{length}
-use borrow.Author.Tests.{ltb-true, ltb-false}
+use Rattle.listing_rules.proofs.Prelude.{_≡_, refl, Bool, _||_, false, true, _⊎_, inl, inr, ⊎-elim, [], _++_, _∷_, ℕ, arith, ltb, length}
+use Rattle.listing_rules.proofs.Prelude.{ltb-false, ltb-true}
 use Rattle.listing_rules.specs.Bytes.{slash, oneOf}
 use Rattle.listing_rules.specs.Lists.{anyOf}
 use Rattle.listing_rules.specs.Table.{Table, rows, passes}
 use Rattle.listing_rules.specs.Walk.{lawfulByte, walk, walkRefused, packed}
-use Rattle.listing_rules.specs.Demand3.{Demand3, declaredWalk, meetingNames, meetingAncestors, walkAnswer, scratchTooSmall, foundTooSmall, pendingTooSmall, tooSmall}
+use Rattle.listing_rules.specs.Demand3.{Demand3, declaredWalk, meetingNames, meetingAncestors, walkAnswer, scratchTooSmall, foundTooSmall}
+use Rattle.listing_rules.specs.Demand3.{pendingTooSmall, tooSmall}
 use Rattle.listing_rules.proofs.Bools.{or-cases, or-none-l, or-none-r}
 use Rattle.listing_rules.proofs.ListLaws.{some-mem, none-mem}
 use Rattle.listing_rules.proofs.Levels.{Name}

@@ -1,15 +1,9 @@
 -- Name bytes that are written over (W6): the area keeps its length, names apart from them stay, and what is written is read; a free run is apart
 -- from every name. Rests on FreeRuns and ListLaws.
-use mathlib.Core.Path.{_≡_, refl, sym, ap, _∙_}
-use mathlib.Core.Logic.{_⊎_, inl, inr, ⊎-elim}
-use mathlib.Core.Bool.{Bool, true, false, _||_, false≢true}
-use mathlib.Core.List.{List, [], _∷_, _++_, append-assoc, List·Memᴰ}
-use Prim.Native.Nat.{ℕ, _+_, _-_, _≤_, _<_}
-use native.Mathlib.Omega.{arith}
-use lib.Dec.{leb, ltb}
-use lib.ListN.{length, take, drop, length-append, length-drop, take-append-drop}
-use lib.Seq.{length-take-le, take-append-le, drop-append-le, drop-append-add, drop-drop, drop-at, take-append-seam}
-use borrow.Author.Tests.{leb-true, leb-false, le-leb, lt-ltb}
+use Rattle.listing_rules.proofs.Prelude.{_∙_, _≡_, ap, refl, sym, Bool, _||_, false, false≢true, true, _⊎_, inl, inr, ⊎-elim, List, List·Memᴰ}
+use Rattle.listing_rules.proofs.Prelude.{[], _++_, _∷_, append-assoc, _+_, _-_, _<_, _≤_, ℕ, arith, leb, ltb, drop, length, length-append}
+use Rattle.listing_rules.proofs.Prelude.{length-drop, take, take-append-drop, drop-append-add, drop-append-le, drop-at, drop-drop}
+use Rattle.listing_rules.proofs.Prelude.{length-take-le, take-append-le, take-append-seam, le-leb, leb-false, leb-true, lt-ltb}
 use Rattle.listing_rules.specs.Lists.{every}
 use Rattle.listing_rules.specs.Records.{Record, rowOf, recordRows, apart}
 use Rattle.listing_rules.specs.Subscriptions.{Store, held, uses, overwritten}

@@ -1,12 +1,6 @@
 -- Flags with the subscription set or cleared (W6): the other flags stay, and lawful flags stay lawful. Rests on Bools.
-use mathlib.Core.Path.{_≡_, refl, sym, ap, _∙_}
-use mathlib.Core.Logic.{⊎-elim}
-use mathlib.Core.Bool.{Bool, true, false, cond, _&&_, _||_, not, false≢true}
-use Prim.Native.Nat.{ℕ, _+_, _-_, _/_, _%_}
-use native.Mathlib.Nat.{div-one}
-use native.Mathlib.Omega.{arith}
-use lib.Dec.{eqb}
-use borrow.Author.Tests.{eqb-true, eqb-false, eq-eqb, ne-eqb}
+use Rattle.listing_rules.proofs.Prelude.{_∙_, _≡_, ap, refl, sym, Bool, _&&_, _||_, cond, false, false≢true, not, true, ⊎-elim, _%_, _+_, _-_}
+use Rattle.listing_rules.proofs.Prelude.{_/_, ℕ, div-one, arith, eqb, eq-eqb, eqb-false, eqb-true, ne-eqb}
 use Rattle.listing_rules.specs.Bytes.{bit}
 use Rattle.listing_rules.specs.Flags.{exists, subscribed, noInferiors, marked, unmarked, lawfulFlags}
 use Rattle.listing_rules.specs.Subscriptions.{withSubscribed, withoutSubscribed}

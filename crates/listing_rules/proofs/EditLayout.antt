@@ -1,14 +1,8 @@
 -- Records of which one is put in or taken out (W6): the others stay without overlap; what `flagged`, `inserted` and `removed` make of the records,
 -- as the parts before and after the place, and the spare ones. Rests on EditBytes and EditLists.
-use mathlib.Core.Path.{_≡_, refl, sym, ap, _∙_}
-use mathlib.Core.Bool.{Bool, true, _&&_}
-use mathlib.Core.List.{List, [], _∷_, _++_, append-assoc}
-use Prim.Native.Nat.{ℕ, zero, suc, _+_, _≤_}
-use native.Mathlib.Omega.{arith}
-use lib.Dec.{leb}
-use lib.ListN.{length, take, drop, getD, length-append, take-append-drop}
-use lib.Seq.{length-take-le, take-append-seam, drop-append-seam, getD-append-seam, drop-drop, take-at, drop-at}
-use borrow.Author.Tests.{leb-true, le-leb}
+use Rattle.listing_rules.proofs.Prelude.{_∙_, _≡_, ap, refl, sym, Bool, _&&_, true, List, [], _++_, _∷_, append-assoc, _+_, _≤_, suc, ℕ, arith}
+use Rattle.listing_rules.proofs.Prelude.{leb, drop, getD, length, length-append, take, take-append-drop, drop-append-seam, drop-at, drop-drop}
+use Rattle.listing_rules.proofs.Prelude.{getD-append-seam, length-take-le, take-append-seam, take-at, le-leb, leb-true}
 use Rattle.listing_rules.specs.Lists.{every}
 use Rattle.listing_rules.specs.Records.{Record, liesInside, apart, allApart, laidOut}
 use Rattle.listing_rules.specs.Subscriptions.{Store, held, zeroRecord, nth, flagged, inserted, removed}

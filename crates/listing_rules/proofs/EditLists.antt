@@ -1,9 +1,7 @@
 -- Lists in parts, of which one is put in the place of another: tests, members, kept members and order. Rests on ListLaws and Sorted.
-use mathlib.Core.Path.{_≡_, refl, ap}
-use mathlib.Core.Logic.{_⊎_, inl, inr, ⊎-elim}
-use mathlib.Core.Bool.{Bool, true, false, cond, _||_}
-use mathlib.Core.List.{List, [], _∷_, _++_, List·Memᴰ, List·Memᴰ·head, List·Memᴰ·tail, List·Memᴰ·append-cases, Memᴰ·append-left, Memᴰ·append-right}
-use Prim.Native.Nat.{ℕ, Ordering}
+use Rattle.listing_rules.proofs.Prelude.{_≡_, ap, refl, Bool, _||_, cond, false, true, _⊎_, inl, inr, ⊎-elim, List, List·Memᴰ}
+use Rattle.listing_rules.proofs.Prelude.{List·Memᴰ·append-cases, List·Memᴰ·head, List·Memᴰ·tail, Memᴰ·append-left, Memᴰ·append-right, [], _++_}
+use Rattle.listing_rules.proofs.Prelude.{_∷_, Ordering, ℕ}
 use Rattle.listing_rules.specs.Lists.{every, anyOf, keep}
 use Rattle.listing_rules.specs.Orders.{byteOrder, isLt, ascendsFrom, ascends}
 use Rattle.listing_rules.proofs.Bools.{and-l, and-r, and-i}

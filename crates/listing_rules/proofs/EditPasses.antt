@@ -1,16 +1,9 @@
 -- A store that passes, after the flag of a row is set or cleared, a row 0002 is put in, or one is taken out (W6): it passes, has the same sizes,
 -- and differs in the row of that name alone. Rests on EditRows, EditPlaces and EditLayout.
-use mathlib.Core.Path.{_≡_, refl, sym, ap, _∙_, subst}
-use mathlib.Core.Bool.{Bool, true, false, cond, _&&_, _||_, not, false≢true}
-use mathlib.Core.List.{List, [], _∷_, _++_, map, map-append, List·Memᴰ, List·Memᴰ·head, List·Memᴰ·not-nil, List·Memᴰ·cases-cons, Memᴰ·append-right}
-use mathlib.Core.Logic.{⊎-elim}
-use mathlib.Core.Option.{none, some}
-use Prim.Native.Nat.{ℕ, _+_, _≤_, _<_}
-use native.Mathlib.Omega.{arith}
-use lib.Dec.{leb}
-use lib.ListN.{length, take, drop, replicate, length-map, length-take, length-replicate}
-use lib.Seq.{length-take-le}
-use borrow.Author.Tests.{leb-true, le-leb, not-true}
+use Rattle.listing_rules.proofs.Prelude.{_∙_, _≡_, ap, refl, subst, sym, Bool, _&&_, _||_, cond, false, false≢true, not, true, ⊎-elim, none}
+use Rattle.listing_rules.proofs.Prelude.{some, List, List·Memᴰ, List·Memᴰ·cases-cons, List·Memᴰ·head, List·Memᴰ·not-nil, Memᴰ·append-right, []}
+use Rattle.listing_rules.proofs.Prelude.{_++_, _∷_, map, map-append, _+_, _<_, _≤_, ℕ, arith, leb, drop, length, length-map, length-replicate}
+use Rattle.listing_rules.proofs.Prelude.{length-take, replicate, take, length-take-le, le-leb, leb-true, not-true}
 use Rattle.listing_rules.specs.Bytes.{same}
 use Rattle.listing_rules.specs.Lists.{every, anyOf}
 use Rattle.listing_rules.specs.Orders.{byteOrder}
@@ -18,7 +11,8 @@ use Rattle.listing_rules.specs.Names.{lawfulName, below}
 use Rattle.listing_rules.specs.Flags.{noInferiors, lawfulFlags}
 use Rattle.listing_rules.specs.Table.{Row, names, noneBelow, passes}
 use Rattle.listing_rules.specs.Records.{Record, rowOf, recordRows, liesInside, apart, laidOut, recordTable}
-use Rattle.listing_rules.specs.Subscriptions.{Store, storeTable, held, storeRows, belowNoInferiors, overwritten, zeroRecord, flagged, inserted, removed}
+use Rattle.listing_rules.specs.Subscriptions.{Store, storeTable, held, storeRows, belowNoInferiors, overwritten, zeroRecord, flagged, inserted}
+use Rattle.listing_rules.specs.Subscriptions.{removed}
 use Rattle.listing_rules.proofs.Bools.{and-l, and-r, and-i}
 use Rattle.listing_rules.proofs.Keys.{openBytes, openFlags}
 use Rattle.listing_rules.proofs.ListLaws.{every-mem, mem-every, every-left, none-mem, mem-map, same-refl}

@@ -1,11 +1,7 @@
 -- The place of a name among records whose names ascend (W6): `rowsBefore` counts the lower names; at that place stands the name's own record, or
 -- the first of a higher name. Rests on EditLists.
-use mathlib.Core.Path.{_≡_, refl, sym, ap, _∙_, subst}
-use mathlib.Core.Logic.{_⊎_, inl, inr}
-use mathlib.Core.Bool.{Bool, true, false, _||_, false≢true}
-use mathlib.Core.List.{List, [], _∷_, _++_}
-use Prim.Native.Nat.{ℕ, suc, Ordering, Ordering·lt, Ordering·eq, Ordering·gt}
-use lib.ListN.{length}
+use Rattle.listing_rules.proofs.Prelude.{_∙_, _≡_, ap, refl, subst, sym, Bool, _||_, false, false≢true, true, _⊎_, inl, inr, List, [], _++_}
+use Rattle.listing_rules.proofs.Prelude.{_∷_, Ordering, Ordering·eq, Ordering·gt, Ordering·lt, suc, ℕ, length}
 use Rattle.listing_rules.specs.Bytes.{same}
 use Rattle.listing_rules.specs.Lists.{every, anyOf, keep}
 use Rattle.listing_rules.specs.Orders.{byteOrder, isLt}

@@ -1,10 +1,7 @@
 -- W9 over W6 and W7: an accepted edit leaves each reader the other rows, decides the rows that the reader sees then from those before it, and does
 -- so alike where the names were moved together first. Rests on SubscriptionLaws, ReaderLaws and CompactionLaws.
-use mathlib.Core.Path.{_≡_, refl, sym, ap, _∙_}
-use mathlib.Core.Bool.{Bool, true, false, cond, _||_, not, or-false}
-use mathlib.Core.List.{List, [], _∷_, _++_, map, map-append}
-use Prim.Native.Nat.{ℕ}
-use lib.ListN.{drop, getD}
+use Rattle.listing_rules.proofs.Prelude.{_∙_, _≡_, ap, refl, sym, Bool, _||_, cond, false, not, or-false, true, List, [], _++_, _∷_, map}
+use Rattle.listing_rules.proofs.Prelude.{map-append, ℕ, drop, getD}
 use Rattle.listing_rules.specs.Bytes.{same, bit}
 use Rattle.listing_rules.specs.Lists.{every, anyOf, keep}
 use Rattle.listing_rules.specs.Orders.{byteOrder, isLt}

@@ -1,12 +1,8 @@
 -- Rows of which the one of a name is put in, taken out or changed (W6): the others stay, the rows still pass, and of the subscribed names no other
 -- comes or goes. Rests on EditLists and Passes.
-use mathlib.Core.Path.{_≡_, refl, sym, ap, _∙_, subst}
-use mathlib.Core.Logic.{_⊎_, inl, inr, ⊎-elim}
-use mathlib.Core.Bool.{Bool, true, false, cond, _&&_, _||_, not, false≢true, or-false, and-true}
-use mathlib.Core.List.{List, [], _∷_, _++_, map, map-append, List·Memᴰ, List·Memᴰ·head, List·Memᴰ·tail, List·Memᴰ·append-cases, append-nil}
-use Prim.Native.Nat.{ℕ, _≤_, Ordering·lt}
-use lib.ListN.{length}
-use borrow.Author.Tests.{not-true}
+use Rattle.listing_rules.proofs.Prelude.{_∙_, _≡_, ap, refl, subst, sym, Bool, _&&_, _||_, and-true, cond, false, false≢true, not, or-false}
+use Rattle.listing_rules.proofs.Prelude.{true, _⊎_, inl, inr, ⊎-elim, List, List·Memᴰ, List·Memᴰ·append-cases, List·Memᴰ·head, List·Memᴰ·tail}
+use Rattle.listing_rules.proofs.Prelude.{[], _++_, _∷_, append-nil, map, map-append, Ordering·lt, _≤_, ℕ, length, not-true}
 use Rattle.listing_rules.specs.Bytes.{same}
 use Rattle.listing_rules.specs.Lists.{every, anyOf, keep}
 use Rattle.listing_rules.specs.Orders.{byteOrder, isLt}
@@ -18,7 +14,8 @@ use Rattle.listing_rules.proofs.ListLaws.{every-mem, mem-every, none-me
 use Rattle.listing_rules.proofs.Order.{bytes-total}
 use Rattle.listing_rules.proofs.Sorted.{Asc, asc-append, irrefl, lt-true, ascends-asc}
 use Rattle.listing_rules.proofs.Passes.{TableParts}
-use Rattle.listing_rules.proofs.EditLists.{any-append, mem-none, keep-append, keep-none, keep-all, every-swapped, mem-swapped, asc-left, asc-right, asc-ascends}
+use Rattle.listing_rules.proofs.EditLists.{any-append, mem-none, keep-append, keep-none, keep-all, every-swapped, mem-swapped, asc-left}
+use Rattle.listing_rules.proofs.EditLists.{asc-right, asc-ascends}
 
 -- Rows before and after an edit of the name n: those of lower and of higher names stay, in their order.
 pub record Change (rs qs : List Row) (n : List ℕ) : Type 0 where

@@ -1,22 +1,16 @@
 -- The feeder: how its bytes are cut into chunks does not matter; and a line that announces no literal has document 01's shape. Rests on TokenLaws
 -- and ListLaws.
-use mathlib.Core.Path.{_≡_, refl, sym, ap, _∙_}
-use mathlib.Core.Bool.{Bool, true, false, cond, _&&_, _||_, not, or-false, false≢true}
-use mathlib.Core.List.{List, [], _∷_, _++_, append-assoc, append-nil}
-use mathlib.Core.Option.{Option, none, some, Option·none-ne-some}
-use Prim.Native.Nat.{ℕ, suc, _+_, _-_, _≤_}
-use native.Mathlib.Omega.{arith}
-use lib.Dec.{eqb, leb}
-use lib.ListN.{length, take, length-append}
-use lib.Seq.{take-append-seam}
-use borrow.Author.Tests.{not-true, le-leb, leb-true, eq-eqb, ne-eqb, eqb-true}
-use Rattle.listing_rules.specs.Bytes.{text, crlf, same, all, within, isEmpty}
+use Rattle.listing_rules.proofs.Prelude.{_∙_, _≡_, ap, refl, sym, Bool, _&&_, _||_, cond, false, false≢true, not, or-false, true, Option}
+use Rattle.listing_rules.proofs.Prelude.{Option·none-ne-some, none, some, List, [], _++_, _∷_, append-assoc, append-nil, _+_, _-_, _≤_, suc, ℕ}
+use Rattle.listing_rules.proofs.Prelude.{arith, eqb, leb, length, length-append, take, take-append-seam, eq-eqb, eqb-true, le-leb, leb-true}
+use Rattle.listing_rules.proofs.Prelude.{ne-eqb, not-true}
+use Rattle.listing_rules.specs.Bytes.{crlf, same, all, within, isEmpty}
 use Rattle.listing_rules.proofs.Keys.{openBytes}
 use Rattle.listing_rules.specs.Lists.{joined}
 use Rattle.listing_rules.specs.Tokens.{got, run₁, digitByte, decimal, number, lineByte}
-use Rattle.listing_rules.specs.Feeder.{AfterByte, stillOne, gives, offends, refusing, lineEnded, textByte, endsLine, lastIs, announcedAt, orElse}
-use Rattle.listing_rules.specs.Feeder.{announced, Event, quiet, handed, goOn, denied, Feeder, reading, first, fedByte, Feeding, saying, feedAll}
-use Rattle.listing_rules.specs.Feeder.{feedChunks, allowed, oneCommand}
+use Rattle.listing_rules.specs.Feeder.{AfterByte, stillOne, gives, offends, refusing, lineEnded, textByte, endsLine, lastIs, announcedAt}
+use Rattle.listing_rules.specs.Feeder.{orElse, announced, Event, quiet, handed, goOn, denied, Feeder, reading, first, fedByte, Feeding, saying}
+use Rattle.listing_rules.specs.Feeder.{feedAll, feedChunks, allowed, oneCommand}
 use Rattle.listing_rules.specs.Command.{lineText}
 use Rattle.listing_rules.proofs.Bools.{and-l, and-r}
 use Rattle.listing_rules.proofs.ListLaws.{empty-true, same-true}

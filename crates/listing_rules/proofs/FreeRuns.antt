@@ -1,15 +1,8 @@
 -- The free bytes of an area (W6): what `freeRun` gives is free from its start for the whole length, no lower start has as many free bytes, and it
 -- gives none exactly if no start has. Rests on the library alone.
-use mathlib.Core.Path.{_≡_, refl, sym, ap, _∙_, subst}
-use mathlib.Core.Bool.{Bool, true, false, cond, not, false≢true}
-use mathlib.Core.List.{List, [], _∷_}
-use mathlib.Core.Option.{Option, none, some, Option·none-ne-some, Option·some-injective}
-use Prim.Native.Nat.{ℕ, zero, suc, _+_, _-_, _≤_, _<_}
-use native.Mathlib.Omega.{arith}
-use lib.Dec.{leb}
-use lib.ListN.{length, drop, getD, length-drop}
-use lib.Seq.{getD-drop}
-use borrow.Author.Tests.{leb-true, leb-false, not-true}
+use Rattle.listing_rules.proofs.Prelude.{_∙_, _≡_, ap, refl, subst, sym, Bool, cond, false, false≢true, not, true, Option, Option·none-ne-some}
+use Rattle.listing_rules.proofs.Prelude.{Option·some-injective, none, some, List, [], _∷_, _+_, _-_, _<_, _≤_, suc, zero, ℕ, arith, leb, drop}
+use Rattle.listing_rules.proofs.Prelude.{getD, length, length-drop, getD-drop, leb-false, leb-true, not-true}
 use Rattle.listing_rules.specs.Lists.{anyOf}
 use Rattle.listing_rules.specs.Records.{Record}
 use Rattle.listing_rules.specs.Subscriptions.{Store, held, uses, freeFrom, freeFront, lowestRun, freeRun}

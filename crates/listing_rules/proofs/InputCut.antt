@@ -1,7 +1,5 @@
 -- How the input is cut into pieces does not matter: the answers to two pieces, fed one after the other, are those to the whole. Rests on the library alone.
-use mathlib.Core.Path.{_≡_, refl, sym, ap, _∙_}
-use mathlib.Core.List.{List, [], _∷_, _++_, append-assoc}
-use Prim.Native.Nat.{ℕ}
+use Rattle.listing_rules.proofs.Prelude.{_∙_, _≡_, ap, refl, sym, List, [], _++_, _∷_, append-assoc, ℕ}
 use Rattle.listing_rules.specs.Frames.{Session, Fed, fed, behind, fedAll}
 
 -- answers behind answers

@@ -1,56 +1,53 @@
 -- Keys that open the definitions of a file of specs/ for a proof by computation: a proof that unfolds a key unfolds every definition that the key
 -- names. Rests on the definitions alone.
-use Rattle.listing_rules.specs.Bytes.{text, slash, quote, backslash, crlf, bit, within, oneOf, all, isEmpty, same, raise}
-use Rattle.listing_rules.specs.Bytes.{raised, spells}
+use Rattle.listing_rules.specs.Bytes.{text, slash, quote, backslash, crlf, bit, within, oneOf, all, isEmpty, same, raise, raised, spells}
 use Rattle.listing_rules.specs.Lists.{every, anyOf, keep, joined, onFirst}
 use Rattle.listing_rules.specs.Orders.{thenBy, lexBy, byteOrder, isLt, ascendsFrom, ascends, placed, insert, sorted}
-use Rattle.listing_rules.specs.Names.{levels, properAncestors, below, levelOrder, walkOrder, inbox, nameByte, isFull, inboxSpelled}
-use Rattle.listing_rules.specs.Names.{lawfulName}
+use Rattle.listing_rules.specs.Names.{levels, properAncestors, below, levelOrder, walkOrder, inbox, nameByte, isFull, inboxSpelled, lawfulName}
 use Rattle.listing_rules.specs.Flags.{exists, subscribed, remote, noSelect, noInferiors, marked, unmarked, uses, hasUse, lawfulFlags}
-use Rattle.listing_rules.specs.Table.{rows, names, noneBelow, rowsPass, passes, rowAt, rowsAfter, packedRows, rowsFill, packedTable, hasRow, flagsOf}
+use Rattle.listing_rules.specs.Table.{rows, names, noneBelow, rowsPass, passes, rowAt, rowsAfter, packedRows, rowsFill, packedTable, hasRow}
+use Rattle.listing_rules.specs.Table.{flagsOf}
 use Rattle.listing_rules.specs.Records.{rowOf, recordRows, liesInside, apart, allApart, laidOut, recordTable, recordsAfter, packedRecords}
 use Rattle.listing_rules.specs.Readers.{isReader, sees, visible, seen, recordsSeen, packedSeen}
-use Rattle.listing_rules.specs.Subscriptions.{storeTable, storeSeen, held, storeRows, spelledAs, spelled, rowsBefore, belowNoInferiors, uses as usesByte}
-use Rattle.listing_rules.specs.Subscriptions.{freeFrom, freeFront, lowestRun, freeRun, overwritten, withSubscribed, withoutSubscribed, zeroRecord}
-use Rattle.listing_rules.specs.Subscriptions.{nth, flagged, inserted, removed, insertion, subscribing, unsubscribing, edited, storeAfter, isIn}
-use Rattle.listing_rules.specs.Subscriptions.{subscribedNames, setEdited, setAfter, editedAll, setAll}
-use Rattle.listing_rules.specs.Namespaces.{entryAt, entriesAfter, entries, entriesFill, lawfulEntry, classesRise, ofClass}
-use Rattle.listing_rules.specs.Namespaces.{namespacesPass}
-use Rattle.listing_rules.specs.Tokens.{got, _>>=_, at, after, withFirst, atomByte, tagByte, astringByte, patternByte, run}
-use Rattle.listing_rules.specs.Tokens.{unlessEmpty, run₁, atom, unquoted, lineByte, quotedText, digitByte, decimal, number, literal}
-use Rattle.listing_rules.specs.Tokens.{stringOr, astring, pattern}
-use Rattle.listing_rules.specs.Feeder.{endsLine, lastIs, announcedAt, orElse, announced, goOnLine, first, gives, dropped, offends}
-use Rattle.listing_rules.specs.Feeder.{refusing, awaiting, lineEnded, textByte, fedByte, saying, feedAll, feedChunks, allowed}
-use Rattle.listing_rules.specs.Feeder.{stillOne, oneCommand}
+use Rattle.listing_rules.specs.Subscriptions.{storeTable, storeSeen, held, storeRows, spelledAs, spelled, rowsBefore, belowNoInferiors}
+use Rattle.listing_rules.specs.Subscriptions.{uses as usesByte, freeFrom, freeFront, lowestRun, freeRun, overwritten, withSubscribed}
+use Rattle.listing_rules.specs.Subscriptions.{withoutSubscribed, zeroRecord, nth, flagged, inserted, removed, insertion, subscribing}
+use Rattle.listing_rules.specs.Subscriptions.{unsubscribing, edited, storeAfter, isIn, subscribedNames, setEdited, setAfter, editedAll, setAll}
+use Rattle.listing_rules.specs.Namespaces.{entryAt, entriesAfter, entries, entriesFill, lawfulEntry, classesRise, ofClass, namespacesPass}
+use Rattle.listing_rules.specs.Tokens.{got, _>>=_, at, after, withFirst, atomByte, tagByte, astringByte, patternByte, run, unlessEmpty, run₁}
+use Rattle.listing_rules.specs.Tokens.{atom, unquoted, lineByte, quotedText, digitByte, decimal, number, literal, stringOr, astring, pattern}
+use Rattle.listing_rules.specs.Feeder.{endsLine, lastIs, announcedAt, orElse, announced, goOnLine, first, gives, dropped, offends, refusing}
+use Rattle.listing_rules.specs.Feeder.{awaiting, lineEnded, textByte, fedByte, saying, feedAll, feedChunks, allowed, stillOne, oneCommand}
 use Rattle.listing_rules.specs.Options.{lawfulOptions, noCriteria, isNone, lawfulCriteria, criteriaOf, criteriaNumber, criteria}
-use Rattle.listing_rules.specs.Command.{lineText, valueRest, option, parted, options, patterns, selectionPart, returnPart, isSome}
-use Rattle.listing_rules.specs.Command.{listArgs, extended, selectionWords, returnWords, knownIn, named, optionsOf, canonical}
-use Rattle.listing_rules.specs.Command.{fewPatterns, isEdit, asksRoot, judged, lsubArgs, judgedLsub, nameArg, orRefuse, worded, tagged, parsed}
+use Rattle.listing_rules.specs.Command.{lineText, valueRest, option, parted, options, patterns, selectionPart, returnPart, isSome, listArgs}
+use Rattle.listing_rules.specs.Command.{extended, selectionWords, returnWords, knownIn, named, optionsOf, canonical, fewPatterns, isEdit}
+use Rattle.listing_rules.specs.Command.{asksRoot, judged, lsubArgs, judgedLsub, nameArg, orRefuse, worded, tagged, parsed}
 use Rattle.listing_rules.specs.Match.{anyTail, anyTailInLevel, headThen, wildMatch, matches, matchesAny}
-use Rattle.listing_rules.specs.Listing.{candidates, implied, meetsCriteria, candidateMeets, meetsBelow, meetsUnmatchedBelow}
-use Rattle.listing_rules.specs.Listing.{unselective, endsInPercent, levelAbove, listed, childInfo, hasChildren, inOrder}
-use Rattle.listing_rules.specs.Listing.{attributesFor, attributes, listedNames}
-use Rattle.listing_rules.specs.Lines.{attributeNames, chosen, spacedTail, spaced, escaped, quoted, criteriaNames, criteriaText}
-use Rattle.listing_rules.specs.Lines.{childInfoText, wordLine, listLine, rootLine, okLine}
-use Rattle.listing_rules.specs.Lsub.{isSubscribed, subscribedMatch, subscribedBelow, aboveSubscribed, lsubListed, lsubNames, lsubAttributes, lsubLine}
+use Rattle.listing_rules.specs.Listing.{candidates, implied, meetsCriteria, candidateMeets, meetsBelow, meetsUnmatchedBelow, unselective}
+use Rattle.listing_rules.specs.Listing.{endsInPercent, levelAbove, listed, childInfo, hasChildren, inOrder, attributesFor, attributes}
+use Rattle.listing_rules.specs.Listing.{listedNames}
+use Rattle.listing_rules.specs.Lines.{attributeNames, chosen, spacedTail, spaced, escaped, quoted, criteriaNames, criteriaText, childInfoText}
+use Rattle.listing_rules.specs.Lines.{wordLine, listLine, rootLine, okLine}
+use Rattle.listing_rules.specs.Lsub.{isSubscribed, subscribedMatch, subscribedBelow, aboveSubscribed, lsubListed, lsubNames, lsubAttributes}
+use Rattle.listing_rules.specs.Lsub.{lsubLine}
 use Rattle.listing_rules.specs.Server.{lineOf, listAnswer, lsubAnswer, delimiterText, entryText, classText, namespaceAnswer, answerTo, answer}
-use Rattle.listing_rules.specs.Server.{limited, bufferAfter, numberOf, isAnswered, lengthOf, served, fromReader, servedTo}
-use Rattle.listing_rules.specs.Server.{attempted, unchangedBy, concluded, commandedOver, commanded}
+use Rattle.listing_rules.specs.Server.{limited, bufferAfter, numberOf, isAnswered, lengthOf, served, fromReader, servedTo, attempted}
+use Rattle.listing_rules.specs.Server.{unchangedBy, concluded, commandedOver, commanded}
 use Rattle.listing_rules.specs.Series.{sentTo, commandedAll, setCommanded, setSent}
 use Rattle.listing_rules.specs.Compaction.{usedFrom, placeAfter, moved, compacted, compaction}
 use Rattle.listing_rules.specs.Reader.{separated, readChosen, criteriaSets, readAmong, childInfoRead, readParts, orBad, readLine}
-use Rattle.listing_rules.specs.Reader.{rootAttributes, attributesRead, nameRead, childInfoOf, readNumber, nameBytes, sameBools}
-use Rattle.listing_rules.specs.Reader.{rootParts, lineFrom, written}
-use Rattle.listing_rules.specs.Walk.{wantsRemote, wantsSpecial, dropsSubscribed, lawfulByte, when, commandLine, linesOf, packed}
-use Rattle.listing_rules.specs.Walk.{_then_, attr, useAttr, isFind, withName, fits, takenIn, takenAll, replied, asked}
-use Rattle.listing_rules.specs.Walk.{walkFrom, walkAll, ended, walk, walkNumber, walkCount, foundLength, zeroBehind, foundAfter}
-use Rattle.listing_rules.specs.Walk.{pendingAfter, scratchAfter, collected, walkBy, collectedBy}
-use Rattle.listing_rules.specs.Demand3.{walkOptions, meetingNames, meetingAncestors, declaredWalk, walkAnswer, scratchTooSmall}
-use Rattle.listing_rules.specs.Demand3.{foundTooSmall, pendingTooSmall, tooSmall, Demand3}
+use Rattle.listing_rules.specs.Reader.{rootAttributes, attributesRead, nameRead, childInfoOf, readNumber, nameBytes, sameBools, rootParts}
+use Rattle.listing_rules.specs.Reader.{lineFrom, written}
+use Rattle.listing_rules.specs.Walk.{wantsRemote, wantsSpecial, dropsSubscribed, lawfulByte, when, commandLine, linesOf, packed, _then_, attr}
+use Rattle.listing_rules.specs.Walk.{useAttr, isFind, withName, fits, takenIn, takenAll, replied, asked, walkFrom, walkAll, ended, walk}
+use Rattle.listing_rules.specs.Walk.{walkNumber, walkCount, foundLength, zeroBehind, foundAfter, pendingAfter, scratchAfter, collected, walkBy}
+use Rattle.listing_rules.specs.Walk.{collectedBy}
+use Rattle.listing_rules.specs.Demand3.{walkOptions, meetingNames, meetingAncestors, declaredWalk, walkAnswer, scratchTooSmall, foundTooSmall}
+use Rattle.listing_rules.specs.Demand3.{pendingTooSmall, tooSmall, Demand3}
 use Rattle.listing_rules.specs.Frames.{digit, bytesOf, commandFrame, walkFrame, frameOf, readFrame, hexDigit, hex, answerLine, refusalLine}
-use Rattle.listing_rules.specs.Frames.{replyLine, walkLine, answering, addRow, addEntry, framed, step, start, fed, behind, fedAll}
-use Rattle.listing_rules.specs.Frames.{atEnd, programOutput, recordsFrom, filledTo, programStore, keptSeen, keptStore}
-use Rattle.listing_rules.specs.Frames.{addRowTo, commandOver, accepted, commandStep}
+use Rattle.listing_rules.specs.Frames.{replyLine, walkLine, answering, addRow, addEntry, framed, step, start, fed, behind, fedAll, atEnd}
+use Rattle.listing_rules.specs.Frames.{programOutput, recordsFrom, filledTo, programStore, keptSeen, keptStore, addRowTo, commandOver, accepted}
+use Rattle.listing_rules.specs.Frames.{commandStep}
 
 unfoldable pub openBytes : Unit {0}
 unfolding text slash quote backslash crlf bit within oneOf all isEmpty same raise raised spells

@@ -1,12 +1,6 @@
 -- A proper ancestor of a lawful name is lawful. Rests on Levels and ListLaws.
-use mathlib.Core.Path.{_≡_, ap, subst}
-use mathlib.Core.Bool.{true, _&&_, not, false≢true}
-use mathlib.Core.List.{List, [], _∷_, _++_}
-use Prim.Native.Nat.{ℕ, _≤_}
-use native.Mathlib.Omega.{arith}
-use lib.Dec.{eqb, leb}
-use lib.ListN.{length, length-append}
-use borrow.Author.Tests.{eqb-true, leb-true, le-leb}
+use Rattle.listing_rules.proofs.Prelude.{_≡_, ap, subst, _&&_, false≢true, not, true, List, [], _++_, _∷_, _≤_, ℕ, arith, eqb, leb, length}
+use Rattle.listing_rules.proofs.Prelude.{length-append, eqb-true, le-leb, leb-true}
 use Rattle.listing_rules.specs.Bytes.{slash, all, within}
 use Rattle.listing_rules.specs.Lists.{every}
 use Rattle.listing_rules.specs.Names.{levels, below, lawfulName, nameByte, isFull, inboxSpelled}

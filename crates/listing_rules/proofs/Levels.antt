@@ -1,13 +1,7 @@
 -- The levels of a name and of its child; walk order between the children that two names of one depth have. Rests on Order and Percent.
-use mathlib.Core.Logic.{_⊎_, inl, inr}
-use mathlib.Core.Path.{_≡_, refl, sym, ap, _∙_}
-use mathlib.Core.Bool.{Bool, true, false, cond, not}
-use mathlib.Core.List.{List, [], _∷_, _++_}
-use Prim.Native.Nat.{ℕ, _+_, compare, Ordering, Ordering·lt, Ordering·eq, Ordering·gt}
-use native.Mathlib.Omega.{arith}
-use lib.Dec.{eqb}
-use lib.ListN.{length, length-append}
-use borrow.Author.Tests.{eqb-true, eq-eqb, not-true}
+use Rattle.listing_rules.proofs.Prelude.{_∙_, _≡_, ap, refl, sym, Bool, cond, false, not, true, _⊎_, inl, inr, List, [], _++_, _∷_, Ordering}
+use Rattle.listing_rules.proofs.Prelude.{Ordering·eq, Ordering·gt, Ordering·lt, _+_, compare, ℕ, arith, eqb, length, length-append, eq-eqb}
+use Rattle.listing_rules.proofs.Prelude.{eqb-true, not-true}
 use Rattle.listing_rules.specs.Bytes.{all, slash}
 use Rattle.listing_rules.proofs.Keys.{openBytes}
 use Rattle.listing_rules.specs.Lists.{onFirst}

@@ -1,4 +1,5 @@
 -- The laws of the definitions, one file a topic; each file rests on files before it.
+pub mod Prelude
 pub mod Keys
 pub mod Bools
 pub mod ListLaws

@@ -1,14 +1,6 @@
 -- A line that is one command has at most 2,048 bytes. Rests on Bools.
-use mathlib.Core.Path.{_≡_, refl, _∙_, sym}
-use mathlib.Core.Bool.{Bool, true, false, cond, not, _||_, false≢true}
-use mathlib.Core.List.{List, [], _∷_, _++_}
-use mathlib.Core.Option.{Option, none, some}
-use Prim.Native.Nat.{ℕ, suc, _+_, _-_, _≤_}
-use native.Mathlib.Numerals.{add-one}
-use native.Mathlib.Omega.{arith}
-use lib.Dec.{eqb, leb}
-use lib.ListN.{length, take, length-append}
-use borrow.Author.Tests.{leb-true}
+use Rattle.listing_rules.proofs.Prelude.{_∙_, _≡_, refl, sym, Bool, _||_, cond, false, false≢true, not, true, Option, none, some, List, []}
+use Rattle.listing_rules.proofs.Prelude.{_++_, _∷_, _+_, _-_, _≤_, suc, ℕ, add-one, arith, eqb, leb, length, length-append, take, leb-true}
 use Rattle.listing_rules.specs.Bytes.{isEmpty}
 use Rattle.listing_rules.specs.Command.{lineText, parsed, orRefuse, isEdit, tagged}
 use Rattle.listing_rules.specs.Feeder.{Feeder, reading, inLiteral, dropping, first, AfterByte, quiet, goOn, denied, gives, offends, refusing}

@@ -1,15 +1,9 @@
 -- Lists: what a test over a list says of its members, which members a list that is kept, mapped, joined or appended has, and a part of a list that
 -- is mapped. Rests on Bools.
-use mathlib.Core.Path.{_≡_, refl, sym, ap, _∙_, subst}
-use mathlib.Core.Logic.{_⊎_, inl, inr, ⊎-elim}
-use mathlib.Core.Bool.{Bool, true, false, cond, false≢true}
-use mathlib.Core.List.{List, [], _∷_, _++_, map, List·Memᴰ, List·Memᴰ·head, List·Memᴰ·tail, List·Memᴰ·not-nil, List·Memᴰ·cases-cons}
-use mathlib.Core.List.{List·Memᴰ·append-cases, Memᴰ·append-left, Memᴰ·append-right, Memᴰ·map, Memᴰ·of-map}
-use native.Mathlib.Omega.{arith}
-use lib.Dec.{eqb}
-use lib.ListN.{length, take, drop}
-use borrow.Author.Tests.{eqb-true, eq-eqb}
-use Prim.Native.Nat.{ℕ, zero, suc, _≤_}
+use Rattle.listing_rules.proofs.Prelude.{_∙_, _≡_, ap, refl, subst, sym, Bool, cond, false, false≢true, true, _⊎_, inl, inr, ⊎-elim, List}
+use Rattle.listing_rules.proofs.Prelude.{List·Memᴰ, List·Memᴰ·append-cases, List·Memᴰ·cases-cons, List·Memᴰ·head, List·Memᴰ·not-nil}
+use Rattle.listing_rules.proofs.Prelude.{List·Memᴰ·tail, Memᴰ·append-left, Memᴰ·append-right, Memᴰ·map, Memᴰ·of-map, [], _++_, _∷_, map, _≤_}
+use Rattle.listing_rules.proofs.Prelude.{suc, zero, ℕ, arith, eqb, drop, length, take, eq-eqb, eqb-true}
 use Rattle.listing_rules.specs.Bytes.{all, isEmpty, same}
 use Rattle.listing_rules.specs.Lists.{every, anyOf, keep, joined}
 use Rattle.listing_rules.proofs.Bools.{and-l, and-r, and-i, or-cases, or-l, or-r}

@@ -1,10 +1,6 @@
 -- What LSUB lists (W5): with which text; what a client that goes down level by level finds; and LSUB as a LIST command. Rests on Ancestors.
-use mathlib.Core.Path.{_≡_, refl, sym, ap, _∙_}
-use mathlib.Core.Bool.{Bool, true, false, cond, _&&_, _||_, not, and-false, or-false}
-use mathlib.Core.List.{List, [], _∷_, _++_, List·Memᴰ}
-use Prim.Native.Nat.{ℕ, _≤_}
-use native.Mathlib.Omega.{arith}
-use lib.ListN.{length}
+use Rattle.listing_rules.proofs.Prelude.{_∙_, _≡_, ap, refl, sym, Bool, _&&_, _||_, and-false, cond, false, not, or-false, true, List}
+use Rattle.listing_rules.proofs.Prelude.{List·Memᴰ, [], _++_, _∷_, _≤_, ℕ, arith, length}
 use Rattle.listing_rules.specs.Bytes.{text, crlf, isEmpty}
 use Rattle.listing_rules.specs.Lists.{anyOf, keep}
 use Rattle.listing_rules.specs.Names.{below}
@@ -13,9 +9,11 @@ use Rattle.listing_rules.specs.Table.{Row, flagsOf}
 use Rattle.listing_rules.specs.Options.{Options, noCriteria, isNone}
 use Rattle.listing_rules.specs.Command.{canonical}
 use Rattle.listing_rules.specs.Match.{matches, matchesAny}
-use Rattle.listing_rules.specs.Listing.{candidates, meetsCriteria, candidateMeets, meetsBelow, meetsUnmatchedBelow, unselective, endsInPercent, levelAbove, listed, listedNames, inOrder}
+use Rattle.listing_rules.specs.Listing.{candidates, meetsCriteria, candidateMeets, meetsBelow, meetsUnmatchedBelow, unselective, endsInPercent}
+use Rattle.listing_rules.specs.Listing.{levelAbove, listed, listedNames, inOrder}
 use Rattle.listing_rules.specs.Lines.{attributeNames, chosen, spaced, spacedTail, quoted, childInfoText, wordLine}
-use Rattle.listing_rules.specs.Lsub.{isSubscribed, subscribedMatch, subscribedBelow, aboveSubscribed, lsubListed, lsubNames, lsubAttributes, lsubLine}
+use Rattle.listing_rules.specs.Lsub.{isSubscribed, subscribedMatch, subscribedBelow, aboveSubscribed, lsubListed, lsubNames, lsubAttributes}
+use Rattle.listing_rules.specs.Lsub.{lsubLine}
 use Rattle.listing_rules.proofs.Keys.{openBytes}
 use Rattle.listing_rules.proofs.ListLaws.{any-cong, mem-some, mem-keep}
 use Rattle.listing_rules.proofs.Ancestors.{below-anc, candidates-closed}

@@ -1,10 +1,7 @@
 -- The flags of a name: those of its one row, and 0 for an implied name, which never meets the criteria; so what is asked of candidates is asked of rows. Rests on Ancestors.
-use mathlib.Core.Path.{_≡_, refl, sym, ap, _∙_, subst}
-use mathlib.Core.Logic.{⊎-elim}
-use mathlib.Core.Bool.{Bool, true, false, cond, _&&_, _||_, not, and-false, false≢true}
-use mathlib.Core.List.{List, [], _∷_, List·Memᴰ, List·Memᴰ·head, List·Memᴰ·not-nil, List·Memᴰ·cases-cons}
-use Prim.Native.Nat.{ℕ, Ordering·lt}
-use borrow.Author.Tests.{not-true}
+use Rattle.listing_rules.proofs.Prelude.{_∙_, _≡_, ap, refl, subst, sym, Bool, _&&_, _||_, and-false, cond, false, false≢true, not, true}
+use Rattle.listing_rules.proofs.Prelude.{⊎-elim, List, List·Memᴰ, List·Memᴰ·cases-cons, List·Memᴰ·head, List·Memᴰ·not-nil, [], _∷_}
+use Rattle.listing_rules.proofs.Prelude.{Ordering·lt, ℕ, not-true}
 use Rattle.listing_rules.specs.Bytes.{same, bit}
 use Rattle.listing_rules.specs.Lists.{anyOf, keep}
 use Rattle.listing_rules.specs.Orders.{byteOrder, ascends}
@@ -13,7 +10,8 @@ use Rattle.listing_rules.specs.Flags.{exists, subscribed, remote, hasUse
 use Rattle.listing_rules.specs.Table.{Row, names, hasRow, flagsOf}
 use Rattle.listing_rules.specs.Options.{Options}
 use Rattle.listing_rules.specs.Match.{matchesAny}
-use Rattle.listing_rules.specs.Listing.{candidates, implied, meetsCriteria, candidateMeets, meetsBelow, meetsUnmatchedBelow, unselective, endsInPercent, levelAbove, hasChildren}
+use Rattle.listing_rules.specs.Listing.{candidates, implied, meetsCriteria, candidateMeets, meetsBelow, meetsUnmatchedBelow, unselective}
+use Rattle.listing_rules.specs.Listing.{endsInPercent, levelAbove, hasChildren}
 use Rattle.listing_rules.proofs.Bools.{and-l, and-r, and-assoc, or-none-l, or-none-r, bools-equal}
 use Rattle.listing_rules.proofs.ListLaws.{some-mem, mem-some, mem-map, any-cong, same-refl, same-true}
 use Rattle.listing_rules.proofs.Order.{bytes-total}

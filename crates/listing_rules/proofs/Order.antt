@@ -1,8 +1,6 @@
 -- Byte order on names, and level order on their levels, are total orders: one law over the order of the elements. Rests on the library alone.
-use mathlib.Core.Path.{_≡_, refl, _∙_}
-use mathlib.Core.List.{List, [], _∷_}
-use Prim.Native.Nat.{ℕ, zero, suc, _<_, compare, Ordering, Ordering·lt, Ordering·eq, Ordering·gt, compare·zero-zero, compare·zero-suc, compare·suc-zero, compare·suc-suc}
-use native.Mathlib.Omega.{arith}
+use Rattle.listing_rules.proofs.Prelude.{_∙_, _≡_, refl, List, [], _∷_, Ordering, Ordering·eq, Ordering·gt, Ordering·lt, _<_, compare}
+use Rattle.listing_rules.proofs.Prelude.{compare·suc-suc, compare·suc-zero, compare·zero-suc, compare·zero-zero, suc, zero, ℕ, arith}
 use Rattle.listing_rules.specs.Orders.{lexBy, byteOrder, thenBy}
 use Rattle.listing_rules.specs.Names.{levelOrder}
 

@@ -1,6 +1,5 @@
 -- The outcome of a step of the walk: it went on and what it needs holds, or it was refused by 9, 10 or 11 and that does not hold. Rests on the library alone.
-use mathlib.Core.Path.{_≡_}
-use Prim.Native.Nat.{ℕ}
+use Rattle.listing_rules.proofs.Prelude.{_≡_, ℕ}
 use Rattle.listing_rules.specs.Walk.{Step, stop, go, _then_}
 
 -- the numbers of a buffer that is too short

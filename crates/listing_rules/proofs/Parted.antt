@@ -1,11 +1,6 @@
 -- Items parted by single spaces (options, patterns): what is left is shorter, and the fuel does not matter where it is at least the bytes left. Rests on Value.
-use mathlib.Core.Path.{_≡_, refl, sym, ap, _∙_}
-use mathlib.Core.Bool.{Bool, true, false}
-use mathlib.Core.List.{List, [], _∷_}
-use mathlib.Core.Option.{Option, none, some, Option·none-ne-some}
-use Prim.Native.Nat.{ℕ, zero, suc, _≤_, _<_}
-use native.Mathlib.Omega.{arith}
-use lib.ListN.{length}
+use Rattle.listing_rules.proofs.Prelude.{_∙_, _≡_, ap, refl, sym, Bool, false, true, Option, Option·none-ne-some, none, some, List, [], _∷_}
+use Rattle.listing_rules.proofs.Prelude.{_<_, _≤_, suc, zero, ℕ, arith, length}
 use Rattle.listing_rules.specs.Bytes.{text}
 use Rattle.listing_rules.specs.Tokens.{Got, got, _>>=_, at, after, withFirst, atom, pattern}
 use Rattle.listing_rules.specs.Command.{valueRest, Opt, option, parted}

@@ -1,13 +1,6 @@
 -- A table that passes check 1: its parts, one by one; its names and so its candidates are lawful; what has a use exists. Rests on NameFlags and LawfulNames.
-use mathlib.Core.Path.{_≡_, refl, sym, ap, _∙_, subst}
-use mathlib.Core.Logic.{⊎-elim}
-use mathlib.Core.Bool.{Bool, true, false, cond, _&&_, _||_, not, false≢true}
-use mathlib.Core.List.{List, List·Memᴰ, List·Memᴰ·cases-cons}
-use mathlib.Core.Option.{none, some}
-use Prim.Native.Nat.{ℕ, _≤_}
-use lib.Dec.{eqb, leb}
-use lib.ListN.{length}
-use borrow.Author.Tests.{le-leb, leb-true, eqb-true}
+use Rattle.listing_rules.proofs.Prelude.{_∙_, _≡_, ap, refl, subst, sym, Bool, _&&_, _||_, cond, false, false≢true, not, true, ⊎-elim, none}
+use Rattle.listing_rules.proofs.Prelude.{some, List, List·Memᴰ, List·Memᴰ·cases-cons, _≤_, ℕ, eqb, leb, length, eqb-true, le-leb, leb-true}
 use Rattle.listing_rules.specs.Bytes.{bit}
 use Rattle.listing_rules.specs.Lists.{every}
 use Rattle.listing_rules.specs.Orders.{ascends}
@@ -62,12 +55,6 @@ passes-rows (some rs) h = h
 pub passes-parts : (t : Table) → passes t ≡ true → TableParts (rows t)
 passes-parts t h = rows-parts (rows t) (passes-rows t h)
 
--- and is one of rows
-pub passes-some : (t : Table) → passes t ≡ true → t ≡ some (rows t)
-unfolding passes rows
-passes-some none h = absurd (false≢true h)
-passes-some (some rs) h = refl
-
 -- a packed table that passes: "At most .. 32,768 bytes", "rows fill it exactly", and the parts of check 1 over its rows
 pub record PackedParts (t : List ℕ) : Type 0 where
   pub size : length t ≤ 32768
@@ -100,10 +87,6 @@ packed-some t h e = rw (le-leb (length t) 32768 h, e)
 pub packed-none : (t : List ℕ) → (leb (length t) 32768 && rowsFill 0 t) ≡ false → packedTable t ≡ none
 unfolding packedTable
 packed-none t e = rw e
-
-pub parts-packed : (t : List ℕ) → PackedParts t → passes (packedTable t) ≡ true
-unfolding passes
-parts-packed t p = rw (packed-some t (p .size) (p .fills)) (parts-pass (packedRows t) (p .parts))
 
 -- the rows of a packed table that passes
 pub packed-rows : (t : List ℕ) → passes (packedTable t) ≡ true → rows (packedTable t) ≡ packedRows t

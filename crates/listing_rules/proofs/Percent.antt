@@ -1,11 +1,6 @@
 -- Which names the collector's patterns match: "%" those of one level, "P/%" those that are P, a slash and one level more. Rests on Bools.
-use mathlib.Core.Path.{_≡_, refl, sym, ap, _∙_}
-use mathlib.Core.Logic.{_↔_}
-use mathlib.Core.Bool.{Bool, true, _&&_, not, false≢true}
-use mathlib.Core.List.{List, [], _∷_, _++_}
-use Prim.Native.Nat.{ℕ}
-use lib.Dec.{eqb}
-use borrow.Author.Tests.{eqb-true, eq-eqb, not-true}
+use Rattle.listing_rules.proofs.Prelude.{_∙_, _≡_, ap, refl, sym, Bool, _&&_, false≢true, not, true, _↔_, List, [], _++_, _∷_, ℕ, eqb, eq-eqb}
+use Rattle.listing_rules.proofs.Prelude.{eqb-true, not-true}
 use Rattle.listing_rules.specs.Bytes.{slash, all, within}
 use Rattle.listing_rules.specs.Names.{nameByte}
 use Rattle.listing_rules.specs.Match.{wildMatch, headThen}

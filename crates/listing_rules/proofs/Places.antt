@@ -1,11 +1,9 @@
 -- The places of the attributes that the collector asks for are those of their names, and the root line's one attribute is \Noselect. Rests on
 -- Keys alone: each is computed.
-use mathlib.Core.Path.{_≡_, refl}
-use mathlib.Core.List.{List, [], _∷_, map}
-use Prim.Native.Nat.{ℕ}
-use lib.ListN.{getD}
+use Rattle.listing_rules.proofs.Prelude.{_≡_, refl, List, [], _∷_, map, ℕ, getD}
 use Rattle.listing_rules.specs.Bytes.{text, same}
-use Rattle.listing_rules.specs.Lines.{attributeNames, remotePlace, subscribedPlace, allPlace, archivePlace, draftsPlace, flaggedPlace, junkPlace, sentPlace, trashPlace}
+use Rattle.listing_rules.specs.Lines.{attributeNames, remotePlace, subscribedPlace, allPlace, archivePlace, draftsPlace, flaggedPlace}
+use Rattle.listing_rules.specs.Lines.{junkPlace, sentPlace, trashPlace}
 use Rattle.listing_rules.specs.Reader.{rootAttributes}
 use Rattle.listing_rules.proofs.Keys.{openBytes, openLines, openReader}
 

@@ -1,16 +1,9 @@
 -- The store that the program makes of its packed bytes at the first accepted edit (W6): it has 512 records and 16,384 name bytes, it is the packed
 -- table, every reader sees the same of both (W9), and so a command over the packed bytes is the command over that store. Rests on Passes, RecordLaws
 -- and EditLayout.
-use mathlib.Core.Path.{_≡_, refl, sym, ap, _∙_}
-use mathlib.Core.Bool.{Bool, true, false, cond, _&&_, _||_}
-use mathlib.Core.List.{List, [], _∷_, _++_, append-assoc}
-use mathlib.Core.Option.{none, some}
-use Prim.Native.Nat.{ℕ, zero, suc, _+_, _-_, _≤_}
-use native.Mathlib.Omega.{arith}
-use lib.Dec.{leb}
-use lib.ListN.{length, take, drop, getD, replicate, length-append, length-replicate, length-take, length-drop}
-use lib.Seq.{drop-drop, take-at, drop-at}
-use borrow.Author.Tests.{le-leb, leb-true}
+use Rattle.listing_rules.proofs.Prelude.{_∙_, _≡_, ap, refl, sym, Bool, _&&_, _||_, cond, false, true, none, some, List, [], _++_, _∷_}
+use Rattle.listing_rules.proofs.Prelude.{append-assoc, _+_, _-_, _≤_, suc, zero, ℕ, arith, leb, drop, getD, length, length-append, length-drop}
+use Rattle.listing_rules.proofs.Prelude.{length-replicate, length-take, replicate, take, drop-at, drop-drop, take-at, le-leb, leb-true}
 use Rattle.listing_rules.specs.Bytes.{bit}
 use Rattle.listing_rules.specs.Lists.{every, keep, joined}
 use Rattle.listing_rules.specs.Table.{Row, Table, rows, names, passes, rowAt, rowsAfter, packedRows, rowsFill, packedTable}

@@ -1,18 +1,9 @@
 -- The table that a reader sees (W9): of records that pass, those that a test keeps pass too. So what is seen of a table passes where the table does,
 -- is its visible rows, and is the table of the kept records alone; and what is seen of the first records is alike to what is seen of all. Rests on
 -- Passes, RecordLaws, Alike and EditLists.
-use mathlib.Core.Path.{_≡_, refl, sym, ap, _∙_, subst}
-use mathlib.Core.Logic.{⊎-elim}
-use mathlib.Core.Bool.{Bool, true, false, cond, _&&_, not, false≢true}
-use mathlib.Core.List.{List, [], _∷_, List·Memᴰ}
-use mathlib.Core.Option.{none, some}
-use Prim.Native.Nat.{ℕ, _≤_, min}
-use native.Mathlib.Nat.{le-refl}
-use native.Mathlib.Omega.{arith}
-use lib.Dec.{leb}
-use lib.ListN.{length, take, length-map}
-use lib.Seq.{length-take-le, take-all, take-length}
-use borrow.Author.Tests.{le-leb, leb-true}
+use Rattle.listing_rules.proofs.Prelude.{_∙_, _≡_, ap, refl, subst, sym, Bool, _&&_, cond, false, false≢true, not, true, ⊎-elim, none, some}
+use Rattle.listing_rules.proofs.Prelude.{List, List·Memᴰ, [], _∷_, _≤_, min, ℕ, le-refl, arith, leb, length, length-map, take, length-take-le}
+use Rattle.listing_rules.proofs.Prelude.{take-all, take-length, le-leb, leb-true}
 use Rattle.listing_rules.specs.Lists.{every, anyOf, keep}
 use Rattle.listing_rules.specs.Orders.{byteOrder}
 use Rattle.listing_rules.specs.Names.{lawfulName, below}
@@ -158,11 +149,6 @@ seen-passes all rs f = go (passes all) f
 pub seen-some : (all : Table) (rs : List Row) → passes all ≡ true → seen all rs ≡ some rs
 unfolding seen
 seen-some all rs h = rw h
-
--- of a table that fails, nothing is seen
-pub seen-none : (all : Table) (rs : List Row) → passes all ≡ false → seen all rs ≡ none
-unfolding seen
-seen-none all rs h = rw h
 
 module _ (reader : ℕ) (area : List ℕ) (rs : List Record) (count : ℕ) where
   pub records-seen-passes : passes (recordsSeen reader area rs count) ≡ passes (recordTable area rs count)

@@ -1,19 +1,14 @@
 -- The reader takes exactly the root line and the writer's lines, and reads their parts. Rests on TokenLaws and ListLaws.
-use mathlib.Core.Path.{_≡_, refl, sym, ap, _∙_, subst}
-use mathlib.Core.Logic.{_⊎_, inl, inr}
-use mathlib.Core.Bool.{Bool, true, false, cond, _&&_}
-use mathlib.Core.List.{List, [], _∷_, _++_, append-assoc}
-use mathlib.Core.Option.{Option, none, some, Option·none-ne-some}
-use Prim.Native.Nat.{ℕ, suc}
-use lib.ListN.{length}
-use native.Mathlib.Omega.{arith}
+use Rattle.listing_rules.proofs.Prelude.{_∙_, _≡_, ap, refl, subst, sym, Bool, _&&_, cond, false, true, _⊎_, inl, inr, Option}
+use Rattle.listing_rules.proofs.Prelude.{Option·none-ne-some, none, some, List, [], _++_, _∷_, append-assoc, suc, ℕ, arith, length}
 use Rattle.listing_rules.specs.Bytes.{text, quote, space, crlf, same}
 use Rattle.listing_rules.specs.Lists.{every}
 use Rattle.listing_rules.specs.Names.{lawfulName}
 use Rattle.listing_rules.specs.Tokens.{Got, got, _>>=_, after, withFirst}
 use Rattle.listing_rules.specs.Options.{Criteria}
 use Rattle.listing_rules.specs.Lines.{attributeNames, chosen, spacedTail, spaced, escaped, quoted, childInfoText, listLine, rootLine}
-use Rattle.listing_rules.specs.Reader.{Read, line, root, bad, separated, readChosen, criteriaSets, readAmong, childInfoRead, readParts, orBad, readLine}
+use Rattle.listing_rules.specs.Reader.{Read, line, root, bad, separated, readChosen, criteriaSets, readAmong, childInfoRead, readParts, orBad}
+use Rattle.listing_rules.specs.Reader.{readLine}
 use Rattle.listing_rules.proofs.Keys.{openBytes, openLists, openNames, openTokens, openOptions, openLines, openReader}
 use Rattle.listing_rules.proofs.Bools.{and-l, and-r}
 use Rattle.listing_rules.proofs.ListLaws.{same-true}

@@ -1,19 +1,11 @@
 -- A packed table turned into records: its records mean its rows and pass where it passes, and every reader sees the same of both, so every
 -- command and every walk is answered alike. Rests on Passes and Rows.
-use mathlib.Core.Path.{_≡_, refl, sym, ap, _∙_}
-use mathlib.Core.Bool.{true, false, _||_, false≢true}
-use mathlib.Core.List.{List, [], _∷_, map}
-use Prim.Native.Nat.{ℕ, zero, suc, _+_, _*_, _≤_}
-use native.Mathlib.Decide.{decLe}
-use native.Mathlib.Omega.{arith}
-use native.Mathlib.Numerals.{add-one}
-use lib.Dec.{leb}
-use lib.ListN.{length, take, drop, getD, length-map}
-use lib.Seq.{drop-drop, take-length}
-use borrow.Author.Tests.{le-leb}
+use Rattle.listing_rules.proofs.Prelude.{_∙_, _≡_, ap, refl, sym, _||_, false, false≢true, true, List, [], _∷_, map, _*_, _+_, _≤_, suc, zero}
+use Rattle.listing_rules.proofs.Prelude.{ℕ, add-one, decLe, arith, leb, drop, getD, length, length-map, take, drop-drop, take-length, le-leb}
 use Rattle.listing_rules.specs.Lists.{every}
 use Rattle.listing_rules.specs.Table.{Table, rows, passes, rowAt, rowsAfter, packedRows, rowsFill, packedTable}
-use Rattle.listing_rules.specs.Records.{Record, rowOf, recordRows, liesInside, apart, allApart, laidOut, recordTable, recordsAfter, packedRecords}
+use Rattle.listing_rules.specs.Records.{Record, rowOf, recordRows, liesInside, apart, allApart, laidOut, recordTable, recordsAfter}
+use Rattle.listing_rules.specs.Records.{packedRecords}
 use Rattle.listing_rules.specs.Readers.{visible, seen, recordsSeen, packedSeen}
 use Rattle.listing_rules.specs.Server.{servedTo}
 use Rattle.listing_rules.specs.Walk.{collectedBy}

@@ -1,13 +1,7 @@
 -- The records of a packed table from a place on, as a loop over the bytes meets them; records without overlap, one by one. Rests on Bools.
-use mathlib.Core.Path.{_≡_, refl, sym, _∙_}
-use mathlib.Core.Bool.{Bool, true, false, _&&_, _||_, and-true}
-use mathlib.Core.List.{List, [], _∷_, _++_}
-use Prim.Native.Nat.{ℕ, zero, suc, _+_, _*_, _≤_, _<_}
-use native.Mathlib.Nat.{add-zero}
-use native.Mathlib.Omega.{arith}
-use lib.Dec.{leb}
-use lib.ListN.{length, drop, getD, drop-of-length-le}
-use lib.Seq.{drop-cons, drop-drop, getD-drop}
+use Rattle.listing_rules.proofs.Prelude.{_∙_, _≡_, refl, sym, Bool, _&&_, _||_, and-true, false, true, List, [], _++_, _∷_, _*_, _+_, _<_, _≤_}
+use Rattle.listing_rules.proofs.Prelude.{suc, zero, ℕ, add-zero, arith, leb, drop, drop-of-length-le, getD, length, drop-cons, drop-drop}
+use Rattle.listing_rules.proofs.Prelude.{getD-drop}
 use Rattle.listing_rules.specs.Lists.{every}
 use Rattle.listing_rules.specs.Records.{Record, apart, allApart, recordsAfter}
 use Rattle.listing_rules.proofs.Bools.{and-l, and-r, and-i, and-assoc}

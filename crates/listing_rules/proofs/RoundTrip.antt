@@ -1,18 +1,13 @@
 -- The line writer and the reader undo each other: what is written is read as its parts, and what is read is written again. Rests on ReaderWriter.
-use mathlib.Core.Path.{_≡_, refl, sym, ap, _∙_}
-use mathlib.Core.Logic.{_⊎_, inl, inr}
-use mathlib.Core.Bool.{Bool, true, false, cond, _&&_, _||_, not, false≢true}
-use mathlib.Core.List.{List, [], _∷_}
-use Prim.Native.Nat.{ℕ, zero, suc}
-use native.Mathlib.Omega.{arith}
-use lib.ListN.{length}
-use borrow.Author.Tests.{leb-true}
+use Rattle.listing_rules.proofs.Prelude.{_∙_, _≡_, ap, refl, sym, Bool, _&&_, _||_, cond, false, false≢true, not, true, _⊎_, inl, inr, List}
+use Rattle.listing_rules.proofs.Prelude.{[], _∷_, suc, zero, ℕ, arith, length, leb-true}
 use Rattle.listing_rules.specs.Bytes.{isEmpty}
 use Rattle.listing_rules.specs.Names.{lawfulName}
 use Rattle.listing_rules.specs.Options.{Criteria, noCriteria, isNone, lawfulCriteria, criteriaOf, criteriaNumber}
 use Rattle.listing_rules.specs.Lines.{listLine, rootLine}
 use Rattle.listing_rules.specs.Server.{Reply, answered, refusal}
-use Rattle.listing_rules.specs.Reader.{root, bad, readLine, rootAttributes, attributesRead, nameRead, childInfoOf, readNumber, sameBools, rootParts, lineFrom}
+use Rattle.listing_rules.specs.Reader.{root, bad, readLine, rootAttributes, attributesRead, nameRead, childInfoOf, readNumber, sameBools}
+use Rattle.listing_rules.specs.Reader.{rootParts, lineFrom}
 use Rattle.listing_rules.proofs.Keys.{openBytes, openNames, openOptions, openReader}
 use Rattle.listing_rules.proofs.Bools.{and-l, and-r}
 use Rattle.listing_rules.proofs.ListLaws.{empty-true}

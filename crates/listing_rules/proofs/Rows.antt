@@ -1,11 +1,6 @@
 -- Places of a packed table: what stands from a place on, as a loop over the bytes meets it. Rests on the library alone.
-use mathlib.Core.Path.{_≡_, refl, ap, _∙_}
-use mathlib.Core.Bool.{true, false}
-use mathlib.Core.List.{List, [], _∷_}
-use Prim.Native.Nat.{ℕ, zero, suc, _+_, _-_, _≤_, _<_}
-use native.Mathlib.Omega.{arith}
-use lib.ListN.{length, drop, getD, length-drop, drop-of-length-le}
-use lib.Seq.{getD-drop, drop-drop}
+use Rattle.listing_rules.proofs.Prelude.{_∙_, _≡_, ap, refl, false, true, List, [], _∷_, _+_, _-_, _<_, _≤_, suc, zero, ℕ, arith, drop}
+use Rattle.listing_rules.proofs.Prelude.{drop-of-length-le, getD, length, length-drop, drop-drop, getD-drop}
 use Rattle.listing_rules.specs.Table.{rowsAfter, rowsFill}
 
 fills-drop : (k : ℕ) (t : List ℕ) → k ≤ length t → rowsFill k t ≡ rowsFill 0 (drop k t)

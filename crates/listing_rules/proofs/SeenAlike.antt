@@ -1,22 +1,17 @@
 -- The claim of W9: tables that pass and show a reader the same names with the same flags are answered and walked alike for that reader. Rows that
 -- pass ascend by name, so that what they show decides them; a reader sees one table then. Rests on Sorted, Passes and ReaderLaws.
-use mathlib.Core.Path.{_≡_, refl, sym, ap, _∙_, subst}
-use mathlib.Core.Logic.{_⊎_, inl, inr, ⊎-elim}
-use mathlib.Core.Bool.{Bool, true, false, _&&_}
-use mathlib.Core.List.{List, [], _∷_, List·Memᴰ, List·Memᴰ·head, List·Memᴰ·tail, List·Memᴰ·not-nil, List·Memᴰ·cases-cons}
-use mathlib.Core.Option.{some}
-use Prim.Native.Nat.{ℕ, Ordering·lt}
-use lib.Dec.{eqb}
-use borrow.Author.Tests.{eqb-true, eq-eqb}
+use Rattle.listing_rules.proofs.Prelude.{_∙_, _≡_, ap, refl, subst, sym, Bool, _&&_, false, true, _⊎_, inl, inr, ⊎-elim, some, List, List·Memᴰ}
+use Rattle.listing_rules.proofs.Prelude.{List·Memᴰ·cases-cons, List·Memᴰ·head, List·Memᴰ·not-nil, List·Memᴰ·tail, [], _∷_, Ordering·lt, ℕ, eqb}
+use Rattle.listing_rules.proofs.Prelude.{eq-eqb, eqb-true}
 use Rattle.listing_rules.specs.Bytes.{same}
 use Rattle.listing_rules.specs.Lists.{anyOf}
 use Rattle.listing_rules.specs.Orders.{byteOrder}
 use Rattle.listing_rules.specs.Table.{Row, Table, names, rowsPass, passes, packedTable}
 use Rattle.listing_rules.specs.Records.{packedRecords}
 use Rattle.listing_rules.specs.Readers.{visible, seen, recordsSeen, packedSeen}
-use Rattle.listing_rules.specs.Command.{namespace, isEdit, parsed}
-use Rattle.listing_rules.specs.Subscriptions.{Store, stored, storeTable, storeSeen, held}
-use Rattle.listing_rules.specs.Server.{answered, served, servedTo, commanded}
+use Rattle.listing_rules.specs.Command.{isEdit, parsed}
+use Rattle.listing_rules.specs.Subscriptions.{Store, storeTable, storeSeen, held}
+use Rattle.listing_rules.specs.Server.{served, servedTo, commanded}
 use Rattle.listing_rules.specs.Walk.{collectedBy}
 use Rattle.listing_rules.proofs.Bools.{and-l, and-r, and-i}
 use Rattle.listing_rules.proofs.ListLaws.{some-mem, mem-some, mem-map, same-refl, same-true}

@@ -1,13 +1,6 @@
 -- The collector's commands are read as what they mean. Rests on FeederLaws and LawfulNames.
-use mathlib.Core.Path.{_≡_, refl, sym, ap, _∙_}
-use mathlib.Core.Bool.{Bool, true, false, _||_, not, false≢true}
-use mathlib.Core.List.{List, [], _∷_, _++_, append-assoc}
-use mathlib.Core.Option.{none}
-use Prim.Native.Nat.{ℕ, _≤_}
-use native.Mathlib.Omega.{arith}
-use lib.Dec.{leb}
-use lib.ListN.{length, length-append}
-use borrow.Author.Tests.{ne-eqb, le-leb}
+use Rattle.listing_rules.proofs.Prelude.{_∙_, _≡_, ap, refl, sym, Bool, _||_, false, false≢true, not, true, none, List, [], _++_, _∷_}
+use Rattle.listing_rules.proofs.Prelude.{append-assoc, _≤_, ℕ, arith, leb, length, length-append, le-leb, ne-eqb}
 use Rattle.listing_rules.specs.Bytes.{text, crlf, all, within}
 use Rattle.listing_rules.specs.Names.{nameByte}
 use Rattle.listing_rules.specs.Tokens.{lineByte}

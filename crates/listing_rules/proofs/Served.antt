@@ -1,12 +1,8 @@
 -- The queue stands at the front of what is served; that is closed under children; the queue runs empty; the finds of what is served ascend. Rests
 -- on Bfs and ListLaws.
-use mathlib.Core.Path.{_≡_, refl, sym, ap, _∙_, subst}
-use mathlib.Core.Logic.{⊎-elim}
-use mathlib.Core.List.{List, [], _∷_, _++_, map, append-assoc, List·Memᴰ, List·Memᴰ·head, List·Memᴰ·tail, List·Memᴰ·not-nil, List·Memᴰ·cases-cons}
-use mathlib.Core.List.{List·Memᴰ·append-cases, Memᴰ·append-left, Memᴰ·append-right, nil≢cons}
-use Prim.Native.Nat.{ℕ, zero, suc, _<_, Ordering·lt}
-use native.Mathlib.Omega.{arith}
-use lib.ListN.{length}
+use Rattle.listing_rules.proofs.Prelude.{_∙_, _≡_, ap, refl, subst, sym, ⊎-elim, List, List·Memᴰ, List·Memᴰ·append-cases, List·Memᴰ·cases-cons}
+use Rattle.listing_rules.proofs.Prelude.{List·Memᴰ·head, List·Memᴰ·not-nil, List·Memᴰ·tail, Memᴰ·append-left, Memᴰ·append-right, [], _++_, _∷_}
+use Rattle.listing_rules.proofs.Prelude.{append-assoc, map, nil≢cons, Ordering·lt, _<_, suc, zero, ℕ, arith, length}
 use Rattle.listing_rules.specs.Lists.{joined}
 use Rattle.listing_rules.specs.Names.{walkOrder}
 use Rattle.listing_rules.proofs.ListLaws.{joined-mem, map-mem}

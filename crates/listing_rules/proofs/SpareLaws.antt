@@ -1,16 +1,10 @@
 -- Spare records past the 512th do not matter (W6): a command over a store makes of its first 512 records what it would make of them alone, with the
 -- same reply, count and name bytes, and leaves the others as they are. Rests on CommandLaws and EditPasses.
-use mathlib.Core.Path.{_≡_, refl, sym, ap, _∙_}
-use mathlib.Core.Bool.{Bool, true, false, cond, _&&_, not, false≢true}
-use mathlib.Core.List.{List, [], _∷_, _++_, append-assoc, append-nil}
-use mathlib.Core.Option.{Option, none, some}
-use Prim.Native.Nat.{ℕ, suc, _-_, _≤_, _<_, min}
-use native.Mathlib.Omega.{arith}
-use lib.Dec.{eqb, leb, ltb}
-use lib.ListN.{length, take, drop, replicate, length-append, length-take, take-append-drop, drop-of-length-le, List·getD-append}
-use lib.Seq.{take-all, take-append-le, drop-append-le}
-use borrow.Author.Tests.{leb-true, leb-false, ltb-true, le-leb, lt-ltb}
-use Rattle.listing_rules.specs.Bytes.{same}
+use Rattle.listing_rules.proofs.Prelude.{_∙_, _≡_, ap, refl, sym, Bool, _&&_, cond, false, false≢true, not, true, Option, none, some, List, []}
+use Rattle.listing_rules.proofs.Prelude.{_++_, _∷_, append-assoc, append-nil, _-_, _<_, _≤_, min, suc, ℕ, arith, eqb, leb, ltb}
+use Rattle.listing_rules.proofs.Prelude.{List·getD-append, drop, drop-of-length-le, length, length-append, length-take, replicate, take}
+use Rattle.listing_rules.proofs.Prelude.{take-append-drop, drop-append-le, take-all, take-append-le, le-leb, leb-false, leb-true, lt-ltb}
+use Rattle.listing_rules.proofs.Prelude.{ltb-true}
 use Rattle.listing_rules.specs.Lists.{anyOf, keep}
 use Rattle.listing_rules.specs.Orders.{byteOrder, isLt}
 use Rattle.listing_rules.specs.Names.{lawfulName}
@@ -18,9 +12,9 @@ use Rattle.listing_rules.specs.Table.{Row, passes, hasRow}
 use Rattle.listing_rules.specs.Records.{Record, recordRows, laidOut, recordTable}
 use Rattle.listing_rules.specs.Command.{subscribe, unsubscribe, Parsed, refused, namespace, listing, rootOf, subscriptions, editing, parsed}
 use Rattle.listing_rules.specs.Readers.{isReader, visible, seen, recordsSeen}
-use Rattle.listing_rules.specs.Subscriptions.{Store, storeTable, storeSeen, held, storeRows, spelled, rowsBefore, belowNoInferiors, freeFrom, lowestRun, freeRun}
-use Rattle.listing_rules.specs.Subscriptions.{overwritten, withSubscribed, withoutSubscribed, zeroRecord, nth, flagged, inserted, removed, Edited, denied, stored}
-use Rattle.listing_rules.specs.Subscriptions.{insertion, subscribing, unsubscribing, edited}
+use Rattle.listing_rules.specs.Subscriptions.{Store, storeTable, storeSeen, held, storeRows, spelled, rowsBefore, belowNoInferiors, freeFrom}
+use Rattle.listing_rules.specs.Subscriptions.{lowestRun, freeRun, overwritten, withSubscribed, withoutSubscribed, zeroRecord, nth, flagged}
+use Rattle.listing_rules.specs.Subscriptions.{inserted, removed, Edited, denied, stored, insertion, subscribing, unsubscribing, edited}
 use Rattle.listing_rules.specs.Server.{Reply, refusal, answered, answer, Commanded, attempted, unchangedBy, concluded, commandedOver, commanded}
 use Rattle.listing_rules.proofs.Bools.{and-l}
 use Rattle.listing_rules.proofs.ListLaws.{keep-length}

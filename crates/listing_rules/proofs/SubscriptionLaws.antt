@@ -1,14 +1,9 @@
 -- W6: 15 exactly where a row to be put in has no room; an accepted edit of a store that passes keeps its sizes and check 1, leaves the other rows
 -- as they are, leaves rows that the rows before it decide, and does to the subscribed names what it does to a plain set; so does a series. Rests on
 -- EditPasses and EditFlags.
-use mathlib.Core.Path.{_≡_, refl, sym, ap, _∙_, subst}
-use mathlib.Core.Bool.{Bool, true, false, cond, _&&_, _||_, not, false≢true, or-false, and-false}
-use mathlib.Core.List.{List, [], _∷_}
-use mathlib.Core.Option.{Option, none, some}
-use Prim.Native.Nat.{ℕ, _≤_, _<_}
-use lib.Dec.{ltb, eqb}
-use lib.ListN.{length}
-use borrow.Author.Tests.{ltb-true, not-true, lt-ltb, le-ltb}
+use Rattle.listing_rules.proofs.Prelude.{_∙_, _≡_, ap, refl, subst, sym, Bool, _&&_, _||_, and-false, cond, false, false≢true, not, or-false}
+use Rattle.listing_rules.proofs.Prelude.{true, Option, none, some, List, [], _∷_, _<_, _≤_, ℕ, eqb, ltb, length, le-ltb, lt-ltb, ltb-true}
+use Rattle.listing_rules.proofs.Prelude.{not-true}
 use Rattle.listing_rules.specs.Bytes.{same}
 use Rattle.listing_rules.specs.Lists.{anyOf, keep}
 use Rattle.listing_rules.specs.Names.{lawfulName}
@@ -17,8 +12,9 @@ use Rattle.listing_rules.specs.Table.{Row, names, hasRow, flagsOf, passe
 use Rattle.listing_rules.specs.Records.{Record, rowOf}
 use Rattle.listing_rules.specs.Command.{Edit, subscribe, unsubscribe}
 use Rattle.listing_rules.specs.Subscriptions.{Store, storeTable, held, storeRows, spelled, rowsBefore, belowNoInferiors, freeRun}
-use Rattle.listing_rules.specs.Subscriptions.{withSubscribed, withoutSubscribed, nth, flagged, inserted, removed, Edited, denied, stored, insertion, subscribing}
-use Rattle.listing_rules.specs.Subscriptions.{unsubscribing, edited, storeAfter, isIn, subscribedNames, setEdited, setAfter, editedAll, setAll}
+use Rattle.listing_rules.specs.Subscriptions.{withSubscribed, withoutSubscribed, nth, flagged, inserted, removed, Edited, denied, stored}
+use Rattle.listing_rules.specs.Subscriptions.{insertion, subscribing, unsubscribing, edited, storeAfter, isIn, subscribedNames, setEdited}
+use Rattle.listing_rules.specs.Subscriptions.{setAfter, editedAll, setAll}
 use Rattle.listing_rules.proofs.Bools.{and-l, and-r}
 use Rattle.listing_rules.proofs.Keys.{openBytes, openFlags}
 use Rattle.listing_rules.proofs.ListLaws.{every-mem}
@@ -29,7 +25,8 @@ use Rattle.listing_rules.proofs.EditRows.{rowsWith, subscribedIn, other
 use Rattle.listing_rules.proofs.EditPlaces.{Found, Gap, found, gap}
 use Rattle.listing_rules.proofs.EditFlags.{set-subscribed, set-inferiors, set-lawful, clear-subscribed, clear-inferiors, clear-lawful}
 use Rattle.listing_rules.proofs.EditLayout.{parts-nth}
-use Rattle.listing_rules.proofs.EditPasses.{StoreParts, store-parts, parts-store, Done, own-parts, own-member, flagged-done, removed-done, inserted-done, unchanged-done}
+use Rattle.listing_rules.proofs.EditPasses.{StoreParts, store-parts, parts-store, Done, own-parts, own-member, flagged-done, removed-done}
+use Rattle.listing_rules.proofs.EditPasses.{inserted-done, unchanged-done}
 
 -- the name of an edit as it is spelled, and whether it is SUBSCRIBE
 abbrev pub nameOf : Edit → List ℕ

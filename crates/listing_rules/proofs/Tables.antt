@@ -1,24 +1,20 @@
 -- The two computed tables hold: the expert's sheet, and the limits. Rests on Keys alone: each is computed. A table of `Limits` that does
 -- not hold is named by the claim that fails.
-use mathlib.Core.Path.{_≡_, refl}
-use mathlib.Core.List.{[]}
+use Rattle.listing_rules.proofs.Prelude.{_≡_, refl, []}
 use Rattle.listing_rules.specs.Cases.{failures}
 use Rattle.listing_rules.specs.ExpertSheet.{sheet}
-use Rattle.listing_rules.specs.Limits.{flags-of-a-row, names-of-rows, order-of-rows, size-of-a-table, namespace-entries}
-use Rattle.listing_rules.specs.Limits.{lsub-lines, lsub-grammar}
-use Rattle.listing_rules.specs.Limits.{records-layout, records-size, records-answered}
-use Rattle.listing_rules.specs.Limits.{edits-made, edits-inbox, edits-refused, edits-layout, edits-commanded, edits-in-order, edits-in-series, program-edits}
-use Rattle.listing_rules.specs.Limits.{compactions, compactions-size, compactions-make-room}
-use Rattle.listing_rules.specs.Limits.{readers-answered, readers-walked, readers-refused, readers-edits, program-readers}
-use Rattle.listing_rules.specs.Limits.{namespace-classes, uses-by-name, flags-by-name, attributes-together}
-use Rattle.listing_rules.specs.Limits.{children-and-empty-patterns, special-use-selected, quotes-and-wildcards}
-use Rattle.listing_rules.specs.Limits.{childinfo-and-uses-shown, levels-listed, levels-not-listed, levels-counted, inbox-alone}
-use Rattle.listing_rules.specs.Limits.{namespace-line, table-then-list-then-line, line-shape, tag-word-rest, values-and-options}
-use Rattle.listing_rules.specs.Limits.{answer-length, answer-buffer, walk-buffers-short, walk-finds, walk-buffers-after, line-writer}
-use Rattle.listing_rules.specs.Limits.{reader-parts, reader-lines, program-frames, program-digits-and-room, program-answer-room}
-use Rattle.listing_rules.specs.Limits.{program-scratch-room, program-found-room, program-pending-room, literals, literals-misplaced}
-use Rattle.listing_rules.specs.Limits.{literals-cut-short, literal-lengths, feeder-chunks, feeder-large-literals, feeder-dropping}
-use Rattle.listing_rules.specs.Limits.{feeder-command-length}
+use Rattle.listing_rules.specs.Limits.{flags-of-a-row, names-of-rows, order-of-rows, size-of-a-table, namespace-entries, lsub-lines}
+use Rattle.listing_rules.specs.Limits.{lsub-grammar, records-layout, records-size, records-answered, edits-made, edits-inbox, edits-refused}
+use Rattle.listing_rules.specs.Limits.{edits-layout, edits-commanded, edits-in-order, edits-in-series, program-edits, compactions}
+use Rattle.listing_rules.specs.Limits.{compactions-size, compactions-make-room, readers-answered, readers-walked, readers-refused}
+use Rattle.listing_rules.specs.Limits.{readers-edits, program-readers, namespace-classes, uses-by-name, flags-by-name, attributes-together}
+use Rattle.listing_rules.specs.Limits.{children-and-empty-patterns, special-use-selected, quotes-and-wildcards, childinfo-and-uses-shown}
+use Rattle.listing_rules.specs.Limits.{levels-listed, levels-not-listed, levels-counted, inbox-alone, namespace-line, table-then-list-then-line}
+use Rattle.listing_rules.specs.Limits.{line-shape, tag-word-rest, values-and-options, answer-length, answer-buffer, walk-buffers-short}
+use Rattle.listing_rules.specs.Limits.{walk-finds, walk-buffers-after, line-writer, reader-parts, reader-lines, program-frames}
+use Rattle.listing_rules.specs.Limits.{program-digits-and-room, program-answer-room, program-scratch-room, program-found-room}
+use Rattle.listing_rules.specs.Limits.{program-pending-room, literals, literals-misplaced, literals-cut-short, literal-lengths, feeder-chunks}
+use Rattle.listing_rules.specs.Limits.{feeder-large-literals, feeder-dropping, feeder-command-length}
 use Rattle.listing_rules.proofs.Keys.{openAll}
 
 -- E1 to E8, with W1's line and the cases of W3 and W5: one table under one claim

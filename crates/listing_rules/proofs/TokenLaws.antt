@@ -1,13 +1,7 @@
 -- The tokens of a line: what each reader takes and leaves, and that a quoted name is read back as it was. Rests on Bools.
-use mathlib.Core.Path.{_≡_, refl, ap, _∙_, subst}
-use mathlib.Core.Bool.{Bool, true, false, cond, _&&_, _||_, not, false≢true}
-use mathlib.Core.List.{List, [], _∷_, _++_}
-use mathlib.Core.Option.{Option, none, some, Option·none-ne-some}
-use Prim.Native.Nat.{ℕ, suc, _*_, _≤_, _<_}
-use native.Mathlib.Omega.{arith}
-use lib.Dec.{eqb, leb}
-use lib.ListN.{length, take, drop, length-append, length-drop}
-use borrow.Author.Tests.{eqb-true, eq-eqb}
+use Rattle.listing_rules.proofs.Prelude.{_∙_, _≡_, ap, refl, subst, Bool, _&&_, _||_, cond, false, false≢true, not, true, Option}
+use Rattle.listing_rules.proofs.Prelude.{Option·none-ne-some, none, some, List, [], _++_, _∷_, _*_, _<_, _≤_, suc, ℕ, arith, eqb, leb, drop}
+use Rattle.listing_rules.proofs.Prelude.{length, length-append, length-drop, take, eq-eqb, eqb-true}
 use Rattle.listing_rules.specs.Bytes.{text, crlf, quote, backslash, all, isEmpty}
 use Rattle.listing_rules.specs.Tokens.{Got, got, _>>=_, after, withFirst, run, unlessEmpty, run₁, atomByte, astringByte, patternByte, atom}
 use Rattle.listing_rules.specs.Tokens.{unquoted, lineByte, quotedText, digitByte, decimal, number, literal, stringOr, astring, pattern}

@@ -1,13 +1,7 @@
 -- The bytes of an area that rows use (W7): in parts, in number, and the place that each comes to lie at once they stand together. Rests on ListLaws.
-use mathlib.Core.Path.{_≡_, refl, sym, ap, _∙_, subst}
-use mathlib.Core.Bool.{Bool, true, false, cond, not}
-use mathlib.Core.List.{List, [], _∷_, _++_, append-assoc, List·Memᴰ}
-use Prim.Native.Nat.{ℕ, zero, suc, _+_, _-_, _≤_, _<_}
-use native.Mathlib.Omega.{arith}
-use lib.Dec.{leb, ltb}
-use lib.ListN.{length, take, drop, length-append, length-drop, take-append-drop}
-use lib.Seq.{length-take-le, drop-at, take-at, take-add}
-use borrow.Author.Tests.{le-leb, lt-ltb}
+use Rattle.listing_rules.proofs.Prelude.{_∙_, _≡_, ap, refl, subst, sym, Bool, cond, false, not, true, List, List·Memᴰ, [], _++_, _∷_}
+use Rattle.listing_rules.proofs.Prelude.{append-assoc, _+_, _-_, _<_, _≤_, suc, zero, ℕ, arith, leb, ltb, drop, length, length-append}
+use Rattle.listing_rules.proofs.Prelude.{length-drop, take, take-append-drop, drop-at, length-take-le, take-add, take-at, le-leb, lt-ltb}
 use Rattle.listing_rules.specs.Lists.{anyOf, keep}
 use Rattle.listing_rules.specs.Records.{Record}
 use Rattle.listing_rules.specs.Subscriptions.{uses, freeFrom}

@@ -1,12 +1,7 @@
 -- Values of options: what is left is shorter, the fuel does not matter where it is at least the bytes left, and a value is its first item and what
 -- stands behind that. Rests on TokenLaws.
-use mathlib.Core.Path.{_≡_, refl, sym, ap, _∙_}
-use mathlib.Core.Bool.{Bool, true, false, cond}
-use mathlib.Core.List.{List, [], _∷_}
-use mathlib.Core.Option.{Option, some, Option·none-ne-some}
-use Prim.Native.Nat.{ℕ, zero, suc, _≤_, _<_}
-use native.Mathlib.Omega.{arith}
-use lib.ListN.{length}
+use Rattle.listing_rules.proofs.Prelude.{_∙_, _≡_, ap, refl, sym, Bool, cond, false, true, Option, Option·none-ne-some, some, List, [], _∷_}
+use Rattle.listing_rules.proofs.Prelude.{_<_, _≤_, suc, zero, ℕ, arith, length}
 use Rattle.listing_rules.specs.Bytes.{text}
 use Rattle.listing_rules.specs.Tokens.{after, _>>=_, astring, at}
 use Rattle.listing_rules.specs.Command.{valueRest}

@@ -1,9 +1,5 @@
 -- The bound on the walk's steps does not matter where it is at least two more than the candidates. Rests on WalkWhole.
-use mathlib.Core.Path.{_≡_, refl, ap, _∙_}
-use mathlib.Core.List.{List, [], _∷_, _++_}
-use Prim.Native.Nat.{ℕ, zero, suc, _≤_}
-use native.Mathlib.Omega.{arith}
-use lib.ListN.{length, drop}
+use Rattle.listing_rules.proofs.Prelude.{_∙_, _≡_, ap, refl, List, [], _++_, _∷_, _≤_, suc, zero, ℕ, arith, drop, length}
 use Rattle.listing_rules.specs.Bytes.{slash}
 use Rattle.listing_rules.specs.Table.{Table, rows}
 use Rattle.listing_rules.specs.Listing.{candidates}

@@ -1,11 +1,7 @@
 -- The lists that the walk comes to: the names asked are the different proper ancestors of the names that meet the criteria, and the names found are those names. Rests on Served and WalkMembers.
-use mathlib.Core.Path.{_≡_, refl, sym, ap, _∙_, subst}
-use mathlib.Core.Logic.{_⊎_, inl, inr}
-use mathlib.Core.Bool.{Bool, true, false, cond}
-use mathlib.Core.List.{List, [], _∷_, _++_, map, List·Memᴰ, List·Memᴰ·head, List·Memᴰ·tail, List·Memᴰ·not-nil, List·Memᴰ·append-cases, Memᴰ·append-left, Memᴰ·append-right}
-use Prim.Native.Nat.{ℕ, zero, suc, _≤_, Ordering·lt}
-use native.Mathlib.Omega.{arith}
-use lib.ListN.{length, length-append}
+use Rattle.listing_rules.proofs.Prelude.{_∙_, _≡_, ap, refl, subst, sym, Bool, cond, false, true, _⊎_, inl, inr, List, List·Memᴰ}
+use Rattle.listing_rules.proofs.Prelude.{List·Memᴰ·append-cases, List·Memᴰ·head, List·Memᴰ·not-nil, List·Memᴰ·tail, Memᴰ·append-left}
+use Rattle.listing_rules.proofs.Prelude.{Memᴰ·append-right, [], _++_, _∷_, map, Ordering·lt, _≤_, suc, zero, ℕ, arith, length, length-append}
 use Rattle.listing_rules.specs.Bytes.{slash, all}
 use Rattle.listing_rules.specs.Lists.{keep, joined}
 use Rattle.listing_rules.specs.Orders.{byteOrder, sorted}

@@ -1,10 +1,6 @@
 -- Which names a command of the collector finds, and which it asks next; both lists ascend in walk order. Rests on WalkSets and Asked.
-use mathlib.Core.Path.{_≡_, refl, sym, ap, _∙_, subst}
-use mathlib.Core.Bool.{Bool, true, false, _&&_, not, false≢true}
-use mathlib.Core.List.{List, [], _∷_, _++_, append-assoc, append-cancel-left, tail-eq-of-cons-eq, List·Memᴰ}
-use Prim.Native.Nat.{ℕ, Ordering·lt}
-use lib.Dec.{eqb}
-use lib.ListN.{length}
+use Rattle.listing_rules.proofs.Prelude.{_∙_, _≡_, ap, refl, subst, sym, Bool, _&&_, false, false≢true, not, true, List, List·Memᴰ, [], _++_}
+use Rattle.listing_rules.proofs.Prelude.{_∷_, append-assoc, append-cancel-left, tail-eq-of-cons-eq, Ordering·lt, ℕ, eqb, length}
 use Rattle.listing_rules.specs.Bytes.{slash, all}
 use Rattle.listing_rules.proofs.Keys.{openBytes}
 use Rattle.listing_rules.specs.Lists.{anyOf}

@@ -1,11 +1,6 @@
 -- Walk order is a total order. Rests on Order and Levels.
-use mathlib.Core.Path.{_≡_, refl, sym, ap, _∙_}
-use mathlib.Core.Bool.{Bool, true, false, cond}
-use mathlib.Core.List.{List, [], _∷_, _++_}
-use Prim.Native.Nat.{ℕ, compare, Ordering, Ordering·lt, Ordering·eq, Ordering·gt}
-use lib.Dec.{eqb}
-use lib.ListN.{length}
-use borrow.Author.Tests.{eqb-true}
+use Rattle.listing_rules.proofs.Prelude.{_∙_, _≡_, ap, refl, sym, Bool, cond, false, true, List, [], _++_, _∷_, Ordering, Ordering·eq}
+use Rattle.listing_rules.proofs.Prelude.{Ordering·gt, Ordering·lt, compare, ℕ, eqb, length, eqb-true}
 use Rattle.listing_rules.specs.Bytes.{slash}
 use Rattle.listing_rules.specs.Lists.{onFirst}
 use Rattle.listing_rules.specs.Orders.{thenBy}

@@ -1,20 +1,14 @@
 -- The walk's commands only read (W6): each begins with the word LIST, so whatever its reference and its shape come to, it is no edit. Rests on Keys
 -- alone.
-use mathlib.Core.Path.{_≡_, refl, ap, _∙_}
-use mathlib.Core.Bool.{Bool, true, false, cond, _&&_, not}
-use mathlib.Core.List.{List, _++_}
-use mathlib.Core.Option.{Option, none, some}
-use Prim.Native.Nat.{ℕ, _+_, _-_, _≤_}
-use native.Mathlib.Omega.{arith}
-use lib.ListN.{length, take, length-append}
-use lib.Seq.{take-append-add}
+use Rattle.listing_rules.proofs.Prelude.{_∙_, _≡_, ap, refl, Bool, _&&_, cond, false, not, true, Option, none, some, List, _++_, _+_, _-_, _≤_}
+use Rattle.listing_rules.proofs.Prelude.{ℕ, arith, length, length-append, take, take-append-add}
 use Rattle.listing_rules.specs.Bytes.{text, crlf}
 use Rattle.listing_rules.specs.Lists.{every}
 use Rattle.listing_rules.specs.Lines.{quoted}
 use Rattle.listing_rules.specs.Feeder.{first, oneCommand}
 use Rattle.listing_rules.specs.Options.{lawfulOptions}
-use Rattle.listing_rules.specs.Command.{lineText, ListArgs, listArgs, knownIn, selectionWords, returnWords, fewPatterns, optionsOf, asksRoot, canonical}
-use Rattle.listing_rules.specs.Command.{refused, rootOf, listing, isEdit, judged, orRefuse, worded, tagged, parsed}
+use Rattle.listing_rules.specs.Command.{lineText, ListArgs, listArgs, knownIn, selectionWords, returnWords, fewPatterns, optionsOf, asksRoot}
+use Rattle.listing_rules.specs.Command.{canonical, refused, rootOf, listing, isEdit, judged, orRefuse, worded, tagged, parsed}
 use Rattle.listing_rules.specs.Walk.{dropsSubscribed, wantsSpecial, wantsRemote, when, commandLine}
 use Rattle.listing_rules.proofs.Keys.{openBytes, openTokens}
 

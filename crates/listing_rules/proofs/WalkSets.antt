@@ -1,12 +1,7 @@
 -- What a command of the collector matches, and that a line is a find exactly if its name meets the criteria. Rests on Percent and Passes.
-use mathlib.Core.Path.{_≡_, refl, sym, ap, _∙_, subst}
-use mathlib.Core.Logic.{_↔_}
-use mathlib.Core.Bool.{and-true, and-false, or-true, or-false, or-assoc, and-comm, Bool, true, false, cond, _&&_, _||_, not, false≢true}
-use mathlib.Core.List.{List, [], _∷_, _++_, append-assoc}
-use Prim.Native.Nat.{ℕ, _-_, _≤_}
-use native.Mathlib.Omega.{arith}
-use lib.Dec.{eqb, leb}
-use borrow.Author.Tests.{ne-eqb, leb-true, le-leb}
+use Rattle.listing_rules.proofs.Prelude.{_∙_, _≡_, ap, refl, subst, sym, Bool, _&&_, _||_, and-comm, and-false, and-true, cond, false}
+use Rattle.listing_rules.proofs.Prelude.{false≢true, not, or-assoc, or-false, or-true, true, _↔_, List, [], _++_, _∷_, append-assoc, _-_, _≤_}
+use Rattle.listing_rules.proofs.Prelude.{ℕ, arith, eqb, leb, le-leb, leb-true, ne-eqb}
 use Rattle.listing_rules.specs.Bytes.{slash, all, same, raise, raised, within, bit}
 use Rattle.listing_rules.specs.Lists.{anyOf}
 use Rattle.listing_rules.specs.Names.{nameByte, inbox}
@@ -15,7 +10,8 @@ use Rattle.listing_rules.specs.Flags.{exists, subscribed, remote, uses, 
 use Rattle.listing_rules.specs.Table.{Table, Row, rows, passes, flagsOf}
 use Rattle.listing_rules.specs.Options.{noCriteria, isNone, criteria}
 use Rattle.listing_rules.specs.Match.{wildMatch, matches, matchesAny}
-use Rattle.listing_rules.specs.Listing.{meetsCriteria, candidateMeets, meetsBelow, meetsUnmatchedBelow, childInfo, unselective, levelAbove, listed, attributes, attributesFor, inOrder}
+use Rattle.listing_rules.specs.Listing.{meetsCriteria, candidateMeets, meetsBelow, meetsUnmatchedBelow, childInfo, unselective, levelAbove}
+use Rattle.listing_rules.specs.Listing.{listed, attributes, attributesFor, inOrder}
 use Rattle.listing_rules.specs.Walk.{wantsRemote, wantsSpecial, dropsSubscribed, lawfulByte, isFind, attr, useAttr}
 use Rattle.listing_rules.specs.Demand3.{walkOptions}
 use Rattle.listing_rules.proofs.Bools.{and-l, and-r, and-i}

@@ -1,19 +1,14 @@
 -- Demand 3 whole: with room the walk comes to what the paper says; without it the walk is refused by 9, 10 or 11. Rests on Asked and WalkLists.
-use mathlib.Core.Path.{_≡_, refl, sym, ap, _∙_, subst}
-use mathlib.Core.Logic.{_⊎_, inl, inr, ⊎-elim}
-use mathlib.Core.Bool.{true}
-use mathlib.Core.List.{List, [], _∷_, _++_, map, append-assoc, append-nil, nil≢cons, List·Memᴰ, List·Memᴰ·head, List·Memᴰ·tail, List·Memᴰ·not-nil, List·Memᴰ·cases-cons}
-use Prim.Native.Nat.{ℕ, _+_, zero, suc, _≤_}
-use native.Mathlib.Omega.{arith}
-use lib.ListN.{length, length-append}
-use lib.Seq.{drop-at}
+use Rattle.listing_rules.proofs.Prelude.{_∙_, _≡_, ap, refl, subst, sym, true, _⊎_, inl, inr, ⊎-elim, List, List·Memᴰ, List·Memᴰ·cases-cons}
+use Rattle.listing_rules.proofs.Prelude.{List·Memᴰ·head, List·Memᴰ·not-nil, List·Memᴰ·tail, [], _++_, _∷_, append-assoc, append-nil, map}
+use Rattle.listing_rules.proofs.Prelude.{nil≢cons, _+_, _≤_, suc, zero, ℕ, arith, length, length-append, drop-at}
 use Rattle.listing_rules.specs.Bytes.{slash, all, within}
 use Rattle.listing_rules.proofs.Keys.{openBytes}
 use Rattle.listing_rules.specs.Lists.{joined}
 use Rattle.listing_rules.specs.Names.{nameByte, lawfulName}
 use Rattle.listing_rules.specs.Table.{Table, rows, passes}
 use Rattle.listing_rules.specs.Tokens.{lineByte}
-use Rattle.listing_rules.specs.Walk.{walked, packed, stop, go, Walked, asked, walkFrom, walkAll, walkRefused, ended, walk}
+use Rattle.listing_rules.specs.Walk.{walked, packed, stop, Walked, asked, walkFrom, walkAll, walkRefused, ended, walk}
 use Rattle.listing_rules.specs.Demand3.{declaredWalk, meetingNames, meetingAncestors, walkAnswer}
 use Rattle.listing_rules.proofs.ListLaws.{all-imp, all-append}
 use Rattle.listing_rules.proofs.Levels.{Name}
@@ -22,7 +17,7 @@ use Rattle.listing_rules.proofs.Passes.{candidate-good}
 use Rattle.listing_rules.proofs.Sent.{name-line}
 use Rattle.listing_rules.proofs.Bfs.{served}
 use Rattle.listing_rules.proofs.Served.{left, front}
-use Rattle.listing_rules.proofs.Outcome.{with-fact, Short, scratch-short, found-short, pending-short, Outcome, went, stopped, then-step, went-to}
+use Rattle.listing_rules.proofs.Outcome.{with-fact, Short, scratch-short, found-short, pending-short, Outcome, went, stopped, then-step}
 use Rattle.listing_rules.proofs.Asked.{listsOf, Sizes, Answer-fits, asked-cases, packed-le, finds, asks}
 use Rattle.listing_rules.proofs.WalkSets.{Walks}
 use Rattle.listing_rules.proofs.WalkLists.{kids, finds′, fuel, P, F, P-low, P-ends, P-is, F-is, low-cand}
@@ -194,10 +189,6 @@ module _ (t : Table) (o : ℕ) (wk : Walks t o) (scratch found pending : ℕ) wh
           ⊎ ((Room → ⊥) × ((k : ℕ) × Short k × (walk t o scratch found pending ≡ walkRefused k)))
       pick (went d R) = inl (R, rw (ok, wk .1, d) (ap (λ (n : ℕ). walked n (packed (meetingNames (rows t) o)) (packed (meetingAncestors (rows t) o))) e))
       pick (stopped k s d n) = inr (n, (k, s, rw (ok, wk .1, d)))
-
-  -- the same, where there is room
-  pub walk-is : Room → walkAll t o scratch found pending (suc (fuel t o wk)) ≡ go (result (meetingNames (rows t) o) (meetingAncestors (rows t) o))
-  walk-is R = went-to room-cases R
 
   pub demand-3 : Room → walk t o scratch found pending ≡ declaredWalk t o
   demand-3 R = ⊎-elim (λ w. w .1) (λ w. absurd (w .0 R)) demand-3-whole

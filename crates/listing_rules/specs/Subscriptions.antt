@@ -4,7 +4,7 @@ use mathlib.Core.Bool.{Bool, cond, _&&_, _||_, not}
 use mathlib.Core.Option.{Option, none, some}
 use lib.Dec.{eqb, leb, ltb}
 use lib.ListN.{length, take, drop, getD, replicate}
-use Prim.Native.Nat.{ℕ, zero, suc, _+_, _-_}
+use Prim.Native.Nat.{ℕ, suc, _+_, _-_}
 use Rattle.listing_rules.specs.Bytes.{same, spells}
 use Rattle.listing_rules.specs.Lists.{anyOf, keep}
 use Rattle.listing_rules.specs.Orders.{byteOrder, isLt}

@@ -1,16 +1,11 @@
 -- Laws of bytes that are answered: what was fed and sent, the bytes of a read part by part, the end of the input, and a run of reads.
 -- Rests on TurnLaws, session's FeedLaws and Cut, and on listing_rules' InputCut.
-use mathlib.Core.Path.{_≡_, refl, sym, ap, subst, _∙_}
-use mathlib.Core.Bool.{true, false}
-use mathlib.Core.List.{List, [], _++_}
-use Prim.Native.Nat.{ℕ, _+_, _-_, _^_, _≤_, _<_, min}
-use native.Mathlib.Omega.{arith}
-use lib.ListN.{length, take, drop, length-drop}
-use lib.Seq.{take-all, take-add, take-take, length-take-le}
+use Rattle.listing_rules.proofs.Prelude.{_∙_, _≡_, ap, refl, subst, sym, false, true, List, [], _++_, _+_, _-_, _<_, _^_, _≤_, min, ℕ, arith, drop}
+use Rattle.listing_rules.proofs.Prelude.{length, length-drop, take, length-take-le, take-add, take-all, take-take}
 use Rattle.listing_rules.specs.Frames.{Session, Fed as Came, start, behind, fedAll}
 use Rattle.listing_rules.proofs.InputCut.{fedAll-append}
 use Rattle.session.specs.declared.State.{State}
-use Rattle.session.specs.Carrying.{Lent, lent, keptOf}
+use Rattle.kept_table.specs.Kept.{Lent, lent, keptOf}
 use Rattle.session.specs.Feeding.{startIs, ready, readyIn, Holds, Finishes}
 use Rattle.session.proofs.FeedLaws.{sizes, ready-again, holds-start}
 use Rattle.session.proofs.Cut.{said-front}
@@ -99,11 +94,16 @@ module _ {bytes : List ℕ} {d : Lent} {line : List ℕ} {st : State} {f : ℕ} 
       Part bytes d line st f e′ line″ (r .state) f″ (at + r .used)
   unfolding behind
   part-more e′ line″ r less x t w m l o f″ q =
-      let taken : take (at + r .used) bytes ≡ take at bytes ++ take (r .used) left = take-add at (r .used) bytes ∙ ap (λ (l : List ℕ). take at bytes ++ l) (sym (take-take (r .used) (length bytes - at) (drop at bytes) (omega (arith, x .inside, left-length)))) in
+      let taken : take (at + r .used) bytes ≡ take at bytes ++ take (r .used) left = take-add at (r .used) bytes ∙ ap
+      (λ (l : List ℕ). take at bytes ++ l) (sym (take-take (r .used) (length bytes - at) (drop at bytes)
+      (omega (arith, x .inside, left-length)))) in
       record {
         inside = omega (arith, x .inside, left-length);
         counted = omega (arith, q, p .counted, x .frames, ap framesIn taken, frames-append (take at bytes) (take (r .used) left));
-        holds = λ s h. subst (λ (f : Came). Holds e′ line″ (r .state) (f .session)) (sym (ap (fedAll s) taken ∙ fedAll-append s (take at bytes) (take (r .used) left))) (x .holds (fedAll s (take at bytes) .session) (p .holds s h));
+        holds =
+            λ s h. subst (λ (f : Came). Holds e′ line″ (r .state) (f .session))
+            (sym (ap (fedAll s) taken ∙ fedAll-append s (take at bytes) (take (r .used) left)))
+            (x .holds (fedAll s (take at bytes) .session) (p .holds s h));
         ready-on = x .ready-on;
         table = t ∙ p .table;
         records = w ∙ p .records;

@@ -1,14 +1,8 @@
 -- Laws of bytes that are fed frame by frame, their answers gathered in one output: as the loop of `feed_all` meets them, and where it
 -- ends. Rests on session's LineLaws, FeedLaws and Cut, and on listing_rules' InputCut.
-use mathlib.Core.Path.{_≡_, refl, sym, ap, subst, _∙_}
-use mathlib.Core.Logic.{_⊎_, inl, inr}
-use mathlib.Core.Bool.{Bool, true, false, cond}
-use mathlib.Core.List.{List, [], _∷_, _++_}
-use Prim.Native.Nat.{ℕ, suc, _+_, _*_, _-_, _≤_, _<_}
-use native.Mathlib.Omega.{arith}
-use lib.Dec.{eqb}
-use lib.ListN.{length, take, drop, getD, length-append, length-drop}
-use lib.Seq.{take-all, take-add, take-append-add, take-append-le, length-take-le, getD-drop}
+use Rattle.listing_rules.proofs.Prelude.{_∙_, _≡_, ap, refl, subst, sym, Bool, cond, false, true, _⊎_, inl, inr, List, [], _++_, _∷_, _*_, _+_, _-_}
+use Rattle.listing_rules.proofs.Prelude.{_<_, _≤_, suc, ℕ, arith, eqb, drop, getD, length, length-append, length-drop, take, getD-drop}
+use Rattle.listing_rules.proofs.Prelude.{length-take-le, take-add, take-all, take-append-add, take-append-le}
 use borrow.Rule.Slice.PartMut.{putMid, postOf, same-len-mid}
 use Rattle.listing_rules.specs.Frames.{Session, Fed as Came, behind, fedAll}
 use Rattle.listing_rules.proofs.InputCut.{fedAll-append}
@@ -16,7 +10,7 @@ use Rattle.session.specs.declared.State.{State}
 use Rattle.session.specs.declared.Taken.{Taken as Took}
 use Rattle.session.specs.declared.Fed.{Fed}
 use Rattle.session.specs.declared.Fed.the-variants.{Taken, Refused}
-use Rattle.session.specs.Carrying.{Lent, lent}
+use Rattle.kept_table.specs.Kept.{Lent, lent}
 use Rattle.session.specs.Feeding.{readyIn, Holds, throughLine, Feeds, FeedIs}
 use Rattle.session.proofs.LineLaws.{through-inside, through-less}
 use Rattle.session.proofs.FeedLaws.{Sizes, sizes, ready-again, holds-some}
@@ -114,7 +108,8 @@ module _ (s : Session) (a b : List ℕ) where
       })
 
 -- One call of `feed` more: the rest of the bytes is fed, and the rest of the output takes its line.
-module _ {bytes : List ℕ} {d : Lent} {line : List ℕ} {st : State} {t w n o l : List ℕ} {st₁ : State} {used frames written : ℕ} (so : SoFar bytes d line st (lent t w n o) l st₁ used frames written) where
+module _ {bytes : List ℕ} {d : Lent} {line : List ℕ} {st : State} {t w n o l : List ℕ} {st₁ : State} {used frames written : ℕ}
+    (so : SoFar bytes d line st (lent t w n o) l st₁ used frames written) where
   abbrev left : List ℕ
   left = take (length bytes - used) (drop used bytes)
 
@@ -140,7 +135,8 @@ module _ {bytes : List ℕ} {d : Lent} {line : List ℕ} {st : State} {t w n o l
   pub dead : (e : Lent) (l′ : List ℕ) (r : Fed) → 32771 ≤ length o - written → FeedIs left (lent t w n room-left) e l l′ st₁ r → r ≡ Refused → ⊥
   dead e l′ r h f q = never-refused left (lent t w n room-left) e l l′ st₁ (still-ready h) (subst (λ (x : Fed). FeedIs left (lent t w n room-left) e l l′ st₁ x) q f)
 
-  module _ (t′ w′ n′ p l′ : List ℕ) (x : Fed) (r : Took) (more : used < length bytes) (room : 32771 ≤ length o - written) (answer : FeedIs left (lent t w n room-left) (lent t′ w′ n′ p) l l′ st₁ x) (known : x ≡ Taken r) where
+  module _ (t′ w′ n′ p l′ : List ℕ) (x : Fed) (r : Took) (more : used < length bytes) (room : 32771 ≤ length o - written)
+      (answer : FeedIs left (lent t w n room-left) (lent t′ w′ n′ p) l l′ st₁ x) (known : x ≡ Taken r) where
     f : Feeds left (lent t w n room-left) (lent t′ w′ n′ p) l l′ st₁ r
     f = subst (λ (y : Fed). FeedIs left (lent t w n room-left) (lent t′ w′ n′ p) l l′ st₁ y) known answer .1
 
@@ -171,7 +167,9 @@ module _ {bytes : List ℕ} {d : Lent} {line : List ℕ} {st : State} {t w n o l
         let h = a .holds in
         let y = f .comes (fedAll s (take used bytes) .session) (record { table = h .table; namespaces = h .namespaces; frame = h .frame }) in
         let fits = y .says .fits in
-        rw taken-bytes (answered-more s (take used bytes) (take (throughLine left) left) o p (postOf written (length o - written) o) (lent t′ w′ n′ p) l′ (r .state) written (r .written) (so .room) (omega (arith, room-length, y .says .written, fits)) (a .answers) (a .count) (said-front (y .says) (omega (arith, room-length, fits))) (y .says .written) (y .holds))
+        rw taken-bytes (answered-more s (take used bytes) (take (throughLine left) left) o p (postOf written (length o - written) o) (lent t′ w′ n′ p)
+        l′ (r .state) written (r .written) (so .room) (omega (arith, room-length, y .says .written, fits)) (a .answers) (a .count)
+        (said-front (y .says) (omega (arith, room-length, fits))) (y .says .written) (y .holds))
 
     -- its line is no longer than any
     pub writes : r .written ≤ 32771

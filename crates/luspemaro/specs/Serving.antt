@@ -8,7 +8,7 @@ use lib.ListN.{length, take}
 use Prim.Native.Nat.{ℕ, _+_, _-_, _^_, _≤_, _<_, min}
 use Rattle.listing_rules.specs.Frames.{Session, Fed, start, fedAll, atEnd}
 use Rattle.session.specs.declared.State.{State}
-use Rattle.session.specs.Carrying.{Lent}
+use Rattle.kept_table.specs.Kept.{Lent}
 use Rattle.session.specs.Feeding.{readyIn, Holds}
 use Rattle.luspemaro.specs.declared.calls.Sent.{Sent}
 use Rattle.luspemaro.specs.declared.feeding.Turn.{Turn}

@@ -3,7 +3,7 @@
 ghost use Prim.Native.Nat.{_≤_};
 ghost use mathlib.Core.Path.{_≡_};
 ghost use mathlib.Core.Bool.{true};
-ghost use Rattle.session.specs.Carrying.{lent};
+ghost use Rattle.kept_table.specs.Kept.{lent};
 ghost use Rattle.session.specs.Feeding.{readyIn};
 ghost use Rattle.luspemaro.specs.Serving.{turnIs, endsFrame, Turns};
 use octets::LF;

@@ -18,7 +18,7 @@ mod serving;
 
 ghost use mathlib.Core.Path.{_≡_};
 ghost use lib.ListN.{length};
-ghost use Rattle.session.specs.Carrying.{lent};
+ghost use Rattle.kept_table.specs.Kept.{lent};
 ghost use Rattle.luspemaro.specs.Serving.{Reached, Sized};
 use serving::Place;
 use serving::read_on;

@@ -4,7 +4,7 @@ ghost use Prim.Native.Nat.{_≤_};
 ghost use mathlib.Core.Path.{_≡_};
 ghost use mathlib.Core.Bool.{true, false};
 ghost use lib.ListN.{length};
-ghost use Rattle.session.specs.Carrying.{lent};
+ghost use Rattle.kept_table.specs.Kept.{lent};
 ghost use Rattle.session.specs.Feeding.{readyIn};
 ghost use Rattle.luspemaro.specs.Serving.{placeIs, Rounds, Serves, Ends, ReadsOn};
 use crate::calls::Got;

@@ -1,8 +1,5 @@
 -- An answer that goes by a test tells the test. Rests on the library alone.
-use mathlib.Core.Path.{_≡_, refl}
-use mathlib.Core.Bool.{Bool, true, false, cond}
-use Prim.Native.Nat.{ℕ}
-use native.Mathlib.Omega.{arith}
+use Rattle.listing_rules.proofs.Prelude.{_≡_, refl, Bool, cond, false, true, ℕ, arith}
 use Rattle.mailbox_table.specs.declared.Indexing.the-variants.{Rows, Fails}
 
 pub rows-decided : (b : Bool) (k n : ℕ) → Rows n ≡ cond b (Rows k) Fails → (b ≡ true) × (n ≡ k)

@@ -1,21 +1,15 @@
 -- Names below a name among names that ascend: where they begin, where they end, and that nothing is missed.
-use mathlib.Core.Path.{_≡_, refl, sym, ap, _∙_}
-use mathlib.Core.Bool.{Bool, true, false, _&&_, false≢true}
-use mathlib.Core.List.{List, [], _∷_, _++_}
-use Prim.Native.Nat.{ℕ, zero, suc, _+_, _-_, _≤_, _<_}
-use native.Mathlib.Numerals.{add-one}
-use native.Mathlib.Decide.{decLe}
-use native.Mathlib.Omega.{arith}
-use lib.Dec.{eqb}
-use lib.ListN.{length, take, drop, getD}
-use borrow.Author.Tests.{eq-eqb, ne-eqb, eqb-true, lt-ltb, le-ltb, ltb-true}
+use Rattle.listing_rules.proofs.Prelude.{_∙_, _≡_, ap, refl, sym, Bool, _&&_, false, false≢true, true, List, [], _++_, _∷_, _+_, _-_, _<_, _≤_, suc}
+use Rattle.listing_rules.proofs.Prelude.{zero, ℕ, add-one, decLe, arith, eqb, drop, getD, length, take, eq-eqb, eqb-true, le-ltb, lt-ltb, ltb-true}
+use Rattle.listing_rules.proofs.Prelude.{ne-eqb}
 use Rattle.listing_rules.specs.Bytes.{slash}
 use Rattle.listing_rules.specs.Orders.{byteOrder, isLt, ascendsFrom, ascends}
 use Rattle.listing_rules.specs.Names.{below}
 use Rattle.listing_rules.proofs.Sorted.{order-trans}
 use Rattle.mailbox_table.specs.Shared.{sharedLen}
 use Rattle.listing_rules.proofs.Bools.{and-l, and-r, and-i}
-use Rattle.mailbox_table.proofs.SharedLaws.{shared-le-r, order-same, shared-same, order-other, shared-other, order-nil-cons, order-cons-nil, order-to-nil}
+use Rattle.mailbox_table.proofs.SharedLaws.{shared-le-r, order-same, shared-same, order-other, shared-other, order-nil-cons, order-cons-nil}
+use Rattle.mailbox_table.proofs.SharedLaws.{order-to-nil}
 
 -- a name begins with p
 unfoldable pub starts : List ℕ → List ℕ → Bool

@@ -1,11 +1,6 @@
 -- A loop that copies elements from the front on. Rests on the library alone.
-use mathlib.Core.Path.{_≡_, refl, _∙_}
-use mathlib.Core.List.{List, _++_}
-use Prim.Native.Nat.{ℕ, suc, _+_, _<_}
-use native.Mathlib.Numerals.{add-one}
-use native.Mathlib.Omega.{arith}
-use lib.ListN.{length, take, drop, getD, set, length-set}
-use lib.Seq.{length-take-le, take-suc, drop-cons, set-at, append-snoc}
+use Rattle.listing_rules.proofs.Prelude.{_∙_, _≡_, refl, List, _++_, _+_, _<_, suc, ℕ, add-one, arith, drop, getD, length, length-set, set, take}
+use Rattle.listing_rules.proofs.Prelude.{append-snoc, drop-cons, length-take-le, set-at, take-suc}
 
 -- the first i elements of d are those of s, which is e
 pub record Copied (s d e : List ℕ) (i : ℕ) : Type 0 where

@@ -1,16 +1,8 @@
 -- Check 1 and the index, of packed bytes and of words: each way through the passes. Rests on PassLaws, and on the laws of packed tables
 -- and their records in listing_rules.
-use mathlib.Core.Path.{_≡_, refl, sym, ap, _∙_}
-use mathlib.Core.Bool.{Bool, true, false, cond, _&&_, and-false}
-use mathlib.Core.List.{List, _++_, map}
-use mathlib.Core.Option.{none, some}
-use Prim.Native.Nat.{ℕ, _+_, _≤_, _<_, min}
-use native.Mathlib.Decide.{decLe}
-use native.Mathlib.Omega.{arith}
-use lib.Dec.{leb}
-use lib.ListN.{length, take, drop, replicate, length-replicate, length-append, length-drop, length-map}
-use lib.Seq.{take-at, drop-at, length-take-le}
-use borrow.Author.Tests.{le-leb, lt-leb, leb-true, leb-false}
+use Rattle.listing_rules.proofs.Prelude.{_∙_, _≡_, ap, refl, sym, Bool, _&&_, and-false, cond, false, true, none, some, List, _++_, map, _+_, _<_}
+use Rattle.listing_rules.proofs.Prelude.{_≤_, min, ℕ, decLe, arith, leb, drop, length, length-append, length-drop, length-map, length-replicate}
+use Rattle.listing_rules.proofs.Prelude.{replicate, take, drop-at, length-take-le, take-at, le-leb, leb-false, leb-true, lt-leb}
 use Rattle.listing_rules.specs.Lists.{every}
 use Rattle.listing_rules.specs.Table.{Table, Row, rows, passes, rowsPass, rowsFill, packedRows, packedTable}
 use Rattle.listing_rules.specs.Records.{Record, recordRows, liesInside, allApart, laidOut, recordTable, packedRecords}

@@ -1,14 +1,7 @@
 -- What a caller has who indexed a table: the index of its rows, or, with room for every row that a table may have, that it does not pass. Rests on
 -- the parts of check 1 in listing_rules.
-use mathlib.Core.Path.{_≡_, refl, sym, _∙_, subst}
-use mathlib.Core.Bool.{Bool, true, false, _&&_, false≢true}
-use mathlib.Core.List.{List, map}
-use Prim.Native.Nat.{ℕ, _≤_}
-use native.Mathlib.Omega.{arith}
-use lib.Dec.{leb}
-use lib.ListN.{length, take}
-use lib.Seq.{length-take-le}
-use borrow.Author.Tests.{le-leb, leb-true}
+use Rattle.listing_rules.proofs.Prelude.{_∙_, _≡_, refl, subst, sym, Bool, _&&_, false, false≢true, true, List, map, _≤_, ℕ, arith, leb, length, take}
+use Rattle.listing_rules.proofs.Prelude.{length-take-le, le-leb, leb-true}
 use Rattle.listing_rules.specs.Table.{Table, rows, passes}
 use Rattle.listing_rules.specs.Records.{Record}
 use Rattle.records.specs.Words.{recordOf}

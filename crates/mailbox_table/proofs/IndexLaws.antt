@@ -1,10 +1,6 @@
 -- The rows of an index by their places. Rests on SharedLaws and BelowLaws.
-use mathlib.Core.Path.{_≡_, refl, ap, subst}
-use mathlib.Core.Bool.{true}
-use mathlib.Core.List.{List, [], _∷_}
-use Prim.Native.Nat.{ℕ, zero, suc, _+_, _-_, _≤_, _<_}
-use native.Mathlib.Omega.{arith}
-use lib.ListN.{length, drop, getD, length-take, length-drop}
+use Rattle.listing_rules.proofs.Prelude.{_≡_, ap, refl, subst, true, List, [], _∷_, _+_, _-_, _<_, _≤_, suc, zero, ℕ, arith, drop, getD, length}
+use Rattle.listing_rules.proofs.Prelude.{length-drop, length-take}
 use Rattle.listing_rules.specs.Orders.{byteOrder, isLt}
 use Rattle.listing_rules.specs.Table.{names}
 use Rattle.mailbox_table.specs.Shared.{sharedLen}

@@ -1,14 +1,7 @@
 -- The last condition of check 1, row by row.
-use mathlib.Core.Path.{_≡_, refl, _∙_}
-use mathlib.Core.Bool.{Bool, true, false, not, and-true}
-use mathlib.Core.List.{List, [], _∷_}
-use Prim.Native.Nat.{ℕ, _+_, _≤_, _<_}
-use native.Mathlib.Numerals.{add-one}
-use native.Mathlib.Nat.{le-refl}
-use native.Mathlib.Omega.{arith}
+use Rattle.listing_rules.proofs.Prelude.{_∙_, _≡_, refl, Bool, and-true, false, not, true, List, [], _∷_, _+_, _<_, _≤_, ℕ, le-refl, add-one, arith}
+use Rattle.listing_rules.proofs.Prelude.{drop, drop-of-length-le, getD, length, take-take}
 use lib.Bits.{and-zero-r}
-use lib.ListN.{length, drop, getD, drop-of-length-le}
-use lib.Seq.{take-take}
 use Rattle.listing_rules.specs.Lists.{every, anyOf}
 use Rattle.listing_rules.specs.Names.{below}
 use Rattle.listing_rules.specs.Flags.{noInferiors}

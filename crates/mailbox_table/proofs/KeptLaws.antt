@@ -1,12 +1,6 @@
 -- Words that are kept one by one: an index but for the order of their names. Rests on SharedLaws.
-use mathlib.Core.Path.{_≡_, refl, sym, ap, _∙_}
-use mathlib.Core.Bool.{true}
-use mathlib.Core.List.{List, [], _∷_, _++_}
-use Prim.Native.Nat.{ℕ, zero, suc, _+_, _≤_, _<_}
-use native.Mathlib.Decide.{decLe}
-use native.Mathlib.Omega.{arith}
-use lib.ListN.{length, getD, length-append, List·getD-append}
-use lib.Seq.{getD-at}
+use Rattle.listing_rules.proofs.Prelude.{_∙_, _≡_, ap, refl, sym, true, List, [], _++_, _∷_, _+_, _<_, _≤_, suc, zero, ℕ, decLe, arith}
+use Rattle.listing_rules.proofs.Prelude.{List·getD-append, getD, length, length-append, getD-at}
 use Rattle.listing_rules.specs.Orders.{ascends}
 use Rattle.listing_rules.specs.Table.{names}
 use Rattle.mailbox_table.specs.Words.{rowOfWord}

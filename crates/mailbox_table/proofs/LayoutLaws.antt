@@ -1,17 +1,9 @@
 -- Names without overlap, by a map of used bytes: the marks of one name, the loop over the names, and that two names of which neither is
 -- empty are apart exactly if no byte belongs to both. Rests on the laws of records in listing_rules.
-use mathlib.Core.Path.{_≡_, refl, sym, ap, _∙_}
-use mathlib.Core.Bool.{Bool, true, false, _&&_, _||_, not, false≢true}
-use mathlib.Core.List.{List, [], _∷_, _++_, map, map-append}
-use mathlib.Core.Logic.{_⊎_, inl, inr, ⊎-elim}
-use Prim.Native.Nat.{ℕ, zero, suc, _+_, _≤_, _<_}
-use native.Mathlib.Decide.{decLe, ℕ-discrete}
-use native.Mathlib.Numerals.{add-one}
-use native.Mathlib.Omega.{arith}
-use lib.Dec.{leb, ltb}
-use lib.ListN.{length, take, drop, getD, set, replicate, length-set, length-replicate}
-use lib.Seq.{getD-set-same, getD-set-other, take-suc, take-all, split-at}
-use borrow.Author.Tests.{le-leb, lt-ltb, leb-true, ltb-true, leb-false, ltb-false}
+use Rattle.listing_rules.proofs.Prelude.{_∙_, _≡_, ap, refl, sym, Bool, _&&_, _||_, false, false≢true, not, true, _⊎_, inl, inr, ⊎-elim, List, []}
+use Rattle.listing_rules.proofs.Prelude.{_++_, _∷_, map, map-append, _+_, _<_, _≤_, suc, zero, ℕ, add-one, decLe, ℕ-discrete, arith, leb, ltb, drop}
+use Rattle.listing_rules.proofs.Prelude.{getD, length, length-replicate, length-set, replicate, set, take, getD-set-other, getD-set-same, split-at}
+use Rattle.listing_rules.proofs.Prelude.{take-all, take-suc, le-leb, leb-false, leb-true, lt-ltb, ltb-false, ltb-true}
 use Rattle.listing_rules.specs.Lists.{every, anyOf}
 use Rattle.listing_rules.specs.Records.{Record, apart, allApart}
 use Rattle.listing_rules.proofs.Bools.{and-l, and-r, and-i, or-cases, or-none-l, or-none-r}

@@ -1,16 +1,9 @@
 -- The pass over words in row order: a word against the name before it, the loop's invariant, and what the pass answers. Rests on KeptLaws,
 -- RightLaws and WordLaws.
-use mathlib.Core.Path.{_≡_, refl, sym, ap, _∙_}
-use mathlib.Core.Bool.{Bool, true, false, cond, _&&_, and-false}
-use mathlib.Core.List.{List, [], _∷_, _++_, map, map-append}
-use Prim.Native.Nat.{ℕ, _+_, _≤_, _<_}
-use native.Mathlib.Nat.{add-zero}
-use native.Mathlib.Numerals.{add-one}
-use native.Mathlib.Omega.{arith}
-use lib.Dec.{leb}
-use lib.ListN.{length, take, drop, getD, set, length-set, length-drop, length-take, drop-of-length-le}
-use lib.Seq.{take-suc, take-suc-set, take-all, drop-set-lt, drop-drop, drop-cons, getD-drop}
-use borrow.Author.Tests.{le-leb, lt-leb, leb-true}
+use Rattle.listing_rules.proofs.Prelude.{_∙_, _≡_, ap, refl, sym, Bool, _&&_, and-false, cond, false, true, List, [], _++_, _∷_, map, map-append, _+_}
+use Rattle.listing_rules.proofs.Prelude.{_<_, _≤_, ℕ, add-zero, add-one, arith, leb, drop, drop-of-length-le, getD, length, length-drop, length-set}
+use Rattle.listing_rules.proofs.Prelude.{length-take, set, take, drop-cons, drop-drop, drop-set-lt, getD-drop, take-all, take-suc, take-suc-set}
+use Rattle.listing_rules.proofs.Prelude.{le-leb, leb-true, lt-leb}
 use Rattle.listing_rules.specs.Lists.{every}
 use Rattle.listing_rules.specs.Orders.{byteOrder, isLt, ascends}
 use Rattle.listing_rules.specs.Names.{lawfulName}

@@ -1,16 +1,9 @@
 -- The pass over the packed bytes: the row at a place, the loop's invariant, and what the pass answers. Rests on the laws of packed rows and
 -- records in listing_rules, and on WordLaws.
-use mathlib.Core.Path.{_≡_, refl, sym, ap, _∙_}
-use mathlib.Core.Bool.{Bool, true, false, cond, _&&_, and-false}
-use mathlib.Core.List.{List, [], _∷_, _++_, map, append-nil}
-use Prim.Native.Nat.{ℕ, suc, _+_, _-_, _*_, _%_, _≤_, _<_, min}
-use native.Mathlib.Nat.{add-zero, zero-add}
-use native.Mathlib.Numerals.{add-one}
-use native.Mathlib.Omega.{arith}
-use lib.Dec.{leb}
-use lib.ListN.{length, take, drop, getD, set, length-set, length-take, length-map}
-use lib.Seq.{take-suc-set, drop-set-lt, drop-drop}
-use borrow.Author.Tests.{le-leb, lt-leb, leb-true, leb-false}
+use Rattle.listing_rules.proofs.Prelude.{_∙_, _≡_, ap, refl, sym, Bool, _&&_, and-false, cond, false, true, List, [], _++_, _∷_, append-nil, map, _%_}
+use Rattle.listing_rules.proofs.Prelude.{_*_, _+_, _-_, _<_, _≤_, min, suc, ℕ, add-zero, zero-add, add-one, arith, leb, drop, getD, length}
+use Rattle.listing_rules.proofs.Prelude.{length-map, length-set, length-take, set, take, drop-drop, drop-set-lt, take-suc-set, le-leb, leb-false}
+use Rattle.listing_rules.proofs.Prelude.{leb-true, lt-leb}
 use Rattle.listing_rules.specs.Table.{rowsFill, packedTable}
 use Rattle.listing_rules.specs.Records.{Record, recordsAfter, packedRecords}
 use Rattle.listing_rules.proofs.Bools.{and-l, and-r}

@@ -1,11 +1,6 @@
 -- Check 1 of the rows of words as the code decides it: one pass over the words, and one over the rows with no inferiors. Rests on LinkLaws
 -- and RightLaws, and on the parts of check 1 in listing_rules.
-use mathlib.Core.Path.{_≡_, refl, sym, ap, _∙_}
-use mathlib.Core.Bool.{Bool, true, false, _&&_}
-use mathlib.Core.List.{List, [], _∷_, map}
-use Prim.Native.Nat.{ℕ, _≤_}
-use native.Mathlib.Omega.{arith}
-use lib.ListN.{length}
+use Rattle.listing_rules.proofs.Prelude.{_∙_, _≡_, ap, refl, sym, Bool, _&&_, false, true, List, [], _∷_, map, _≤_, ℕ, arith, length}
 use Rattle.listing_rules.specs.Lists.{every}
 use Rattle.listing_rules.specs.Orders.{byteOrder, isLt, ascends, ascendsFrom}
 use Rattle.listing_rules.specs.Names.{lawfulName}

@@ -1,8 +1,5 @@
 -- Rows that are right one after the other: every one is lawful, and they ascend. Rests on the definitions alone.
-use mathlib.Core.Path.{_≡_, refl}
-use mathlib.Core.Bool.{Bool, true, _&&_}
-use mathlib.Core.List.{List, [], _∷_}
-use Prim.Native.Nat.{ℕ}
+use Rattle.listing_rules.proofs.Prelude.{_≡_, refl, Bool, _&&_, true, List, [], _∷_, ℕ}
 use Rattle.listing_rules.specs.Lists.{every}
 use Rattle.listing_rules.specs.Orders.{byteOrder, isLt, ascendsFrom}
 use Rattle.listing_rules.specs.Names.{lawfulName}

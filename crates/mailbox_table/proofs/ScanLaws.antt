@@ -1,13 +1,6 @@
 -- The scan: what row k says of the rows from there on, in the words of the code's tests.
-use mathlib.Core.Path.{_≡_, refl, sym, _∙_, subst}
-use mathlib.Core.Bool.{Bool, true, false, _&&_, _||_}
-use mathlib.Core.List.{List, [], _∷_}
-use Prim.Native.Nat.{ℕ, zero, suc, _+_, _-_, _≤_, _<_}
-use native.Mathlib.Numerals.{add-one}
-use native.Mathlib.Omega.{arith}
-use lib.Dec.{eqb}
-use lib.ListN.{length, drop, getD, length-take, drop-of-length-le}
-use lib.Seq.{drop-cons}
+use Rattle.listing_rules.proofs.Prelude.{_∙_, _≡_, refl, subst, sym, Bool, _&&_, _||_, false, true, List, [], _∷_, _+_, _-_, _<_, _≤_, suc, zero, ℕ}
+use Rattle.listing_rules.proofs.Prelude.{add-one, arith, eqb, drop, drop-of-length-le, getD, length, length-take, drop-cons}
 use Rattle.listing_rules.specs.Lists.{anyOf}
 use Rattle.listing_rules.specs.Orders.{byteOrder, isLt, ascendsFrom}
 use Rattle.listing_rules.specs.Names.{below}
@@ -17,7 +10,8 @@ use Rattle.mailbox_table.specs.Shared.{sharedLen}
 use Rattle.mailbox_table.specs.Index.{nameAt, nthRow, nthName, rowsAt}
 use Rattle.mailbox_table.specs.Below.{marksOf, markedBelow, belowFrom, prefixOf, Begins}
 use Rattle.listing_rules.proofs.Bools.{and-l, and-r}
-use Rattle.mailbox_table.proofs.BelowLaws.{starts, starts-take, starts-on, starts-below, Behind, behind-below, behind-byte, behind-shared, behind-on, ascends-from, earlier-below}
+use Rattle.mailbox_table.proofs.BelowLaws.{starts, starts-take, starts-on, starts-below, Behind, behind-below, behind-byte, behind-shared}
+use Rattle.mailbox_table.proofs.BelowLaws.{behind-on, ascends-from, earlier-below}
 use Rattle.mailbox_table.proofs.IndexLaws.{names-length, name-at, name-length, names-ascend, shared-at}
 
 -- words that a test passes over

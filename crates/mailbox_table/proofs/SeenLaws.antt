@@ -1,18 +1,13 @@
 -- The rows that a reader sees, of an index: the bit of a reader, a word with another number of shared bytes, that the seen words tell the seen
 -- records and are an index of their rows, and the pass that moves them to the front. Rests on WordLaws, SharedLaws, and the sets of octets.
-use mathlib.Core.Path.{_≡_, refl, sym, ap, _∙_}
-use mathlib.Core.Bool.{Bool, true, false, cond, or-false, false≢true}
-use mathlib.Core.List.{List, [], _∷_, _++_, map, append-nil, append-assoc}
-use Prim.Native.Nat.{ℕ, zero, suc, _+_, _-_, _*_, _/_, _%_, _^_, _≤_, _<_, min}
-use native.Mathlib.Nat.{pow-suc, div-eq-of-lt}
-use native.Mathlib.Numerals.{add-one}
-use native.Mathlib.Omega.{arith}
-use lib.Dec.{eqb, leb}
+use Rattle.listing_rules.proofs.Prelude.{_∙_, _≡_, ap, refl, sym, Bool, cond, false, false≢true, or-false, true, List, [], _++_, _∷_, append-assoc}
+use Rattle.listing_rules.proofs.Prelude.{append-nil, map, _%_, _*_, _+_, _-_, _/_, _<_, _^_, _≤_, min, suc, zero, ℕ, div-eq-of-lt, pow-suc, add-one}
+use Rattle.listing_rules.proofs.Prelude.{arith, eqb, leb, drop, drop-of-length-le, getD, length, length-append, length-drop, length-map, length-set}
+use Rattle.listing_rules.proofs.Prelude.{length-take, set, take, take-append-drop, append-snoc, drop-cons, drop-drop, drop-set-lt, getD-drop}
+use Rattle.listing_rules.proofs.Prelude.{length-take-le, take-at, take-suc-set, eq-eqb, eqb-false, eqb-true, le-leb, leb-false, lt-leb, ltb-true}
+use Rattle.listing_rules.proofs.Prelude.{ne-eqb}
 use lib.Bits.{and-zero-r, or-zero-r}
-use lib.Pow.{pow-mono, shr-shr, field, mod-mod-pow}
-use lib.ListN.{length, take, drop, getD, set, length-map, length-set, length-take, length-drop, length-append, take-append-drop, drop-of-length-le}
-use lib.Seq.{length-take-le, take-at, take-suc-set, drop-set-lt, drop-drop, drop-cons, getD-drop, append-snoc}
-use borrow.Author.Tests.{eqb-true, eqb-false, ne-eqb, eq-eqb, le-leb, lt-leb, leb-true, leb-false, ltb-true}
+use lib.Pow.{pow-mono}
 use Rattle.listing_rules.specs.Bytes.{bit}
 use Rattle.listing_rules.specs.Lists.{every, anyOf, keep}
 use Rattle.listing_rules.specs.Orders.{byteOrder, isLt, ascendsFrom, ascends}
@@ -32,19 +27,13 @@ use Rattle.mailbox_table.specs.Shared.{sharedLen}
 use Rattle.mailbox_table.specs.Index.{nameAt, nthRow, nthName, rowAtWord, rowsAt, Indexed, Index}
 use Rattle.mailbox_table.specs.Seen.{memberOf, withShared, seenFrom, seenWords}
 use Rattle.mailbox_table.proofs.WordLaws.{place-fits, rows-records}
-use Rattle.mailbox_table.proofs.SharedLaws.{order-same, shared-same, order-other, shared-other, shared-nil-l, shared-le-r, order-nil-cons, order-cons-nil}
+use Rattle.mailbox_table.proofs.SharedLaws.{order-same, shared-same, order-other, shared-other, shared-nil-l, shared-le-r, order-nil-cons}
+use Rattle.mailbox_table.proofs.SharedLaws.{order-cons-nil}
 
 -- one member of a set
 touches-one : (k s : ℕ) → touches s (2 ^ k) ≡ bit k s
 unfolding setWith anyOf
 touches-one k s = ap (touches s) (sym (or-zero-r (2 ^ k))) ∙ touches-bits s (k ∷ []) ∙ or-false (bit k s)
-
--- the low bits of a byte's worth of a number are its own
-byte-bit : (k x : ℕ) → k ≤ 7 → x % 256 / 2 ^ k % 2 ≡ x / 2 ^ k % 2
-byte-bit k x h =
-    let places : 8 ≡ 7 - k + 1 + k = omega arith in
-    let wide : 256 ≡ 2 ^ (7 - k + 1 + k) = ap (λ (n : ℕ). 2 ^ n) places in
-    ap (λ (n : ℕ). x % n / 2 ^ k % 2) wide ∙ ap (λ (n : ℕ). n % 2) (field x (7 - k + 1) k) ∙ mod-mod-pow (x / 2 ^ k) (7 - k) 1
 
 -- a byte has no bit above 7
 byte-ends : (k x : ℕ) → 7 < k → x % 256 / 2 ^ k ≡ 0

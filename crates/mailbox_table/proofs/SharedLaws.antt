@@ -1,17 +1,7 @@
 -- How far two names are alike, and what that says of their order. Rests on the order of bytes in listing_rules.
-use mathlib.Core.Path.{_≡_, refl, sym, _∙_}
-use mathlib.Core.Bool.{Bool, true, false, cond, false≢true}
-use mathlib.Core.List.{List, [], _∷_}
-use mathlib.Core.Logic.{_⊎_, inl, inr}
-use Prim.Native.Nat.{ℕ, suc, _+_, _≤_, _<_, min, compare}
-use native.Mathlib.Numerals.{add-one}
-use native.Mathlib.Nat.{add-zero}
-use native.Mathlib.Decide.{decLe}
-use native.Mathlib.Omega.{arith}
-use lib.Dec.{eqb, ltb}
-use lib.ListN.{length, drop, getD, drop-of-length-le}
-use lib.Seq.{drop-cons}
-use borrow.Author.Tests.{eq-eqb, ne-eqb, eqb-true, eqb-false, lt-ltb, le-ltb}
+use Rattle.listing_rules.proofs.Prelude.{_∙_, _≡_, refl, sym, Bool, cond, false, false≢true, true, _⊎_, inl, inr, List, [], _∷_, _+_, _<_, _≤_}
+use Rattle.listing_rules.proofs.Prelude.{compare, min, suc, ℕ, add-zero, add-one, decLe, arith, eqb, ltb, drop, drop-of-length-le, getD, length}
+use Rattle.listing_rules.proofs.Prelude.{drop-cons, eq-eqb, eqb-false, eqb-true, le-ltb, lt-ltb, ne-eqb}
 use Rattle.listing_rules.specs.Orders.{lexBy, byteOrder, thenBy, isLt}
 use Rattle.listing_rules.proofs.Order.{View, less, equal, more, view, eq-compare}
 use Rattle.mailbox_table.specs.Shared.{sharedLen}

@@ -1,13 +1,6 @@
 -- What a caller has who turned a packed table into records. Rests on RecordLaws of listing_rules.
-use mathlib.Core.Path.{_≡_, refl, sym, _∙_}
-use mathlib.Core.Bool.{Bool, true, false, false≢true}
-use mathlib.Core.List.{List}
-use mathlib.Core.Option.{none, some}
-use Prim.Native.Nat.{ℕ, _≤_, min}
-use native.Mathlib.Omega.{arith}
-use lib.Dec.{leb}
-use lib.ListN.{length, take, length-take}
-use borrow.Author.Tests.{le-leb, leb-true}
+use Rattle.listing_rules.proofs.Prelude.{_∙_, _≡_, refl, sym, Bool, false, false≢true, true, none, some, List, _≤_, min, ℕ, arith, leb, length}
+use Rattle.listing_rules.proofs.Prelude.{length-take, take, le-leb, leb-true}
 use Rattle.listing_rules.specs.Table.{Row, Table, passes, rowsPass, packedRows, rowsFill, packedTable}
 use Rattle.listing_rules.specs.Records.{recordTable, packedRecords}
 use Rattle.listing_rules.proofs.Passes.{rows-parts}

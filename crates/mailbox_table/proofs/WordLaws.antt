@@ -1,11 +1,6 @@
 -- A row's number tells the row and its record, with marks or readers above it too, and a name that is clamped to its area is the name. Rests on the library alone.
-use mathlib.Core.Path.{_≡_, refl, sym, ap, _∙_}
-use mathlib.Core.List.{List, [], _∷_, map}
-use Prim.Native.Nat.{ℕ, _-_, _/_, _%_, _≤_, _<_}
-use native.Mathlib.Nat.{le-refl}
-use native.Mathlib.Omega.{arith}
-use lib.ListN.{length, take, drop, drop-of-length-le, length-drop}
-use lib.Seq.{take-nil, take-all}
+use Rattle.listing_rules.proofs.Prelude.{_∙_, _≡_, ap, refl, sym, List, [], _∷_, map, _%_, _-_, _/_, _<_, _≤_, ℕ, le-refl, arith, drop}
+use Rattle.listing_rules.proofs.Prelude.{drop-of-length-le, length, length-drop, take, take-all, take-nil}
 use Rattle.listing_rules.specs.Table as Table
 use Rattle.listing_rules.specs.Records.{rowOf, recordRows}
 use Rattle.mailbox_table.specs.declared.rows.Row.{Row}

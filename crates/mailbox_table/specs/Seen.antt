@@ -1,5 +1,5 @@
 -- The rows that a reader sees, of an index.
-use mathlib.Core.Bool.{Bool, cond}
+use mathlib.Core.Bool.{cond}
 use mathlib.Core.List.{List, [], _∷_}
 use Prim.Native.Nat.{ℕ, _+_, _-_, _*_, _^_, min}
 use Rattle.listing_rules.specs.Readers.{isReader, sees}

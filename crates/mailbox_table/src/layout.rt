@@ -1,7 +1,7 @@
 // Names without overlap. Each byte of a name is marked in a map of the area, and a byte that is marked already tells: the time goes
 // with the bytes of the names, and no row is held against another.
-use super::MAX_BYTES;
 use super::rows::Row;
+use records::MAX_BYTES;
 ghost use mathlib.Core.Path.{_≡_};
 ghost use mathlib.Core.Bool.{false};
 ghost use mathlib.Core.List.{map};

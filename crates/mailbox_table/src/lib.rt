@@ -22,8 +22,6 @@ pub use readers::MAX_READER;
 pub use readers::Readers;
 pub use readers::readers_of;
 pub use readers::see_rows;
-use records::Record;
-use records::copy_in;
 pub use records::no_words;
 ghost use mathlib.Core.Path.{_≡_};
 ghost use mathlib.Core.List.{map};
@@ -31,11 +29,9 @@ ghost use lib.ListN.{length, take, replicate};
 ghost use Rattle.listing_rules.specs.Table.{passes, packedTable};
 ghost use Rattle.listing_rules.specs.Records.{packedRecords};
 ghost use Rattle.records.specs.Words.{recordOf};
-ghost use Rattle.records.specs.Lent.{lentTable, wordTable};
+ghost use Rattle.records.specs.Lent.{wordTable};
 ghost use Rattle.mailbox_table.specs.Index.{Indexes};
 ghost use Rattle.mailbox_table.specs.Packed.{Unpacks};
-
-pub(crate) const MAX_BYTES: usize = 32768;
 
 // What an index of a table answers: the number of its rows, or that the table does not pass (or has more rows than there is
 // room for).
@@ -68,16 +64,7 @@ pub fn index(table: &[u8], words: &mut [u64]) -> Indexing
     Indexing::Rows(n)
 }
 
-// Check 1: whether the first `count` records pass, over the area of name bytes.
-pub fn check_records(records: &[Record], count: usize, area: &[u8]) -> bool
-    ensures { λ r. ⌜ r ≡ passes (lentTable (now (area .entry)) (now (records .entry)) count) ⌝ }
-{
-    let mut words = no_words();
-    let n = copy_in(records, count, &mut words);
-    check_words(&words[..n], count, area)
-}
-
-// The same over records, each as a number.
+// Check 1: whether the first `count` of the records, each as a number (`records::word_of`), pass over the area of name bytes.
 pub fn check_words(raw: &[u64], count: usize, area: &[u8]) -> bool
     ensures { λ r. ⌜ r ≡ passes (wordTable (now (area .entry)) (now (raw .entry)) count) ⌝ }
 {

@@ -1,7 +1,6 @@
 // The packed table: turned into records first, by one pass over the bytes with a word for each row and no judgement of flags and
 // names, and then checked as records are. Its names never overlap.
 use super::Indexing;
-use super::MAX_BYTES;
 use super::flags::Flags;
 use super::link::rows_pass;
 use super::rows::Row;
@@ -10,6 +9,7 @@ use super::scan::with_marks;
 use octets::byte_at;
 use octets::least;
 use octets::wide;
+use records::MAX_BYTES;
 use records::MAX_ROWS;
 ghost use mathlib.Core.Path.{_≡_};
 ghost use Prim.Native.Nat.{_+_, _*_};

@@ -1,9 +1,9 @@
 // Records over an area of name bytes, as raw words: copied into the lent words, checked, and held against each other's bytes.
 use super::Indexing;
-use super::MAX_BYTES;
 use super::layout::lie_apart;
 use super::link::rows_pass;
 use octets::least;
+use records::MAX_BYTES;
 use records::MAX_ROWS;
 ghost use mathlib.Core.Path.{_≡_};
 ghost use mathlib.Core.List.{map, _++_};

@@ -1,14 +1,8 @@
 -- INBOX in any case of letters as the first level of a name: what the first five bytes and the next tell, the one lawful spelling, and a
 -- name spelled so. Rests on octets' laws of comparing and writing.
-use mathlib.Core.Path.{_≡_, refl, sym, ap, _∙_}
-use mathlib.Core.Bool.{Bool, true, false, cond, not, _&&_, _||_, and-assoc, and-true}
-use mathlib.Core.List.{List, [], _∷_, _++_, map}
-use Prim.Native.Nat.{ℕ, suc, _≤_, _<_}
-use native.Mathlib.Omega.{arith}
-use lib.Dec.{eqb}
-use lib.ListN.{length, take, drop, getD, drop-of-length-le, length-take}
-use lib.Seq.{sets, drop-cons}
-use borrow.Author.Tests.{ne-eqb, eqb-true, eqb-false}
+use Rattle.listing_rules.proofs.Prelude.{_∙_, _≡_, ap, refl, sym, Bool, _&&_, _||_, and-assoc, and-true, cond, false, not, true, List, [], _++_, _∷_}
+use Rattle.listing_rules.proofs.Prelude.{map, _<_, _≤_, suc, ℕ, arith, eqb, drop, drop-of-length-le, getD, length, length-take, take, drop-cons, sets}
+use Rattle.listing_rules.proofs.Prelude.{eqb-false, eqb-true, ne-eqb}
 use Rattle.listing_rules.specs.Bytes.{slash, same, raise, raised, spells}
 use Rattle.listing_rules.specs.Lists.{onFirst}
 use Rattle.listing_rules.specs.Names.{levels, inbox, inboxSpelled}

@@ -1,16 +1,9 @@
 -- The shape of a name, as the loops over its bytes see it: slashes and levels, and the parts of a lawful name one by one. Rests on
 -- nothing.
-use mathlib.Core.Path.{_≡_, refl, ap}
-use mathlib.Core.Bool.{Bool, true, false, cond, not, _&&_, and-assoc, and-false}
-use mathlib.Core.List.{List, [], _∷_}
-use Prim.Native.Nat.{ℕ, zero, suc, _+_, _-_, _≤_, _<_}
-use native.Mathlib.Numerals.{add-one}
-use native.Mathlib.Omega.{arith}
-use lib.Dec.{eqb, lit≤}
-use lib.ListN.{length, drop, getD, drop-of-length-le, length-drop}
-use lib.Seq.{drop-cons}
+use Rattle.listing_rules.proofs.Prelude.{_≡_, ap, refl, Bool, _&&_, and-assoc, and-false, cond, false, not, true, List, [], _∷_, _+_, _-_, _<_, _≤_}
+use Rattle.listing_rules.proofs.Prelude.{suc, zero, ℕ, add-one, arith, eqb, lit≤, drop, drop-of-length-le, getD, length, length-drop, drop-cons}
+use Rattle.listing_rules.proofs.Prelude.{eq-eqb, le-leb, lt-leb, ne-eqb}
 use mir.Val.{boolByte}
-use borrow.Author.Tests.{eq-eqb, ne-eqb, le-leb, lt-leb}
 use Rattle.listing_rules.specs.Bytes.{slash, within, all}
 use Rattle.listing_rules.specs.Lists.{every, onFirst}
 use Rattle.listing_rules.specs.Names.{levels, isFull, inboxSpelled, lawfulName, nameByte}

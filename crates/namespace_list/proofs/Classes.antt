@@ -1,14 +1,7 @@
 -- Classes that do not descend, with at most four entries each: one count is enough, which starts anew where the class rises.
 -- Rests on the library alone.
-use mathlib.Core.Path.{_≡_, refl, sym, ap, _∙_}
-use mathlib.Core.Bool.{Bool, true, false, cond, _&&_, and-false}
-use mathlib.Core.Logic.{_⊎_, inl, inr}
-use mathlib.Core.List.{List, [], _∷_}
-use Prim.Native.Nat.{ℕ, zero, suc, _+_, _≤_, _<_}
-use native.Mathlib.Omega.{arith}
-use lib.Dec.{eqb, leb}
-use lib.ListN.{length}
-use borrow.Author.Tests.{eq-eqb, ne-eqb, eqb-true, eqb-false, leb-true, le-leb, lt-leb}
+use Rattle.listing_rules.proofs.Prelude.{_∙_, _≡_, ap, refl, sym, Bool, _&&_, and-false, cond, false, true, _⊎_, inl, inr, List, [], _∷_, _+_, _<_}
+use Rattle.listing_rules.proofs.Prelude.{_≤_, suc, zero, ℕ, arith, eqb, leb, length, eq-eqb, eqb-false, eqb-true, le-leb, leb-true, lt-leb, ne-eqb}
 use Rattle.listing_rules.specs.Lists.{keep}
 use Rattle.listing_rules.specs.Namespaces.{Entry, classesRise, ofClass}
 use Rattle.listing_rules.proofs.Bools.{and-l, and-r}

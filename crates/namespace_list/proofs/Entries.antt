@@ -1,12 +1,7 @@
 -- Entries of a packed list, at a place of it. Rests on the laws of a class in Classes.
-use mathlib.Core.Path.{_≡_, refl, sym, ap, _∙_}
-use mathlib.Core.Bool.{true, false}
-use mathlib.Core.List.{List, [], _∷_}
-use Prim.Native.Nat.{ℕ, zero, suc, _+_, _-_, _≤_, _<_, min}
-use native.Mathlib.Decide.{decLe}
-use native.Mathlib.Omega.{arith}
-use lib.ListN.{length, take, drop, getD, length-drop, drop-of-length-le}
-use lib.Seq.{take-all, take-nil, drop-cons, drop-drop, getD-drop}
+use Rattle.listing_rules.proofs.Prelude.{_∙_, _≡_, ap, refl, sym, false, true, List, [], _∷_, _+_, _-_, _<_, _≤_, min, suc, zero, ℕ, decLe, arith}
+use Rattle.listing_rules.proofs.Prelude.{drop, drop-of-length-le, getD, length, length-drop, take, drop-cons, drop-drop, getD-drop, take-all}
+use Rattle.listing_rules.proofs.Prelude.{take-nil}
 use Rattle.listing_rules.specs.Namespaces.{entryAt, entriesAfter, entries, entriesFill, ofClass}
 use Rattle.namespace_list.specs.declared.Entry.{Entry}
 use Rattle.namespace_list.specs.Entries.{entryOf, meaning, EntryAt}

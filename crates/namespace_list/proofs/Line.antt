@@ -1,9 +1,5 @@
 -- The text of a class, and of the whole answer. Rests on Entries.
-use mathlib.Core.Path.{_≡_, refl}
-use mathlib.Core.List.{List, [], _∷_, _++_, append-assoc}
-use Prim.Native.Nat.{ℕ, _≤_, _<_}
-use native.Mathlib.Omega.{arith}
-use lib.ListN.{length, drop}
+use Rattle.listing_rules.proofs.Prelude.{_≡_, refl, List, [], _++_, _∷_, append-assoc, _<_, _≤_, ℕ, arith, drop, length}
 use Rattle.listing_rules.specs.Bytes.{text}
 use Rattle.listing_rules.specs.Lists.{joined}
 use Rattle.listing_rules.specs.Lines.{okLine}

@@ -1,13 +1,6 @@
 -- Check 2 from a place of the list on: one law for each way through the loop of `check`. Rests on Entries and Classes.
-use mathlib.Core.Path.{_≡_, _∙_}
-use mathlib.Core.Bool.{Bool, true, false, _&&_, _||_, and-false, and-assoc}
-use mathlib.Core.List.{List, _∷_}
-use Prim.Native.Nat.{ℕ, _+_, _≤_, _<_}
-use native.Mathlib.Nat.{zero-add}
-use native.Mathlib.Omega.{arith}
-use lib.Dec.{leb, eqb}
-use lib.ListN.{length, drop}
-use borrow.Author.Tests.{leb-true}
+use Rattle.listing_rules.proofs.Prelude.{_∙_, _≡_, Bool, _&&_, _||_, and-assoc, and-false, false, true, List, _∷_, _+_, _<_, _≤_, ℕ, zero-add, arith}
+use Rattle.listing_rules.proofs.Prelude.{eqb, leb, drop, length, leb-true}
 use Rattle.listing_rules.specs.Bytes.{all, within}
 use Rattle.listing_rules.specs.Lists.{every}
 use Rattle.listing_rules.specs.Namespaces as rules

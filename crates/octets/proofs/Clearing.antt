@@ -1,11 +1,6 @@
 -- A loop that stores zeros from the front on, over bytes or words; what is left of zeros. Rests on the library's laws of filling.
-use mathlib.Core.Path.{_≡_, refl, _∙_}
-use mathlib.Core.List.{List, _++_, append-nil}
-use Prim.Native.Nat.{ℕ, zero, suc, _+_, _-_, _≤_, _<_}
-use native.Mathlib.Nat.{sub-zero, zero-sub, suc-sub-suc}
-use native.Mathlib.Omega.{arith}
-use lib.ListN.{length, drop, set, replicate, length-set}
-use lib.Seq.{drop-length}
+use Rattle.listing_rules.proofs.Prelude.{_∙_, _≡_, refl, List, _++_, append-nil, _+_, _-_, _<_, _≤_, suc, zero, ℕ, sub-zero, suc-sub-suc, zero-sub}
+use Rattle.listing_rules.proofs.Prelude.{arith, drop, length, length-set, replicate, set, drop-length}
 use borrow.Author.Fill.{fill-none, fill-more}
 
 -- the first i elements of d are cleared, which is e

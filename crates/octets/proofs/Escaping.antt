@@ -1,13 +1,6 @@
 -- Quoted text byte by byte: what a byte is written as, and how long the text gets. Rests on the library alone.
-use mathlib.Core.Path.{_≡_, refl, ap, _∙_}
-use mathlib.Core.Bool.{Bool, true, false, cond, _||_}
-use mathlib.Core.List.{List, [], _∷_, _++_}
-use Prim.Native.Nat.{ℕ, suc, _+_, _≤_, _<_}
-use native.Mathlib.Numerals.{add-one}
-use native.Mathlib.Omega.{arith}
-use lib.Dec.{eqb}
-use lib.ListN.{length, drop, getD, drop-of-length-le, length-append}
-use lib.Seq.{drop-cons}
+use Rattle.listing_rules.proofs.Prelude.{_∙_, _≡_, ap, refl, Bool, _||_, cond, false, true, List, [], _++_, _∷_, _+_, _<_, _≤_, suc, ℕ, add-one}
+use Rattle.listing_rules.proofs.Prelude.{arith, eqb, drop, drop-of-length-le, getD, length, length-append, drop-cons}
 use Rattle.listing_rules.specs.Bytes.{quote, backslash}
 use Rattle.listing_rules.specs.Lines.{escaped}
 use Rattle.octets.specs.Escape.{escapeOf}

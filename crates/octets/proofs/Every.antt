@@ -1,11 +1,6 @@
 -- A test on every byte of a run, in a loop over it: the bytes from a place on decide. Rests on the library alone.
-use mathlib.Core.Path.{_≡_}
-use mathlib.Core.Bool.{Bool, true, false, _&&_, and-assoc, and-true}
-use mathlib.Core.List.{List}
-use Prim.Native.Nat.{ℕ, suc, _+_, _≤_, _<_}
-use native.Mathlib.Numerals.{add-one}
-use lib.ListN.{length, drop, getD, drop-of-length-le}
-use lib.Seq.{drop-cons}
+use Rattle.listing_rules.proofs.Prelude.{_≡_, Bool, _&&_, and-assoc, and-true, false, true, List, _+_, _<_, _≤_, suc, ℕ, add-one, drop}
+use Rattle.listing_rules.proofs.Prelude.{drop-of-length-le, getD, length, drop-cons}
 use Rattle.listing_rules.specs.Bytes.{all}
 
 module _ (p : ℕ → Bool) (s : List ℕ) (i : ℕ) where

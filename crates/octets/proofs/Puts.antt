@@ -1,15 +1,9 @@
 -- Laws of writes: a run of them is one write of the bytes joined, in a loop too, and a write at the front that fits is the bytes and what
 -- lay after them. Rests on the library's laws of `sets`.
-use mathlib.Core.Path.{_≡_, refl, sym, ap, _∙_}
-use mathlib.Core.List.{List, [], _∷_, _++_, append-assoc, append-nil}
-use mathlib.Core.Logic.{_⊎_, inl, inr, ⊎-elim}
-use Prim.Native.Nat.{ℕ, suc, _+_, _-_, _≤_, _<_, _^_, min}
-use native.Mathlib.Nat.{zero-add, add-zero, add-suc, suc-add}
-use native.Mathlib.Decide.{decLe}
-use native.Mathlib.Numerals.{add-one}
-use native.Mathlib.Omega.{arith}
-use lib.ListN.{length, set, length-append, take, getD, drop, take-append-drop}
-use lib.Seq.{sets, length-sets, set-out, take-suc, take-all, sets-eq, length-take-le}
+use Rattle.listing_rules.proofs.Prelude.{_∙_, _≡_, ap, refl, sym, _⊎_, inl, inr, ⊎-elim, List, [], _++_, _∷_, append-assoc, append-nil, _+_, _-_, _<_}
+use Rattle.listing_rules.proofs.Prelude.{_^_, _≤_, min, suc, ℕ, add-suc, add-zero, suc-add, zero-add, add-one, decLe, arith, drop, getD, length}
+use Rattle.listing_rules.proofs.Prelude.{length-append, set, take, take-append-drop, length-sets, length-take-le, set-out, sets, sets-eq, take-all}
+use Rattle.listing_rules.proofs.Prelude.{take-suc}
 use Rattle.octets.specs.Put.{Put}
 
 pub either : (a b : ℕ) → (a ≤ b) ⊎ (b < a)

@@ -1,14 +1,7 @@
 -- Two runs compared byte by byte, and a run compared in any case of letters: what is left from a place on decides.
 -- Rests on the library alone.
-use mathlib.Core.Path.{_≡_, refl, sym, ap, _∙_}
-use mathlib.Core.Bool.{Bool, true, false, _&&_}
-use mathlib.Core.List.{List, [], _∷_}
-use Prim.Native.Nat.{ℕ, suc, _+_, _≤_, _<_}
-use native.Mathlib.Numerals.{add-one}
-use lib.Dec.{eqb}
-use lib.ListN.{length, drop, getD, drop-of-length-le}
-use lib.Seq.{drop-cons}
-use borrow.Author.Tests.{eq-eqb, ne-eqb}
+use Rattle.listing_rules.proofs.Prelude.{_∙_, _≡_, ap, refl, sym, Bool, _&&_, false, true, List, [], _∷_, _+_, _<_, _≤_, suc, ℕ, add-one, eqb, drop}
+use Rattle.listing_rules.proofs.Prelude.{drop-of-length-le, getD, length, drop-cons, eq-eqb, ne-eqb}
 use Rattle.listing_rules.specs.Bytes.{same, spells, raise, raised}
 
 -- runs of different length differ

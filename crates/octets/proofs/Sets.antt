@@ -1,15 +1,10 @@
 -- A member of a set by its place: `contains`, `union` and `touches` in terms of `bit`. Rests on the library's laws of bits.
-use mathlib.Core.Path.{_≡_, refl, sym, ap, ap₂, _∙_}
-use mathlib.Core.Bool.{Bool, true, false, _||_, not}
-use mathlib.Core.List.{List, [], _∷_}
-use Prim.Native.Nat.{ℕ, zero, suc, _+_, _*_, _-_, _/_, _%_, _^_, _<_, min, max}
-use native.Mathlib.Nat.{pow-suc, mod-lt, zero-lt-suc, one-mul}
-use native.Mathlib.Omega.{arith}
-use lib.Dec.{eqb}
+use Rattle.listing_rules.proofs.Prelude.{_∙_, _≡_, ap, ap₂, refl, sym, Bool, _||_, false, not, true, List, [], _∷_, _%_, _*_, _+_, _-_, _/_, _<_, _^_}
+use Rattle.listing_rules.proofs.Prelude.{max, min, suc, zero, ℕ, mod-lt, one-mul, pow-suc, zero-lt-suc, arith, eqb, eq-eqb, eqb-false, eqb-true}
+use Rattle.listing_rules.proofs.Prelude.{ne-eqb}
 use lib.Bits.{bitAnd, bitOr, and-high, and-step, or-step, and-shr, and-mod, or-shr, or-mod, and-zero-r, and-le-l, and-le-r, or-add-and}
 use lib.Arith.{bin-ind}
 use lib.Pow.{pow-pos}
-use borrow.Author.Tests.{eq-eqb, ne-eqb, eqb-true, eqb-false}
 use Rattle.listing_rules.specs.Bytes.{bit}
 use Rattle.listing_rules.specs.Lists.{anyOf}
 use Rattle.octets.specs.Sets.{contains, union, touches, setWith}

@@ -1,10 +1,5 @@
 -- An answer at the front of a lent buffer: its length and its bytes where it fits, else refusal 9 and no byte. Rests on Puts.
-use mathlib.Core.Path.{refl, ap, _∙_}
-use mathlib.Core.List.{List}
-use Prim.Native.Nat.{ℕ, _≤_, _<_}
-use native.Mathlib.Omega.{arith}
-use lib.ListN.{length}
-use borrow.Author.Tests.{le-leb, lt-leb}
+use Rattle.listing_rules.proofs.Prelude.{_∙_, ap, refl, List, _<_, _≤_, ℕ, arith, length, le-leb, lt-leb}
 use Rattle.listing_rules.specs.Server.{answered, limited, bufferAfter}
 use Rattle.octets.specs.Put.{Put}
 use Rattle.octets.specs.Written.{writtenIs, Gives}

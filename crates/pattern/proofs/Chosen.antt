@@ -1,11 +1,6 @@
 -- Patterns that count, one by one over a packed run. Rests on Packed and Folded.
-use mathlib.Core.Path.{_≡_, refl, sym, ap, _∙_}
-use mathlib.Core.Bool.{Bool, true, false, cond, _&&_, _||_, not, false≢true}
-use mathlib.Core.List.{List, [], _∷_}
-use Prim.Native.Nat.{ℕ, suc, _+_, _-_, _≤_, _<_, min}
-use native.Mathlib.Omega.{arith}
-use lib.Dec.{eqb}
-use lib.ListN.{length, drop, take, getD, drop-of-length-le}
+use Rattle.listing_rules.proofs.Prelude.{_∙_, _≡_, ap, refl, sym, Bool, _&&_, _||_, cond, false, false≢true, not, true, List, [], _∷_, _+_, _-_, _<_}
+use Rattle.listing_rules.proofs.Prelude.{_≤_, min, suc, ℕ, arith, eqb, drop, drop-of-length-le, getD, length, take}
 use Rattle.listing_rules.specs.Bytes.{same}
 use Rattle.listing_rules.specs.Names.{inbox}
 use Rattle.listing_rules.specs.Lists.{anyOf, keep}

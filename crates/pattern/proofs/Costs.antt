@@ -2,21 +2,16 @@
 --
 -- They are counted by the places of the pattern: from the "*" to go back to up to where the run began, from there to the place that
 -- is looked at, and from that on.
-use mathlib.Core.Path.{_≡_, sym, ap, _∙_}
-use mathlib.Core.Bool.{Bool, true, false}
-use mathlib.Core.List.{List, [], _∷_, _++_, append-assoc}
-use Prim.Native.Nat.{ℕ, _+_, _≤_, _<_}
-use native.Mathlib.Omega.{arith}
-use lib.Dec.{eqb}
-use lib.ListN.{length, drop}
+use Rattle.listing_rules.proofs.Prelude.{_∙_, _≡_, ap, sym, Bool, false, true, List, [], _++_, _∷_, append-assoc, _+_, _<_, _≤_, ℕ, arith, eqb, drop}
+use Rattle.listing_rules.proofs.Prelude.{length}
 use Rattle.listing_rules.specs.Bytes.{slash}
 use Rattle.pattern.specs.declared.steps.Known.{Known}
 use Rattle.pattern.specs.declared.steps.Known.the-variants.{Gone, Pending, Settled}
 use Rattle.pattern.specs.Folded.{isWildcard}
 use Rattle.pattern.proofs.Tails.{PlainByte, plainly-more}
-use Rattle.pattern.proofs.Places.{nextLevel, past, pastAll, room, left, toEnd, next-more, next-mono, next-run}
-use Rattle.pattern.proofs.Places.{past-wild, past-slash, past-plain, all-least, all-mono, all-append, all-one, all-plain}
-use Rattle.pattern.proofs.Places.{room-anti, room-less, room-some, left-none, left-one, left-anti, left-append, end-cons, end-some, end-less, end-append}
+use Rattle.pattern.proofs.Places.{nextLevel, past, pastAll, room, left, toEnd, next-more, next-mono, next-run, past-wild, past-slash}
+use Rattle.pattern.proofs.Places.{past-plain, all-least, all-mono, all-append, all-one, all-plain, room-anti, room-less, room-some, left-none}
+use Rattle.pattern.proofs.Places.{left-one, left-anti, left-append, end-cons, end-some, end-less, end-append}
 use Rattle.pattern.proofs.Spans.{restAt, span, span-rest, span-none, span-join, span-more, span-length}
 use Rattle.pattern.proofs.Standing.{Begun}
 

@@ -1,13 +1,6 @@
 -- A pattern's bytes as they are compared: `letterOf` byte by byte, `folded` for the whole. Rests on the definitions alone.
-use mathlib.Core.Path.{_≡_, refl, ap}
-use mathlib.Core.Bool.{Bool, true, false, cond, _&&_}
-use mathlib.Core.List.{List, [], _∷_}
-use Prim.Native.Nat.{ℕ, _+_, _≤_, _<_}
-use native.Mathlib.Numerals.{add-one}
-use lib.Dec.{leb}
-use lib.ListN.{length, drop, getD}
-use lib.Seq.{drop-cons}
-use borrow.Author.Tests.{le-leb, lt-leb}
+use Rattle.listing_rules.proofs.Prelude.{_≡_, ap, refl, Bool, _&&_, cond, false, true, List, [], _∷_, _+_, _<_, _≤_, ℕ, add-one, leb, drop, getD}
+use Rattle.listing_rules.proofs.Prelude.{length, drop-cons, le-leb, lt-leb}
 use Rattle.listing_rules.specs.Bytes.{raise, raised, same}
 use Rattle.listing_rules.specs.Names.{inbox}
 use Rattle.listing_rules.specs.Match.{wildMatch, matches}
@@ -38,9 +31,6 @@ folded-at fold p i h = rw (add-one, drop-cons p i 0 h)
 -- the byte at a place of the pattern as it is compared, and whether a name matches the pattern from there on
 abbrev pub letterAt : Bool → List ℕ → ℕ → ℕ
 letterAt fold p i = letterOf fold (getD p i 0)
-
-abbrev pub matchFrom : Bool → List ℕ → ℕ → List ℕ → Bool
-matchFrom fold p i = wildMatch (folded fold (drop i p))
 
 -- a match is one against the folded pattern
 pub matches-folded : (fold : Bool) (p n : List ℕ) → fold ≡ same n inbox → wildMatch (folded fold p) n ≡ matches p n

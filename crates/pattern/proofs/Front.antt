@@ -1,22 +1,14 @@
 -- The front of the pattern that is the name's: how far it goes, from place to place, and that its steps are those of the match, one for
 -- each place. Rests on Running.
-use mathlib.Core.Path.{_≡_, refl, sym, ap, _∙_}
-use mathlib.Core.Bool.{Bool, true, false, cond, not, _||_, false≢true}
-use mathlib.Core.List.{List, [], _∷_}
-use Prim.Native.Nat.{ℕ, suc, _+_, _≤_, _<_, min}
-use native.Mathlib.Nat.{zero-add}
-use native.Mathlib.Numerals.{add-one}
-use native.Mathlib.Decide.{decLe}
-use native.Mathlib.Omega.{arith}
-use lib.Dec.{eqb}
-use lib.ListN.{length, drop, getD, drop-of-length-le}
-use lib.Seq.{drop-cons, drop-drop}
+use Rattle.listing_rules.proofs.Prelude.{_∙_, _≡_, ap, refl, sym, Bool, _||_, cond, false, false≢true, not, true, List, [], _∷_, _+_, _<_, _≤_, min}
+use Rattle.listing_rules.proofs.Prelude.{suc, ℕ, zero-add, add-one, decLe, arith, eqb, drop, drop-of-length-le, getD, length, drop-cons, drop-drop}
 use Rattle.listing_rules.specs.Bytes.{slash, isEmpty}
 use Rattle.pattern.specs.declared.steps.Going.the-variants.{On}
 use Rattle.pattern.specs.declared.steps.At.{At}
 use Rattle.pattern.specs.declared.steps.Ends.{Ends}
 use Rattle.pattern.specs.Folded.{letterOf, folded, isWildcard}
-use Rattle.pattern.specs.Steps.{oneMore, wentIs, starIs, levelIs, slashIs, byteIs, nameIs, lookedAt, stepIs, givenUpIs, settledAs, plainRun, noStar, endsIs, frontIs}
+use Rattle.pattern.specs.Steps.{oneMore, wentIs, starIs, levelIs, slashIs, byteIs, nameIs, lookedAt, stepIs, givenUpIs, settledAs, plainRun}
+use Rattle.pattern.specs.Steps.{noStar, endsIs, frontIs}
 use Rattle.pattern.proofs.Running.{Turn, turn-next, turn-first}
 
 -- the byte c is not d, or does not stand for itself

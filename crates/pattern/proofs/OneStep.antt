@@ -1,21 +1,14 @@
 -- One step as the code has it, and the first, at the ends: what the definitions of a step come to under the code's own tests. Rests on Folded.
-use mathlib.Core.Path.{_≡_, refl, sym, ap, _∙_}
-use mathlib.Core.Bool.{Bool, false, cond}
-use mathlib.Core.List.{List, [], _∷_}
-use Prim.Native.Nat.{ℕ, suc, _+_, _-_, _≤_, _<_}
-use native.Mathlib.Omega.{arith}
-use lib.Dec.{eqb}
-use lib.ListN.{length, drop, getD, length-drop, drop-of-length-le}
-use lib.Seq.{drop-cons}
-use borrow.Author.Tests.{eq-eqb, ne-eqb}
+use Rattle.listing_rules.proofs.Prelude.{_∙_, _≡_, ap, refl, sym, Bool, cond, false, List, [], _∷_, _+_, _-_, _<_, _≤_, suc, ℕ, arith, eqb, drop}
+use Rattle.listing_rules.proofs.Prelude.{drop-of-length-le, getD, length, length-drop, drop-cons, eq-eqb, ne-eqb}
 use Rattle.listing_rules.specs.Bytes.{isEmpty, slash}
 use Rattle.pattern.specs.declared.steps.Kind.{Kind}
 use Rattle.pattern.specs.declared.steps.Kind.the-variants.{Plain, Level, Any}
 use Rattle.pattern.specs.declared.steps.Going.the-variants.{Matched, Missed}
 use Rattle.pattern.specs.declared.steps.At.{At}
 use Rattle.pattern.specs.Folded.{folded}
-use Rattle.pattern.specs.Steps.{BackedAs, wentIs, endedIs, resumedIs, retriedIs, givenUpAs, givenUpIs, starIs, levelIs, slashIs, byteIs, nameIs, lookedAt, stepIs}
-use Rattle.pattern.specs.Steps.{oneMore, lastByte, apart, endsIs}
+use Rattle.pattern.specs.Steps.{BackedAs, wentIs, endedIs, resumedIs, retriedIs, givenUpAs, givenUpIs, starIs, levelIs, slashIs, byteIs, nameIs}
+use Rattle.pattern.specs.Steps.{lookedAt, stepIs, oneMore, lastByte, apart, endsIs}
 use Rattle.pattern.proofs.Folded.{letterAt, folded-at}
 
 -- ---- no match here

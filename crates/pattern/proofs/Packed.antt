@@ -1,12 +1,7 @@
 -- Items of a packed run: the item at a place, and that what was packed is unpacked. Rests on the library alone.
-use mathlib.Core.Path.{_≡_, refl, ap, _∙_}
-use mathlib.Core.List.{List, [], _∷_, _++_}
-use Prim.Native.Nat.{ℕ, zero, suc, _+_, _-_, _≤_, _<_, min}
-use native.Mathlib.Decide.{decLe}
-use native.Mathlib.Numerals.{add-one}
-use native.Mathlib.Omega.{arith}
-use lib.ListN.{length, drop, take, getD, length-drop, drop-of-length-le}
-use lib.Seq.{drop-drop, drop-cons, take-all, take-append-seam, drop-append-seam}
+use Rattle.listing_rules.proofs.Prelude.{_∙_, _≡_, ap, refl, List, [], _++_, _∷_, _+_, _-_, _<_, _≤_, min, suc, zero, ℕ, add-one, decLe, arith, drop}
+use Rattle.listing_rules.proofs.Prelude.{drop-of-length-le, getD, length, length-drop, take, drop-append-seam, drop-cons, drop-drop, take-all}
+use Rattle.listing_rules.proofs.Prelude.{take-append-seam}
 use Rattle.listing_rules.specs.Lists.{joined}
 use Rattle.listing_rules.specs.Walk.{packed}
 use Rattle.pattern.specs.Packed.{unpackedAfter, unpacked, openPacked}

@@ -2,15 +2,8 @@
 --
 -- Where a place of the pattern has met all places of the name before x, a byte after it meets none before x + 1, a "/" sends what is
 -- after it to the next level, and a wildcard leaves it so.
-use mathlib.Core.Path.{_≡_, refl, sym, ap, _∙_}
-use mathlib.Core.Bool.{Bool, true, false, cond}
-use mathlib.Core.List.{List, [], _∷_, _++_}
-use Prim.Native.Nat.{ℕ, zero, suc, _+_, _-_, _*_, _≤_, _<_}
-use native.Mathlib.Nat.{suc-mul}
-use native.Mathlib.Omega.{arith}
-use lib.Dec.{eqb}
-use lib.ListN.{length, drop}
-use lib.Seq.{drop-drop}
+use Rattle.listing_rules.proofs.Prelude.{_∙_, _≡_, ap, refl, sym, Bool, cond, false, true, List, [], _++_, _∷_, _*_, _+_, _-_, _<_, _≤_, suc, zero, ℕ}
+use Rattle.listing_rules.proofs.Prelude.{suc-mul, arith, eqb, drop, length, drop-drop}
 use Rattle.listing_rules.specs.Bytes.{slash}
 use Rattle.pattern.specs.Folded.{isWildcard}
 use Rattle.pattern.proofs.Tails.{PlainByte, Plainly}

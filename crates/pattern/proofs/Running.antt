@@ -2,15 +2,8 @@
 -- Tails.
 --
 -- The look at the ends is a step more than those that Costs counts. It has room, as place 0 of the pattern is looked at only once.
-use mathlib.Core.Path.{_≡_, refl, sym, ap, _∙_}
-use mathlib.Core.Bool.{Bool, true, false, cond, or-false, false≢true}
-use mathlib.Core.List.{List, [], _∷_}
-use Prim.Native.Nat.{ℕ, suc, _+_, _-_, _*_, _≤_, _<_}
-use native.Mathlib.Nat.{suc-mul}
-use native.Mathlib.Omega.{arith}
-use lib.Dec.{eqb}
-use lib.ListN.{length, drop}
-use borrow.Author.Tests.{le-leb, lt-leb}
+use Rattle.listing_rules.proofs.Prelude.{_∙_, _≡_, ap, refl, sym, Bool, cond, false, false≢true, or-false, true, List, [], _∷_, _*_, _+_, _-_, _<_}
+use Rattle.listing_rules.proofs.Prelude.{_≤_, suc, ℕ, suc-mul, arith, eqb, drop, length, le-leb, lt-leb}
 use Rattle.listing_rules.specs.Bytes.{slash, isEmpty, same}
 use Rattle.listing_rules.specs.Names.{inbox}
 use Rattle.listing_rules.specs.Match.{wildMatch}
@@ -24,8 +17,9 @@ use Rattle.pattern.specs.declared.steps.At.{At}
 use Rattle.pattern.specs.declared.steps.Ends.{Ends}
 use Rattle.pattern.specs.declared.steps.Counted.{Counted}
 use Rattle.pattern.specs.Folded.{letterOf, folded}
-use Rattle.pattern.specs.Steps.{BackedAs, Inside, oneMore, wentIs, resumedAs, givenUpAs, retriedIs, resumedIs, starIs, levelIs, slashIs, byteIs, nameIs, lookedAt, stepIs}
-use Rattle.pattern.specs.Steps.{firstIs, answered, ranFrom, ranAll, mostSteps, Ran, givenUpIs, countedIs, plainRun, noStar, settledAs, pendingAs, endsIs, lastByte}
+use Rattle.pattern.specs.Steps.{BackedAs, Inside, oneMore, wentIs, resumedAs, givenUpAs, retriedIs, resumedIs, starIs, levelIs, slashIs, byteIs}
+use Rattle.pattern.specs.Steps.{nameIs, lookedAt, stepIs, firstIs, answered, ranFrom, ranAll, mostSteps, Ran, givenUpIs, countedIs, plainRun}
+use Rattle.pattern.specs.Steps.{noStar, settledAs, pendingAs, endsIs, lastByte}
 use Rattle.pattern.proofs.Tails.{here-any, last-misses}
 use Rattle.pattern.proofs.Places.{left-none, end-most}
 use Rattle.pattern.proofs.Spans.{span-none, folded-length, rest-next}

@@ -1,11 +1,6 @@
 -- Parts of the pattern between two places, as it is compared. Rests on Folded.
-use mathlib.Core.Path.{_≡_, refl, sym, ap, _∙_}
-use mathlib.Core.Bool.{Bool}
-use mathlib.Core.List.{List, [], _∷_, _++_}
-use Prim.Native.Nat.{ℕ, zero, suc, _+_, _-_, _≤_, _<_}
-use native.Mathlib.Omega.{arith}
-use lib.ListN.{length, take, drop, length-drop, take-append-drop}
-use lib.Seq.{drop-drop, take-add, length-take-le}
+use Rattle.listing_rules.proofs.Prelude.{_∙_, _≡_, ap, refl, sym, Bool, List, [], _++_, _∷_, _+_, _-_, _<_, _≤_, suc, zero, ℕ, arith, drop, length}
+use Rattle.listing_rules.proofs.Prelude.{length-drop, take, take-append-drop, drop-drop, length-take-le, take-add}
 use Rattle.pattern.specs.Folded.{folded}
 
 -- the pattern from a place on, and between two places

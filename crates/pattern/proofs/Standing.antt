@@ -1,11 +1,6 @@
 -- Where a match stands: what is still to be looked at decides the answer. Rests on Tails, Places and Spans.
-use mathlib.Core.Path.{_≡_, refl, sym, ap, _∙_}
-use mathlib.Core.Bool.{Bool, true, false, _||_, or-false, false≢true}
-use mathlib.Core.List.{List, [], _∷_, _++_}
-use Prim.Native.Nat.{ℕ, _+_, _-_, _≤_}
-use native.Mathlib.Omega.{arith}
-use lib.Dec.{eqb}
-use lib.ListN.{length, drop}
+use Rattle.listing_rules.proofs.Prelude.{_∙_, _≡_, ap, refl, sym, Bool, _||_, false, false≢true, or-false, true, List, [], _++_, _∷_, _+_, _-_, _≤_}
+use Rattle.listing_rules.proofs.Prelude.{ℕ, arith, eqb, drop, length}
 use Rattle.listing_rules.specs.Bytes.{slash, isEmpty}
 use Rattle.listing_rules.specs.Match.{anyTail, anyTailInLevel, wildMatch}
 use Rattle.listing_rules.proofs.Bools.{or-l, bools-equal}
@@ -14,9 +9,9 @@ use Rattle.pattern.specs.declared.steps.Kind.the-variants.{Plain, Level,
 use Rattle.pattern.specs.declared.steps.Known.{Known}
 use Rattle.pattern.specs.declared.steps.Known.the-variants.{Gone, Pending, Settled}
 use Rattle.pattern.specs.Folded.{folded, isWildcard}
-use Rattle.pattern.proofs.Tails.{Plainly, afterSlash, any-level, here-any, here-level, star-is, level-is}
-use Rattle.pattern.proofs.Tails.{byte-same, byte-none, after-slash, after-byte, any-next, level-next, level-end, star-twice, level-twice}
-use Rattle.pattern.proofs.Tails.{star-level, run-match, run-any, run-level, run-after, byte-any, star-all}
+use Rattle.pattern.proofs.Tails.{Plainly, afterSlash, any-level, here-any, here-level, star-is, level-is, byte-same, byte-none, after-slash}
+use Rattle.pattern.proofs.Tails.{after-byte, any-next, level-next, level-end, star-twice, level-twice, star-level, run-match, run-any}
+use Rattle.pattern.proofs.Tails.{run-level, run-after, byte-any, star-all}
 use Rattle.pattern.proofs.Spans.{restAt, span, span-rest, span-none}
 
 -- the bytes between places a and i of the pattern are plain, and stand in the name between x and j

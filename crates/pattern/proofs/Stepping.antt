@@ -1,13 +1,7 @@
 -- One step from where a match stands: it leads to where the match stands again, with fewer steps left, or gives the answer. Rests on
 -- Standing and Costs.
-use mathlib.Core.Path.{_≡_, refl, sym, ap, _∙_}
-use mathlib.Core.Bool.{Bool, true, false, cond}
-use mathlib.Core.List.{List, [], _∷_, _++_}
-use Prim.Native.Nat.{ℕ, _+_, _-_, _≤_, _<_}
-use native.Mathlib.Omega.{arith}
-use lib.Dec.{eqb}
-use lib.ListN.{length, drop, length-drop}
-use borrow.Author.Tests.{eqb-true, eqb-false}
+use Rattle.listing_rules.proofs.Prelude.{_∙_, _≡_, ap, refl, sym, Bool, cond, false, true, List, [], _++_, _∷_, _+_, _-_, _<_, _≤_, ℕ, arith, eqb}
+use Rattle.listing_rules.proofs.Prelude.{drop, length, length-drop, eqb-false, eqb-true}
 use Rattle.listing_rules.specs.Bytes.{slash, isEmpty}
 use Rattle.listing_rules.specs.Match.{wildMatch}
 use Rattle.pattern.specs.declared.steps.Kind.{Kind}
@@ -18,14 +12,15 @@ use Rattle.pattern.specs.declared.steps.Going.{Going}
 use Rattle.pattern.specs.declared.steps.Going.the-variants.{On, Matched, Missed}
 use Rattle.pattern.specs.declared.steps.At.{At}
 use Rattle.pattern.specs.Folded.{folded, isWildcard}
-use Rattle.pattern.specs.Steps.{retriedIs, resumedAs, givenUpAs, givenUpIs, starIs, pendingAs, levelIs, fixedAs, settledAs, slashIs}
-use Rattle.pattern.specs.Steps.{plainRun, wentIs, byteIs, nameIs, lookedAt, stepIs, begunIs}
+use Rattle.pattern.specs.Steps.{retriedIs, resumedAs, givenUpAs, givenUpIs, starIs, pendingAs, levelIs, fixedAs, settledAs, slashIs, plainRun}
+use Rattle.pattern.specs.Steps.{wentIs, byteIs, nameIs, lookedAt, stepIs, begunIs}
 use Rattle.pattern.proofs.Tails.{PlainByte, Plainly, byte-other}
-use Rattle.pattern.proofs.Places.{nextLevel, past, pastAll, room, left, next-more, next-slash, next-byte, after, past-wild, past-slash, past-plain, all-least, all-none, left-none}
+use Rattle.pattern.proofs.Places.{nextLevel, past, pastAll, room, left, next-more, next-slash, next-byte, after, past-wild, past-slash}
+use Rattle.pattern.proofs.Places.{past-plain, all-least, all-none, left-none}
 use Rattle.pattern.proofs.Spans.{restAt, span, span-none, span-length, rest-next, rest-inside}
 use Rattle.pattern.proofs.Standing.{Begun, Decides, later, begun-here, yes-ends, no-end, star-last, star-decides, level-plain, level-level}
-use Rattle.pattern.proofs.Standing.{level-any-run, byte-plain, byte-run, slash-gone, slash-pending, slash-settled, slash-any}
-use Rattle.pattern.proofs.Standing.{retry-any, retry-level, given-later, level-later, begin-decides, later-begins}
+use Rattle.pattern.proofs.Standing.{level-any-run, byte-plain, byte-run, slash-gone, slash-pending, slash-settled, slash-any, retry-any}
+use Rattle.pattern.proofs.Standing.{retry-level, given-later, level-later, begin-decides, later-begins}
 use Rattle.pattern.proofs.Costs.{owed, due, Under, run-level, begun-more, grown-left, grown-slash, grown-wild, grown-plain, due-past, due-run}
 use Rattle.pattern.proofs.Costs.{due-retry, due-resume}
 

@@ -1,11 +1,6 @@
 -- Tails of a name that match a rest of the pattern: what "*" and "%" take of a run of plain bytes. Rests on the definitions alone.
-use mathlib.Core.Path.{_≡_, refl, sym, ap, _∙_}
-use mathlib.Core.Logic.{_⊎_, ⊎-elim}
-use mathlib.Core.Bool.{Bool, true, false, cond, not, _&&_, _||_, or-false, or-assoc, or-self, false≢true}
-use mathlib.Core.List.{List, [], _∷_, _++_}
-use Prim.Native.Nat.{ℕ}
-use lib.Dec.{eqb}
-use borrow.Author.Tests.{eqb-true, eq-eqb}
+use Rattle.listing_rules.proofs.Prelude.{_∙_, _≡_, ap, refl, sym, Bool, _&&_, _||_, cond, false, false≢true, not, or-assoc, or-false, or-self, true}
+use Rattle.listing_rules.proofs.Prelude.{_⊎_, ⊎-elim, List, [], _++_, _∷_, ℕ, eqb, eq-eqb, eqb-true}
 use Rattle.listing_rules.specs.Bytes.{slash, isEmpty}
 use Rattle.listing_rules.specs.Match.{anyTail, anyTailInLevel, headThen, wildMatch}
 use Rattle.listing_rules.proofs.Bools.{and-l, and-r, or-cases, or-l, or-r, or-none-l, or-none-r, bools-equal}
@@ -90,9 +85,6 @@ here-level f (c ∷ n) e = or-l (f (c ∷ n)) (not (eqb c slash) && anyTailInLev
 
 pub level-any : (f : List ℕ → Bool) (n : List ℕ) → anyTailInLevel f n ≡ true → anyTail f n ≡ true
 level-any f n e = any-level f n ∙ or-l (anyTailInLevel f n) (afterSlash f n) e
-
-pub after-any : (f : List ℕ → Bool) (n : List ℕ) → afterSlash f n ≡ true → anyTail f n ≡ true
-after-any f n e = any-level f n ∙ or-r (anyTailInLevel f n) (afterSlash f n) e
 
 -- one byte on: past a slash, or not
 pub after-slash : (f : List ℕ → Bool) (c : ℕ) (n : List ℕ) → eqb c slash ≡ true → afterSlash f (c ∷ n) ≡ anyTail f n

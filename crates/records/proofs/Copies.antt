@@ -1,12 +1,8 @@
 -- A copy that runs every element through f: a turn's store takes the copy of j elements to the copy of j + 1.
 -- Assumes nothing.
-use mathlib.Core.Path.{_≡_, sym, ap, subst, _∙_}
-use Prim.Native.Nat.{ℕ, zero, suc, _+_, _<_, _≤_, zero-le}
-use native.Mathlib.Nat.{zero-add, zero-lt-suc, not-suc-le-zero, le-of-suc-le-suc}
-use native.Mathlib.Numerals.{add-one}
-use mathlib.Core.List.{List, [], _∷_, map}
-use lib.ListN.{length, getD, set, take, drop, length-map, List·getD-map}
-use lib.Seq.{paste, paste-zero, paste-suc, length-paste, take-paste, getD-drop}
+use Rattle.listing_rules.proofs.Prelude.{_∙_, _≡_, ap, subst, sym, List, [], _∷_, map, _+_, _<_, _≤_, suc, zero, zero-le, ℕ, le-of-suc-le-suc}
+use Rattle.listing_rules.proofs.Prelude.{not-suc-le-zero, zero-add, zero-lt-suc, add-one, List·getD-map, drop, getD, length, length-map, set, take}
+use Rattle.listing_rules.proofs.Prelude.{getD-drop, length-paste, paste, paste-suc, paste-zero, take-paste}
 
 module _ {A B : Type 0} (f : A → B) (d : List B) where
   pub step : (at : ℕ) (s : List A) (z : A) (j : ℕ) → at + j < length d → j < length s → set (paste d at (map f s) j) (at + j) (f (getD s j z)) ≡ paste d at (map f s) (j + 1)

@@ -1,4 +1,5 @@
 -- What the numbers of records tell; and what walks by hand share.
+pub mod Logic
 pub mod WordLaws
 pub mod WordsAlike
 pub mod Turns

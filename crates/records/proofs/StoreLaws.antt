@@ -1,12 +1,8 @@
 -- A command over the words of records is the command over the records, and so are names moved together: the words are copied in, and those that
 -- became others are copied back. Rests on SpareLaws and CompactionSpare of the definitions (records after the first 512 do not matter), and on the library.
-use mathlib.Core.Path.{_≡_, refl, sym, ap, subst, _∙_}
-use mathlib.Core.List.{List, [], _∷_, _++_, map, map-append}
-use Prim.Native.Nat.{ℕ, _+_, _-_, _≤_, min}
-use native.Mathlib.Decide.{decLe}
-use native.Mathlib.Omega.{arith}
-use lib.ListN.{length, take, drop, length-drop, length-map, take-append-drop}
-use lib.Seq.{length-take-le, take-take, take-add, drop-at, drop-drop, drop-paste, take-paste, paste, paste-zero}
+use Rattle.listing_rules.proofs.Prelude.{_∙_, _≡_, ap, refl, subst, sym, List, [], _++_, _∷_, map, map-append, _+_, _-_, _≤_, min, ℕ, decLe, arith}
+use Rattle.listing_rules.proofs.Prelude.{drop, length, length-drop, length-map, take, take-append-drop, drop-at, drop-drop, drop-paste}
+use Rattle.listing_rules.proofs.Prelude.{length-take-le, paste, paste-zero, take-add, take-paste, take-take}
 use Rattle.listing_rules.specs.Records.{Record as Meant}
 use Rattle.listing_rules.specs.Server.{Commanded}
 use Rattle.listing_rules.specs.Compaction.{Compaction}

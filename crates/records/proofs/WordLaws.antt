@@ -1,7 +1,5 @@
 -- A record's number tells the record. Rests on arithmetic alone.
-use mathlib.Core.Path.{_≡_}
-use Prim.Native.Nat.{_/_, _%_, _<_}
-use native.Mathlib.Omega.{arith}
+use Rattle.listing_rules.proofs.Prelude.{_≡_, _%_, _/_, _<_, arith}
 use Rattle.records.specs.declared.Record.{Record}
 use Rattle.records.specs.Words.{wordOf, recordOf, meant}
 

@@ -1,8 +1,5 @@
 -- The numbers that `copy_in` makes are a table alike to the one that is lent. Rests on `Alike` of the definitions.
-use mathlib.Core.Path.{_≡_, sym, ap, _∙_, subst}
-use mathlib.Core.List.{List, map}
-use Prim.Native.Nat.{ℕ, min}
-use lib.ListN.{length, take, length-map}
+use Rattle.listing_rules.proofs.Prelude.{_∙_, _≡_, ap, subst, sym, List, map, min, ℕ, length, length-map, take}
 use Rattle.listing_rules.specs.Records.{Record as Meant, recordTable}
 pub use Rattle.listing_rules.proofs.ListLaws.{map-take}
 use Rattle.listing_rules.proofs.Alike.{Alike, front-alike}

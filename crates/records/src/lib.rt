@@ -18,7 +18,10 @@ pub struct Record {
     pub readers: u8,
 }
 
+// "At most 512 rows and 32,768 bytes."
 pub const MAX_ROWS: usize = 512;
+
+pub const MAX_BYTES: usize = 32768;
 
 // The record as one number. The number tells the record.
 pub fn word_of(r: Record) -> u64

@@ -1,12 +1,7 @@
 -- One command over words of which some are lent: from what it comes to over those alone. Rests on EditLaws.
-use mathlib.Core.Path.{_≡_, refl, sym, ap, _∙_, subst}
-use mathlib.Core.Bool.{true, false}
-use mathlib.Core.List.{List, _++_, map, append-nil, append-assoc}
-use Prim.Native.Nat.{ℕ, _+_, _-_, _≤_, min}
-use native.Mathlib.Decide.{decLe}
-use native.Mathlib.Omega.{arith}
-use lib.ListN.{length, take, drop, length-append, length-drop, take-append-drop, drop-of-length-le}
-use lib.Seq.{paste, paste-zero, length-take-le, take-at, take-all, take-append-le, drop-append-le}
+use Rattle.listing_rules.proofs.Prelude.{_∙_, _≡_, ap, refl, subst, sym, false, true, List, _++_, append-assoc, append-nil, map, _+_, _-_, _≤_, min}
+use Rattle.listing_rules.proofs.Prelude.{ℕ, decLe, arith, drop, drop-of-length-le, length, length-append, length-drop, take, take-append-drop}
+use Rattle.listing_rules.proofs.Prelude.{drop-append-le, length-take-le, paste, paste-zero, take-all, take-append-le, take-at}
 use Rattle.listing_rules.specs.Table.{passes}
 use Rattle.listing_rules.specs.Namespaces.{namespacesPass}
 use Rattle.listing_rules.specs.Readers.{isReader, visible}

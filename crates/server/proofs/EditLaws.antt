@@ -1,15 +1,9 @@
 -- What a command comes to: refused, read, or an edit that is decided, measured and done. Rests on Order and on the laws of plans.
-use mathlib.Core.Path.{_≡_, refl, sym, ap, _∙_, subst}
-use mathlib.Core.Bool.{Bool, true, false, cond, false≢true}
-use mathlib.Core.List.{List, _++_, map}
-use Prim.Native.Nat.{ℕ, _≤_}
-use native.Mathlib.Omega.{arith}
-use lib.Dec.{eqb, leb}
-use lib.ListN.{length, take, drop, length-append}
-use lib.Seq.{paste-zero, length-take-le, take-append-seam, take-at}
+use Rattle.listing_rules.proofs.Prelude.{_∙_, _≡_, ap, refl, subst, sym, Bool, cond, false, false≢true, true, List, _++_, map, _≤_, ℕ, arith, eqb}
+use Rattle.listing_rules.proofs.Prelude.{leb, drop, length, length-append, take, length-take-le, paste-zero, take-append-seam, take-at}
 use Rattle.octets.specs.Put.{Put}
 use Rattle.octets.proofs.Puts.{put-length, front}
-use Rattle.listing_rules.specs.Command.{editing, refused, parsed, isEdit}
+use Rattle.listing_rules.specs.Command.{editing, parsed, isEdit}
 use Rattle.listing_rules.specs.Namespaces.{entries, namespacesPass}
 use Rattle.listing_rules.specs.Table.{rows, passes}
 use Rattle.listing_rules.specs.Readers.{isReader, visible}
@@ -17,7 +11,8 @@ use Rattle.listing_rules.specs.Subscriptions.{Store, storeTable, storeSeen, hel
 use Rattle.listing_rules.proofs.ReaderLaws.{records-seen-is, store-seen-passes}
 use Rattle.listing_rules.proofs.CommandLaws.{attempted-reads, concluded-reads}
 use Rattle.listing_rules.specs.Lines.{okLine}
-use Rattle.listing_rules.specs.Server.{Reply, refusal, answered, answerTo, answer, limited, bufferAfter, Commanded, attempted, unchangedBy, concluded, commandedOver, commanded}
+use Rattle.listing_rules.specs.Server.{Reply, refusal, answered, answerTo, answer, limited, bufferAfter, Commanded, attempted, unchangedBy, concluded}
+use Rattle.listing_rules.specs.Server.{commandedOver, commanded}
 use Rattle.octets.specs.declared.Written.{Written}
 use Rattle.octets.specs.declared.Written.the-variants.{Done, Refused}
 use Rattle.octets.specs.Written.{writtenIs, Gives}

@@ -1,10 +1,5 @@
 -- The patterns of a command that lists, as they lie in the server's buffer. Rests on what command_patterns promises of them and on the match's packed form.
-use mathlib.Core.Path.{_≡_, sym, ap, _∙_}
-use mathlib.Core.List.{List}
-use Prim.Native.Nat.{ℕ, _≤_}
-use native.Mathlib.Omega.{arith}
-use lib.ListN.{length, take, drop}
-use lib.Seq.{length-take-le, sets, take-append-seam}
+use Rattle.listing_rules.proofs.Prelude.{_∙_, _≡_, ap, sym, List, _≤_, ℕ, arith, drop, length, take, length-take-le, sets, take-append-seam}
 use Rattle.listing_rules.specs.Walk.{packed}
 use Rattle.octets.specs.Put.{Put}
 use Rattle.octets.proofs.Puts.{put-length, front}

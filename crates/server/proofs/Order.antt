@@ -1,9 +1,5 @@
 -- The refusals in document 01's order, and the reply to a command by its kind. Rests on FewLaws of command_patterns.
-use mathlib.Core.Path.{_≡_, refl, sym, ap, _∙_}
-use mathlib.Core.Bool.{true, false}
-use mathlib.Core.List.{List, map}
-use Prim.Native.Nat.{ℕ, _≤_}
-use lib.ListN.{length}
+use Rattle.listing_rules.proofs.Prelude.{_∙_, _≡_, ap, refl, sym, false, true, List, map, _≤_, ℕ, length}
 use Rattle.listing_rules.specs.Table.{Table, rows, passes, packedTable}
 use Rattle.listing_rules.specs.Records.{packedRecords}
 use Rattle.listing_rules.specs.Readers.{isReader, visible, packedSeen}

@@ -1,5 +1,6 @@
 // The server side: one command over a mailbox table and a namespace list, into an answer buffer, all lent. The table is a run of
-// records over an area of name bytes, which SUBSCRIBE and UNSUBSCRIBE change.
+// records, each as a number, over an area of name bytes; SUBSCRIBE and UNSUBSCRIBE change both. Who lends the records themselves calls
+// `exports::luspemaro_answer`.
 //
 // Refusals in document 01's order: the table 1, the namespace list 2, the command 3 to 8, an edit 14 and 15, the length of the answer 9.
 // An answer is measured before a byte is written, and an edit is decided before it is done, so a refusal changes no byte and no record.
@@ -25,58 +26,16 @@ pub use packed::is_edit_line;
 pub use packed::read_packed;
 pub use reading::read_words;
 use reading::respond;
-use records::Record;
-use records::copy_back;
-use records::copy_in;
 use records::no_words;
 ghost use mathlib.Core.Path.{_≡_};
 ghost use mathlib.Core.List.{map};
 ghost use lib.ListN.{take};
 ghost use Rattle.listing_rules.specs.Server.{bufferAfter};
-ghost use Rattle.records.specs.Words.{recordOf, meant};
-ghost use Rattle.records.specs.Stores.{lentCommand, wordCommand, Between};
+ghost use Rattle.records.specs.Words.{recordOf};
+ghost use Rattle.records.specs.Stores.{wordCommand, Between};
 ghost use Rattle.octets.specs.Written.{writtenIs};
 
-// What a command comes to: the length of its answer or the number of its refusal, and how many records are rows now.
-pub struct Answered {
-    pub written: Written,
-    pub count: usize,
-}
-
-// The answer to one command of a reader at the front of `out`. The first `count` records are the table's rows, over the area of name bytes;
-// those after them are spare. SUBSCRIBE and UNSUBSCRIBE change records, area and count; a refusal, and any other command, leaves them.
-pub fn answer(
-    records: &mut [Record],
-    count: usize,
-    reader: u8,
-    area: &mut [u8],
-    namespaces: &[u8],
-    line: &[u8],
-    out: &mut [u8],
-) -> Answered
-    ensures result { λ r. ⌜
-        (r .written ≡ writtenIs
-        (lentCommand (now (records .entry)) count reader (now (area .entry)) (now (namespaces .entry)) (now (line .entry)) (now (out .entry)) .reply))
-        × (r .count
-        ≡ lentCommand (now (records .entry)) count reader (now (area .entry)) (now (namespaces .entry)) (now (line .entry)) (now (out .entry)) .store .count) ⌝ }
-    ensures bytes { λ _. ⌜ now (out .exit) ≡ bufferAfter (now (out .entry))
-        (lentCommand (now (records .entry)) count reader (now (area .entry)) (now (namespaces .entry)) (now (line .entry)) (now (out .entry)) .reply) ⌝ }
-    ensures area { λ _. ⌜ now (area .exit)
-        ≡ lentCommand (now (records .entry)) count reader (now (area .entry)) (now (namespaces .entry)) (now (line .entry)) (now (out .entry)) .store .area ⌝ }
-    ensures records { λ _. ⌜ map meant (now (records .exit))
-        ≡ lentCommand (now (records .entry)) count reader (now (area .entry)) (now (namespaces .entry)) (now (line .entry)) (now (out .entry)) .store .records ⌝ }
-{
-    let mut words = no_words();
-    let lent = copy_in(records, records.len(), &mut words);
-    let done = answer_words(&mut words, lent, count, reader, area, namespaces, line, out);
-    copy_back(records, done.from, done.to, &words);
-    Answered {
-        written: done.written,
-        count: done.count,
-    }
-}
-
-// What a command over words comes to: the length of its answer or the number of its refusal, how many words are rows now, and the
+// What a command comes to: the length of its answer or the number of its refusal, how many words are rows now, and the
 // words that changed or moved, `from` up to `to`.
 pub struct Stored {
     pub written: Written,
@@ -85,8 +44,9 @@ pub struct Stored {
     pub to: usize,
 }
 
-// The same over records, each as a number (`records::word_of`): the first `lent` words, or all where they are fewer, are the records,
-// and the first `count` of those are the rows.
+// The answer to one command of a reader at the front of `out`. The first `lent` words, or all where they are fewer, are the records, each
+// as a number (`records::word_of`); the first `count` of those are the table's rows, over the area of name bytes, and the others are spare.
+// SUBSCRIBE and UNSUBSCRIBE change words, area and count; a refusal, and any other command, leaves them.
 pub fn answer_words(
     words: &mut [u64],
     lent: usize,

@@ -1,15 +1,8 @@
 -- Laws of frames carried out: bytes added, and what each kind of frame leaves. Rests on LentLaws and frames' StoreLaws.
-use mathlib.Core.Path.{_≡_, refl, sym, ap, _∙_}
-use mathlib.Core.Bool.{Bool, true, false, cond}
-use mathlib.Core.List.{List, [], _++_}
-use Prim.Native.Nat.{ℕ, _+_, _≤_}
-use native.Mathlib.Omega.{arith}
-use lib.Dec.{leb}
-use lib.ListN.{length, take, drop, length-append}
-use lib.Seq.{sets, sets-eq, length-take-le, drop-at}
-use borrow.Author.Tests.{leb-true, le-leb}
+use Rattle.listing_rules.proofs.Prelude.{_∙_, _≡_, ap, refl, sym, Bool, cond, false, true, List, [], _++_, _+_, _≤_, ℕ, arith, leb, drop, length}
+use Rattle.listing_rules.proofs.Prelude.{length-append, take, drop-at, length-take-le, sets, sets-eq, le-leb, leb-true}
 use Rattle.listing_rules.specs.Walk.{walkBy}
-use Rattle.listing_rules.specs.Frames.{bytes, records, Stored, Stepped, refusalLine, walkLine, keptSeen, answering, addRowTo, addRow, addEntry, framed}
+use Rattle.listing_rules.specs.Frames.{bytes, Stored, Stepped, refusalLine, walkLine, keptSeen, answering, addRowTo, addRow, addEntry, framed}
 use Rattle.octets.specs.Put.{Put}
 use Rattle.frames.specs.declared.reading.Frame.{Frame}
 use Rattle.frames.specs.declared.reading.Frame.the-variants.{Table, Namespaces, Command, Walk, Bad}
@@ -18,12 +11,13 @@ use Rattle.frames.specs.declared.storing.Stored.{Stored as StoredNow}
 use Rattle.frames.specs.declared.storing.Stored.the-variants.{Now, NoRoom}
 use Rattle.frames.specs.Storing.{hasPlace, Stores}
 use Rattle.frames.proofs.StoreLaws.{stored-now, stored-full}
-use Rattle.session.specs.declared.Lengths.{Lengths}
-use Rattle.session.specs.declared.outcome.Outcome.{Outcome}
+use Rattle.kept_table.specs.declared.Lengths.{Lengths}
+use Rattle.kept_table.specs.declared.outcome.Outcome.{Outcome}
 use Rattle.session.specs.declared.carrying.Added.{Added}
-use Rattle.session.specs.Carrying.{Lent, lent, keptOf, keptIn, storedIn, Within, lengthsIs, outcomeIs, Says, Keeps, AddsRow, CarriesOut}
-use Rattle.session.specs.Commanding.{Obeys}
-use Rattle.session.proofs.LentLaws.{says-none, says-refusal, carries-said}
+use Rattle.kept_table.specs.Kept.{Lent, lent, keptOf, keptIn, storedIn, Within, lengthsIs, outcomeIs, Says}
+use Rattle.session.specs.Carrying.{Keeps, AddsRow, CarriesOut}
+use Rattle.kept_table.specs.Commanding.{Obeys}
+use Rattle.kept_table.proofs.LentLaws.{says-none, says-refusal, carries-said}
 
 -- bytes after those that were added stay
 behind-added : (d bs : List ℕ) (used : ℕ) → used + length bs ≤ length d → drop (used + length bs) (sets d used bs) ≡ drop (used + length bs) d

@@ -1,19 +1,14 @@
 -- How the input is cut into pieces, and a piece into calls of `feed`, makes no difference: the calls hand out what document 01 says of
 -- the whole input. Rests on LineLaws, FeedLaws and listing_rules' InputCut.
-use mathlib.Core.Path.{_≡_, refl, sym, ap, _∙_}
-use mathlib.Core.Bool.{Bool, true, false}
-use mathlib.Core.List.{List, [], _∷_, _++_}
-use lib.ListN.{length, take, drop, take-append-drop}
-use lib.Seq.{sets-eq, take-at, take-append-le}
-use native.Mathlib.Omega.{arith}
-use Prim.Native.Nat.{ℕ, _+_, _≤_}
+use Rattle.listing_rules.proofs.Prelude.{_∙_, _≡_, ap, refl, sym, Bool, false, true, List, [], _++_, _∷_, _+_, _≤_, ℕ, arith, drop, length, take}
+use Rattle.listing_rules.proofs.Prelude.{take-append-drop, sets-eq, take-append-le, take-at}
 use Rattle.listing_rules.specs.Lists.{joined}
 use Rattle.listing_rules.specs.Frames.{Session, Fed as Came, behind, fedAll, start, atEnd, programOutput}
 use Rattle.listing_rules.proofs.InputCut.{fedAll-append}
 use Rattle.frames.specs.Gathering.{HoldsIf}
 use Rattle.session.specs.declared.State.{State}
 use Rattle.session.specs.declared.Fed.the-variants.{Refused}
-use Rattle.session.specs.Carrying.{Lent, Says}
+use Rattle.kept_table.specs.Kept.{Lent, Says}
 use Rattle.session.specs.Feeding.{startIs, readyIn, Holds, Comes, FeedIs, Finishes, throughLine}
 use Rattle.session.specs.Cutting.{feedings, Call, LentAgain, Calls, Through, saidBy, stateAfter}
 use Rattle.session.proofs.LineLaws.{through-inside}

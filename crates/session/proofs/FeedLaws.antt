@@ -1,14 +1,7 @@
 -- Laws of feeding: what a ready memory is, that it holds a session always, and what a piece without a line feed and one with it
 -- come to. Rests on LineLaws and LentLaws.
-use mathlib.Core.Path.{_≡_, refl, sym, ap, subst, _∙_}
-use mathlib.Core.Bool.{Bool, true, false, cond, _&&_, _||_}
-use mathlib.Core.List.{List, [], _++_}
-use Prim.Native.Nat.{ℕ, _+_, _≤_, _<_}
-use native.Mathlib.Omega.{arith}
-use lib.Dec.{leb}
-use lib.ListN.{length, take, replicate, length-replicate}
-use lib.Seq.{take-all}
-use borrow.Author.Tests.{leb-true, le-leb, lt-ltb, le-ltb}
+use Rattle.listing_rules.proofs.Prelude.{_∙_, _≡_, ap, refl, subst, sym, Bool, _&&_, _||_, cond, false, true, List, [], _++_, _+_, _<_, _≤_, ℕ, arith}
+use Rattle.listing_rules.proofs.Prelude.{leb, length, length-replicate, replicate, take, take-all, le-leb, le-ltb, leb-true, lt-ltb}
 use Rattle.listing_rules.specs.Frames.{Stepped, Session, Fed as Came, refusalLine, framed, step, fedAll, atEnd, start}
 use Rattle.listing_rules.proofs.Bools.{and-l, and-r}
 use Rattle.frames.specs.declared.gathering.Gathered.{Gathered}
@@ -18,11 +11,13 @@ use Rattle.session.specs.declared.State.{State}
 use Rattle.session.specs.declared.Taken.{Taken as Took}
 use Rattle.session.specs.declared.Fed.{Fed}
 use Rattle.session.specs.declared.Fed.the-variants.{Taken}
-use Rattle.session.specs.declared.outcome.Outcome.{Outcome}
-use Rattle.session.specs.Carrying.{Lent, storedIn, Within, Says, Ended}
-use Rattle.session.specs.Feeding.{startIs, ready, readyIn, Holds, throughLine, beforeLine, gatheredAll, lineAfter, Comes, Feeds, FeedIs, Finishes}
+use Rattle.kept_table.specs.declared.outcome.Outcome.{Outcome}
+use Rattle.kept_table.specs.Kept.{Lent, storedIn, Within, Says}
+use Rattle.session.specs.Carrying.{Ended}
+use Rattle.session.specs.Feeding.{startIs, ready, readyIn, Holds, throughLine, beforeLine, gatheredAll, lineAfter, Comes, Feeds, FeedIs}
+use Rattle.session.specs.Feeding.{Finishes}
 use Rattle.session.proofs.LineLaws.{before-all, through-line, holds-all, fed-before, fed-line}
-use Rattle.session.proofs.LentLaws.{says-none}
+use Rattle.kept_table.proofs.LentLaws.{says-none}
 
 -- what a ready memory is
 pub record Sizes (t w n l o : ℕ) (st : State) : Type 0 where

@@ -1,15 +1,8 @@
 -- Laws of a piece of input: the characters before its first line feed, as the loop meets them, as they are gathered, and as
 -- document 01 feeds them. Rests on frames' GatherLaws and listing_rules' InputCut.
-use mathlib.Core.Path.{_≡_, refl, sym, ap, _∙_}
-use mathlib.Core.Bool.{Bool, true, false, cond}
-use mathlib.Core.List.{List, [], _∷_, _++_, append-assoc, append-nil}
-use Prim.Native.Nat.{ℕ, suc, _+_, _-_, _≤_, _<_}
-use native.Mathlib.Numerals.{add-one}
-use native.Mathlib.Omega.{arith}
-use lib.Dec.{eqb}
-use lib.ListN.{length, take, drop, getD, drop-of-length-le}
-use lib.Seq.{drop-cons}
-use borrow.Author.Tests.{eq-eqb, ne-eqb, eqb-true}
+use Rattle.listing_rules.proofs.Prelude.{_∙_, _≡_, ap, refl, sym, Bool, cond, false, true, List, [], _++_, _∷_, append-assoc, append-nil, _+_, _-_}
+use Rattle.listing_rules.proofs.Prelude.{_<_, _≤_, suc, ℕ, add-one, arith, eqb, drop, drop-of-length-le, getD, length, take, drop-cons, eq-eqb}
+use Rattle.listing_rules.proofs.Prelude.{eqb-true, ne-eqb}
 use Rattle.listing_rules.specs.Frames.{Session, step, fed, behind, fedAll}
 use Rattle.listing_rules.proofs.InputCut.{fedAll-append}
 use Rattle.frames.specs.declared.gathering.Gathered.{Gathered}

@@ -1,76 +1,19 @@
 -- A frame carried out over the lent memory, and what it leaves there.
 use mathlib.Core.Path.{_≡_}
 use mathlib.Core.List.{List, [], _++_}
-use mathlib.Core.Bool.{Bool, true, false, cond}
+use mathlib.Core.Bool.{cond}
 use lib.Dec.{leb}
 use lib.ListN.{length, take, drop}
-use lib.Seq.{sets}
 use Prim.Native.Nat.{ℕ, _+_, _≤_}
-use Rattle.listing_rules.specs.Frames.{Frame as Meant, Kept, bytes, records, Stored, Stepped, refusalLine, readFrame, addRow, framed}
-use Rattle.records.specs.Stores.{wordStore}
+use Rattle.listing_rules.specs.Frames.{Frame as Meant, refusalLine, readFrame, addRow, framed}
 use Rattle.frames.specs.declared.gathering.Gathered.{Gathered}
 use Rattle.frames.specs.declared.reading.Frame.{Frame}
 use Rattle.frames.specs.Gathering.{Holds as HoldsFrame}
 use Rattle.frames.specs.Reading.{frameIs}
-use Rattle.session.specs.declared.Lengths.{Lengths}
-use Rattle.session.specs.declared.outcome.Outcome.{Outcome}
+use Rattle.kept_table.specs.declared.Lengths.{Lengths}
+use Rattle.kept_table.specs.declared.outcome.Outcome.{Outcome}
 use Rattle.session.specs.declared.carrying.Added.{Added}
-
--- what is lent: bytes for the table, words for its records, bytes for the namespace list and for a line of output
-pub record Lent : Type 0 where
-  pub table : List ℕ
-  pub records : List ℕ
-  pub namespaces : List ℕ
-  pub out : List ℕ
-
-abbrev pub lent : List ℕ → List ℕ → List ℕ → List ℕ → Lent
-lent t w n o = record { table = t; records = w; namespaces = n; out = o }
-
--- What is kept of the table: the first bytes of its area, or, once an edit was accepted, the records of the first 512 words over the
--- first 16,384 bytes of the area, the first so many of them rows.
-abbrev pub keptAs : Bool → ℕ → List ℕ → List ℕ → Kept
-keptAs false n table words = bytes (take n table)
-keptAs true n table words = records (wordStore words 512 n (take 16384 table))
-
-abbrev pub keptOf : Lengths → List ℕ → List ℕ → Kept
-keptOf n table words = keptAs (n .edited) (n .table) table words
-
-abbrev pub keptIn : Lent → Lengths → Kept
-keptIn d n = keptOf n (d .table) (d .records)
-
--- what is stored: that, and the first bytes of the namespace list's area
-abbrev pub storedIn : Lent → Lengths → Stored
-storedIn d n = record { table = keptIn d n; namespaces = take (n .namespaces) (d .namespaces) }
-
--- how many bytes of the table's area what is kept takes up
-abbrev pub reach : Lengths → ℕ
-reach n = cond (n .edited) 16384 (n .table)
-
--- no more is kept than document 01 allows, 16,384 bytes, for which the area has room, as it has for as many bytes of names; and there
--- are words for 512 records
-pub record Held (n : Lengths) (t w : List ℕ) : Type 0 where
-  pub rows : n .table ≤ 16384
-  pub table : 16384 ≤ length t
-  pub records : 512 ≤ length w
-
--- the same of the namespace list, of which 1,024 bytes are stored at most
-pub record Within (n : Lengths) (t w m : List ℕ) : Type 0 where
-  pub held : Held n t w
-  pub entries : n .namespaces ≤ 1024
-  pub namespaces : 1024 ≤ length m
-
-abbrev pub lengthsIs : ℕ → ℕ → Bool → Lengths
-lengthsIs table namespaces edited = record { table = table; namespaces = namespaces; edited = edited }
-
-abbrev pub outcomeIs : Lengths → ℕ → Outcome
-outcomeIs stored written = record { stored = stored; written = written }
-
--- A line of output, or none, lies at the front of the area that was `o` and is `p`, and nothing else of it changed. No line is
--- longer than two digits for each of 1 + 16,384 bytes and a line feed.
-pub record Says (line o p : List ℕ) (r : ℕ) : Type 0 where
-  pub written : r ≡ length line
-  pub fits : length line ≤ 32771
-  pub bytes : p ≡ sets o 0 line
+use Rattle.kept_table.specs.Kept.{Carries, Lent, Says, lent, storedIn}
 
 -- Bytes added after the first `used` ones of an area that was `d` and is `e`, where at most `limit` are stored; else nothing is
 -- added, and the refusal is said.
@@ -79,19 +22,6 @@ pub record Keeps (limit number used : ℕ) (bs d e o p : List ℕ) (r : Added) :
   pub behind : drop (r .len) e ≡ drop (r .len) d
   pub room : r .len ≤ limit
   pub says : Says (cond (leb (used + length bs) limit) [] (refusalLine number)) o p (r .written)
-
--- The memory was `d` and is `e` after a frame: it holds what the frame leaves stored, and says what it answers. Bytes after what is
--- stored stay, and so do the words after the records, and every word where no records are kept.
-pub record Carries (f : Stepped) (d e : Lent) (r : Outcome) : Type 0 where
-  pub table : keptIn e (r .stored) ≡ f .stored .table
-  pub namespaces : take (r .stored .namespaces) (e .namespaces) ≡ f .stored .namespaces
-  pub table-room : r .stored .table ≤ 16384
-  pub namespaces-room : r .stored .namespaces ≤ 1024
-  pub table-behind : drop (reach (r .stored)) (e .table) ≡ drop (reach (r .stored)) (d .table)
-  pub records-behind : drop 512 (e .records) ≡ drop 512 (d .records)
-  pub records-stay : r .stored .edited ≡ false → e .records ≡ d .records
-  pub namespaces-behind : drop (r .stored .namespaces) (e .namespaces) ≡ drop (r .stored .namespaces) (d .namespaces)
-  pub says : Says (f .output) (d .out) (e .out) (r .written)
 
 -- a row was added to the table's area, which was `t` and is `u`, whatever words and namespace list lie beside it
 abbrev pub AddsRow : Lengths → List ℕ → List ℕ → List ℕ → List ℕ → List ℕ → Outcome → Type 0

@@ -8,7 +8,7 @@ use Rattle.listing_rules.specs.Frames.{Session, Fed, behind, fedAll}
 use Rattle.session.specs.declared.State.{State}
 use Rattle.session.specs.declared.Taken.{Taken as Took}
 use Rattle.session.specs.declared.Fed.the-variants.{Taken}
-use Rattle.session.specs.Carrying.{Lent, keptIn}
+use Rattle.kept_table.specs.Kept.{Lent, keptIn}
 use Rattle.session.specs.Feeding.{FeedIs}
 
 -- Pieces of input fed one after the other, each to the session that the one before left; their answers joined.

@@ -8,13 +8,13 @@ use Prim.Native.Nat.{ℕ, suc}
 use Rattle.listing_rules.specs.Frames.{Session, Fed as Meant, refusalLine, fedAll, atEnd}
 use Rattle.frames.specs.declared.gathering.Gathered.{Gathered}
 use Rattle.frames.specs.Gathering.{Holds as HoldsFrame, gatheredNone, gatheredIs, gatheredLine}
-use Rattle.session.specs.declared.Lengths.{Lengths}
+use Rattle.kept_table.specs.declared.Lengths.{Lengths}
 use Rattle.session.specs.declared.State.{State}
 use Rattle.session.specs.declared.Taken.{Taken as Took}
 use Rattle.session.specs.declared.Fed.{Fed}
 use Rattle.session.specs.declared.Fed.the-variants.{Taken, Refused}
 use Rattle.session.specs.declared.gathering.Run.{Run}
-use Rattle.session.specs.Carrying.{Lent, keptIn, reach, Says}
+use Rattle.kept_table.specs.Kept.{Lent, keptIn, reach, Says}
 
 -- nothing stored and no frame begun
 abbrev pub startIs : State

@@ -1,39 +1,29 @@
 // A session of the program: pieces of input fed as they come, cut anywhere, over lent memory that holds what is stored and the
 // frame so far; each frame is carried out at its line feed.
 //
-// The table is kept as its packed bytes until the first edit is accepted, and as records over an area of names from then on.
+// What is kept of the table, and what a command or a walk does over it, is `kept_table`'s.
 //
 // A call of `feed` takes a piece through its first line feed and no further, so it has at most one line of output; the caller
 // goes on with the rest of the piece. Of a frame too long to be one nothing is kept but that it is.
 mod carrying;
-mod commands;
 mod gathering;
-mod outcome;
-mod store;
-mod walks;
 
 ghost use mathlib.Core.Path.{_≡_};
-ghost use Rattle.session.specs.Carrying.{lent};
+ghost use Rattle.kept_table.specs.Kept.{lent};
 ghost use Rattle.session.specs.Feeding.{ready, takenIs, FeedIs, Finishes};
 use carrying::end_frame;
 use frames::Gathered;
 use frames::MAX_DIGITS;
 use frames::put_refusal;
 use gathering::gather_line;
+use kept_table::Lengths;
+use kept_table::MAX_NAMESPACES;
+use kept_table::MAX_TABLE;
 use octets::refusals::BAD_FRAME;
-use outcome::MAX_NAMESPACES;
-use outcome::MAX_TABLE;
 use records::MAX_ROWS;
 
 // The longest line of output: two digits for each of 1 + 16,384 bytes, and a line feed.
 pub const MAX_LINE: usize = 32771;
-
-// How many bytes are stored of the table and of the namespace list. Once an edit was accepted, `table` is how many records are rows.
-pub struct Lengths {
-    pub table: usize,
-    pub namespaces: usize,
-    pub edited: bool,
-}
 
 // What is stored between two pieces of input, and what is gathered of the frame so far.
 pub struct State {

@@ -1,11 +1,7 @@
 -- What is done to the words is done to the records of a store. Rests on the library and on the word of a record.
-use mathlib.Core.Path.{_≡_, refl, sym, ap, _∙_, subst}
-use mathlib.Core.List.{List, [], _∷_, _++_, map, map-append}
-use Prim.Native.Nat.{ℕ, suc, _+_, _-_, _/_, _%_, _<_}
-use native.Mathlib.Numerals.{add-one}
-use native.Mathlib.Omega.{arith}
-use lib.ListN.{length, take, drop, getD, set, length-append}
-use lib.Seq.{length-take-le, getD-take, set-split, drop-at, take-at, append-snoc}
+use Rattle.listing_rules.proofs.Prelude.{_∙_, _≡_, ap, refl, subst, sym, List, [], _++_, _∷_, map, map-append, _%_, _+_, _-_, _/_, _<_, suc, ℕ}
+use Rattle.listing_rules.proofs.Prelude.{add-one, arith, drop, getD, length, length-append, set, take, append-snoc, drop-at, getD-take}
+use Rattle.listing_rules.proofs.Prelude.{length-take-le, set-split, take-at}
 use Rattle.listing_rules.specs.Records.{Record}
 use Rattle.listing_rules.specs.Subscriptions.{Store, held, stored, flagged, inserted, removed, nth, zeroRecord}
 use Rattle.listing_rules.proofs.ListLaws.{map-drop}
@@ -14,7 +10,8 @@ use Rattle.records.proofs.WordLaws.{word-tells}
 use Rattle.subscriptions.specs.declared.Plan.{Plan}
 use Rattle.subscriptions.specs.declared.Plan.the-variants.{Keep, Flag, Insert, Remove, Refused}
 use Rattle.subscriptions.specs.Plans.{carried}
-use Rattle.subscriptions.specs.Applied.{withFlags, newWord, insertedAt, removedAt, wordsAfter, freed, areaAfter, changeOf, changedRecords, Applies, Fits, FlagFits, InsertFits, RemoveFits}
+use Rattle.subscriptions.specs.Applied.{withFlags, newWord, insertedAt, removedAt, wordsAfter, freed, areaAfter, changeOf, changedRecords}
+use Rattle.subscriptions.specs.Applied.{Applies, Fits, FlagFits, InsertFits, RemoveFits}
 use Rattle.subscriptions.proofs.FitLaws.{record-at}
 use Rattle.subscriptions.proofs.ShiftLaws.{length-middle}
 

@@ -1,12 +1,6 @@
 -- The plan for an edit, by the tests of the code. Rests on PlaceLaws.
-use mathlib.Core.Path.{_≡_, refl, _∙_}
-use mathlib.Core.Bool.{true, false, _&&_, not}
-use mathlib.Core.List.{List, map}
-use mathlib.Core.Option.{Option, none, some}
-use Prim.Native.Nat.{ℕ, _≤_, _<_}
-use lib.Dec.{ltb}
-use lib.ListN.{length, length-map}
-use borrow.Author.Tests.{lt-ltb, le-ltb, ltb-true}
+use Rattle.listing_rules.proofs.Prelude.{_∙_, _≡_, refl, _&&_, false, true, Option, none, some, List, map, _<_, _≤_, ℕ, ltb, length, length-map}
+use Rattle.listing_rules.proofs.Prelude.{le-ltb, lt-ltb, ltb-true}
 use Rattle.listing_rules.specs.Names.{lawfulName}
 use Rattle.listing_rules.specs.Subscriptions.{rowsBefore, belowNoInferiors, freeFrom, lowestRun}
 use Rattle.listing_rules.proofs.Bools.{and-l}

@@ -1,19 +1,13 @@
 -- What an edit of an index comes to fits. Rests on PlanLaws and FlagLaws.
-use mathlib.Core.Path.{_≡_, refl, sym, _∙_, subst}
-use mathlib.Core.Bool.{Bool, true, false, cond, _&&_, not}
-use mathlib.Core.List.{List, [], _∷_, map}
-use mathlib.Core.Option.{Option, none, some}
-use Prim.Native.Nat.{ℕ, suc, _+_, _-_, _≤_, _<_}
-use native.Mathlib.Omega.{arith}
-use lib.Dec.{eqb, leb, ltb}
-use lib.ListN.{length, take, getD, length-map, List·getD-map}
-use lib.Seq.{length-take-le, getD-take}
-use borrow.Author.Tests.{leb-true, ltb-true}
+use Rattle.listing_rules.proofs.Prelude.{_∙_, _≡_, refl, subst, sym, Bool, _&&_, cond, false, not, true, Option, none, some, List, [], _∷_, map, _+_}
+use Rattle.listing_rules.proofs.Prelude.{_-_, _<_, _≤_, suc, ℕ, arith, eqb, leb, ltb, List·getD-map, getD, length, length-map, take, getD-take}
+use Rattle.listing_rules.proofs.Prelude.{length-take-le, leb-true, ltb-true}
 use Rattle.listing_rules.specs.Names.{lawfulName}
 use Rattle.listing_rules.specs.Flags.{subscribed}
 use Rattle.listing_rules.specs.Table.{Row, hasRow}
 use Rattle.listing_rules.specs.Records.{Record, recordRows}
-use Rattle.listing_rules.specs.Subscriptions.{rowsBefore, belowNoInferiors, freeFrom, freeFront, lowestRun, withSubscribed, withoutSubscribed, nth, zeroRecord}
+use Rattle.listing_rules.specs.Subscriptions.{rowsBefore, belowNoInferiors, freeFrom, freeFront, lowestRun, withSubscribed, withoutSubscribed, nth}
+use Rattle.listing_rules.specs.Subscriptions.{zeroRecord}
 use Rattle.listing_rules.proofs.Bools.{and-l, and-r}
 use Rattle.listing_rules.proofs.LawfulNames.{good-parts}
 use Rattle.listing_rules.proofs.FreeRuns.{front-bound, free-length}

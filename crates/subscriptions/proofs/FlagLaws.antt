@@ -1,9 +1,5 @@
 -- The flag of a row set or cleared, by the tests of the code. Rests on the bits of sets in octets.
-use mathlib.Core.Path.{_≡_}
-use mathlib.Core.Bool.{true, false}
-use Prim.Native.Nat.{ℕ, _+_, _-_, _/_, _%_, _≤_, _<_}
-use native.Mathlib.Omega.{arith}
-use borrow.Author.Tests.{eq-eqb, ne-eqb, eqb-true, eqb-false}
+use Rattle.listing_rules.proofs.Prelude.{_≡_, false, true, _%_, _+_, _-_, _/_, _<_, _≤_, ℕ, arith, eq-eqb, eqb-false, eqb-true, ne-eqb}
 use Rattle.listing_rules.specs.Bytes.{bit}
 use Rattle.listing_rules.specs.Flags.{subscribed}
 use Rattle.listing_rules.specs.Subscriptions.{withSubscribed, withoutSubscribed}

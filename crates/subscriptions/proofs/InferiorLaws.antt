@@ -1,12 +1,6 @@
 -- A name below a row with no inferiors, as the code's tests find it. Rests on the library alone.
-use mathlib.Core.Path.{_≡_, refl, sym}
-use mathlib.Core.Bool.{true, false, _&&_, and-false, and-assoc}
-use mathlib.Core.List.{List, [], _∷_}
-use Prim.Native.Nat.{ℕ, _+_, _≤_, _<_}
-use native.Mathlib.Numerals.{add-one}
-use native.Mathlib.Omega.{arith}
-use lib.Dec.{eqb}
-use lib.ListN.{length, take, drop, getD, drop-of-length-le}
+use Rattle.listing_rules.proofs.Prelude.{_≡_, refl, sym, _&&_, and-assoc, and-false, false, true, List, [], _∷_, _+_, _<_, _≤_, ℕ, add-one, arith}
+use Rattle.listing_rules.proofs.Prelude.{eqb, drop, drop-of-length-le, getD, length, take}
 use Rattle.listing_rules.specs.Bytes.{slash, same}
 use Rattle.listing_rules.specs.Lists.{anyOf}
 use Rattle.listing_rules.specs.Names.{below}

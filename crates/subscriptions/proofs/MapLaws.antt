@@ -1,15 +1,8 @@
 -- The map of free bytes: names taken out of it one by one, and what it says then. Rests on the library alone.
-use mathlib.Core.Path.{_≡_, refl, sym, ap, _∙_}
-use mathlib.Core.Bool.{Bool, true, false, _&&_, _||_, not, and-true, and-false}
-use mathlib.Core.List.{List, [], _∷_, map}
-use Prim.Native.Nat.{ℕ, zero, suc, _+_, _-_, _≤_, _<_, min}
-use native.Mathlib.Decide.{decLe}
-use native.Mathlib.Numerals.{add-one}
-use native.Mathlib.Omega.{arith}
-use lib.Dec.{leb}
-use lib.ListN.{length, take, drop, getD, set, replicate, length-set, drop-of-length-le, length-replicate, getD-replicate}
-use lib.Seq.{drop-cons, getD-set-same, getD-set-other, getD-take, length-take-le, ext-getD}
-use borrow.Author.Tests.{le-leb, lt-leb, lt-ltb, le-ltb}
+use Rattle.listing_rules.proofs.Prelude.{_∙_, _≡_, ap, refl, sym, Bool, _&&_, _||_, and-false, and-true, false, not, true, List, [], _∷_, map, _+_}
+use Rattle.listing_rules.proofs.Prelude.{_-_, _<_, _≤_, min, suc, zero, ℕ, add-one, decLe, arith, leb, drop, drop-of-length-le, getD, getD-replicate}
+use Rattle.listing_rules.proofs.Prelude.{length, length-replicate, length-set, replicate, set, take, drop-cons, ext-getD, getD-set-other}
+use Rattle.listing_rules.proofs.Prelude.{getD-set-same, getD-take, length-take-le, le-leb, le-ltb, lt-leb, lt-ltb}
 use Rattle.listing_rules.specs.Lists.{anyOf}
 use Rattle.listing_rules.specs.Records.{Record}
 use Rattle.listing_rules.specs.Subscriptions.{uses, freeFrom}

@@ -1,17 +1,8 @@
 -- The place of a name among rows whose names ascend, as the code's loops find it. Rests on the order of names in listing_rules and
 -- on the laws of an index.
-use mathlib.Core.Path.{_≡_, refl, sym, ap, _∙_, subst}
-use mathlib.Core.Bool.{Bool, true, false, cond, _&&_, _||_, false≢true}
-use mathlib.Core.List.{List, [], _∷_, map}
-use Prim.Native.Nat.{ℕ, zero, suc, _+_, _≤_, _<_, min, Ordering, Ordering·lt, Ordering·eq, Ordering·gt}
-use native.Mathlib.Decide.{decLe}
-use native.Mathlib.Nat.{add-zero}
-use native.Mathlib.Numerals.{add-one}
-use native.Mathlib.Omega.{arith}
-use lib.Dec.{ltb}
-use lib.ListN.{length, drop, getD, drop-of-length-le}
-use lib.Seq.{drop-cons}
-use borrow.Author.Tests.{eq-eqb, ne-eqb, lt-ltb, le-ltb}
+use Rattle.listing_rules.proofs.Prelude.{_∙_, _≡_, ap, refl, subst, sym, Bool, _&&_, _||_, cond, false, false≢true, true, List, [], _∷_, map}
+use Rattle.listing_rules.proofs.Prelude.{Ordering, Ordering·eq, Ordering·gt, Ordering·lt, _+_, _<_, _≤_, min, suc, zero, ℕ, add-zero, add-one, decLe}
+use Rattle.listing_rules.proofs.Prelude.{arith, ltb, drop, drop-of-length-le, getD, length, drop-cons, eq-eqb, le-ltb, lt-ltb, ne-eqb}
 use Rattle.listing_rules.specs.Bytes.{same}
 use Rattle.listing_rules.specs.Lists.{anyOf, keep}
 use Rattle.listing_rules.specs.Orders.{byteOrder, isLt, ascends, ascendsFrom}

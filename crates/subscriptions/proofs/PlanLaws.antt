@@ -1,19 +1,14 @@
 -- A plan carried out is the edit. Rests on the order of names in listing_rules.
-use mathlib.Core.Path.{_≡_, refl, sym, ap}
-use mathlib.Core.Bool.{Bool, true, false, cond, _&&_, not}
-use mathlib.Core.List.{List, [], _∷_}
-use mathlib.Core.Option.{Option, none, some}
-use Prim.Native.Nat.{ℕ, suc, _+_, _-_, _≤_, _<_}
-use native.Mathlib.Omega.{arith}
-use lib.Dec.{eqb, ltb}
-use lib.ListN.{length}
-use lib.Seq.{length-take-le, getD-take, split-at}
+use Rattle.listing_rules.proofs.Prelude.{_≡_, ap, refl, sym, Bool, _&&_, cond, false, not, true, Option, none, some, List, [], _∷_, _+_, _-_, _<_}
+use Rattle.listing_rules.proofs.Prelude.{_≤_, suc, ℕ, arith, eqb, ltb, length, getD-take, length-take-le, split-at}
 use Rattle.listing_rules.specs.Names.{lawfulName}
 use Rattle.listing_rules.specs.Flags.{subscribed}
 use Rattle.listing_rules.specs.Table.{hasRow}
 use Rattle.listing_rules.specs.Command.{Edit, subscribe, unsubscribe}
 use Rattle.listing_rules.specs.Records.{Record, recordRows}
-use Rattle.listing_rules.specs.Subscriptions.{Store, held, storeRows, denied, stored, edited, subscribing, unsubscribing, insertion, freeRun, spelled, rowsBefore, belowNoInferiors, freeFrom, lowestRun, withSubscribed, withoutSubscribed, zeroRecord, nth, flagged, inserted, removed}
+use Rattle.listing_rules.specs.Subscriptions.{Store, held, storeRows, denied, stored, edited, subscribing, unsubscribing, insertion, freeRun, spelled}
+use Rattle.listing_rules.specs.Subscriptions.{rowsBefore, belowNoInferiors, freeFrom, lowestRun, withSubscribed, withoutSubscribed, zeroRecord, nth}
+use Rattle.listing_rules.specs.Subscriptions.{flagged, inserted, removed}
 use Rattle.listing_rules.proofs.SpareLaws.{before-fewer}
 use Rattle.subscriptions.specs.declared.Plan.{Plan}
 use Rattle.subscriptions.specs.declared.Plan.the-variants.{Keep, Flag, Remove, Refused}

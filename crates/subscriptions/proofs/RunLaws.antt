@@ -1,14 +1,6 @@
 -- The lowest free run, by one pass over the map. Rests on the library alone.
-use mathlib.Core.Path.{_≡_, refl, sym, ap, _∙_}
-use mathlib.Core.Bool.{Bool, true, false}
-use mathlib.Core.List.{List, [], _∷_, _++_}
-use mathlib.Core.Option.{none, some}
-use Prim.Native.Nat.{ℕ, zero, suc, _+_, _-_, _≤_, _<_}
-use native.Mathlib.Numerals.{add-one}
-use native.Mathlib.Omega.{arith}
-use lib.ListN.{length, drop, getD, replicate, drop-of-length-le}
-use lib.Seq.{drop-cons}
-use borrow.Author.Tests.{le-leb, lt-leb}
+use Rattle.listing_rules.proofs.Prelude.{_∙_, _≡_, ap, refl, sym, Bool, false, true, none, some, List, [], _++_, _∷_, _+_, _-_, _<_, _≤_, suc, zero}
+use Rattle.listing_rules.proofs.Prelude.{ℕ, add-one, arith, drop, drop-of-length-le, getD, length, replicate, drop-cons, le-leb, lt-leb}
 use Rattle.listing_rules.specs.Subscriptions.{freeFront, lowestRun}
 use Rattle.subscriptions.specs.declared.free.Run.the-variants.{At, Missing}
 use Rattle.subscriptions.specs.Runs.{runIs}

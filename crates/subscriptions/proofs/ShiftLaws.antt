@@ -1,12 +1,9 @@
 -- Words that move by one place, one by one, and bytes that are cleared. Rests on the library alone.
-use mathlib.Core.Path.{_≡_, refl, sym, ap, _∙_, subst}
-use mathlib.Core.List.{List, [], _∷_, _++_, append-assoc}
-use Prim.Native.Nat.{ℕ, zero, suc, _+_, _-_, _%_, _≤_, _<_}
-use native.Mathlib.Nat.{zero-add, suc-add}
-use native.Mathlib.Numerals.{add-one}
-use native.Mathlib.Omega.{arith}
-use lib.ListN.{length, take, drop, getD, set, replicate, length-append, length-take, length-drop, length-set, length-replicate, getD-replicate, drop-of-length-le, take-append-drop, List·getD-append}
-use lib.Seq.{take-suc, drop-cons, take-all, take-nil, drop-nil, set-at, append-snoc, getD-take, getD-drop, getD-append-add, length-take-le, sets, sets-eq, paste, paste-zero, paste-suc, length-paste-head}
+use Rattle.listing_rules.proofs.Prelude.{_∙_, _≡_, ap, refl, subst, sym, List, [], _++_, _∷_, append-assoc, _%_, _+_, _-_, _<_, _≤_, suc, zero, ℕ}
+use Rattle.listing_rules.proofs.Prelude.{suc-add, zero-add, add-one, arith, List·getD-append, drop, drop-of-length-le, getD, getD-replicate, length}
+use Rattle.listing_rules.proofs.Prelude.{length-append, length-drop, length-replicate, length-set, length-take, replicate, set, take}
+use Rattle.listing_rules.proofs.Prelude.{take-append-drop, append-snoc, drop-cons, drop-nil, getD-append-add, getD-drop, getD-take, length-paste-head}
+use Rattle.listing_rules.proofs.Prelude.{length-take-le, paste, paste-suc, paste-zero, set-at, sets, sets-eq, take-all, take-nil, take-suc}
 use Rattle.listing_rules.specs.Subscriptions.{overwritten}
 use Rattle.subscriptions.specs.Applied.{insertedAt, removedAt}
 

@@ -1,15 +1,8 @@
 -- An edit of a store whose records are the words: the plan for it fits, and done it leaves that store. Rests on PlanLaws, FitLaws and
 -- AppliedLaws, and on the parts of a store that passes.
-use mathlib.Core.Path.{_≡_, refl, sym, ap, _∙_, subst}
-use mathlib.Core.Bool.{true}
-use mathlib.Core.List.{List, [], _∷_, _++_, map, map-append, append-assoc}
-use Prim.Native.Nat.{ℕ, zero, suc, _+_, _-_, _≤_, _<_}
-use native.Mathlib.Numerals.{add-one}
-use native.Mathlib.Omega.{arith}
-use lib.ListN.{length, take, drop, getD, set, length-map, length-append, length-set, length-drop}
-use lib.Seq.{length-take-le, set-split, drop-at, paste-zero, append-snoc}
-use lib.Dec.{leb}
-use borrow.Author.Tests.{leb-true}
+use Rattle.listing_rules.proofs.Prelude.{_∙_, _≡_, ap, refl, subst, sym, true, List, [], _++_, _∷_, append-assoc, map, map-append, _+_, _-_, _<_, _≤_}
+use Rattle.listing_rules.proofs.Prelude.{suc, zero, ℕ, add-one, arith, leb, drop, getD, length, length-append, length-drop, length-map, length-set}
+use Rattle.listing_rules.proofs.Prelude.{set, take, append-snoc, drop-at, length-take-le, paste-zero, set-split, leb-true}
 use Rattle.listing_rules.specs.Lists.{every}
 use Rattle.listing_rules.specs.Orders.{ascends}
 use Rattle.listing_rules.specs.Table.{Row, names, passes}
@@ -26,7 +19,8 @@ use Rattle.subscriptions.specs.declared.Plan.{Plan}
 use Rattle.subscriptions.specs.declared.Plan.the-variants.{Keep, Flag, Insert, Remove, Refused}
 use Rattle.subscriptions.specs.declared.Change.{Change}
 use Rattle.subscriptions.specs.Plans.{Ordered, subscribes, editedName}
-use Rattle.subscriptions.specs.Applied.{withFlags, newWord, insertedAt, removedAt, wordsAfter, areaAfter, changeOf, changedRecords, Applies, Fits, FlagFits, InsertFits, RemoveFits}
+use Rattle.subscriptions.specs.Applied.{withFlags, newWord, insertedAt, removedAt, wordsAfter, areaAfter, changeOf, changedRecords, Applies}
+use Rattle.subscriptions.specs.Applied.{Fits, FlagFits, InsertFits, RemoveFits}
 use Rattle.subscriptions.specs.Stored.{wholeStore, planOf, Decides}
 use Rattle.subscriptions.proofs.PlanLaws.{edited-plan}
 use Rattle.subscriptions.proofs.FitLaws.{plan-fits}
@@ -91,7 +85,9 @@ module _ (ws : List ℕ) where
         lent-only = omega (arith, h);
         within = omega (arith, h);
         size = length-set ws k w;
-        others = rw (one, set-split ws k w h, drop-at (take k ws) (w ∷ drop (suc k) ws) k (length-take-le k ws (omega (arith, h))), add-one k) (sym (append-assoc (take k ws) (w ∷ []) (drop (suc k) ws)));
+        others =
+            rw (one, set-split ws k w h, drop-at (take k ws) (w ∷ drop (suc k) ws) k (length-take-le k ws (omega (arith, h))), add-one k)
+            (sym (append-assoc (take k ws) (w ∷ []) (drop (suc k) ws)));
       }
 
   insert-between : (count : ℕ) (area n : List ℕ) (k start : ℕ) → InsertFits ws count area n k start
@@ -105,8 +101,28 @@ module _ (ws : List ℕ) where
         order = omega (arith, fit .place);
         lent-only = omega (arith, fit .room);
         within = omega (arith, fit .room);
-        size = omega (arith, fit .place, fit .room, length-append (take k ws) (w ∷ (drop k (take count ws) ++ drop (suc count) ws)), length-take-le k ws (omega (arith, fit .place, fit .room)), length-append (drop k (take count ws)) (drop (suc count) ws), length-middle k count ws (omega (arith, fit .room)), length-drop (suc count) ws);
-        others = rw (m, e, taken-insert ws k (count - k) w (drop k (take count ws)) (drop (suc count) ws) (length-take-le k ws (omega (arith, fit .place, fit .room))) (length-middle k count ws (omega (arith, fit .room)))) (sym (append-assoc (take k ws) (w ∷ drop k (take count ws)) (drop (suc count) ws)));
+        size =
+            omega (
+              arith,
+              fit .place,
+              fit .room,
+              length-append (take k ws) (w ∷ (drop k (take count ws) ++ drop (suc count) ws)),
+              length-take-le k ws (omega (arith, fit .place, fit .room)),
+              length-append (drop k (take count ws)) (drop (suc count) ws),
+              length-middle k count ws (omega (arith, fit .room)),
+              length-drop (suc count) ws,
+            );
+        others =
+            rw (
+              m,
+              e,
+              taken-insert ws k (count - k) w (drop k (take count ws)) (drop (suc count) ws) (length-take-le k ws (omega (
+                arith,
+                fit .place,
+                fit .room,
+              ))) (length-middle k count ws (omega (arith, fit .room))),
+            )
+            (sym (append-assoc (take k ws) (w ∷ drop k (take count ws)) (drop (suc count) ws)));
       }
 
   remove-between : (count : ℕ) (area : List ℕ) (k : ℕ) → RemoveFits ws count area k → Between ws (removedAt ws count k) (length ws) k count
@@ -118,8 +134,29 @@ module _ (ws : List ℕ) where
         order = omega (arith, fit .row);
         lent-only = fit .words;
         within = fit .words;
-        size = omega (arith, fit .row, fit .words, length-append (take k ws) (drop (suc k) (take count ws) ++ (0 ∷ drop count ws)), length-take-le k ws (omega (arith, fit .row, fit .words)), length-append (drop (suc k) (take count ws)) (0 ∷ drop count ws), length-middle (suc k) count ws (fit .words), length-drop count ws);
-        others = rw (m, e, taken-remove ws k (count - suc k) (drop (suc k) (take count ws)) (drop count ws) (length-take-le k ws (omega (arith, fit .row, fit .words))) (length-middle (suc k) count ws (fit .words))) (ap (λ (l : List ℕ). take k ws ++ l) (sym (append-snoc (drop (suc k) (take count ws)) 0 (drop count ws))) ∙ sym (append-assoc (take k ws) (drop (suc k) (take count ws) ++ (0 ∷ [])) (drop count ws)));
+        size =
+            omega (
+              arith,
+              fit .row,
+              fit .words,
+              length-append (take k ws) (drop (suc k) (take count ws) ++ (0 ∷ drop count ws)),
+              length-take-le k ws (omega (arith, fit .row, fit .words)),
+              length-append (drop (suc k) (take count ws)) (0 ∷ drop count ws),
+              length-middle (suc k) count ws (fit .words),
+              length-drop count ws,
+            );
+        others =
+            rw (
+              m,
+              e,
+              taken-remove ws k (count - suc k) (drop (suc k) (take count ws)) (drop count ws) (length-take-le k ws (omega (
+                arith,
+                fit .row,
+                fit .words,
+              ))) (length-middle (suc k) count ws (fit .words)),
+            )
+            (ap (λ (l : List ℕ). take k ws ++ l) (sym (append-snoc (drop (suc k) (take count ws)) 0 (drop count ws))) ∙ sym
+            (append-assoc (take k ws) (drop (suc k) (take count ws) ++ (0 ∷ [])) (drop count ws)));
       }
 
   plan-between : (p : Plan) (count : ℕ) (area n : List ℕ) → Fits p ws count area n

@@ -1,6 +1,7 @@
 // The lowest free run of name bytes: a map of the area, one mark a byte, then one pass over the map. `compaction` uses the map too.
 use mailbox_table::rows::Row;
 use octets::least;
+use records::MAX_BYTES;
 ghost use mathlib.Core.Path.{_≡_};
 ghost use mathlib.Core.Bool.{true};
 ghost use mathlib.Core.List.{map};
@@ -9,8 +10,6 @@ ghost use lib.ListN.{length, replicate};
 ghost use Rattle.listing_rules.specs.Subscriptions.{freeFrom, lowestRun};
 ghost use Rattle.records.specs.Words.{recordOf};
 ghost use Rattle.subscriptions.specs.Runs.{runIs, Unmarks, usedBetween, usedBy};
-
-const MAX_BYTES: usize = 32768;
 
 // Where a free run begins, or that there is none.
 pub(crate) enum Run {

@@ -23,6 +23,7 @@ use octets::refusals::NO_ROOM;
 use octets::refusals::UNLAWFUL_NAME;
 use order::place_of;
 use order::stands_at;
+use records::MAX_ROWS;
 ghost use mathlib.Core.Path.{_≡_};
 ghost use mathlib.Core.List.{map};
 ghost use Prim.Native.Nat.{_≤_};
@@ -30,8 +31,6 @@ ghost use lib.ListN.{length};
 ghost use Rattle.records.specs.Words.{recordOf};
 ghost use Rattle.subscriptions.specs.Plans.{Ordered, planFor, settingPlan, clearingPlan, freshPlan};
 ghost use Rattle.subscriptions.specs.Applied.{Fits, wordsAfter, areaAfter, changeOf};
-
-const MAX_ROWS: usize = 512;
 
 // What an edit comes to: nothing changes; row k has these flags; a row 0002 stands at place k, its name at a start; row k goes; or the
 // number of its refusal.

@@ -1,7 +1,5 @@
 -- `collect_words` meets its contract: what `run` left, and zeros where it was refused; demand 3 follows from the equations (`WholeLaws`).
-use mathlib.Core.Path.{_≡_, refl, sym, subst, _∙_}
-use mathlib.Core.List.{map}
-use borrow.Author.Needs.{needs}
+use Rattle.listing_rules.proofs.Prelude.{_∙_, _≡_, refl, subst, sym, map, needs}
 use Rattle.listing_rules.specs.Walk.{WalkReply, collectedBy}
 use Rattle.listing_rules.proofs.ReaderLaws.{records-seen-passes}
 use Rattle.collector.specs.Ends.{Comes}
@@ -25,10 +23,7 @@ same-reply : (c : tie.After-run) →
     let pending = c .before .before .before .before .before .before in
     let found = pending .before .before .before .before in
     let args = found .before .before .before .before .before .before .before .args in
-    collectedBy (args .reader) (wordSeen (args .reader) (args .area .now) (args .words .now) (args .count)) (args .option) (args .scratch .now)
-    (found .clear .last .0) (pending .clear2 .last .0) ≡ collectedBy (args .reader)
-    (wordSeen (args .reader) (args .area .now) (args .words .now) (args .count)) (args .option) (args .scratch .now) (args .found .now)
-    (args .pending .now)
+    collectedBy (args .reader) (wordSeen (args .reader) (args .area .now) (args .words .now) (args .count)) (args .option) (args .scratch .now) (found .clear .last .0) (pending .clear2 .last .0) ≡ collectedBy (args .reader) (wordSeen (args .reader) (args .area .now) (args .words .now) (args .count)) (args .option) (args .scratch .now) (args .found .now) (args .pending .now)
 same-reply c =
     let pending = c .before .before .before .before .before .before in
     let found = pending .before .before .before .before in

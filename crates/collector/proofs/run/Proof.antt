@@ -1,11 +1,6 @@
 -- `run` meets its contract: refusals 16, 1 and 6 in their order, then the walk over the rows that the reader sees. By WholeLaws and HeldLaws; the index
 -- by HeldLaws of mailbox_table.
-use mathlib.Core.Path.{_≡_, sym, ap, subst, _∙_}
-use mathlib.Core.Bool.{true}
-use mathlib.Core.List.{map, _++_}
-use lib.ListN.{length, take, drop}
-use borrow.Author.Needs.{needs}
-use native.Mathlib.Omega.{arith}
+use Rattle.listing_rules.proofs.Prelude.{_∙_, _≡_, ap, subst, sym, true, _++_, map, arith, drop, length, take, needs}
 use Rattle.listing_rules.specs.Table.{passes}
 use Rattle.listing_rules.specs.Walk.{WalkReply, collected}
 use Rattle.listing_rules.proofs.ReaderLaws.{records-seen-passes}
@@ -48,7 +43,8 @@ known c = index-held (c .before .before .before .index-words .ensures) (c .n .gi
 
 -- what is seen of them passes
 passing : (c : tie.After-n) →
-    let args = c .before .before .before .before .before .before .before .before .before .before .before .before .args in
+    let start = c .before .before .before .before .before .before .before .before .before .before .before .before in
+    let args = start .args in
     passes (wordSeen (args .reader) (args .area .now) (args .words .now) (args .count)) ≡ true
 passing c =
     let args = c .before .before .before .before .before .before .before .before .before .before .before .before .args in
@@ -105,8 +101,7 @@ seen-table : (c : tie.After-see-rows) →
     let n = after-n .n .given .0 .0 in
     let rows = after-n .before .before .before .index-words .last .1 .1 .1 .0 in
     let args = after-n .before .before .before .before .before .before .before .before .before .before .before .before .args in
-    heldTable (args .area .now) (take (c .see-rows .result) (c .see-rows .last .0 ++ drop n rows)) ≡ wordSeen (args .reader) (args .area .now)
-    (args .words .now) (args .count)
+    heldTable (args .area .now) (take (c .see-rows .result) (c .see-rows .last .0 ++ drop n rows)) ≡ wordSeen (args .reader) (args .area .now) (args .words .now) (args .count)
 seen-table c =
     let after-n = c .before .before .before .before .before .before .before in
     let n = after-n .n .given .0 .0 in

@@ -1,5 +1,5 @@
 -- `put_name`: the bytes of the name's span, as command_tokens puts them.
-use borrow.Author.Needs.{needs}
+use Rattle.listing_rules.proofs.Prelude.{needs}
 use Rattle.command_line.specs.Commands.{nameOf}
 use Rattle.command_line.proofs.put_name.Statement.{statement}
 use Rattle.command_line.proofs.put_name.Tie as tie

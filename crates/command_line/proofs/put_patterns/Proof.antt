@@ -1,5 +1,5 @@
 -- `put_patterns`: the patterns of the command, as command_patterns puts them.
-use borrow.Author.Needs.{needs}
+use Rattle.listing_rules.proofs.Prelude.{needs}
 use Rattle.command_line.specs.Commands.{patternsOf}
 use Rattle.command_line.proofs.put_patterns.Statement.{statement}
 use Rattle.command_line.proofs.put_patterns.Tie as tie

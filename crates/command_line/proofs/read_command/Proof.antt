@@ -1,13 +1,6 @@
 -- `read_command`: check 3, and then the text before CR LF. Rests on Lines.
-use mathlib.Core.Path.{_≡_, sym, _∙_}
-use mathlib.Core.Bool.{true}
-use Prim.Native.Nat.{_-_}
-use lib.ListN.{length, length-take}
-use native.Mathlib.Omega.{arith}
-use borrow.Author.Needs.{needs}
-use borrow.Author.Tests.{not-true, not-false}
+use Rattle.listing_rules.proofs.Prelude.{_∙_, _≡_, sym, true, _-_, arith, length, length-take, not-false, not-true, needs}
 use Rattle.listing_rules.specs.Feeder.{first, oneCommand}
-use Rattle.listing_rules.specs.Command.{parsed}
 use Rattle.command_line.specs.Commands.{Answers}
 use Rattle.command_shape.proofs.Shapes.{one-long}
 use Rattle.command_line.proofs.Judging.{refuses}
@@ -21,12 +14,11 @@ one c = sym (c .before .is-one-command .ensures) ∙ not-false _ (c .if1 .left)
 
 returns : tie.Need-returns
 returns c =
-    let start = c .before .before .before .before in
-    let off : Answers (start .args .line .now) (parsed (start .args .line .now)) Unit (c .refused .result) = refuses _ 3 (c .refused .ensures) (line-off (start .args .line .now) (sym (c .before .before .is-one-command .ensures) ∙ not-true _ (c .before .if1 .taken))) in
+    let off : Answers _ _ Unit _ = refuses _ 3 (c .refused .ensures) (line-off _ (sym (c .before .before .is-one-command .ensures) ∙ not-true _ (c .before .if1 .taken))) in
     (off .means, off .inside tt)
 
 sub-n : tie.Need-sub-n
-sub-n c = omega (arith, one-long (c .before .before .before .args .line .now) (one c))
+sub-n c = omega (arith, one-long _ (one c))
 
 slice-aggregate-read-text : tie.Need-slice-aggregate-read-text
 slice-aggregate-read-text c =

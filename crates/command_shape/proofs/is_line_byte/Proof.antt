@@ -1,5 +1,5 @@
 -- `is_line_byte` is the definition's test.
-use mathlib.Core.Path.{refl}
+use Rattle.listing_rules.proofs.Prelude.{refl}
 use Rattle.listing_rules.specs.Bytes.{within}
 use Rattle.listing_rules.specs.Tokens.{lineByte}
 use Rattle.command_shape.proofs.is_line_byte.Statement.{statement}

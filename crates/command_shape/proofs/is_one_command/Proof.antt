@@ -1,9 +1,6 @@
 -- `is_one_command`: the line from the loop's place on is one command exactly if the whole line is. Rests on Shapes.
-use mathlib.Core.Path.{sym, _∙_}
-use Prim.Native.Nat.{_-_}
-use lib.ListN.{length}
+use Rattle.listing_rules.proofs.Prelude.{_∙_, sym, _-_, length, needs}
 use Rattle.command_shape.proofs.Shapes.{Shaped, shaped-first, shaped-out, shaped-bad, shaped-last, shaped-on}
-use borrow.Author.Needs.{needs}
 use Rattle.command_shape.proofs.is_one_command.Statement.{statement}
 use Rattle.command_shape.proofs.is_one_command.Tie as tie
 
@@ -14,7 +11,7 @@ abbrev μ-loop : tie.MeasureT-loop
 μ-loop line machine₀ i₀ machine i = length line - i
 
 loop-holds : tie.Need-loop-holds Inv-loop μ-loop
-loop-holds c = shaped-first (c .before .args .line .now)
+loop-holds c = shaped-first _
 
 returns : tie.Need-returns Inv-loop μ-loop
 returns c =

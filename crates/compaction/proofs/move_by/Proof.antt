@@ -1,18 +1,16 @@
 -- `compaction::move_by` meets its contract: bytes, then starts. By MoveLaws.
-use mathlib.Core.Path.{_≡_, sym}
-use lib.ListN.{length, take}
-use lib.Seq.{length-take-le}
-use borrow.Author.Needs.{needs}
+use Rattle.listing_rules.proofs.Prelude.{_≡_, sym, length, take, length-take-le, needs}
 use Rattle.compaction.proofs.MoveLaws.{moves-names}
 use Rattle.compaction.proofs.move_by.Statement.{statement}
 use Rattle.compaction.proofs.move_by.Tie as tie
 
-places-length : (c : tie.After-restart-arg2) → let start = c .before .before .before .before .before .before .before .before .before .before .before .before .before in
-    length (take (length (start .args .area .now)) (c .before .before .before .before .before .before .move-bytes .last .1 .1 .0)) ≡ length (start .args .area .now)
+places-length : (c : tie.After-restart-arg2) →
+    let after-move-bytes = c .before .before .before .before .before .before in
+    let start = after-move-bytes .before .before .before .before .before .before .before in
+    length (take (length (start .args .area .now)) (after-move-bytes .move-bytes .last .1 .1 .0)) ≡ length (start .args .area .now)
 places-length c =
     let moved = c .before .before .before .before .before .before in
-    let start = moved .before .before .before .before .before .before .before in
-    length-take-le (length (start .args .area .now)) (moved .move-bytes .last .1 .1 .0) (moved .move-bytes .ensures .room)
+    length-take-le _ _ (moved .move-bytes .ensures .room)
 
 restart-requires : tie.Need-restart-requires
 restart-requires c κs =

@@ -1,6 +1,5 @@
 -- `exports::answer_words` meets its contract: the promise of `server::answer_words`, in C's form.
-use mathlib.Core.Path.{_∙_}
-use borrow.Author.Needs.{needs}
+use Rattle.listing_rules.proofs.Prelude.{_∙_, needs}
 use Rattle.exports.specs.Outcomes.{writtenCase, doneCase}
 use Rattle.exports.proofs.OutcomeLaws.{written-case}
 use Rattle.exports.proofs.answer_words.Statement.{statement}

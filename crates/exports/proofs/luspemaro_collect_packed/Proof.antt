@@ -1,6 +1,5 @@
 -- `luspemaro_collect_packed` meets its contract: the promise of `collector::collect_packed`, in C's form.
-use mathlib.Core.Path.{ap, _∙_}
-use borrow.Author.Needs.{needs}
+use Rattle.listing_rules.proofs.Prelude.{_∙_, ap, needs}
 use Rattle.exports.specs.Outcomes.{collectedCase}
 use Rattle.exports.proofs.OutcomeLaws.{collected-case}
 use Rattle.exports.proofs.luspemaro_collect_packed.Statement.{statement}

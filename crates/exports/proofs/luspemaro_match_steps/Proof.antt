@@ -1,6 +1,5 @@
 -- `exports::luspemaro_match_steps` meets its contract: the count of `pattern::match_steps`.
-use mathlib.Core.Path.{ap}
-use borrow.Author.Needs.{needs}
+use Rattle.listing_rules.proofs.Prelude.{ap, needs}
 use Rattle.pattern.specs.declared.steps.Counted.{Counted}
 use Rattle.exports.proofs.luspemaro_match_steps.Statement.{statement}
 use Rattle.exports.proofs.luspemaro_match_steps.Tie as tie

@@ -1,6 +1,5 @@
--- `luspemaro_read_line` meets its contract: `list_line::read_line`'s promise, in C's form.
-use mathlib.Core.Path.{_∙_}
-use borrow.Author.Needs.{needs}
+-- `luspemaro_read_line` meets its contract: `line_reader::read_line`'s promise, in C's form.
+use Rattle.listing_rules.proofs.Prelude.{_∙_, needs}
 use Rattle.exports.specs.Outcomes.{lineCase}
 use Rattle.exports.proofs.OutcomeLaws.{line-case}
 use Rattle.exports.proofs.luspemaro_read_line.Statement.{statement}

@@ -1,6 +1,5 @@
 -- `luspemaro_write_line` meets its contract: `list_line::write_line`'s promise, in C's form.
-use mathlib.Core.Path.{ap, _∙_}
-use borrow.Author.Needs.{needs}
+use Rattle.listing_rules.proofs.Prelude.{_∙_, ap, needs}
 use Rattle.listing_rules.specs.Reader.{written}
 use Rattle.octets.specs.declared.Written.{Written}
 use Rattle.exports.specs.Outcomes.{writtenCase}

@@ -1,6 +1,6 @@
 -- `feeder::event_of` meets its contract.
 use Rattle.feeder.specs.Feed.{eventIs}
-use borrow.Author.Needs.{needs}
+use Rattle.listing_rules.proofs.Prelude.{needs}
 use Rattle.feeder.proofs.event_of.Statement.{statement}
 use Rattle.feeder.proofs.event_of.Tie as tie
 

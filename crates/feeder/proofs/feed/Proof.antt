@@ -1,15 +1,11 @@
 -- `feeder::feed` meets its contract. The loop's invariant: what is left of the chunk, from the state and the memory now, comes to what
 -- the whole chunk does. Rests on FeedLaws and FeedBytes.
-use mathlib.Core.Path.{_≡_, refl, sym, _∙_}
-use mathlib.Core.List.{[], _∷_}
-use Prim.Native.Nat.{_-_}
+use Rattle.listing_rules.proofs.Prelude.{_∙_, _≡_, refl, sym, [], _∷_, _-_, drop, length, needs}
 use types.Run.{miss}
-use lib.ListN.{length, drop}
 use Rattle.feeder.specs.declared.Event.the-variants.{Quiet}
 use Rattle.feeder.specs.Feed.{feedFrom, outcome, answers}
 use Rattle.feeder.proofs.FeedLaws.{feed-on, feed-stop, feed-end}
 use Rattle.feeder.proofs.FeedBytes.{feeds-not, small-memory, large-state, feeds}
-use borrow.Author.Needs.{needs}
 use Rattle.feeder.proofs.feed.Statement.{statement}
 use Rattle.feeder.proofs.feed.Tie as tie
 
@@ -20,12 +16,12 @@ abbrev μ-loop : tie.MeasureT-loop
 μ-loop command₀ chunk current₀ i₀ command current i = length chunk - i
 
 returns : tie.Need-returns Inv-loop μ-loop
-returns c = let a = c .before .before .before .args in feeds-not (a .state) (a .command .now) (a .chunk .now) (small-memory (a .command .now) (a .state .size) (c .if1 .taken))
+returns c = let a = c .before .before .before .args in feeds-not _ _ _ (small-memory (a .command .now) _ (c .if1 .taken))
 
 returns-2 : tie.Need-returns-2 Inv-loop μ-loop
 returns-2 c =
     let start = c .before .before .before .before .before in
-    let a = start .args in feeds-not (a .state) (a .command .now) (a .chunk .now) (large-state (a .command .now) (a .state .size) (c .if2 .taken))
+    let a = start .args in feeds-not _ _ _ (large-state (a .command .now) _ (c .if2 .taken))
 
 loop-holds : tie.Need-loop-holds Inv-loop μ-loop
 loop-holds c = (refl, refl)
@@ -34,9 +30,10 @@ loop-again : tie.Need-loop-again Inv-loop μ-loop
 loop-again c =
     let after-feed-byte = c .before .before .before .before .before in
     let at-loop-test = after-feed-byte .before .before .before in
-    let turn = at-loop-test .before in
-    let start = turn .before .before .before .before .before .before in
-    (after-feed-byte .feed-byte .kept .1 .0 ∙ turn .loop .inv .0, sym (feed-on (start .args .chunk .now) (turn .loop .i) (turn .loop .current) (turn .loop .command) _ (after-feed-byte .feed-byte .result) (at-loop-test .loop-test .taken) (after-feed-byte .feed-byte .ensures) (c .enum-told .given .1)) ∙ turn .loop .inv .1)
+    let turn = at-loop-test .before in (
+      after-feed-byte .feed-byte .kept .1 .0 ∙ turn .loop .inv .0,
+      sym (feed-on _ _ _ _ _ _ (at-loop-test .loop-test .taken) (after-feed-byte .feed-byte .ensures) (c .enum-told .given .1)) ∙ turn .loop .inv .1,
+    )
 
 returns-3 : tie.Need-returns-3 Inv-loop μ-loop
 unfolding outcome answers
@@ -47,7 +44,9 @@ returns-3 c =
     let at-if2 = turn .before in
     let at-if1 = at-if2 .before .before in
     let start = at-if1 .before .before .before in
-    let a = start .args in feeds (a .state) (a .command .now) _ (a .chunk .now) _ (at-if1 .if1 .left) (at-if2 .if2 .left) (sym (turn .loop .inv .1) ∙ feed-stop (a .chunk .now) (turn .loop .i) (turn .loop .current) (turn .loop .command) _ (after-feed-byte .feed-byte .result) (at-loop-test .loop-test .taken) (after-feed-byte .feed-byte .ensures) (λ e. miss (1 ∷ 2 ∷ 3 ∷ 4 ∷ []) 0 tt (rw e at (c .match .keys2))))
+    let a = start .args in feeds _ _ _ _ _ (at-if1 .if1 .left) (at-if2 .if2 .left)
+    (sym (turn .loop .inv .1) ∙ feed-stop _ _ _ _ _ _ (at-loop-test .loop-test .taken) (after-feed-byte .feed-byte .ensures)
+    (λ e. miss (1 ∷ 2 ∷ 3 ∷ 4 ∷ []) 0 tt (rw e at (c .match .keys2))))
 
 returns-4 : tie.Need-returns-4 Inv-loop μ-loop
 unfolding outcome answers
@@ -55,7 +54,9 @@ returns-4 c =
     let turn = c .before in
     let at-if1 = turn .before .before .before in
     let start = at-if1 .before .before .before in
-    let a = start .args in feeds (a .state) (a .command .now) _ (a .chunk .now) _ (at-if1 .if1 .left) (c .before .before .if2 .left) (sym (turn .loop .inv .1) ∙ feed-end (a .chunk .now) (turn .loop .i) (turn .loop .current) (turn .loop .command) (turn .loop .command) (record { state = turn .loop .current; used = 0; event = Quiet }) (c .loop-test .left))
+    let a = start .args in feeds _ _ _ _ _ (at-if1 .if1 .left) (c .before .before .if2 .left)
+    (sym (turn .loop .inv .1) ∙ feed-end _ _ _ _ (turn .loop .command) (record { state = turn .loop .current; used = 0; event = Quiet })
+    (c .loop-test .left))
 
 pub feed-spec : {M : Type 1} → statement M
 feed-spec =

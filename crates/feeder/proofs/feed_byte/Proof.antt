@@ -1,6 +1,6 @@
 -- `feeder::feed_byte` meets its contract.
 use Rattle.feeder.proofs.FeedLaws.{fed-byte}
-use borrow.Author.Needs.{needs}
+use Rattle.listing_rules.proofs.Prelude.{needs}
 use Rattle.feeder.proofs.feed_byte.Statement.{statement}
 use Rattle.feeder.proofs.feed_byte.Tie as tie
 
@@ -9,7 +9,7 @@ returns c =
     let after-step = c .before .before .before in
     let after-store = after-step .before .before .before in
     let start = after-store .before .before .before in
-    let a = start .args in fed-byte (a .state) (a .command .now) _ (a .b) (after-step .step .result) _ (c .before .advance .result) (after-step .step .ensures) (after-store .store .ensures) (c .before .advance .ensures) (c .event-of .ensures)
+    let a = start .args in fed-byte _ _ _ _ _ _ _ (after-step .step .ensures) (after-store .store .ensures) (c .before .advance .ensures) (c .event-of .ensures)
 
 pub feed-byte-spec : {M : Type 1} → statement M
 feed-byte-spec =

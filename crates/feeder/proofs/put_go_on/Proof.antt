@@ -1,7 +1,7 @@
 -- `feeder::put_go_on` meets its contract.
 use Rattle.listing_rules.proofs.Keys.{openBytes}
 use Rattle.listing_rules.specs.Feeder.{goOnLine}
-use borrow.Author.Needs.{needs}
+use Rattle.listing_rules.proofs.Prelude.{needs}
 use Rattle.feeder.proofs.put_go_on.Statement.{statement}
 use Rattle.feeder.proofs.put_go_on.Tie as tie
 

@@ -1,7 +1,6 @@
 -- `feeder::store` meets its contract.
-use mathlib.Core.Path.{sym, _∙_}
+use Rattle.listing_rules.proofs.Prelude.{_∙_, sym, needs}
 use Rattle.feeder.specs.Feed.{storedIs}
-use borrow.Author.Needs.{needs}
 use Rattle.feeder.proofs.store.Statement.{statement}
 use Rattle.feeder.proofs.store.Tie as tie
 
@@ -9,8 +8,7 @@ returns : tie.Need-returns
 unfolding storedIs
 returns c =
     let at-if1 = c .before .before .before .before in
-    let after-takes = at-if1 .before in
-    c .before .before .put .ensures .bytes ∙ rw (sym (after-takes .takes .ensures) ∙ at-if1 .if1 .taken)
+    c .before .before .put .ensures .bytes ∙ rw (sym (at-if1 .before .takes .ensures) ∙ at-if1 .if1 .taken)
 
 returns-2 : tie.Need-returns-2
 unfolding storedIs

@@ -1,11 +1,8 @@
 -- `luspemaro::run` meets its contract, and ends: the turns fall. The loop's invariant: the memory holds what the bytes read so far leave.
 -- Rests on ServeLaws.
 use Rattle.luspemaro.proofs.ServeLaws.{Stands, stands-first, stands-on}
-use Rattle.session.specs.Carrying.{lent}
-use borrow.Author.Tests.{not-false}
-use lib.ListN.{length}
-use mathlib.Core.Path.{_≡_, refl, _∙_}
-use borrow.Author.Needs.{needs}
+use Rattle.kept_table.specs.Kept.{lent}
+use Rattle.listing_rules.proofs.Prelude.{_∙_, _≡_, refl, length, not-false, needs}
 use Rattle.luspemaro.proofs.run.Statement.{statement}
 use Rattle.luspemaro.proofs.run.Tie as tie
 
@@ -35,10 +32,15 @@ loop-again : tie.Need-loop-again Inv-loop μ-loop
 loop-again c =
     let after-read-on = c .before .before .before .before .before .before .before .before .before .before in
     let at-if1 = after-read-on .before .before .before .before .before .before in
-    let turn = at-if1 .before .before .before in
-    let inv = turn .loop .inv in
-    let read = after-read-on .read-on in
-    (stands-on (inv .0) (not-false _ (at-if1 .if1 .left)) (read .ensures), read .kept .1 .0 ∙ inv .1, read .kept .1 .1 .0 ∙ inv .2, read .kept .1 .1 .1 .0 ∙ inv .3, read .kept .1 .1 .1 .1 .0 ∙ inv .4, read .kept .1 .1 .1 .1 .1 .0 ∙ inv .5)
+    let inv = at-if1 .before .before .before .loop .inv in
+    let read = after-read-on .read-on in (
+      stands-on (inv .0) (not-false _ (at-if1 .if1 .left)) (read .ensures),
+      read .kept .1 .0 ∙ inv .1,
+      read .kept .1 .1 .0 ∙ inv .2,
+      read .kept .1 .1 .1 .0 ∙ inv .3,
+      read .kept .1 .1 .1 .1 .0 ∙ inv .4,
+      read .kept .1 .1 .1 .1 .1 .0 ∙ inv .5,
+    )
 
 returns : tie.Need-returns Inv-loop μ-loop
 returns c = c .before .loop .inv .0 .reached

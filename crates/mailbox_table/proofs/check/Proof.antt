@@ -1,8 +1,6 @@
 -- `mailbox_table::check` meets its contract: with room for 512 rows the index answers check 1. By HeldLaws.
-use mathlib.Core.Path.{sym, ap}
-use lib.ListN.{length}
+use Rattle.listing_rules.proofs.Prelude.{ap, sym, length, needs}
 use Rattle.mailbox_table.proofs.HeldLaws.{index-held, index-refused}
-use borrow.Author.Needs.{needs}
 use Rattle.mailbox_table.proofs.check.Statement.{statement}
 use Rattle.mailbox_table.proofs.check.Tie as tie
 

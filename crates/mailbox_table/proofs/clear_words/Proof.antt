@@ -1,9 +1,6 @@
 -- `mailbox_table::clear_words` meets its contract: the words before i are zero. By octets' laws of Clearing.
-use Prim.Native.Nat.{_-_}
-use lib.ListN.{length, length-set}
+use Rattle.listing_rules.proofs.Prelude.{_-_, arith, length, length-set, needs}
 use Rattle.octets.proofs.Clearing.{Cleared, cleared-none, cleared-more, cleared-all}
-use borrow.Author.Needs.{needs}
-use native.Mathlib.Omega.{arith}
 use Rattle.mailbox_table.proofs.clear_words.Statement.{statement}
 use Rattle.mailbox_table.proofs.clear_words.Tie as tie
 

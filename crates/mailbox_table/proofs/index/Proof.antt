@@ -1,11 +1,10 @@
 -- `mailbox_table::index` meets its contract: what `find_rows` answers, with every word cleared where it fails. By FindLaws.
-use mathlib.Core.Path.{subst}
+use Rattle.listing_rules.proofs.Prelude.{subst, needs}
 use Rattle.listing_rules.specs.Table.{packedTable}
 use Rattle.listing_rules.specs.Records.{packedRecords}
 use Rattle.mailbox_table.specs.declared.Indexing.{Indexing}
 use Rattle.mailbox_table.specs.Find.{Finds}
 use Rattle.mailbox_table.proofs.FindLaws.{indexes-rows, indexes-fails}
-use borrow.Author.Needs.{needs}
 use Rattle.mailbox_table.proofs.index.Statement.{statement}
 use Rattle.mailbox_table.proofs.index.Tie as tie
 

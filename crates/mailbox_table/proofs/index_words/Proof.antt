@@ -1,13 +1,10 @@
 -- `mailbox_table::index_words` meets its contract: what `find_words` answers, with every word cleared where it fails. By FindLaws.
-use mathlib.Core.Path.{subst}
+use Rattle.listing_rules.proofs.Prelude.{subst, map, take, needs}
 use Rattle.mailbox_table.specs.declared.Indexing.{Indexing}
-use mathlib.Core.List.{map}
-use lib.ListN.{take}
 use Rattle.records.specs.Words.{recordOf}
 use Rattle.records.specs.Lent.{wordTable}
 use Rattle.mailbox_table.specs.Find.{Finds}
 use Rattle.mailbox_table.proofs.FindLaws.{indexes-rows, indexes-fails}
-use borrow.Author.Needs.{needs}
 use Rattle.mailbox_table.proofs.index_words.Statement.{statement}
 use Rattle.mailbox_table.proofs.index_words.Tie as tie
 
@@ -18,7 +15,7 @@ returns c =
     let start = after-find-words .before .before .before .before .before in
     let a = start .args in
     let found = after-find-words .find-words in
-    let t = wordTable (a .area .now) (a .raw .now) (a .count) in
+    let t = wordTable _ (a .raw .now) _ in
     indexes-fails (subst (λ (r : Indexing). Finds (a .area .now) t (take (a .count) (map recordOf (a .raw .now))) (a .words .now)
     (found .last .1 .1 .1 .0) r) (after-enum-told .enum-told .given .1) (found .ensures)) (c .before .before .clear-words .ensures)
 
@@ -28,7 +25,7 @@ returns-2 c =
     let start = after-find-words .before .before .before .before .before in
     let a = start .args in
     let found = after-find-words .find-words in
-    let t = wordTable (a .area .now) (a .raw .now) (a .count) in
+    let t = wordTable _ (a .raw .now) _ in
     indexes-rows (subst (λ (r : Indexing). Finds (a .area .now) t (take (a .count) (map recordOf (a .raw .now))) (a .words .now)
     (found .last .1 .1 .1 .0) r) (c .before .n .given .1) (found .ensures))
 

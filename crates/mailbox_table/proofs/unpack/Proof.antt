@@ -1,9 +1,8 @@
 -- `mailbox_table::unpack` meets its contract: what `split_rows` answers, with every word cleared where it fails. By FindLaws.
-use mathlib.Core.Path.{subst}
+use Rattle.listing_rules.proofs.Prelude.{subst, needs}
 use Rattle.mailbox_table.specs.declared.Indexing.{Indexing}
 use Rattle.mailbox_table.specs.Packed.{Splits}
 use Rattle.mailbox_table.proofs.FindLaws.{unpacks-rows, unpacks-fails}
-use borrow.Author.Needs.{needs}
 use Rattle.mailbox_table.proofs.unpack.Statement.{statement}
 use Rattle.mailbox_table.proofs.unpack.Tie as tie
 
@@ -14,7 +13,8 @@ returns c =
     let start = after-split-rows .before .before .before .before in
     let a = start .args in
     let found = after-split-rows .split-rows in
-    unpacks-fails (subst (λ (r : Indexing). Splits (a .table .now) (a .words .now) (found .last .1 .0) r) (after-enum-told .enum-told .given .1) (found .ensures)) (c .before .before .clear-words .ensures)
+    unpacks-fails (subst (λ (r : Indexing). Splits (a .table .now) (a .words .now) (found .last .1 .0) r) (after-enum-told .enum-told .given .1)
+    (found .ensures)) (c .before .before .clear-words .ensures)
 
 returns-2 : tie.Need-returns-2
 returns-2 c =

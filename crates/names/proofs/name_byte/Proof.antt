@@ -1,5 +1,5 @@
 -- `names::name_byte` meets its contract: the test is the definition, opened.
-use mathlib.Core.Path.{refl}
+use Rattle.listing_rules.proofs.Prelude.{refl}
 use Rattle.listing_rules.specs.Bytes.{within}
 use Rattle.listing_rules.specs.Names.{nameByte}
 use Rattle.names.proofs.name_byte.Statement.{statement}

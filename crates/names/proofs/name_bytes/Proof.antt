@@ -1,12 +1,8 @@
 -- `names::name_bytes` meets its contract: what is kept and the bytes from i on decide. By octets' laws of Every.
-use mathlib.Core.Path.{_≡_, refl, sym, _∙_}
-use mathlib.Core.Bool.{_&&_}
-use Prim.Native.Nat.{_-_}
-use lib.ListN.{length, drop}
+use Rattle.listing_rules.proofs.Prelude.{_∙_, _≡_, refl, sym, _&&_, _-_, drop, length, needs}
 use Rattle.listing_rules.specs.Bytes.{all}
 use Rattle.listing_rules.specs.Names.{nameByte}
 use Rattle.octets.proofs.Every.{kept-step, kept-end}
-use borrow.Author.Needs.{needs}
 use Rattle.names.proofs.name_bytes.Statement.{statement}
 use Rattle.names.proofs.name_bytes.Tie as tie
 
@@ -21,15 +17,11 @@ loop-holds c = refl
 
 loop-again : tie.Need-loop-again Inv-loop μ-loop
 loop-again c =
-    let start = c .before .before .before .before .before in
     let turn = c .before .before .before .loop in
-    rw (c .name-byte .ensures) (kept-step nameByte (start .args .name .now) (turn .i) (turn .ok) (c .before .before .loop-test .taken) ∙ turn .inv)
+    rw (c .name-byte .ensures) (kept-step nameByte _ _ (turn .ok) (c .before .before .loop-test .taken) ∙ turn .inv)
 
 returns : tie.Need-returns Inv-loop μ-loop
-returns c =
-    let start = c .before .before .before in
-    let turn = c .before .loop in
-    sym (kept-end nameByte (start .args .name .now) (turn .i) (turn .ok) (c .loop-test .left)) ∙ turn .inv
+returns c = sym (kept-end nameByte _ _ _ (c .loop-test .left)) ∙ c .before .loop .inv
 
 pub name-bytes-spec : {M : Type 1} → statement M
 name-bytes-spec =

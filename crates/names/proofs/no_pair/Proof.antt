@@ -1,12 +1,7 @@
 -- `names::no_pair` meets its contract: what is kept and the pairs from i - 1 on decide. By the laws of pairs in NameShape.
-use mathlib.Core.Path.{_≡_, refl, sym, _∙_}
-use mathlib.Core.Bool.{_&&_, and-true}
-use Prim.Native.Nat.{_-_, _≤_}
-use lib.ListN.{length, drop}
+use Rattle.listing_rules.proofs.Prelude.{_∙_, _≡_, refl, sym, _&&_, and-true, _-_, _≤_, arith, drop, length, needs}
 use Rattle.names.specs.Slashes.{noPair}
 use Rattle.names.proofs.NameShape.{pair-more, pair-end}
-use borrow.Author.Needs.{needs}
-use native.Mathlib.Omega.{arith}
 use Rattle.names.proofs.no_pair.Statement.{statement}
 use Rattle.names.proofs.no_pair.Tie as tie
 
@@ -23,13 +18,12 @@ loop-again : tie.Need-loop-again Inv-loop μ-loop
 loop-again c =
     let start = c .before .before .before .before in
     let turn = c .before .before .before .loop in
-    let s = start .args .name .now in
-    (omega arith, pair-more s (turn .ok) (turn .i) (turn .inv .0) (c .before .before .loop-test .taken) ∙ turn .inv .1)
+    (omega arith, pair-more (start .args .name .now) (turn .ok) _ (turn .inv .0) (c .before .before .loop-test .taken) ∙ turn .inv .1)
 
 returns : tie.Need-returns Inv-loop μ-loop
 returns c =
     let s = c .before .before .args .name .now in
-    sym (and-true (c .before .loop .ok)) ∙ rw (pair-end s (c .before .loop .i) (c .before .loop .inv .0) (c .loop-test .left)) at (c .before .loop .inv .1)
+    sym (and-true _) ∙ rw (pair-end s _ (c .before .loop .inv .0) (c .loop-test .left)) at (c .before .loop .inv .1)
 
 pub no-pair-spec : {M : Type 1} → statement M
 no-pair-spec =

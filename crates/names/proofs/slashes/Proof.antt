@@ -1,12 +1,7 @@
 -- `names::slashes` meets its contract: those counted and those from i on are all. By the laws of slashes in NameShape.
-use mathlib.Core.Path.{_≡_}
-use Prim.Native.Nat.{_+_, _-_, _≤_}
-use lib.Dec.{eqb}
-use lib.ListN.{length, drop, getD}
+use Rattle.listing_rules.proofs.Prelude.{_≡_, _+_, _-_, _≤_, arith, eqb, drop, getD, length, needs}
 use Rattle.names.specs.Slashes.{slashCount}
 use Rattle.names.proofs.NameShape.{digit-small, slash-more, slash-end}
-use borrow.Author.Needs.{needs}
-use native.Mathlib.Omega.{arith}
 use Rattle.names.proofs.slashes.Statement.{statement}
 use Rattle.names.proofs.slashes.Tie as tie
 
@@ -29,7 +24,7 @@ loop-again c =
     omega (arith, digit-small (eqb (getD s i 0) 47), slash-more s i (c .before .loop-test .taken))
 
 returns : tie.Need-returns Inv-loop μ-loop
-returns c = omega (arith, slash-end (c .before .before .args .name .now) (c .before .loop .i) (c .loop-test .left))
+returns c = omega (arith, slash-end (c .before .before .args .name .now) _ (c .loop-test .left))
 
 pub slashes-spec : {M : Type 1} → statement M
 slashes-spec =

@@ -1,24 +1,19 @@
 -- `names::spell` meets its contract: another name stays, and INBOX is written over the first five bytes. By Inbox.
-use mathlib.Core.Path.{_≡_, sym, _∙_}
-use borrow.Author.Tests.{not-true, not-false}
+use Rattle.listing_rules.proofs.Prelude.{_∙_, _≡_, sym, not-false, not-true, needs}
 use Rattle.listing_rules.proofs.Keys.{openBytes}
 use Rattle.listing_rules.specs.Names.{inbox}
 use Rattle.names.proofs.Inbox.{spelled-other, spelled-first}
-use borrow.Author.Needs.{needs}
 use Rattle.names.proofs.spell.Statement.{statement}
 use Rattle.names.proofs.spell.Tie as tie
 
 returns : tie.Need-returns
-returns c =
-    let start = c .before .before .before .before in
-    sym (spelled-other (start .args .name .now) (sym (c .before .inbox-first .ensures) ∙ not-true _ (c .if1 .taken)))
+returns c = sym (spelled-other _ (sym (c .before .inbox-first .ensures) ∙ not-true _ (c .if1 .taken)))
 
 returns-2 : tie.Need-returns-2
 unfolding openBytes inbox
 returns-2 c =
     let tested = c .before .before .before .before .before in
-    let start = tested .before .before .before .before in
-    c .before .before .put-all .ensures .bytes ∙ spelled-first (start .args .name .now) (sym (tested .before .inbox-first .ensures) ∙ not-false _ (tested .if1 .left))
+    c .before .before .put-all .ensures .bytes ∙ spelled-first _ (sym (tested .before .inbox-first .ensures) ∙ not-false _ (tested .if1 .left))
 
 pub spell-spec : {M : Type 1} → statement M
 spell-spec =

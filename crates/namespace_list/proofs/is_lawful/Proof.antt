@@ -1,7 +1,7 @@
 -- `is_lawful` meets its contract: its result is the definition, written out.
 use Rattle.listing_rules.specs.Bytes.{within}
 use Rattle.listing_rules.specs.Namespaces.{lawfulEntry}
-use borrow.Author.Needs.{needs}
+use Rattle.listing_rules.proofs.Prelude.{needs}
 use Rattle.namespace_list.proofs.is_lawful.Statement.{statement}
 use Rattle.namespace_list.proofs.is_lawful.Tie as tie
 

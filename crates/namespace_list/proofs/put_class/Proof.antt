@@ -3,8 +3,7 @@ use Rattle.listing_rules.specs.Bytes.{text}
 use Rattle.listing_rules.specs.Namespaces.{entries, ofClass}
 use Rattle.octets.proofs.Puts.{put-then}
 use Rattle.namespace_list.proofs.Line.{class-none, class-some}
-use native.Mathlib.Omega.{arith}
-use borrow.Author.Needs.{needs}
+use Rattle.listing_rules.proofs.Prelude.{arith, needs}
 use Rattle.namespace_list.proofs.put_class.Statement.{statement}
 use Rattle.namespace_list.proofs.put_class.Tie as tie
 
@@ -23,11 +22,8 @@ returns-2 c =
     let after-put-all2 = after-put-entries .before .before .before .before in
     let after-count-of = after-put-all2 .before .before .before .before in
     let start = after-count-of .before .before .before in
-    let count-of = after-count-of .count-of in
-    let put-all2 = after-put-all2 .put-all2 in
-    let put-entries = after-put-entries .put-entries in
-    rw (class-some (ofClass (start .args .class) (entries (start .args .list .now))) (omega (arith, count-of .ensures)))
-    (put-then (put-all2 .ensures) (put-then (put-entries .ensures) (c .before .before .put .ensures)))
+    rw (class-some (ofClass (start .args .class) (entries (start .args .list .now))) (omega (arith, after-count-of .count-of .ensures)))
+    (put-then (after-put-all2 .put-all2 .ensures) (put-then (after-put-entries .put-entries .ensures) (c .before .before .put .ensures)))
 
 pub put-class-spec : {M : Type 1} → statement M
 put-class-spec =

@@ -1,8 +1,7 @@
 -- `put_delimiter` meets its contract.
 use Rattle.listing_rules.specs.Bytes.{text}
 use Rattle.listing_rules.specs.Server.{delimiterText}
-use borrow.Author.Tests.{eq-eqb, ne-eqb}
-use borrow.Author.Needs.{needs}
+use Rattle.listing_rules.proofs.Prelude.{eq-eqb, ne-eqb, needs}
 use Rattle.namespace_list.proofs.put_delimiter.Statement.{statement}
 use Rattle.namespace_list.proofs.put_delimiter.Tie as tie
 
@@ -10,17 +9,13 @@ returns : tie.Need-returns
 unfolding text delimiterText
 returns c =
     let at-if1 = c .before .before .before .before .before in
-    let start = at-if1 .before .before in
-    let if1 = at-if1 .if1 in
-    rw (eq-eqb (start .args .delimiter) 0 (if1 .taken)) (c .before .before .put-all .ensures)
+    rw (eq-eqb _ 0 (at-if1 .if1 .taken)) (c .before .before .put-all .ensures)
 
 returns-2 : tie.Need-returns-2
 unfolding delimiterText
 returns-2 c =
     let at-if1 = c .before .before .before .before .before in
-    let start = at-if1 .before .before in
-    let if1 = at-if1 .if1 in
-    rw (ne-eqb (start .args .delimiter) 0 (if1 .left)) (c .before .before .put-quoted .ensures)
+    rw (ne-eqb _ 0 (at-if1 .if1 .left)) (c .before .before .put-quoted .ensures)
 
 pub put-delimiter-spec : {M : Type 1} → statement M
 put-delimiter-spec =

@@ -1,16 +1,12 @@
 -- `put_entries` meets its contract: the entries of the class before `i` are written, and those from `i` on are left. By `Putting` of
 -- octets and Line.
-use mathlib.Core.Path.{ap}
-use mathlib.Core.List.{List}
-use Prim.Native.Nat.{_-_}
-use lib.ListN.{length, drop}
+use Rattle.listing_rules.proofs.Prelude.{ap, List, _-_, drop, length, needs}
 use Rattle.listing_rules.specs.Namespaces.{Entry, entries, ofClass}
 use Rattle.listing_rules.specs.Server.{entryText}
 use Rattle.octets.proofs.Puts.{Putting, putting-none, putting-more, putting-on, putting-all, put-length}
 use Rattle.namespace_list.specs.Line.{entriesText}
 use Rattle.namespace_list.proofs.Entries.{class-other}
 use Rattle.namespace_list.proofs.Line.{text-here, text-end}
-use borrow.Author.Needs.{needs}
 use Rattle.namespace_list.proofs.put_entries.Statement.{statement}
 use Rattle.namespace_list.proofs.put_entries.Tie as tie
 
@@ -29,28 +25,19 @@ unfolding entryText
 loop-again c =
     let at-if1 = c .before .before .before .before .before in
     let after-entry-at = at-if1 .before .before in
-    let turn-2 = after-entry-at .before .before in
-    let start = turn-2 .before .before .before in
-    let turn = turn-2 .loop in
     let entry = after-entry-at .entry-at .ensures in
-    let here = at-if1 .if1 .taken in
-    putting-more (turn .inv) (text-here entry (start .args .class) here) (c .before .before .put-entry .ensures)
+    putting-more (after-entry-at .before .before .loop .inv) (text-here entry _ (at-if1 .if1 .taken)) (c .before .before .put-entry .ensures)
 
 loop-again-2 : tie.Need-loop-again-2 Inv-loop μ-loop
 loop-again-2 c =
     let turn-2 = c .before .before .before .before in
-    let start = turn-2 .before .before .before in
-    let turn = turn-2 .loop in
-    let entry = c .before .before .entry-at .ensures in
-    putting-on (turn .inv) (ap (λ (x : List Entry). entriesText x) (class-other entry (start .args .class) (c .if1 .left)))
+    putting-on (turn-2 .loop .inv) (ap (λ (x : List Entry). entriesText x) (class-other (c .before .before .entry-at .ensures) _ (c .if1 .left)))
 
 same-length : tie.Need-same-length Inv-loop μ-loop
 same-length c = put-length (c .before .loop .inv .put)
 
 returns : tie.Need-returns Inv-loop μ-loop
-returns c =
-    let start = c .before .before .before .before in
-    putting-all (c .before .loop .inv) (text-end (start .args .list .now) (c .before .loop .i) (start .args .class) (c .loop-test .left))
+returns c = putting-all (c .before .loop .inv) (text-end _ _ _ (c .loop-test .left))
 
 pub put-entries-spec : {M : Type 1} → statement M
 put-entries-spec =

@@ -2,7 +2,7 @@
 use Rattle.listing_rules.specs.Bytes.{text}
 use Rattle.listing_rules.specs.Server.{entryText}
 use Rattle.octets.proofs.Puts.{put-then}
-use borrow.Author.Needs.{needs}
+use Rattle.listing_rules.proofs.Prelude.{needs}
 use Rattle.namespace_list.proofs.put_entry.Statement.{statement}
 use Rattle.namespace_list.proofs.put_entry.Tie as tie
 

@@ -2,7 +2,7 @@
 use Rattle.listing_rules.specs.Bytes.{text, crlf}
 use Rattle.octets.proofs.Puts.{put-then}
 use Rattle.namespace_list.specs.Line.{namespaceLine}
-use borrow.Author.Needs.{needs}
+use Rattle.listing_rules.proofs.Prelude.{needs}
 use Rattle.namespace_list.proofs.put_namespaces.Statement.{statement}
 use Rattle.namespace_list.proofs.put_namespaces.Tie as tie
 

@@ -1,7 +1,5 @@
 -- `octets::byte_at` meets its contract: after the end the default is read.
-use mathlib.Core.Path.{sym}
-use lib.ListN.{List·getD-eq-default}
-use borrow.Author.Needs.{needs}
+use Rattle.listing_rules.proofs.Prelude.{sym, List·getD-eq-default, needs}
 use Rattle.octets.proofs.byte_at.Statement.{statement}
 use Rattle.octets.proofs.byte_at.Tie as tie
 

@@ -1,9 +1,6 @@
 -- `octets::clear` meets its contract: the bytes before i are zero. By the laws of Clearing.
-use Prim.Native.Nat.{_-_}
-use lib.ListN.{length, length-set}
+use Rattle.listing_rules.proofs.Prelude.{_-_, arith, length, length-set, needs}
 use Rattle.octets.proofs.Clearing.{Cleared, cleared-none, cleared-more, cleared-all}
-use borrow.Author.Needs.{needs}
-use native.Mathlib.Omega.{arith}
 use Rattle.octets.proofs.clear.Statement.{statement}
 use Rattle.octets.proofs.clear.Tie as tie
 

@@ -1,13 +1,8 @@
 -- `octets::escapes` meets its contract: a byte that is escaped takes two places. By the laws of Escaping.
-use mathlib.Core.Path.{_≡_, ap, _∙_}
-use mathlib.Core.Logic.{⊎-elim}
-use Prim.Native.Nat.{_≤_, _+_, _-_}
-use lib.ListN.{length, drop, getD, length-append}
+use Rattle.listing_rules.proofs.Prelude.{_∙_, _≡_, ap, ⊎-elim, _+_, _-_, _≤_, arith, drop, getD, length, length-append, needs}
 use Rattle.listing_rules.specs.Lines.{escaped}
 use Rattle.octets.specs.Escape.{escapeOf}
 use Rattle.octets.proofs.Escaping.{escaped-at, escaped-end, escape-one, escape-two}
-use borrow.Author.Needs.{needs}
-use native.Mathlib.Omega.{arith}
 use Rattle.octets.proofs.escapes.Statement.{statement}
 use Rattle.octets.proofs.escapes.Tie as tie
 
@@ -34,7 +29,7 @@ loop-again c =
     (c .if1 .came)
 
 returns : tie.Need-returns Inv-loop μ-loop
-returns c = omega (arith, ap length (escaped-end (c .before .before .args .s .now) (c .before .loop .i) (c .loop-test .left)))
+returns c = omega (arith, ap length (escaped-end (c .before .before .args .s .now) _ (c .loop-test .left)))
 
 pub escapes-spec : {M : Type 1} → statement M
 escapes-spec =

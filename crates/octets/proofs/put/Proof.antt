@@ -1,9 +1,5 @@
 -- `octets::put` meets its contract: a store after the end changes nothing.
-use mathlib.Core.Path.{_≡_, sym, _∙_}
-use mathlib.Core.Logic.{⊎-elim}
-use lib.ListN.{set, length-set}
-use lib.Seq.{set-out}
-use borrow.Author.Needs.{needs}
+use Rattle.listing_rules.proofs.Prelude.{_∙_, _≡_, sym, ⊎-elim, length-set, set, set-out, needs}
 use Rattle.octets.proofs.put.Statement.{statement}
 use Rattle.octets.proofs.put.Tie as tie
 
@@ -12,7 +8,7 @@ stored : (c : tie.Joined1) → c .if1 .buf ≡ set (c .before .before .args .buf
 stored c = ⊎-elim (λ w. w .1) (λ w. w .1 ∙ sym (set-out _ _ _ (w .0 .left))) (c .if1 .came)
 
 same-length : tie.Need-same-length
-same-length c = rw (stored (c .before)) (simp length-set)
+same-length c = rw (stored _) (simp length-set)
 
 returns : tie.Need-returns
 returns c = record { fits = search needs; place = c .advance .ensures; bytes = stored (c .before) }

@@ -1,11 +1,6 @@
 -- `octets::put_all` meets its contract: the bytes that lie in the buffer are stored one by one. By the laws of Puts.
-use mathlib.Core.Path.{_≡_, refl, ap, _∙_}
-use Prim.Native.Nat.{_≤_, _-_, min}
-use lib.ListN.{length, take}
-use lib.Seq.{sets, length-sets}
+use Rattle.listing_rules.proofs.Prelude.{_∙_, _≡_, ap, refl, _-_, _≤_, min, arith, length, take, length-sets, sets, needs}
 use Rattle.octets.proofs.Puts.{sets-more, sets-part}
-use borrow.Author.Needs.{needs}
-use native.Mathlib.Omega.{arith}
 use Rattle.octets.proofs.put_all.Statement.{statement}
 use Rattle.octets.proofs.put_all.Tie as tie
 
@@ -17,9 +12,7 @@ abbrev μ-loop : tie.MeasureT-loop
 
 -- the stores keep the length
 written : (c : tie.At-loop Inv-loop μ-loop) → length (c .loop .buf) ≡ length (c .before .before .before .before .args .buf .now)
-written c =
-    let start = c .before .before .before .before in
-    ap length (c .loop .inv .2) ∙ length-sets (start .args .buf .now) (start .args .at) (take (c .loop .i) (start .args .s .now))
+written c = ap length (c .loop .inv .2) ∙ length-sets _ _ (take (c .loop .i) _)
 
 loop-holds : tie.Need-loop-holds Inv-loop μ-loop
 loop-holds c = (omega arith, c .room-for .ensures, refl)
@@ -29,22 +22,20 @@ slice-write-buf c = omega (arith, written (c .before .before))
 
 loop-again : tie.Need-loop-again Inv-loop μ-loop
 loop-again c =
-    let start = c .before .before .before .before .before .before in
     let turn = c .before .before .loop in
-    (omega arith, turn .inv .1, rw (turn .inv .2) (sets-more (start .args .buf .now) (start .args .s .now) (start .args .at) (turn .i) (omega arith)))
+    (omega arith, turn .inv .1, rw (turn .inv .2) (sets-more _ _ _ (turn .i) (omega arith)))
 
 same-length : tie.Need-same-length Inv-loop μ-loop
 same-length c = written (c .before .before)
 
 returns : tie.Need-returns Inv-loop μ-loop
 returns c =
-    let start = c .before .before .before .before .before .before in
     let turn = c .before .before .loop in
     let w : turn .i ≡ c .before .before .before .room-for .result = omega arith in
     record {
       fits = search needs;
       place = c .advance .ensures;
-      bytes = turn .inv .2 ∙ sets-part (start .args .buf .now) (start .args .s .now) (start .args .at) (turn .i) (w ∙ turn .inv .1);
+      bytes = turn .inv .2 ∙ sets-part _ _ _ _ (w ∙ turn .inv .1);
     }
 
 pub put-all-spec : {M : Type 1} → statement M

@@ -1,15 +1,13 @@
 -- `octets::put_escape` meets its contract: one write, or two that join by `put-then`.
 use Rattle.octets.proofs.Puts.{put-then}
-use borrow.Author.Needs.{needs}
+use Rattle.listing_rules.proofs.Prelude.{needs}
 use Rattle.octets.proofs.put_escape.Statement.{statement}
 use Rattle.octets.proofs.put_escape.Tie as tie
 
 returns : tie.Need-returns
 returns c =
     let after-put = c .before .before .before .before .before .before in
-    let start = after-put .before .before in
-    let put = after-put .put in
-    rw (start .if1 .taken) (put-then (put .ensures) (c .before .before .put2 .ensures))
+    rw (after-put .before .before .if1 .taken) (put-then (after-put .put .ensures) (c .before .before .put2 .ensures))
 
 returns-2 : tie.Need-returns-2
 returns-2 c =

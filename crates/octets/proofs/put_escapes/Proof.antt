@@ -1,10 +1,8 @@
 -- `octets::put_escapes` meets its contract: the bytes before i are written as they stand in quotes. By `Putting` of Puts and Escaping.
-use Prim.Native.Nat.{_-_}
-use lib.ListN.{length, drop}
+use Rattle.listing_rules.proofs.Prelude.{_-_, drop, length, needs}
 use Rattle.listing_rules.specs.Lines.{escaped}
 use Rattle.octets.proofs.Puts.{Putting, putting-none, putting-more, putting-all, put-length}
 use Rattle.octets.proofs.Escaping.{escaped-at, escaped-end}
-use borrow.Author.Needs.{needs}
 use Rattle.octets.proofs.put_escapes.Statement.{statement}
 use Rattle.octets.proofs.put_escapes.Tie as tie
 
@@ -20,19 +18,13 @@ loop-holds c = putting-none _ _ _ (search needs) (search needs)
 loop-again : tie.Need-loop-again Inv-loop μ-loop
 loop-again c =
     let at-loop-test = c .before .before .before .before .before in
-    let turn-2 = at-loop-test .before in
-    let start = turn-2 .before .before .before in
-    let turn = turn-2 .loop in
-    let inside = at-loop-test .loop-test .taken in
-    putting-more (turn .inv) (escaped-at (start .args .s .now) (turn .i) inside) (c .before .before .put-escape .ensures)
+    putting-more (at-loop-test .before .loop .inv) (escaped-at _ _ (at-loop-test .loop-test .taken)) (c .before .before .put-escape .ensures)
 
 same-length : tie.Need-same-length Inv-loop μ-loop
 same-length c = put-length (c .before .loop .inv .put)
 
 returns : tie.Need-returns Inv-loop μ-loop
-returns c =
-    let start = c .before .before .before .before in
-    putting-all (c .before .loop .inv) (escaped-end (start .args .s .now) (c .before .loop .i) (c .loop-test .left))
+returns c = putting-all (c .before .loop .inv) (escaped-end _ _ (c .loop-test .left))
 
 pub put-escapes-spec : {M : Type 1} → statement M
 put-escapes-spec =

@@ -1,8 +1,6 @@
 -- `octets::raised_byte` meets its contract: the two tests are those of `raise`.
-use borrow.Author.Tests.{le-leb, lt-leb}
+use Rattle.listing_rules.proofs.Prelude.{arith, le-leb, lt-leb, needs}
 use Rattle.listing_rules.specs.Bytes.{raise, within}
-use native.Mathlib.Omega.{arith}
-use borrow.Author.Needs.{needs}
 use Rattle.octets.proofs.raised_byte.Statement.{statement}
 use Rattle.octets.proofs.raised_byte.Tie as tie
 

@@ -1,11 +1,7 @@
 -- `octets::spells_word` meets its contract: what is left from i on decides. By the laws of `spells` in Same.
-use mathlib.Core.Path.{_≡_, refl, sym, _∙_}
-use Prim.Native.Nat.{_≤_, _-_}
-use lib.ListN.{length, drop}
+use Rattle.listing_rules.proofs.Prelude.{_∙_, _≡_, refl, sym, _-_, _≤_, arith, drop, length, needs}
 use Rattle.listing_rules.specs.Bytes.{spells}
 use Rattle.octets.proofs.Same.{spells-lengths, spells-step, spells-differ, spells-end}
-use borrow.Author.Needs.{needs}
-use native.Mathlib.Omega.{arith}
 use Rattle.octets.proofs.spells_word.Statement.{statement}
 use Rattle.octets.proofs.spells_word.Tie as tie
 
@@ -16,9 +12,7 @@ abbrev μ-loop : tie.MeasureT-loop
 μ-loop s word i₀ i = length s - i
 
 returns : tie.Need-returns Inv-loop μ-loop
-returns c =
-    let start = c .before .before .before in
-    sym (spells-lengths (start .args .s .now) (start .args .word .now) (c .if1 .taken))
+returns c = sym (spells-lengths _ _ (c .if1 .taken))
 
 loop-holds : tie.Need-loop-holds Inv-loop μ-loop
 loop-holds c = (c .if1 .left, omega arith, refl)
@@ -26,21 +20,17 @@ loop-holds c = (c .if1 .left, omega arith, refl)
 returns-2 : tie.Need-returns-2 Inv-loop μ-loop
 returns-2 c =
     let turn-2 = c .before .before .before .before .before in
-    let start = turn-2 .before .before .before .before in
     let turn = turn-2 .loop in
-    sym (spells-differ (start .args .s .now) (start .args .word .now) (turn .i) (omega arith) (omega arith) (λ e. c .if2 .taken (c .before .before .raised-byte .ensures ∙ e))) ∙ turn .inv .2
+    sym (spells-differ _ _ (turn .i) (omega arith) (omega arith) (λ e. c .if2 .taken (c .before .before .raised-byte .ensures ∙ e))) ∙ turn .inv .2
 
 loop-again : tie.Need-loop-again Inv-loop μ-loop
 loop-again c =
     let turn-2 = c .before .before .before .before .before in
-    let start = turn-2 .before .before .before .before in
     let turn = turn-2 .loop in
-    (turn .inv .0, omega arith, sym (spells-step (start .args .s .now) (start .args .word .now) (turn .i) (omega arith) (omega arith) (sym (c .before .before .raised-byte .ensures) ∙ c .if2 .left)) ∙ turn .inv .2)
+    (turn .inv .0, omega arith, sym (spells-step _ _ (turn .i) (omega arith) (omega arith) (sym (c .before .before .raised-byte .ensures) ∙ c .if2 .left)) ∙ turn .inv .2)
 
 returns-3 : tie.Need-returns-3 Inv-loop μ-loop
-returns-3 c =
-    let start = c .before .before .before .before .before in
-    sym (spells-end (start .args .s .now) (start .args .word .now) (c .before .loop .i) (omega arith) (omega arith)) ∙ c .before .loop .inv .2
+returns-3 c = sym (spells-end _ _ (c .before .loop .i) (omega arith) (omega arith)) ∙ c .before .loop .inv .2
 
 pub spells-word-spec : {M : Type 1} → statement M
 spells-word-spec =

@@ -1,7 +1,6 @@
 -- `chosen_match` meets its contract: a pattern that does not count matches nothing.
-use mathlib.Core.Path.{_∙_}
+use Rattle.listing_rules.proofs.Prelude.{_∙_, needs}
 use Rattle.pattern.proofs.Chosen.{chosen-out, chosen-in}
-use borrow.Author.Needs.{needs}
 use Rattle.pattern.proofs.chosen_match.Statement.{statement}
 use Rattle.pattern.proofs.chosen_match.Tie as tie
 

@@ -1,8 +1,6 @@
 -- `ends_in_percent` meets its contract: the last byte decides.
-use mathlib.Core.Path.{sym}
+use Rattle.listing_rules.proofs.Prelude.{sym, arith, needs}
 use Rattle.pattern.proofs.Chosen.{percent-last, percent-none}
-use native.Mathlib.Omega.{arith}
-use borrow.Author.Needs.{needs}
 use Rattle.pattern.proofs.ends_in_percent.Statement.{statement}
 use Rattle.pattern.proofs.ends_in_percent.Tie as tie
 

@@ -1,7 +1,7 @@
 -- `is_inbox` meets its contract: the text that is compared with is that of the definition.
 use Rattle.listing_rules.specs.Bytes.{text}
 use Rattle.listing_rules.specs.Names.{inbox}
-use borrow.Author.Needs.{needs}
+use Rattle.listing_rules.proofs.Prelude.{needs}
 use Rattle.pattern.proofs.is_inbox.Statement.{statement}
 use Rattle.pattern.proofs.is_inbox.Tie as tie
 

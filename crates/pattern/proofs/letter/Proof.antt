@@ -1,8 +1,6 @@
 -- `letter` meets its contract, one law of Folded for each return.
-use mathlib.Core.Path.{sym, _∙_}
-use borrow.Author.Tests.{not-true, not-false}
+use Rattle.listing_rules.proofs.Prelude.{_∙_, sym, not-false, not-true, needs}
 use Rattle.pattern.proofs.Folded.{letter-plain, letter-raised}
-use borrow.Author.Needs.{needs}
 use Rattle.pattern.proofs.letter.Statement.{statement}
 use Rattle.pattern.proofs.letter.Tie as tie
 

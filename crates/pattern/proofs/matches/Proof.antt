@@ -1,7 +1,6 @@
 -- `matches` meets its contract: a name in reach is matched against the pattern, folded if it is INBOX.
-use mathlib.Core.Path.{_∙_}
+use Rattle.listing_rules.proofs.Prelude.{_∙_, needs}
 use Rattle.pattern.proofs.Folded.{long-name, short-name, matches-folded}
-use borrow.Author.Needs.{needs}
 use Rattle.pattern.proofs.matches.Statement.{statement}
 use Rattle.pattern.proofs.matches.Tie as tie
 

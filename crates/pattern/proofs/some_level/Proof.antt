@@ -1,13 +1,9 @@
 -- `some_level` meets its contract: some pattern from here on ends in "%" exactly if some of the whole does.
-use mathlib.Core.Path.{_≡_, refl, sym, _∙_}
-use Prim.Native.Nat.{_≤_, _-_}
-use lib.ListN.{length, drop}
+use Rattle.listing_rules.proofs.Prelude.{_∙_, _≡_, refl, sym, _-_, _≤_, arith, drop, length, needs}
 use Rattle.listing_rules.specs.Lists.{anyOf}
 use Rattle.listing_rules.specs.Listing.{endsInPercent}
 use Rattle.pattern.specs.Packed.{unpacked}
 use Rattle.pattern.proofs.Chosen.{percent-here, percent-later, percent-end}
-use borrow.Author.Needs.{needs}
-use native.Mathlib.Omega.{arith}
 use Rattle.pattern.proofs.some_level.Statement.{statement}
 use Rattle.pattern.proofs.some_level.Tie as tie
 
@@ -23,22 +19,16 @@ loop-holds c = (omega arith, refl)
 returns : tie.Need-returns Inv-loop μ-loop
 returns c =
     let at-loop-test = c .before .before .before .before in
-    let turn-2 = at-loop-test .before in
-    let start = turn-2 .before .before in
-    let turn = turn-2 .loop in
     let more = at-loop-test .loop-test .taken in
     let item = c .before .before .before .item-end .ensures in
-    sym (percent-here (start .args .patterns .now) _ _ more item _ (c .before .ends-in-percent .ensures) (c .if1 .taken)) ∙ turn .inv .1
+    sym (percent-here _ _ _ more item _ (c .before .ends-in-percent .ensures) (c .if1 .taken)) ∙ at-loop-test .before .loop .inv .1
 
 loop-again : tie.Need-loop-again Inv-loop μ-loop
 loop-again c =
     let at-loop-test = c .before .before .before .before in
-    let turn-2 = at-loop-test .before in
-    let start = turn-2 .before .before in
-    let turn = turn-2 .loop in
     let more = at-loop-test .loop-test .taken in
     let item = c .before .before .before .item-end .ensures in
-    (omega arith, sym (percent-later (start .args .patterns .now) _ _ more item _ (c .before .ends-in-percent .ensures) (c .if1 .left)) ∙ turn .inv .1)
+    (omega arith, sym (percent-later _ _ _ more item _ (c .before .ends-in-percent .ensures) (c .if1 .left)) ∙ at-loop-test .before .loop .inv .1)
 
 returns-2 : tie.Need-returns-2 Inv-loop μ-loop
 returns-2 c = sym (percent-end _ _ (c .loop-test .left)) ∙ c .before .loop .inv .1

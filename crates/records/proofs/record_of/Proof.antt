@@ -1,7 +1,6 @@
 -- `records::record_of` meets its contract: the record is the definition, opened.
-use mathlib.Core.Path.{refl}
+use Rattle.listing_rules.proofs.Prelude.{refl, needs}
 use Rattle.records.specs.Words.{structOf}
-use borrow.Author.Needs.{needs}
 use Rattle.records.proofs.record_of.Statement.{statement}
 use Rattle.records.proofs.record_of.Tie as tie
 

@@ -1,8 +1,7 @@
 -- `records::word_of` meets its contract: the sum is the definition, opened, and tells the record by the widths of its fields.
-use mathlib.Core.Path.{refl}
+use Rattle.listing_rules.proofs.Prelude.{refl, needs}
 use Rattle.records.specs.Words.{wordOf}
 use Rattle.records.proofs.WordLaws.{word-tells}
-use borrow.Author.Needs.{needs}
 use Rattle.records.proofs.word_of.Statement.{statement}
 use Rattle.records.proofs.word_of.Tie as tie
 

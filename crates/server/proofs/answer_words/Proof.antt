@@ -1,9 +1,6 @@
 -- `server::answer_words` meets its contract: refusals 16, 1 and 2, an edit, or what `respond` gives over the rows that the reader sees. By AnswerLaws;
 -- the index by HeldLaws, the rows seen by SeenLaws of mailbox_table.
-use mathlib.Core.Path.{_≡_, sym, ap, _∙_, subst}
-use lib.ListN.{length, take, drop}
-use borrow.Author.Tests.{not-true, not-false, le-leb, lt-leb}
-use mathlib.Core.Bool.{true}
+use Rattle.listing_rules.proofs.Prelude.{_∙_, _≡_, ap, subst, sym, true, drop, length, take, le-leb, lt-leb, not-false, not-true, needs}
 use Rattle.listing_rules.specs.Table.{passes}
 use Rattle.listing_rules.specs.Readers.{isReader}
 use Rattle.records.specs.Lent.{wordTable}
@@ -12,82 +9,76 @@ use Rattle.mailbox_table.proofs.SeenLaws.{Front, seen-front, seen-index}
 use Rattle.mailbox_table.proofs.HeldLaws.{Held, index-held, index-refused}
 use Rattle.server.specs.Edits.{Reads}
 use Rattle.server.proofs.AnswerLaws.{front-size, front-passes, refused-16, refused-1, refused-2, read-only, edited-front}
-use borrow.Author.Needs.{needs}
 use Rattle.server.proofs.answer_words.Statement.{statement}
 use Rattle.server.proofs.answer_words.Tie as tie
 
 returns : tie.Need-returns
 unfolding isReader
 returns c =
-    let a = c .before .before .before .before .before .before .before .args in
-    refused-16 (a .words .now) (a .lent) (a .count) (a .reader) (a .area .now) (a .namespaces .now) (a .line .now) (a .out .now)
-    (c .unchanged .result) (lt-leb (a .reader) 7 (c .before .if1 .taken)) (c .unchanged .ensures)
+    refused-16 _ _ _ _ _ _ _ _
+    _ (lt-leb _ 7 (c .before .if1 .taken)) (c .unchanged .ensures)
 
 -- the reader is one of eight
 reads : (c : tie.After-least) → isReader (c .before .before .before .before .before .before .before .before .args .reader) ≡ true
 unfolding isReader
-reads c = le-leb (c .before .before .before .before .before .before .before .before .args .reader) 7 (c .before .before .if1 .left)
+reads c = le-leb _ 7 (c .before .before .if1 .left)
 
 slice-aggregate-index-words : tie.Need-slice-aggregate-index-words
 slice-aggregate-index-words c =
     let counted = c .before .before in
     let a = counted .before .before .before .before .before .before .before .before .args in
-    front-size (a .words .now) (a .lent) (a .count) (a .reader) (a .area .now) (a .namespaces .now) (a .line .now) (a .out .now)
-    (counted .least .result) (counted .least .ensures)
+    front-size _ _ (a .count) (a .reader) (a .area .now) (a .namespaces .now) (a .line .now) (a .out .now)
+    _ (counted .least .ensures)
 
 returns-2 : tie.Need-returns-2
 returns-2 c =
     let indexed = c .before .before .before .before in
     let counted = indexed .before .before .before .before in
-    let a = counted .before .before .before .before .before .before .before .before .args in
     let fails = index-refused (indexed .index-words .ensures) (ap length (counted .before .no-words .ensures)) (c .before .enum-told .given .1) in
-    refused-1 (a .words .now) (a .lent) (a .count) (a .reader) (a .area .now) (a .namespaces .now) (a .line .now) (a .out .now)
-    (counted .least .result) (counted .least .ensures) (reads counted) (c .unchanged2 .result) fails (c .unchanged2 .ensures)
+    refused-1 _ _ _ _ _ _ _ _
+    _ (counted .least .ensures) (reads counted) _ fails (c .unchanged2 .ensures)
 
 -- the rows, where they are found, and those that the reader sees
 known : (c : tie.After-m) → Held (c .before .before .before .index-words .ensures) (c .m .given .0 .0)
-known c = index-held (c .before .before .before .index-words .ensures) (c .m .given .0 .0) (c .m .given .1)
+known c = index-held (c .before .before .before .index-words .ensures) _ (c .m .given .1)
 
-seen : (c : tie.After-see-rows) → let found = c .before .before .before .before .before .before .before .before in
+seen : (c : tie.After-see-rows) →
+    let found = c .before .before .before .before .before .before .before .before in
     let m = found .m .given .0 .0 in
     let all = found .before .before .before .index-words .last .1 .1 .1 .0 in
-    Front
-    (found .before .before .before .before .before .before .before .before .before .before .before .before .before .before .before .args .reader)
-    (take m all) (drop m all) (c .see-rows .last .0) (c .see-rows .result)
+    Front (found .before .before .before .before .before .before .before .before .before .before .before .before .before .before .before .args .reader) (take m all) (drop m all) (c .see-rows .last .0) (c .see-rows .result)
 seen c =
-    let found = c .before .before .before .before .before .before .before .before in
     seen-front
-    (found .before .before .before .before .before .before .before .before .before .before .before .before .before .before .before .args .reader)
-    (drop (found .m .given .0 .0) (found .before .before .before .index-words .last .1 .1 .1 .0)) (c .see-rows .ensures)
+    _
+    _ (c .see-rows .ensures)
 
 -- so the table passes
-passed : (c : tie.After-m) → let counted = c .before .before .before .before .before .before .before in
+passed : (c : tie.After-m) →
+    let counted = c .before .before .before .before .before .before .before in
     let a = counted .before .before .before .before .before .before .before .before .args in passes
     (wordTable (a .area .now) (take (counted .least .result) (a .words .now)) (a .count)) ≡ true
 passed c = known c .table-passes
 
 -- what was read
 told : (c : tie.After-read-command) →
-    Reads
-    (c .before .before .before .before .before .before .before .before .before .before .before .before .before .before .before .before .before .before .before .args .line .now)
-    (c .read-command .result)
+    let start = c .before .before .before .before .before .before .before .before .before .before .before .before .before .before .before .before .before .before .before in
+    Reads (start .args .line .now) (c .read-command .result)
 told c = record { means = c .read-command .ensures .0; inside = c .read-command .ensures .1 }
 
 returns-3 : tie.Need-returns-3
 returns-3 c =
     let found = c .before .before .before .before in
     let counted = found .before .before .before .before .before .before .before in
-    let a = counted .before .before .before .before .before .before .before .before .args in
     let bad = sym (c .before .before .check .ensures) ∙ not-true _ (c .before .if2 .taken) in
-    refused-2 (a .words .now) (a .lent) (a .count) (a .reader) (a .area .now) (a .namespaces .now) (a .line .now) (a .out .now)
-    (counted .least .result) (counted .least .ensures) (reads counted) (passed found) (c .unchanged3 .result) bad (c .unchanged3 .ensures)
+    refused-2 _ _ _ _ _ _ _ _
+    _ (counted .least .ensures) (reads counted) (passed found) _ bad (c .unchanged3 .ensures)
 
 slice-aggregate-edit-from : tie.Need-slice-aggregate-edit-from
 slice-aggregate-edit-from c =
     let counted = c .before .before .before .before .before .before .before .before .before .before .before .before .before .before in
     let a = counted .before .before .before .before .before .before .before .before .args in
-    front-size (a .words .now) (a .lent) (a .count) (a .reader) (a .area .now) (a .namespaces .now) (a .line .now) (a .out .now)
-    (counted .least .result) (counted .least .ensures)
+    front-size _ _ (a .count) (a .reader) (a .area .now) (a .namespaces .now) (a .line .now) (a .out .now)
+    _ (counted .least .ensures)
 
 edit-from-requires : tie.Need-edit-from-requires
 edit-from-requires c κs =
@@ -95,7 +86,7 @@ edit-from-requires c κs =
     let found = read .before .before .before .before in
     let counted = found .before .before .before .before .before .before .before in
     let a = counted .before .before .before .before .before .before .before .before .args in (
-      front-passes (a .words .now) (a .lent) (a .count) (a .reader) (a .area .now) (a .namespaces .now) (a .line .now) (a .out .now) (counted .least .result) (counted .least .ensures) (passed found),
+      front-passes _ _ _ (a .reader) _ (a .namespaces .now) (a .line .now) (a .out .now) (counted .least .result) (counted .least .ensures) (passed found),
       (told read, sym (c .before .before .before .before .is-edit .ensures) ∙ c .before .before .before .if3 .taken),
     )
 
@@ -106,13 +97,12 @@ returns-4 c =
     let read = kind .before in
     let found = read .before .before .before .before in
     let counted = found .before .before .before .before .before .before .before in
-    let a = counted .before .before .before .before .before .before .before .before .args in
     let listed = sym (read .before .before .check .ensures) ∙ not-false _ (read .before .if2 .left) in
-    edited-front (a .words .now) (a .lent) (a .count) (a .reader) (a .area .now) (a .namespaces .now) (a .line .now) (a .out .now)
-    (counted .least .result) (counted .least .ensures) (reads counted) (passed found) listed (read .read-command .result) (told read)
-    (sym (kind .is-edit .ensures) ∙ done .before .before .before .before .if3 .taken) (done .edit-from .last .0) (done .edit-from .last .1 .1 .1 .0)
-    (done .edit-from .last .1 .1 .1 .1 .1 .1 .0)
-    (done .edit-from .result) (done .edit-from .ensures)
+    edited-front _ _ _ _ _ _ _ _
+    _ (counted .least .ensures) (reads counted) (passed found) listed _ (told read)
+    (sym (kind .is-edit .ensures) ∙ done .before .before .before .before .if3 .taken) _ _
+    _
+    _ (done .edit-from .ensures)
 
 array-borrow-prefix-rows : tie.Need-array-borrow-prefix-rows
 array-borrow-prefix-rows c = known (c .before .before .before .before .before .before) .inside
@@ -130,8 +120,7 @@ respond-requires : tie.Need-respond-requires
 respond-requires c κs =
     let saw = c .before .before .before .before in
     let found = saw .before .before .before .before .before .before .before .before in
-    let a = found .before .before .before .before .before .before .before .before .before .before .before .before .before .before .before .args in
-    (subst (Index (a .area .now)) (sym (seen saw .words)) (seen-index (a .reader) (known found .index)), told (saw .before .before .before .before))
+    (subst (Index _) (sym (seen saw .words)) (seen-index _ (known found .index)), told (saw .before .before .before .before))
 
 returns-5 : tie.Need-returns-5
 returns-5 c =
@@ -143,8 +132,8 @@ returns-5 c =
     let counted = found .before .before .before .before .before .before .before in
     let a = counted .before .before .before .before .before .before .before .before .args in
     let listed = sym (read .before .before .check .ensures) ∙ not-false _ (read .before .if2 .left) in
-    let rows = take (found .m .given .0 .0) (found .before .before .before .index-words .last .1 .1 .1 .0) in
-    read-only (a .words .now) (a .lent) (a .count) (a .reader) (a .area .now) (a .namespaces .now) (a .line .now) (a .out .now)
+    let rows = take (found .m .given .0 .0) _ in
+    read-only _ _ _ _ _ (a .namespaces .now) (a .line .now) (a .out .now)
     (counted .least .result) (counted .least .ensures) (reads counted) (passed found) listed (read .read-command .result) (told read)
     rows (known found .told) (sym (kind .is-edit .ensures) ∙ saw .before .before .if3 .left) (rw (← seen saw .words) (said .respond .ensures))
     (c .unchanged4 .result) (c .unchanged4 .ensures)

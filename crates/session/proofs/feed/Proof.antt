@@ -1,12 +1,8 @@
 -- `session::feed` meets its contract: not ready, a piece without a line feed, a piece with one. Rests on FeedLaws.
-use mathlib.Core.Path.{_≡_, refl, sym, _∙_}
-use mathlib.Core.Bool.{true}
-use borrow.Author.Tests.{not-true, not-false}
-use Rattle.session.specs.Carrying.{Lent, lent}
+use Rattle.listing_rules.proofs.Prelude.{_∙_, _≡_, refl, sym, true, arith, not-false, not-true, needs}
+use Rattle.kept_table.specs.Kept.{Lent, lent}
 use Rattle.session.specs.Feeding.{readyIn}
 use Rattle.session.proofs.FeedLaws.{within, feeds-part, feeds-line, feed-taken}
-use native.Mathlib.Omega.{arith}
-use borrow.Author.Needs.{needs}
 use Rattle.session.proofs.feed.Statement.{statement}
 use Rattle.session.proofs.feed.Tie as tie
 
@@ -15,7 +11,8 @@ abbrev memory : tie.Start → Lent
 memory start = lent (start .args .table .now) (start .args .records .now) (start .args .namespaces .now) (start .args .out .now)
 
 -- it is ready where the first test did not leave
-is-so : (c : tie.Else1) → let start = c .before .before .before .before .before .before .before .before in readyIn (memory start) (start .args .line .now) (start .args .state) ≡ true
+is-so : (c : tie.Else1) → let start = c .before .before .before .before .before .before .before .before in readyIn (memory start)
+    (start .args .line .now) (start .args .state) ≡ true
 is-so c = sym (c .before .is-ready .ensures) ∙ not-false _ (c .if1 .left)
 
 returns : tie.Need-returns
@@ -29,7 +26,7 @@ returns-2 c =
     let gathered = after-gather-line .gather-line in
     let so = is-so stage in
     feed-taken _ (c .answer-taken .ensures) so
-    (feeds-part (start .args .chunk .now) (memory start) (start .args .line .now) _ (start .args .state) _ so (gathered .ensures .gathered) (gathered .ensures .line) _ (gathered .ensures .used) (c .before .if2 .taken))
+    (feeds-part _ (memory start) _ _ _ _ so (gathered .ensures .gathered) (gathered .ensures .line) _ (gathered .ensures .used) (c .before .if2 .taken))
 
 end-frame-requires : tie.Need-end-frame-requires
 end-frame-requires c κs =
@@ -39,7 +36,9 @@ end-frame-requires c κs =
 add-answer-taken : tie.Need-add-answer-taken
 add-answer-taken c =
     let at-if2 = c .before .before .before .before .before .before .before .before .before .before .before .before .before .before .before in
-    let start = at-if2 .before .before .before .before .before .before .before .before .before .before .before .before .before .before .before .before in omega (arith, at-if2 .if2 .left, start .good .1 .0)
+    let start =
+    at-if2 .before .before .before .before .before .before .before .before .before .before .before .before .before .before .before .before in omega
+    (arith, at-if2 .if2 .left, start .good .1 .0)
 
 returns-3 : tie.Need-returns-3
 returns-3 c =
@@ -51,7 +50,7 @@ returns-3 c =
     let gathered = after-gather-line .gather-line in
     let so = is-so stage in
     feed-taken _ (c .answer-taken2 .ensures) so
-    (feeds-line (start .args .chunk .now) (memory start) (start .args .line .now) _ (start .args .state) _ so (gathered .ensures .gathered) (gathered .ensures .line) _ _ _ (gathered .ensures .used) (at-if2 .if2 .left) (after-end-frame .end-frame .ensures))
+    (feeds-line _ (memory start) _ _ _ _ so (gathered .ensures .gathered) (gathered .ensures .line) _ _ _ (gathered .ensures .used) (at-if2 .if2 .left) (after-end-frame .end-frame .ensures))
 
 pub feed-spec : {M : Type 1} → statement M
 feed-spec =

@@ -1,7 +1,6 @@
 -- `subscriptions::carry_out` meets its contract: each case is its definition's.
-use mathlib.Core.Path.{_≡_, refl}
+use Rattle.listing_rules.proofs.Prelude.{_≡_, refl, needs}
 use Rattle.subscriptions.specs.Applied.{wordsAfter, areaAfter, changeOf}
-use borrow.Author.Needs.{needs}
 use Rattle.subscriptions.proofs.carry_out.Statement.{statement}
 use Rattle.subscriptions.proofs.carry_out.Tie as tie
 

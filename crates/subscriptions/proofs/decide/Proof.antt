@@ -1,40 +1,33 @@
 -- `subscriptions::decide` meets its contract: the place, whether the name stands there, and one law for each way on. By DecideLaws.
-use mathlib.Core.Path.{_≡_, sym, ap, _∙_}
-use mathlib.Core.Bool.{true, false}
-use Prim.Native.Nat.{_<_}
-use lib.ListN.{length}
-use borrow.Author.Tests.{not-true, not-false}
+use Rattle.listing_rules.proofs.Prelude.{_∙_, _≡_, ap, sym, false, true, _<_, arith, length, not-false, not-true, needs}
 use Rattle.mailbox_table.specs.declared.rows.Row.{Row}
 use Rattle.subscriptions.specs.Plans.{settingPlan, clearingPlan, standsAt}
 use Rattle.subscriptions.proofs.DecideLaws.{stands-inside, decide-fresh, decide-none, decide-set, decide-clear}
-use native.Mathlib.Omega.{arith}
-use borrow.Author.Needs.{needs}
 use Rattle.subscriptions.proofs.decide.Statement.{statement}
 use Rattle.subscriptions.proofs.decide.Tie as tie
 
 -- the name stands at its place, or not
-there : (c : tie.Else1) → let a = c .before .before .before .before .before .before .args in standsAt (a .area .now) (a .words .now) (c .before .before .place-of .result) (a .name .now) ≡ true
+there : (c : tie.Else1) → let a = c .before .before .before .before .before .before .args in standsAt (a .area .now) (a .words .now)
+    (c .before .before .place-of .result) (a .name .now) ≡ true
 there c = sym (c .before .stands-at .ensures) ∙ not-false _ (c .if1 .left)
 
-missing : (c : tie.Then1) → let a = c .before .before .before .before .before .before .args in standsAt (a .area .now) (a .words .now) (c .before .before .place-of .result) (a .name .now) ≡ false
+missing : (c : tie.Then1) → let a = c .before .before .before .before .before .before .args in standsAt (a .area .now) (a .words .now)
+    (c .before .before .place-of .result) (a .name .now) ≡ false
 missing c = sym (c .before .stands-at .ensures) ∙ not-true _ (c .if1 .taken)
 
 inside : (c : tie.Else1) → c .before .before .place-of .result < length (c .before .before .before .before .before .before .args .words .now)
-inside c =
-    let start = c .before .before .before .before .before .before in
-    let a = start .args in
-    stands-inside (a .area .now) (a .words .now) (c .before .before .place-of .result) (a .name .now) (there c)
+inside c = stands-inside _ _ _ _ (there c)
 
 returns : tie.Need-returns
 returns c =
     let after-place-of = c .before .before .before .before in
     let start = after-place-of .before .before .before .before in
-    rw (c .before .if2 .taken) (c .insertion .ensures ∙ sym (decide-fresh (start .pre .0) (start .args .lent) (start .args .name .now) (after-place-of .place-of .ensures) (missing (c .before .before))))
+    rw (c .before .if2 .taken) (c .insertion .ensures ∙ sym (decide-fresh (start .pre .0) _ _ (after-place-of .place-of .ensures) (missing (c .before .before))))
 
 returns-2 : tie.Need-returns-2
 returns-2 c =
     let start = c .before .before .before .before .before .before .before in
-    sym (rw (c .if2 .left) (decide-none (start .pre .0) (start .args .lent) (start .args .name .now) (c .before .before .before .place-of .ensures) (missing (c .before))))
+    sym (rw (c .if2 .left) (decide-none (start .pre .0) _ _ (c .before .before .before .place-of .ensures) (missing (c .before))))
 
 mul-of-word : tie.Need-mul-of-word
 mul-of-word c = omega (arith, inside c)
@@ -49,7 +42,7 @@ returns-3 c =
     let start = after-place-of .before .before .before .before in
     c .setting .ensures
     ∙ ap (λ (r : Row). settingPlan (after-place-of .place-of .result) (r .flags .bits)) (c .before .before .of-word .ensures)
-    ∙ sym (rw (c .before .if3 .taken) (decide-set (start .pre .0) (start .args .lent) (start .args .name .now) (after-place-of .place-of .ensures) (there stage)))
+    ∙ sym (rw (c .before .if3 .taken) (decide-set (start .pre .0) _ _ (after-place-of .place-of .ensures) (there stage)))
 
 returns-4 : tie.Need-returns-4
 returns-4 c =
@@ -58,7 +51,7 @@ returns-4 c =
     let start = after-place-of .before .before .before .before in
     c .clearing .ensures
     ∙ ap (λ (r : Row). clearingPlan (after-place-of .place-of .result) (r .flags .bits)) (c .before .before .of-word .ensures)
-    ∙ sym (rw (c .before .if3 .left) (decide-clear (start .pre .0) (start .args .lent) (start .args .name .now) (after-place-of .place-of .ensures) (there stage)))
+    ∙ sym (rw (c .before .if3 .left) (decide-clear (start .pre .0) _ _ (after-place-of .place-of .ensures) (there stage)))
 
 pub decide-spec : {M : Type 1} → statement M
 decide-spec =

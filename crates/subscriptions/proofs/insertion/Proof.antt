@@ -1,11 +1,8 @@
 -- `subscriptions::insertion` meets its contract: one law for each way out. By DecideLaws.
-use mathlib.Core.Path.{_≡_, sym, _∙_}
-use mathlib.Core.Bool.{true}
-use borrow.Author.Tests.{not-true, not-false}
+use Rattle.listing_rules.proofs.Prelude.{_∙_, _≡_, sym, true, not-false, not-true, needs}
 use Rattle.listing_rules.specs.Names.{lawfulName}
 use Rattle.listing_rules.proofs.LawfulNames.{good-parts}
 use Rattle.subscriptions.proofs.DecideLaws.{fresh-unlawful, fresh-below, fresh-full, fresh-spent, fresh-missing, fresh-insert}
-use borrow.Author.Needs.{needs}
 use Rattle.subscriptions.proofs.insertion.Statement.{statement}
 use Rattle.subscriptions.proofs.insertion.Tie as tie
 
@@ -15,21 +12,19 @@ lawful c = sym (c .before .lawful-name .ensures) ∙ not-false _ (c .if1 .left)
 returns : tie.Need-returns
 returns c =
     let start = c .before .before .before .before .before in
-    let a = start .args in
-    sym (fresh-unlawful (a .area .now) (a .words .now) (a .lent) (a .k) (a .name .now) (sym (c .before .lawful-name .ensures) ∙ not-true _ (c .if1 .taken)))
+    sym (fresh-unlawful _ (start .args .words .now) _ _ _ (sym (c .before .lawful-name .ensures) ∙ not-true _ (c .if1 .taken)))
 
 returns-2 : tie.Need-returns-2
 returns-2 c =
     let start = c .before .before .before .before .before .before .before in
-    let a = start .args in
-    sym (fresh-below (a .area .now) (a .words .now) (a .lent) (a .k) (a .name .now) (lawful (c .before .before)) (sym (c .before .below-no-inferiors .ensures) ∙ c .if2 .taken))
+    sym (fresh-below _ (start .args .words .now) _ _ _ (lawful (c .before .before)) (sym (c .before .below-no-inferiors .ensures) ∙ c .if2 .taken))
 
 returns-3 : tie.Need-returns-3
 returns-3 c =
     let start = c .before .before .before .before .before .before .before .before in
     let a = start .args in
     sym
-    (fresh-full (a .area .now) (a .words .now) (a .lent) (a .k) (a .name .now) (lawful (c .before .before .before)) (sym (c .before .before .below-no-inferiors .ensures) ∙ c .before .if2 .left)
+    (fresh-full _ (a .words .now) _ _ _ (lawful (c .before .before .before)) (sym (c .before .before .below-no-inferiors .ensures) ∙ c .before .if2 .left)
     (c .if3 .taken))
 
 returns-4 : tie.Need-returns-4
@@ -38,7 +33,7 @@ returns-4 c =
     let start = stage .before .before .before .before .before in
     let a = start .args in
     sym
-    (fresh-spent (a .area .now) (a .words .now) (a .lent) (a .k) (a .name .now) (lawful stage) (sym (c .before .before .before .below-no-inferiors .ensures) ∙ c .before .before .if2 .left)
+    (fresh-spent _ (a .words .now) _ _ _ (lawful stage) (sym (c .before .before .before .below-no-inferiors .ensures) ∙ c .before .before .if2 .left)
     (c .before .if3 .left)
     (c .if4 .taken))
 
@@ -46,7 +41,7 @@ lowest-run-requires : tie.Need-lowest-run-requires
 lowest-run-requires c κs =
     let stage = c .before .before .before .before in
     let start = stage .before .before .before .before .before in
-    (start .pre, good-parts (start .args .name .now) (lawful stage) .least)
+    (start .pre, good-parts _ (lawful stage) .least)
 
 returns-5 : tie.Need-returns-5
 returns-5 c =
@@ -55,9 +50,8 @@ returns-5 c =
     let after-below-no-inferiors = at-if2 .before in
     let stage = after-below-no-inferiors .before in
     let start = stage .before .before .before .before .before in
-    let a = start .args in
     sym
-    (fresh-missing (a .area .now) (a .words .now) (a .lent) (a .k) (a .name .now) (lawful stage) (sym (after-below-no-inferiors .below-no-inferiors .ensures) ∙ at-if2 .if2 .left)
+    (fresh-missing _ (start .args .words .now) _ _ _ (lawful stage) (sym (after-below-no-inferiors .below-no-inferiors .ensures) ∙ at-if2 .if2 .left)
     (at-if3 .if3 .left)
     (c .before .before .before .if4 .left)
     (sym (c .before .before .lowest-run .ensures) ∙ c .enum-told .given .1))
@@ -70,12 +64,11 @@ returns-6 c =
     let after-below-no-inferiors = at-if2 .before in
     let stage = after-below-no-inferiors .before in
     let start = stage .before .before .before .before .before in
-    let a = start .args in
     sym
-    (fresh-insert (a .area .now) (a .words .now) (a .lent) (a .k) (a .name .now) (lawful stage) (sym (after-below-no-inferiors .below-no-inferiors .ensures) ∙ at-if2 .if2 .left)
+    (fresh-insert _ (start .args .words .now) _ _ _ (lawful stage) (sym (after-below-no-inferiors .below-no-inferiors .ensures) ∙ at-if2 .if2 .left)
     (at-if3 .if3 .left)
     (at-if4 .if4 .left)
-    (c .before .start .given .0 .0)
+    _
     (sym (c .before .before .before .lowest-run .ensures) ∙ c .before .start .given .1))
 
 pub insertion-spec : {M : Type 1} → statement M

@@ -1,16 +1,11 @@
 -- `subscriptions::setting` meets its contract. By FlagLaws.
-use mathlib.Core.Path.{_≡_, sym, _∙_}
-use Prim.Native.Nat.{_<_}
+use Rattle.listing_rules.proofs.Prelude.{_∙_, _≡_, sym, _<_, arith, needs}
 use Rattle.subscriptions.proofs.FlagLaws.{has-subscribed, set-fits, setting-keep, setting-flag}
-use native.Mathlib.Omega.{arith}
-use borrow.Author.Needs.{needs}
 use Rattle.subscriptions.proofs.setting.Statement.{statement}
 use Rattle.subscriptions.proofs.setting.Tie as tie
 
 returns : tie.Need-returns
-returns c =
-    let start = c .before .before in
-    sym (setting-keep (start .args .k) (start .args .flags .bits) (sym (has-subscribed _) ∙ sym (c .before .has .ensures) ∙ c .if1 .taken))
+returns c = sym (setting-keep _ _ (sym (has-subscribed _) ∙ sym (c .before .has .ensures) ∙ c .if1 .taken))
 
 add-t5 : tie.Need-add-t5
 add-t5 c =
@@ -21,9 +16,7 @@ add-t5 c =
     omega (arith, set-fits f small off)
 
 returns-2 : tie.Need-returns-2
-returns-2 c =
-    let start = c .before .before .before .before in
-    sym (setting-flag (start .args .k) (start .args .flags .bits) (sym (has-subscribed _) ∙ sym (c .before .before .before .has .ensures) ∙ c .before .before .if1 .left))
+returns-2 c = sym (setting-flag _ _ (sym (has-subscribed _) ∙ sym (c .before .before .before .has .ensures) ∙ c .before .before .if1 .left))
 
 pub setting-spec : {M : Type 1} → statement M
 setting-spec = tie.close (tie.spec (λ c. search needs) returns add-t5 returns-2)

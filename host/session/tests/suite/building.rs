@@ -12,6 +12,9 @@ use crate::common::{second, told, SESSION};
 
 const RUN: &str = include_str!("../../../../run");
 
+/// What `run` reads.
+const BUILDING: &str = include_str!("../../../../tools/building.bash");
+
 /// What `rt` says when it proves two crates: notes, functions, sums, and a line for each crate.
 const RT_SAYS: &str = r#"
 echo 'crates/alpha/proofs/f/Proof.antt:87:7: note: large solution: the implicit argument {ys}'
@@ -48,6 +51,7 @@ impl Tree {
             tree.write(&format!("host/{part}/src/lib.rs"), "");
         }
         tree.write("host/sessions/customers.session", "walk\n");
+        tree.write("tools/building.bash", BUILDING);
         tree.program(&tree.root.join("run"), RUN);
         let log = folder.join("calls");
         let copy = |from: &Path, to: &str| {

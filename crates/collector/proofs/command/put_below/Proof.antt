@@ -1,5 +1,5 @@
 -- `put_below` meets its contract: two writes, one after the other (`put-then`).
-use borrow.Author.Needs.{needs}
+use Rattle.listing_rules.proofs.Prelude.{needs}
 use Rattle.listing_rules.specs.Bytes.{slash}
 use Rattle.octets.proofs.Puts.{put-then}
 use Rattle.collector.proofs.command.put_below.Statement.{statement}

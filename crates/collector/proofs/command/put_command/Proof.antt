@@ -1,6 +1,5 @@
 -- `put_command` meets its contract: eight writes, one after the other (`put-then`); the options are the definition's (`OptionLaws`).
-use mathlib.Core.Path.{sym, _∙_}
-use borrow.Author.Needs.{needs}
+use Rattle.listing_rules.proofs.Prelude.{_∙_, sym, needs}
 use Rattle.listing_rules.proofs.Keys.{openBytes}
 use Rattle.listing_rules.specs.Walk.{commandLine}
 use Rattle.octets.proofs.Puts.{put-then, put-length}

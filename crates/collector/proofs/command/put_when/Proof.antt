@@ -1,6 +1,5 @@
 -- `put_when` meets its contract: the text, or nothing (`put-none`).
-use native.Mathlib.Omega.{arith}
-use borrow.Author.Needs.{needs}
+use Rattle.listing_rules.proofs.Prelude.{arith, needs}
 use Rattle.listing_rules.specs.Walk.{when}
 use Rattle.octets.proofs.Puts.{put-none}
 use Rattle.collector.proofs.command.put_when.Statement.{statement}

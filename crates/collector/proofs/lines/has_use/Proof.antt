@@ -1,8 +1,5 @@
 -- `has_use` meets its contract: each test is the attribute's (`FindLaws`).
-use mathlib.Core.Path.{_∙_}
-use mathlib.Core.Bool.{_||_}
-use native.Mathlib.Omega.{arith}
-use borrow.Author.Needs.{needs}
+use Rattle.listing_rules.proofs.Prelude.{_∙_, _||_, arith, needs}
 use Rattle.listing_rules.specs.Walk.{useAttr}
 use Rattle.collector.proofs.FindLaws.{has-attribute}
 use Rattle.collector.proofs.lines.has_use.Statement.{statement}

@@ -1,8 +1,5 @@
 -- `is_find` meets its contract: each test is the attribute's (`FindLaws`) or the option's (`OptionLaws`).
-use mathlib.Core.Path.{sym, ap, _∙_}
-use mathlib.Core.Bool.{_||_, _&&_, not}
-use native.Mathlib.Omega.{arith}
-use borrow.Author.Needs.{needs}
+use Rattle.listing_rules.proofs.Prelude.{_∙_, ap, sym, _&&_, _||_, not, arith, needs}
 use Rattle.listing_rules.specs.Walk.{isFind}
 use Rattle.collector.proofs.OptionLaws.{byte-remote, byte-special, byte-drops}
 use Rattle.collector.proofs.FindLaws.{has-attribute}

@@ -1,9 +1,5 @@
 -- `next_line` meets its contract. The loop's invariant: from each place on the line ends at the same place (`LineLaws`).
-use mathlib.Core.Path.{_≡_, refl}
-use Prim.Native.Nat.{_+_, _-_}
-use native.Mathlib.Omega.{arith}
-use lib.ListN.{length, drop}
-use borrow.Author.Needs.{needs}
+use Rattle.listing_rules.proofs.Prelude.{_≡_, refl, _+_, _-_, arith, drop, length, needs}
 use Rattle.collector.specs.Lines.{lineLength}
 use Rattle.collector.proofs.LineLaws.{line-out, line-end, line-more}
 use Rattle.collector.proofs.lines.next_line.Statement.{statement}

@@ -1,9 +1,5 @@
 -- `take_line` meets its contract: what the reader's answer tells of the line, and what is kept of it (`TakeLaws`).
-use mathlib.Core.Path.{ap}
-use mathlib.Core.Bool.{not}
-use native.Mathlib.Omega.{arith}
-use lib.ListN.{length-take}
-use borrow.Author.Needs.{needs}
+use Rattle.listing_rules.proofs.Prelude.{ap, not, arith, length-take, needs}
 use Rattle.collector.proofs.TakeLaws.{parentOf, ReadAs, read-as, line-skipped, find-full, ask-full, line-taken}
 use Rattle.collector.proofs.lines.take_line.Statement.{statement}
 use Rattle.collector.proofs.lines.take_line.Tie as tie
@@ -16,8 +12,9 @@ returns c =
 
 -- what is read of the line
 told : (c : tie.After-known-told) →
+    let start = c .before .before .before .before .before .before .before in
     let parts = c .before .parts .given .0 in
-    ReadAs (c .before .before .before .before .before .before .before .args .line .now) (parts .0) (parts .1 .0) (parentOf (parts .1 .1 .0)) (c .before .before .before .read-line .result .name)
+    ReadAs (start .args .line .now) (parts .0) (parts .1 .0) (parentOf (parts .1 .1 .0)) (c .before .before .before .read-line .result .name)
 told c =
     let parts = c .before .parts .given in
     let read = c .before .before .before in
@@ -42,7 +39,8 @@ returns-2 : tie.Need-returns-2
 returns-2 c =
     let kept = c .before .before .before .before in
     let read = kept .before .before .before .before .before .before in
-    find-full (told read) (read .before .before .before .before .before .before .before .args .options) (kept .keep .last .1 .0) (kept .before .before .before .before .is-find .ensures) (c .enum-told2 .given .1) (kept .keep .ensures)
+    find-full (told read) (read .before .before .before .before .before .before .before .args .options) (kept .keep .last .1 .0)
+    (kept .before .before .before .before .is-find .ensures) (c .enum-told2 .given .1) (kept .keep .ensures)
 
 -- the stage at which the line was read, from the one at which its find was kept
 abbrev read-before : tie.After-known-told2 → tie.After-known-told

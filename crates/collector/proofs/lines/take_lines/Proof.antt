@@ -1,9 +1,5 @@
 -- `take_lines` meets its contract. The loop's invariant is `Taking`: the lines that are left give what all lines give (`AnswerLaws`).
-use mathlib.Core.Path.{_∙_}
-use Prim.Native.Nat.{_-_, _≤_, _<_}
-use native.Mathlib.Omega.{arith}
-use lib.ListN.{length}
-use borrow.Author.Needs.{needs}
+use Rattle.listing_rules.proofs.Prelude.{_∙_, _-_, _<_, _≤_, arith, length, needs}
 use Rattle.collector.proofs.LineLaws.{line-lies}
 use Rattle.collector.proofs.AnswerLaws.{Taking, taking-none, taking-line, taking-refused, taking-end}
 use Rattle.collector.proofs.lines.take_lines.Statement.{statement}

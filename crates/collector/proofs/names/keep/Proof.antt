@@ -1,7 +1,5 @@
 -- `keep` meets its contract: a name that is wanted is packed after the others, or there is no room for it (`PackLaws`).
-use native.Mathlib.Omega.{arith}
-use borrow.Author.Tests.{not-true, not-false}
-use borrow.Author.Needs.{needs}
+use Rattle.listing_rules.proofs.Prelude.{arith, not-false, not-true, needs}
 use Rattle.listing_rules.specs.Walk.{withName}
 use Rattle.octets.proofs.Puts.{put-length, put-then}
 use Rattle.collector.proofs.PackLaws.{packs-more, packs-full}

@@ -1,10 +1,6 @@
 -- `packed::collect_packed` meets its contract: a reader above 7 and a packed table that has no records are refused, and its records are walked
 -- (`collect_words`). By UnpackedLaws of mailbox_table, and HeldLaws; demand 3 by WholeLaws.
-use mathlib.Core.Path.{ap, subst, _∙_}
-use Prim.Native.Nat.{ℕ, _≤_}
-use native.Mathlib.Omega.{arith}
-use lib.ListN.{length, length-replicate}
-use borrow.Author.Needs.{needs}
+use Rattle.listing_rules.proofs.Prelude.{_∙_, ap, subst, _≤_, ℕ, arith, length, length-replicate, needs}
 use Rattle.listing_rules.specs.Table.{packedTable}
 use Rattle.listing_rules.specs.Readers.{packedSeen}
 use Rattle.listing_rules.proofs.ReaderLaws.{packed-seen-passes}
@@ -56,8 +52,9 @@ returns-2 c =
 
 -- the words that were found are the records of the packed table
 turned : (c : tie.After-n) →
-    Unpacks (c .before .before .before .before .before .before .before .before .before .before .before .args .table .now)
-    (c .before .before .before .before .before .no-words .result) (c .before .before .before .unpack .last .1 .0) (Rows (c .n .given .0 .0))
+    let after-no-words = c .before .before .before .before .before in
+    let start = after-no-words .before .before .before .before .before .before in
+    Unpacks (start .args .table .now) (after-no-words .no-words .result) (c .before .before .before .unpack .last .1 .0) (Rows (c .n .given .0 .0))
 turned c =
     let after-unpack = c .before .before .before in
     let after-no-words = after-unpack .before .before in

@@ -1,10 +1,5 @@
 -- `ask` meets its contract: the command stands in the line, the answer in scratch, and its lines are taken in (`AskLaws`).
-use mathlib.Core.Path.{_≡_, ap, _∙_}
-use mathlib.Core.List.{List}
-use Prim.Native.Nat.{ℕ, _+_, _≤_}
-use native.Mathlib.Omega.{arith}
-use lib.ListN.{length, take, length-take}
-use borrow.Author.Needs.{needs}
+use Rattle.listing_rules.proofs.Prelude.{_∙_, _≡_, ap, List, _+_, _≤_, ℕ, arith, length, length-take, take, needs}
 use Rattle.listing_rules.specs.Command.{isEdit, parsed}
 use Rattle.listing_rules.specs.Walk.{go, commandLine}
 use Rattle.listing_rules.proofs.WalkReads.{walk-command-reads}
@@ -17,8 +12,9 @@ use Rattle.collector.proofs.walk.ask.Tie as tie
 
 -- the command stands at the front of the line
 sent : (c : tie.After-namespaces) →
+    let start = c .before .before .before .before .before .before .before .before .before .before .before .before .before in
     let put = c .before .before .put-command in
-    let args = c .before .before .before .before .before .before .before .before .before .before .before .before .before .args in
+    let args = start .args in
     Fronts (put .last .0) (put .result) (commandLine (byteOf (args .asking .options)) (args .reference .now))
 sent c =
     let after-no-command = c .before .before .before .before in
@@ -56,7 +52,8 @@ answered-so c =
     let put = answered .before .before .before .before .before .put-command in
     let args = answered .before .before .before .before .before .before .before .before .before .before .before .before .before .before .before .before .args in
     let told = c .before .len .given in
-    server-done (heldTable (args .area .now) (args .words .now)) (take (put .result) (put .last .0)) (args .scratch .now) (answered .read-words .last .1 .1 .1 .1 .1 .0) (told .0 .0) (answered .read-words .ensures .0) (told .1) (answered .read-words .ensures .1)
+    server-done (heldTable (args .area .now) (args .words .now)) (take (put .result) (put .last .0)) (args .scratch .now)
+    (answered .read-words .last .1 .1 .1 .1 .1 .0) (told .0 .0) (answered .read-words .ensures .0) (told .1) (answered .read-words .ensures .1)
 
 add-count : tie.Need-add-count
 add-count c =
@@ -84,7 +81,8 @@ returns c =
     let args = start .args in
     let last = taken .take-lines .last .1 .1 in
     takes-step _ _ _ (args .asking .start .count + 1) (args .asking .start) (args .found .now) (args .pending .now) (last .0) (last .1 .0) (taken .take-lines .result)
-    (asked-done (heldTable (args .area .now) (args .words .now)) (args .asking .options) (args .reference .now) (args .scratch .now) (sent written) (answered-so answered .1) (args .found .now) (args .pending .now))
+    (asked-done (heldTable (args .area .now) (args .words .now)) (args .asking .options) (args .reference .now) (args .scratch .now) (sent written)
+    (answered-so answered .1) (args .found .now) (args .pending .now))
     (taken .take-lines .ensures)
 
 returns-2 : tie.Need-returns-2
@@ -93,7 +91,8 @@ returns-2 c =
     let written = answered .before .before .before in
     let args = written .before .before .before .before .before .before .before .before .before .before .before .before .before .args in
     λ s h.
-    asked-refused (heldTable (args .area .now) (args .words .now)) (args .asking .options) (args .reference .now) (args .scratch .now) (sent written) (answered .read-words .ensures .0) (c .before .number .given .1) (args .found .now) (args .pending .now) s
+    asked-refused (heldTable (args .area .now) (args .words .now)) (args .asking .options) (args .reference .now) (args .scratch .now) (sent written)
+    (answered .read-words .ensures .0) (c .before .number .given .1) (args .found .now) (args .pending .now) s
 
 pub ask-spec : {M : Type 1} → statement M
 ask-spec =

@@ -1,8 +1,5 @@
 -- `ask_below` meets its contract: the reference is the pending name and "/" (`AskLaws`).
-use mathlib.Core.List.{[], _∷_, _++_}
-use native.Mathlib.Omega.{arith}
-use lib.ListN.{length-append, length-take}
-use borrow.Author.Needs.{needs}
+use Rattle.listing_rules.proofs.Prelude.{[], _++_, _∷_, arith, length-append, length-take, needs}
 use Rattle.listing_rules.specs.Bytes.{slash}
 use Rattle.collector.specs.Names.{nameAt}
 use Rattle.collector.specs.Rooms.{referenceRoom}
@@ -12,8 +9,9 @@ use Rattle.collector.proofs.walk.ask_below.Tie as tie
 
 -- the name and "/" stand at the front of the reference
 below : (c : tie.After-reference2) →
+    let start = c .before .before .before .before .before .before .before .before .before .before .before in
     let put = c .before .put-below in
-    let args = c .before .before .before .before .before .before .before .before .before .before .before .args in
+    let args = start .args in
     Fronts (put .last .0) (put .result) (nameAt (args .name) (args .pending .now) ++ (slash ∷ []))
 below c =
     let after-no-reference = c .before .before .before .before .before in

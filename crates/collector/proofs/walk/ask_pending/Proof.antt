@@ -1,9 +1,5 @@
 -- `ask_pending` meets its contract. The loop's invariant is `Walking`: what is left of the walk gives what the whole gives (`WalkLaws`).
-use mathlib.Core.Path.{_≡_, ap, _∙_}
-use Prim.Native.Nat.{ℕ, _+_, _-_}
-use native.Mathlib.Omega.{arith}
-use lib.ListN.{length, getD}
-use borrow.Author.Needs.{needs}
+use Rattle.listing_rules.proofs.Prelude.{_∙_, _≡_, ap, _+_, _-_, ℕ, arith, getD, length, needs}
 use Rattle.listing_rules.specs.Walk.{collected}
 use Rattle.collector.specs.Walking.{Walking}
 use Rattle.collector.specs.Held.{heldTable}
@@ -12,7 +8,8 @@ use Rattle.collector.proofs.walk.ask_pending.Statement.{statement}
 use Rattle.collector.proofs.walk.ask_pending.Tie as tie
 
 abbrev Inv-loop : tie.InvT-loop
-Inv-loop words area options scratch₀ found₀ pending₀ progress₀ at₀ scratch found pending progress at = Walking (heldTable area words) options (length scratch₀) (length found₀) (length pending₀) scratch found pending progress at
+Inv-loop words area options scratch₀ found₀ pending₀ progress₀ at₀ scratch found pending progress at =
+    Walking (heldTable area words) options (length scratch₀) (length found₀) (length pending₀) scratch found pending progress at
 
 abbrev μ-loop : tie.MeasureT-loop
 μ-loop words area options scratch₀ found₀ pending₀ progress₀ at₀ scratch found pending progress at = length pending - at
@@ -29,14 +26,22 @@ slice-read-wide : tie.Need-slice-read-wide Inv-loop μ-loop
 slice-read-wide c = omega (arith, c .before .if1 .taken, c .before .before .before .loop .inv .holds .asks .room)
 
 -- where the next name ends
-end-is : (c : tie.After-wide Inv-loop μ-loop) → let at = c .before .before .before .before .loop .at in at + 1 + c .wide .result ≡ at + 1 + getD (c .before .before .before .before .loop .pending) at 0
+end-is : (c : tie.After-wide Inv-loop μ-loop) →
+    let at = c .before .before .before .before .loop .at in at + 1 + c .wide .result ≡ at + 1 + getD
+    (c .before .before .before .before .loop .pending) at 0
 end-is c =
     let turn = c .before .before .before .before in
     ap (λ (n : ℕ). turn .loop .at + 1 + n) (c .wide .ensures)
 
 add-end : tie.Need-add-end Inv-loop μ-loop
 add-end c =
-    let turn = c .before .before .before .before in omega (arith, name-inside (turn .loop .inv) (c .before .before .if1 .taken) (end-is c), turn .loop .inv .holds .asks .room, turn .loop .inv .pending-long, turn .before .before .before .before .before .before .good)
+    let turn = c .before .before .before .before in omega (
+      arith,
+      name-inside (turn .loop .inv) (c .before .before .if1 .taken) (end-is c),
+      turn .loop .inv .holds .asks .room,
+      turn .loop .inv .pending-long,
+      turn .before .before .before .before .before .before .good,
+    )
 
 ask-below-requires : tie.Need-ask-below-requires Inv-loop μ-loop
 ask-below-requires c κs =
@@ -70,15 +75,18 @@ loop-again c =
 
 same-length : tie.Need-same-length Inv-loop μ-loop
 same-length c =
-    let asked = c .before .before .before .before .before .before .before .before .before in asked .ask-below .kept .1 .1 .1 .1 .0 ∙ asked .before .before .before .before .before .before .before .before .loop .inv .scratch-long
+    let asked = c .before .before .before .before .before .before .before .before .before in asked .ask-below .kept .1 .1 .1 .1 .0 ∙
+    asked .before .before .before .before .before .before .before .before .loop .inv .scratch-long
 
 same-length-2 : tie.Need-same-length-2 Inv-loop μ-loop
 same-length-2 c =
-    let asked = c .before .before .before .before .before .before .before .before .before in asked .ask-below .kept .1 .1 .1 .1 .1 .0 ∙ asked .before .before .before .before .before .before .before .before .loop .inv .found-long
+    let asked = c .before .before .before .before .before .before .before .before .before in asked .ask-below .kept .1 .1 .1 .1 .1 .0 ∙
+    asked .before .before .before .before .before .before .before .before .loop .inv .found-long
 
 same-length-3 : tie.Need-same-length-3 Inv-loop μ-loop
 same-length-3 c =
-    let asked = c .before .before .before .before .before .before .before .before .before in asked .ask-below .kept .1 .1 .1 .1 .1 .1 .0 ∙ asked .before .before .before .before .before .before .before .before .loop .inv .pending-long
+    let asked = c .before .before .before .before .before .before .before .before .before in asked .ask-below .kept .1 .1 .1 .1 .1 .1 .0 ∙
+    asked .before .before .before .before .before .before .before .before .loop .inv .pending-long
 
 returns : tie.Need-returns Inv-loop μ-loop
 unfolding collected

@@ -1,8 +1,5 @@
 -- `walk_table` meets its contract: the first command begins the walk, and `ask_pending` ends it (`WalkLaws`).
-use mathlib.Core.Path.{subst}
-use native.Mathlib.Omega.{arith}
-use lib.ListN.{length}
-use borrow.Author.Needs.{needs}
+use Rattle.listing_rules.proofs.Prelude.{subst, arith, length, needs}
 use Rattle.listing_rules.specs.Walk.{WalkReply}
 use Rattle.collector.specs.Options.{byteOf}
 use Rattle.collector.specs.Walking.{Walking}
@@ -46,7 +43,8 @@ returns c =
     let first = asked .ask .last .1 .1 .1 .1 in
     let last = ended .ask-pending .last .1 .1 .1 .1 in
     subst (λ (w : WalkReply). Ends w (last .0) (last .1 .0) (ended .ask-pending .result))
-    (collected-long (heldTable (start .args .area .now) (start .args .words .now)) (byteOf (start .args .options)) (start .args .scratch .now) (start .args .found .now) (start .args .pending .now) (first .0) (first .1 .0) (first .1 .1 .0) (kept .0) (kept .1 .0) (kept .1 .1 .0))
+    (collected-long (heldTable (start .args .area .now) (start .args .words .now)) (byteOf (start .args .options)) (start .args .scratch .now)
+    (start .args .found .now) (start .args .pending .now) (first .0) (first .1 .0) (first .1 .1 .0) (kept .0) (kept .1 .0) (kept .1 .1 .0))
     (ended .ask-pending .ensures)
 
 returns-2 : tie.Need-returns-2

@@ -1,6 +1,5 @@
 -- `Options::lawful` meets its contract: its three tests are the bits of SUBSCRIBED, SPECIAL-USE and RECURSIVEMATCH (`contains-bit`).
-use mathlib.Core.Path.{_∙_}
-use borrow.Author.Needs.{needs}
+use Rattle.listing_rules.proofs.Prelude.{_∙_, needs}
 use Rattle.listing_rules.specs.Options.{lawfulOptions}
 use Rattle.octets.proofs.Sets.{contains-bit}
 use Rattle.command_line.specs.OptionSets.{optionsIs}

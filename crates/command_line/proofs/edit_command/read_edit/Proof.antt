@@ -1,10 +1,5 @@
 -- `read_edit`: no name, something after the name, or the command with the name. Rests on Edits.
-use mathlib.Core.Path.{_≡_}
-use mathlib.Core.List.{List as Seq}
-use mathlib.Core.Option.{some}
-use Prim.Native.Nat.{ℕ}
-use lib.ListN.{drop}
-use borrow.Author.Needs.{needs}
+use Rattle.listing_rules.proofs.Prelude.{_≡_, some, List as Seq, ℕ, drop, needs}
 use Rattle.listing_rules.specs.Tokens.{got}
 use Rattle.command_tokens.specs.declared.Span.{Span}
 use Rattle.command_tokens.specs.Spans.{spanBytes, Lies}

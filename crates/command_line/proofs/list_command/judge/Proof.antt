@@ -1,17 +1,13 @@
 -- `judge`: 6, 7 and 8 in this order, and then the root line or the list. Rests on Judging.
-use mathlib.Core.Path.{_≡_, sym, ap, _∙_}
-use mathlib.Core.Bool.{true, _&&_, not}
-use lib.Dec.{eqb}
-use borrow.Author.Needs.{needs}
-use borrow.Author.Tests.{not-true, not-false}
+use Rattle.listing_rules.proofs.Prelude.{_∙_, _≡_, ap, sym, _&&_, not, true, eqb, not-false, not-true, needs}
 use Rattle.listing_rules.specs.Lists.{every}
 use Rattle.listing_rules.specs.Options.{lawfulOptions}
-use Rattle.command_patterns.specs.Places.{held}
 use Rattle.command_patterns.specs.Canonical.{canonicalOf}
 use Rattle.command_patterns.specs.declared.Measured.{Measured}
 use Rattle.command_line.specs.OptionSets.{optionsIs}
 use Rattle.command_line.specs.Commands.{meaning, meaningAs, patternsOf, short, argumentsIs}
-use Rattle.command_line.proofs.Judging.{kept-few, kept-many, decided-6, decided-7, decided-many, decided-long, decided-root, decided-list, commandOf, inside-list, refuses, asks-root}
+use Rattle.command_line.proofs.Judging.{kept-few, kept-many, decided-6, decided-7, decided-many, decided-long, decided-root, decided-list}
+use Rattle.command_line.proofs.Judging.{commandOf, inside-list, refuses, asks-root}
 use Rattle.command_line.proofs.list_command.judge.Statement.{statement}
 use Rattle.command_line.proofs.list_command.judge.Tie as tie
 
@@ -23,33 +19,28 @@ known c = not-false _ (c .if1 .left)
 lawful : (c : tie.Else2) → lawfulOptions (optionsIs (c .before .before .before .before .before .before .args .a .options)) ≡ true
 lawful c = sym (c .before .lawful .ensures) ∙ not-false _ (c .if2 .left)
 
-fit : (c : tie.Else4) → every short (canonicalOf
-    (c .before .before .before .before .before .before .before .before .before .before .before .before .args .text .now)
-    (c .before .before .before .before .before .before .before .before .before .before .before .before .args .a .reference)
-    (c .before .before .before .before .before .before .before .before .before .before .before .before .args .a .patterns)) ≡ true
+fit : (c : tie.Else4) →
+    let start = c .before .before .before .before .before .before .before .before .before .before .before .before in
+    every short (canonicalOf (start .args .text .now) (start .args .a .reference) (start .args .a .patterns)) ≡ true
 fit c = sym (ap (λ (m : Measured). m .fit) (c .before .before .measure .ensures)) ∙ not-false _ (c .if4 .left)
 
 -- ---- the refusals
 
 returns : tie.Need-returns
 unfolding argumentsIs
-returns c =
-    let start = c .before .before .before .before in
-    refuses _ 6 (c .refused .ensures) (decided-6 _ (argumentsIs (start .args .text .now) (start .args .a)) (not-true _ (c .before .if1 .taken)))
+returns c = refuses _ 6 (c .refused .ensures) (decided-6 _ _ (not-true _ (c .before .if1 .taken)))
 
 returns-2 : tie.Need-returns-2
 unfolding argumentsIs
 returns-2 c =
     let stage = c .before .before .before .before in
-    let start = stage .before .before .before in
-    refuses _ 7 (c .refused2 .ensures) (decided-7 _ (argumentsIs (start .args .text .now) (start .args .a)) (known (stage)) (sym (c .before .before .lawful .ensures) ∙ not-true _ (c .before .if2 .taken)))
+    refuses _ 7 (c .refused2 .ensures) (decided-7 _ _ (known stage) (sym (c .before .before .lawful .ensures) ∙ not-true _ (c .before .if2 .taken)))
 
 returns-3 : tie.Need-returns-3
 unfolding argumentsIs
 returns-3 c =
     let stage = c .before .before .before .before .before .before in
-    let start = stage .before .before .before in
-    refuses _ 8 (c .refused3 .ensures) (decided-many _ (argumentsIs (start .args .text .now) (start .args .a)) (known (stage)) (lawful (c .before .before .before)) (kept-many _ _ (c .before .if3 .taken)))
+    refuses _ 8 (c .refused3 .ensures) (decided-many _ _ (known stage) (lawful (c .before .before .before)) (kept-many _ _ (c .before .if3 .taken)))
 
 returns-4 : tie.Need-returns-4
 unfolding argumentsIs
@@ -57,9 +48,8 @@ returns-4 c =
     let at-if3 = c .before .before .before .before .before in
     let stage = at-if3 .before .before in
     let stage-2 = stage .before .before .before in
-    let start = stage-2 .before .before .before in
     let long = sym (ap (λ (m : Measured). m .fit) (c .before .before .before .measure .ensures)) ∙ not-true _ (c .before .if4 .taken) in
-    refuses _ 8 (c .refused4 .ensures) (decided-long _ (argumentsIs (start .args .text .now) (start .args .a)) (known (stage-2)) (lawful (stage)) _ (kept-few _ _ (at-if3 .if3 .left)) long)
+    refuses _ 8 (c .refused4 .ensures) (decided-long _ _ (known stage-2) (lawful stage) _ (kept-few _ _ (at-if3 .if3 .left)) long)
 
 -- ---- the root line and the list
 
@@ -75,7 +65,7 @@ returns-5 c =
     let text = start .args .text .now in
     let a = start .args .a in
     let root = ap (λ (m : Measured). not (a .extended) && eqb (m .count) 0) (sym (after-measure .measure .ensures)) ∙ c .before .if5 .taken in
-    asks-root _ (start .args .tag) (c .bare .ensures) (decided-root _ (argumentsIs text a) (known (stage-3)) (lawful (stage-2)) (held text (a .patterns)) (kept-few _ _ (at-if3 .if3 .left)) (fit (stage)) root) (λ g. g .tagged)
+    asks-root _ _ (c .bare .ensures) (decided-root _ (argumentsIs text a) (known stage-3) (lawful stage-2) _ (kept-few _ _ (at-if3 .if3 .left)) (fit stage) root) (λ g. g .tagged)
 
 returns-6 : tie.Need-returns-6
 unfolding argumentsIs meaning meaningAs patternsOf commandOf
@@ -90,7 +80,7 @@ returns-6 c =
     let a = start .args .a in
     let list = ap (λ (m : Measured). not (a .extended) && eqb (m .count) 0) (sym (after-measure .measure .ensures)) ∙ c .before .if5 .left in
     record {
-      means = sym (decided-list _ (argumentsIs text a) (known (stage-3)) (lawful (stage-2)) (held text (a .patterns)) (kept-few _ _ (at-if3 .if3 .left)) (fit (stage)) list);
+      means = sym (decided-list _ (argumentsIs text a) (known stage-3) (lawful stage-2) _ (kept-few _ _ (at-if3 .if3 .left)) (fit stage) list);
       inside = λ g. inside-list _ _ _ g (at-if3 .if3 .left);
     }
 

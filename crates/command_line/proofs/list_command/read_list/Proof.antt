@@ -1,11 +1,5 @@
 -- `read_list`: part by part off the grammar, or what is kept of the parts, judged. Rests on Grammar, Refusing, Judging and Listing.
-use mathlib.Core.Path.{_≡_, sym, ap, subst, _∙_}
-use mathlib.Core.Bool.{Bool, _&&_}
-use mathlib.Core.List.{List as Seq}
-use mathlib.Core.Option.{some}
-use Prim.Native.Nat.{ℕ, _<_, _^_}
-use lib.ListN.{drop}
-use borrow.Author.Needs.{needs}
+use Rattle.listing_rules.proofs.Prelude.{_∙_, _≡_, ap, subst, sym, Bool, _&&_, some, List as Seq, _<_, _^_, ℕ, drop, needs}
 use Rattle.listing_rules.specs.Bytes.{text}
 use Rattle.listing_rules.specs.Tokens.{got, after}
 use Rattle.listing_rules.specs.Command.{Parsed, isSome}
@@ -60,13 +54,16 @@ module _ (c : tie.After-known-told) where
       (has (c .before .before .before .before .before)) (got marks
       (drop (c .before .selected .given .0 .1 .1 .0 .at) (line (c .before .before .before .before .before))))
   unfolding wordedAs
-  selected = list-is (tag (c .before .before .before .before .before)) (rest (c .before .before .before .before .before)) ∙ read-on 4 (afterSelection (tag (c .before .before .before .before .before)) (has (c .before .before .before .before .before))) (listed-read _ (c .before .before .before .read-selection .ensures) (c .before .selected .given .1))
+  selected =
+      list-is (tag (c .before .before .before .before .before)) (rest (c .before .before .before .before .before)) ∙ read-on 4
+      (afterSelection (tag (c .before .before .before .before .before)) (has (c .before .before .before .before .before)))
+      (listed-read _ (c .before .before .before .read-selection .ensures) (c .before .selected .given .1))
 
 returns-2 : tie.Need-returns-2
 unfolding afterSelection got
 returns-2 c =
     let stage = c .before .before .before .before in
-    refuses _ 4 (c .refused2 .ensures) (selected (stage) ∙ reference-off _ _ (token-missing _ (c .before .before .before .argument .ensures .0) (c .before .enum-told2 .given .1)))
+    refuses _ 4 (c .refused2 .ensures) (selected stage ∙ reference-off _ _ (token-missing _ (c .before .before .before .argument .ensures .0) (c .before .enum-told2 .given .1)))
 
 -- ---- the reference
 
@@ -85,7 +82,8 @@ unfolding afterSelection got
 returns-3 c =
     let stage = c .before .before .before .before in
     let selection = stage .before .before .before .before in
-    refuses _ 4 (c .refused3 .ensures) (selected selection ∙ reference-alone _ _ _ _ (referred stage) (behind-nothing _ (c .before .before .before .space .ensures .0) (c .before .enum-told3 .given .1)))
+    refuses _ 4 (c .refused3 .ensures) (selected selection ∙ reference-alone _ _ _ _ (referred stage)
+    (behind-nothing _ (c .before .before .before .space .ensures .0) (c .before .enum-told3 .given .1)))
 
 -- ---- the space before the patterns
 
@@ -99,13 +97,18 @@ module _ (c : tie.After-known-told3) where
       (marks (c .before .before .before .before .before .before .before .before)) (reference (c .before .before .before .before))
       (drop place (line (c .before .before .before .before .before .before .before .before .before .before .before .before .before)))
   unfolding afterSelection got
-  spaced = selected (c .before .before .before .before .before .before .before .before) ∙ reference-read _ (afterSpace (tag (c .before .before .before .before .before .before .before .before .before .before .before .before .before)) (has (c .before .before .before .before .before .before .before .before .before .before .before .before .before)) (marks (c .before .before .before .before .before .before .before .before))) _ _ (referred (c .before .before .before .before)) _ (behind-at _ (c .before .before .before .space .ensures .0) (c .before .fourth .given .1))
+  spaced =
+      selected (c .before .before .before .before .before .before .before .before) ∙ reference-read _
+      (afterSpace (tag (c .before .before .before .before .before .before .before .before .before .before .before .before .before))
+      (has (c .before .before .before .before .before .before .before .before .before .before .before .before .before))
+      (marks (c .before .before .before .before .before .before .before .before))) _ _ (referred (c .before .before .before .before)) _
+      (behind-at _ (c .before .before .before .space .ensures .0) (c .before .fourth .given .1))
 
 returns-4 : tie.Need-returns-4
 unfolding afterSpace
 returns-4 c =
     let stage = c .before .before .before .before in
-    refuses _ 4 (c .refused4 .ensures) (spaced (stage) ∙ read-off 4 _ (patterns-nothing _ _ (c .before .before .before .read-patterns .ensures .0) (c .before .enum-told4 .given .1)))
+    refuses _ 4 (c .refused4 .ensures) (spaced stage ∙ read-off 4 _ (patterns-nothing _ _ (c .before .before .before .read-patterns .ensures .0) (c .before .enum-told4 .given .1)))
 
 -- ---- the patterns
 
@@ -129,13 +132,23 @@ module _ (c : tie.After-known-told4) where
       (drop end (line
       (c .before .before .before .before .before .before .before .before .before .before .before .before .before .before .before .before .before))))
   unfolding afterSpace
-  listed = spaced (c .before .before .before .before) ∙ read-on 4 (afterPatterns (tag (c .before .before .before .before .before .before .before .before .before .before .before .before .before .before .before .before .before)) (has (c .before .before .before .before .before .before .before .before .before .before .before .before .before .before .before .before .before)) (marks (c .before .before .before .before .before .before .before .before .before .before .before .before)) (reference (c .before .before .before .before .before .before .before .before)) (drop (place (c .before .before .before .before)) (line (c .before .before .before .before .before .before .before .before .before .before .before .before .before .before .before .before .before)))) (patterns-behind _ _ (c .before .before .before .read-patterns .ensures .0) (c .before .behind .given .1))
+  listed =
+      spaced (c .before .before .before .before) ∙ read-on 4 (afterPatterns
+      (tag
+      (c .before .before .before .before .before .before .before .before .before .before .before .before .before .before .before .before .before))
+      (has
+      (c .before .before .before .before .before .before .before .before .before .before .before .before .before .before .before .before .before))
+      (marks (c .before .before .before .before .before .before .before .before .before .before .before .before))
+      (reference (c .before .before .before .before .before .before .before .before))
+      (drop (place (c .before .before .before .before)) (line
+      (c .before .before .before .before .before .before .before .before .before .before .before .before .before .before .before .before .before))))
+      (patterns-behind _ _ (c .before .before .before .read-patterns .ensures .0) (c .before .behind .given .1))
 
 returns-5 : tie.Need-returns-5
 unfolding afterPatterns got
 returns-5 c =
     let stage = c .before .before .before .before in
-    refuses _ 4 (c .refused5 .ensures) (listed (stage) ∙ read-off 4 _ (listed-broken _ (c .before .before .before .read-returns .ensures) (c .before .enum-told5 .given .1)))
+    refuses _ 4 (c .refused5 .ensures) (listed stage ∙ read-off 4 _ (listed-broken _ (c .before .before .before .read-returns .ensures) (c .before .enum-told5 .given .1)))
 
 -- ---- the return options, and the judgement
 
@@ -151,8 +164,7 @@ returns-6 c =
     let after-read-returns = after-returned .before .before in
     let stage-2 = after-read-returns .before in
     let after-read-patterns = stage-2 .before .before .before in
-    let stage-3 = after-read-patterns .before in
-    let stage-4 = stage-3 .before .before .before .before in
+    let stage-4 = after-read-patterns .before .before .before .before .before in
     let after-reference = stage-4 .before in
     let after-argument = after-reference .before .before in
     let stage-5 = after-argument .before in
@@ -161,14 +173,26 @@ returns-6 c =
     let start = after-read-selection .before .before in
     let text = line start in
     let ret = stage in
-    let list = stage-2 in
-    let space = stage-3 in
     let refer = stage-4 in
     let sel = stage-5 in
     let returned = listed-read _ (after-read-returns .read-returns .ensures) (after-returned .returned .given .1) in
-    let read = listed list ∙ read-on 4 _ returned in
-    answers-as (c .judge .ensures) (read ∙ ap (decided (tag start)) (λ i. record { known = marks sel .known && marks-too ret .known; set = optionsIs (record { bits = sym (c .before .before .union .ensures) i }); extended = sym (c .before .is-extended .ensures) i; reference = reference refer; pats = kept text (after-read-patterns .read-patterns .result .patterns) }))
-    (λ h. record { tagged = h; seven = subst (λ (x : ℕ). x < 2 ^ 7) (sym (c .before .before .union .ensures)) (both-seven _ _ _ _ _ _ (listed-read _ (after-read-selection .read-selection .ensures) (after-selected .selected .given .1)) returned); reference = lies-ahead _ _ _ _ (token-ahead _ _ (after-argument .argument .ensures .1) (after-reference .reference .given .1)); patterns = after-read-patterns .read-patterns .ensures .1 })
+    let read = listed stage-2 ∙ read-on 4 _ returned in
+    answers-as (c .judge .ensures) (read ∙ ap (decided (tag start))
+    (λ i. record {
+      known = marks sel .known && marks-too ret .known;
+      set = optionsIs (record { bits = sym (c .before .before .union .ensures) i });
+      extended = sym (c .before .is-extended .ensures) i;
+      reference = reference refer;
+      pats = kept text (after-read-patterns .read-patterns .result .patterns);
+    }))
+    (λ h. record {
+      tagged = h;
+      seven =
+          subst (λ (x : ℕ). x < 2 ^ 7) (sym (c .before .before .union .ensures))
+          (both-seven _ _ _ _ _ _ (listed-read _ (after-read-selection .read-selection .ensures) (after-selected .selected .given .1)) returned);
+      reference = lies-ahead _ _ _ _ (token-ahead _ _ (after-argument .argument .ensures .1) (after-reference .reference .given .1));
+      patterns = after-read-patterns .read-patterns .ensures .1;
+    })
 
 pub read-list-spec : {M : Type 1} → statement M
 read-list-spec =

@@ -1,11 +1,5 @@
 -- `read_lsub`: part by part off the grammar, or 8, or the command of the parts. Rests on Lsub, Refusing and Judging.
-use mathlib.Core.Path.{_≡_, sym, ap, _∙_}
-use mathlib.Core.List.{List as Seq}
-use mathlib.Core.Option.{some}
-use Prim.Native.Nat.{ℕ}
-use lib.ListN.{drop}
-use borrow.Author.Needs.{needs}
-use borrow.Author.Tests.{not-true, not-false}
+use Rattle.listing_rules.proofs.Prelude.{_∙_, _≡_, ap, sym, some, List as Seq, ℕ, drop, not-false, not-true, needs}
 use Rattle.listing_rules.specs.Tokens.{got, pattern}
 use Rattle.listing_rules.specs.Lists.{every}
 use Rattle.listing_rules.specs.Command.{Parsed, judgedLsub}
@@ -23,7 +17,8 @@ use Rattle.command_line.specs.Words.{wordedAs}
 use Rattle.command_line.specs.Commands.{meaning, meaningAs, patternsOf, short}
 use Rattle.command_line.proofs.Judging.{commandOf, inside-lsub, refuses}
 use Rattle.command_line.proofs.Refusing.{referred, reference-off, reference-alone, reference-read}
-use Rattle.command_line.proofs.Lsub.{onePattern, lsub-is, pattern-off, pattern-goes-on, pattern-ends, one-placed, one-counts, lsub-long, lsub-fits}
+use Rattle.command_line.proofs.Lsub.{onePattern, lsub-is, pattern-off, pattern-goes-on, pattern-ends, one-placed, one-counts, lsub-long}
+use Rattle.command_line.proofs.Lsub.{lsub-fits}
 use Rattle.command_line.proofs.lsub_command.read_lsub.Statement.{statement}
 use Rattle.command_line.proofs.lsub_command.read_lsub.Tie as tie
 
@@ -46,7 +41,9 @@ unfolding wordedAs
 parts s = lsub-is (tag s) (rest s)
 
 returns : tie.Need-returns
-returns c = refuses _ 4 (c .refused .ensures) (parts (c .before .before .before .before .before) ∙ reference-off _ _ (token-missing _ (c .before .before .before .argument .ensures .0) (c .before .enum-told .given .1)))
+returns c =
+    refuses _ 4 (c .refused .ensures) (parts (c .before .before .before .before .before) ∙ reference-off _ _
+    (token-missing _ (c .before .before .before .argument .ensures .0) (c .before .enum-told .given .1)))
 
 -- ---- the reference
 
@@ -57,7 +54,8 @@ module _ (c : tie.After-known-told) where
   abbrev reference : Span
   reference = c .before .reference .given .0 .0
 
-  read-reference : argument (rest start) ≡ some (got (spanBytes (line start) reference) (drop (c .before .reference .given .0 .1 .0 .at) (line start)))
+  read-reference : argument (rest start) ≡ some (got (spanBytes (line start) reference)
+      (drop (c .before .reference .given .0 .1 .0 .at) (line start)))
   read-reference = token-found _ (c .before .before .before .argument .ensures .0) (c .before .reference .given .1)
 
   reference-lies : Lies (line start) reference
@@ -66,7 +64,8 @@ module _ (c : tie.After-known-told) where
 returns-2 : tie.Need-returns-2
 returns-2 c =
     let referring = c .before .before .before .before in
-    refuses _ 4 (c .refused2 .ensures) (parts (start referring) ∙ reference-alone _ _ _ _ (read-reference referring) (behind-nothing _ (c .before .before .before .space .ensures .0) (c .before .enum-told2 .given .1)))
+    refuses _ 4 (c .refused2 .ensures) (parts (start referring) ∙ reference-alone _ _ _ _ (read-reference referring)
+    (behind-nothing _ (c .before .before .before .space .ensures .0) (c .before .enum-told2 .given .1)))
 
 -- ---- the space before the pattern
 
@@ -81,10 +80,14 @@ module _ (c : tie.After-known-told2) where
   ahead = drop (c .before .third .given .0 .0 .at) text
 
   spaced : whole (start referring) ≡ onePattern (tag (start referring)) (spanBytes text (reference referring)) ahead
-  spaced = parts (start referring) ∙ reference-read _ (onePattern (tag (start referring))) _ _ (read-reference referring) _ (behind-at _ (c .before .before .before .space .ensures .0) (c .before .third .given .1))
+  spaced =
+      parts (start referring) ∙ reference-read _ (onePattern (tag (start referring))) _ _ (read-reference referring) _
+      (behind-at _ (c .before .before .before .space .ensures .0) (c .before .third .given .1))
 
 returns-3 : tie.Need-returns-3
-returns-3 c = refuses _ 4 (c .refused3 .ensures) (spaced (c .before .before .before .before) ∙ pattern-off _ _ _ (token-missing _ (c .before .before .before .pattern .ensures .0) (c .before .enum-told3 .given .1)))
+returns-3 c =
+    refuses _ 4 (c .refused3 .ensures) (spaced (c .before .before .before .before) ∙ pattern-off _ _ _
+    (token-missing _ (c .before .before .before .pattern .ensures .0) (c .before .enum-told3 .given .1)))
 
 -- ---- the pattern
 
@@ -124,7 +127,8 @@ module _ (c : tie.After-measure) where
   placed : patterns ≡ withSpan noPatterns (span reading)
   placed = c .before .with .ensures ∙ ap (λ (p : Patterns). withSpan p (span reading)) (c .before .before .none .ensures)
 
-  ended : whole (start refer) ≡ judgedLsub (tag (start refer)) (record { reference = spanBytes (line (start refer)) (reference refer); pat = spanBytes (line (start refer)) (span reading) })
+  ended : whole (start refer) ≡ judgedLsub (tag (start refer))
+      (record { reference = spanBytes (line (start refer)) (reference refer); pat = spanBytes (line (start refer)) (span reading) })
   ended = spaced (spacing reading) ∙ pattern-ends _ _ _ (line (start refer)) (end reading) _ (read-pattern reading) (c .before .before .before .if1 .left)
 
   fits : every short (canonicalOf (line (start refer)) (reference refer) patterns) ≡ c .measure .result .fit
@@ -133,7 +137,8 @@ module _ (c : tie.After-measure) where
 returns-5 : tie.Need-returns-5
 returns-5 c =
     let measured = c .before .before .before in
-    refuses _ 8 (c .refused5 .ensures) (ended measured ∙ lsub-long _ (reference (refer measured)) (span (reading measured)) _ (placed measured) (pattern-lies (reading measured)) _ (fits measured ∙ not-true _ (c .before .if2 .taken)))
+    refuses _ 8 (c .refused5 .ensures) (ended measured ∙ lsub-long _ (reference (refer measured)) (span (reading measured)) _ (placed measured)
+    (pattern-lies (reading measured)) _ (fits measured ∙ not-true _ (c .before .if2 .taken)))
 
 returns-6 : tie.Need-returns-6
 unfolding meaning meaningAs patternsOf commandOf

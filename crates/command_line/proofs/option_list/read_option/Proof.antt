@@ -1,7 +1,5 @@
 -- `read_option`: a word, and perhaps a value after it. Rests on Listing, and on Binds of command_tokens.
-use mathlib.Core.Path.{sym}
-use native.Mathlib.Omega.{arith}
-use borrow.Author.Needs.{needs}
+use Rattle.listing_rules.proofs.Prelude.{sym, arith, needs}
 use Rattle.command_tokens.proofs.Binds.{token-found, token-missing, bare-ahead, behind-at, behind-nothing, behind-ahead}
 use Rattle.command_line.specs.OptionSets.{writtenIs, WrittenIn}
 use Rattle.command_line.proofs.Listing.{option-off, option-bare, option-broken, option-valued}
@@ -17,8 +15,7 @@ returns-2 : tie.Need-returns-2
 unfolding writtenIs WrittenIn
 returns-2 c =
     let after-word = c .before .before .before .before in
-    let after-atom = after-word .before .before in
-    let atom = after-atom .atom .ensures in
+    let atom = after-word .before .before .atom .ensures in
     let word = after-word .word .given .1 in
     let w = bare-ahead _ _ (atom .1) word in
     (sym (option-bare _ _ _ (token-found _ (atom .0) word) (behind-nothing _ (c .before .before .opening .ensures .0) (c .enum-told2 .given .1))), (w .bare, w .ahead .past, w .ahead .inside))
@@ -30,8 +27,7 @@ returns-3 c =
     let after-inside = c .before .before .before .before in
     let after-opening = after-inside .before .before in
     let after-word = after-opening .before .before in
-    let after-atom = after-word .before .before in
-    let word = token-found _ (after-atom .atom .ensures .0) (after-word .word .given .1) in
+    let word = token-found _ (after-word .before .before .atom .ensures .0) (after-word .word .given .1) in
     let inside = behind-at _ (after-opening .opening .ensures .0) (after-inside .inside .given .1) in
     (sym (option-broken _ _ _ word _ inside (behind-nothing _ (c .before .before .value .ensures .0) (c .enum-told3 .given .1))), tt)
 

@@ -1,6 +1,5 @@
 -- `read_selection`: a list of options, or none. Rests on Returning.
-use mathlib.Core.Path.{sym, ap, _∙_}
-use borrow.Author.Needs.{needs}
+use Rattle.listing_rules.proofs.Prelude.{_∙_, ap, sym, needs}
 use Rattle.command_tokens.proofs.Binds.{behind-at, behind-nothing}
 use Rattle.listing_rules.specs.Tokens.{got, _>>=_}
 use Rattle.command_line.specs.declared.option_list.Place.the-variants.{Selection}

@@ -1,8 +1,7 @@
 -- `returned`: the return option that a word spells, or none, word by word. Opens the definition; rests on the promise of `spells_word`.
-use mathlib.Core.Path.{sym, _∙_}
+use Rattle.listing_rules.proofs.Prelude.{_∙_, sym, needs}
 use Rattle.listing_rules.specs.Bytes.{text}
 use Rattle.command_line.specs.OptionSets.{returned}
-use borrow.Author.Needs.{needs}
 use Rattle.command_line.proofs.option_list.returned.Statement.{statement}
 use Rattle.command_line.proofs.option_list.returned.Tie as tie
 
@@ -22,7 +21,11 @@ returns-3 c =
     let after-spells-word2 = c .before .before .before .before in
     let at-if1 = after-spells-word2 .before .before in
     let after-spells-word = at-if1 .before in
-    rw (sym (after-spells-word .spells-word .ensures) ∙ at-if1 .if1 .left, sym (after-spells-word2 .spells-word2 .ensures) ∙ c .before .before .before .if2 .left, sym (c .before .spells-word3 .ensures) ∙ c .if3 .taken)
+    rw (
+      sym (after-spells-word .spells-word .ensures) ∙ at-if1 .if1 .left,
+      sym (after-spells-word2 .spells-word2 .ensures) ∙ c .before .before .before .if2 .left,
+      sym (c .before .spells-word3 .ensures) ∙ c .if3 .taken,
+    )
 
 returns-4 : tie.Need-returns-4
 unfolding returned text
@@ -30,7 +33,11 @@ returns-4 c =
     let after-spells-word2 = c .before .before .before .before in
     let at-if1 = after-spells-word2 .before .before in
     let after-spells-word = at-if1 .before in
-    rw (sym (after-spells-word .spells-word .ensures) ∙ at-if1 .if1 .left, sym (after-spells-word2 .spells-word2 .ensures) ∙ c .before .before .before .if2 .left, sym (c .before .spells-word3 .ensures) ∙ c .if3 .left)
+    rw (
+      sym (after-spells-word .spells-word .ensures) ∙ at-if1 .if1 .left,
+      sym (after-spells-word2 .spells-word2 .ensures) ∙ c .before .before .before .if2 .left,
+      sym (c .before .spells-word3 .ensures) ∙ c .if3 .left,
+    )
 
 pub returned-spec : {M : Type 1} → statement M
 returned-spec =

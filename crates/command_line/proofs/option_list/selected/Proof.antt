@@ -1,8 +1,7 @@
 -- `selected`: the selection option that a word spells, or none, word by word. Opens the definition; rests on the promise of `spells_word`.
-use mathlib.Core.Path.{sym, _∙_}
+use Rattle.listing_rules.proofs.Prelude.{_∙_, sym, needs}
 use Rattle.listing_rules.specs.Bytes.{text}
 use Rattle.command_line.specs.OptionSets.{selected}
-use borrow.Author.Needs.{needs}
 use Rattle.command_line.proofs.option_list.selected.Statement.{statement}
 use Rattle.command_line.proofs.option_list.selected.Tie as tie
 
@@ -22,7 +21,11 @@ returns-3 c =
     let after-spells-word2 = c .before .before .before .before in
     let at-if1 = after-spells-word2 .before .before in
     let after-spells-word = at-if1 .before in
-    rw (sym (after-spells-word .spells-word .ensures) ∙ at-if1 .if1 .left, sym (after-spells-word2 .spells-word2 .ensures) ∙ c .before .before .before .if2 .left, sym (c .before .spells-word3 .ensures) ∙ c .if3 .taken)
+    rw (
+      sym (after-spells-word .spells-word .ensures) ∙ at-if1 .if1 .left,
+      sym (after-spells-word2 .spells-word2 .ensures) ∙ c .before .before .before .if2 .left,
+      sym (c .before .spells-word3 .ensures) ∙ c .if3 .taken,
+    )
 
 returns-4 : tie.Need-returns-4
 unfolding selected text
@@ -32,7 +35,12 @@ returns-4 c =
     let after-spells-word2 = at-if2 .before in
     let at-if1 = after-spells-word2 .before .before in
     let after-spells-word = at-if1 .before in
-    rw (sym (after-spells-word .spells-word .ensures) ∙ at-if1 .if1 .left, sym (after-spells-word2 .spells-word2 .ensures) ∙ at-if2 .if2 .left, sym (after-spells-word3 .spells-word3 .ensures) ∙ c .before .before .before .if3 .left, sym (c .before .spells-word4 .ensures) ∙ c .if4 .taken)
+    rw (
+      sym (after-spells-word .spells-word .ensures) ∙ at-if1 .if1 .left,
+      sym (after-spells-word2 .spells-word2 .ensures) ∙ at-if2 .if2 .left,
+      sym (after-spells-word3 .spells-word3 .ensures) ∙ c .before .before .before .if3 .left,
+      sym (c .before .spells-word4 .ensures) ∙ c .if4 .taken,
+    )
 
 returns-5 : tie.Need-returns-5
 unfolding selected text
@@ -42,7 +50,12 @@ returns-5 c =
     let after-spells-word2 = at-if2 .before in
     let at-if1 = after-spells-word2 .before .before in
     let after-spells-word = at-if1 .before in
-    rw (sym (after-spells-word .spells-word .ensures) ∙ at-if1 .if1 .left, sym (after-spells-word2 .spells-word2 .ensures) ∙ at-if2 .if2 .left, sym (after-spells-word3 .spells-word3 .ensures) ∙ c .before .before .before .if3 .left, sym (c .before .spells-word4 .ensures) ∙ c .if4 .left)
+    rw (
+      sym (after-spells-word .spells-word .ensures) ∙ at-if1 .if1 .left,
+      sym (after-spells-word2 .spells-word2 .ensures) ∙ at-if2 .if2 .left,
+      sym (after-spells-word3 .spells-word3 .ensures) ∙ c .before .before .before .if3 .left,
+      sym (c .before .spells-word4 .ensures) ∙ c .if4 .left,
+    )
 
 pub selected-spec : {M : Type 1} → statement M
 selected-spec =

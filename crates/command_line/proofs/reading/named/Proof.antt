@@ -1,5 +1,5 @@
 -- `named` is the definition.
-use borrow.Author.Needs.{needs}
+use Rattle.listing_rules.proofs.Prelude.{needs}
 use Rattle.command_line.proofs.reading.named.Statement.{statement}
 use Rattle.command_line.proofs.reading.named.Tie as tie
 

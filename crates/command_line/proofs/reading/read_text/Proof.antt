@@ -1,10 +1,5 @@
 -- `read_text`: the tag, the space and the word, and then what the word asks for. Rests on Wording, Judging and Edits.
-use mathlib.Core.Path.{_≡_, sym, ap, _∙_}
-use mathlib.Core.List.{List as Seq}
-use mathlib.Core.Option.{some}
-use Prim.Native.Nat.{ℕ}
-use lib.ListN.{drop}
-use borrow.Author.Needs.{needs}
+use Rattle.listing_rules.proofs.Prelude.{_∙_, _≡_, ap, sym, some, List as Seq, ℕ, drop, needs}
 use Rattle.listing_rules.specs.Tokens.{got, tagByte, atomByte, run, run₁}
 use Rattle.listing_rules.specs.Command.{worded, tagged}
 use Rattle.command_tokens.specs.Spans.{spanBytes}
@@ -25,7 +20,7 @@ line s = s .args .text .now
 returns : tie.Need-returns
 returns c =
     let stage = c .before .before .before .before .before in
-    refuses _ 4 (c .refused .ensures) (tag-off (line (stage)) (token-missing _ (c .before .before .before .tag .ensures .0) (c .before .enum-told .given .1)))
+    refuses _ 4 (c .refused .ensures) (tag-off (line stage) (token-missing _ (c .before .before .before .tag .ensures .0) (c .before .enum-told .given .1)))
 
 -- ---- the tag
 
@@ -36,7 +31,8 @@ module _ (c : tie.After-known-told) where
   abbrev end : ℕ
   end = c .before .tag2 .given .0 .1 .0 .at
 
-  read-tag : run₁ tagByte (line (c .before .before .before .before .before)) ≡ some (got tag (drop end (line (c .before .before .before .before .before))))
+  read-tag : run₁ tagByte (line (c .before .before .before .before .before)) ≡ some
+      (got tag (drop end (line (c .before .before .before .before .before))))
   read-tag = token-found _ (c .before .before .before .tag .ensures .0) (c .before .tag2 .given .1)
 
   tagged-in : TagIn (line (c .before .before .before .before .before)) (c .before .tag2 .given .0 .0)
@@ -46,22 +42,24 @@ returns-2 : tie.Need-returns-2
 returns-2 c =
     let stage = c .before .before .before .before in
     let stage-2 = stage .before .before .before .before .before in
-    refuses _ 4 (c .refused2 .ensures) (space-off (line (stage-2)) (tag (stage)) (end (stage)) (read-tag (stage)) (behind-nothing _ (c .before .before .before .space .ensures .0) (c .before .enum-told2 .given .1)))
+    refuses _ 4 (c .refused2 .ensures) (space-off (line stage-2) (tag stage) (end stage) (read-tag stage)
+    (behind-nothing _ (c .before .before .before .space .ensures .0) (c .before .enum-told2 .given .1)))
 
 -- ---- the space
 
 spaced : (c : tie.After-known-told2) →
-    tagged (line (c .before .before .before .before .before .before .before .before .before)) ≡ worded (tag (c .before .before .before .before))
-    (run atomByte (drop (c .before .third .given .0 .0 .at) (line (c .before .before .before .before .before .before .before .before .before))))
+    let stage = c .before .before .before .before in
+    let stage-2 = stage .before .before .before .before .before in
+    tagged (line (stage-2)) ≡ worded (tag (stage)) (run atomByte (drop (c .before .third .given .0 .0 .at) (line (stage-2))))
 spaced c =
     let stage = c .before .before .before .before in
     let stage-2 = stage .before .before .before .before .before in
-    space-read (line (stage-2)) (tag (stage)) (end (stage)) (read-tag (stage)) _ (behind-at _ (c .before .before .before .space .ensures .0) (c .before .third .given .1))
+    space-read (line stage-2) (tag stage) (end stage) (read-tag stage) _ (behind-at _ (c .before .before .before .space .ensures .0) (c .before .third .given .1))
 
 returns-3 : tie.Need-returns-3
 returns-3 c =
     let stage = c .before .before .before .before in
-    refuses _ 5 (c .refused3 .ensures) (spaced (stage) ∙ word-off _ _ (token-missing _ (c .before .before .before .atom .ensures .0) (c .before .enum-told3 .given .1)))
+    refuses _ 5 (c .refused3 .ensures) (spaced stage ∙ word-off _ _ (token-missing _ (c .before .before .before .atom .ensures .0) (c .before .enum-told3 .given .1)))
 
 -- ---- the word
 
@@ -79,11 +77,17 @@ module _ (c : tie.After-word-of) where
   rest = drop (c .before .before .before .word .given .0 .1 .0 .at) text
 
   word-is : wordOf word ≡ c .word-of .result
-  word-is = ap wordOf (bare-bytes _ _ (bare-ahead _ _ (c .before .before .before .before .before .atom .ensures .1) (c .before .before .before .word .given .1) .bare) ∙ sym (c .before .raw .ensures)) ∙ sym (c .word-of .ensures)
+  word-is =
+      ap wordOf (bare-bytes _ _ (bare-ahead _ _ (c .before .before .before .before .before .atom .ensures .1)
+      (c .before .before .before .word .given .1) .bare) ∙ sym (c .before .raw .ensures)) ∙ sym (c .word-of .ensures)
 
   -- by its place in the table
-  by-word : (w : Word) → c .word-of .result ≡ w → tagged text ≡ wordedAs w (tag (c .before .before .before .before .before .before .before .before .before .before)) rest
-  by-word w e = spaced (c .before .before .before .before .before .before) ∙ word-read _ _ word rest (token-found _ (c .before .before .before .before .before .atom .ensures .0) (c .before .before .before .word .given .1)) ∙ ap (λ (x : Word). wordedAs x (tag (c .before .before .before .before .before .before .before .before .before .before)) rest) (word-is ∙ e)
+  by-word : (w : Word) → c .word-of .result ≡ w →
+      tagged text ≡ wordedAs w (tag (c .before .before .before .before .before .before .before .before .before .before)) rest
+  by-word w e =
+      spaced (c .before .before .before .before .before .before) ∙ word-read _ _ word rest
+      (token-found _ (c .before .before .before .before .before .atom .ensures .0) (c .before .before .before .word .given .1)) ∙ ap
+      (λ (x : Word). wordedAs x (tag (c .before .before .before .before .before .before .before .before .before .before)) rest) (word-is ∙ e)
 
   -- a word's own function answers
   arm : (w : Word) {r : Command} → c .word-of .result ≡ w →

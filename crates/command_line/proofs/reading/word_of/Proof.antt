@@ -1,7 +1,5 @@
 -- `word_of` is the table, word by word. Rests on Wording.
-use mathlib.Core.Path.{_≡_, sym, _∙_}
-use mathlib.Core.Bool.{false}
-use borrow.Author.Needs.{needs}
+use Rattle.listing_rules.proofs.Prelude.{_∙_, _≡_, sym, false, needs}
 use Rattle.listing_rules.specs.Bytes.{text, spells}
 use Rattle.command_line.proofs.Wording.{word-list, word-namespace, word-lsub, word-subscribe, word-unsubscribe, word-unknown}
 use Rattle.command_line.proofs.reading.word_of.Statement.{statement}
@@ -17,11 +15,15 @@ not-namespace : (c : tie.Else2) → spells (c .before .before .before .before .b
 unfolding text
 not-namespace c = sym (c .before .spells-word2 .ensures) ∙ c .if2 .left
 
-not-lsub : (c : tie.Else3) → spells (c .before .before .before .before .before .before .before .before .before .before .args .name .now) (text "LSUB") ≡ false
+not-lsub : (c : tie.Else3) →
+    let start = c .before .before .before .before .before .before .before .before .before .before in
+    spells (start .args .name .now) (text "LSUB") ≡ false
 unfolding text
 not-lsub c = sym (c .before .spells-word3 .ensures) ∙ c .if3 .left
 
-not-subscribe : (c : tie.Else4) → spells (c .before .before .before .before .before .before .before .before .before .before .before .before .before .args .name .now) (text "SUBSCRIBE") ≡ false
+not-subscribe : (c : tie.Else4) →
+    let start = c .before .before .before .before .before .before .before .before .before .before .before .before .before in
+    spells (start .args .name .now) (text "SUBSCRIBE") ≡ false
 unfolding text
 not-subscribe c = sym (c .before .spells-word4 .ensures) ∙ c .if4 .left
 

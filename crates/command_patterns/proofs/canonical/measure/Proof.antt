@@ -1,20 +1,17 @@
 -- `measure`: what was counted, and the places that are left, come to all of them. Rests on Counting.
-use mathlib.Core.Path.{_≡_, sym, _∙_}
-use mathlib.Core.List.{List}
-use Prim.Native.Nat.{ℕ, _-_, _≤_}
-use native.Mathlib.Omega.{arith}
-use lib.ListN.{length, getD, length-map}
-use borrow.Author.Needs.{needs}
+use Rattle.listing_rules.proofs.Prelude.{_∙_, _≡_, sym, List, _-_, _≤_, ℕ, arith, length, length-map, needs}
 use Rattle.listing_rules.specs.Command.{canonical}
-use Rattle.command_tokens.specs.Spans.{spanBytes, nowhere}
+use Rattle.command_tokens.specs.Spans.{spanBytes}
 use Rattle.command_patterns.specs.Places.{held}
-use Rattle.command_patterns.proofs.Counting.{canonicalFrom, from-out, from-skip, from-keep, Counted, counted-none, counted-same, counted-more, counted-all}
+use Rattle.command_patterns.proofs.Counting.{canonicalFrom, from-out, from-skip, from-keep, Counted, counted-none, counted-same, counted-more}
+use Rattle.command_patterns.proofs.Counting.{counted-all}
 use Rattle.command_patterns.proofs.canonical.measure.Statement.{statement}
 use Rattle.command_patterns.proofs.canonical.measure.Tie as tie
 
 -- the reference counts by its length alone
 abbrev Inv-loop : tie.InvT-loop
-Inv-loop text patterns head n count₀ fit₀ i₀ count fit i = (i ≤ n) × (count ≤ i) × ((r : List ℕ) → length r ≡ head → Counted count fit (canonicalFrom text r patterns i) (canonical r (held text patterns)))
+Inv-loop text patterns head n count₀ fit₀ i₀ count fit i =
+    (i ≤ n) × (count ≤ i) × ((r : List ℕ) → length r ≡ head → Counted count fit (canonicalFrom text r patterns i) (canonical r (held text patterns)))
 
 abbrev μ-loop : tie.MeasureT-loop
 μ-loop text patterns head n count₀ fit₀ i₀ count fit i = n - i
@@ -32,7 +29,7 @@ loop-again c =
     let turn = c .before .before .before .before in
     let start = turn .before .before .before .before in
     let loop = turn .loop in
-    (omega arith, omega arith, λ r h. counted-same _ _ _ (loop .inv .2 r h) (from-skip (start .args .text .now) r (start .args .t3) (size start) (loop .i) (omega arith) (sym (c .before .span-len2 .ensures) ∙ c .if1 .taken)))
+    (omega arith, omega arith, λ r h. counted-same _ _ _ (loop .inv .2 r h) (from-skip _ r _ (size start) (loop .i) (omega arith) (sym (c .before .span-len2 .ensures) ∙ c .if1 .taken)))
 
 -- any other one
 loop-again-2 : tie.Need-loop-again-2 Inv-loop μ-loop
@@ -44,7 +41,7 @@ loop-again-2 c =
     let tail = c .before .before .span-len2 .ensures in (
       omega arith,
       omega arith,
-      λ r h. counted-more _ _ _ (loop .inv .2 r h) r (spanBytes text (getD (start .args .t3 .spans) (loop .i) nowhere)) _ (from-keep text r (start .args .t3) (size start) (loop .i) (omega arith) (λ e. c .before .if1 .left (tail ∙ e))) (rw (h, sym tail) (c .is-short .ensures)),
+      λ r h. counted-more _ _ _ (loop .inv .2 r h) r _ _ (from-keep text r _ (size start) (loop .i) (omega arith) (λ e. c .before .if1 .left (tail ∙ e))) (rw (h, sym tail) (c .is-short .ensures)),
     )
 
 returns : tie.Need-returns Inv-loop μ-loop
@@ -52,8 +49,8 @@ returns c =
     let start = c .before .before .before .before .before in
     let loop = c .before .loop in
     let text = start .args .text .now in
-    let reference = spanBytes text (start .args .reference) in
-    counted-all _ _ _ (loop .inv .2 reference (sym (c .before .before .before .span-len .ensures))) (from-out text reference (start .args .t3) (size start) (loop .i) (omega arith))
+    let reference = spanBytes text _ in
+    counted-all _ _ _ (loop .inv .2 reference (sym (c .before .before .before .span-len .ensures))) (from-out text reference _ (size start) (loop .i) (omega arith))
 
 pub measure-spec : {M : Type 1} → statement M
 measure-spec =

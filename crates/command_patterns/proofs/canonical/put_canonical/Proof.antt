@@ -1,9 +1,5 @@
 -- `put_canonical`: three writes, one after the other. Rests on octets' Puts.
-use mathlib.Core.Path.{_≡_, sym, ap, subst, _∙_}
-use mathlib.Core.List.{_∷_, _++_}
-use Prim.Native.Nat.{ℕ, _+_, _%_}
-use lib.ListN.{length, length-append}
-use borrow.Author.Needs.{needs}
+use Rattle.listing_rules.proofs.Prelude.{_∙_, _≡_, ap, subst, sym, _++_, _∷_, _%_, _+_, ℕ, length, length-append, needs}
 use Rattle.octets.specs.Put.{Put}
 use Rattle.octets.proofs.Puts.{put-then}
 use Rattle.command_tokens.specs.Spans.{spanBytes}
@@ -23,7 +19,8 @@ returns c =
     let pattern = spanBytes (start .args .line .now) (start .args .pattern) in
     let head = after-span-len .span-len .ensures in
     let tail = after-span-len2 .span-len2 .ensures in
-    let size : after-length-byte .length-byte .result ≡ length (reference ++ pattern) % 256 = after-length-byte .length-byte .ensures ∙ rw (head, tail) (ap (λ (x : ℕ). x % 256) (sym (length-append reference pattern))) in
+    let size : after-length-byte .length-byte .result ≡ length (reference ++ pattern) % 256 = after-length-byte .length-byte .ensures ∙ rw
+    (head, tail) (ap (λ (x : ℕ). x % 256) (sym (length-append reference pattern))) in
     subst (λ (x : ℕ). Put (start .args .buf .now) (after-put-span2 .put-span2 .last .0) (start .args .at) (x ∷ (reference ++ pattern)) (after-put-span2 .put-span2 .result)) size
     (put-then (put-then (after-put .put .ensures) (after-put-span .put-span .ensures)) (after-put-span2 .put-span2 .ensures))
 

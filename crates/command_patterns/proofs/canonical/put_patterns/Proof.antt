@@ -1,12 +1,7 @@
 -- `put_patterns`: the buffer holds the first patterns, and the places that are left come to the rest. Rests on Counting and Packed.
-use mathlib.Core.Path.{_≡_, sym, _∙_}
-use mathlib.Core.List.{_++_}
-use Prim.Native.Nat.{_-_, _≤_}
-use native.Mathlib.Omega.{arith}
-use lib.ListN.{length, getD, length-map}
-use borrow.Author.Needs.{needs}
+use Rattle.listing_rules.proofs.Prelude.{_∙_, _≡_, sym, _-_, _≤_, arith, length, length-map, needs}
 use Rattle.octets.proofs.Puts.{put-length}
-use Rattle.command_tokens.specs.Spans.{spanBytes, nowhere}
+use Rattle.command_tokens.specs.Spans.{spanBytes}
 use Rattle.command_patterns.specs.Canonical.{canonicalOf}
 use Rattle.command_patterns.proofs.Counting.{canonicalFrom, from-out, from-skip, from-keep}
 use Rattle.command_patterns.proofs.Packed.{Packing, packing-none, packing-same, packing-more, packing-all}
@@ -33,7 +28,7 @@ loop-again c =
     let start = turn .before .before .before .before in
     let loop = turn .loop in
     let line = start .args .line .now in
-    (omega arith, packing-same _ _ _ _ _ (loop .inv .1) (from-skip line (spanBytes line (start .args .reference)) (start .args .t3) (size start) (loop .i) (omega arith) (sym (c .before .span-len .ensures) ∙ c .if1 .taken)))
+    (omega arith, packing-same _ _ _ _ _ (loop .inv .1) (from-skip line _ _ (size start) (loop .i) (omega arith) (sym (c .before .span-len .ensures) ∙ c .if1 .taken)))
 
 -- any other one
 loop-again-2 : tie.Need-loop-again-2 Inv-loop μ-loop
@@ -44,9 +39,10 @@ loop-again-2 c =
     let start = turn .before .before .before .before in
     let loop = turn .loop in
     let line = start .args .line .now in
-    let reference = spanBytes line (start .args .reference) in (
+    let reference = spanBytes line _ in (
       omega arith,
-      packing-more _ _ _ _ _ (loop .inv .1) (reference ++ spanBytes line (getD (start .args .t3 .spans) (loop .i) nowhere)) _ (from-keep line reference (start .args .t3) (size start) (loop .i) (omega arith) (λ e. at-if1 .if1 .left (after-span-len .span-len .ensures ∙ e))) (c .before .before .put-canonical .ensures),
+      packing-more _ _ _ _ _ (loop .inv .1) _ _ (from-keep line reference _ (size start) (loop .i) (omega arith)
+          (λ e. at-if1 .if1 .left (after-span-len .span-len .ensures ∙ e))) (c .before .before .put-canonical .ensures),
     )
 
 same-length : tie.Need-same-length Inv-loop μ-loop
@@ -56,8 +52,7 @@ returns : tie.Need-returns Inv-loop μ-loop
 returns c =
     let start = c .before .before .before .before .before in
     let loop = c .before .loop in
-    let line = start .args .line .now in
-    packing-all _ _ _ _ _ (loop .inv .1) (from-out line (spanBytes line (start .args .reference)) (start .args .t3) (size start) (loop .i) (omega arith))
+    packing-all _ _ _ _ _ (loop .inv .1) (from-out (start .args .line .now) _ _ (size start) (loop .i) (omega arith))
 
 pub put-patterns-spec : {M : Type 1} → statement M
 put-patterns-spec =

@@ -1,12 +1,6 @@
 -- `read_parted`: the places hold the patterns that were read, and what is left of the list comes to the rest. Rests on Filling, and on
 -- Parted of command_tokens.
-use mathlib.Core.Path.{_≡_, sym, ap, subst, _∙_}
-use mathlib.Core.List.{List, [], _∷_, _++_}
-use mathlib.Core.Option.{Option, some}
-use Prim.Native.Nat.{ℕ, _+_, _-_, _<_}
-use native.Mathlib.Omega.{arith}
-use lib.ListN.{length, drop}
-use borrow.Author.Needs.{needs}
+use Rattle.listing_rules.proofs.Prelude.{_∙_, _≡_, ap, subst, sym, Option, some, List, [], _++_, _∷_, _+_, _-_, _<_, ℕ, arith, drop, length, needs}
 use Rattle.listing_rules.specs.Tokens.{got, _>>=_, pattern}
 use Rattle.listing_rules.specs.Command.{parted}
 use Rattle.command_tokens.specs.Spans.{spanBytes}
@@ -52,11 +46,14 @@ module _ (c : tie.After-with Inv-loop μ-loop) where
   read : pattern (drop (c .before .before .before .before .before .loop .at) line) ≡ some (got bytes (drop to line))
   read = token-found _ (c .before .before .before .before .pattern .ensures .0) (c .before .before .span .given .1)
 
-  ahead : Ahead line (c .before .before .before .before .before .loop .at) (c .before .before .span .given .0 .0) (c .before .before .span .given .0 .1 .0)
+  ahead : Ahead line (c .before .before .before .before .before .loop .at) (c .before .before .span .given .0 .0)
+      (c .before .before .span .given .0 .1 .0)
   ahead = token-ahead _ _ (c .before .before .before .before .pattern .ensures .1) (c .before .before .span .given .1)
 
   more : Filled line (c .with .result) (c .before .before .before .before .before .loop .inv .0 ++ (bytes ∷ []))
-  more = subst (λ (p : Patterns). Filled line p (c .before .before .before .before .before .loop .inv .0 ++ (bytes ∷ []))) (sym (c .with .ensures)) (filled-with _ _ _ _ (c .before .before .before .before .before .loop .inv .1) (lies-ahead _ _ _ _ ahead))
+  more =
+      subst (λ (p : Patterns). Filled line p (c .before .before .before .before .before .loop .inv .0 ++ (bytes ∷ []))) (sym (c .with .ensures))
+      (filled-with _ _ _ _ (c .before .before .before .before .before .loop .inv .1) (lies-ahead _ _ _ _ ahead))
 
 -- a pattern and the closing parenthesis
 returns-2 : tie.Need-returns-2 Inv-loop μ-loop
@@ -72,12 +69,15 @@ returns-3 : tie.Need-returns-3 Inv-loop μ-loop
 unfolding patternsIs behindIs _>>=_
 returns-3 c =
     let with = c .before .before .before in
-    let byte = c .before .before .byte-at .ensures in
-    (sym (parting-other pattern _ _ _ _ (with .before .before .before .before .before .loop .inv .2) (bytes with) (to with) (read with) (ahead with .past) (ahead with .inside) (λ e. c .before .if1 .left (byte ∙ e)) (λ e. c .if2 .taken (byte ∙ e))), placed-filled _ _ _ (more with))
+    let byte = c .before .before .byte-at .ensures in (
+      sym (parting-other pattern _ _ _ _ (with .before .before .before .before .before .loop .inv .2) (bytes with) (to with) (read with)
+          (ahead with .past) (ahead with .inside) (λ e. c .before .if1 .left (byte ∙ e)) (λ e. c .if2 .taken (byte ∙ e))),
+      placed-filled _ _ _ (more with),
+    )
 
 -- a byte that is not 0 stands inside the line
 further : (c : tie.After-byte-at Inv-loop μ-loop) → 0 < c .byte-at .result → to (c .before) < length (line (c .before))
-further c h = inside (line (c .before)) (to (c .before)) (omega (arith, c .byte-at .ensures))
+further c h = inside (line (c .before)) _ (omega (arith, c .byte-at .ensures))
 
 add-t13 : tie.Need-add-t13 Inv-loop μ-loop
 add-t13 c = omega (arith, further (c .before) (omega arith))
@@ -92,8 +92,12 @@ loop-less c = omega (arith, ahead (c .before .before .before) .past, further (c 
 loop-again : tie.Need-loop-again Inv-loop μ-loop
 loop-again c =
     let with = c .before .before .before in
-    let inv = with .before .before .before .before .before .loop .inv in
-    (inv .0 ++ (bytes with ∷ []), more with, parting-space pattern _ _ _ _ _ (inv .2) (bytes with) (to with) (read with) (ahead with .past) (ahead with .inside) (sym (c .before .before .byte-at .ensures) ∙ c .if2 .left) (join-more (inv .0) (bytes with)))
+    let inv = with .before .before .before .before .before .loop .inv in (
+      inv .0 ++ (bytes with ∷ []),
+      more with,
+      parting-space pattern _ _ _ _ _ (inv .2) (bytes with) (to with) (read with) (ahead with .past) (ahead with .inside)
+          (sym (c .before .before .byte-at .ensures) ∙ c .if2 .left) (join-more _ (bytes with)),
+    )
 
 pub read-parted-spec : {M : Type 1} → statement M
 read-parted-spec =

@@ -1,11 +1,5 @@
 -- `read_patterns`: a list in parentheses, or one pattern. Rests on Filling, and on Binds of command_tokens.
-use mathlib.Core.Path.{_≡_, sym, ap, subst, _∙_}
-use mathlib.Core.List.{List, [], _∷_}
-use mathlib.Core.Option.{Option, some}
-use Prim.Native.Nat.{ℕ}
-use native.Mathlib.Omega.{arith}
-use lib.ListN.{drop}
-use borrow.Author.Needs.{needs}
+use Rattle.listing_rules.proofs.Prelude.{_∙_, _≡_, ap, subst, sym, Option, some, List, [], _∷_, ℕ, arith, drop, needs}
 use Rattle.listing_rules.specs.Tokens.{got, _>>=_}
 use Rattle.command_tokens.specs.Spans.{spanBytes}
 use Rattle.command_tokens.specs.Tokens.{behindIs}
@@ -14,7 +8,8 @@ use Rattle.command_tokens.proofs.Bytes.{inside}
 use Rattle.command_tokens.proofs.Cuts.{lies-ahead}
 use Rattle.command_patterns.specs.declared.Patterns.{Patterns}
 use Rattle.command_patterns.specs.Places.{withSpan, upToEight, patternsIs}
-use Rattle.command_patterns.proofs.Filling.{Filled, filled-none, filled-with, kept-filled, placed-filled, patterns-list, patterns-off, patterns-single}
+use Rattle.command_patterns.proofs.Filling.{Filled, filled-none, filled-with, kept-filled, placed-filled, patterns-list, patterns-off}
+use Rattle.command_patterns.proofs.Filling.{patterns-single}
 use Rattle.command_patterns.proofs.places.read_patterns.Statement.{statement}
 use Rattle.command_patterns.proofs.places.read_patterns.Tie as tie
 
@@ -27,7 +22,7 @@ add-t9 c =
 returns : tie.Need-returns
 returns c =
     let start = c .before .before .before .before in
-    (c .read-parted .ensures .0 ∙ sym (ap upToEight (patterns-list (start .args .text .now) (start .args .first .at) (sym (c .before .before .byte-at .ensures) ∙ c .before .if1 .taken))), c .read-parted .ensures .1)
+    (c .read-parted .ensures .0 ∙ sym (ap upToEight (patterns-list _ (start .args .first .at) (sym (c .before .before .byte-at .ensures) ∙ c .before .if1 .taken))), c .read-parted .ensures .1)
 
 -- neither
 returns-2 : tie.Need-returns-2
@@ -35,9 +30,10 @@ unfolding patternsIs behindIs _>>=_
 returns-2 c =
     let at-if1 = c .before .before .before .before in
     let after-byte-at = at-if1 .before in
-    let start = after-byte-at .before .before in
-    let line = start .args .text .now in
-    (sym (patterns-off line (start .args .first .at) (λ e. at-if1 .if1 .left (after-byte-at .byte-at .ensures ∙ e)) (token-missing _ (c .before .before .pattern .ensures .0) (c .enum-told .given .1))), rw (c .before .before .before .none .ensures) (placed-filled _ _ _ (filled-none line)))
+    let line = after-byte-at .before .before .args .text .now in (
+      sym (patterns-off line _ (λ e. at-if1 .if1 .left (after-byte-at .byte-at .ensures ∙ e)) (token-missing _ (c .before .before .pattern .ensures .0) (c .enum-told .given .1))),
+      rw (c .before .before .before .none .ensures) (placed-filled _ _ _ (filled-none line)),
+    )
 
 -- one pattern
 returns-3 : tie.Need-returns-3
@@ -48,8 +44,7 @@ returns-3 c =
     let after-none = after-pattern .before in
     let at-if1 = after-none .before in
     let after-byte-at = at-if1 .before in
-    let start = after-byte-at .before .before in
-    let line = start .args .text .now in
+    let line = after-byte-at .before .before .args .text .now in
     let span = after-span .span .given .0 .0 in
     let bytes = spanBytes line span in
     let found = after-span .span .given .1 in
@@ -57,7 +52,7 @@ returns-3 c =
     let with = c .with .ensures ∙ ap (λ (p : Patterns). withSpan p span) (after-none .none .ensures) in
     let one = subst (λ (p : Patterns). Filled line p (bytes ∷ [])) (sym with) (filled-with line _ [] span (filled-none line) (lies-ahead _ _ _ _ (token-ahead _ _ (read .1) found))) in (
       ap (λ (x : Option (List (List ℕ))). some (got x (drop (after-span .span .given .0 .1 .0 .at) line))) (kept-filled _ _ _ one)
-          ∙ sym (patterns-single line (start .args .first .at) _ _ (λ e. at-if1 .if1 .left (after-byte-at .byte-at .ensures ∙ e)) (token-found _ (read .0) found)),
+          ∙ sym (patterns-single line _ _ _ (λ e. at-if1 .if1 .left (after-byte-at .byte-at .ensures ∙ e)) (token-found _ (read .0) found)),
       placed-filled _ _ _ one,
     )
 

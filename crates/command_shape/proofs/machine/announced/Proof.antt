@@ -1,8 +1,6 @@
 -- `announced` is the definition, number by number.
-use borrow.Author.Tests.{eq-eqb, ne-eqb, le-leb, lt-leb}
+use Rattle.listing_rules.proofs.Prelude.{arith, eq-eqb, le-leb, lt-leb, ne-eqb, needs}
 use Rattle.command_shape.specs.Machine.{announcedIs, awaitingIs}
-use native.Mathlib.Omega.{arith}
-use borrow.Author.Needs.{needs}
 use Rattle.command_shape.proofs.machine.announced.Statement.{statement}
 use Rattle.command_shape.proofs.machine.announced.Tie as tie
 

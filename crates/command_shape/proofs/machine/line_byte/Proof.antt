@@ -1,8 +1,6 @@
 -- `line_byte` is the table of `lineIs`, row by row.
-use mathlib.Core.Path.{_∙_}
-use borrow.Author.Tests.{eq-eqb, ne-eqb}
+use Rattle.listing_rules.proofs.Prelude.{_∙_, eq-eqb, ne-eqb, needs}
 use Rattle.command_shape.specs.Machine.{lineIs}
-use borrow.Author.Needs.{needs}
 use Rattle.command_shape.proofs.machine.line_byte.Statement.{statement}
 use Rattle.command_shape.proofs.machine.line_byte.Tie as tie
 

@@ -1,9 +1,6 @@
 -- `literal_byte` is the definition, number by number.
-use Prim.Native.Nat.{_-_}
-use borrow.Author.Tests.{eq-eqb, ne-eqb}
+use Rattle.listing_rules.proofs.Prelude.{_-_, arith, eq-eqb, ne-eqb, needs}
 use Rattle.command_shape.specs.Machine.{awaitingIs}
-use native.Mathlib.Omega.{arith}
-use borrow.Author.Needs.{needs}
 use Rattle.command_shape.proofs.machine.literal_byte.Statement.{statement}
 use Rattle.command_shape.proofs.machine.literal_byte.Tie as tie
 

@@ -1,5 +1,5 @@
 -- `plain_tail` is the definition's choice.
-use borrow.Author.Tests.{eq-eqb, ne-eqb}
+use Rattle.listing_rules.proofs.Prelude.{eq-eqb, ne-eqb}
 use Rattle.command_shape.specs.Machine.{plainIs}
 use Rattle.command_shape.proofs.machine.plain_tail.Statement.{statement}
 use Rattle.command_shape.proofs.machine.plain_tail.Tie as tie

@@ -1,6 +1,5 @@
 -- `refused` is a byte that is dropped, and the signal.
-use mathlib.Core.Path.{ap}
-use borrow.Author.Needs.{needs}
+use Rattle.listing_rules.proofs.Prelude.{ap, needs}
 use Rattle.command_shape.specs.declared.machine.Machine.{Machine}
 use Rattle.command_shape.specs.declared.machine.Signal.the-variants.{Refused}
 use Rattle.command_shape.specs.Machine.{steps}

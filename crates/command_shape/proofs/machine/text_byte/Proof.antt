@@ -1,10 +1,9 @@
 -- `text_byte` is the line with the byte more.
-use mathlib.Core.Path.{ap, _∙_}
+use Rattle.listing_rules.proofs.Prelude.{_∙_, ap, needs}
 use Rattle.command_shape.specs.declared.machine.Tail.{Tail}
 use Rattle.command_shape.specs.declared.machine.Place.the-variants.{Line}
 use Rattle.command_shape.specs.declared.machine.Signal.the-variants.{Quiet}
 use Rattle.command_shape.specs.Machine.{standing, steps}
-use borrow.Author.Needs.{needs}
 use Rattle.command_shape.proofs.machine.text_byte.Statement.{statement}
 use Rattle.command_shape.proofs.machine.text_byte.Tie as tie
 

@@ -1,16 +1,10 @@
 -- `Cursor::value`: the items of one level in a loop, an inner parenthesis by a call of its own further on. Rests on Nesting, Binds and Bytes.
-use mathlib.Core.Path.{_≡_, refl, sym, _∙_}
-use mathlib.Core.Logic.{⊎-elim}
-use Prim.Native.Nat.{_≤_, _-_}
-use lib.ListN.{length, drop, getD}
+use Rattle.listing_rules.proofs.Prelude.{_∙_, _≡_, refl, sym, ⊎-elim, _-_, _<_, _≤_, ℕ, arith, drop, getD, length, needs}
 use Rattle.command_tokens.specs.Tokens.{behindIs, BehindIn}
 use Rattle.command_tokens.specs.Values.{valueOf, firstItem, behindItem}
 use Rattle.command_tokens.proofs.Binds.{bind-none, bind-go, behind-at, behind-nothing, behind-ahead}
 use Rattle.command_tokens.proofs.Bytes.{inside, behind-later}
 use Rattle.command_tokens.proofs.Nesting.{value-step, item-value, item-string, behind-close, behind-space, behind-off}
-use borrow.Author.Needs.{needs}
-use native.Mathlib.Omega.{arith}
-use Prim.Native.Nat.{ℕ, _<_}
 use borrow.Fn.Kinds.{In}
 use borrow.Fn.PlainCycle.{Measures, is, falls, and}
 use Rattle.command_tokens.proofs.Cursor.value.Reads as value
@@ -98,12 +92,14 @@ first-read : (t : ℕ) (c : value-lts.Joined1 (
   value.Post,
   item-reads.Asked,
   item-reads.Learnt,
-) (value-at t) value.Post value-Inv-loop value-μ-loop) → (behindIs (c .before .before .before .before .args .text .now) (c .if1 .first) ≡ firstItem valueOf (drop (c .before .before .loop .at) (c .before .before .before .before .args .text .now))) × BehindIn (c .before .before .before .before .args .text .now) (c .before .before .loop .at) (c .if1 .first)
+) (value-at t) value.Post value-Inv-loop value-μ-loop) →
+    (behindIs (c .before .before .before .before .args .text .now) (c .if1 .first) ≡ firstItem valueOf
+    (drop (c .before .before .loop .at) (c .before .before .before .before .args .text .now))) × BehindIn
+    (c .before .before .before .before .args .text .now) (c .before .before .loop .at) (c .if1 .first)
 first-read t c =
-    let start = c .before .before .before .before in
     ⊎-elim
-    (λ w. rw (w .2) (w .1 .ensures .0 ∙ sym (item-value (start .args .text .now) (c .before .before .loop .at) (sym (c .before .byte-at .ensures) ∙ w .0 .taken)), behind-later _ _ _ _ (omega arith) (w .1 .ensures .1)))
-    (λ w. rw (w .2) (w .1 .ensures .0 ∙ sym (item-string (start .args .text .now) (c .before .before .loop .at) (λ e. w .0 .left (c .before .byte-at .ensures ∙ e))), w .1 .ensures .1))
+    (λ w. rw (w .2) (w .1 .ensures .0 ∙ sym (item-value _ (c .before .before .loop .at) (sym (c .before .byte-at .ensures) ∙ w .0 .taken)), behind-later _ _ _ _ (omega arith) (w .1 .ensures .1)))
+    (λ w. rw (w .2) (w .1 .ensures .0 ∙ sym (item-string _ (c .before .before .loop .at) (λ e. w .0 .left (c .before .byte-at .ensures ∙ e))), w .1 .ensures .1))
     (c .if1 .came)
 
 value-enum-known-first : (t : ℕ) → value-lts.Need-enum-known-first (
@@ -147,7 +143,13 @@ onward : (t : ℕ) (c : value-lts.After-known-told (
   value.Post,
   item-reads.Asked,
   item-reads.Learnt,
-) (value-at t) value.Post value-Inv-loop value-μ-loop) → (valueOf (drop (c .before .before .before .before .before .before .before .args .self .at) (c .before .before .before .before .before .before .before .args .text .now)) ≡ behindItem valueOf (drop (c .before .first .given .0 .0 .at) (c .before .before .before .before .before .before .before .args .text .now))) × ((c .before .before .before .before .before .before .before .args .self .at < c .before .first .given .0 .0 .at) × (c .before .before .before .before .before .loop .at < c .before .first .given .0 .0 .at) × (c .before .first .given .0 .0 .at ≤ length (c .before .before .before .before .before .before .before .args .text .now)))
+) (value-at t) value.Post value-Inv-loop value-μ-loop) →
+    (valueOf (drop (c .before .before .before .before .before .before .before .args .self .at)
+    (c .before .before .before .before .before .before .before .args .text .now)) ≡ behindItem valueOf
+    (drop (c .before .first .given .0 .0 .at) (c .before .before .before .before .before .before .before .args .text .now))) ×
+    ((c .before .before .before .before .before .before .before .args .self .at < c .before .first .given .0 .0 .at) ×
+    (c .before .before .before .before .before .loop .at < c .before .first .given .0 .0 .at) ×
+    (c .before .first .given .0 .0 .at ≤ length (c .before .before .before .before .before .before .before .args .text .now)))
 onward t c =
     let turn = c .before .before .before .before .before in
     let f = first-read t (c .before .before .before) in
@@ -189,10 +191,10 @@ unfolding behindIs BehindIn
 value-returns-2 t c =
     let after-first = c .before .before .before in
     let start = after-first .before .before .before .before .before .before in
-    let e : getD (start .args .text .now) (after-first .first .given .0 .0 .at) 0 ≡ 41 = sym (c .before .byte-at2 .ensures) ∙ c .if2 .taken in
+    let e : getD (start .args .text .now) _ 0 ≡ 41 = sym (c .before .byte-at2 .ensures) ∙ c .if2 .taken in
     let k = onward t (c .before .before) in
     let l = inside (start .args .text .now) (after-first .first .given .0 .0 .at) (omega arith) in
-    (sym (k .0 ∙ behind-close (start .args .text .now) (after-first .first .given .0 .0 .at) e), (omega arith, omega arith))
+    (sym (k .0 ∙ behind-close _ (after-first .first .given .0 .0 .at) e), (omega arith, omega arith))
 
 value-returns-3 : (t : ℕ) → value-lts.Need-returns-3 (
   byte-at-reads.Asked,
@@ -204,9 +206,11 @@ value-returns-3 : (t : ℕ) → value-lts.Need-returns-3 (
 ) (value-at t) value.Post value-Inv-loop value-μ-loop
 unfolding behindIs BehindIn
 value-returns-3 t c =
-    let after-first = c .before .before .before .before in
-    let start = after-first .before .before .before .before .before .before in
-    (sym (onward t (c .before .before .before) .0 ∙ behind-off (start .args .text .now) (after-first .first .given .0 .0 .at) (λ e. c .before .if2 .left (c .before .before .byte-at2 .ensures ∙ e)) (λ e. c .if3 .taken (c .before .before .byte-at2 .ensures ∙ e))), tt)
+    let after-first = c .before .before .before .before in (
+      sym (onward t (c .before .before .before) .0 ∙ behind-off _ (after-first .first .given .0 .0 .at)
+          (λ e. c .before .if2 .left (c .before .before .byte-at2 .ensures ∙ e)) (λ e. c .if3 .taken (c .before .before .byte-at2 .ensures ∙ e))),
+      tt,
+    )
 
 value-add-at : (t : ℕ) → value-lts.Need-add-at (
   byte-at-reads.Asked,
@@ -245,9 +249,8 @@ value-loop-again : (t : ℕ) → value-lts.Need-loop-again (
 ) (value-at t) value.Post value-Inv-loop value-μ-loop
 value-loop-again t c =
     let after-first = c .before .before .before .before in
-    let start = after-first .before .before .before .before .before .before in
     let k = onward t (c .before .before .before) in
-    (omega arith, sym (k .0 ∙ behind-space (start .args .text .now) (after-first .first .given .0 .0 .at) (sym (c .before .before .byte-at2 .ensures) ∙ c .if3 .left)))
+    (omega arith, sym (k .0 ∙ behind-space _ (after-first .first .given .0 .0 .at) (sym (c .before .before .byte-at2 .ensures) ∙ c .if3 .left)))
 
 pub +value-spec : {M : Type 1} → statement M
 +value-spec = close μ-value λ t. value-lts.spec (

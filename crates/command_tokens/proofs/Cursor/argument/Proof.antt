@@ -1,6 +1,5 @@
 -- `Cursor::argument`: a space, and the astring after it. Rests on Binds.
-use mathlib.Core.Path.{sym, _∙_}
-use borrow.Author.Needs.{needs}
+use Rattle.listing_rules.proofs.Prelude.{_∙_, sym, needs}
 use Rattle.command_tokens.specs.Tokens.{tokenIs, TokenIn, argument}
 use Rattle.command_tokens.proofs.Binds.{bind-none, bind-go, behind-at, behind-nothing, behind-ahead}
 use Rattle.command_tokens.proofs.Bytes.{token-later}

@@ -1,6 +1,6 @@
 -- `Cursor::astring`: `string_or` with the bytes of an astring is the definition.
 use Rattle.listing_rules.specs.Tokens.{astring}
-use borrow.Author.Needs.{needs}
+use Rattle.listing_rules.proofs.Prelude.{needs}
 use Rattle.command_tokens.proofs.Cursor.astring.Statement.{statement}
 use Rattle.command_tokens.proofs.Cursor.astring.Tie as tie
 

@@ -1,6 +1,6 @@
 -- `Cursor::atom`: `run` with atom bytes is the definition.
 use Rattle.listing_rules.specs.Tokens.{atom}
-use borrow.Author.Needs.{needs}
+use Rattle.listing_rules.proofs.Prelude.{needs}
 use Rattle.command_tokens.proofs.Cursor.atom.Statement.{statement}
 use Rattle.command_tokens.proofs.Cursor.atom.Tie as tie
 

@@ -1,10 +1,7 @@
 -- `Cursor::byte`: at the end nothing, else the byte that is asked for or another. Rests on Bytes.
 use Rattle.command_tokens.specs.Tokens.{behindIs, BehindIn}
-use mathlib.Core.Path.{sym}
-use Rattle.command_tokens.specs.Tokens.{behindIs}
+use Rattle.listing_rules.proofs.Prelude.{sym, arith, needs}
 use Rattle.command_tokens.proofs.Bytes.{after-out, after-yes, after-no}
-use native.Mathlib.Omega.{arith}
-use borrow.Author.Needs.{needs}
 use Rattle.command_tokens.proofs.Cursor.byte.Statement.{statement}
 use Rattle.command_tokens.proofs.Cursor.byte.Tie as tie
 

@@ -1,12 +1,9 @@
 -- `Cursor::header_end`: a closing brace, CR and LF, one byte after the other. Rests on Binds and Bytes.
-use mathlib.Core.Path.{sym, _∙_}
-use mathlib.Core.List.{[], _∷_}
+use Rattle.listing_rules.proofs.Prelude.{_∙_, sym, [], _∷_, arith, needs}
 use Rattle.listing_rules.specs.Bytes.{text, crlf}
 use Rattle.command_tokens.specs.Tokens.{behindIs, BehindIn}
 use Rattle.command_tokens.proofs.Binds.{bind-none, bind-go, behind-at, behind-nothing, behind-ahead}
 use Rattle.command_tokens.proofs.Bytes.{after-then, behind-later}
-use native.Mathlib.Omega.{arith}
-use borrow.Author.Needs.{needs}
 use Rattle.command_tokens.proofs.Cursor.header_end.Statement.{statement}
 use Rattle.command_tokens.proofs.Cursor.header_end.Tie as tie
 
@@ -19,7 +16,8 @@ unfolding text crlf behindIs BehindIn
 returns-2 c =
     let after-second = c .before .before .before .before in
     let after-byte = after-second .before .before in (
-      sym (after-then 125 (13 ∷ 10 ∷ []) _ ∙ bind-go _ (behind-at _ (after-byte .byte .ensures .0) (after-second .second .given .1)) ∙ after-then 13 (10 ∷ []) _ ∙ bind-none _ (behind-nothing _ (c .before .before .byte2 .ensures .0) (c .enum-told2 .given .1))),
+      sym (after-then 125 (13 ∷ 10 ∷ []) _ ∙ bind-go _ (behind-at _ (after-byte .byte .ensures .0) (after-second .second .given .1)) ∙ after-then 13
+          (10 ∷ []) _ ∙ bind-none _ (behind-nothing _ (c .before .before .byte2 .ensures .0) (c .enum-told2 .given .1))),
       tt,
     )
 
@@ -29,11 +27,12 @@ returns-3 c =
     let after-byte2 = c .before .before .before .before in
     let after-second = after-byte2 .before .before in
     let after-byte = after-second .before .before in
-    let start = after-byte .before .before in
-    let s = start .args .text .now in
+    let s = after-byte .before .before .args .text .now in
     let two = behind-ahead s _ (after-byte .byte .ensures .1) (after-second .second .given .1) in
     let three = behind-ahead s _ (after-byte2 .byte2 .ensures .1) (c .before .before .third .given .1) in (
-      c .byte3 .ensures .0 ∙ sym (after-then 125 (13 ∷ 10 ∷ []) _ ∙ bind-go _ (behind-at s (after-byte .byte .ensures .0) (after-second .second .given .1)) ∙ after-then 13 (10 ∷ []) _ ∙ bind-go _ (behind-at s (after-byte2 .byte2 .ensures .0) (c .before .before .third .given .1))),
+      c .byte3 .ensures .0 ∙ sym (after-then 125 (13 ∷ 10 ∷ []) _ ∙ bind-go _
+          (behind-at s (after-byte .byte .ensures .0) (after-second .second .given .1)) ∙ after-then 13 (10 ∷ []) _ ∙ bind-go _
+          (behind-at s (after-byte2 .byte2 .ensures .0) (c .before .before .third .given .1))),
       behind-later s _ _ _ (omega (arith, two .0, three .0)) (c .byte3 .ensures .1),
     )
 

@@ -1,10 +1,9 @@
 -- `Cursor::item`: an astring, of which only the place behind it counts. Rests on Binds.
 use Rattle.listing_rules.specs.Tokens.{got}
-use mathlib.Core.Path.{sym}
+use Rattle.listing_rules.proofs.Prelude.{sym, needs}
 use Rattle.command_tokens.specs.Tokens.{behindIs, BehindIn}
 use Rattle.command_tokens.specs.Values.{stringItem}
 use Rattle.command_tokens.proofs.Binds.{bind-none, bind-go, token-found, token-missing, token-ahead}
-use borrow.Author.Needs.{needs}
 use Rattle.command_tokens.proofs.Cursor.item.Statement.{statement}
 use Rattle.command_tokens.proofs.Cursor.item.Tie as tie
 

@@ -1,11 +1,8 @@
 -- `Cursor::literal`: the digits, the end of the header, and then as many bytes as the number says, if they are there. Rests on Numbers and Binds.
-use mathlib.Core.Path.{sym, _∙_}
-use lib.ListN.{length-drop}
+use Rattle.listing_rules.proofs.Prelude.{_∙_, sym, arith, length-drop, needs}
 use Rattle.command_tokens.specs.Tokens.{tokenIs, TokenIn}
 use Rattle.command_tokens.proofs.Binds.{token-found, token-missing, bare-ahead, behind-at, behind-nothing, behind-ahead}
 use Rattle.command_tokens.proofs.Numbers.{literal-none, literal-open, literal-long, literal-cut, literal-whole, digits-number, bytes-token}
-use native.Mathlib.Omega.{arith}
-use borrow.Author.Needs.{needs}
 use Rattle.command_tokens.proofs.Cursor.literal.Statement.{statement}
 use Rattle.command_tokens.proofs.Cursor.literal.Tie as tie
 
@@ -18,8 +15,7 @@ unfolding tokenIs TokenIn
 returns-2 c =
     let after-digits = c .before .before .before .before .before .before in
     let after-run = after-digits .before .before in
-    let start = after-run .before .before in
-    let s = start .args .text .now in (
+    let s = after-run .before .before .args .text .now in (
       sym (literal-open _ _ _ (token-found s (after-run .run .ensures .0) (after-digits .digits .given .1)) (behind-nothing s (c .before .before .header-end .ensures .0) (c .enum-told2 .given .1))),
       tt,
     )
@@ -32,17 +28,17 @@ returns-3 c =
     let after-raw = after-number .before in
     let after-digits = after-raw .before .before in
     let after-run = after-digits .before .before in
-    let start = after-run .before .before in
-    let s = start .args .text .now in (
-      sym (literal-long _ _ _ (token-found s (after-run .run .ensures .0) (after-digits .digits .given .1)) (after-number .number .result) (digits-number s _ (after-run .run .ensures .1) (after-digits .digits .given .1) (after-number .number .ensures) (after-raw .raw .ensures)) _ (behind-at s (after-header-end .header-end .ensures .0) (c .before .before .first .given .1)) (c .if1 .taken)),
+    let s = after-run .before .before .args .text .now in (
+      sym (literal-long _ _ _ (token-found s (after-run .run .ensures .0) (after-digits .digits .given .1)) _
+          (digits-number s _ (after-run .run .ensures .1) (after-digits .digits .given .1) (after-number .number .ensures) (after-raw .raw .ensures)) _
+          (behind-at s (after-header-end .header-end .ensures .0) (c .before .before .first .given .1)) (c .if1 .taken)),
       tt,
     )
 
 sub-if2 : tie.Need-sub-if2
 sub-if2 c =
     let after-header-end = c .before .before .before .before in
-    let start = after-header-end .before .before .before .before .before .before .before .before in
-    omega (arith, behind-ahead (start .args .text .now) _ (after-header-end .header-end .ensures .1) (c .before .before .first .given .1) .1)
+    omega (arith, behind-ahead _ _ (after-header-end .header-end .ensures .1) (c .before .before .first .given .1) .1)
 
 returns-4 : tie.Need-returns-4
 unfolding tokenIs TokenIn
@@ -53,9 +49,11 @@ returns-4 c =
     let after-raw = after-number .before in
     let after-digits = after-raw .before .before in
     let after-run = after-digits .before .before in
-    let start = after-run .before .before in
-    let s = start .args .text .now in (
-      sym (literal-cut _ _ _ (token-found s (after-run .run .ensures .0) (after-digits .digits .given .1)) (after-number .number .result) (digits-number s _ (after-run .run .ensures .1) (after-digits .digits .given .1) (after-number .number .ensures) (after-raw .raw .ensures)) _ (behind-at s (after-header-end .header-end .ensures .0) (after-first .first .given .1)) (omega (arith, c .if2 .taken, length-drop (after-first .first .given .0 .0 .at) s))),
+    let s = after-run .before .before .args .text .now in (
+      sym (literal-cut _ _ _ (token-found s (after-run .run .ensures .0) (after-digits .digits .given .1)) _
+          (digits-number s _ (after-run .run .ensures .1) (after-digits .digits .given .1) (after-number .number .ensures) (after-raw .raw .ensures)) _
+          (behind-at s (after-header-end .header-end .ensures .0) (after-first .first .given .1))
+          (omega (arith, c .if2 .taken, length-drop (after-first .first .given .0 .0 .at) s))),
       tt,
     )
 
@@ -68,13 +66,15 @@ returns-5 c =
     let after-raw = after-number .before in
     let after-digits = after-raw .before .before in
     let after-run = after-digits .before .before in
-    let start-2 = after-run .before .before in
-    let s = start-2 .args .text .now in
+    let s = after-run .before .before .args .text .now in
     let start = after-first .first .given .0 .0 .at in
     let n = after-number .number .result in
     let digits = bare-ahead s _ (after-run .run .ensures .1) (after-digits .digits .given .1) .ahead in
     let header = behind-ahead s _ (after-header-end .header-end .ensures .1) (after-first .first .given .1) in (
-      bytes-token s start n ∙ sym (literal-whole _ _ _ (token-found s (after-run .run .ensures .0) (after-digits .digits .given .1)) n (digits-number s _ (after-run .run .ensures .1) (after-digits .digits .given .1) (after-number .number .ensures) (after-raw .raw .ensures)) _ (behind-at s (after-header-end .header-end .ensures .0) (after-first .first .given .1)) (omega arith) (omega (arith, c .if2 .left, header .1, length-drop start s))),
+      bytes-token s start n ∙ sym (literal-whole _ _ _ (token-found s (after-run .run .ensures .0) (after-digits .digits .given .1)) n
+          (digits-number s _ (after-run .run .ensures .1) (after-digits .digits .given .1) (after-number .number .ensures) (after-raw .raw .ensures)) _
+          (behind-at s (after-header-end .header-end .ensures .0) (after-first .first .given .1)) (omega arith)
+          (omega (arith, c .if2 .left, header .1, length-drop start s))),
       record { order = omega arith; within = omega arith; past = omega (arith, digits .past, header .0); inside = omega (arith, c .if2 .left, header .1) },
     )
 

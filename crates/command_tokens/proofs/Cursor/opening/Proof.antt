@@ -1,12 +1,9 @@
 -- `Cursor::opening`: a space, and then an opening parenthesis. Rests on Binds and Bytes.
-use mathlib.Core.Path.{sym, _∙_}
-use mathlib.Core.List.{[], _∷_}
+use Rattle.listing_rules.proofs.Prelude.{_∙_, sym, [], _∷_, needs}
 use Rattle.command_tokens.specs.Tokens.{behindIs, BehindIn}
-use Rattle.command_tokens.proofs.Bytes.{after-then}
+use Rattle.command_tokens.proofs.Bytes.{after-then, behind-later}
 use Rattle.command_tokens.proofs.Binds.{bind-none, bind-go, behind-at, behind-nothing, behind-ahead}
 use Rattle.listing_rules.specs.Bytes.{text}
-use Rattle.command_tokens.proofs.Bytes.{behind-later}
-use borrow.Author.Needs.{needs}
 use Rattle.command_tokens.proofs.Cursor.opening.Statement.{statement}
 use Rattle.command_tokens.proofs.Cursor.opening.Tie as tie
 
@@ -17,8 +14,10 @@ returns c = (sym (after-then 32 (40 ∷ []) _ ∙ bind-none _ (behind-nothing _ 
 returns-2 : tie.Need-returns-2
 unfolding text
 returns-2 c =
-    let after-byte = c .before .before .before .before in
-    (c .byte2 .ensures .0 ∙ sym (after-then 32 (40 ∷ []) _ ∙ bind-go _ (behind-at _ (after-byte .byte .ensures .0) (c .before .before .next .given .1))), behind-later _ _ _ _ (behind-ahead _ _ (after-byte .byte .ensures .1) (c .before .before .next .given .1) .0) (c .byte2 .ensures .1))
+    let after-byte = c .before .before .before .before in (
+      c .byte2 .ensures .0 ∙ sym (after-then 32 (40 ∷ []) _ ∙ bind-go _ (behind-at _ (after-byte .byte .ensures .0) (c .before .before .next .given .1))),
+      behind-later _ _ _ _ (behind-ahead _ _ (after-byte .byte .ensures .1) (c .before .before .next .given .1) .0) (c .byte2 .ensures .1),
+    )
 
 pub opening-spec : {M : Type 1} → statement M
 opening-spec =

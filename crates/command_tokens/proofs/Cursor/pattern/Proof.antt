@@ -1,6 +1,6 @@
 -- `Cursor::pattern`: `string_or` with the bytes of a pattern is the definition.
 use Rattle.listing_rules.specs.Tokens.{pattern}
-use borrow.Author.Needs.{needs}
+use Rattle.listing_rules.proofs.Prelude.{needs}
 use Rattle.command_tokens.proofs.Cursor.pattern.Statement.{statement}
 use Rattle.command_tokens.proofs.Cursor.pattern.Tie as tie
 

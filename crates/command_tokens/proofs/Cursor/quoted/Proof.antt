@@ -1,13 +1,7 @@
 -- `Cursor::quoted`: what is left of a quoted string is read byte by byte, up to the quote that closes it. Rests on Quoting.
-use Rattle.command_tokens.specs.Tokens.{TokenIn}
-use mathlib.Core.Path.{_≡_, refl, sym, ap, _∙_}
-use mathlib.Core.Bool.{false}
-use Prim.Native.Nat.{_≤_, _-_}
-use lib.ListN.{length, drop}
-use Rattle.command_tokens.specs.Tokens.{tokenIs, closing, closedAt}
+use Rattle.command_tokens.specs.Tokens.{TokenIn, tokenIs, closing, closedAt}
+use Rattle.listing_rules.proofs.Prelude.{_∙_, _≡_, ap, refl, sym, false, _-_, _≤_, arith, drop, length, needs}
 use Rattle.command_tokens.proofs.Quoting.{quoted-out, quoted-more, quoted-end, quoted-bad, closed-is}
-use borrow.Author.Needs.{needs}
-use native.Mathlib.Omega.{arith}
 use Rattle.command_tokens.proofs.Cursor.quoted.Statement.{statement}
 use Rattle.command_tokens.proofs.Cursor.quoted.Tie as tie
 
@@ -23,16 +17,16 @@ loop-holds c = (omega arith, refl)
 returns : tie.Need-returns Inv-loop μ-loop
 unfolding TokenIn
 returns c =
-    let turn = c .before .before .before .before .before in
-    let start = turn .before .before in
-    (ap (tokenIs (start .args .text .now)) (sym (quoted-end _ _ _ _ (omega arith) (sym (c .before .before .quoted-step .ensures) ∙ c .enum-told .given .1)) ∙ turn .loop .inv .1) ∙ closed-is _ _, record { order = omega arith; within = omega arith; past = omega arith; inside = omega arith })
+    let turn = c .before .before .before .before .before in (
+      ap (tokenIs _) (sym (quoted-end _ _ _ _ (omega arith) (sym (c .before .before .quoted-step .ensures) ∙ c .enum-told .given .1)) ∙ turn .loop .inv .1) ∙ closed-is _ _,
+      record { order = omega arith; within = omega arith; past = omega arith; inside = omega arith },
+    )
 
 returns-2 : tie.Need-returns-2 Inv-loop μ-loop
 unfolding TokenIn
 returns-2 c =
     let turn = c .before .before .before .before .before in
-    let start = turn .before .before in
-    (ap (tokenIs (start .args .text .now)) (sym (quoted-bad _ _ _ _ (omega arith) (sym (c .before .before .quoted-step .ensures) ∙ c .enum-told2 .given .1)) ∙ turn .loop .inv .1) ∙ closed-is _ _, tt)
+    (ap (tokenIs _) (sym (quoted-bad _ _ _ _ (omega arith) (sym (c .before .before .quoted-step .ensures) ∙ c .enum-told2 .given .1)) ∙ turn .loop .inv .1) ∙ closed-is _ _, tt)
 
 loop-again : tie.Need-loop-again Inv-loop μ-loop
 loop-again c =
@@ -41,7 +35,7 @@ loop-again c =
 
 returns-3 : tie.Need-returns-3 Inv-loop μ-loop
 unfolding TokenIn
-returns-3 c = (ap (tokenIs (c .before .before .before .args .text .now)) (sym (quoted-out _ _ _ _ (c .loop-test .left)) ∙ c .before .loop .inv .1) ∙ closed-is _ _, tt)
+returns-3 c = (ap (tokenIs _) (sym (quoted-out _ _ _ _ (c .loop-test .left)) ∙ c .before .loop .inv .1) ∙ closed-is _ _, tt)
 
 pub quoted-spec : {M : Type 1} → statement M
 quoted-spec =

@@ -1,15 +1,8 @@
 -- `Cursor::run`: the loop stops at the end of the longest run of bytes of the class. Rests on Runs.
-use Rattle.command_tokens.specs.Tokens.{BareIn}
-use mathlib.Core.Path.{_≡_, refl, sym, _∙_}
-use mathlib.Core.Logic.{⊎-elim}
-use Prim.Native.Nat.{_+_, _≤_, _-_}
-use lib.ListN.{length}
-use borrow.Author.Tests.{not-true, not-false}
+use Rattle.command_tokens.specs.Tokens.{BareIn, classByte, tokenIs, runEnd}
+use Rattle.listing_rules.proofs.Prelude.{_∙_, _≡_, refl, sym, ⊎-elim, _+_, _-_, _≤_, arith, length, not-false, not-true, needs}
 use Rattle.command_tokens.specs.Spans.{spanBytes}
-use Rattle.command_tokens.specs.Tokens.{classByte, tokenIs, runEnd}
 use Rattle.command_tokens.proofs.Runs.{run-step, run-stop, run-out, run-missing, run-found}
-use borrow.Author.Needs.{needs}
-use native.Mathlib.Omega.{arith}
 use Rattle.command_tokens.proofs.Cursor.run.Statement.{statement}
 use Rattle.command_tokens.proofs.Cursor.run.Tie as tie
 
@@ -29,8 +22,8 @@ loop-again c =
 
 -- the two ways out of the loop: the run ends there
 ended : (c : tie.Left-loop Inv-loop μ-loop) →
-    runEnd (classByte (c .before .before .before .args .class)) (c .before .before .before .args .text .now)
-    (c .before .before .before .args .self .at) ≡ c .before .loop .i
+    let start = c .before .before .before in
+    runEnd (classByte (start .args .class)) (start .args .text .now) (start .args .self .at) ≡ c .before .loop .i
 ended c =
     sym (c .before .loop .inv .2)
     ∙ ⊎-elim (λ w. run-out _ _ _ (w .left)) (λ w. run-stop _ _ _ (w .0 .taken) (sym (w .2 .ensures) ∙ not-true _ (w .3 .taken))) (c .loop-test .came)
@@ -41,7 +34,10 @@ returns c = (sym (run-missing _ _ _ (ended (c .before) ∙ c .if2 .taken)), tt)
 
 returns-2 : tie.Need-returns-2 Inv-loop μ-loop
 unfolding tokenIs spanBytes BareIn
-returns-2 c = (sym (run-found _ _ _ _ (ended (c .before)) (omega arith)), record { bare = refl; front = refl; ahead = record { order = omega arith; within = omega arith; past = omega arith; inside = omega arith } })
+returns-2 c = (
+  sym (run-found _ _ _ _ (ended (c .before)) (omega arith)),
+  record { bare = refl; front = refl; ahead = record { order = omega arith; within = omega arith; past = omega arith; inside = omega arith } },
+)
 
 pub run-spec : {M : Type 1} → statement M
 run-spec =

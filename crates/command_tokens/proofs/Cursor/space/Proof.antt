@@ -1,6 +1,6 @@
 -- `Cursor::space`: `byte` with a space is the definition.
 use Rattle.listing_rules.specs.Bytes.{text}
-use borrow.Author.Needs.{needs}
+use Rattle.listing_rules.proofs.Prelude.{needs}
 use Rattle.command_tokens.proofs.Cursor.space.Statement.{statement}
 use Rattle.command_tokens.proofs.Cursor.space.Tie as tie
 

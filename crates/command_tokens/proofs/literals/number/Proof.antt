@@ -1,11 +1,7 @@
 -- `number`: the digits so far and those that are left come to the whole number, cut at 1,025. Rests on Numbers.
-use mathlib.Core.Path.{_≡_, refl, sym, _∙_}
-use Prim.Native.Nat.{_-_, _≤_, min}
-use lib.ListN.{length, drop}
+use Rattle.listing_rules.proofs.Prelude.{_∙_, _≡_, refl, sym, _-_, _≤_, min, arith, drop, length, needs}
 use Rattle.listing_rules.specs.Tokens.{decimal}
 use Rattle.command_tokens.proofs.Numbers.{number-step, number-out}
-use borrow.Author.Needs.{needs}
-use native.Mathlib.Omega.{arith}
 use Rattle.command_tokens.proofs.literals.number.Statement.{statement}
 use Rattle.command_tokens.proofs.literals.number.Tie as tie
 
@@ -21,11 +17,10 @@ loop-holds c = (omega arith, refl)
 loop-again : tie.Need-loop-again Inv-loop μ-loop
 loop-again c =
     let turn = c .before .before .before in
-    let start = turn .before .before in
-    (omega (arith, c .with-digit .ensures), rw (c .with-digit .ensures) (sym (number-step (start .args .digits .now) (turn .loop .i) (turn .loop .n) (c .before .before .loop-test .taken)) ∙ turn .loop .inv .1))
+    (omega (arith, c .with-digit .ensures), rw (c .with-digit .ensures) (sym (number-step _ _ _ (c .before .before .loop-test .taken)) ∙ turn .loop .inv .1))
 
 returns : tie.Need-returns Inv-loop μ-loop
-returns c = omega (arith, c .before .loop .inv .0, c .before .loop .inv .1, number-out (c .before .before .before .args .digits .now) (c .before .loop .i) (c .before .loop .n) (c .loop-test .left))
+returns c = omega (arith, c .before .loop .inv .0, c .before .loop .inv .1, number-out (c .before .before .before .args .digits .now) _ (c .before .loop .n) (c .loop-test .left))
 
 pub number-spec : {M : Type 1} → statement M
 number-spec =

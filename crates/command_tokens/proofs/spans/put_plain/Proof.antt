@@ -1,15 +1,9 @@
 -- `put_plain`: what is written so far and what is left to write come to the bytes without escapes. Rests on Plain, and on Puts of octets.
-use mathlib.Core.Path.{_≡_, refl, sym, ap, _∙_}
-use mathlib.Core.Bool.{false}
-use mathlib.Core.List.{List, [], _++_, append-assoc, append-nil}
-use Prim.Native.Nat.{ℕ, _-_}
-use lib.ListN.{length, drop}
+use Rattle.listing_rules.proofs.Prelude.{_∙_, _≡_, ap, refl, sym, false, List, [], _++_, append-assoc, append-nil, _-_, ℕ, arith, drop, length, needs}
 use Rattle.octets.specs.Put.{Put}
 use Rattle.octets.proofs.Puts.{put-then, put-length, put-none}
 use Rattle.command_tokens.specs.Spans.{plain}
 use Rattle.command_tokens.proofs.Plain.{plain-skip, plain-keep, plain-out}
-use borrow.Author.Needs.{needs}
-use native.Mathlib.Omega.{arith}
 use Rattle.command_tokens.proofs.spans.put_plain.Statement.{statement}
 use Rattle.command_tokens.proofs.spans.put_plain.Tie as tie
 
@@ -31,8 +25,11 @@ loop-again-2 : tie.Need-loop-again-2 Inv-loop μ-loop
 loop-again-2 c =
     let at-if1 = c .before .before .before .before .before in
     let at-loop-test = at-if1 .before .before in
-    let turn = at-loop-test .before in
-    (_, put-then (turn .loop .inv .1) (c .before .before .put .ensures), append-assoc (turn .loop .inv .0) _ _ ∙ ap (_++_ (turn .loop .inv .0)) (sym (plain-keep _ _ _ (at-loop-test .loop-test .taken) (at-if1 .if1 .left))) ∙ turn .loop .inv .2)
+    let turn = at-loop-test .before in (
+      _,
+      put-then (turn .loop .inv .1) (c .before .before .put .ensures),
+      append-assoc (turn .loop .inv .0) _ _ ∙ ap (_++_ (turn .loop .inv .0)) (sym (plain-keep _ _ _ (at-loop-test .loop-test .taken) (at-if1 .if1 .left))) ∙ turn .loop .inv .2,
+    )
 
 same-length : tie.Need-same-length Inv-loop μ-loop
 same-length c = put-length (c .before .loop .inv .1)

@@ -1,12 +1,8 @@
 -- `put_span`: a quoted span is written without its escapes, a bare one as it stands. Rests on Binds.
 use Rattle.command_tokens.proofs.Binds.{bare-bytes, quoted-bytes}
-use mathlib.Core.Path.{sym, ap, subst, _∙_}
-use mathlib.Core.Bool.{false}
-use mathlib.Core.List.{List}
-use Prim.Native.Nat.{ℕ}
+use Rattle.listing_rules.proofs.Prelude.{_∙_, ap, subst, sym, false, List, ℕ, needs}
 use Rattle.octets.specs.Put.{Put}
 use Rattle.command_tokens.specs.Spans.{plain}
-use borrow.Author.Needs.{needs}
 use Rattle.command_tokens.proofs.spans.put_span.Statement.{statement}
 use Rattle.command_tokens.proofs.spans.put_span.Tie as tie
 

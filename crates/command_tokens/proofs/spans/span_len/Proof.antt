@@ -1,12 +1,7 @@
 -- `span_len`: the length of a quoted span without its escapes, of a bare one as it stands. Rests on Binds.
 use Rattle.command_tokens.proofs.Binds.{bare-bytes, quoted-bytes}
-use mathlib.Core.Path.{sym, ap, _∙_}
-use mathlib.Core.Bool.{false}
-use mathlib.Core.List.{List}
-use Prim.Native.Nat.{ℕ}
-use lib.ListN.{length}
+use Rattle.listing_rules.proofs.Prelude.{_∙_, ap, sym, false, List, ℕ, length, needs}
 use Rattle.command_tokens.specs.Spans.{plain}
-use borrow.Author.Needs.{needs}
 use Rattle.command_tokens.proofs.spans.span_len.Statement.{statement}
 use Rattle.command_tokens.proofs.spans.span_len.Tie as tie
 

@@ -1,7 +1,5 @@
 -- `is_atom`: printable, and none of the special bytes. Rests on Bytes.
-use mathlib.Core.Bool.{Bool, _&&_, not}
-use lib.Dec.{leb}
-use mathlib.Core.Path.{ap}
+use Rattle.listing_rules.proofs.Prelude.{ap, Bool, _&&_, not, leb}
 use Rattle.listing_rules.specs.Tokens.{atomByte}
 use Rattle.listing_rules.specs.Bytes.{within}
 use Rattle.command_tokens.proofs.Bytes.{special-is}
@@ -10,7 +8,7 @@ use Rattle.command_tokens.proofs.tokens.is_atom.Tie as tie
 
 returns : tie.Need-returns
 unfolding atomByte within
-returns c = ap (λ (o : Bool). (leb 0x21 (c .args .b) && leb (c .args .b) 0x7E) && not o) (special-is (c .args .b))
+returns c = ap (λ (o : Bool). (leb 0x21 (c .args .b) && leb (c .args .b) 0x7E) && not o) (special-is _)
 
 pub is-atom-spec : {M : Type 1} → statement M
 is-atom-spec = tie.close (tie.spec returns)

@@ -1,8 +1,6 @@
 -- `quoted_step`: each way through the tests gives the step of the definition.
-use mathlib.Core.Path.{sym, _∙_}
-use borrow.Author.Tests.{eq-eqb, ne-eqb}
+use Rattle.listing_rules.proofs.Prelude.{_∙_, sym, eq-eqb, ne-eqb, needs}
 use Rattle.command_tokens.specs.Tokens.{quotedStep}
-use borrow.Author.Needs.{needs}
 use Rattle.command_tokens.proofs.tokens.quoted_step.Statement.{statement}
 use Rattle.command_tokens.proofs.tokens.quoted_step.Tie as tie
 

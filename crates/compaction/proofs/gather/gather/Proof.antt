@@ -1,12 +1,6 @@
 -- `compaction::gather::gather` meets its contract: the bytes before i are gathered. By GatherLaws.
-use mathlib.Core.Path.{_≡_}
-use mathlib.Core.Logic.{⊎-elim}
-use Prim.Native.Nat.{_-_, _<_}
-use borrow.Author.Tests.{not-true, not-false}
-use lib.ListN.{length}
+use Rattle.listing_rules.proofs.Prelude.{_≡_, ⊎-elim, _-_, _<_, arith, length, not-false, not-true, needs}
 use Rattle.compaction.proofs.GatherLaws.{Gathering, gathering-none, gathering-free, gathering-used, gathering-all, end-most}
-use borrow.Author.Needs.{needs}
-use native.Mathlib.Omega.{arith}
 use Rattle.compaction.proofs.gather.gather.Statement.{statement}
 use Rattle.compaction.proofs.gather.gather.Tie as tie
 
@@ -17,7 +11,7 @@ abbrev μ-loop : tie.MeasureT-loop
 μ-loop area₀ marks places₀ end₀ i₀ area places end i = length marks - i
 
 loop-holds : tie.Need-loop-holds Inv-loop μ-loop
-loop-holds c = let a = c .args in gathering-none (a .marks .now) (a .area .now) (a .places .now)
+loop-holds c = let a = c .args in gathering-none _ _ _
 
 -- the place fits
 end-fits : (c : tie.In-loop Inv-loop μ-loop) → c .before .loop .end < 32768
@@ -28,9 +22,8 @@ end-fits c =
 slice-write-area : tie.Need-slice-write-area Inv-loop μ-loop
 slice-write-area c =
     let turn-2 = c .before .before .before .before in
-    let start = turn-2 .before in
     let turn = turn-2 .loop in
-    omega (arith, end-most (turn .inv), turn .inv .size, c .before .before .before .loop-test .taken, start .pre .1)
+    omega (arith, end-most (turn .inv), turn .inv .size, c .before .before .before .loop-test .taken, turn-2 .before .pre .1)
 
 loop-again : tie.Need-loop-again Inv-loop μ-loop
 loop-again c =

@@ -1,10 +1,5 @@
 -- `compaction::gather::move_bytes` meets its contract: the map tells the bytes that rows use, and they are gathered. By MoveLaws; the map by MapLaws.
-use mathlib.Core.Path.{_≡_, sym, ap, _∙_}
-use mathlib.Core.List.{map}
-use Prim.Native.Nat.{_≤_}
-use lib.ListN.{length, take}
-use native.Mathlib.Omega.{arith}
-use borrow.Author.Needs.{needs}
+use Rattle.listing_rules.proofs.Prelude.{_∙_, _≡_, ap, sym, map, _≤_, arith, length, take, needs}
 use Rattle.listing_rules.specs.Subscriptions.{freeFrom}
 use Rattle.records.specs.Words.{recordOf}
 use Rattle.subscriptions.proofs.MapLaws.{map-free, free-length}
@@ -13,19 +8,21 @@ use Rattle.compaction.proofs.gather.move_bytes.Statement.{statement}
 use Rattle.compaction.proofs.gather.move_bytes.Tie as tie
 
 -- the map says of each byte of the area whether it is free
-map-is : (c : tie.After-marks3) → let a = c .before .before .before .before .before .before .before .before .before .args in
+map-is : (c : tie.After-marks3) →
+    let start = c .before .before .before .before .before .before .before .before .before in
+    let a = start .args in
     take (length (a .area .now)) (c .before .before .before .unmark-names .last .0) ≡ freeFrom (map recordOf (a .words .now)) 0 (a .area .now)
 map-is c =
     let marked = c .before .before .before in
     let start = marked .before .before .before .before .before .before in
-    map-free 32768 (start .args .words .now) (start .args .area .now) (marked .unmark-names .last .0) (start .pre .0)
+    map-free 32768 _ _ _ (start .pre .0)
     (rw (marked .before .before .all-free .ensures) at (marked .unmark-names .ensures))
 
-map-size : (c : tie.After-marks3) → let a = c .before .before .before .before .before .before .before .before .before .args in
+map-size : (c : tie.After-marks3) →
+    let start = c .before .before .before .before .before .before .before .before .before in
+    let a = start .args in
     length (take (length (a .area .now)) (c .before .before .before .unmark-names .last .0)) ≡ length (a .area .now)
-map-size c =
-    let a = c .before .before .before .before .before .before .before .before .before .args in
-    ap length (map-is c) ∙ free-length (map recordOf (a .words .now)) 0 (a .area .now)
+map-size c = ap length (map-is c) ∙ free-length _ 0 _
 
 gather-requires : tie.Need-gather-requires
 gather-requires c κs =
@@ -39,9 +36,7 @@ end-inside c = omega (arith, c .gather .ensures .end-most, c .gather .ensures .s
 returns : tie.Need-returns
 returns c =
     let gathered = c .before .before .before .before .before .before .before .before in
-    let marked = gathered .before .before in
-    let start = marked .before .before .before .before .before .before .before .before .before in
-    moves-bytes (map recordOf (start .args .words .now)) (map-is marked) (gathered .gather .ensures) _ (c .before .before .clear .ensures)
+    moves-bytes _ (map-is (gathered .before .before)) (gathered .gather .ensures) _ (c .before .before .clear .ensures)
 
 pub move-bytes-spec : {M : Type 1} → statement M
 move-bytes-spec =

@@ -1,5 +1,5 @@
 -- `event_numbers` is the table of the same name, row by row.
-use borrow.Author.Needs.{needs}
+use Rattle.listing_rules.proofs.Prelude.{needs}
 use Rattle.exports.proofs.feeding.event_numbers.Statement.{statement}
 use Rattle.exports.proofs.feeding.event_numbers.Tie as tie
 

@@ -1,5 +1,5 @@
 -- `fed_chunk` is the definition, field by field.
-use borrow.Author.Needs.{needs}
+use Rattle.listing_rules.proofs.Prelude.{needs}
 use Rattle.exports.proofs.feeding.fed_chunk.Statement.{statement}
 use Rattle.exports.proofs.feeding.fed_chunk.Tie as tie
 

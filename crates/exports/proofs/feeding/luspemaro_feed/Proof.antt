@@ -1,5 +1,5 @@
 -- `luspemaro_feed`: `feeder::feed`'s promise, in C's form. Rests on FeedingLaws.
-use borrow.Author.Needs.{needs}
+use Rattle.listing_rules.proofs.Prelude.{needs}
 use Rattle.exports.proofs.FeedingLaws.{feeds-chunk}
 use Rattle.exports.proofs.feeding.luspemaro_feed.Statement.{statement}
 use Rattle.exports.proofs.feeding.luspemaro_feed.Tie as tie
@@ -7,8 +7,7 @@ use Rattle.exports.proofs.feeding.luspemaro_feed.Tie as tie
 returns : tie.Need-returns
 returns c =
     let after-machine-of = c .before .before .before .before .before in
-    let start = after-machine-of .before .before .before in
-    feeds-chunk (start .args .state) _ _ _ _ (after-machine-of .machine-of .ensures) (c .before .before .before .feed .ensures) (c .fed-chunk .ensures)
+    feeds-chunk _ _ _ _ _ (after-machine-of .machine-of .ensures) (c .before .before .before .feed .ensures) (c .fed-chunk .ensures)
 
 pub luspemaro-feed-spec : {M : Type 1} → statement M
 luspemaro-feed-spec =

@@ -1,5 +1,5 @@
 -- `machine_of` is the definition, field by field.
-use borrow.Author.Needs.{needs}
+use Rattle.listing_rules.proofs.Prelude.{needs}
 use Rattle.exports.specs.Feeding.{machineOf, crOf}
 use Rattle.exports.proofs.feeding.machine_of.Statement.{statement}
 use Rattle.exports.proofs.feeding.machine_of.Tie as tie

@@ -1,13 +1,12 @@
 -- `state_of` is the definition, field by field.
-use borrow.Author.Needs.{needs}
+use Rattle.listing_rules.proofs.Prelude.{needs}
 use Rattle.exports.proofs.feeding.state_of.Statement.{statement}
 use Rattle.exports.proofs.feeding.state_of.Tie as tie
 
 returns : tie.Need-returns
 returns c =
-    let m = c .before .before .args .machine in
     let numbers = c .before .place-numbers .ensures in
-    λ i. record { place = numbers i .place; cr = c .cr-number .ensures i; value = numbers i .value; size = m .size }
+    λ i. record { place = numbers i .place; cr = c .cr-number .ensures i; value = numbers i .value; size = c .before .before .args .machine .size }
 
 pub state-of-spec : {M : Type 1} → statement M
 state-of-spec =

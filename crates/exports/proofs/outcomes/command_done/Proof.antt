@@ -1,5 +1,5 @@
 -- `command_done` meets its contract: the outcome of what was written, and the words as they are told.
-use borrow.Author.Needs.{needs}
+use Rattle.listing_rules.proofs.Prelude.{needs}
 use Rattle.exports.specs.Outcomes.{doneCase}
 use Rattle.exports.proofs.outcomes.command_done.Statement.{statement}
 use Rattle.exports.proofs.outcomes.command_done.Tie as tie

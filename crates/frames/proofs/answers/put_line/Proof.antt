@@ -1,7 +1,7 @@
 -- `frames::answers::put_line` meets its contract: writes, one after the other. Rests on octets' Puts.
 use Rattle.listing_rules.specs.Frames.{hex, answerLine}
 use Rattle.octets.proofs.Puts.{put-then}
-use borrow.Author.Needs.{needs}
+use Rattle.listing_rules.proofs.Prelude.{needs}
 use Rattle.frames.proofs.answers.put_line.Statement.{statement}
 use Rattle.frames.proofs.answers.put_line.Tie as tie
 
@@ -10,9 +10,7 @@ unfolding hex answerLine
 returns c =
     let after-put-hex = c .before .before .before .before .before .before in
     let after-put-pair = after-put-hex .before .before .before .before in
-    let first = after-put-pair .put-pair in
-    let digits = after-put-hex .put-hex in
-    put-then (put-then (first .ensures) (digits .ensures)) (c .before .before .put .ensures)
+    put-then (put-then (after-put-pair .put-pair .ensures) (after-put-hex .put-hex .ensures)) (c .before .before .put .ensures)
 
 pub put-line-spec : {M : Type 1} → statement M
 put-line-spec =

@@ -1,7 +1,7 @@
 -- `frames::answers::put_refusal` meets its contract: writes, one after the other. Rests on octets' Puts.
 use Rattle.listing_rules.specs.Frames.{hex, answerLine, refusalLine}
 use Rattle.octets.proofs.Puts.{put-then}
-use borrow.Author.Needs.{needs}
+use Rattle.listing_rules.proofs.Prelude.{needs}
 use Rattle.frames.proofs.answers.put_refusal.Statement.{statement}
 use Rattle.frames.proofs.answers.put_refusal.Tie as tie
 
@@ -10,9 +10,7 @@ unfolding hex answerLine refusalLine
 returns c =
     let after-put-pair2 = c .before .before .before .before .before .before in
     let after-put-pair = after-put-pair2 .before .before .before .before in
-    let first = after-put-pair .put-pair in
-    let second = after-put-pair2 .put-pair2 in
-    put-then (put-then (first .ensures) (second .ensures)) (c .before .before .put .ensures)
+    put-then (put-then (after-put-pair .put-pair .ensures) (after-put-pair2 .put-pair2 .ensures)) (c .before .before .put .ensures)
 
 pub put-refusal-spec : {M : Type 1} → statement M
 put-refusal-spec =

@@ -1,7 +1,7 @@
 -- `frames::answers::put_walk` meets its contract: writes, one after the other. Rests on octets' Puts.
 use Rattle.listing_rules.specs.Frames.{hex, answerLine}
 use Rattle.octets.proofs.Puts.{put-then}
-use borrow.Author.Needs.{needs}
+use Rattle.listing_rules.proofs.Prelude.{needs}
 use Rattle.frames.proofs.answers.put_walk.Statement.{statement}
 use Rattle.frames.proofs.answers.put_walk.Tie as tie
 

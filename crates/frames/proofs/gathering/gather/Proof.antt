@@ -1,9 +1,7 @@
 -- `frames::gathering::gather` meets its contract: there is room exactly if no test refused it. Rests on GatherLaws.
-use lib.ListN.{length}
-use borrow.Author.Tests.{lt-ltb, le-ltb}
+use Rattle.listing_rules.proofs.Prelude.{length, le-ltb, lt-ltb, needs}
 use Rattle.frames.specs.Gathering.{hasRoom, gatheredIs, gatheredLine}
 use Rattle.frames.proofs.GatherLaws.{gathers}
-use borrow.Author.Needs.{needs}
 use Rattle.frames.proofs.gathering.gather.Statement.{statement}
 use Rattle.frames.proofs.gathering.gather.Tie as tie
 
@@ -36,9 +34,8 @@ returns-3 c =
 returns-4 : tie.Need-returns-4
 unfolding gatheredIs gatheredLine hasRoom
 returns-4 c =
-    let start = c .before .before in
     let if1 = c .before .if1 in
-    let n = start .args .g .len in
+    let n = c .before .before .args .g .len in
     gathers _ _ _ _ _ (rw (if1 .left, le-ltb n 4102 (c .if2 .left))) (rw (if1 .left, le-ltb n 4102 (c .if2 .left)))
 
 pub gather-spec : {M : Type 1} → statement M

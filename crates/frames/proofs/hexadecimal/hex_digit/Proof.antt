@@ -1,7 +1,6 @@
 -- `frames::hexadecimal::hex_digit` meets its contract: its test is that of `hexDigit`.
-use borrow.Author.Tests.{le-leb, lt-leb}
+use Rattle.listing_rules.proofs.Prelude.{le-leb, lt-leb, needs}
 use Rattle.listing_rules.specs.Frames.{hexDigit}
-use borrow.Author.Needs.{needs}
 use Rattle.frames.proofs.hexadecimal.hex_digit.Statement.{statement}
 use Rattle.frames.proofs.hexadecimal.hex_digit.Tie as tie
 

@@ -1,13 +1,10 @@
 -- `frames::hexadecimal::is_hex` meets its contract. The loop's invariant: the characters from i on are digits exactly if the
 -- characters have bytes. Rests on DigitLaws.
-use mathlib.Core.Path.{_≡_, sym, _∙_}
-use Prim.Native.Nat.{_-_}
-use lib.ListN.{length, drop}
+use Rattle.listing_rules.proofs.Prelude.{_∙_, _≡_, sym, _-_, drop, length, needs}
 use Rattle.listing_rules.specs.Bytes.{all}
 use Rattle.listing_rules.specs.Frames.{bytesOf}
 use Rattle.frames.specs.Hexadecimal.{isSome}
 use Rattle.frames.proofs.DigitLaws.{isDigit, hex-odd, hex-even, digits-more, digits-stop, digits-end}
-use borrow.Author.Needs.{needs}
 use Rattle.frames.proofs.hexadecimal.is_hex.Statement.{statement}
 use Rattle.frames.proofs.hexadecimal.is_hex.Tie as tie
 
@@ -26,15 +23,13 @@ loop-holds c = hex-even _ (c .if1 .left)
 returns-2 : tie.Need-returns-2 Inv-loop μ-loop
 returns-2 c =
     let at-loop-test = c .before .before .before .before in
-    let turn-2 = at-loop-test .before in
-    let turn = turn-2 .loop in
+    let turn = at-loop-test .before .loop in
     sym (digits-stop _ _ (at-loop-test .loop-test .taken) (sym (c .before .before .read-digit .ensures) ∙ c .enum-told2 .given .1)) ∙ turn .inv
 
 loop-again : tie.Need-loop-again Inv-loop μ-loop
 loop-again c =
     let at-loop-test = c .before .before .before .before in
-    let turn-2 = at-loop-test .before in
-    let turn = turn-2 .loop in
+    let turn = at-loop-test .before .loop in
     sym (digits-more _ _ _ (at-loop-test .loop-test .taken) (sym (c .before .before .read-digit .ensures) ∙ c .enum-told .given .1)) ∙ turn .inv
 
 returns-3 : tie.Need-returns-3 Inv-loop μ-loop

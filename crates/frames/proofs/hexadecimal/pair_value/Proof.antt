@@ -1,7 +1,6 @@
 -- `frames::hexadecimal::pair_value` meets its contract, by arithmetic: two values below 16 make a byte.
 use Rattle.frames.specs.Hexadecimal.{pairOf}
-use native.Mathlib.Omega.{arith}
-use borrow.Author.Needs.{needs}
+use Rattle.listing_rules.proofs.Prelude.{arith, needs}
 use Rattle.frames.proofs.hexadecimal.pair_value.Statement.{statement}
 use Rattle.frames.proofs.hexadecimal.pair_value.Tie as tie
 

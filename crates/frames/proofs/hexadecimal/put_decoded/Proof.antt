@@ -1,15 +1,10 @@
 -- `frames::hexadecimal::put_decoded` meets its contract. The loop's invariant: all but the pairs from i on is written. Rests on
 -- DigitLaws and Pieces.
-use mathlib.Core.Path.{sym}
-use Prim.Native.Nat.{_≤_, _+_, _-_}
-use mathlib.Core.List.{[], _∷_}
-use lib.ListN.{length, drop, getD}
+use Rattle.listing_rules.proofs.Prelude.{sym, [], _∷_, _+_, _-_, _≤_, arith, drop, getD, length, needs}
 use Rattle.octets.proofs.Puts.{put-length}
 use Rattle.frames.specs.Hexadecimal.{pairOf, decoded}
 use Rattle.frames.proofs.DigitLaws.{decoded-at, decoded-end}
 use Rattle.frames.proofs.Pieces.{Pieces, pieces-none, pieces-more, pieces-all}
-use borrow.Author.Needs.{needs}
-use native.Mathlib.Omega.{arith}
 use Rattle.frames.proofs.hexadecimal.put_decoded.Statement.{statement}
 use Rattle.frames.proofs.hexadecimal.put_decoded.Tie as tie
 
@@ -26,21 +21,20 @@ loop-again : tie.Need-loop-again Inv-loop μ-loop
 loop-again c =
     let at-loop-test = c .before .before .before .before .before .before .before in
     let turn-2 = at-loop-test .before in
-    let start = turn-2 .before .before .before in
     let turn = turn-2 .loop in
     let test = at-loop-test .loop-test in
-    let s = start .args .line .now in
-    let i = turn .i in
-    (omega arith, pieces-more (pairOf (getD s i 0) (getD s (i + 1) 0) ∷ []) (decoded (drop (i + 2) s)) (turn .inv .1) (decoded-at s i (test .taken)) (rw (sym (c .before .before .before .pair-value .ensures)) (c .before .before .put .ensures)))
+    let s = turn-2 .before .before .before .args .line .now in
+    let i = turn .i in (
+      omega arith,
+      pieces-more (pairOf (getD s i 0) (getD s (i + 1) 0) ∷ []) (decoded (drop (i + 2) s)) (turn .inv .1) (decoded-at s i (test .taken))
+          (rw (sym (c .before .before .before .pair-value .ensures)) (c .before .before .put .ensures)),
+    )
 
 same-length : tie.Need-same-length Inv-loop μ-loop
 same-length c = put-length (c .before .loop .inv .1 .put)
 
 returns : tie.Need-returns Inv-loop μ-loop
-returns c =
-    let start = c .before .before .before .before in
-    let turn = c .before .loop in
-    pieces-all (turn .inv .1) (decoded-end (start .args .line .now) (turn .i) (c .loop-test .left))
+returns c = pieces-all (c .before .loop .inv .1) (decoded-end _ _ (c .loop-test .left))
 
 pub put-decoded-spec : {M : Type 1} → statement M
 put-decoded-spec =

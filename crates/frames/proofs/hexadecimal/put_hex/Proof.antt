@@ -1,14 +1,10 @@
 -- `frames::hexadecimal::put_hex` meets its contract. The loop's invariant: all but the digits of the bytes from i on is written.
 -- Rests on DigitLaws and Pieces.
-use Prim.Native.Nat.{_≤_, _+_, _-_}
-use mathlib.Core.List.{[], _∷_}
-use lib.ListN.{length, drop, getD}
+use Rattle.listing_rules.proofs.Prelude.{[], _∷_, _+_, _-_, _≤_, arith, drop, getD, length, needs}
 use Rattle.octets.proofs.Puts.{put-length}
 use Rattle.listing_rules.specs.Frames.{hex}
 use Rattle.frames.proofs.DigitLaws.{hex-at, hex-end}
 use Rattle.frames.proofs.Pieces.{Pieces, pieces-none, pieces-more, pieces-all}
-use borrow.Author.Needs.{needs}
-use native.Mathlib.Omega.{arith}
 use Rattle.frames.proofs.hexadecimal.put_hex.Statement.{statement}
 use Rattle.frames.proofs.hexadecimal.put_hex.Tie as tie
 
@@ -25,9 +21,8 @@ loop-again : tie.Need-loop-again Inv-loop μ-loop
 loop-again c =
     let at-loop-test = c .before .before .before .before .before in
     let turn-2 = at-loop-test .before in
-    let start = turn-2 .before .before .before in
     let turn = turn-2 .loop in
-    let s = start .args .bytes .now in
+    let s = turn-2 .before .before .before .args .bytes .now in
     let i = turn .i in
     (omega arith, pieces-more (hex (getD s i 0 ∷ [])) (hex (drop (i + 1) s)) (turn .inv .1) (hex-at s i (at-loop-test .loop-test .taken)) (c .before .before .put-pair .ensures))
 
@@ -35,10 +30,7 @@ same-length : tie.Need-same-length Inv-loop μ-loop
 same-length c = put-length (c .before .loop .inv .1 .put)
 
 returns : tie.Need-returns Inv-loop μ-loop
-returns c =
-    let start = c .before .before .before .before in
-    let turn = c .before .loop in
-    pieces-all (turn .inv .1) (hex-end (start .args .bytes .now) (turn .i) (c .loop-test .left))
+returns c = pieces-all (c .before .loop .inv .1) (hex-end _ _ (c .loop-test .left))
 
 pub put-hex-spec : {M : Type 1} → statement M
 put-hex-spec =

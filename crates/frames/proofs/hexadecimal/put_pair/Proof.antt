@@ -1,7 +1,7 @@
 -- `frames::hexadecimal::put_pair` meets its contract: two writes, one after the other. Rests on octets' Puts.
 use Rattle.listing_rules.specs.Frames.{hex}
 use Rattle.octets.proofs.Puts.{put-then}
-use borrow.Author.Needs.{needs}
+use Rattle.listing_rules.proofs.Prelude.{needs}
 use Rattle.frames.proofs.hexadecimal.put_pair.Statement.{statement}
 use Rattle.frames.proofs.hexadecimal.put_pair.Tie as tie
 
@@ -9,10 +9,8 @@ returns : tie.Need-returns
 unfolding hex
 returns c =
     let after-put = c .before .before .before .before .before .before .before in
-    let after-hex-digit = after-put .before in
-    let high = after-hex-digit .hex-digit in
-    let wrote = after-put .put in
-    rw (← high .ensures, ← c .before .before .before .hex-digit2 .ensures) (put-then (wrote .ensures) (c .before .before .put2 .ensures))
+    let high = after-put .before .hex-digit in
+    rw (← high .ensures, ← c .before .before .before .hex-digit2 .ensures) (put-then (after-put .put .ensures) (c .before .before .put2 .ensures))
 
 pub put-pair-spec : {M : Type 1} → statement M
 put-pair-spec =

@@ -1,11 +1,9 @@
 -- `frames::hexadecimal::read_digit` meets its contract: each of its three ranges is a test of `digit`.
-use lib.Dec.{leb}
-use borrow.Author.Tests.{leb-true}
+use Rattle.listing_rules.proofs.Prelude.{arith, leb, leb-true}
 use Rattle.listing_rules.specs.Bytes.{within}
 use Rattle.listing_rules.specs.Frames.{digit}
 use Rattle.listing_rules.proofs.Bools.{and-l}
 use Rattle.frames.specs.Hexadecimal.{digitIs}
-use native.Mathlib.Omega.{arith}
 use Rattle.frames.proofs.hexadecimal.read_digit.Statement.{statement}
 use Rattle.frames.proofs.hexadecimal.read_digit.Tie as tie
 
@@ -18,8 +16,7 @@ returns c = rw (c .if1 .taken)
 
 sub-t6 : tie.Need-sub-t6
 sub-t6 c =
-    let start = c .before .before in
-    let b = start .args .c in
+    let b = c .before .before .args .c in
     omega (arith, leb-true 65 b (and-l (leb 65 b) _ (c .if2 .taken)))
 
 returns-2 : tie.Need-returns-2
@@ -28,8 +25,7 @@ returns-2 c = rw (c .before .if1 .left, c .if2 .taken)
 
 sub-t7 : tie.Need-sub-t7
 sub-t7 c =
-    let start = c .before .before .before in
-    let b = start .args .c in
+    let b = c .before .before .before .args .c in
     omega (arith, leb-true 97 b (and-l (leb 97 b) _ (c .if3 .taken)))
 
 returns-3 : tie.Need-returns-3

@@ -1,6 +1,5 @@
 -- `frames::reading::kind_of` meets its contract: its arms are the tests of `kindIs`.
-use borrow.Author.Tests.{eq-eqb, ne-eqb}
-use borrow.Author.Needs.{needs}
+use Rattle.listing_rules.proofs.Prelude.{eq-eqb, ne-eqb, needs}
 use Rattle.frames.specs.Reading.{kindIs}
 use Rattle.frames.proofs.reading.kind_of.Statement.{statement}
 use Rattle.frames.proofs.reading.kind_of.Tie as tie

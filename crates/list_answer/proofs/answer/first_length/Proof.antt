@@ -1,6 +1,5 @@
 -- `list_answer::answer::first_length` meets its contract, way by way.
-use native.Mathlib.Omega.{arith}
-use borrow.Author.Needs.{needs}
+use Rattle.listing_rules.proofs.Prelude.{arith, needs}
 use Rattle.list_answer.proofs.answer.first_length.Statement.{statement}
 use Rattle.list_answer.proofs.answer.first_length.Tie as tie
 

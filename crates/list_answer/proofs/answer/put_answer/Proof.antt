@@ -1,11 +1,9 @@
 -- `list_answer::answer::put_answer` meets its contract: the text of the rows is that of the listed names (Listed), then the tagged line.
 use Rattle.octets.proofs.Puts.{put-then}
-use Rattle.command_line.specs.OptionSets.{optionsIs}
 use Rattle.mailbox_table.specs.Index.{rowsAt}
-use Rattle.pattern.specs.Packed.{unpacked}
 use Rattle.list_answer.specs.Shown.{answerFor}
 use Rattle.list_answer.proofs.Listed.{answer-text}
-use borrow.Author.Needs.{needs}
+use Rattle.listing_rules.proofs.Prelude.{needs}
 use Rattle.list_answer.proofs.answer.put_answer.Statement.{statement}
 use Rattle.list_answer.proofs.answer.put_answer.Tie as tie
 
@@ -14,10 +12,9 @@ unfolding answerFor
 returns c =
     let after-put-rows = c .before .before .before .before .before .before in
     let start = after-put-rows .before .before .before .before .before .before .before in
-    let a = start .args in
     let index = start .pre .index in
-    let table = rowsAt (a .area .now) (a .words .now) in
-    rw (← answer-text (a .question .word) table (optionsIs (a .question .options)) (unpacked (a .patterns .now)) (index .lawful) (index .indexed .ascend))
+    let table = rowsAt _ (start .args .words .now) in
+    rw (← answer-text _ table _ _ (index .lawful) (index .indexed .ascend))
     (put-then (after-put-rows .put-rows .ensures) (c .before .before .put-ok-line .ensures))
 
 pub put-answer-spec : {M : Type 1} → statement M

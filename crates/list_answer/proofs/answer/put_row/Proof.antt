@@ -1,9 +1,5 @@
 -- `list_answer::answer::put_row` meets its contract: the text of the beginnings up to `len` is put. By RowTexts and Putting.
-use mathlib.Core.Path.{_≡_, ap, _∙_}
-use mathlib.Core.Bool.{Bool, cond, _||_}
-use mathlib.Core.List.{List}
-use Prim.Native.Nat.{ℕ, _+_, _-_, _≤_, _<_}
-use lib.ListN.{length, take}
+use Rattle.listing_rules.proofs.Prelude.{_∙_, _≡_, ap, Bool, _||_, cond, List, _-_, _<_, _≤_, ℕ, arith, length, needs}
 use Rattle.octets.proofs.Puts.{put-length}
 use Rattle.command_line.specs.OptionSets.{optionsIs}
 use Rattle.mailbox_table.specs.declared.rows.Row.{Row as Place}
@@ -13,8 +9,6 @@ use Rattle.pattern.specs.Packed.{unpacked}
 use Rattle.list_answer.specs.Shown.{textOf}
 use Rattle.list_answer.proofs.RowTexts.{beyond, beyond-step, beyond-end, first-shown, first-range}
 use Rattle.list_answer.proofs.Putting.{Putting, putting-none, putting-more, putting-end}
-use native.Mathlib.Omega.{arith}
-use borrow.Author.Needs.{needs}
 use Rattle.list_answer.proofs.answer.put_row.Statement.{statement}
 use Rattle.list_answer.proofs.answer.put_row.Tie as tie
 
@@ -33,21 +27,21 @@ loop-holds c =
     let area = start .args .area .now in
     let words = start .args .words .now in
     let question = start .args .question in
-    let o = optionsIs (question .options) in
-    let ps = unpacked (start .args .patterns .now) in
+    let o = optionsIs _ in
+    let ps = unpacked _ in
     let i = start .args .i in
     let ready = start .pre .0 in
     let x = ready .index .indexed in
     let deep = c .before .before .is-recursive .result || question .levels in
     let asked = ap (λ (b : Bool). b || question .levels) (c .before .before .is-recursive .ensures) ∙ ap (λ (b : Bool). o .selRecursive || b) (ready .knows) in
     let place = c .before .before .before .of-word .ensures in
-    let first : c .first-length .result ≡ cond deep (nthRow words i .shared) (nthRow words i .len - 1) = c .first-length .ensures ∙ ap (λ (r : Place). cond deep (r .shared) (r .len - 1)) place in
+    let first : c .first-length .result ≡ cond deep _ _ = c .first-length .ensures ∙ ap (λ (r : Place). cond deep (r .shared) (r .len - 1)) place in
     let size = ap (λ (r : Place). r .len) place in
     let range = first-range area words x (question .word) o ps i (start .pre .1) deep in (
       size,
       omega (arith, first, range .0),
       omega (arith, first, range .1, size),
-      putting-none _ _ (search needs) (search needs) (ap (beyond (textOf area words (start .args .patterns .now) question) (nthName area words i)) first ∙ first-shown area words x (question .word) o ps i (start .pre .1) deep asked),
+      putting-none _ _ (search needs) (search needs) (ap (beyond _ (nthName area words i)) first ∙ first-shown area words x _ o ps i (start .pre .1) deep asked),
     )
 
 put-name-requires : tie.Need-put-name-requires Inv-loop μ-loop
@@ -64,13 +58,13 @@ loop-again c =
     let a = start .args in
     let turn = turn-2 .loop in
     let inv = turn .inv in
-    let text = textOf (a .area .now) (a .words .now) (a .patterns .now) (a .question) in
+    let text = textOf _ (a .words .now) _ (a .question) in
     let name = nthName (a .area .now) (a .words .now) (a .i) in
-    let inside : turn .len < length name = omega (arith, name-length (start .pre .0 .index .indexed) (a .i) (start .pre .1), inv .0, at-loop-test .loop-test .taken) in (
+    let inside : turn .len < length name = omega (arith, name-length (start .pre .0 .index .indexed) _ (start .pre .1), inv .0, at-loop-test .loop-test .taken) in (
       inv .0,
       omega (arith, inv .1),
       omega (arith, at-loop-test .loop-test .taken),
-      putting-more (inv .3) (text (take (turn .len + 1) name)) (beyond text name (turn .len + 1)) (beyond-step text name (turn .len) inside) (c .before .before .put-name .ensures),
+      putting-more (inv .3) _ _ (beyond-step text name _ inside) (c .before .before .put-name .ensures),
     )
 
 same-length : tie.Need-same-length Inv-loop μ-loop
@@ -81,9 +75,9 @@ returns c =
     let start = c .before .before .before .before .before .before .before .before .before .before .before in
     let a = start .args in
     let done = c .before .loop in
-    let text = textOf (a .area .now) (a .words .now) (a .patterns .now) (a .question) in
-    let name = nthName (a .area .now) (a .words .now) (a .i) in
-    putting-end (done .inv .3) (beyond-end text name (done .len) (omega (arith, name-length (start .pre .0 .index .indexed) (a .i) (start .pre .1), done .inv .0, c .loop-test .left)))
+    let text = textOf _ (a .words .now) _ (a .question) in
+    let name = nthName _ (a .words .now) _ in
+    putting-end (done .inv .3) (beyond-end text name _ (omega (arith, name-length (start .pre .0 .index .indexed) _ (start .pre .1), done .inv .0, c .loop-test .left)))
 
 pub put-row-spec : {M : Type 1} → statement M
 put-row-spec =

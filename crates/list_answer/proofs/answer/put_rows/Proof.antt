@@ -1,14 +1,10 @@
 -- `list_answer::answer::put_rows` meets its contract: the text of the rows before row i is put. By RowTexts and Putting.
-use mathlib.Core.Path.{refl}
-use Prim.Native.Nat.{_+_, _-_, _≤_}
-use lib.ListN.{length}
+use Rattle.listing_rules.proofs.Prelude.{refl, _-_, _≤_, arith, length, needs}
 use Rattle.octets.proofs.Puts.{put-length}
 use Rattle.list_answer.specs.Prefixes.{prefixes}
-use Rattle.list_answer.specs.Shown.{textOf, rowText, rowsText}
+use Rattle.list_answer.specs.Shown.{textOf, rowsText}
 use Rattle.list_answer.proofs.RowTexts.{textFrom, rows-step, rows-end}
 use Rattle.list_answer.proofs.Putting.{Putting, putting-none, putting-more, putting-end}
-use native.Mathlib.Omega.{arith}
-use borrow.Author.Needs.{needs}
 use Rattle.list_answer.proofs.answer.put_rows.Statement.{statement}
 use Rattle.list_answer.proofs.answer.put_rows.Tie as tie
 
@@ -30,12 +26,9 @@ loop-again c =
     let start = turn-2 .before .before .before .before .before in
     let area = start .args .area .now in
     let words = start .args .words .now in
-    let patterns = start .args .patterns .now in
-    let question = start .args .question in
-    let turn = turn-2 .loop in
-    let text = textOf area words patterns question in
-    let step = rows-step area words (start .pre .index .indexed) text (turn .i) (at-loop-test .loop-test .taken) in
-    (omega arith, putting-more (turn .inv .1) (rowText area words patterns question (turn .i)) (textFrom text area words (turn .i + 1)) step (c .before .before .put-row .ensures))
+    let text = textOf area words (start .args .patterns .now) (start .args .question) in
+    let step = rows-step area words (start .pre .index .indexed) text _ (at-loop-test .loop-test .taken) in
+    (omega arith, putting-more (turn-2 .loop .inv .1) _ _ step (c .before .before .put-row .ensures))
 
 same-length : tie.Need-same-length Inv-loop μ-loop
 same-length c = put-length (c .before .loop .inv .1 .put)
@@ -45,8 +38,8 @@ returns c =
     let start = c .before .before .before .before .before .before in
     let a = start .args in
     let done = c .before .loop in
-    let text = textOf (a .area .now) (a .words .now) (a .patterns .now) (a .question) in
-    putting-end (done .inv .1) (rows-end (a .area .now) (a .words .now) (start .pre .index .indexed) text (done .i) (omega arith))
+    let text = textOf _ (a .words .now) _ (a .question) in
+    putting-end (done .inv .1) (rows-end _ _ (start .pre .index .indexed) text (done .i) (omega arith))
 
 pub put-rows-spec : {M : Type 1} → statement M
 put-rows-spec =

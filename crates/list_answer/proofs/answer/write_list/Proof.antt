@@ -1,6 +1,6 @@
 -- `list_answer::answer::write_list` meets its contract: the reply to its question is that of the LIST command. By Replies.
 use Rattle.list_answer.proofs.Replies.{list-reply}
-use borrow.Author.Needs.{needs}
+use Rattle.listing_rules.proofs.Prelude.{needs}
 use Rattle.list_answer.proofs.answer.write_list.Statement.{statement}
 use Rattle.list_answer.proofs.answer.write_list.Tie as tie
 
@@ -12,10 +12,7 @@ write-answer-requires c κs =
 returns : tie.Need-returns
 returns c =
     let after-question = c .before .before .before .before in
-    let start = after-question .before .before .before .before .before .before in
-    let a = start .args in
-    let question = after-question .of in
-    rw (← list-reply (a .area .now) (a .words .now) (a .patterns .now) (a .tag .now) (question .result) (a .options) (question .ensures)) (c .before .before .write-answer .ensures)
+    rw (← list-reply _ _ _ _ _ _ (after-question .of .ensures)) (c .before .before .write-answer .ensures)
 
 pub write-list-spec : {M : Type 1} → statement M
 write-list-spec =

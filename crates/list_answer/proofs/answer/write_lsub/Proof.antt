@@ -1,6 +1,6 @@
 -- `list_answer::answer::write_lsub` meets its contract: the reply to its question is that of the LSUB command. By Replies.
 use Rattle.list_answer.proofs.Replies.{lsub-reply}
-use borrow.Author.Needs.{needs}
+use Rattle.listing_rules.proofs.Prelude.{needs}
 use Rattle.list_answer.proofs.answer.write_lsub.Statement.{statement}
 use Rattle.list_answer.proofs.answer.write_lsub.Tie as tie
 
@@ -13,9 +13,7 @@ returns : tie.Need-returns
 returns c =
     let after-question = c .before .before .before .before in
     let start = after-question .before .before .before .before .before .before in
-    let a = start .args in
-    let question = after-question .lsub in
-    rw (← lsub-reply (a .area .now) (a .words .now) (a .patterns .now) (a .tag .now) (question .result) (question .ensures) (start .pre .1)) (c .before .before .write-answer .ensures)
+    rw (← lsub-reply _ _ _ _ _ (after-question .lsub .ensures) (start .pre .1)) (c .before .before .write-answer .ensures)
 
 pub write-lsub-spec : {M : Type 1} → statement M
 write-lsub-spec =

@@ -1,14 +1,11 @@
 -- `list_answer::attributes::own_attributes` meets its contract: a member more with each line.
-use mathlib.Core.Path.{_≡_, refl, ap, _∙_}
-use mathlib.Core.Bool.{Bool, _&&_, not}
-use Prim.Native.Nat.{ℕ}
+use Rattle.listing_rules.proofs.Prelude.{_∙_, _≡_, ap, refl, Bool, _&&_, not, ℕ, needs}
 use Rattle.listing_rules.specs.Flags.{exists, subscribed, remote, noSelect, noInferiors, marked, unmarked}
 use Rattle.listing_rules.specs.Listing.{inOrder}
 use Rattle.octets.proofs.Sets.{contains-bit}
 use Rattle.list_answer.specs.Sets.{adds}
 use Rattle.list_answer.specs.Attributes.{ownAttributes}
 use Rattle.list_answer.proofs.Sets.{more}
-use borrow.Author.Needs.{needs}
 use Rattle.list_answer.proofs.attributes.own_attributes.Statement.{statement}
 use Rattle.list_answer.proofs.attributes.own_attributes.Tie as tie
 

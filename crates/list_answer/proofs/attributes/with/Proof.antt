@@ -1,5 +1,5 @@
 -- `list_answer::attributes::with` meets its contract, by that of `union`.
-use borrow.Author.Needs.{needs}
+use Rattle.listing_rules.proofs.Prelude.{needs}
 use Rattle.list_answer.proofs.attributes.with.Statement.{statement}
 use Rattle.list_answer.proofs.attributes.with.Tie as tie
 

@@ -1,8 +1,5 @@
 -- `list_answer::attributes::with_uses` meets its contract: a member more with each line, or none.
-use mathlib.Core.Path.{_≡_, refl, sym, _∙_}
-use mathlib.Core.Bool.{_&&_, true, and-true, and-false}
-use Prim.Native.Nat.{ℕ, _^_}
-use borrow.Author.Tests.{not-true, not-false}
+use Rattle.listing_rules.proofs.Prelude.{_∙_, _≡_, refl, sym, _&&_, and-false, and-true, true, _^_, ℕ, not-false, not-true, needs}
 use Rattle.listing_rules.specs.Bytes.{bit}
 use Rattle.listing_rules.specs.Listing.{inOrder}
 use Rattle.octets.specs.Sets.{contains}
@@ -10,7 +7,6 @@ use Rattle.octets.proofs.Sets.{contains-bit}
 use Rattle.list_answer.specs.Sets.{adds}
 use Rattle.list_answer.specs.Attributes.{useAttributes}
 use Rattle.list_answer.proofs.Sets.{more}
-use borrow.Author.Needs.{needs}
 use Rattle.list_answer.proofs.attributes.with_uses.Statement.{statement}
 use Rattle.list_answer.proofs.attributes.with_uses.Tie as tie
 
@@ -22,7 +18,16 @@ returns : tie.Need-returns
 unfolding adds useAttributes inOrder
 returns c =
     let f = c .before .args .flags .bits in
-    rw (not-true (c .before .args .asked) (c .if1 .taken), and-false (bit 8 f), and-false (bit 9 f), and-false (bit 10 f), and-false (bit 11 f), and-false (bit 12 f), and-false (bit 13 f), and-false (bit 14 f))
+    rw (
+      not-true (c .before .args .asked) (c .if1 .taken),
+      and-false (bit 8 f),
+      and-false (bit 9 f),
+      and-false (bit 10 f),
+      and-false (bit 11 f),
+      and-false (bit 12 f),
+      and-false (bit 13 f),
+      and-false (bit 14 f),
+    )
 
 returns-2 : tie.Need-returns-2
 unfolding adds useAttributes inOrder
@@ -33,7 +38,7 @@ returns-2 c =
     let at-if1 = after-with-flag .before in
     let start = at-if1 .before in
     let f = start .args .flags .bits in
-    let own : _≡_ {A = ℕ} (start .args .own .bits) (start .args .own .bits) = refl in
+    let own : _≡_ {A = ℕ} _ (start .args .own .bits) = refl in
     let s1 = more 128 own (shown 8 f) (after-with-flag .with-flag .ensures) in
     let s2 = more 256 s1 (shown 9 f) (after-with-flag2 .with-flag2 .ensures) in
     let s3 = more 512 s2 (shown 10 f) (after-with-flag3 .with-flag3 .ensures) in

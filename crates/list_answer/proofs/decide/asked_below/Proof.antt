@@ -1,6 +1,5 @@
 -- `list_answer::decide::asked_below` meets its contract, by that of `some_below`.
-use borrow.Author.Tests.{not-true, not-false}
-use borrow.Author.Needs.{needs}
+use Rattle.listing_rules.proofs.Prelude.{not-false, not-true, needs}
 use Rattle.list_answer.proofs.decide.asked_below.Statement.{statement}
 use Rattle.list_answer.proofs.decide.asked_below.Tie as tie
 

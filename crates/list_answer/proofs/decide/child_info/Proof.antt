@@ -1,11 +1,10 @@
 -- `list_answer::decide::child_info` meets its contract: the criteria named are the two selected.
-use mathlib.Core.Path.{_≡_, _∙_}
+use Rattle.listing_rules.proofs.Prelude.{_∙_, _≡_, needs}
 use Rattle.listing_rules.specs.Bytes.{bit}
 use Rattle.listing_rules.specs.Options.{criteria, noCriteria, criteriaNumber}
 use Rattle.octets.proofs.Sets.{contains-bit}
 use Rattle.command_line.specs.OptionSets.{optionsIs}
 use Rattle.list_line.specs.CriteriaSets.{these}
-use borrow.Author.Needs.{needs}
 use Rattle.list_answer.proofs.decide.child_info.Statement.{statement}
 use Rattle.list_answer.proofs.decide.child_info.Tie as tie
 

@@ -1,7 +1,5 @@
 -- `list_answer::decide::decide` meets its contract: what stands and matches is shown. By Showing, what lies below by Deciding.
-use mathlib.Core.Path.{_≡_, refl, sym, _∙_}
-use mathlib.Core.Bool.{_&&_}
-use borrow.Author.Tests.{not-true, not-false}
+use Rattle.listing_rules.proofs.Prelude.{_∙_, _≡_, refl, sym, _&&_, not-false, not-true, needs}
 use Rattle.listing_rules.specs.Listing.{meetsBelow, hasChildren}
 use Rattle.command_line.specs.OptionSets.{optionsIs}
 use Rattle.mailbox_table.specs.Index.{rowsAt}
@@ -9,7 +7,6 @@ use Rattle.pattern.specs.Packed.{unpacked}
 use Rattle.list_answer.specs.Shown.{begun}
 use Rattle.list_answer.proofs.Deciding.{meets-below, children-below}
 use Rattle.list_answer.proofs.Showing.{shown-not, shown-unmatched, shown-list, shown-lsub}
-use borrow.Author.Needs.{needs}
 use Rattle.list_answer.proofs.decide.decide.Statement.{statement}
 use Rattle.list_answer.proofs.decide.decide.Tie as tie
 
@@ -17,26 +14,24 @@ returns : tie.Need-returns
 returns c =
     let start = c .before .before .before .before .before .before in
     let a = start .args in
-    let standing = c .before .before .look-at in
-    let stands = standing .ensures (a .patterns .now) (start .pre .0) in
-    let table = rowsAt (a .area .now) (a .words .now) in
-    let o = optionsIs (a .question .options) in
-    let ps = unpacked (a .patterns .now) in
-    let n = begun (a .area .now) (a .words .now) (a .name) in
-    shown-not (a .question .word) table o ps n (standing .result .level) (standing .result .counts) (stands .level) (stands .counts) (not-true _ (c .if1 .taken))
+    let stands = c .before .before .look-at .ensures _ (start .pre .0) in
+    let table = rowsAt _ (a .words .now) in
+    let o = optionsIs _ in
+    let ps = unpacked _ in
+    let n = begun _ (a .words .now) (a .name) in
+    shown-not _ table o ps n _ _ (stands .level) (stands .counts) (not-true _ (c .if1 .taken))
 
 returns-2 : tie.Need-returns-2
 returns-2 c =
     let after-look-at = c .before .before .before .before in
     let start = after-look-at .before .before .before .before in
     let a = start .args in
-    let standing = after-look-at .look-at in
-    let stands = standing .ensures (a .patterns .now) (start .pre .0) in
-    let table = rowsAt (a .area .now) (a .words .now) in
-    let o = optionsIs (a .question .options) in
-    let ps = unpacked (a .patterns .now) in
-    let n = begun (a .area .now) (a .words .now) (a .name) in
-    shown-unmatched (a .question .word) table o ps n (standing .result .level) (standing .result .counts) (stands .level) (stands .counts) (not-false _ (c .before .before .if1 .left))
+    let stands = after-look-at .look-at .ensures _ (start .pre .0) in
+    let table = rowsAt _ (a .words .now) in
+    let o = optionsIs _ in
+    let ps = unpacked _ in
+    let n = begun _ (a .words .now) (a .name) in
+    shown-unmatched _ table o ps n _ _ (stands .level) (stands .counts) (not-false _ (c .before .before .if1 .left))
     (c .before .is-matched .result) (c .before .is-matched .ensures) (not-true _ (c .if2 .taken))
 
 returns-3 : tie.Need-returns-3
@@ -47,13 +42,11 @@ returns-3 c =
     let after-look-at = at-if1 .before .before in
     let start = after-look-at .before .before .before .before in
     let standing = after-look-at .look-at in
-    let stands = standing .ensures (start .args .patterns .now) (start .pre .0) in
-    let matched = after-is-matched .is-matched in
-    let question = start .args .question in
-    let n = begun (start .args .area .now) (start .args .words .now) (start .args .name) in
-    shown-lsub (question .word) (rowsAt (start .args .area .now) (start .args .words .now)) (optionsIs (question .options)) (unpacked (start .args .patterns .now)) n
-    (standing .result .level) (standing .result .counts) (stands .level) (stands .counts) (not-false _ (at-if1 .if1 .left))
-    (matched .result) (matched .ensures)
+    let stands = standing .ensures _ (start .pre .0) in
+    let n = begun _ (start .args .words .now) (start .args .name) in
+    shown-lsub _ _ _ _ n
+    _ _ (stands .level) (stands .counts) (not-false _ (at-if1 .if1 .left))
+    _ (after-is-matched .is-matched .ensures)
     (c .before .enum-told .given .1) (not-false _ (at-if2 .if2 .left))
     (standing .result .flags .bits) (stands .flags)
     (c .lsub-attributes .result) (c .lsub-attributes .ensures)
@@ -69,10 +62,7 @@ returns-4 c =
     let at-if1 = after-is-matched .before in
     let after-look-at = at-if1 .before .before in
     let start = after-look-at .before .before .before .before in
-    let standing = after-look-at .look-at in
-    let stands = standing .ensures (start .args .patterns .now) (start .pre .0) in
-    let matched = after-is-matched .is-matched in
-    let recursive = after-is-recursive .is-recursive in
+    let stands = after-look-at .look-at .ensures _ (start .pre .0) in
     let below = after-asked-below .asked-below in
     let asked = c .before .before .before .shows-children in
     let parent = c .before .before .asked-below2 in
@@ -83,18 +73,17 @@ returns-4 c =
     let ready = start .pre .0 in
     let x = ready .index .indexed in
     let at = start .pre .1 in
-    let question = start .args .question in
-    let o = optionsIs (question .options) in
-    let ps = unpacked (start .args .patterns .now) in
+    let o = optionsIs _ in
+    let ps = unpacked _ in
     let n = begun area words name in
     let children : parent .result ≡ (o .retChildren && hasChildren (rowsAt area words) o n)
     = parent .ensures ∙ (λ i. asked .ensures i && sym (children-below area words x name at o ps (ready .marked)) i) in
     let info : below .result ≡ (o .selRecursive && meetsBelow (rowsAt area words) o n)
-    = below .ensures ∙ (λ i. recursive .ensures i && sym (meets-below area words x name at o ps (ready .marked)) i) in
-    shown-list (question .word) (rowsAt area words) o ps n (standing .result .level) (standing .result .counts) (stands .level) (stands .counts) (not-false _ (at-if1 .if1 .left))
-    (matched .result) (matched .ensures)
+    = below .ensures ∙ (λ i. after-is-recursive .is-recursive .ensures i && sym (meets-below area words x name at o ps (ready .marked)) i) in
+    shown-list _ (rowsAt area words) o ps n _ _ (stands .level) (stands .counts) (not-false _ (at-if1 .if1 .left))
+    _ (after-is-matched .is-matched .ensures)
     (after-word .enum-told2 .given .1) (not-false _ (at-if2 .if2 .left))
-    (standing .result .flags .bits) (stands .flags)
+    _ (stands .flags)
     (parent .result) children
     (attributes .result) (attributes .ensures)
     (below .result) info

@@ -1,22 +1,14 @@
 -- `list_answer::decide::is_matched` meets its contract: the row's mark for its whole name, the bytes for a shorter one. By Deciding.
-use mathlib.Core.Path.{sym, ap, _∙_}
-use mathlib.Core.Bool.{Bool, _&&_}
-use mathlib.Core.List.{List}
-use Prim.Native.Nat.{ℕ}
-use lib.Dec.{leb}
-use lib.ListN.{length, take, getD}
-use borrow.Author.Tests.{eq-eqb, ne-eqb}
+use Rattle.listing_rules.proofs.Prelude.{_∙_, ap, sym, Bool, _&&_, List, ℕ, leb, length, take, eq-eqb, ne-eqb, needs}
 use Rattle.listing_rules.specs.Match.{matchesAny}
 use Rattle.octets.specs.Sets.{contains}
 use Rattle.command_line.specs.OptionSets.{optionsIs}
 use Rattle.mailbox_table.specs.declared.rows.Row.{Row as Place}
-use Rattle.mailbox_table.specs.Index.{nthRow}
 use Rattle.pattern.specs.Packed.{unpacked}
 use Rattle.pattern.specs.Chosen.{chosen}
 use Rattle.list_answer.specs.Shown.{begun}
 use Rattle.list_answer.proofs.Deciding.{looked-size, begun-short, matched-whole, matched-proper}
 use Rattle.list_answer.proofs.Showing.{named}
-use borrow.Author.Needs.{needs}
 use Rattle.list_answer.proofs.decide.is_matched.Statement.{statement}
 use Rattle.list_answer.proofs.decide.is_matched.Tie as tie
 
@@ -24,38 +16,29 @@ returns : tie.Need-returns
 returns c =
     let after-of-word = c .before .before .before .before in
     let start = after-of-word .before .before .before .before .before in
-    let row = after-of-word .of-word in
-    let marks = c .before .of-word2 in
-    let area = start .args .area .now in
-    let words = start .args .words .now in
     let name = start .args .name in
     let ready = start .pre .0 in
-    let o = optionsIs (start .args .question .options) in
-    let ps = unpacked (start .args .patterns .now) in
-    let whole = eq-eqb (nthRow words (name .row) .len) (name .len) (sym (ap (λ (r : Place). r .len) (row .ensures)) ∙ c .before .before .if1 .taken) in
+    let o = optionsIs _ in
+    let ps = unpacked _ in
+    let whole = eq-eqb _ _ (sym (ap (λ (r : Place). r .len) (after-of-word .of-word .ensures)) ∙ c .before .before .if1 .taken) in
     λ h.
     c .has .ensures
-    ∙ ap (λ (m : ℕ). contains m 8) (marks .ensures)
-    ∙ matched-whole area words (ready .index .indexed) name (start .pre .1) o ps (ready .marked) whole h
+    ∙ ap (λ (m : ℕ). contains m 8) (c .before .of-word2 .ensures)
+    ∙ matched-whole (start .args .area .now) (start .args .words .now) (ready .index .indexed) name (start .pre .1) o ps (ready .marked) whole h
 
 slice-aggregate-matches-any : tie.Need-slice-aggregate-matches-any
 slice-aggregate-matches-any c =
     let after-of-word = c .before .before .before .before in
     let start = after-of-word .before .before .before .before .before in
-    let row = after-of-word .of-word in
-    let looked = c .before .name-of in
     let area = start .args .area .now in
-    let words = start .args .words .now in
-    let name = start .args .name in
-    looked-size area words (start .pre .0 .index .indexed) name (start .pre .1) (looked .result .now)
-    (named area (getD words (name .row) 0) (row .result) (row .ensures) (looked .result .now) (looked .ensures))
+    looked-size area (start .args .words .now) (start .pre .0 .index .indexed) (start .args .name) (start .pre .1) _
+    (named area _ _ (after-of-word .of-word .ensures) _ (c .before .name-of .ensures))
 
 returns-2 : tie.Need-returns-2
 returns-2 c =
     let after-of-word = c .before .before .before .before .before in
     let start = after-of-word .before .before .before .before .before in
     let row = after-of-word .of-word in
-    let looked = c .before .before .name-of in
     let area = start .args .area .now in
     let words = start .args .words .now in
     let levels = start .args .question .levels in
@@ -63,11 +46,11 @@ returns-2 c =
     let ready = start .pre .0 in
     let x = ready .index .indexed in
     let at = start .pre .1 in
-    let o = optionsIs (start .args .question .options) in
-    let ps = unpacked (start .args .patterns .now) in
+    let o = optionsIs _ in
+    let ps = unpacked _ in
     let n = begun area words name in
-    let bytes = named area (getD words (name .row) 0) (row .result) (row .ensures) (looked .result .now) (looked .ensures) in
-    let proper = ne-eqb (nthRow words (name .row) .len) (name .len) (λ e. c .before .before .before .if1 .left (ap (λ (r : Place). r .len) (row .ensures) ∙ e)) in
+    let bytes = named area _ _ (row .ensures) _ (c .before .before .name-of .ensures) in
+    let proper = ne-eqb _ _ (λ e. c .before .before .before .if1 .left (ap (λ (r : Place). r .len) (row .ensures) ∙ e)) in
     λ h.
     c .matches-any .ensures
     ∙ ap (λ (l : List ℕ). leb (length (take (name .len) l)) 255 && matchesAny (chosen levels ps) (take (name .len) l)) bytes

@@ -1,21 +1,16 @@
 -- `list_answer::decide::look_at` meets its contract: the row's word and the scans below say what the table does. By Deciding.
-use mathlib.Core.Path.{_≡_, sym, ap, _∙_}
-use mathlib.Core.Bool.{Bool, cond, _&&_, _||_, not}
-use Prim.Native.Nat.{ℕ}
-use lib.Dec.{eqb}
-use lib.ListN.{getD}
+use Rattle.listing_rules.proofs.Prelude.{_∙_, _≡_, ap, sym, Bool, _&&_, _||_, cond, not, ℕ, eqb, needs}
 use Rattle.listing_rules.specs.Flags.{exists}
 use Rattle.listing_rules.specs.Table.{flagsOf}
 use Rattle.octets.specs.Sets.{contains}
 use Rattle.command_line.specs.OptionSets.{optionsIs}
 use Rattle.mailbox_table.specs.declared.rows.Row.{Row as Place}
-use Rattle.mailbox_table.specs.Index.{nthRow, rowsAt}
+use Rattle.mailbox_table.specs.Index.{rowsAt}
 use Rattle.mailbox_table.specs.Below.{marksOf}
 use Rattle.pattern.specs.Packed.{unpacked}
 use Rattle.list_answer.specs.Marks.{levelOnly}
 use Rattle.list_answer.specs.Shown.{begun, foundBelow}
 use Rattle.list_answer.proofs.Deciding.{flags-here, meets-below, right-here}
-use borrow.Author.Needs.{needs}
 use Rattle.list_answer.proofs.decide.look_at.Statement.{statement}
 use Rattle.list_answer.proofs.decide.look_at.Tie as tie
 
@@ -41,13 +36,13 @@ returns c =
     let name = start .args .name in
     let x = start .pre .0 in
     let at = start .pre .1 in
-    let o = optionsIs (start .args .question .options) in
+    let o = optionsIs _ in
     let ps = unpacked patterns in
     let n = begun area words name in
-    let whole = eqb (nthRow words (name .row) .len) (name .len) in
+    let whole = eqb _ (name .len) in
     let flags : flagged .result .bits ≡ flagsOf (rowsAt area words) n
     = flagged .ensures ∙ ap (λ (r : Place). cond (eqb (r .len) (name .len)) (r .flags .bits) 0) (row .ensures) ∙ sym (flags-here area words x name at) in
-    let own : (eqb (row .result .len) (name .len) && met .result) ≡ (whole && contains (marksOf (getD words (name .row) 0)) 1)
+    let own : _ ≡ (whole && contains (marksOf _) 1)
     = ap (λ (r : Place). eqb (r .len) (name .len) && met .result) (row .ensures) ∙ ap (λ (b : Bool). whole && b) (met .ensures ∙ ap (λ (m : ℕ). contains m 1) (marks .ensures)) in
     let asked : deep .result ≡ ((o .selRecursive && not (eqb (row .result .len) (name .len) && met .result)) && foundBelow area words 2 name)
     = deep .ensures ∙ ap (λ (b : Bool). (b && not (eqb (row .result .len) (name .len) && met .result)) && foundBelow area words 2 name) (recursive .ensures) in

@@ -1,6 +1,5 @@
 -- `list_answer::marks::asked_match` meets its contract, by that of `matches_any`.
-use borrow.Author.Tests.{not-true, not-false}
-use borrow.Author.Needs.{needs}
+use Rattle.listing_rules.proofs.Prelude.{not-false, not-true, needs}
 use Rattle.list_answer.proofs.marks.asked_match.Statement.{statement}
 use Rattle.list_answer.proofs.marks.asked_match.Tie as tie
 

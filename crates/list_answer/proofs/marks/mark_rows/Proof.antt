@@ -1,13 +1,8 @@
 -- `list_answer::marks::mark_rows` meets its contract: the first i words are marked. By Marking.
-use mathlib.Core.Path.{_≡_, refl, sym, ap, subst, _∙_}
-use mathlib.Core.List.{map}
-use Prim.Native.Nat.{ℕ, _≤_, _+_, _-_}
-use lib.ListN.{length, take, getD, set, length-set}
+use Rattle.listing_rules.proofs.Prelude.{_∙_, _≡_, ap, refl, subst, sym, map, _+_, _-_, _≤_, ℕ, arith, getD, length, length-set, set, take, needs}
 use Rattle.mailbox_table.specs.Below.{withMarks}
 use Rattle.list_answer.specs.Marks.{markedWord}
 use Rattle.list_answer.proofs.Marking.{words-more, words-all}
-use native.Mathlib.Omega.{arith}
-use borrow.Author.Needs.{needs}
 use Rattle.list_answer.proofs.marks.mark_rows.Statement.{statement}
 use Rattle.list_answer.proofs.marks.mark_rows.Tie as tie
 
@@ -30,22 +25,20 @@ loop-again c =
     let start = turn-2 .before .before .before .before .before in
     let turn = turn-2 .loop in
     let a = start .args in
-    let mark = markedWord (a .area .now) (a .patterns .now) (a .question) in
-    let w = getD (a .words .now) (turn .i) 0 in
+    let mark = markedWord _ _ (a .question) in
+    let w = getD (a .words .now) _ 0 in
     let e : c .with-marks .result ≡ mark w = c .with-marks .ensures ∙ ap (λ (m : ℕ). withMarks m w) (c .before .before .marks-for .ensures) in (
       omega arith,
       simp length-set (turn .inv .1),
       turn .inv .2,
       subst (λ (v : ℕ). take (turn .i + 1) (set (turn .marked) (turn .i) v) ≡ map mark (take (turn .i + 1) (a .words .now))) (sym e)
-          (words-more mark (a .words .now) (turn .marked) (turn .i) (omega arith) (omega arith) (turn .inv .3)),
+          (words-more mark _ (turn .marked) (turn .i) (omega arith) (omega arith) (turn .inv .3)),
     )
 
 returns : tie.Need-returns Inv-loop μ-loop
 returns c =
-    let start = c .before .before .before .before .before .before in
-    let a = start .args in
     let done = c .before .loop in
-    words-all (markedWord (a .area .now) (a .patterns .now) (a .question)) (a .words .now) (done .marked) (done .i) (omega arith) (done .inv .3)
+    words-all _ _ _ (done .i) (omega arith) (done .inv .3)
 
 pub mark-rows-spec : {M : Type 1} → statement M
 mark-rows-spec =

@@ -1,9 +1,6 @@
 -- `list_answer::marks::marks_for` meets its contract: what the code finds is what the marks say (Marking), a member more with each
 -- line (Sets).
-use mathlib.Core.Path.{_≡_, refl, ap, _∙_}
-use mathlib.Core.Bool.{Bool, _&&_, _||_, not}
-use mathlib.Core.List.{[], _∷_}
-use Prim.Native.Nat.{ℕ}
+use Rattle.listing_rules.proofs.Prelude.{_∙_, _≡_, ap, refl, Bool, _&&_, _||_, not, [], _∷_, ℕ, needs}
 use Rattle.listing_rules.specs.Flags.{exists, remote}
 use Rattle.listing_rules.specs.Listing.{meetsCriteria}
 use Rattle.command_line.specs.OptionSets.{optionsIs}
@@ -15,7 +12,6 @@ use Rattle.list_answer.specs.Marks.{levelOnly, meetsMark, unmatchedMark,
 use Rattle.list_answer.proofs.Sets.{adds-all, more}
 use Rattle.list_answer.proofs.Marking.{matched-is, unmatched-is}
 use Rattle.list_answer.proofs.Showing.{named}
-use borrow.Author.Needs.{needs}
 use Rattle.list_answer.proofs.marks.marks_for.Statement.{statement}
 use Rattle.list_answer.proofs.marks.marks_for.Tie as tie
 
@@ -39,15 +35,15 @@ returns c =
     let counts = c .before .before .counts-child in
     let area = start .args .area .now in
     let word = start .args .word in
-    let o = optionsIs (start .args .question .options) in
-    let ps = unpacked (start .args .patterns .now) in
+    let o = optionsIs _ in
+    let ps = unpacked _ in
     let row = rowAtWord area word in
     let meeting : met .result ≡ meetsMark o row = met .ensures ∙ ap (λ (r : Place). meetsCriteria o (r .flags .bits)) (place .ensures) in
-    let level : asks .result ≡ levelOnly o ps (row .flags)
+    let level : asks .result ≡ levelOnly o ps _
     = asks .ensures ∙ ap (λ (r : Place). start .args .question .levels && not (exists (r .flags .bits))) (place .ensures) ∙ ap (λ (b : Bool). b && not (exists (row .flags))) (start .pre) in
     let child : counts .result ≡ childMark o row
     = counts .ensures ∙ ap (λ (r : Place). exists (r .flags .bits) && (not (remote (r .flags .bits)) || o .selRemote)) (place .ensures) in
-    let name = named area word (place .result) (place .ensures) (looked .result .now) (looked .ensures) in
+    let name = named area word _ (place .ensures) (looked .result .now) (looked .ensures) in
     let matched : match .result ≡ matchedMark o ps row = matched-is o ps area word _ _ _ _ meeting (recursive .ensures) level name (match .result) (match .ensures) in
     let unmatched : ((recursive .result && met .result) && not (match .result)) ≡ unmatchedMark o ps row
     = (λ i. (recursive .ensures i && meeting i) && not (match .result)) ∙ unmatched-is o ps row (match .result) matched in

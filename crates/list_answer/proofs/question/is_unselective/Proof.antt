@@ -2,7 +2,7 @@
 use Rattle.listing_rules.specs.Listing.{unselective}
 use Rattle.octets.proofs.Sets.{contains-bit}
 use Rattle.command_line.specs.OptionSets.{optionsIs}
-use borrow.Author.Needs.{needs}
+use Rattle.listing_rules.proofs.Prelude.{needs}
 use Rattle.list_answer.proofs.question.is_unselective.Statement.{statement}
 use Rattle.list_answer.proofs.question.is_unselective.Tie as tie
 

@@ -1,5 +1,5 @@
 -- `put_line` meets its contract: five writes, one behind the other (`put-then`).
-use borrow.Author.Needs.{needs}
+use Rattle.listing_rules.proofs.Prelude.{needs}
 use Rattle.listing_rules.proofs.Keys.{openBytes}
 use Rattle.listing_rules.specs.Lines.{wordLine}
 use Rattle.octets.proofs.Puts.{put-then}
@@ -14,7 +14,8 @@ returns c =
     let after-put-all = after-put-quoted .before .before .before .before in
     let after-put-attributes = after-put-all .before .before .before .before .before in
     let after-put-start = after-put-attributes .before .before .before .before in
-    put-then (after-put-start .put-start .ensures) (put-then (after-put-attributes .put-attributes .ensures) (put-then (after-put-all .put-all .ensures) (put-then (after-put-quoted .put-quoted .ensures) (after-put-line-end .put-line-end .ensures))))
+    put-then (after-put-start .put-start .ensures) (put-then (after-put-attributes .put-attributes .ensures)
+    (put-then (after-put-all .put-all .ensures) (put-then (after-put-quoted .put-quoted .ensures) (after-put-line-end .put-line-end .ensures))))
 
 pub put-line-spec : {M : Type 1} → statement M
 put-line-spec =

@@ -1,7 +1,5 @@
 -- `put_line_end` meets its contract: its four texts compute to CR LF behind CHILDINFO or nothing.
-use mathlib.Core.Path.{sym, _∙_}
-use mathlib.Core.Bool.{true, false}
-use borrow.Author.Needs.{needs}
+use Rattle.listing_rules.proofs.Prelude.{_∙_, sym, false, true, needs}
 use Rattle.listing_rules.proofs.Keys.{openBytes, openLines}
 use Rattle.listing_rules.specs.Options.{isNone}
 use Rattle.list_line.proofs.CriteriaSets.{criteria-tests}
@@ -17,7 +15,8 @@ returns c =
     let after-has2 = at-if1 .before in
     let after-has = after-has2 .before in
     let start = after-has .before .before in
-    rw (criteria-tests (start .args .criteria .bits) true true (sym (after-has .has .ensures) ∙ at-if1 .if1 .taken) (sym (after-has2 .has2 .ensures) ∙ at-if2 .if2 .taken)) (after-put-all .put-all .ensures)
+    rw (criteria-tests (start .args .criteria .bits) true true (sym (after-has .has .ensures) ∙ at-if1 .if1 .taken)
+    (sym (after-has2 .has2 .ensures) ∙ at-if2 .if2 .taken)) (after-put-all .put-all .ensures)
 
 returns-2 : tie.Need-returns-2
 unfolding openBytes openLines isNone
@@ -28,7 +27,8 @@ returns-2 c =
     let after-has2 = at-if1 .before in
     let after-has = after-has2 .before in
     let start = after-has .before .before in
-    rw (criteria-tests (start .args .criteria .bits) true false (sym (after-has .has .ensures) ∙ at-if1 .if1 .taken) (sym (after-has2 .has2 .ensures) ∙ at-if2 .if2 .left)) (after-put-all2 .put-all2 .ensures)
+    rw (criteria-tests (start .args .criteria .bits) true false (sym (after-has .has .ensures) ∙ at-if1 .if1 .taken)
+    (sym (after-has2 .has2 .ensures) ∙ at-if2 .if2 .left)) (after-put-all2 .put-all2 .ensures)
 
 returns-3 : tie.Need-returns-3
 unfolding openBytes openLines isNone
@@ -39,7 +39,8 @@ returns-3 c =
     let after-has2 = at-if1 .before in
     let after-has = after-has2 .before in
     let start = after-has .before .before in
-    rw (criteria-tests (start .args .criteria .bits) false true (sym (after-has .has .ensures) ∙ at-if1 .if1 .left) (sym (after-has2 .has2 .ensures) ∙ at-if3 .if3 .taken)) (after-put-all3 .put-all3 .ensures)
+    rw (criteria-tests (start .args .criteria .bits) false true (sym (after-has .has .ensures) ∙ at-if1 .if1 .left)
+    (sym (after-has2 .has2 .ensures) ∙ at-if3 .if3 .taken)) (after-put-all3 .put-all3 .ensures)
 
 returns-4 : tie.Need-returns-4
 unfolding openBytes openLines isNone
@@ -50,7 +51,8 @@ returns-4 c =
     let after-has2 = at-if1 .before in
     let after-has = after-has2 .before in
     let start = after-has .before .before in
-    rw (criteria-tests (start .args .criteria .bits) false false (sym (after-has .has .ensures) ∙ at-if1 .if1 .left) (sym (after-has2 .has2 .ensures) ∙ at-if3 .if3 .left)) (after-put-all4 .put-all4 .ensures)
+    rw (criteria-tests (start .args .criteria .bits) false false (sym (after-has .has .ensures) ∙ at-if1 .if1 .left)
+    (sym (after-has2 .has2 .ensures) ∙ at-if3 .if3 .left)) (after-put-all4 .put-all4 .ensures)
 
 pub put-line-end-spec : {M : Type 1} → statement M
 put-line-end-spec =

@@ -1,5 +1,5 @@
 -- `put_ok_line` meets its contract: two writes, one behind the other (`put-then`).
-use borrow.Author.Needs.{needs}
+use Rattle.listing_rules.proofs.Prelude.{needs}
 use Rattle.listing_rules.proofs.Keys.{openBytes, openLines}
 use Rattle.octets.proofs.Puts.{put-then}
 use Rattle.list_line.proofs.write.put_ok_line.Statement.{statement}

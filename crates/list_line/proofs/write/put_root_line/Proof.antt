@@ -1,5 +1,5 @@
 -- `put_root_line` meets its contract: its text computes to the root line.
-use borrow.Author.Needs.{needs}
+use Rattle.listing_rules.proofs.Prelude.{needs}
 use Rattle.listing_rules.proofs.Keys.{openBytes, openLines}
 use Rattle.list_line.proofs.write.put_root_line.Statement.{statement}
 use Rattle.list_line.proofs.write.put_root_line.Tie as tie

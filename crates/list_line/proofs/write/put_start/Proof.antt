@@ -1,5 +1,5 @@
 -- `put_start` meets its contract: each text computes to the start of a line with its word.
-use borrow.Author.Needs.{needs}
+use Rattle.listing_rules.proofs.Prelude.{needs}
 use Rattle.listing_rules.proofs.Keys.{openBytes}
 use Rattle.list_line.specs.Words.{startOf}
 use Rattle.list_line.proofs.write.put_start.Statement.{statement}

@@ -1,5 +1,5 @@
 -- `root_parts` meets its contract: the set 4 has the root line's attributes (`root-parts` of `Members`).
-use borrow.Author.Needs.{needs}
+use Rattle.listing_rules.proofs.Prelude.{needs}
 use Rattle.list_line.proofs.Members.{root-parts}
 use Rattle.list_line.proofs.write.root_parts.Statement.{statement}
 use Rattle.list_line.proofs.write.root_parts.Tie as tie

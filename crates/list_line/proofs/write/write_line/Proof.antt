@@ -1,7 +1,5 @@
 -- `write_line` meets its contract, by the cases of the line writer in `Writing`.
-use mathlib.Core.Path.{sym, _∙_}
-use borrow.Author.Tests.{not-true, not-false}
-use borrow.Author.Needs.{needs}
+use Rattle.listing_rules.proofs.Prelude.{_∙_, sym, not-false, not-true, needs}
 use Rattle.list_line.proofs.Writing.{line-unlawful, line-named, line-root, line-other, gives-refusal}
 use Rattle.list_line.proofs.write.write_line.Statement.{statement}
 use Rattle.list_line.proofs.write.write_line.Tie as tie

@@ -1,6 +1,5 @@
 -- `write_named` meets its contract: the first pass measures the line, and the second writes it (`written-fits`, `written-short`).
-use native.Mathlib.Omega.{arith}
-use borrow.Author.Needs.{needs}
+use Rattle.listing_rules.proofs.Prelude.{arith, needs}
 use Rattle.listing_rules.specs.Lines.{listLine}
 use Rattle.octets.proofs.Writing.{written-fits, written-short}
 use Rattle.list_line.specs.Words.{startOf}
@@ -10,9 +9,7 @@ use Rattle.list_line.proofs.write.write_named.Tie as tie
 returns : tie.Need-returns
 unfolding listLine startOf
 returns c =
-    let after-put-line = c .before .before in
-    let start = after-put-line .before .before .before .before in
-    let p = after-put-line .put-line .ensures in written-short (start .args .buf .now) _ (omega (arith, p .place))
+    let p = c .before .before .put-line .ensures in written-short _ _ (omega (arith, p .place))
 
 returns-2 : tie.Need-returns-2
 unfolding listLine startOf

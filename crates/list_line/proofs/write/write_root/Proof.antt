@@ -1,6 +1,5 @@
 -- `write_root` meets its contract: the root line has 27 bytes (`written-fits`, `written-short`).
-use native.Mathlib.Omega.{arith}
-use borrow.Author.Needs.{needs}
+use Rattle.listing_rules.proofs.Prelude.{arith, needs}
 use Rattle.listing_rules.specs.Lines.{rootLine}
 use Rattle.list_line.proofs.Writing.{root-length}
 use Rattle.octets.proofs.Writing.{written-fits, written-short}
@@ -8,7 +7,7 @@ use Rattle.list_line.proofs.write.write_root.Statement.{statement}
 use Rattle.list_line.proofs.write.write_root.Tie as tie
 
 returns : tie.Need-returns
-returns c = written-short (c .before .before .args .buf .now) rootLine (omega (arith, root-length))
+returns c = written-short _ rootLine (omega (arith, root-length))
 
 returns-2 : tie.Need-returns-2
 returns-2 c = written-fits _ rootLine (c .before .before .put-root-line .ensures) (omega (arith, root-length))

@@ -1,7 +1,5 @@
 -- `luspemaro::calls::at_most` meets its contract, by its test.
-use lib.Seq.{length-take-le}
-use mathlib.Core.Path.{sym}
-use native.Mathlib.Omega.{arith}
+use Rattle.listing_rules.proofs.Prelude.{sym, arith, length-take-le}
 use Rattle.luspemaro.proofs.calls.at_most.Statement.{statement}
 use Rattle.luspemaro.proofs.calls.at_most.Tie as tie
 

@@ -1,8 +1,5 @@
 -- `luspemaro::calls::read_some` meets its contract, and ends: the tries fall.
-use lib.ListN.{length}
-use mathlib.Core.Path.{_≡_}
-use borrow.Author.Needs.{needs}
-use native.Mathlib.Omega.{arith}
+use Rattle.listing_rules.proofs.Prelude.{_≡_, arith, length, needs}
 use Rattle.luspemaro.proofs.calls.read_some.Statement.{statement}
 use Rattle.luspemaro.proofs.calls.read_some.Tie as tie
 

@@ -1,7 +1,5 @@
 -- `luspemaro::calls::send` meets its contract, and ends: each write takes a byte at least.
-use Prim.Native.Nat.{_-_, _≤_}
-use borrow.Author.Needs.{needs}
-use native.Mathlib.Omega.{arith}
+use Rattle.listing_rules.proofs.Prelude.{_-_, _≤_, arith, needs}
 use Rattle.luspemaro.proofs.calls.send.Statement.{statement}
 use Rattle.luspemaro.proofs.calls.send.Tie as tie
 

@@ -1,6 +1,5 @@
 -- `luspemaro::calls::write_some` meets its contract, and ends: the tries fall.
-use borrow.Author.Needs.{needs}
-use native.Mathlib.Omega.{arith}
+use Rattle.listing_rules.proofs.Prelude.{arith, needs}
 use Rattle.luspemaro.proofs.calls.write_some.Statement.{statement}
 use Rattle.luspemaro.proofs.calls.write_some.Tie as tie
 

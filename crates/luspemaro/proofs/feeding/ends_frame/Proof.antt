@@ -1,6 +1,5 @@
 -- `luspemaro::feeding::ends_frame` meets its contract: its test is that of `endsFrame`.
-use borrow.Author.Tests.{eq-eqb, ne-eqb}
-use native.Mathlib.Omega.{arith}
+use Rattle.listing_rules.proofs.Prelude.{arith, eq-eqb, ne-eqb}
 use Rattle.luspemaro.proofs.feeding.ends_frame.Statement.{statement}
 use Rattle.luspemaro.proofs.feeding.ends_frame.Tie as tie
 

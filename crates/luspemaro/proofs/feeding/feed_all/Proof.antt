@@ -1,10 +1,7 @@
 -- `luspemaro::feeding::feed_all` meets its contract. Rests on TurnLaws.
-use Prim.Native.Nat.{_+_, _-_, _≤_, _<_}
-use lib.ListN.{length}
-use Rattle.session.specs.Carrying.{lent}
+use Rattle.listing_rules.proofs.Prelude.{_+_, _-_, _<_, _≤_, arith, length, needs}
+use Rattle.kept_table.specs.Kept.{lent}
 use Rattle.luspemaro.proofs.TurnLaws.{SoFar, so-far-none, dead, takes, writes, so-far-more, turn-ends, turn-full}
-use borrow.Author.Needs.{needs}
-use native.Mathlib.Omega.{arith}
 use Rattle.luspemaro.proofs.feeding.feed_all.Statement.{statement}
 use Rattle.luspemaro.proofs.feeding.feed_all.Tie as tie
 
@@ -18,23 +15,25 @@ abbrev μ-loop : tie.MeasureT-loop
 
 -- the call takes a byte at least, none after the last, and writes a line
 took : (c : tie.After-struct-known Inv-loop μ-loop) →
+    let turn-2 =
+    c .before .before .before .before .before .before .before .before .before .before .before .before .before .before .before .before .before .before .before .before .before .before .before .before in
+    let start = turn-2 .before .before .before .before .before .before .before in
     let taken = c .before .before .before .taken .given .0 .0 in let turn =
-    c .before .before .before .before .before .before .before .before .before .before .before .before .before .before .before .before .before .before .before .before .before .before .before .before .loop in (turn .used
+    turn-2 .loop in (turn .used
     + taken .used ≤ length
-    (c .before .before .before .before .before .before .before .before .before .before .before .before .before .before .before .before .before .before .before .before .before .before .before .before .before .before .before .before .before .before .before .args .bytes .now))
+    (start .args .bytes .now))
     × (0 < taken .used) × (taken .written ≤ 32771)
 took c =
     let after-feed = c .before .before .before .before .before .before .before .before .before .before .before .before .before .before .before in
     let at-if1 = after-feed .before .before .before .before .before .before .before in
     let at-loop-test = at-if1 .before in
-    let turn-2 = at-loop-test .before in
-    let turn = turn-2 .loop in
+    let turn = at-loop-test .before .loop in
     let fed = after-feed .feed in
     let taken = c .before .before .before .taken .given in
     let more = at-loop-test .loop-test .taken in
     let room = at-if1 .if1 .left in
-    let w = takes (turn .inv) _ _ _ _ _ _ (taken .0 .0) more room (fed .ensures) (taken .1) in
-    (w .0, w .1, writes (turn .inv) _ _ _ _ _ _ (taken .0 .0) more room (fed .ensures) (taken .1))
+    let w = takes (turn .inv) _ _ _ _ _ _ _ more room (fed .ensures) (taken .1) in
+    (w .0, w .1, writes (turn .inv) _ _ _ _ _ _ _ more room (fed .ensures) (taken .1))
 
 loop-holds : tie.Need-loop-holds Inv-loop μ-loop
 loop-holds c =
@@ -48,17 +47,18 @@ returns-2 : tie.Need-returns-2 Inv-loop μ-loop
 returns-2 c =
     let after-feed = c .before .before .before .before .before .before .before .before .before .before .before .before .before in
     let at-if1 = after-feed .before .before .before .before .before .before .before in
-    let turn = at-if1 .before .before in
-    absurd (dead (turn .loop .inv) _ _ _ (at-if1 .if1 .left) (after-feed .feed .ensures) (c .before .enum-told .given .1))
+    absurd (dead (at-if1 .before .before .loop .inv) _ _ _ (at-if1 .if1 .left) (after-feed .feed .ensures) (c .before .enum-told .given .1))
 
 add-used : tie.Need-add-used Inv-loop μ-loop
 add-used c =
-    let after-good = c .before .before .before .before .before .before .before .before .before .before .before .before .before .before .before .before .before .before .before .before .before .before .before .before .before .before .before .before .before .before .before in
+    let after-good =
+    c .before .before .before .before .before .before .before .before .before .before .before .before .before .before .before .before .before .before .before .before .before .before .before .before .before .before .before .before .before .before .before in
     omega (arith, took c .0, after-good .good .1 .0)
 
 add-written : tie.Need-add-written Inv-loop μ-loop
 add-written c =
-    let at-if1 = c .before .before .before .before .before .before .before .before .before .before .before .before .before .before .before .before .before .before .before .before .before .before .before in
+    let at-if1 =
+    c .before .before .before .before .before .before .before .before .before .before .before .before .before .before .before .before .before .before .before .before .before .before .before in
     let turn = at-if1 .before .before in
     let start = turn .before .before .before .before .before .before .before in omega (arith, took (c .before) .2, at-if1 .if1 .left, turn .loop .inv .out, start .good .1 .1 .1 .1 .1 .1 .0)
 
@@ -71,7 +71,8 @@ shared-slice-read-ends-frame c = omega (arith, took (c .before .before) .0, took
 add-frames : tie.Need-add-frames Inv-loop μ-loop
 add-frames c =
     let stage = c .before .before .before in
-    let turn = stage .before .before .before .before .before .before .before .before .before .before .before .before .before .before .before .before .before .before .before .before .before .before .before .before in
+    let turn =
+    stage .before .before .before .before .before .before .before .before .before .before .before .before .before .before .before .before .before .before .before .before .before .before .before .before in
     let start = turn .before .before .before .before .before .before .before in omega (arith, took stage .0, took stage .1, turn .loop .inv .few, c .ends-frame .ensures .1, start .good .1 .0)
 
 loop-less : tie.Need-loop-less Inv-loop μ-loop
@@ -89,7 +90,8 @@ loop-again c =
     let fed = after-feed .feed in
     let taken = after-taken .taken .given in
     rw (c .ends-frame .ensures .0)
-    (so-far-more (turn .loop .inv) _ _ _ _ _ _ (taken .0 .0) (at-loop-test .loop-test .taken) (at-if1 .if1 .left) (fed .ensures) (taken .1) (fed .kept .1 .1 .0) (fed .kept .1 .1 .1 .0) (fed .kept .1 .1 .1 .1 .0) (fed .kept .1 .1 .1 .1 .1 .0) (fed .kept .1 .1 .1 .1 .1 .1 .0))
+    (so-far-more (turn .loop .inv) _ _ _ _ _ _ _ (at-loop-test .loop-test .taken) (at-if1 .if1 .left) (fed .ensures) (taken .1) (fed .kept .1 .1 .0)
+    (fed .kept .1 .1 .1 .0) (fed .kept .1 .1 .1 .1 .0) (fed .kept .1 .1 .1 .1 .1 .0) (fed .kept .1 .1 .1 .1 .1 .1 .0))
 
 returns-3 : tie.Need-returns-3 Inv-loop μ-loop
 returns-3 c = rw (c .turn-of3 .ensures) (turn-ends (c .before .before .loop .inv) (omega (arith, c .before .loop-test .left)))

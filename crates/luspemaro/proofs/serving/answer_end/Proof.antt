@@ -1,6 +1,6 @@
 -- `luspemaro::serving::answer_end` meets its contract: what is said is sent. Rests on ServeLaws.
 use Rattle.luspemaro.proofs.ServeLaws.{ends}
-use borrow.Author.Needs.{needs}
+use Rattle.listing_rules.proofs.Prelude.{needs}
 use Rattle.luspemaro.proofs.serving.answer_end.Statement.{statement}
 use Rattle.luspemaro.proofs.serving.answer_end.Tie as tie
 

@@ -1,6 +1,6 @@
 -- `luspemaro::serving::answer_some` meets its contract: what is fed is sent. Rests on ServeLaws.
 use Rattle.luspemaro.proofs.ServeLaws.{rounds}
-use borrow.Author.Needs.{needs}
+use Rattle.listing_rules.proofs.Prelude.{needs}
 use Rattle.luspemaro.proofs.serving.answer_some.Statement.{statement}
 use Rattle.luspemaro.proofs.serving.answer_some.Tie as tie
 

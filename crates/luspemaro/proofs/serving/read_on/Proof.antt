@@ -1,10 +1,7 @@
 -- `luspemaro::serving::read_on` meets its contract: bytes, the end of the input, or a failure. Rests on ServeLaws.
 use Rattle.luspemaro.proofs.ServeLaws.{got, room-of, reads-bytes, reads-end, reads-none}
-use Rattle.session.specs.Carrying.{Lent, lent}
-use mathlib.Core.Path.{refl, sym}
-use lib.Seq.{length-take-le}
-use native.Mathlib.Omega.{arith}
-use borrow.Author.Needs.{needs}
+use Rattle.kept_table.specs.Kept.{Lent, lent}
+use Rattle.listing_rules.proofs.Prelude.{refl, sym, arith, length-take-le, needs}
 use Rattle.luspemaro.proofs.serving.read_on.Statement.{statement}
 use Rattle.luspemaro.proofs.serving.read_on.Tie as tie
 
@@ -24,12 +21,14 @@ slice-aggregate-serve c =
 
 answer-end-requires : tie.Need-answer-end-requires
 answer-end-requires c κs =
-    let start = c .before .before .before .before .before .before .before .before .before .before .before .before .before in room-of (memory start) (start .args .line .now) (start .args .place .state) (start .pre)
+    let start = c .before .before .before .before .before .before .before .before .before .before .before .before .before in room-of (memory start)
+    (start .args .line .now) (start .args .place .state) (start .pre)
 
 returns : tie.Need-returns
 returns c =
     let after-answer-end = c .before .before .before .before .before in
-    let start = after-answer-end .before .before .before .before .before .before .before .before .before .before .before .before .before .before in rw (c .write-failed .ensures) (reads-none (memory start) (start .args .line .now) (start .args .place) _ (start .pre) (after-answer-end .answer-end .kept .1 .0) _)
+    let start = after-answer-end .before .before .before .before .before .before .before .before .before .before .before .before .before .before in rw
+    (c .write-failed .ensures) (reads-none (memory start) _ _ _ (start .pre) (after-answer-end .answer-end .kept .1 .0) _)
 
 returns-2 : tie.Need-returns-2
 returns-2 c =
@@ -39,11 +38,13 @@ returns-2 c =
 returns-3 : tie.Need-returns-3
 returns-3 c =
     let after-answer-end = c .before .before .before .before .before in
-    let start = after-answer-end .before .before .before .before .before .before .before .before .before .before .before .before .before .before in rw (c .place-at .ensures) (reads-end (memory start) (start .args .line .now) (start .args .place) _ (start .pre) (after-answer-end .answer-end .kept .1 .0) _)
+    let start = after-answer-end .before .before .before .before .before .before .before .before .before .before .before .before .before .before in rw
+    (c .place-at .ensures) (reads-end (memory start) _ _ _ (start .pre) (after-answer-end .answer-end .kept .1 .0) _)
 
 returns-4 : tie.Need-returns-4
 returns-4 c =
-    let start = c .before .before .before .before .before .before .before .before .before .before .before .before .before in rw (c .read-failed .ensures) (reads-none (memory start) (start .args .line .now) (start .args .place) _ (start .pre) refl _)
+    let start = c .before .before .before .before .before .before .before .before .before .before .before .before .before in rw
+    (c .read-failed .ensures) (reads-none (memory start) _ _ _ (start .pre) refl _)
 
 pub read-on-spec : {M : Type 1} → statement M
 read-on-spec =

@@ -3,12 +3,8 @@ use Rattle.luspemaro.proofs.serving.Place.Laws.{the-laws}
 use Rattle.luspemaro.proofs.serving.Place.{the-type}
 use denote.Struct.Laws.{owed}
 use Rattle.luspemaro.proofs.ServeLaws.{Part, part-none, part-takes, part-more, serves-all, serves-none}
-use Rattle.session.specs.Carrying.{lent}
-use mathlib.Core.Path.{refl, _∙_}
-use Prim.Native.Nat.{_-_}
-use lib.ListN.{length}
-use borrow.Author.Needs.{needs}
-use native.Mathlib.Omega.{arith}
+use Rattle.kept_table.specs.Kept.{lent}
+use Rattle.listing_rules.proofs.Prelude.{_∙_, refl, _-_, arith, length, needs}
 use Rattle.luspemaro.proofs.serving.serve.Statement.{statement}
 use Rattle.luspemaro.proofs.serving.serve.Tie as tie
 
@@ -23,7 +19,7 @@ abbrev μ-loop : tie.MeasureT-loop
 loop-holds : tie.Need-loop-holds Inv-loop μ-loop
 loop-holds c =
     let start = c .before .before .before .before .before .before .before in
-    let fields = owed the-type the-laws (start .args .place) _ (start .good .0) in
+    let fields = owed the-type the-laws _ _ (start .good .0) in
     part-none _ _ _ _ _ (fields .1 .0 .1) (start .pre)
 
 answer-some-requires : tie.Need-answer-some-requires Inv-loop μ-loop
@@ -64,21 +60,23 @@ same-length-5 c =
 returns : tie.Need-returns Inv-loop μ-loop
 returns c =
     let after-answer-some = c .before .before .before .before .before .before .before .before .before .before .before .before .before .before .before in
-    let start = after-answer-some .before .before .before .before .before .before .before .before .before .before .before .before .before .before .before .before in rw (c .write-failed .ensures) (serves-none _ _ _ (start .args .place) _ (after-answer-some .answer-some .ensures .ready-on))
+    let start =
+    after-answer-some .before .before .before .before .before .before .before .before .before .before .before .before .before .before .before .before in rw
+    (c .write-failed .ensures) (serves-none _ _ _ _ _ (after-answer-some .answer-some .ensures .ready-on))
 
 add-at : tie.Need-add-at Inv-loop μ-loop
 add-at c =
     let after-answer-some = c .before .before .before .before .before .before .before .before .before .before .before .before .before .before .before in
     let at-loop-test = after-answer-some .before .before .before .before .before .before .before in
     let turn = at-loop-test .before in
-    let start = turn .before .before .before .before .before .before .before .before in omega (arith, part-takes (turn .loop .inv) (at-loop-test .loop-test .taken) (after-answer-some .answer-some .ensures) .0, start .good .1 .0)
+    let start = turn .before .before .before .before .before .before .before .before in omega
+    (arith, part-takes (turn .loop .inv) (at-loop-test .loop-test .taken) (after-answer-some .answer-some .ensures) .0, start .good .1 .0)
 
 loop-less : tie.Need-loop-less Inv-loop μ-loop
 loop-less c =
     let after-answer-some = c .before .before .before .before .before .before .before .before .before .before .before .before .before .before .before .before in
     let at-loop-test = after-answer-some .before .before .before .before .before .before .before in
-    let turn = at-loop-test .before in
-    let w = part-takes (turn .loop .inv) (at-loop-test .loop-test .taken) (after-answer-some .answer-some .ensures) in
+    let w = part-takes (at-loop-test .before .loop .inv) (at-loop-test .loop-test .taken) (after-answer-some .answer-some .ensures) in
     omega (arith, w .0, w .1)
 
 loop-again : tie.Need-loop-again Inv-loop μ-loop
@@ -87,11 +85,13 @@ loop-again c =
     let at-loop-test = after-answer-some .before .before .before .before .before .before .before in
     let turn = at-loop-test .before in
     let round = after-answer-some .answer-some in
-    part-more (turn .loop .inv) _ _ _ (at-loop-test .loop-test .taken) (round .ensures) (round .kept .1 .1 .0) (round .kept .1 .1 .1 .0) (round .kept .1 .1 .1 .1 .0) (round .kept .1 .1 .1 .1 .1 .0) (round .kept .1 .1 .1 .1 .1 .1 .0) _ (c .advance .ensures)
+    part-more (turn .loop .inv) _ _ _ (at-loop-test .loop-test .taken) (round .ensures) (round .kept .1 .1 .0) (round .kept .1 .1 .1 .0)
+    (round .kept .1 .1 .1 .1 .0) (round .kept .1 .1 .1 .1 .1 .0) (round .kept .1 .1 .1 .1 .1 .1 .0) _ (c .advance .ensures)
 
 returns-2 : tie.Need-returns-2 Inv-loop μ-loop
 returns-2 c =
-    let start = c .before .before .before .before .before .before .before .before .before .before in rw (c .place-at .ensures) (serves-all (c .before .before .loop .inv) (start .args .place) refl refl (omega (arith, c .before .loop-test .left)))
+    let start = c .before .before .before .before .before .before .before .before .before .before in rw (c .place-at .ensures)
+    (serves-all (c .before .before .loop .inv) _ refl refl (omega (arith, c .before .loop-test .left)))
 
 pub serve-spec : {M : Type 1} → statement M
 serve-spec =

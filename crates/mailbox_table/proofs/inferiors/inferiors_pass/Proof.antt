@@ -1,13 +1,9 @@
 -- `mailbox_table::inferiors::inferiors_pass` meets its contract: the rows from i on decide. By InferiorLaws.
-use mathlib.Core.Path.{_≡_, refl, sym, _∙_}
-use Prim.Native.Nat.{_-_}
-use lib.ListN.{length, drop}
-use borrow.Author.Tests.{not-true, not-false}
+use Rattle.listing_rules.proofs.Prelude.{_∙_, _≡_, refl, sym, _-_, drop, length, not-false, not-true, needs}
 use Rattle.listing_rules.specs.Lists.{every}
 use Rattle.listing_rules.specs.Table.{noneBelow}
 use Rattle.mailbox_table.specs.Index.{rowsAt}
 use Rattle.mailbox_table.proofs.InferiorLaws.{every-more, every-stop, every-end}
-use borrow.Author.Needs.{needs}
 use Rattle.mailbox_table.proofs.inferiors.inferiors_pass.Statement.{statement}
 use Rattle.mailbox_table.proofs.inferiors.inferiors_pass.Tie as tie
 
@@ -29,27 +25,25 @@ row-passes-requires c κs =
 returns : tie.Need-returns Inv-loop μ-loop
 returns c =
     let turn = c .before .before .before in
-    let start = turn .before .before .before in
-    let a = start .args in
-    let table = rowsAt (a .area .now) (a .words .now) in
-    sym (every-stop (λ q. noneBelow table q) (a .area .now) (a .words .now) (turn .loop .i) (c .before .before .loop-test .taken) (sym (c .before .row-passes .ensures) ∙ not-true _ (c .if1 .taken)))
+    let a = turn .before .before .before .args in
+    let table = rowsAt _ (a .words .now) in
+    sym (every-stop (λ q. noneBelow table q) _ (a .words .now) _ (c .before .before .loop-test .taken) (sym (c .before .row-passes .ensures) ∙ not-true _ (c .if1 .taken)))
     ∙ turn .loop .inv
 
 loop-again : tie.Need-loop-again Inv-loop μ-loop
 loop-again c =
     let turn = c .before .before .before in
-    let start = turn .before .before .before in
-    let a = start .args in
-    let table = rowsAt (a .area .now) (a .words .now) in
-    sym (every-more (λ q. noneBelow table q) (a .area .now) (a .words .now) (turn .loop .i) (c .before .before .loop-test .taken) (sym (c .before .row-passes .ensures) ∙ not-false _ (c .if1 .left)))
+    let a = turn .before .before .before .args in
+    let table = rowsAt _ (a .words .now) in
+    sym (every-more (λ q. noneBelow table q) _ (a .words .now) _ (c .before .before .loop-test .taken) (sym (c .before .row-passes .ensures) ∙ not-false _ (c .if1 .left)))
     ∙ turn .loop .inv
 
 returns-2 : tie.Need-returns-2 Inv-loop μ-loop
 returns-2 c =
     let start = c .before .before .before .before in
     let a = start .args in
-    let table = rowsAt (a .area .now) (a .words .now) in
-    sym (every-end (λ q. noneBelow table q) (a .area .now) (a .words .now) (c .before .loop .i) (c .loop-test .left)) ∙ c .before .loop .inv
+    let table = rowsAt _ (a .words .now) in
+    sym (every-end (λ q. noneBelow table q) _ (a .words .now) _ (c .loop-test .left)) ∙ c .before .loop .inv
 
 pub inferiors-pass-spec : {M : Type 1} → statement M
 inferiors-pass-spec =

@@ -1,9 +1,5 @@
 -- `mailbox_table::inferiors::row_passes` meets its contract: every row counts, and the scan from row i finds all. By InferiorLaws.
-use mathlib.Core.Path.{_≡_, sym, ap, _∙_}
-use mathlib.Core.Bool.{not}
-use native.Mathlib.Nat.{le-refl}
-use lib.ListN.{getD}
-use borrow.Author.Tests.{not-true, not-false}
+use Rattle.listing_rules.proofs.Prelude.{_∙_, _≡_, ap, sym, not, le-refl, getD, not-false, not-true, needs}
 use Rattle.listing_rules.specs.Bytes.{bit}
 use Rattle.listing_rules.specs.Lists.{anyOf}
 use Rattle.listing_rules.specs.Names.{below}
@@ -13,21 +9,20 @@ use Rattle.mailbox_table.specs.declared.rows.Row.{Row}
 use Rattle.mailbox_table.specs.Words.{rowOfWord}
 use Rattle.mailbox_table.specs.Index.{nameAt, rowAtWord, rowsAt}
 use Rattle.mailbox_table.proofs.InferiorLaws.{none-any, none-some, below-anywhere}
-use borrow.Author.Needs.{needs}
 use Rattle.mailbox_table.proofs.inferiors.row_passes.Statement.{statement}
 use Rattle.mailbox_table.proofs.inferiors.row_passes.Tie as tie
 
 -- the flag, of the row as document 01 has it
-flag : (c : tie.After-has) → let a = c .before .before .before .before .before .args in c .has .result ≡ noInferiors (rowOfWord (getD (a .words .now) (a .i) 0) .flags .bits)
+flag : (c : tie.After-has) → let a = c .before .before .before .before .before .args in c .has .result ≡ noInferiors
+    (rowOfWord (getD (a .words .now) (a .i) 0) .flags .bits)
 unfolding noInferiors
 flag c = c .has .ensures ∙ contains-bit 4 _ ∙ ap (λ (r : Row). bit 4 (r .flags .bits)) (c .before .of-word .ensures)
 
 returns : tie.Need-returns
 returns c =
     let start = c .before .before .before .before .before .before in
-    let a = start .args in
-    let table = rowsAt (a .area .now) (a .words .now) in
-    sym (none-any table (rowAtWord (a .area .now) (getD (a .words .now) (a .i) 0)) (sym (flag (c .before)) ∙ not-true _ (c .if1 .taken)))
+    let table = rowsAt _ (start .args .words .now) in
+    sym (none-any table _ (sym (flag (c .before)) ∙ not-true _ (c .if1 .taken)))
 
 some-below-requires : tie.Need-some-below-requires
 some-below-requires c κs =

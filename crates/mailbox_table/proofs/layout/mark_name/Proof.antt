@@ -1,8 +1,6 @@
 -- `mailbox_table::layout::mark_name` meets its contract: the bytes before k were seen and are marked. By the laws of Marking in LayoutLaws.
-use Prim.Native.Nat.{_-_}
+use Rattle.listing_rules.proofs.Prelude.{_-_, arith, needs}
 use Rattle.mailbox_table.proofs.LayoutLaws.{Marking, marking-none, marking-more, marking-done}
-use borrow.Author.Needs.{needs}
-use native.Mathlib.Omega.{arith}
 use Rattle.mailbox_table.proofs.layout.mark_name.Statement.{statement}
 use Rattle.mailbox_table.proofs.layout.mark_name.Tie as tie
 
@@ -16,7 +14,7 @@ add-end : tie.Need-add-end Inv-loop μ-loop
 add-end c = omega (arith, c .pre .inside)
 
 loop-holds : tie.Need-loop-holds Inv-loop μ-loop
-loop-holds c = marking-none (c .args .used .now) (c .args .start) (c .args .len)
+loop-holds c = marking-none _ _ _
 
 element-copy-out-taken : tie.Need-element-copy-out-taken Inv-loop μ-loop
 element-copy-out-taken c = omega (arith, c .before .before .pre .inside)

@@ -1,21 +1,16 @@
 -- `mailbox_table::link::ascends_at` meets its contract: the place behind what is shared decides. By the laws of order in SharedLaws.
-use mathlib.Core.Path.{sym, ap, _∙_}
-use Prim.Native.Nat.{ℕ}
-use lib.Dec.{ltb}
-use lib.ListN.{getD}
+use Rattle.listing_rules.proofs.Prelude.{_∙_, ap, sym, ℕ, arith, ltb, getD, needs}
 use Rattle.mailbox_table.proofs.SharedLaws.{order-ends, order-begins, order-differs}
-use native.Mathlib.Omega.{arith}
-use borrow.Author.Needs.{needs}
 use Rattle.mailbox_table.proofs.link.ascends_at.Statement.{statement}
 use Rattle.mailbox_table.proofs.link.ascends_at.Tie as tie
 
 returns : tie.Need-returns
-returns c = sym (order-ends (c .before .args .a .now) (c .before .args .b .now) (omega (arith, c .before .pre)))
+returns c = sym (order-ends _ _ (omega (arith, c .before .pre)))
 
 returns-2 : tie.Need-returns-2
 returns-2 c =
     let start = c .before .before in
-    sym (order-begins (start .args .a .now) (start .args .b .now) (omega (arith, start .pre)) (omega (arith, start .pre)))
+    sym (order-begins _ _ (omega (arith, start .pre)) (omega (arith, start .pre)))
 
 returns-3 : tie.Need-returns-3
 returns-3 c =

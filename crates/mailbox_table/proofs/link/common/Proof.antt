@@ -1,12 +1,7 @@
 -- `mailbox_table::link::common` meets its contract: i bytes are alike, and what the rests share is added. By SharedLaws.
-use mathlib.Core.Path.{_≡_, sym, _∙_}
-use Prim.Native.Nat.{_+_, _-_, _≤_}
-use native.Mathlib.Nat.{zero-add}
-use lib.ListN.{drop}
+use Rattle.listing_rules.proofs.Prelude.{_∙_, _≡_, sym, _+_, _-_, _≤_, zero-add, arith, drop, needs}
 use Rattle.mailbox_table.specs.Shared.{sharedLen}
 use Rattle.mailbox_table.proofs.SharedLaws.{shared-more, shared-stop, shared-out, least}
-use borrow.Author.Needs.{needs}
-use native.Mathlib.Omega.{arith}
 use Rattle.mailbox_table.proofs.link.common.Statement.{statement}
 use Rattle.mailbox_table.proofs.link.common.Tie as tie
 
@@ -25,10 +20,9 @@ returns c =
     let after-least = turn-2 .before in
     let start = after-least .before .before .before in
     let least′ = after-least .least in
-    let turn = turn-2 .loop in
     let a = start .args .a .now in
     let b = start .args .b .now in
-    sym (shared-stop a b (turn .i) (omega (arith, least′ .ensures)) (omega (arith, least′ .ensures)) (c .if1 .taken)) ∙ turn .inv .1
+    sym (shared-stop a b _ (omega (arith, least′ .ensures)) (omega (arith, least′ .ensures)) (c .if1 .taken)) ∙ turn-2 .loop .inv .1
 
 loop-again : tie.Need-loop-again Inv-loop μ-loop
 loop-again c =
@@ -36,17 +30,16 @@ loop-again c =
     let after-least = turn-2 .before in
     let start = after-least .before .before .before in
     let least′ = after-least .least in
-    let turn = turn-2 .loop in
     let a = start .args .a .now in
     let b = start .args .b .now in
-    (omega arith, sym (shared-more a b (turn .i) (omega (arith, least′ .ensures)) (omega (arith, least′ .ensures)) (c .if1 .left)) ∙ turn .inv .1)
+    (omega arith, sym (shared-more a b _ (omega (arith, least′ .ensures)) (omega (arith, least′ .ensures)) (c .if1 .left)) ∙ turn-2 .loop .inv .1)
 
 returns-2 : tie.Need-returns-2 Inv-loop μ-loop
 returns-2 c =
     let start = c .before .before .before .before .before in
     let a = start .args .a .now in
     let b = start .args .b .now in
-    sym (shared-out a b (c .before .loop .i) (least a b (c .before .loop .i) (omega (arith, c .before .before .least .ensures)))) ∙ c .before .loop .inv .1
+    sym (shared-out a b _ (least a b _ (omega (arith, c .before .before .least .ensures)))) ∙ c .before .loop .inv .1
 
 pub common-spec : {M : Type 1} → statement M
 common-spec =

@@ -1,13 +1,9 @@
 -- `mailbox_table::link::link_rows` meets its contract. The invariant is the record `Linking`: words passed are linked and tell the same
 -- records, and the words that are left decide. By LinkLaws.
-use mathlib.Core.Path.{_≡_, sym, _∙_}
-use Prim.Native.Nat.{_-_}
-use lib.ListN.{length, getD, length-set}
+use Rattle.listing_rules.proofs.Prelude.{_∙_, _≡_, sym, _-_, arith, getD, length, length-set, needs}
 use Rattle.mailbox_table.specs.declared.rows.Step.the-variants.{Next}
 use Rattle.mailbox_table.specs.Link.{nameIn, stepOf}
 use Rattle.mailbox_table.proofs.LinkLaws.{Linking, linking-none, linking-bad, linking-more, links-fails, links-rows, step-packs}
-use borrow.Author.Needs.{needs}
-use native.Mathlib.Omega.{arith}
 use Rattle.mailbox_table.proofs.link.link_rows.Statement.{statement}
 use Rattle.mailbox_table.proofs.link.link_rows.Tie as tie
 
@@ -18,9 +14,7 @@ abbrev μ-loop : tie.MeasureT-loop
 μ-loop area words₀ previous₀ i₀ words previous i = length words - i
 
 loop-holds : tie.Need-loop-holds Inv-loop μ-loop
-loop-holds c =
-    let start = c .before .before .before in
-    linking-none (start .args .area .now) (start .args .words .now) (c .of-word .result) (c .of-word .ensures)
+loop-holds c = linking-none _ _ _ (c .of-word .ensures)
 
 same-length : tie.Need-same-length Inv-loop μ-loop
 same-length c =
@@ -30,15 +24,16 @@ same-length c =
 returns : tie.Need-returns Inv-loop μ-loop
 returns c =
     let at-loop-test = c .before .before .before .before in
-    let turn-2 = at-loop-test .before in
-    let turn = turn-2 .loop in
+    let turn = at-loop-test .before .loop in
     links-fails (linking-bad (turn .inv) (omega (arith, turn .inv .size, at-loop-test .loop-test .taken))
     (sym (c .before .before .next-row .ensures) ∙ c .enum-told .given .1)) (turn .inv .size)
 
 -- where a row is read
 stepped : (c : tie.After-known-told Inv-loop μ-loop) →
-    let area = c .before .before .before .before .before .before .before .before .before .before .args .area .now in
-    let turn = c .before .before .before .before .before .before .loop in
+    let turn-2 = c .before .before .before .before .before .before in
+    let start = turn-2 .before .before .before .before in
+    let area = start .args .area .now in
+    let turn = turn-2 .loop in
     stepOf area (nameIn area (turn .previous)) (getD (turn .words) (turn .i) 0) ≡ Next (c .before .row .given .0 .0)
 stepped c = sym (c .before .before .before .next-row .ensures) ∙ c .before .row .given .1
 
@@ -46,9 +41,7 @@ relinked-requires : tie.Need-relinked-requires Inv-loop μ-loop
 relinked-requires c κs =
     let turn-2 = c .before .before .before .before .before .before in
     let start = turn-2 .before .before .before .before in
-    let area = start .args .area .now in
-    let turn = turn-2 .loop in
-    step-packs area (nameIn area (turn .previous)) (getD (turn .words) (turn .i) 0) (c .before .row .given .0 .0) (stepped c)
+    step-packs (start .args .area .now) _ _ _ (stepped c)
 
 loop-less : tie.Need-loop-less Inv-loop μ-loop
 loop-less c =
@@ -58,10 +51,9 @@ loop-less c =
 loop-again : tie.Need-loop-again Inv-loop μ-loop
 loop-again c =
     let at-loop-test = c .before .before .before .before .before .before in
-    let turn-2 = at-loop-test .before in
-    let turn = turn-2 .loop in
+    let turn = at-loop-test .before .loop in
     rw (c .relinked .ensures) (linking-more (turn .inv) (omega (arith, turn .inv .size, at-loop-test .loop-test .taken))
-    (c .before .before .row .given .0 .0) (stepped (c .before)))
+    _ (stepped (c .before)))
 
 same-length-2 : tie.Need-same-length-2 Inv-loop μ-loop
 same-length-2 c = c .before .loop .inv .size

@@ -1,8 +1,5 @@
 -- `mailbox_table::link::next_row` meets its contract: each refusal is one part of `stepOf`. By the laws of a step in LinkLaws.
-use mathlib.Core.Path.{_≡_, sym, ap, _∙_, subst}
-use Prim.Native.Nat.{_+_, _<_, _≤_}
-use lib.ListN.{length}
-use borrow.Author.Tests.{not-true, not-false}
+use Rattle.listing_rules.proofs.Prelude.{_∙_, _≡_, ap, subst, sym, _+_, _<_, _≤_, arith, length, not-false, not-true, needs}
 use Rattle.listing_rules.specs.Orders.{byteOrder, isLt}
 use Rattle.listing_rules.specs.Names.{lawfulName}
 use Rattle.listing_rules.specs.Flags.{lawfulFlags}
@@ -14,8 +11,6 @@ use Rattle.mailbox_table.specs.Index.{nameAt}
 use Rattle.mailbox_table.specs.Link.{nameIn}
 use Rattle.mailbox_table.proofs.WordLaws.{place-fits}
 use Rattle.mailbox_table.proofs.LinkLaws.{step-outside, step-flags, step-name, step-order, step-good}
-use native.Mathlib.Omega.{arith}
-use borrow.Author.Needs.{needs}
 use Rattle.mailbox_table.proofs.link.next_row.Statement.{statement}
 use Rattle.mailbox_table.proofs.link.next_row.Tie as tie
 
@@ -44,7 +39,8 @@ named c =
     c .lawful-name .ensures ∙ rw (c .before .name-of .ensures, after-of-word .of-word .ensures)
 
 shared-is : (c : tie.After-common) →
-    let a = c .before .before .before .before .before .before .before .before .before .before .before .args in
+    let start = c .before .before .before .before .before .before .before .before .before .before .before in
+    let a = start .args in
     c .common .result ≡ sharedLen (nameIn (a .area .now) (a .previous)) (nameAt (a .area .now) (a .word))
 unfolding nameAt
 shared-is c =
@@ -53,7 +49,8 @@ shared-is c =
     c .common .ensures ∙ rw (c .before .name-of2 .ensures, after-name-of .name-of .ensures, after-of-word .of-word .ensures)
 
 ordered : (c : tie.After-ascends-at) →
-    let a = c .before .before .before .before .before .before .before .before .before .before .before .before .args in
+    let start = c .before .before .before .before .before .before .before .before .before .before .before .before in
+    let a = start .args in
     c .ascends-at .result ≡ isLt (byteOrder (nameIn (a .area .now) (a .previous)) (nameAt (a .area .now) (a .word)))
 unfolding nameAt
 ordered c =

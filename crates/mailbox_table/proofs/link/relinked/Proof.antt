@@ -1,7 +1,6 @@
 -- `mailbox_table::link::relinked` meets its contract: the row's number, with what stood above the word.
-use mathlib.Core.Path.{_≡_, _∙_}
+use Rattle.listing_rules.proofs.Prelude.{_∙_, _≡_, needs}
 use Rattle.mailbox_table.specs.Below.{withMarks}
-use borrow.Author.Needs.{needs}
 use Rattle.mailbox_table.proofs.link.relinked.Statement.{statement}
 use Rattle.mailbox_table.proofs.link.relinked.Tie as tie
 

@@ -1,12 +1,7 @@
 -- `mailbox_table::link::rows_pass` meets its contract: the pass over the words, then the one over rows with no inferiors. By PassLaws.
-use mathlib.Core.Path.{subst}
-use mathlib.Core.Bool.{Bool, true}
-use mathlib.Core.List.{[]}
-use borrow.Author.Tests.{not-true, not-false}
+use Rattle.listing_rules.proofs.Prelude.{subst, Bool, true, [], arith, not-false, not-true, needs}
 use Rattle.mailbox_table.specs.Link.{linked, Links}
 use Rattle.mailbox_table.proofs.PassLaws.{passes-bad, passes-linked}
-use native.Mathlib.Omega.{arith}
-use borrow.Author.Needs.{needs}
 use Rattle.mailbox_table.proofs.link.rows_pass.Statement.{statement}
 use Rattle.mailbox_table.proofs.link.rows_pass.Tie as tie
 
@@ -39,7 +34,7 @@ inferiors-pass-requires c κs =
 returns-2 : tie.Need-returns-2
 returns-2 c =
     let after-pre = c .before .before .before .before .before .before .before .before .before in
-    passes-linked (after-pre .pre) (done (c .before .before)) (c .inferiors-pass .result) (c .inferiors-pass .ensures)
+    passes-linked (after-pre .pre) (done (c .before .before)) _ (c .inferiors-pass .ensures)
 
 pub rows-pass-spec : {M : Type 1} → statement M
 rows-pass-spec =

@@ -1,14 +1,9 @@
 -- `mailbox_table::packed::find_rows` meets its contract: the bytes turned into records, then check 1 of their rows. By FindLaws.
-use mathlib.Core.Path.{subst}
-use mathlib.Core.Bool.{Bool}
-use lib.ListN.{take, length-take}
-use borrow.Author.Tests.{not-true, not-false}
+use Rattle.listing_rules.proofs.Prelude.{subst, Bool, arith, length-take, take, not-false, not-true, needs}
 use Rattle.mailbox_table.specs.declared.Indexing.{Indexing}
 use Rattle.mailbox_table.specs.Packed.{Splits}
 use Rattle.mailbox_table.specs.Link.{Links, wordsPass}
 use Rattle.mailbox_table.proofs.FindLaws.{Split, split, finds-no-room, finds-bad, finds-rows}
-use native.Mathlib.Omega.{arith}
-use borrow.Author.Needs.{needs}
 use Rattle.mailbox_table.proofs.packed.find_rows.Statement.{statement}
 use Rattle.mailbox_table.proofs.packed.find_rows.Tie as tie
 
@@ -22,8 +17,10 @@ returns c =
 
 -- where the bytes are turned into records
 made : (c : tie.After-known-told) →
-    let a = c .before .before .before .before .before .before .before .before .before .args in Split (a .table .now) (a .words .now)
-    (c .before .before .before .before .before .split-rows .last .1 .0) (c .before .n .given .0 .0)
+    let after-split-rows = c .before .before .before .before .before in
+    let start = after-split-rows .before .before .before .before in
+    let a = start .args in Split (a .table .now) (a .words .now)
+    (after-split-rows .split-rows .last .1 .0) (c .before .n .given .0 .0)
 made c =
     let after-split-rows = c .before .before .before .before .before in
     let start = after-split-rows .before .before .before .before in
@@ -47,9 +44,9 @@ returns-2 c =
     let after-split-rows = after-n .before .before .before .before in
     let start = after-split-rows .before .before .before .before in
     let t = start .args .table .now in
-    let front = take (after-n .n .given .0 .0) (after-split-rows .split-rows .last .1 .0) in
+    let front = take (after-n .n .given .0 .0) _ in
     let pass = c .before .before .before .rows-pass in
-    finds-bad (made (stage)) (subst (λ (r : Bool). Links t front (pass .last .1 .0) (wordsPass t front) r) (not-true _ (c .if1 .taken)) (pass .ensures))
+    finds-bad (made stage) (subst (λ (r : Bool). Links t front (pass .last .1 .0) (wordsPass t front) r) (not-true _ (c .if1 .taken)) (pass .ensures))
 
 returns-3 : tie.Need-returns-3
 returns-3 c =
@@ -58,9 +55,9 @@ returns-3 c =
     let after-split-rows = after-n .before .before .before .before in
     let start = after-split-rows .before .before .before .before in
     let t = start .args .table .now in
-    let front = take (after-n .n .given .0 .0) (after-split-rows .split-rows .last .1 .0) in
+    let front = take (after-n .n .given .0 .0) _ in
     let pass = c .before .before .before .rows-pass in
-    finds-rows (made (stage)) (subst (λ (r : Bool). Links t front (pass .last .1 .0) (wordsPass t front) r) (not-false _ (c .if1 .left)) (pass .ensures))
+    finds-rows (made stage) (subst (λ (r : Bool). Links t front (pass .last .1 .0) (wordsPass t front) r) (not-false _ (c .if1 .left)) (pass .ensures))
 
 pub find-rows-spec : {M : Type 1} → statement M
 find-rows-spec =

@@ -1,13 +1,10 @@
 -- `mailbox_table::packed::split_rows` meets its contract. The invariant is the record `Splitting`: rows passed are kept as words, and the
 -- bytes that are left decide. By PackedLaws.
-use mathlib.Core.Path.{_≡_, refl, sym, _∙_}
-use Prim.Native.Nat.{ℕ, _-_, _<_}
-use lib.ListN.{length, getD}
+use Rattle.listing_rules.proofs.Prelude.{_∙_, _≡_, refl, sym, _-_, _<_, ℕ, arith, getD, length, needs}
 use Rattle.mailbox_table.specs.declared.rows.Step.the-variants.{Next}
 use Rattle.mailbox_table.specs.Packed.{stepAt}
-use Rattle.mailbox_table.proofs.PackedLaws.{Splitting, splitting-none, splitting-full, splitting-bad, splitting-more, splits-fails, splits-rows, unpacking-long, step-packs, step-inside, step-start}
-use borrow.Author.Needs.{needs}
-use native.Mathlib.Omega.{arith}
+use Rattle.mailbox_table.proofs.PackedLaws.{Splitting, splitting-none, splitting-full, splitting-bad, splitting-more, splits-fails}
+use Rattle.mailbox_table.proofs.PackedLaws.{splits-rows, unpacking-long, step-packs, step-inside, step-start}
 use Rattle.mailbox_table.proofs.packed.split_rows.Statement.{statement}
 use Rattle.mailbox_table.proofs.packed.split_rows.Tie as tie
 
@@ -19,18 +16,15 @@ abbrev μ-loop : tie.MeasureT-loop
 
 returns : tie.Need-returns Inv-loop μ-loop
 returns c =
-    let start = c .before .before .before in
     record {
-      answer = sym (unpacking-long (start .args .table .now) (length (start .args .words .now)) (c .if1 .taken));
+      answer = sym (unpacking-long _ _ (c .if1 .taken));
       room = refl;
       records = tt;
       stays = tt;
     }
 
 loop-holds : tie.Need-loop-holds Inv-loop μ-loop
-loop-holds c =
-    let start = c .before .before .before .before in
-    splitting-none (start .args .table .now) (start .args .words .now) (c .least .result)
+loop-holds c = splitting-none _ _ _
 
 same-length : tie.Need-same-length Inv-loop μ-loop
 same-length c = c .before .before .loop .inv .size
@@ -40,7 +34,7 @@ returns-2 c =
     let at-if1 = c .before .before .before .before in
     let limit = c .before .before .before .least in
     let turn = c .before .before .loop in
-    splits-fails (limit .result) (limit .ensures) (at-if1 .if1 .left) (splitting-full (turn .inv) (c .before .loop-test .taken) (c .if2 .taken))
+    splits-fails _ (limit .ensures) (at-if1 .if1 .left) (splitting-full (turn .inv) (c .before .loop-test .taken) (c .if2 .taken))
     (turn .inv .size)
 
 row-at-requires : tie.Need-row-at-requires Inv-loop μ-loop
@@ -58,17 +52,16 @@ returns-3 c =
     let at-loop-test = c .before .before .before .before in
     let turn-2 = at-loop-test .before in
     let after-least = turn-2 .before in
-    let at-if1 = after-least .before in
-    let limit = after-least .least in
     let turn = turn-2 .loop in
-    splits-fails (limit .result) (limit .ensures) (at-if1 .if1 .left)
+    splits-fails _ (after-least .least .ensures) (after-least .before .if1 .left)
     (splitting-bad (turn .inv) (at-loop-test .loop-test .taken) (sym (c .before .before .row-at .ensures) ∙ c .enum-told .given .1))
     (turn .inv .size)
 
 -- where a row is read
 stepped : (c : tie.After-known-told Inv-loop μ-loop) →
-    let start = c .before .before .before .before .before .before .before .before .before .before .before in
-    let turn = c .before .before .before .before .before .before .loop in
+    let turn-2 = c .before .before .before .before .before .before in
+    let start = turn-2 .before .before .before .before .before in
+    let turn = turn-2 .loop in
     stepAt (start .args .table .now) (turn .at) ≡ Next (c .before .row .given .0 .0)
 stepped c = sym (c .before .before .before .row-at .ensures) ∙ c .before .row .given .1
 
@@ -83,10 +76,9 @@ word-at-requires : tie.Need-word-at-requires Inv-loop μ-loop
 word-at-requires c κs =
     let turn = c .before .before .before .before .before .before in
     let at-if1 = turn .before .before in
-    let start = at-if1 .before .before .before in
     let at-loop-test = c .before .before .before .before .before in (
       record { inside = at-loop-test .loop-test .taken; bound = at-if1 .if1 .left },
-      step-packs (start .args .table .now) (turn .loop .at) (c .before .row .given .0 .0) (stepped c) (at-if1 .if1 .left) (λ k. byte c k),
+      step-packs _ _ _ (stepped c) (at-if1 .if1 .left) (λ k. byte c k),
     )
 
 mul-words : tie.Need-mul-words Inv-loop μ-loop
@@ -97,22 +89,13 @@ mul-words c =
 slice-write-words : tie.Need-slice-write-words Inv-loop μ-loop
 slice-write-words c =
     let turn = c .before .before .before .before .before .before .before in
-    let after-least = turn .before in
-    omega (arith, turn .loop .inv .size, after-least .least .ensures)
+    omega (arith, turn .loop .inv .size, turn .before .least .ensures)
 
 add-at : tie.Need-add-at Inv-loop μ-loop
-add-at c =
-    let known = c .before .before in
-    let turn = known .before .before .before .before .before .before in
-    let start = turn .before .before .before .before .before in
-    omega (arith, step-inside (start .args .table .now) (turn .loop .at) (known .before .row .given .0 .0) (stepped known))
+add-at c = omega (arith, step-inside _ _ _ (stepped (c .before .before)))
 
 loop-less : tie.Need-loop-less Inv-loop μ-loop
-loop-less c =
-    let known = c .before .before in
-    let turn = known .before .before .before .before .before .before in
-    let start = turn .before .before .before .before .before in
-    omega (arith, step-start (start .args .table .now) (turn .loop .at) (known .before .row .given .0 .0) (stepped known))
+loop-less c = omega (arith, step-start _ _ _ (stepped (c .before .before)))
 
 loop-again : tie.Need-loop-again Inv-loop μ-loop
 loop-again c =
@@ -121,18 +104,15 @@ loop-again c =
     let at-loop-test = at-if2 .before in
     let turn = at-loop-test .before in
     let after-least = turn .before in
-    let at-if1 = after-least .before in
     rw (c .before .word-at .ensures)
-    (splitting-more (turn .loop .inv) (at-loop-test .loop-test .taken) (at-if1 .if1 .left) (λ k. byte known k) (at-if2 .if2 .left)
-    (omega (arith, after-least .least .ensures)) (known .before .row .given .0 .0) (stepped known))
+    (splitting-more (turn .loop .inv) (at-loop-test .loop-test .taken) (after-least .before .if1 .left) (λ k. byte known k) (at-if2 .if2 .left)
+    (omega (arith, after-least .least .ensures)) _ (stepped known))
 
 same-length-3 : tie.Need-same-length-3 Inv-loop μ-loop
 same-length-3 c = c .before .loop .inv .size
 
 returns-4 : tie.Need-returns-4 Inv-loop μ-loop
-returns-4 c =
-    let limit = c .before .before .least in
-    splits-rows (limit .result) (limit .ensures) (c .before .before .before .if1 .left) (c .before .loop .inv) (c .loop-test .left)
+returns-4 c = splits-rows _ (c .before .before .least .ensures) (c .before .before .before .if1 .left) (c .before .loop .inv) (c .loop-test .left)
 
 pub split-rows-spec : {M : Type 1} → statement M
 split-rows-spec =

@@ -1,8 +1,6 @@
 -- `mailbox_table::packed::word_at` meets its contract: the row's number, with the readers' byte above it.
-use mathlib.Core.Path.{_≡_, _∙_}
+use Rattle.listing_rules.proofs.Prelude.{_∙_, _≡_, arith, needs}
 use Rattle.mailbox_table.specs.Below.{withMarks}
-use borrow.Author.Needs.{needs}
-use native.Mathlib.Omega.{arith}
 use Rattle.mailbox_table.proofs.packed.word_at.Statement.{statement}
 use Rattle.mailbox_table.proofs.packed.word_at.Tie as tie
 

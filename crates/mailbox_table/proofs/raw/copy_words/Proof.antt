@@ -1,9 +1,6 @@
 -- `mailbox_table::raw::copy_words` meets its contract: the words before i are copied. By CopyLaws.
-use Prim.Native.Nat.{_-_, _≤_}
+use Rattle.listing_rules.proofs.Prelude.{_≡_, _-_, _≤_, arith, needs}
 use Rattle.mailbox_table.proofs.CopyLaws.{Copied, copied-none, copied-more}
-use mathlib.Core.Path.{_≡_}
-use borrow.Author.Needs.{needs}
-use native.Mathlib.Omega.{arith}
 use Rattle.mailbox_table.proofs.raw.copy_words.Statement.{statement}
 use Rattle.mailbox_table.proofs.raw.copy_words.Tie as tie
 
@@ -14,7 +11,7 @@ abbrev μ-loop : tie.MeasureT-loop
 μ-loop raw count words₀ i₀ words i = count - i
 
 loop-holds : tie.Need-loop-holds Inv-loop μ-loop
-loop-holds c = (omega arith, copied-none (c .args .raw .now) (c .args .words .now))
+loop-holds c = (omega arith, copied-none _ _)
 
 slice-write-words : tie.Need-slice-write-words Inv-loop μ-loop
 slice-write-words c = omega (arith, c .before .before .before .pre, c .before .before .loop .inv .1 .size)

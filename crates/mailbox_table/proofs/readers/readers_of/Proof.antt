@@ -1,7 +1,6 @@
 -- `mailbox_table::readers::readers_of` meets its contract: the byte is the definition, opened.
-use mathlib.Core.Path.{refl}
+use Rattle.listing_rules.proofs.Prelude.{refl, needs}
 use Rattle.records.specs.Words.{recordOf}
-use borrow.Author.Needs.{needs}
 use Rattle.mailbox_table.proofs.readers.readers_of.Statement.{statement}
 use Rattle.mailbox_table.proofs.readers.readers_of.Tie as tie
 

@@ -1,16 +1,9 @@
 -- `mailbox_table::readers::see_rows` meets its contract: the words at the front are those seen of the first i, `low` the least since. By SeenLaws.
-use mathlib.Core.Path.{_≡_, sym, ap, _∙_}
-use mathlib.Core.Logic.{⊎-elim}
-use Prim.Native.Nat.{_-_, _<_, min}
-use lib.ListN.{length, getD}
+use Rattle.listing_rules.proofs.Prelude.{_∙_, _≡_, ap, sym, ⊎-elim, _-_, _<_, min, arith, getD, length, needs}
 use Rattle.octets.specs.Sets.{touches}
 use Rattle.records.specs.Words.{recordOf}
 use Rattle.mailbox_table.specs.declared.rows.Row.{Row}
-use Rattle.mailbox_table.specs.Words.{rowOfWord}
-use Rattle.mailbox_table.specs.Seen.{memberOf}
 use Rattle.mailbox_table.proofs.SeenLaws.{Seeing, seeing-none, seeing-hidden, seeing-seen, seeing-all}
-use borrow.Author.Needs.{needs}
-use native.Mathlib.Omega.{arith}
 use Rattle.mailbox_table.proofs.readers.see_rows.Statement.{statement}
 use Rattle.mailbox_table.proofs.readers.see_rows.Tie as tie
 
@@ -21,7 +14,7 @@ abbrev μ-loop : tie.MeasureT-loop
 μ-loop words₀ reader own seen₀ low₀ i₀ words seen low i = length words₀ - i
 
 loop-holds : tie.Need-loop-holds Inv-loop μ-loop
-loop-holds c = seeing-none (c .before .before .args .reader) (c .before .before .args .words .now)
+loop-holds c = seeing-none _ _
 
 loop-again : tie.Need-loop-again Inv-loop μ-loop
 loop-again c =
@@ -29,12 +22,12 @@ loop-again c =
     let after-least = own-readers .before in
     let turn = after-least .before .before .before .before .loop in
     let at-start = after-least .before .before .before .before .before in
-    let word = getD (turn .words) (turn .i) 0 in
+    let word = getD (turn .words) _ 0 in
     let here : turn .i < length (at-start .before .before .args .words .now) = omega
     (arith, after-least .before .before .before .loop-test .taken, turn .inv .size) in
-    let low-is : after-least .least .result ≡ min (turn .low) (rowOfWord word .shared) =
+    let low-is : after-least .least .result ≡ min _ _ =
     after-least .least .ensures ∙ ap (λ (r : Row). min (turn .low) (r .shared)) (after-least .before .of-word .ensures) in
-    let test : c .before .meets .result ≡ touches (recordOf word .readers) (memberOf (at-start .before .before .args .reader)) =
+    let test : c .before .meets .result ≡ touches (recordOf word .readers) _ =
     c .before .meets .ensures ∙ (λ i. touches (own-readers .readers-of .ensures i) (at-start .one .ensures i)) in
     ⊎-elim
     (λ w. rw (w .2, w .3, w .4, w .1 .ensures, low-is) (seeing-seen (turn .inv) here (sym test ∙ w .0 .taken)))

@@ -1,11 +1,9 @@
 -- `mailbox_table::readers::with_shared` meets its contract: the sum is the definition, opened, and the shared bytes lie in the word. By SeenLaws.
-use mathlib.Core.Path.{_≡_, ap}
+use Rattle.listing_rules.proofs.Prelude.{_≡_, ap, arith, needs}
 use Rattle.mailbox_table.specs.declared.rows.Row.{Row}
 use Rattle.mailbox_table.specs.Words.{rowOfWord}
 use Rattle.mailbox_table.specs.Seen.{withShared}
 use Rattle.mailbox_table.proofs.SeenLaws.{shared-fits, shared-inside, with-fits}
-use borrow.Author.Needs.{needs}
-use native.Mathlib.Omega.{arith}
 use Rattle.mailbox_table.proofs.readers.with_shared.Statement.{statement}
 use Rattle.mailbox_table.proofs.readers.with_shared.Tie as tie
 
@@ -24,7 +22,7 @@ unfolding withShared
 returns c = rw (the-shared c)
 
 add-result : tie.Need-add-result
-add-result c = omega (arith, returns c, with-fits (c .before .args .shared) (c .before .args .word) (c .before .pre) (c .before .fits .word .fits))
+add-result c = omega (arith, returns c, with-fits _ _ (c .before .pre) (c .before .fits .word .fits))
 
 pub with-shared-spec : {M : Type 1} → statement M
 with-shared-spec = tie.close (tie.spec (λ c κs. search needs) mul-result sub-result (λ c. search needs) add-result returns)

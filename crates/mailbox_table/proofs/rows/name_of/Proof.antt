@@ -1,21 +1,14 @@
 -- `mailbox_table::rows::name_of` meets its contract: a part that is cut to the area is what `take` and `drop` give. By WordLaws.
-use mathlib.Core.Path.{_≡_}
-use Prim.Native.Nat.{_+_, _-_}
+use Rattle.listing_rules.proofs.Prelude.{_≡_, _+_, _-_, arith, needs}
 use Rattle.mailbox_table.proofs.WordLaws.{name-out, name-cut}
-use native.Mathlib.Omega.{arith}
-use borrow.Author.Needs.{needs}
 use Rattle.mailbox_table.proofs.rows.name_of.Statement.{statement}
 use Rattle.mailbox_table.proofs.rows.name_of.Tie as tie
 
 returns : tie.Need-returns
-returns c =
-    let start = c .before .before in
-    name-out (start .args .area .now) (start .args .row .start) (start .args .row .len) (c .before .if1 .taken)
+returns c = name-out _ _ (c .before .before .args .row .len) (c .before .if1 .taken)
 
 returns-2 : tie.Need-returns-2
-returns-2 c =
-    let start = c .before .before .before in
-    name-cut (start .args .area .now) (start .args .row .start) (start .args .row .len) (c .before .if2 .taken)
+returns-2 c = name-cut _ (c .before .before .before .args .row .start) _ (c .before .if2 .taken)
 
 returns-3 : tie.Need-returns-3
 returns-3 c =

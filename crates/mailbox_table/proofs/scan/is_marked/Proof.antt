@@ -1,8 +1,6 @@
 -- `mailbox_table::scan::is_marked` meets its contract, by that of `marks_of`.
-use mathlib.Core.Path.{ap}
-use Prim.Native.Nat.{ℕ}
+use Rattle.listing_rules.proofs.Prelude.{ap, ℕ, needs}
 use Rattle.octets.specs.Sets.{contains}
-use borrow.Author.Needs.{needs}
 use Rattle.mailbox_table.proofs.scan.is_marked.Statement.{statement}
 use Rattle.mailbox_table.proofs.scan.is_marked.Tie as tie
 

@@ -1,7 +1,6 @@
 -- `mailbox_table::scan::marks_of` meets its contract: the code is the definition, opened.
-use mathlib.Core.Path.{refl}
+use Rattle.listing_rules.proofs.Prelude.{refl, needs}
 use Rattle.mailbox_table.specs.Below.{marksOf}
-use borrow.Author.Needs.{needs}
 use Rattle.mailbox_table.proofs.scan.marks_of.Statement.{statement}
 use Rattle.mailbox_table.proofs.scan.marks_of.Tie as tie
 

@@ -1,18 +1,12 @@
 -- `mailbox_table::scan::some_after` meets its contract: the rows from k on decide, and the row before k begins with the bytes.
 -- Each way through the turn is a law of ScanLaws.
-use mathlib.Core.Path.{_≡_, refl, sym, _∙_, subst}
-use mathlib.Core.Bool.{true, _&&_}
-use Prim.Native.Nat.{_+_, _-_, _<_, _≤_}
-use lib.Dec.{eqb}
-use lib.ListN.{length, getD}
+use Rattle.listing_rules.proofs.Prelude.{_∙_, _≡_, refl, subst, sym, _&&_, true, _+_, _-_, _<_, _≤_, arith, eqb, getD, length, needs}
 use Rattle.octets.specs.Sets.{contains}
 use Rattle.mailbox_table.specs.declared.rows.Row.{Row}
 use Rattle.mailbox_table.specs.Index.{nameAt, nthName}
 use Rattle.mailbox_table.specs.Below.{marksOf, prefixOf, belowFrom}
 use Rattle.mailbox_table.proofs.BelowLaws.{starts, starts-take}
 use Rattle.mailbox_table.proofs.ScanLaws.{starts-next, scan-shared, scan-byte, scan-found, scan-on, scan-end}
-use borrow.Author.Needs.{needs}
-use native.Mathlib.Omega.{arith}
 use Rattle.mailbox_table.proofs.scan.some_after.Statement.{statement}
 use Rattle.mailbox_table.proofs.scan.some_after.Tie as tie
 
@@ -27,26 +21,21 @@ abbrev μ-loop : tie.MeasureT-loop
 
 -- where a row is known: its name begins with the bytes
 begins : (c : tie.Else1 Inv-loop μ-loop) →
-    starts (prefixOf (c .before .before .before .before .before .before .before .before .args .area .now)
-    (c .before .before .before .before .before .before .before .before .args .words .now)
-    (c .before .before .before .before .before .before .before .before .args .i)
-    (c .before .before .before .before .before .before .before .before .args .len))
-    (nthName (c .before .before .before .before .before .before .before .before .args .area .now)
-    (c .before .before .before .before .before .before .before .before .args .words .now) (c .before .before .before .before .before .loop .k)) ≡ true
+    let turn = c .before .before .before .before .before in
+    let start = turn .before .before .before in
+    starts (prefixOf (start .args .area .now) (start .args .words .now) (start .args .i) (start .args .len)) (nthName (start .args .area .now) (start .args .words .now) (turn .loop .k)) ≡ true
 begins c =
     let at-loop-test = c .before .before .before .before in
     let turn-2 = at-loop-test .before in
     let start = turn-2 .before .before .before in
-    let turn = turn-2 .loop in
-    starts-next (start .pre) (start .args .marks) (turn .k) (at-loop-test .loop-test .taken) (omega arith) (turn .inv .1)
+    starts-next (start .pre) (start .args .marks) _ (at-loop-test .loop-test .taken) (omega arith) (turn-2 .loop .inv .1)
     (subst (λ (r : Row). start .args .len ≤ r .shared) (c .before .before .of-word .ensures) (c .if1 .left))
 
 -- the byte after them
 byte : (c : tie.After-byte-at Inv-loop μ-loop) →
-    c .byte-at .result ≡ getD (nthName (c .before .before .before .before .before .before .before .before .before .before .args .area .now)
-    (c .before .before .before .before .before .before .before .before .before .before .args .words .now)
-    (c .before .before .before .before .before .before .before .loop .k))
-    (c .before .before .before .before .before .before .before .before .before .before .args .len) 0
+    let turn = c .before .before .before .before .before .before .before in
+    let start = turn .before .before .before in
+    c .byte-at .result ≡ getD (nthName (start .args .area .now) (start .args .words .now) (turn .loop .k)) (start .args .len) 0
 unfolding nameAt
 byte c =
     let after-of-word = c .before .before .before .before in
@@ -54,21 +43,16 @@ byte c =
 
 -- the test of the byte and of the marks
 test : (c : tie.After-is-marked Inv-loop μ-loop) →
-    (eqb (c .before .before .before .byte-at .result) 47 && c .is-marked .result) ≡
-    (eqb (getD (nthName (c .before .before .before .before .before .before .before .before .before .before .before .before .before .args .area .now)
-    (c .before .before .before .before .before .before .before .before .before .before .before .before .before .args .words .now)
-    (c .before .before .before .before .before .before .before .before .before .before .loop .k))
-    (c .before .before .before .before .before .before .before .before .before .before .before .before .before .args .len) 0) 47 && contains
-    (marksOf (getD (c .before .before .before .before .before .before .before .before .before .before .before .before .before .args .words .now)
-    (c .before .before .before .before .before .before .before .before .before .before .loop .k) 0))
-    (c .before .before .before .before .before .before .before .before .before .before .before .before .before .args .marks))
+    let turn = c .before .before .before .before .before .before .before .before .before .before in
+    let start = turn .before .before .before in
+    (eqb (c .before .before .before .byte-at .result) 47 && c .is-marked .result) ≡ (eqb (getD (nthName (start .args .area .now) (start .args .words .now) (turn .loop .k)) (start .args .len) 0) 47 && contains (marksOf (getD (start .args .words .now) (turn .loop .k) 0)) (start .args .marks))
 test c = λ j. eqb (byte (c .before .before .before) j) 47 && c .is-marked .ensures j
 
 loop-holds : tie.Need-loop-holds Inv-loop μ-loop
 loop-holds c =
     let a = c .before .before .args in
     let e : a .i + 1 - 1 ≡ a .i = omega arith in
-    (omega arith, rw e (starts-take (a .len) (nthName (a .area .now) (a .words .now) (a .i))), refl)
+    (omega arith, rw e (starts-take (a .len) _), refl)
 
 returns : tie.Need-returns Inv-loop μ-loop
 returns c =
@@ -77,7 +61,7 @@ returns c =
     let start = turn-2 .before .before .before in
     let turn = turn-2 .loop in
     sym
-    (scan-shared (start .pre) (start .args .marks) (turn .k) (at-loop-test .loop-test .taken) (omega arith) (turn .inv .1)
+    (scan-shared (start .pre) _ _ (at-loop-test .loop-test .taken) (omega arith) (turn .inv .1)
     (subst (λ (r : Row). r .shared < start .args .len) (c .before .before .of-word .ensures) (c .if1 .taken)))
     ∙ turn .inv .2
 
@@ -87,7 +71,7 @@ returns-2 c =
     let turn-2 = at-loop-test .before in
     let start = turn-2 .before .before .before in
     let turn = turn-2 .loop in
-    sym (scan-byte (start .pre) (start .args .marks) (turn .k) (at-loop-test .loop-test .taken) (begins (c .before .before .before)) (omega (arith, byte (c .before)))) ∙ turn .inv .2
+    sym (scan-byte (start .pre) _ _ (at-loop-test .loop-test .taken) (begins (c .before .before .before)) (omega (arith, byte (c .before)))) ∙ turn .inv .2
 
 returns-3 : tie.Need-returns-3 Inv-loop μ-loop
 returns-3 c =
@@ -95,9 +79,8 @@ returns-3 c =
     let at-loop-test = stage .before .before .before .before in
     let turn-2 = at-loop-test .before in
     let start = turn-2 .before .before .before in
-    let turn = turn-2 .loop in
-    sym (scan-found (start .pre) (start .args .marks) (turn .k) (at-loop-test .loop-test .taken) (begins (stage)) (sym (test (c .before)) ∙ c .if3 .taken))
-    ∙ turn .inv .2
+    sym (scan-found (start .pre) _ _ (at-loop-test .loop-test .taken) (begins stage) (sym (test (c .before)) ∙ c .if3 .taken))
+    ∙ turn-2 .loop .inv .2
 
 loop-again : tie.Need-loop-again Inv-loop μ-loop
 loop-again c =
@@ -108,13 +91,13 @@ loop-again c =
     let turn = turn-2 .loop in
     let e : turn .k + 1 - 1 ≡ turn .k = omega arith in (
       omega arith,
-      rw e (begins (stage)),
-      sym (scan-on (start .pre) (start .args .marks) (turn .k) (at-loop-test .loop-test .taken) (begins (stage)) (sym (test (c .before)) ∙ c .if3 .left)) ∙ turn .inv .2,
+      rw e (begins stage),
+      sym (scan-on (start .pre) _ _ (at-loop-test .loop-test .taken) (begins stage) (sym (test (c .before)) ∙ c .if3 .left)) ∙ turn .inv .2,
     )
 
 returns-4 : tie.Need-returns-4 Inv-loop μ-loop
 returns-4 c =
-    let start = c .before .before .before .before in sym (scan-end (start .pre) (start .args .marks) (c .before .loop .k) (c .loop-test .left)) ∙ c .before .loop .inv .2
+    let start = c .before .before .before .before in sym (scan-end (start .pre) _ _ (c .loop-test .left)) ∙ c .before .loop .inv .2
 
 pub some-after-spec : {M : Type 1} → statement M
 some-after-spec =

@@ -1,7 +1,6 @@
 -- `mailbox_table::scan::with_marks` meets its contract: the code is the definition, opened.
-use mathlib.Core.Path.{refl}
+use Rattle.listing_rules.proofs.Prelude.{refl, needs}
 use Rattle.mailbox_table.specs.Below.{withMarks}
-use borrow.Author.Needs.{needs}
 use Rattle.mailbox_table.proofs.scan.with_marks.Statement.{statement}
 use Rattle.mailbox_table.proofs.scan.with_marks.Tie as tie
 

@@ -1,8 +1,7 @@
 -- `look_at_ends` is the definition, by the bytes at the last places. Rests on OneStep.
-use mathlib.Core.Path.{sym}
+use Rattle.listing_rules.proofs.Prelude.{sym, needs}
 use Rattle.pattern.specs.Steps.{apart}
 use Rattle.pattern.proofs.OneStep.{ends-blank, ends-nameless, ends-by}
-use borrow.Author.Needs.{needs}
 use Rattle.pattern.proofs.steps.look_at_ends.Statement.{statement}
 use Rattle.pattern.proofs.steps.look_at_ends.Tie as tie
 
@@ -16,9 +15,7 @@ returns-3 : tie.Need-returns-3
 unfolding apart
 returns-3 c =
     let at-if2 = c .before .before .before .before in
-    let at-if1 = at-if2 .before in
-    let args = at-if1 .before .before .before .args in
-    rw (c .before .before .letter .ensures, c .one-more .ensures) (sym (ends-by (args .fold) (args .pattern .now) (args .name .now) (at-if1 .if1 .left) (at-if2 .if2 .left)))
+    rw (c .before .before .letter .ensures, c .one-more .ensures) (sym (ends-by _ _ _ (at-if2 .before .if1 .left) (at-if2 .if2 .left)))
 
 pub look-at-ends-spec : {M : Type 1} → statement M
 look-at-ends-spec =

@@ -1,7 +1,6 @@
 -- `one_more` is the definition: the sum, up to the largest number.
-use native.Mathlib.Omega.{arith}
+use Rattle.listing_rules.proofs.Prelude.{arith, needs}
 use Rattle.pattern.specs.Steps.{oneMore}
-use borrow.Author.Needs.{needs}
 use Rattle.pattern.proofs.steps.one_more.Statement.{statement}
 use Rattle.pattern.proofs.steps.one_more.Tie as tie
 

@@ -4,7 +4,7 @@ use Rattle.pattern.specs.declared.steps.Going.the-variants.{On, Matched,
 use Rattle.pattern.proofs.Stepping.{dueAt}
 use Rattle.pattern.proofs.Running.{Turn, turn-apart, turn-inside, turn-less, turn-next}
 use Rattle.pattern.proofs.Front.{turn-front}
-use borrow.Author.Needs.{needs}
+use Rattle.listing_rules.proofs.Prelude.{needs}
 use Rattle.pattern.proofs.steps.run_steps.Statement.{statement}
 use Rattle.pattern.proofs.steps.run_steps.Tie as tie
 
@@ -15,51 +15,28 @@ abbrev μ-loop : tie.MeasureT-loop
 μ-loop pattern name fold front at₀ at = dueAt fold pattern name at
 
 returns : tie.Need-returns Inv-loop μ-loop
-returns c =
-    let start = c .before .before .before .before in
-    let args = start .args in
-    turn-apart (args .fold) (args .pattern .now) (args .name .now) _ (c .before .look-at-ends .ensures) (c .if1 .taken)
+returns c = turn-apart _ _ _ _ (c .before .look-at-ends .ensures) (c .if1 .taken)
 
 loop-holds : tie.Need-loop-holds Inv-loop μ-loop
 loop-holds c =
     let at-if1 = c .before .before in
-    let args = at-if1 .before .before .before .before .args in
-    turn-front (args .fold) (args .pattern .now) (args .name .now) _ (at-if1 .before .look-at-ends .ensures) (at-if1 .if1 .left) _
+    turn-front _ _ _ _ (at-if1 .before .look-at-ends .ensures) (at-if1 .if1 .left) _
     (c .before .same-front .ensures) _ (c .advance .ensures)
 
 step-requires : tie.Need-step-requires Inv-loop μ-loop
-step-requires c κs =
-    let start = c .before .before .before .before .before .before .before in
-    let args = start .args in
-    turn-inside (args .fold) (args .pattern .now) (args .name .now) (c .loop .at) (c .loop .inv)
+step-requires c κs = turn-inside _ _ _ _ (c .loop .inv)
 
 loop-less : tie.Need-loop-less Inv-loop μ-loop
-loop-less c =
-    let start = c .before .before .before .before .before .before .before .before .before .before in
-    let args = start .args in
-    let turn = c .before .before .before .loop in
-    turn-less (args .fold) (args .pattern .now) (args .name .now) (turn .at) (turn .inv) _ (c .before .before .step .ensures) (c .enum-told .given .1)
+loop-less c = turn-less _ _ _ _ (c .before .before .before .loop .inv) _ (c .before .before .step .ensures) (c .enum-told .given .1)
 
 loop-again : tie.Need-loop-again Inv-loop μ-loop
-loop-again c =
-    let start = c .before .before .before .before .before .before .before .before .before .before in
-    let args = start .args in
-    let turn = c .before .before .before .loop in
-    turn-next (args .fold) (args .pattern .now) (args .name .now) (turn .at) (turn .inv) _ (c .before .before .step .ensures) On (c .enum-told .given .1)
+loop-again c = turn-next _ _ _ _ (c .before .before .before .loop .inv) _ (c .before .before .step .ensures) On (c .enum-told .given .1)
 
 returns-2 : tie.Need-returns-2 Inv-loop μ-loop
-returns-2 c =
-    let start = c .before .before .before .before .before .before .before .before .before .before in
-    let args = start .args in
-    let turn = c .before .before .before .loop in
-    turn-next (args .fold) (args .pattern .now) (args .name .now) (turn .at) (turn .inv) _ (c .before .before .step .ensures) Matched (c .enum-told2 .given .1)
+returns-2 c = turn-next _ _ _ _ (c .before .before .before .loop .inv) _ (c .before .before .step .ensures) Matched (c .enum-told2 .given .1)
 
 returns-3 : tie.Need-returns-3 Inv-loop μ-loop
-returns-3 c =
-    let start = c .before .before .before .before .before .before .before .before .before .before in
-    let args = start .args in
-    let turn = c .before .before .before .loop in
-    turn-next (args .fold) (args .pattern .now) (args .name .now) (turn .at) (turn .inv) _ (c .before .before .step .ensures) Missed (c .enum-told3 .given .1)
+returns-3 c = turn-next _ _ _ _ (c .before .before .before .loop .inv) _ (c .before .before .step .ensures) Missed (c .enum-told3 .given .1)
 
 pub run-steps-spec : {M : Type 1} → statement M
 run-steps-spec =

@@ -1,12 +1,7 @@
 -- `same_front` is the definition: i bytes are passed, and how far the rests go is added. Rests on Front.
-use mathlib.Core.Path.{_≡_}
-use Prim.Native.Nat.{_+_, _-_, _≤_}
-use native.Mathlib.Nat.{zero-add}
-use lib.ListN.{drop}
+use Rattle.listing_rules.proofs.Prelude.{_≡_, _+_, _-_, _≤_, zero-add, arith, drop, needs}
 use Rattle.pattern.specs.Steps.{frontIs}
 use Rattle.pattern.proofs.Front.{front-stop, front-next, front-end}
-use borrow.Author.Needs.{needs}
-use native.Mathlib.Omega.{arith}
 use Rattle.pattern.proofs.steps.same_front.Statement.{statement}
 use Rattle.pattern.proofs.steps.same_front.Tie as tie
 
@@ -25,12 +20,9 @@ returns c =
     let after-least = turn-2 .before in
     let start = after-least .before .before .before in
     let least′ = after-least .least in
-    let turn = turn-2 .loop in
-    let p = start .args .pattern .now in
-    let n = start .args .name .now in
     let e = rw (c .before .before .letter .ensures) at (c .if1 .taken) in
-    let f = front-stop (start .args .fold) p n (turn .i) (omega (arith, least′ .ensures)) (omega (arith, least′ .ensures)) e in
-    omega (arith, f, turn .inv .1)
+    let f = front-stop _ (start .args .pattern .now) (start .args .name .now) _ (omega (arith, least′ .ensures)) (omega (arith, least′ .ensures)) e in
+    omega (arith, f, turn-2 .loop .inv .1)
 
 loop-again : tie.Need-loop-again Inv-loop μ-loop
 loop-again c =
@@ -38,12 +30,9 @@ loop-again c =
     let after-least = turn-2 .before in
     let start = after-least .before .before .before in
     let least′ = after-least .least in
-    let turn = turn-2 .loop in
-    let p = start .args .pattern .now in
-    let n = start .args .name .now in
     let e = rw (c .before .before .letter .ensures) at (c .if1 .left) in
-    let f = front-next (start .args .fold) p n (turn .i) (omega (arith, least′ .ensures)) (omega (arith, least′ .ensures)) e in
-    (omega arith, omega (arith, f, turn .inv .1))
+    let f = front-next _ (start .args .pattern .now) (start .args .name .now) _ (omega (arith, least′ .ensures)) (omega (arith, least′ .ensures)) e in
+    (omega arith, omega (arith, f, turn-2 .loop .inv .1))
 
 returns-2 : tie.Need-returns-2 Inv-loop μ-loop
 returns-2 c =

@@ -1,12 +1,8 @@
 -- `server::edit::edit` meets its contract: the name of a command line fits its room. Rests on the length of a line that is one command.
-use mathlib.Core.Path.{ap, sym, _∙_}
-use Prim.Native.Nat.{ℕ}
-use lib.ListN.{length, length-replicate}
-use native.Mathlib.Omega.{arith}
+use Rattle.listing_rules.proofs.Prelude.{_∙_, ap, sym, ℕ, arith, length, length-replicate, needs}
 use Rattle.listing_rules.proofs.LineLength.{edit-short}
 use Rattle.command_line.proofs.Edits.{name-short}
 use Rattle.server.proofs.EditLaws.{kind-is}
-use borrow.Author.Needs.{needs}
 use Rattle.server.proofs.edit.edit.Statement.{statement}
 use Rattle.server.proofs.edit.edit.Tie as tie
 
@@ -16,7 +12,7 @@ put-spelled-requires c κs =
     let a = start .args in
     let reads = start .pre .1 in
     omega
-    (arith, name-short (a .line .now) (a .command), edit-short (a .line .now) (sym (kind-is (a .line .now) (a .command) (reads .0)) ∙ reads .1), ap length (c .before .no-name .ensures) ∙ length-replicate {A = ℕ} 2048 0)
+    (arith, name-short (a .line .now) (a .command), edit-short _ (sym (kind-is _ _ (reads .0)) ∙ reads .1), ap length (c .before .no-name .ensures) ∙ length-replicate {A = ℕ} 2048 0)
 
 edit-named-requires : tie.Need-edit-named-requires
 edit-named-requires c κs =

@@ -1,20 +1,15 @@
 -- `server::edit::edit_from` meets its contract: 16 for another reader than 0, and else what `edit` leaves. By EditLaws.
-use mathlib.Core.Path.{_≡_}
-use borrow.Author.Tests.{eq-eqb, ne-eqb}
-use borrow.Author.Needs.{needs}
-use Rattle.subscriptions.specs.Stored.{wholeStore}
-use Rattle.server.specs.Edits.{readerEdit}
+use Rattle.listing_rules.proofs.Prelude.{_≡_, eq-eqb, ne-eqb, needs}
 use Rattle.server.proofs.EditLaws.{left-refused}
 use Rattle.server.proofs.edit.edit_from.Statement.{statement}
 use Rattle.server.proofs.edit.edit_from.Tie as tie
 
 returns : tie.Need-returns
 returns c =
-    let a = c .before .before .before .before .before .before .args in
     rw (c .unchanged .ensures)
-    (left-refused (a .words .now) (a .count) (a .area .now) (a .out .now)
-    (readerEdit (a .reader) (wholeStore (a .words .now) (a .count) (a .area .now)) (a .line .now) (a .command) (a .out .now)) 16
-    (rw (ne-eqb (a .reader) 0 (c .before .if1 .taken))))
+    (left-refused _ _ _ _
+    _ 16
+    (rw (ne-eqb _ 0 (c .before .if1 .taken))))
 
 edit-requires : tie.Need-edit-requires
 edit-requires c κs = c .before .before .before .before .before .before .before .before .pre
@@ -23,8 +18,7 @@ returns-2 : tie.Need-returns-2
 returns-2 c =
     let done = c .before .before .before .before .before .before in
     let left = done .before .before .before .before in
-    let a = left .before .before .before .before .before .args in
-    rw (eq-eqb (a .reader) 0 (left .if1 .left)) (done .edit .ensures)
+    rw (eq-eqb _ 0 (left .if1 .left)) (done .edit .ensures)
 
 pub edit-from-spec : {M : Type 1} → statement M
 edit-from-spec =

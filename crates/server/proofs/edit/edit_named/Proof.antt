@@ -1,69 +1,64 @@
 -- `server::edit::edit_named` meets its contract: decided, measured and done. By EditLaws and the laws of plans.
-use mathlib.Core.Path.{_≡_, sym, _∙_}
-use lib.Seq.{length-take-le}
-use native.Mathlib.Omega.{arith}
+use Rattle.listing_rules.proofs.Prelude.{_∙_, _≡_, sym, arith, length-take-le, needs}
 use Rattle.command_line.specs.Spans.{spanBytes}
 use Rattle.subscriptions.specs.Stored.{Decides}
 use Rattle.subscriptions.proofs.StoredLaws.{Passing, words-pass}
 use Rattle.server.specs.Edits.{editOf}
 use Rattle.command_tokens.proofs.Binds.{bare-bytes}
 use Rattle.server.proofs.EditLaws.{decided, not-done, fits-so, well-done}
-use borrow.Author.Needs.{needs}
 use Rattle.server.proofs.edit.edit_named.Statement.{statement}
 use Rattle.server.proofs.edit.edit_named.Tie as tie
 
 -- what is known of the words, where the plan is to be made
-known : (c : tie.After-is-subscribe) → let a = c .before .before .before .before .before .before .args in Passing (a .words .now) (a .count) (a .area .now)
+known : (c : tie.After-is-subscribe) →
+    let a = c .before .before .before .before .before .before .args in Passing (a .words .now) (a .count) (a .area .now)
 known c =
     let start = c .before .before .before .before .before .before in
-    let a = start .args in words-pass (a .words .now) (a .count) (a .area .now) (start .pre .0)
+    let a = start .args in words-pass _ _ _ (start .pre .0)
 
 slice-reshare-prefix-decide : tie.Need-slice-reshare-prefix-decide
 slice-reshare-prefix-decide c = known (c .before) .counted
 
 slice-aggregate-decide : tie.Need-slice-aggregate-decide
-slice-aggregate-decide c = let a = c .before .before .before .before .before .before .before .before .args in sym (length-take-le (a .count) (a .words .now) (known (c .before .before) .counted))
+slice-aggregate-decide c = let a = c .before .before .before .before .before .before .before .before .args in sym (length-take-le _ _ (known (c .before .before) .counted))
 
 decide-requires : tie.Need-decide-requires
 decide-requires c κs =
     let a = c .before .before .before .before .before .before .before .before .args in
     let k = known (c .before .before) in
-    (k .ordered, omega (arith, k .few, length-take-le (a .count) (a .words .now) (k .counted)), k .small)
+    (k .ordered, omega (arith, k .few, length-take-le _ (a .words .now) (k .counted)), k .small)
 
 -- the plan, and the tag
 plan : (c : tie.After-decide) →
-    let a = c .before .before .before .before .before .before .before .before .before .args in Decides (a .words .now) (a .count) (a .area .now)
+    let start = c .before .before .before .before .before .before .before .before .before in
+    let a = start .args in Decides (a .words .now) (a .count) (a .area .now)
     (editOf (a .line .now) (a .command)) (c .decide .result)
 plan c =
     let start = c .before .before .before .before .before .before .before .before .before in
-    let a = start .args in
-    let kind = c .before .before .before .is-subscribe in
-    decided (a .words .now) (a .count) (a .area .now) (a .line .now) (a .command) (kind .result) (a .name .now) (c .decide .result) (start .pre .0) (kind .ensures) (start .pre .1 .1) (c .decide .ensures)
+    decided _ _ _ _ _ _ _ _ (start .pre .0) (c .before .before .before .is-subscribe .ensures) (start .pre .1 .1) (c .decide .ensures)
 
 tag-is : (c : tie.After-raw) →
-    let a = c .before .before .before .before .before .before .before .before .before .before .args in c .raw .result .now ≡ spanBytes
+    let start = c .before .before .before .before .before .before .before .before .before .before in
+    let a = start .args in c .raw .result .now ≡ spanBytes
     (a .line .now) (a .command .tag)
 tag-is c =
     let start = c .before .before .before .before .before .before .before .before .before .before in
-    let a = start .args in
-    let inside = start .pre .1 .0 in c .raw .ensures ∙ sym (bare-bytes (a .line .now) (a .command .tag) (inside .bare))
+    let inside = start .pre .1 .0 in c .raw .ensures ∙ sym (bare-bytes _ _ (inside .bare))
 
 carry-out-requires : tie.Need-carry-out-requires
 carry-out-requires c κs =
     let said = c .before .before .before .before .before .before .before in
     let tagged = said .before .before in
     let start = tagged .before .before .before .before .before .before .before .before .before .before in
-    let a = start .args in
-    fits-so (a .words .now) (a .count) (a .area .now) (a .line .now) (a .command) (a .out .now) (tagged .before .decide .result) (plan (tagged .before)) (tagged .raw .result .now) (a .name .now) (tag-is tagged) (start .pre .1 .1) (said .verdict .ensures)
+    fits-so _ _ _ _ _ _ _ (plan (tagged .before)) _ _ (tag-is tagged) (start .pre .1 .1) (said .verdict .ensures)
 
 returns : tie.Need-returns
 returns c =
     let said = c .before .before .before .before .before .before in
     let tagged = said .before .before in
     let start = tagged .before .before .before .before .before .before .before .before .before .before in
-    let a = start .args in
     let number = c .before .before .number .given in
-    not-done (a .words .now) (a .count) (a .area .now) (a .line .now) (a .command) (a .out .now) (tagged .before .decide .result) (plan (tagged .before)) (tagged .raw .result .now) (a .name .now) (tag-is tagged) (start .pre .1 .1) (said .verdict .ensures) (number .0 .0) (c .unchanged .result) (number .1) (c .unchanged .ensures)
+    not-done _ _ _ _ _ _ _ (plan (tagged .before)) _ _ (tag-is tagged) (start .pre .1 .1) (said .verdict .ensures) (number .0 .0) (c .unchanged .result) (number .1) (c .unchanged .ensures)
 
 returns-2 : tie.Need-returns-2
 returns-2 c =
@@ -71,9 +66,10 @@ returns-2 c =
     let said = done .before .before .before .before .before .before .before .before in
     let tagged = said .before .before in
     let start = tagged .before .before .before .before .before .before .before .before .before .before in
-    let a = start .args in
     let measured = done .before .before .before .before .length .given in
-    well-done (a .words .now) (a .count) (a .area .now) (a .line .now) (a .command) (a .out .now) (tagged .before .decide .result) (plan (tagged .before)) (tagged .raw .result .now) (a .name .now) (tag-is tagged) (start .pre .1 .1) (said .verdict .ensures) (measured .0 .0) (done .carry-out .last .1 .0) (done .carry-out .last .1 .1 .1 .0) (done .carry-out .result) (measured .1) (done .carry-out .ensures .0) (done .carry-out .ensures .1) (done .carry-out .ensures .2)
+    well-done _ _ _ _ _ _ _ (plan (tagged .before)) _ _ (tag-is tagged) (start .pre .1 .1) (said .verdict .ensures) (measured .0 .0)
+    (done .carry-out .last .1 .0) (done .carry-out .last .1 .1 .1 .0) (done .carry-out .result) (measured .1) (done .carry-out .ensures .0)
+    (done .carry-out .ensures .1) (done .carry-out .ensures .2)
 
 pub edit-named-spec : {M : Type 1} → statement M
 edit-named-spec =

@@ -1,5 +1,5 @@
 -- `server::edit::is_edit` meets its contract: by the kind.
-use borrow.Author.Needs.{needs}
+use Rattle.listing_rules.proofs.Prelude.{needs}
 use Rattle.server.proofs.edit.is_edit.Statement.{statement}
 use Rattle.server.proofs.edit.is_edit.Tie as tie
 

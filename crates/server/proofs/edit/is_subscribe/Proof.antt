@@ -1,5 +1,5 @@
 -- `server::edit::is_subscribe` meets its contract: by the kind.
-use borrow.Author.Needs.{needs}
+use Rattle.listing_rules.proofs.Prelude.{needs}
 use Rattle.server.proofs.edit.is_subscribe.Statement.{statement}
 use Rattle.server.proofs.edit.is_subscribe.Tie as tie
 

@@ -2,16 +2,16 @@
 use Rattle.command_line.specs.Commands.{nameOf}
 use Rattle.server.specs.Edits.{Fronts}
 use Rattle.server.proofs.EditLaws.{put-front, spelled-front}
-use borrow.Author.Needs.{needs}
+use Rattle.listing_rules.proofs.Prelude.{needs}
 use Rattle.server.proofs.edit.put_spelled.Statement.{statement}
 use Rattle.server.proofs.edit.put_spelled.Tie as tie
 
 -- the name as it was put
-put : (c : tie.After-put-name) → let a = c .before .before .before .before .args in Fronts (nameOf (a .line .now) (a .command)) (c .put-name .last .1 .1 .0) (c .put-name .result)
+put : (c : tie.After-put-name) →
+    let a = c .before .before .before .before .args in Fronts (nameOf (a .line .now) (a .command)) (c .put-name .last .1 .1 .0) (c .put-name .result)
 put c =
     let start = c .before .before .before .before in
-    let a = start .args in
-    put-front (a .name .now) (c .put-name .last .1 .1 .0) (nameOf (a .line .now) (a .command)) (c .put-name .result) (c .put-name .ensures) (start .pre)
+    put-front _ _ _ _ (c .put-name .ensures) (start .pre)
 
 slice-relend-prefix-spell : tie.Need-slice-relend-prefix-spell
 slice-relend-prefix-spell c = put (c .before .before) .within
@@ -22,8 +22,7 @@ slice-aggregate-spell c = put (c .before .before .before) .size
 returns : tie.Need-returns
 returns c =
     let named = c .before .before .before .before .before .before in
-    let a = named .before .before .before .before .args in
-    spelled-front (named .put-name .last .1 .1 .0) (c .before .before .spell .last .0) (nameOf (a .line .now) (a .command)) (named .put-name .result) (put named) (c .before .before .spell .ensures) (c .before .before .spell .kept .0)
+    spelled-front _ _ _ _ (put named) (c .before .before .spell .ensures) (c .before .before .spell .kept .0)
 
 pub put-spelled-spec : {M : Type 1} → statement M
 put-spelled-spec =

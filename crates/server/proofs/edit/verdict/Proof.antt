@@ -1,5 +1,5 @@
 -- `server::edit::verdict` meets its contract: the refusal of the plan, or what `write_ok` gives.
-use borrow.Author.Needs.{needs}
+use Rattle.listing_rules.proofs.Prelude.{needs}
 use Rattle.server.specs.Edits.{planReply}
 use Rattle.server.proofs.Order.{refused-with}
 use Rattle.server.proofs.edit.verdict.Statement.{statement}
@@ -23,7 +23,7 @@ returns-4 c = rw (c .before .before .before .before .enum-told4 .given .1) (c .b
 
 returns-5 : tie.Need-returns-5
 unfolding planReply
-returns-5 c = rw (c .before .plan .given .1) (refused-with (c .before .plan .given .0 .0) (c .before .before .before .before .before .args .out .now))
+returns-5 c = rw (c .before .plan .given .1) (refused-with _ _)
 
 pub verdict-spec : {M : Type 1} → statement M
 verdict-spec =

@@ -1,33 +1,28 @@
 -- `server::packed::read_packed` meets its contract: refusals 16 and 1, and what `read_index` gives over the rows that the reader sees. By Order; the
 -- index by HeldLaws, the rows seen by SeenLaws of mailbox_table.
-use mathlib.Core.Path.{_≡_, sym, ap, subst}
-use mathlib.Core.Bool.{true}
-use lib.ListN.{length, take, drop}
-use borrow.Author.Tests.{le-leb, lt-leb}
+use Rattle.listing_rules.proofs.Prelude.{_≡_, ap, subst, sym, true, drop, length, take, le-leb, lt-leb, needs}
 use Rattle.listing_rules.specs.Readers.{isReader}
 use Rattle.mailbox_table.proofs.HeldLaws.{Held, index-held, index-refused}
 use Rattle.mailbox_table.proofs.SeenLaws.{Front, seen-front, seen-index}
 use Rattle.mailbox_table.specs.Index.{Index}
 use Rattle.server.proofs.Order.{refused-with, served-16, packed-1, packed-on}
-use borrow.Author.Needs.{needs}
 use Rattle.server.proofs.packed.read_packed.Statement.{statement}
 use Rattle.server.proofs.packed.read_packed.Tie as tie
 
 returns : tie.Need-returns
 unfolding isReader
 returns c =
-    let a = c .before .before .before .before .before .args in
-    rw (served-16 (a .reader) (a .table .now) (a .namespaces .now) (a .line .now) (a .out .now) (lt-leb (a .reader) 7 (c .if1 .taken)))
-    (refused-with 16 (a .out .now))
+    rw (served-16 _ _ _ _ _ (lt-leb _ 7 (c .if1 .taken)))
+    (refused-with 16 _)
 
 -- the reader is one of eight
 known : (c : tie.After-words) → isReader (c .before .before .before .before .before .before .before .args .reader) ≡ true
 unfolding isReader
-known c = le-leb (c .before .before .before .before .before .before .before .args .reader) 7 (c .before .before .if1 .left)
+known c = le-leb _ 7 (c .before .before .if1 .left)
 
 -- the rows, where they are found, and those that the reader sees
 found : (c : tie.After-n) → Held (c .before .before .before .index .ensures) (c .n .given .0 .0)
-found c = index-held (c .before .before .before .index .ensures) (c .n .given .0 .0) (c .n .given .1)
+found c = index-held (c .before .before .before .index .ensures) _ (c .n .given .1)
 
 seen : (c : tie.After-see-rows) → let after-n = c .before .before .before in
     let rows = after-n .before .before .before in
@@ -36,16 +31,14 @@ seen : (c : tie.After-see-rows) → let after-n = c .before .before .before in
     let all = rows .index .last .1 .0 in
     Front (a .reader) (take n all) (drop n all) (c .see-rows .last .0) (c .see-rows .result)
 seen c =
-    let after-n = c .before .before .before in
-    seen-front (after-n .before .before .before .before .before .before .before .before .before .before .before .args .reader)
-    (drop (after-n .n .given .0 .0) (after-n .before .before .before .index .last .1 .0)) (c .see-rows .ensures)
+    seen-front _
+    _ (c .see-rows .ensures)
 
 returns-2 : tie.Need-returns-2
 returns-2 c =
     let lent = c .before .before .before .before in
-    let a = lent .before .before .before .before .before .before .before .args in
     let fails = index-refused (c .before .before .before .index .ensures) (ap length (lent .before .no-words .ensures)) (c .enum-told .given .1) in
-    rw (packed-1 (a .reader) (a .table .now) (a .namespaces .now) (a .line .now) (a .out .now) (known lent) fails) (refused-with 1 (a .out .now))
+    rw (packed-1 _ _ _ _ _ (known lent) fails) (refused-with 1 _)
 
 array-borrow-prefix-words : tie.Need-array-borrow-prefix-words
 array-borrow-prefix-words c = found (c .before) .inside
@@ -64,17 +57,16 @@ read-index-requires c κs =
     let saw = c .before .before .before in
     let after-n = saw .before .before .before in
     let a = after-n .before .before .before .before .before .before .before .before .before .before .before .args in
-    subst (Index (a .table .now)) (sym (seen saw .words)) (seen-index (a .reader) (found after-n .index))
+    subst (Index _) (sym (seen saw .words)) (seen-index _ (found after-n .index))
 
 returns-3 : tie.Need-returns-3
 returns-3 c =
     let saw = c .before .before .before .before .before .before in
     let after-n = saw .before .before .before in
     let lent = after-n .before .before .before .before in
-    let a = lent .before .before .before .before .before .before .before .args in
-    let rows = take (after-n .n .given .0 .0) (after-n .before .before .before .index .last .1 .0) in
+    let rows = take (after-n .n .given .0 .0) _ in
     rw (
-      packed-on (a .reader) (a .table .now) (a .namespaces .now) (a .line .now) (a .out .now) (known lent) rows (found after-n .table-passes)
+      packed-on _ _ _ _ _ (known lent) rows (found after-n .table-passes)
           (found after-n .told),
       ← seen saw .words,
     ) (c .before .before .read-index .ensures)

@@ -1,17 +1,13 @@
 -- `server::reading::read_index` meets its contract: refusal 2, and what `respond` gives. By Order.
-use mathlib.Core.Path.{sym, _∙_}
-use borrow.Author.Tests.{not-true, not-false}
+use Rattle.listing_rules.proofs.Prelude.{_∙_, sym, not-false, not-true, needs}
 use Rattle.server.proofs.Order.{refused-with, index-2, index-on}
-use borrow.Author.Needs.{needs}
 use Rattle.server.proofs.reading.read_index.Statement.{statement}
 use Rattle.server.proofs.reading.read_index.Tie as tie
 
 returns : tie.Need-returns
 returns c =
-    let start = c .before .before .before .before .before .before .before in
-    let a = start .args in
     let bad = sym (c .before .check .ensures) ∙ not-true _ (c .if1 .taken) in
-    rw (index-2 (a .area .now) (a .words .now) (a .namespaces .now) (a .line .now) bad) (refused-with 2 (a .out .now))
+    rw (index-2 _ _ _ _ bad) (refused-with 2 _)
 
 respond-requires : tie.Need-respond-requires
 respond-requires c κs =
@@ -22,10 +18,8 @@ respond-requires c κs =
 returns-2 : tie.Need-returns-2
 returns-2 c =
     let at-if1 = c .before .before .before .before .before in
-    let start = c .before .before .before .before .before .before .before .before .before .before .before .before in
-    let a = start .args in
     let good = sym (at-if1 .before .check .ensures) ∙ not-false _ (at-if1 .if1 .left) in
-    rw (index-on (a .area .now) (a .words .now) (a .namespaces .now) (a .line .now) good) (c .before .before .respond .ensures)
+    rw (index-on _ _ _ _ good) (c .before .before .respond .ensures)
 
 pub read-index-spec : {M : Type 1} → statement M
 read-index-spec =

@@ -1,6 +1,6 @@
 -- `server::replies::put_root` meets its contract: two writes, one after the other.
 use Rattle.octets.proofs.Puts.{put-then}
-use borrow.Author.Needs.{needs}
+use Rattle.listing_rules.proofs.Prelude.{needs}
 use Rattle.server.proofs.replies.put_root.Statement.{statement}
 use Rattle.server.proofs.replies.put_root.Tie as tie
 

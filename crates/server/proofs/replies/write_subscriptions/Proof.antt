@@ -1,20 +1,18 @@
 -- `server::replies::write_subscriptions` meets its contract: the patterns lie packed in their buffer, and the answer is that of `write_lsub`.
 -- By Inputs.
-use mathlib.Core.Path.{ap}
-use lib.ListN.{length}
+use Rattle.listing_rules.proofs.Prelude.{ap, length, needs}
 use Rattle.command_line.specs.Commands.{patternsOf}
 use Rattle.server.proofs.Inputs.{Lying, lying}
-use borrow.Author.Needs.{needs}
 use Rattle.server.proofs.replies.write_subscriptions.Statement.{statement}
 use Rattle.server.proofs.replies.write_subscriptions.Tie as tie
 
 -- the packed patterns, where they are put
 packed-here : (c : tie.After-put-patterns) →
-    Lying (patternsOf (c .before .before .before .before .before .before .before .before .args .line .now)
-    (c .before .before .before .before .before .before .before .before .args .command)) (c .put-patterns .last .1 .1 .0) (c .put-patterns .result)
+    let start = c .before .before .before .before .before .before .before .before in
+    Lying (patternsOf (start .args .line .now) (start .args .command)) (c .put-patterns .last .1 .1 .0) (c .put-patterns .result)
 packed-here c =
     let start = c .before .before .before .before .before .before .before .before in
-    lying (c .before .before .no-patterns .result) (c .put-patterns .last .1 .1 .0) (patternsOf (start .args .line .now) (start .args .command)) (c .put-patterns .result) (c .put-patterns .ensures) (ap length (c .before .before .no-patterns .ensures)) (start .pre .1 .0)
+    lying _ _ _ _ (c .put-patterns .ensures) (ap length (c .before .before .no-patterns .ensures)) (start .pre .1 .0)
 
 array-share-prefix-patterns : tie.Need-array-share-prefix-patterns
 array-share-prefix-patterns c = packed-here (c .before) .within
@@ -29,7 +27,7 @@ write-lsub-requires c κs =
     (start .pre .0, rw (packed-here after-put-patterns .patterns) (start .pre .1 .1))
 
 returns : tie.Need-returns
-returns c = rw (← packed-here (c .before .before .before .before .before .before) .patterns) (c .before .before .write-lsub .ensures)
+returns c = rw (← packed-here _ .patterns) (c .before .before .write-lsub .ensures)
 
 pub write-subscriptions-spec : {M : Type 1} → statement M
 write-subscriptions-spec =

@@ -1,9 +1,7 @@
 -- `session::carrying::carry_out` meets its contract: one law for each kind of frame. Rests on CarryLaws.
-use Prim.Native.Nat.{_+_, _-_}
-use Rattle.session.specs.Carrying.{Lent, lent}
+use Rattle.listing_rules.proofs.Prelude.{_+_, _-_, arith, needs}
+use Rattle.kept_table.specs.Kept.{Lent, lent}
 use Rattle.session.proofs.CarryLaws.{whole-row, whole-entry, whole-command, kind-row, kind-entry, kind-command, kind-walk, kind-bad}
-use native.Mathlib.Omega.{arith}
-use borrow.Author.Needs.{needs}
 use Rattle.session.proofs.carrying.carry_out.Statement.{statement}
 use Rattle.session.proofs.carrying.carry_out.Tie as tie
 
@@ -13,12 +11,12 @@ memory start = lent (start .args .table .now) (start .args .records .now) (start
 
 slice-aggregate-add-row : tie.Need-slice-aggregate-add-row
 slice-aggregate-add-row c =
-    let start = c .before .before .before .before .before .before .before .before .before in whole-row (start .args .bytes .now) (start .pre .0)
+    let start = c .before .before .before .before .before .before .before .before .before in whole-row _ (start .pre .0)
     (c .before .before .frame .given .1)
 
 slice-aggregate-part : tie.Need-slice-aggregate-part
 slice-aggregate-part c =
-    let start = c .before .before .before .before .before .before .before .before .before in whole-entry (start .args .bytes .now) (start .pre .0)
+    let start = c .before .before .before .before .before .before .before .before .before in whole-entry _ (start .pre .0)
     (c .before .before .frame2 .given .1)
 
 add-line : tie.Need-add-line
@@ -36,7 +34,7 @@ returns c =
     let after-add-row = c .before .before .before .before in
     let after-frame = after-add-row .before .before .before .before .before in
     let start = after-frame .before .before .before .before .before .before .before in
-    kind-row (memory start) (start .args .stored) (start .pre .1) (start .args .frame) (start .args .bytes .now) _ _ _ _
+    kind-row (memory start) _ (start .pre .1) _ _ _ _ _ _
     (after-frame .frame .given .1) (after-add-row .add-row .ensures)
 
 returns-2 : tie.Need-returns-2
@@ -44,7 +42,7 @@ returns-2 c =
     let after-keep = c .before .before .before .before .before in
     let after-frame2 = after-keep .before .before .before .before .before in
     let start = after-frame2 .before .before .before .before .before .before .before in
-    rw (c .with-entries .ensures) (kind-entry (memory start) (start .args .stored) (start .pre .1) (start .args .frame) (start .args .bytes .now) _ _
+    rw (c .with-entries .ensures) (kind-entry (memory start) _ (start .pre .1) _ _ _ _
     _ _ (after-frame2 .frame2 .given .1) (after-keep .keep .ensures))
 
 returns-3 : tie.Need-returns-3
@@ -53,21 +51,21 @@ returns-3 c =
     let after-frame3 = after-obey .before .before .before .before .before .before .before in
     let start = after-frame3 .before .before .before .before .before .before .before in
     let size = after-frame3 .frame3 .given .0 .1 .0 in
-    kind-command (memory start) (start .args .stored) (start .pre .1) (start .args .frame) (start .args .bytes .now) _ size (size + 1 - 1) _ _ _ _
+    kind-command (memory start) _ (start .pre .1) _ _ _ size (size + 1 - 1) _ _ _ _
     (after-frame3 .frame3 .given .1) (after-obey .obey .ensures) (omega arith)
 
 returns-4 : tie.Need-returns-4
 returns-4 c =
     let after-frame4 = c .before .before .before .before .before .before .before .before in
     let start = after-frame4 .before .before .before .before .before .before .before in
-    rw (c .said .ensures) (kind-walk (memory start) (start .args .stored) (start .pre .1) (start .args .frame) (start .args .bytes .now) _ _ _ _
+    rw (c .said .ensures) (kind-walk (memory start) _ (start .pre .1) _ _ _ _ _ _
     (after-frame4 .frame4 .given .1) (c .before .before .before .walk-line .ensures))
 
 returns-5 : tie.Need-returns-5
 returns-5 c =
     let after-enum-told = c .before .before .before .before .before in
     let start = after-enum-told .before .before .before .before .before .before .before in
-    rw (c .said2 .ensures) (kind-bad (memory start) (start .args .stored) (start .pre .1) (start .args .frame) (start .args .bytes .now) _ _
+    rw (c .said2 .ensures) (kind-bad (memory start) _ (start .pre .1) _ _ _ _
     (after-enum-told .enum-told .given .1) (c .before .before .before .put-refusal .ensures))
 
 pub carry-out-spec : {M : Type 1} → statement M

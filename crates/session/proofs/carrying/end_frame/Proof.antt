@@ -1,9 +1,5 @@
 -- `session::carrying::end_frame` meets its contract: the frame that was read is carried out.
-use mathlib.Core.Path.{_≡_, ap, _∙_}
-use Prim.Native.Nat.{ℕ}
-use lib.ListN.{length, length-replicate}
-use native.Mathlib.Omega.{arith}
-use borrow.Author.Needs.{needs}
+use Rattle.listing_rules.proofs.Prelude.{_∙_, _≡_, ap, ℕ, arith, length, length-replicate, needs}
 use Rattle.session.proofs.carrying.end_frame.Statement.{statement}
 use Rattle.session.proofs.carrying.end_frame.Tie as tie
 

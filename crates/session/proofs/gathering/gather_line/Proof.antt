@@ -1,9 +1,6 @@
 -- `session::gathering::gather_line` meets its contract. Rests on LineLaws.
-use Prim.Native.Nat.{_-_}
-use lib.ListN.{length}
+use Rattle.listing_rules.proofs.Prelude.{_-_, arith, length, needs}
 use Rattle.session.proofs.LineLaws.{Part, part-start, part-more, part-feed, part-end}
-use borrow.Author.Needs.{needs}
-use native.Mathlib.Omega.{arith}
 use Rattle.session.proofs.gathering.gather_line.Statement.{statement}
 use Rattle.session.proofs.gathering.gather_line.Tie as tie
 
@@ -23,10 +20,7 @@ loop-again : tie.Need-loop-again Inv-loop μ-loop
 loop-again c =
     let at-if1 = c .before .before .before .before in
     let at-loop-test = at-if1 .before .before in
-    let turn-2 = at-loop-test .before in
-    let turn = turn-2 .loop in
-    let test = at-loop-test .loop-test in
-    part-more (turn .inv) _ _ (test .taken) (at-if1 .if1 .left) (c .before .before .gather .ensures)
+    part-more (at-loop-test .before .loop .inv) _ _ (at-loop-test .loop-test .taken) (at-if1 .if1 .left) (c .before .before .gather .ensures)
 
 returns-2 : tie.Need-returns-2 Inv-loop μ-loop
 returns-2 c = part-end (c .before .loop .inv) (omega (arith, c .loop-test .left))

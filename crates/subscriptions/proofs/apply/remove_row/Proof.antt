@@ -1,9 +1,8 @@
 -- `subscriptions::apply::remove_row` meets its contract: the word, then the bytes of its name.
-use mathlib.Core.Path.{_≡_, refl, _∙_}
+use Rattle.listing_rules.proofs.Prelude.{_∙_, _≡_, refl, needs}
 use Rattle.records.specs.Words.{recordOf}
 use Rattle.mailbox_table.specs.Words.{rowOfWord}
 use Rattle.subscriptions.specs.Applied.{freed}
-use borrow.Author.Needs.{needs}
 use Rattle.subscriptions.proofs.apply.remove_row.Statement.{statement}
 use Rattle.subscriptions.proofs.apply.remove_row.Tie as tie
 

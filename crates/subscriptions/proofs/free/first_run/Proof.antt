@@ -1,11 +1,7 @@
 -- `subscriptions::free::first_run` meets its contract: the bytes from `from` up to i are free and too few, and no run begins before
 -- them. By RunLaws.
-use mathlib.Core.Path.{_≡_}
-use Prim.Native.Nat.{_-_}
-use lib.ListN.{length}
+use Rattle.listing_rules.proofs.Prelude.{_≡_, _-_, arith, length, needs}
 use Rattle.subscriptions.proofs.RunLaws.{Passed, passed-none, passed-free, passed-found, passed-used, passed-end}
-use borrow.Author.Needs.{needs}
-use native.Mathlib.Omega.{arith}
 use Rattle.subscriptions.proofs.free.first_run.Statement.{statement}
 use Rattle.subscriptions.proofs.free.first_run.Tie as tie
 
@@ -16,7 +12,7 @@ abbrev μ-loop : tie.MeasureT-loop
 μ-loop marks len from₀ i₀ from i = length marks - i
 
 loop-holds : tie.Need-loop-holds Inv-loop μ-loop
-loop-holds c = passed-none (c .args .len) (c .args .marks .now) (c .pre)
+loop-holds c = passed-none _ _ (c .pre)
 
 sub-if2 : tie.Need-sub-if2 Inv-loop μ-loop
 sub-if2 c = omega (arith, c .before .before .before .loop .inv .order)

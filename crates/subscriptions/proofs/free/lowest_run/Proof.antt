@@ -1,13 +1,8 @@
 -- `subscriptions::free::lowest_run` meets its contract: the map says of each byte of the area whether it is free. By MapLaws.
-use mathlib.Core.Path.{_≡_, ap, _∙_}
-use mathlib.Core.Bool.{Bool}
-use mathlib.Core.List.{List}
-use lib.ListN.{length-take}
+use Rattle.listing_rules.proofs.Prelude.{_∙_, _≡_, ap, Bool, List, arith, length-take, needs}
 use Rattle.listing_rules.specs.Subscriptions.{lowestRun}
 use Rattle.subscriptions.specs.Runs.{runIs}
 use Rattle.subscriptions.proofs.MapLaws.{map-free}
-use native.Mathlib.Omega.{arith}
-use borrow.Author.Needs.{needs}
 use Rattle.subscriptions.proofs.free.lowest_run.Statement.{statement}
 use Rattle.subscriptions.proofs.free.lowest_run.Tie as tie
 
@@ -21,7 +16,7 @@ returns c =
     let start = after-all-free .before .before .before in
     c .first-run .ensures
     ∙ ap (λ (l : List Bool). runIs (lowestRun (start .args .len) 0 l))
-    (map-free 32768 (start .args .words .now) (start .args .area .now) (after-unmark-names .unmark-names .last .0) (start .pre .0) (rw (after-all-free .all-free .ensures) at (after-unmark-names .unmark-names .ensures)))
+    (map-free 32768 _ _ _ (start .pre .0) (rw (after-all-free .all-free .ensures) at (after-unmark-names .unmark-names .ensures)))
 
 pub lowest-run-spec : {M : Type 1} → statement M
 lowest-run-spec =

@@ -1,11 +1,7 @@
 -- `subscriptions::free::unmark` meets its contract: the bytes from the start up to i are unmarked. By MapLaws.
-use mathlib.Core.Path.{_≡_}
-use Prim.Native.Nat.{_+_, _-_, _≤_, min}
-use lib.ListN.{length}
+use Rattle.listing_rules.proofs.Prelude.{_≡_, _+_, _-_, _≤_, min, arith, length, needs}
 use Rattle.subscriptions.specs.Runs.{usedBetween, Unmarks}
 use Rattle.subscriptions.proofs.MapLaws.{unmarked-none, unmarked-more, unmarked-all}
-use borrow.Author.Needs.{needs}
-use native.Mathlib.Omega.{arith}
 use Rattle.subscriptions.proofs.free.unmark.Statement.{statement}
 use Rattle.subscriptions.proofs.free.unmark.Tie as tie
 
@@ -17,9 +13,7 @@ abbrev μ-loop : tie.MeasureT-loop
 μ-loop marks₀ start end stop i₀ marks i = stop - i
 
 loop-holds : tie.Need-loop-holds Inv-loop μ-loop
-loop-holds c =
-    let start = c .before .before .args in
-    (c .least .ensures, omega arith, omega arith, unmarked-none (start .start) (start .marks .now))
+loop-holds c = (c .least .ensures, omega arith, omega arith, unmarked-none _ _)
 
 slice-write-marks : tie.Need-slice-write-marks Inv-loop μ-loop
 slice-write-marks c = let v = c .before .loop .inv in omega (arith, v .0, v .3 .size)
@@ -34,9 +28,8 @@ same-length c = c .before .loop .inv .3 .size
 
 returns : tie.Need-returns Inv-loop μ-loop
 returns c =
-    let start = c .before .before .before .before in
     let v = c .before .loop .inv in
-    unmarked-all (v .3) (start .args .end) (v .1) (omega (arith, v .0, v .2)) (omega (arith, v .0))
+    unmarked-all (v .3) _ (v .1) (omega (arith, v .0, v .2)) (omega (arith, v .0))
 
 pub unmark-spec : {M : Type 1} → statement M
 unmark-spec =

@@ -1,6 +1,5 @@
 -- `subscriptions::inferiors::bars` meets its contract: the flag, then the name.
-use mathlib.Core.Path.{_≡_, sym, ap, _∙_}
-use borrow.Author.Tests.{not-true, not-false}
+use Rattle.listing_rules.proofs.Prelude.{_∙_, _≡_, ap, sym, not-false, not-true, needs}
 use Rattle.listing_rules.specs.Bytes.{bit}
 use Rattle.listing_rules.specs.Flags.{noInferiors}
 use Rattle.octets.proofs.Sets.{contains-bit}
@@ -8,7 +7,6 @@ use Rattle.mailbox_table.specs.declared.rows.Row.{Row}
 use Rattle.mailbox_table.specs.Words.{rowOfWord}
 use Rattle.mailbox_table.specs.Index.{nameAt}
 use Rattle.subscriptions.specs.Plans.{barsBelow}
-use borrow.Author.Needs.{needs}
 use Rattle.subscriptions.proofs.inferiors.bars.Statement.{statement}
 use Rattle.subscriptions.proofs.inferiors.bars.Tie as tie
 

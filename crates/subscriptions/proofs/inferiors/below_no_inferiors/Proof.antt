@@ -1,11 +1,8 @@
 -- `subscriptions::inferiors::below_no_inferiors` meets its contract: the rows from i on decide. By InferiorLaws.
-use mathlib.Core.Path.{_≡_, refl, sym, _∙_}
-use Prim.Native.Nat.{_-_}
-use lib.ListN.{length, drop}
+use Rattle.listing_rules.proofs.Prelude.{_∙_, _≡_, refl, sym, _-_, drop, length, needs}
 use Rattle.listing_rules.specs.Subscriptions.{belowNoInferiors}
 use Rattle.mailbox_table.specs.Index.{rowsAt}
 use Rattle.subscriptions.proofs.InferiorLaws.{bars-step, bars-stop, bars-end}
-use borrow.Author.Needs.{needs}
 use Rattle.subscriptions.proofs.inferiors.below_no_inferiors.Statement.{statement}
 use Rattle.subscriptions.proofs.inferiors.below_no_inferiors.Tie as tie
 
@@ -23,20 +20,19 @@ returns c =
     let turn = c .before .before .before .before in
     let start = turn .before .before .before .before in
     let a = start .args in
-    sym (bars-stop (a .area .now) (a .words .now) (a .name .now) (turn .loop .i) (c .before .before .before .loop-test .taken) (sym (c .before .bars .ensures) ∙ c .if1 .taken)) ∙ turn .loop .inv
+    sym (bars-stop _ (a .words .now) _ _ (c .before .before .before .loop-test .taken) (sym (c .before .bars .ensures) ∙ c .if1 .taken)) ∙ turn .loop .inv
 
 loop-again : tie.Need-loop-again Inv-loop μ-loop
 loop-again c =
     let turn = c .before .before .before .before in
     let start = turn .before .before .before .before in
     let a = start .args in
-    sym (bars-step (a .area .now) (a .words .now) (a .name .now) (turn .loop .i) (c .before .before .before .loop-test .taken) (sym (c .before .bars .ensures) ∙ c .if1 .left)) ∙ turn .loop .inv
+    sym (bars-step _ (a .words .now) _ _ (c .before .before .before .loop-test .taken) (sym (c .before .bars .ensures) ∙ c .if1 .left)) ∙ turn .loop .inv
 
 returns-2 : tie.Need-returns-2 Inv-loop μ-loop
 returns-2 c =
     let start = c .before .before .before .before .before in
-    let a = start .args in
-    sym (bars-end (a .area .now) (a .words .now) (a .name .now) (c .before .loop .i) (c .loop-test .left)) ∙ c .before .loop .inv
+    sym (bars-end _ (start .args .words .now) _ _ (c .loop-test .left)) ∙ c .before .loop .inv
 
 pub below-no-inferiors-spec : {M : Type 1} → statement M
 below-no-inferiors-spec =

@@ -1,11 +1,7 @@
 -- `subscriptions::order::comes_before` meets its contract: i bytes are alike, and what is left decides. By PlaceLaws.
-use mathlib.Core.Path.{_≡_, refl, sym, _∙_}
-use Prim.Native.Nat.{_-_, _≤_}
-use lib.ListN.{drop}
+use Rattle.listing_rules.proofs.Prelude.{_∙_, _≡_, refl, sym, _-_, _≤_, arith, drop, needs}
 use Rattle.listing_rules.specs.Orders.{byteOrder, isLt}
 use Rattle.subscriptions.proofs.PlaceLaws.{order-step, order-stop, order-end}
-use borrow.Author.Needs.{needs}
-use native.Mathlib.Omega.{arith}
 use Rattle.subscriptions.proofs.order.comes_before.Statement.{statement}
 use Rattle.subscriptions.proofs.order.comes_before.Tie as tie
 
@@ -23,29 +19,26 @@ returns c =
     let turn-2 = c .before .before .before .before .before .before in
     let after-least = turn-2 .before in
     let start = after-least .before .before .before in
-    let turn = turn-2 .loop in
     let least′ = after-least .least in
     let a = start .args .a .now in
     let b = start .args .b .now in
-    sym (order-stop a b (turn .i) (omega (arith, least′ .ensures)) (omega (arith, least′ .ensures)) (c .before .before .if1 .taken)) ∙ turn .inv .1
+    sym (order-stop a b _ (omega (arith, least′ .ensures)) (omega (arith, least′ .ensures)) (c .before .before .if1 .taken)) ∙ turn-2 .loop .inv .1
 
 loop-again : tie.Need-loop-again Inv-loop μ-loop
 loop-again c =
     let turn-2 = c .before .before .before .before in
     let after-least = turn-2 .before in
     let start = after-least .before .before .before in
-    let turn = turn-2 .loop in
     let least′ = after-least .least in
     let a = start .args .a .now in
     let b = start .args .b .now in
-    (omega arith, sym (order-step a b (turn .i) (omega (arith, least′ .ensures)) (omega (arith, least′ .ensures)) (c .if1 .left)) ∙ turn .inv .1)
+    (omega arith, sym (order-step a b _ (omega (arith, least′ .ensures)) (omega (arith, least′ .ensures)) (c .if1 .left)) ∙ turn-2 .loop .inv .1)
 
 returns-2 : tie.Need-returns-2 Inv-loop μ-loop
 returns-2 c =
     let start = c .before .before .before .before .before in
-    let a = start .args .a .now in
     let b = start .args .b .now in
-    sym (order-end a b (c .before .loop .i) (omega (arith, c .before .before .least .ensures))) ∙ c .before .loop .inv .1
+    sym (order-end (start .args .a .now) b (c .before .loop .i) (omega (arith, c .before .before .least .ensures))) ∙ c .before .loop .inv .1
 
 pub comes-before-spec : {M : Type 1} → statement M
 comes-before-spec =

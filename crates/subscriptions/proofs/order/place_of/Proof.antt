@@ -1,14 +1,9 @@
 -- `subscriptions::order::place_of` meets its contract: i rows come before the name, and those from i on are counted. By PlaceLaws.
-use mathlib.Core.Path.{_≡_, sym, _∙_}
-use Prim.Native.Nat.{_+_, _-_}
-use native.Mathlib.Nat.{zero-add}
-use lib.ListN.{length, drop}
-use borrow.Author.Tests.{not-true, not-false}
+use Rattle.listing_rules.proofs.Prelude.{_∙_, _≡_, sym, _+_, _-_, zero-add, drop, length, not-false, not-true, needs}
 use Rattle.listing_rules.specs.Orders.{byteOrder, isLt}
 use Rattle.listing_rules.specs.Subscriptions.{rowsBefore}
 use Rattle.mailbox_table.specs.Index.{nameAt, nthName, rowsAt}
 use Rattle.subscriptions.proofs.PlaceLaws.{place-step, place-stop, place-end}
-use borrow.Author.Needs.{needs}
 use Rattle.subscriptions.proofs.order.place_of.Statement.{statement}
 use Rattle.subscriptions.proofs.order.place_of.Tie as tie
 
@@ -23,10 +18,9 @@ loop-holds c = zero-add _
 
 -- what the comparison says of row i's name
 told : (c : tie.After-comes-before Inv-loop μ-loop) →
-    c .comes-before .result ≡ isLt (byteOrder (nthName (c .before .before .before .before .before .before .before .before .before .args .area .now)
-    (c .before .before .before .before .before .before .before .before .before .args .words .now)
-    (c .before .before .before .before .before .loop .i))
-    (c .before .before .before .before .before .before .before .before .before .args .name .now))
+    let turn = c .before .before .before .before .before in
+    let start = turn .before .before .before .before in
+    c .comes-before .result ≡ isLt (byteOrder (nthName (start .args .area .now) (start .args .words .now) (turn .loop .i)) (start .args .name .now))
 unfolding nameAt
 told c = c .comes-before .ensures ∙ rw (c .before .name-of .ensures, c .before .before .of-word .ensures)
 
@@ -35,23 +29,21 @@ returns c =
     let at-loop-test = c .before .before .before .before .before in
     let turn-2 = at-loop-test .before in
     let start = turn-2 .before .before .before .before in
-    let turn = turn-2 .loop in
-    sym (place-stop (start .args .area .now) (start .args .words .now) (start .args .name .now) (turn .i) (start .pre) (at-loop-test .loop-test .taken) (sym (told (c .before)) ∙ not-true _ (c .if1 .taken)))
-    ∙ turn .inv
+    sym (place-stop _ _ _ _ (start .pre) (at-loop-test .loop-test .taken) (sym (told (c .before)) ∙ not-true _ (c .if1 .taken)))
+    ∙ turn-2 .loop .inv
 
 loop-again : tie.Need-loop-again Inv-loop μ-loop
 loop-again c =
     let at-loop-test = c .before .before .before .before .before in
     let turn-2 = at-loop-test .before in
     let start = turn-2 .before .before .before .before in
-    let turn = turn-2 .loop in
-    place-step (start .args .area .now) (start .args .words .now) (start .args .name .now) (turn .i) (at-loop-test .loop-test .taken) (sym (told (c .before)) ∙ not-false _ (c .if1 .left))
-    ∙ turn .inv
+    place-step _ (start .args .words .now) _ _ (at-loop-test .loop-test .taken) (sym (told (c .before)) ∙ not-false _ (c .if1 .left))
+    ∙ turn-2 .loop .inv
 
 returns-2 : tie.Need-returns-2 Inv-loop μ-loop
 returns-2 c =
     let start = c .before .before .before .before .before in
-    sym (place-end (start .args .area .now) (start .args .words .now) (start .args .name .now) (c .before .loop .i) (c .loop-test .left)) ∙ c .before .loop .inv
+    sym (place-end _ (start .args .words .now) _ _ (c .loop-test .left)) ∙ c .before .loop .inv
 
 pub place-of-spec : {M : Type 1} → statement M
 place-of-spec =

@@ -1,9 +1,7 @@
 -- `subscriptions::order::stands_at` meets its contract: the two tests of the definition, one after the other.
-use mathlib.Core.Path.{_≡_, _∙_}
-use borrow.Author.Tests.{lt-ltb, le-ltb}
+use Rattle.listing_rules.proofs.Prelude.{_∙_, _≡_, le-ltb, lt-ltb, needs}
 use Rattle.mailbox_table.specs.Index.{nameAt}
 use Rattle.subscriptions.specs.Plans.{standsAt}
-use borrow.Author.Needs.{needs}
 use Rattle.subscriptions.proofs.order.stands_at.Statement.{statement}
 use Rattle.subscriptions.proofs.order.stands_at.Tie as tie
 

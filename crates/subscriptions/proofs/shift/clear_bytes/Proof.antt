@@ -1,9 +1,6 @@
 -- `subscriptions::shift::clear_bytes` meets its contract: i bytes are zero. By ShiftLaws.
-use Prim.Native.Nat.{_+_, _-_, _<_}
-use lib.ListN.{length}
+use Rattle.listing_rules.proofs.Prelude.{_+_, _-_, _<_, arith, length, needs}
 use Rattle.subscriptions.proofs.ShiftLaws.{Zeroed, zeroed-none, zeroed-more, zeroed-all}
-use borrow.Author.Needs.{needs}
-use native.Mathlib.Omega.{arith}
 use Rattle.subscriptions.proofs.shift.clear_bytes.Statement.{statement}
 use Rattle.subscriptions.proofs.shift.clear_bytes.Tie as tie
 
@@ -14,7 +11,7 @@ abbrev μ-loop : tie.MeasureT-loop
 μ-loop area₀ start len i₀ area i = len - i
 
 loop-holds : tie.Need-loop-holds Inv-loop μ-loop
-loop-holds c = zeroed-none (c .args .area .now) (c .args .start) (c .args .len)
+loop-holds c = zeroed-none _ _ _
 
 inside : (c : tie.In-loop Inv-loop μ-loop) → c .before .before .args .start + c .before .loop .i < length (c .before .loop .area)
 inside c = omega (arith, c .before .loop .inv .size, c .before .before .pre)

@@ -1,7 +1,7 @@
 -- `subscriptions::shift::insert_word` meets its contract: the word stands where the words that moved made room. By ShiftLaws.
 use Rattle.subscriptions.specs.Applied.{newWord}
 use Rattle.subscriptions.proofs.ShiftLaws.{inserted-set}
-use borrow.Author.Needs.{needs}
+use Rattle.listing_rules.proofs.Prelude.{needs}
 use Rattle.subscriptions.proofs.shift.insert_word.Statement.{statement}
 use Rattle.subscriptions.proofs.shift.insert_word.Tie as tie
 
@@ -10,8 +10,7 @@ unfolding newWord
 returns c =
     let after-word-of = c .before .before .before .before in
     let start = after-word-of .before .before in
-    let a = start .args in
-    rw (c .before .before .shift-up .ensures, after-word-of .word-of .ensures .0) (inserted-set (a .words .now) (a .count) (a .k) (newWord (a .start) (a .len)) (start .pre .0) (start .pre .1))
+    rw (c .before .before .shift-up .ensures, after-word-of .word-of .ensures .0) (inserted-set _ _ _ _ (start .pre .0) (start .pre .1))
 
 pub insert-word-spec : {M : Type 1} → statement M
 insert-word-spec =

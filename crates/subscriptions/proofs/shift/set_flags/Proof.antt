@@ -1,10 +1,7 @@
 -- `subscriptions::shift::set_flags` meets its contract: the word without its lowest 16 bits, and the flags there. By ShiftLaws.
-use mathlib.Core.Path.{refl}
-use lib.ListN.{getD}
+use Rattle.listing_rules.proofs.Prelude.{refl, arith, getD, needs}
 use Rattle.subscriptions.specs.Applied.{withFlags}
 use Rattle.subscriptions.proofs.ShiftLaws.{flags-fit}
-use native.Mathlib.Omega.{arith}
-use borrow.Author.Needs.{needs}
 use Rattle.subscriptions.proofs.shift.set_flags.Statement.{statement}
 use Rattle.subscriptions.proofs.shift.set_flags.Tie as tie
 

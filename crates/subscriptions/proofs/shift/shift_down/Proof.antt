@@ -1,10 +1,6 @@
 -- `subscriptions::shift::shift_down` meets its contract: the words up to i have moved. By ShiftLaws.
-use mathlib.Core.Path.{_≡_, subst}
-use Prim.Native.Nat.{ℕ, _-_, _≤_, _<_}
-use lib.ListN.{length}
+use Rattle.listing_rules.proofs.Prelude.{_≡_, subst, _-_, _<_, _≤_, ℕ, arith, length, needs}
 use Rattle.subscriptions.proofs.ShiftLaws.{Lowered, lowered-none, lowered-more, lowered-all}
-use borrow.Author.Needs.{needs}
-use native.Mathlib.Omega.{arith}
 use Rattle.subscriptions.proofs.shift.shift_down.Statement.{statement}
 use Rattle.subscriptions.proofs.shift.shift_down.Tie as tie
 
@@ -15,7 +11,7 @@ abbrev μ-loop : tie.MeasureT-loop
 μ-loop words₀ last k i₀ words i = last - i
 
 loop-holds : tie.Need-loop-holds Inv-loop μ-loop
-loop-holds c = (c .pre .0, lowered-none (c .args .words .now) (c .args .k))
+loop-holds c = (c .pre .0, lowered-none _ _)
 
 inside : (c : tie.At-loop Inv-loop μ-loop) → c .before .args .last < length (c .loop .words)
 inside c = let m = c .loop .inv .1 in omega (arith, m .size, c .before .pre .1)

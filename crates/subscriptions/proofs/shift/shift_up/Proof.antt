@@ -1,10 +1,6 @@
 -- `subscriptions::shift::shift_up` meets its contract: the words from i on have moved. By ShiftLaws.
-use mathlib.Core.Path.{_≡_, subst}
-use Prim.Native.Nat.{ℕ, _≤_, _<_}
-use lib.ListN.{length}
+use Rattle.listing_rules.proofs.Prelude.{_≡_, subst, _<_, _≤_, ℕ, arith, length, needs}
 use Rattle.subscriptions.proofs.ShiftLaws.{Raised, raised-none, raised-more}
-use borrow.Author.Needs.{needs}
-use native.Mathlib.Omega.{arith}
 use Rattle.subscriptions.proofs.shift.shift_up.Statement.{statement}
 use Rattle.subscriptions.proofs.shift.shift_up.Tie as tie
 
@@ -15,7 +11,7 @@ abbrev μ-loop : tie.MeasureT-loop
 μ-loop words₀ count k i₀ words i = i
 
 loop-holds : tie.Need-loop-holds Inv-loop μ-loop
-loop-holds c = (c .pre .0, raised-none (c .args .words .now) (c .args .count) (c .pre .1))
+loop-holds c = (c .pre .0, raised-none _ _ (c .pre .1))
 
 inside : (c : tie.At-loop Inv-loop μ-loop) → c .loop .i < length (c .loop .words)
 inside c = let m = c .loop .inv .1 in omega (arith, m .most, m .size, c .before .pre .1)

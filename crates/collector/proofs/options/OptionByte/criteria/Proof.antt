@@ -1,6 +1,5 @@
 -- `criteria` meets its contract: each test is the option's (`OptionLaws`).
-use mathlib.Core.Path.{sym, _∙_}
-use borrow.Author.Needs.{needs}
+use Rattle.listing_rules.proofs.Prelude.{_∙_, sym, needs}
 use Rattle.collector.specs.Options.{criteriaOf}
 use Rattle.collector.proofs.OptionLaws.{has-special, has-dropped}
 use Rattle.collector.proofs.options.OptionByte.criteria.Statement.{statement}

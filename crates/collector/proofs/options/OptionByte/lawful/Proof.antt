@@ -1,8 +1,5 @@
 -- `lawful` meets its contract: each test is the option's (`OptionLaws`).
-use mathlib.Core.Path.{_∙_}
-use mathlib.Core.Bool.{_||_, _&&_, not}
-use lib.Dec.{leb}
-use borrow.Author.Needs.{needs}
+use Rattle.listing_rules.proofs.Prelude.{_∙_, _&&_, _||_, not, leb, needs}
 use Rattle.listing_rules.specs.Walk.{lawfulByte}
 use Rattle.collector.proofs.OptionLaws.{has-special, has-dropped}
 use Rattle.collector.proofs.options.OptionByte.lawful.Statement.{statement}

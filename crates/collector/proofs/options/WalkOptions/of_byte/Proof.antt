@@ -1,7 +1,5 @@
 -- `of_byte` meets its contract: what a lawful byte asks for (`OptionLaws`).
-use mathlib.Core.Path.{sym, _∙_}
-use borrow.Author.Needs.{needs}
-use borrow.Author.Tests.{not-true, not-false}
+use Rattle.listing_rules.proofs.Prelude.{_∙_, sym, not-false, not-true, needs}
 use Rattle.collector.specs.Options.{askedBy}
 use Rattle.collector.specs.declared.options.Asked.the-variants.{Of}
 use Rattle.collector.proofs.OptionLaws.{has-remote, unlawful-asks}

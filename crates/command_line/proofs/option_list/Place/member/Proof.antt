@@ -1,5 +1,5 @@
 -- `Place::member`: a word means what `selected` or `returned` says of it, by the place. Rests on their promises.
-use borrow.Author.Needs.{needs}
+use Rattle.listing_rules.proofs.Prelude.{needs}
 use Rattle.command_line.proofs.option_list.Place.member.Statement.{statement}
 use Rattle.command_line.proofs.option_list.Place.member.Tie as tie
 

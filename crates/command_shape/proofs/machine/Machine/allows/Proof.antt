@@ -1,7 +1,6 @@
 -- `Machine::allows` is the table of `allowedAt`, row by row.
-use mathlib.Core.Path.{sym, _∙_}
+use Rattle.listing_rules.proofs.Prelude.{_∙_, sym, needs}
 use Rattle.command_shape.specs.Shaping.{allowedAt, allowedBy}
-use borrow.Author.Needs.{needs}
 use Rattle.command_shape.proofs.machine.Machine.allows.Statement.{statement}
 use Rattle.command_shape.proofs.machine.Machine.allows.Tie as tie
 

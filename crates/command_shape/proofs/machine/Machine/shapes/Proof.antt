@@ -1,10 +1,8 @@
 -- `Machine::shapes` is the definition: a byte that may not stand there, and else the signal of the step.
-use mathlib.Core.Path.{sym, ap, _∙_}
-use borrow.Author.Tests.{not-true, not-false}
+use Rattle.listing_rules.proofs.Prelude.{_∙_, ap, sym, not-false, not-true, needs}
 use Rattle.command_shape.specs.declared.machine.Stepped.{Stepped}
 use Rattle.command_shape.specs.declared.shaping.Shaping.the-variants.{Further}
 use Rattle.command_shape.specs.Shaping.{shapeStep, shapingAs}
-use borrow.Author.Needs.{needs}
 use Rattle.command_shape.proofs.machine.Machine.shapes.Statement.{statement}
 use Rattle.command_shape.proofs.machine.Machine.shapes.Tie as tie
 
@@ -18,7 +16,8 @@ returns-2 c =
     let after-step = c .before .before .before in
     let at-if1 = after-step .before in
     let after-allows = at-if1 .before in
-    rw (sym (after-allows .allows .ensures) ∙ not-false _ (at-if1 .if1 .left), sym (ap (λ (x : Stepped). x .signal) (after-step .step .ensures)) ∙ c .enum-told .given .1) (ap (λ (x : Stepped). Further (x .machine)) (after-step .step .ensures))
+    rw (sym (after-allows .allows .ensures) ∙ not-false _ (at-if1 .if1 .left), sym (ap (λ (x : Stepped). x .signal) (after-step .step .ensures)) ∙ c .enum-told .given .1)
+    (ap (λ (x : Stepped). Further (x .machine)) (after-step .step .ensures))
 
 returns-3 : tie.Need-returns-3
 unfolding shapeStep shapingAs
@@ -26,7 +25,8 @@ returns-3 c =
     let after-step = c .before .before .before in
     let at-if1 = after-step .before in
     let after-allows = at-if1 .before in
-    rw (sym (after-allows .allows .ensures) ∙ not-false _ (at-if1 .if1 .left), sym (ap (λ (x : Stepped). x .signal) (after-step .step .ensures)) ∙ c .enum-told2 .given .1) (ap (λ (x : Stepped). Further (x .machine)) (after-step .step .ensures))
+    rw (sym (after-allows .allows .ensures) ∙ not-false _ (at-if1 .if1 .left), sym (ap (λ (x : Stepped). x .signal) (after-step .step .ensures)) ∙ c .enum-told2 .given .1)
+    (ap (λ (x : Stepped). Further (x .machine)) (after-step .step .ensures))
 
 returns-4 : tie.Need-returns-4
 unfolding shapeStep shapingAs

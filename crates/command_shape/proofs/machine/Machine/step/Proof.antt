@@ -1,11 +1,9 @@
 -- `Machine::step` is the table of `stepAt`, row by row. Rests on Steps.
-use mathlib.Core.Path.{sym, ap, _∙_}
+use Rattle.listing_rules.proofs.Prelude.{_∙_, ap, sym, arith, needs}
 use Rattle.command_shape.specs.declared.machine.Machine.{Machine}
 use Rattle.command_shape.specs.declared.machine.Signal.the-variants.{Quiet}
 use Rattle.command_shape.specs.Machine.{steps, stepAt}
 use Rattle.command_shape.proofs.Steps.{room-left}
-use native.Mathlib.Omega.{arith}
-use borrow.Author.Needs.{needs}
 use Rattle.command_shape.proofs.machine.Machine.step.Statement.{statement}
 use Rattle.command_shape.proofs.machine.Machine.step.Tie as tie
 

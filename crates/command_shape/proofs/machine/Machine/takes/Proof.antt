@@ -1,5 +1,5 @@
 -- `takes` is the definition, by the two tests that it calls.
-use borrow.Author.Needs.{needs}
+use Rattle.listing_rules.proofs.Prelude.{needs}
 use Rattle.command_shape.proofs.machine.Machine.takes.Statement.{statement}
 use Rattle.command_shape.proofs.machine.Machine.takes.Tie as tie
 

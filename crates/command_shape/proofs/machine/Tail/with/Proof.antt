@@ -1,9 +1,7 @@
 -- `Tail::with` is the table of `tailAs`, row by row.
-use mathlib.Core.Path.{sym, ap, _∙_}
-use borrow.Author.Tests.{eq-eqb, ne-eqb}
+use Rattle.listing_rules.proofs.Prelude.{_∙_, ap, sym, eq-eqb, ne-eqb, needs}
 use Rattle.command_shape.specs.declared.machine.Tail.the-variants.{Digits}
 use Rattle.command_shape.specs.Machine.{tailAs, tailIs}
-use borrow.Author.Needs.{needs}
 use Rattle.command_shape.proofs.machine.Tail.with.Statement.{statement}
 use Rattle.command_shape.proofs.machine.Tail.with.Tie as tie
 
@@ -56,7 +54,8 @@ unfolding tailIs tailAs
 returns-9 c =
     let after-self = c .before .before .before .before .before in
     let at-if1 = after-self .before .before in
-    rw (ne-eqb _ 123 (at-if1 .if1 .left), after-self .self .given .1, sym (c .before .before .before .is-digit2 .ensures) ∙ c .before .before .if3 .left, ne-eqb _ 125 (c .before .if4 .left)) (c .plain-tail4 .ensures)
+    rw (ne-eqb _ 123 (at-if1 .if1 .left), after-self .self .given .1, sym (c .before .before .before .is-digit2 .ensures) ∙ c .before .before .if3 .left, ne-eqb _ 125 (c .before .if4 .left))
+    (c .plain-tail4 .ensures)
 
 returns-10 : tie.Need-returns-10
 unfolding tailIs tailAs

@@ -1,8 +1,7 @@
 -- `Class::holds`: each class has the bytes of its definition. Rests on the promise of `is_atom`, and for patterns on Bytes.
-use Rattle.listing_rules.specs.Tokens.{atomByte}
+use Rattle.listing_rules.specs.Tokens.{atomByte, tagByte, astringByte, patternByte}
 use Rattle.command_tokens.proofs.Bytes.{pattern-is}
-use Rattle.listing_rules.specs.Tokens.{tagByte, astringByte, patternByte}
-use borrow.Author.Needs.{needs}
+use Rattle.listing_rules.proofs.Prelude.{needs}
 use Rattle.command_tokens.proofs.tokens.Class.holds.Statement.{statement}
 use Rattle.command_tokens.proofs.tokens.Class.holds.Tie as tie
 
@@ -19,9 +18,7 @@ returns-3 c = rw (c .before .enum-told3 .given .1, c .is-atom3 .ensures)
 
 returns-4 : tie.Need-returns-4
 unfolding patternByte
-returns-4 c =
-    let start = c .before .before .before in
-    rw (c .before .enum-told4 .given .1, c .is-atom4 .ensures) (pattern-is (atomByte (start .args .b)) (start .args .b))
+returns-4 c = rw (c .before .enum-told4 .given .1, c .is-atom4 .ensures) (pattern-is (atomByte _) _)
 
 returns-5 : tie.Need-returns-5
 returns-5 c = rw (c .before .enum-told5 .given .1) (c .is-digit .ensures)

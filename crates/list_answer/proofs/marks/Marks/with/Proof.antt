@@ -1,5 +1,5 @@
 -- `list_answer::marks::Marks::with` meets its contract, by that of `union`.
-use borrow.Author.Needs.{needs}
+use Rattle.listing_rules.proofs.Prelude.{needs}
 use Rattle.list_answer.proofs.marks.Marks.with.Statement.{statement}
 use Rattle.list_answer.proofs.marks.Marks.with.Tie as tie
 

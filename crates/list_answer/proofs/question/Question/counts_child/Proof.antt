@@ -2,7 +2,7 @@
 use Rattle.listing_rules.specs.Flags.{exists, remote}
 use Rattle.octets.proofs.Sets.{contains-bit}
 use Rattle.command_line.specs.OptionSets.{optionsIs}
-use borrow.Author.Needs.{needs}
+use Rattle.listing_rules.proofs.Prelude.{needs}
 use Rattle.list_answer.proofs.question.Question.counts_child.Statement.{statement}
 use Rattle.list_answer.proofs.question.Question.counts_child.Tie as tie
 
@@ -10,9 +10,8 @@ returns : tie.Need-returns
 unfolding optionsIs exists remote
 returns c =
     let start = c .before .before .before in
-    let o = start .args .self .options .bits in
     let f = start .args .flags .bits in
-    cc (contains-bit 1 o, contains-bit 0 f, contains-bit 2 f)
+    cc (contains-bit 1 (start .args .self .options .bits), contains-bit 0 f, contains-bit 2 f)
 
 pub counts-child-spec : {M : Type 1} → statement M
 counts-child-spec = tie.close (tie.spec (λ c κs. search needs) (λ c κs. search needs) (λ c κs. search needs) returns)

@@ -3,7 +3,7 @@ use Rattle.listing_rules.specs.Flags.{exists, remote, subscribed}
 use Rattle.listing_rules.specs.Listing.{meetsCriteria}
 use Rattle.octets.proofs.Sets.{contains-bit}
 use Rattle.command_line.specs.OptionSets.{optionsIs}
-use borrow.Author.Needs.{needs}
+use Rattle.listing_rules.proofs.Prelude.{needs}
 use Rattle.list_answer.proofs.question.Question.is_met.Statement.{statement}
 use Rattle.list_answer.proofs.question.Question.is_met.Tie as tie
 

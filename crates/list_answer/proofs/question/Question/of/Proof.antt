@@ -1,7 +1,5 @@
 -- `list_answer::question::Question::of` meets its contract, by those of its two tests.
-use mathlib.Core.Path.{refl}
-use mathlib.Core.Bool.{_&&_}
-use borrow.Author.Needs.{needs}
+use Rattle.listing_rules.proofs.Prelude.{refl, _&&_, needs}
 use Rattle.list_answer.proofs.question.Question.of.Statement.{statement}
 use Rattle.list_answer.proofs.question.Question.of.Tie as tie
 

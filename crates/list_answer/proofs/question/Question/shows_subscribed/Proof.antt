@@ -1,7 +1,7 @@
 -- `list_answer::question::Question::shows_subscribed` meets its contract: the bits of the two members.
 use Rattle.octets.proofs.Sets.{contains-bit}
 use Rattle.command_line.specs.OptionSets.{optionsIs}
-use borrow.Author.Needs.{needs}
+use Rattle.listing_rules.proofs.Prelude.{needs}
 use Rattle.list_answer.proofs.question.Question.shows_subscribed.Statement.{statement}
 use Rattle.list_answer.proofs.question.Question.shows_subscribed.Tie as tie
 

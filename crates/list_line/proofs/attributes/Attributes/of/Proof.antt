@@ -1,11 +1,7 @@
 -- `Attributes::of`: the bits so far are the set of the places from k on. Rests on Members.
-use mathlib.Core.Path.{_≡_, sym, ap, _∙_}
-use Prim.Native.Nat.{ℕ, _≤_, _+_, _-_}
-use lib.ListN.{length, drop}
+use Rattle.listing_rules.proofs.Prelude.{_∙_, _≡_, ap, sym, _+_, _-_, _≤_, ℕ, arith, drop, length, needs}
 use Rattle.list_line.specs.Members.{setOf}
 use Rattle.list_line.proofs.Members.{setOf-here, setOf-not-here, setOf-none, setOf-room}
-use borrow.Author.Needs.{needs}
-use native.Mathlib.Omega.{arith}
 use Rattle.list_line.proofs.attributes.Attributes.of.Statement.{statement}
 use Rattle.list_line.proofs.attributes.Attributes.of.Tie as tie
 
@@ -19,15 +15,12 @@ loop-holds : tie.Need-loop-holds Inv-loop μ-loop
 loop-holds c = (search needs, omega arith, sym (setOf-none (c .args .t1) 16 (search needs)))
 
 mul-bits : tie.Need-mul-bits Inv-loop μ-loop
-mul-bits c =
-    let start = c .before .before in
-    omega (arith, setOf-room (start .args .t1) (c .before .loop .k) (c .before .loop .inv .0) (c .loop-test .taken))
+mul-bits c = omega (arith, setOf-room (c .before .before .args .t1) _ (c .before .loop .inv .0) (c .loop-test .taken))
 
 add-bits : tie.Need-add-bits Inv-loop μ-loop
 add-bits c =
     let turn = c .before .before in
-    let start = turn .before in
-    omega (arith, setOf-room (start .args .t1) (turn .loop .k) (turn .loop .inv .0) (c .before .loop-test .taken))
+    omega (arith, setOf-room (turn .before .args .t1) _ (turn .loop .inv .0) (c .before .loop-test .taken))
 
 loop-again : tie.Need-loop-again Inv-loop μ-loop
 loop-again c =
@@ -47,8 +40,7 @@ loop-again-2 c =
 
 returns : tie.Need-returns Inv-loop μ-loop
 returns c =
-    let start = c .before .before in
-    let w : c .before .loop .k ≡ 0 = omega arith in c .before .loop .inv .2 ∙ ap (λ (n : ℕ). setOf (drop n (start .args .t1))) w
+    let w : c .before .loop .k ≡ 0 = omega arith in c .before .loop .inv .2 ∙ ap (λ (n : ℕ). setOf (drop n (c .before .before .args .t1))) w
 
 pub of-spec : {M : Type 1} → statement M
 of-spec =

@@ -1,5 +1,5 @@
 -- `Criteria::lawful` meets its contract: its test is the definition's.
-use mathlib.Core.Path.{refl}
+use Rattle.listing_rules.proofs.Prelude.{refl}
 use Rattle.listing_rules.specs.Options.{lawfulCriteria}
 use Rattle.list_line.proofs.criteria.Criteria.lawful.Statement.{statement}
 use Rattle.list_line.proofs.criteria.Criteria.lawful.Tie as tie

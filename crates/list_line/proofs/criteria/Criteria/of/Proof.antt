@@ -1,5 +1,5 @@
 -- `Criteria::of` meets its contract, by the four cases.
-use borrow.Author.Needs.{needs}
+use Rattle.listing_rules.proofs.Prelude.{needs}
 use Rattle.listing_rules.specs.Options.{criteriaNumber}
 use Rattle.list_line.proofs.criteria.Criteria.of.Statement.{statement}
 use Rattle.list_line.proofs.criteria.Criteria.of.Tie as tie

@@ -1,12 +1,11 @@
 -- `mailbox_table::flags::Flags::has_use` meets its contract, by the law of special uses in FlagBits.
-use mathlib.Core.Path.{_∙_}
+use Rattle.listing_rules.proofs.Prelude.{_∙_, needs}
 use Rattle.mailbox_table.proofs.FlagBits.{some-use}
-use borrow.Author.Needs.{needs}
 use Rattle.mailbox_table.proofs.flags.Flags.has_use.Statement.{statement}
 use Rattle.mailbox_table.proofs.flags.Flags.has_use.Tie as tie
 
 returns : tie.Need-returns
-returns c = c .has-some .ensures ∙ some-use (c .before .args .self .bits)
+returns c = c .has-some .ensures ∙ some-use _
 
 pub has-use-spec : {M : Type 1} → statement M
 has-use-spec = tie.close (tie.spec (λ c κs. search needs) returns)

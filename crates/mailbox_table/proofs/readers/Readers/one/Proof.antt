@@ -1,9 +1,6 @@
 -- `mailbox_table::readers::Readers::one` meets its contract: after i turns the set has reader i alone. By SeenLaws.
-use mathlib.Core.Path.{_≡_, refl, ap, _∙_}
-use Prim.Native.Nat.{ℕ, _+_, _-_, _*_, _^_, _≤_}
+use Rattle.listing_rules.proofs.Prelude.{_∙_, _≡_, ap, refl, _*_, _-_, _^_, _≤_, ℕ, arith, needs}
 use Rattle.mailbox_table.proofs.SeenLaws.{member-none, member-is, member-next, member-fits}
-use borrow.Author.Needs.{needs}
-use native.Mathlib.Omega.{arith}
 use Rattle.mailbox_table.proofs.readers.Readers.one.Statement.{statement}
 use Rattle.mailbox_table.proofs.readers.Readers.one.Tie as tie
 
@@ -14,7 +11,7 @@ abbrev μ-loop : tie.MeasureT-loop
 μ-loop reader bits₀ i₀ bits i = reader - i
 
 returns : tie.Need-returns Inv-loop μ-loop
-returns c = member-none (c .before .args .reader) (c .if1 .taken)
+returns c = member-none _ (c .if1 .taken)
 
 loop-holds : tie.Need-loop-holds Inv-loop μ-loop
 loop-holds c = (omega arith, refl)
@@ -24,9 +21,7 @@ mul-bits c =
     omega (arith, member-fits (c .before .loop .i) (omega (arith, c .loop-test .taken, c .before .before .if1 .left)), c .before .loop .inv .1)
 
 loop-again : tie.Need-loop-again Inv-loop μ-loop
-loop-again c =
-    let turn = c .before .loop in
-    (omega (arith, c .loop-test .taken), ap (λ (m : ℕ). m * 2) (turn .inv .1) ∙ member-next (turn .i))
+loop-again c = (omega (arith, c .loop-test .taken), ap (λ (m : ℕ). m * 2) (c .before .loop .inv .1) ∙ member-next _)
 
 returns-2 : tie.Need-returns-2 Inv-loop μ-loop
 returns-2 c =

@@ -1,7 +1,6 @@
 -- `mailbox_table::rows::Row::of_word` meets its contract: the record is the definition, opened.
-use mathlib.Core.Path.{refl}
+use Rattle.listing_rules.proofs.Prelude.{refl, needs}
 use Rattle.mailbox_table.specs.Words.{rowOfWord}
-use borrow.Author.Needs.{needs}
 use Rattle.mailbox_table.proofs.rows.Row.of_word.Statement.{statement}
 use Rattle.mailbox_table.proofs.rows.Row.of_word.Tie as tie
 

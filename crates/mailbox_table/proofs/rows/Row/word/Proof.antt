@@ -1,7 +1,6 @@
 -- `mailbox_table::rows::Row::word` meets its contract: the sum is the definition, opened, and fits by the bounds of `Packs`.
-use mathlib.Core.Path.{refl}
+use Rattle.listing_rules.proofs.Prelude.{refl, needs}
 use Rattle.mailbox_table.specs.Words.{wordOf}
-use borrow.Author.Needs.{needs}
 use Rattle.mailbox_table.proofs.rows.Row.word.Statement.{statement}
 use Rattle.mailbox_table.proofs.rows.Row.word.Tie as tie
 

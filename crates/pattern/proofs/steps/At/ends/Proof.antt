@@ -1,5 +1,5 @@
 -- `At::ends` is the definition.
-use borrow.Author.Needs.{needs}
+use Rattle.listing_rules.proofs.Prelude.{needs}
 use Rattle.pattern.proofs.steps.At.ends.Statement.{statement}
 use Rattle.pattern.proofs.steps.At.ends.Tie as tie
 

@@ -1,5 +1,5 @@
 -- `At::goes` is the definition.
-use borrow.Author.Needs.{needs}
+use Rattle.listing_rules.proofs.Prelude.{needs}
 use Rattle.pattern.proofs.steps.At.goes.Statement.{statement}
 use Rattle.pattern.proofs.steps.At.goes.Tie as tie
 

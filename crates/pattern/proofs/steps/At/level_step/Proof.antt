@@ -1,6 +1,6 @@
 -- `At::level_step` is the table of `pendingAs`, row by row.
 use Rattle.pattern.specs.Steps.{pendingAs}
-use borrow.Author.Needs.{needs}
+use Rattle.listing_rules.proofs.Prelude.{needs}
 use Rattle.pattern.proofs.steps.At.level_step.Statement.{statement}
 use Rattle.pattern.proofs.steps.At.level_step.Tie as tie
 

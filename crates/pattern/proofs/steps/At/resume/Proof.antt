@@ -1,6 +1,6 @@
 -- `At::resume` is the table of `resumedAs`, row by row.
 use Rattle.pattern.specs.Steps.{resumedAs}
-use borrow.Author.Needs.{needs}
+use Rattle.listing_rules.proofs.Prelude.{needs}
 use Rattle.pattern.proofs.steps.At.resume.Statement.{statement}
 use Rattle.pattern.proofs.steps.At.resume.Tie as tie
 

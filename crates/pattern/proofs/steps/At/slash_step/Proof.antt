@@ -1,6 +1,6 @@
 -- `At::slash_step` is the table of `settledAs`, row by row.
 use Rattle.pattern.specs.Steps.{settledAs}
-use borrow.Author.Needs.{needs}
+use Rattle.listing_rules.proofs.Prelude.{needs}
 use Rattle.pattern.proofs.steps.At.slash_step.Statement.{statement}
 use Rattle.pattern.proofs.steps.At.slash_step.Tie as tie
 

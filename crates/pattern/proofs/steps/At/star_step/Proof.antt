@@ -1,6 +1,6 @@
 -- `At::star_step` is the definition's choice.
 use Rattle.pattern.specs.Steps.{starIs}
-use borrow.Author.Needs.{needs}
+use Rattle.listing_rules.proofs.Prelude.{needs}
 use Rattle.pattern.proofs.steps.At.star_step.Statement.{statement}
 use Rattle.pattern.proofs.steps.At.star_step.Tie as tie
 

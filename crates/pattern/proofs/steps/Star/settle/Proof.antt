@@ -1,6 +1,6 @@
 -- `Star::settle` is the table of `fixedAs`, row by row.
 use Rattle.pattern.specs.Steps.{fixedAs}
-use borrow.Author.Needs.{needs}
+use Rattle.listing_rules.proofs.Prelude.{needs}
 use Rattle.pattern.proofs.steps.Star.settle.Statement.{statement}
 use Rattle.pattern.proofs.steps.Star.settle.Tie as tie
 

@@ -1,0 +1,33 @@
+-- A command over what is kept: its line, by the server's answer, and what it leaves.
+use mathlib.Core.List.{List, _∷_}
+use lib.ListN.{length, take}
+use Prim.Native.Nat.{ℕ, _≤_}
+use Rattle.listing_rules.specs.Frames.{Kept, answerLine, refusalLine, replyLine, commandOver, commandStep}
+use Rattle.octets.specs.declared.Written.{Written}
+use Rattle.octets.specs.declared.Written.the-variants.{Done, Refused}
+use Rattle.kept_table.specs.declared.Lengths.{Lengths}
+use Rattle.kept_table.specs.declared.outcome.Outcome.{Outcome}
+use Rattle.kept_table.specs.Kept.{Lent, storedIn, Carries}
+
+-- the line that answers a reader's command
+abbrev pub commandLine : ℕ → Kept → List ℕ → List ℕ → List ℕ
+commandLine reader kept namespaces command = replyLine (commandOver reader kept namespaces command .reply)
+
+-- the line of what the server answers: an answer lies at the front of its buffer
+unfoldable pub writtenLine : Written → List ℕ → List ℕ
+writtenLine (Done n) answer = answerLine (0x41 ∷ take n answer)
+writtenLine (Refused k) answer = refusalLine k
+
+-- how many bytes of the buffer are the answer
+unfoldable pub answerLength : Written → ℕ
+answerLength (Done n) = n
+answerLength (Refused k) = 0
+
+-- the answer lies in its buffer, which has 16,384 bytes at most
+pub record Fits (w : Written) (answer : List ℕ) : Type 0 where
+  pub inside : answerLength w ≤ length answer
+  pub small : length answer ≤ 16384
+
+-- a command was carried out
+abbrev pub Obeys : Lengths → ℕ → List ℕ → Lent → Lent → Outcome → Type 0
+Obeys stored reader command d e r = Carries (commandStep (storedIn d stored) reader command) d e r

@@ -1,0 +1,54 @@
+# For ./run, ./import, ./serve and ./install, which read it: what they tell, and what is built and current. Nothing here is run by itself.
+# They set `root`, the repository's folder, `own`, their name, and `trouble`, their status where something is not proved, not built or not
+# there, first.
+# shellcheck disable=SC2154
+
+say() { printf '%s: %s\n' "$own" "$*" >&2; }
+failed() {
+    say "$*"
+    exit "$trouble"
+}
+needs() { # COMMAND WHAT
+    command -v "$1" >/dev/null || failed "'$1' is missing: $2"
+}
+
+# A stamp is what a file was built from and what it is: the sum of the files, and its own sum. Files that are the same have the same
+# stamp, however they came here.
+sum_of_files() { # PATH..
+    (cd "$root" && find "$@" -type f -print0 | sort -z | xargs -0 sha256sum | sha256sum) 2>/dev/null
+}
+stamp_of() { printf '%s\n' "$root/target/run/$(basename -- "$1").stamp"; }
+stamp_text() { # FILE FILES-SUM
+    printf '%s\n%s\n' "$2" "$(sha256sum <"$1" 2>/dev/null)"
+}
+
+# Whether a file is there and nothing has changed since it was built. Nothing is written to find out.
+is_current() { # FILE FILES-SUM
+    [ -r "$1" ] && [ "$(stamp_text "$1" "$2")" = "$(cat -- "$(stamp_of "$1")" 2>/dev/null)" ]
+}
+set_stamp() { # FILE FILES-SUM
+    if ! mkdir -p -- "$root/target/run" || ! stamp_text "$1" "$2" >"$(stamp_of "$1")"; then
+        say 'what was built cannot be noted, so it is looked at again the next time'
+    fi
+}
+
+# Where a program of the workspace host/ lies once it is built.
+host_program() { # PACKAGE
+    printf '%s\n' "$root/target/host/release/$1"
+}
+
+# Builds a program of the workspace host/, with nothing but the standard library, from these files beside those of the workspace.
+build_host() { # PACKAGE NAME CONSEQUENCE PATH..
+    local package=$1 name=$2 consequence=$3 program files
+    shift 3
+    program=$(host_program "$package")
+    files=$(sum_of_files host/Cargo.toml host/Cargo.lock "$@")
+    if [ -x "$program" ] && is_current "$program" "$files"; then return; fi
+    needs cargo "Rust builds $name"
+    [ -x "$program" ] || say "building $name; the first time this takes some 20 seconds"
+    if ! cargo build --quiet --release --offline --package "$package" \
+        --manifest-path "$root/host/Cargo.toml" --target-dir "$root/target/host" </dev/null >&2; then
+        failed "$name cannot be built, so $consequence"
+    fi
+    set_stamp "$program" "$files"
+}

@@ -54,7 +54,7 @@ pub struct Stepped {
 
 impl Machine {
     // Before the first byte of a command.
-    pub const FIRST: Machine = Machine {
+    pub(crate) const FIRST: Machine = Machine {
         place: Place::Line(Tail::Text),
         size: 0,
         cr: false,

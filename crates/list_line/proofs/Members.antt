@@ -1,8 +1,8 @@
 -- The number of a set and its sixteen members decide each other.
 use Rattle.listing_rules.proofs.Prelude.{_∙_, _≡_, ap, refl, sym, Bool, _&&_, cond, false, true, List, [], _++_, _∷_, _%_, _*_, _+_, _/_, _<_, _^_}
 use Rattle.listing_rules.proofs.Prelude.{_≤_, suc, zero, ℕ, add-suc, add-zero, div-div-eq-div-mul, div-one, pow-suc, pow-succ', suc-add, zero-add}
-use Rattle.listing_rules.proofs.Prelude.{zero-div, add-one, arith, eqb, drop, drop-of-length-le, getD, length, length-drop, drop-cons, ext-getD}
-use Rattle.listing_rules.proofs.Prelude.{eq-eqb, eqb-true, ne-eqb}
+use Rattle.listing_rules.proofs.Prelude.{zero-div, add-one, arith, eqb, drop, drop-of-length-le, getD, length, length-drop, drop-cons, eq-eqb}
+use Rattle.listing_rules.proofs.Prelude.{eqb-true, ne-eqb}
 use lib.Pow.{pow-mono}
 use Rattle.listing_rules.specs.Bytes.{bit, isEmpty}
 use Rattle.listing_rules.specs.Options.{Criteria, isNone}
@@ -78,11 +78,6 @@ getD-members k a h = getD-bits 16 0 a k h ∙ rw zero-add
 pub length-members : (a : ℕ) → length (members a) ≡ 16
 unfolding members
 length-members a = refl
-
--- a set whose members are these sixteen
-pub members-are : (a : ℕ) (bs : List Bool) → length bs ≡ 16 → ((k : ℕ) → k < 16 → bit k a ≡ getD bs k false) → members a ≡ bs
-members-are a bs h e =
-    ext-getD false (members a) bs (length-members a ∙ sym h) (λ k l. let g : k < 16 = omega (arith, length-members a) in getD-members k a g ∙ e k g)
 
 -- sixteen members make a number of 16 bits
 pub setOf-below : (bs : List Bool) → setOf bs < 2 ^ length bs

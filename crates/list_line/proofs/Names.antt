@@ -1,6 +1,6 @@
 -- Where the names stand: one test of all sixteen places, which antt computes, gives what holds at each.
-use Rattle.listing_rules.proofs.Prelude.{_∙_, _≡_, ap, refl, subst, sym, Bool, _&&_, cond, false, true, List, _∷_, _+_, _-_, _<_, _≤_, suc, zero, ℕ, decLt, arith, leb}
-use Rattle.listing_rules.proofs.Prelude.{drop, getD, length, take, leb-true, lt-leb}
+use Rattle.listing_rules.proofs.Prelude.{_∙_, _≡_, ap, refl, subst, sym, Bool, _&&_, cond, false, true, List, _∷_, _+_, _-_, _<_, _≤_, suc, zero, ℕ}
+use Rattle.listing_rules.proofs.Prelude.{decLt, arith, leb, drop, getD, length, take, leb-true, lt-leb}
 use Rattle.listing_rules.specs.Bytes.{same, space}
 use Rattle.listing_rules.proofs.Keys.{openBytes, openLines}
 use Rattle.listing_rules.specs.Reader.{separated}

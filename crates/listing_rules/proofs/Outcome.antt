@@ -13,10 +13,6 @@ pub data Outcome {A : Type 0} (x : Step A) (u : A) (H : Type 0) : Type 0 where
   went : x ≡ go u → H → Outcome x u H
   stopped : (k : ℕ) → Short k → x ≡ stop k → (H → ⊥) → Outcome x u H
 
-pub went-to : {A : Type 0} {x : Step A} {u : A} {H : Type 0} → Outcome x u H → H → x ≡ go u
-went-to (went e h) k = e
-went-to (stopped j s e n) k = absurd (n k)
-
 -- the same with another statement of what holds
 pub with-fact : {A : Type 0} {x : Step A} {u : A} {H K : Type 0} → (H → K) → (K → H) → Outcome x u H → Outcome x u K
 with-fact f g (went e h) = went e (f h)

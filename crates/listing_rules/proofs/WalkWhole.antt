@@ -189,6 +189,3 @@ module _ (t : Table) (o : ℕ) (wk : Walks t o) (scratch found pending : ℕ) wh
           ⊎ ((Room → ⊥) × ((k : ℕ) × Short k × (walk t o scratch found pending ≡ walkRefused k)))
       pick (went d R) = inl (R, rw (ok, wk .1, d) (ap (λ (n : ℕ). walked n (packed (meetingNames (rows t) o)) (packed (meetingAncestors (rows t) o))) e))
       pick (stopped k s d n) = inr (n, (k, s, rw (ok, wk .1, d)))
-
-  pub demand-3 : Room → walk t o scratch found pending ≡ declaredWalk t o
-  demand-3 R = ⊎-elim (λ w. w .1) (λ w. absurd (w .0 R)) demand-3-whole

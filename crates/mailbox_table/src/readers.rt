@@ -41,7 +41,7 @@ impl Readers {
     }
 
     // Whether some member is in both sets.
-    pub fn meets(self, other: Readers) -> bool
+    pub(crate) fn meets(self, other: Readers) -> bool
         ensures { λ r. ⌜ r ≡ touches (self .bits) (other .bits) ⌝ }
     {
         self.bits & other.bits != 0

@@ -22,40 +22,40 @@ use octets::advance;
 use octets::least;
 
 // What the bytes that are compared began after: nothing that moves; a "%"; a "*".
-pub enum Kind {
+pub(crate) enum Kind {
     Plain,
     Level,
     Any,
 }
 
 // The run of bytes that is compared: after a wildcard, it began at this place of the pattern.
-pub struct Run {
+pub(crate) struct Run {
     pub kind: Kind,
     pub back: usize,
 }
 
 // Whether there is a "*" to go back to, and whether it is known where it begins again: after the next "/", or at a place of the name.
-pub enum Known {
+pub(crate) enum Known {
     Gone,
     Pending,
     Settled,
 }
 
 // The "*" that a "%" is given up for: it stands before this place of the pattern, and begins again at that place of the name.
-pub struct Star {
+pub(crate) struct Star {
     pub known: Known,
     pub place: usize,
     pub from: usize,
 }
 
-pub enum Going {
+pub(crate) enum Going {
     On,
     Matched,
     Missed,
 }
 
 // The places of the pattern and of the name that are looked at next, and the steps so far.
-pub struct At {
+pub(crate) struct At {
     pub i: usize,
     pub j: usize,
     pub steps: usize,
@@ -65,7 +65,7 @@ pub struct At {
 }
 
 // The last places of both: whether the pattern has a byte there that stands for itself and is not the name's, and the steps so far.
-pub struct Ends {
+pub(crate) struct Ends {
     pub apart: bool,
     pub steps: usize,
 }
@@ -77,14 +77,14 @@ pub struct Counted {
 }
 
 impl Run {
-    pub const PLAIN: Run = Run {
+    pub(crate) const PLAIN: Run = Run {
         kind: Kind::Plain,
         back: 0,
     };
 }
 
 impl Star {
-    pub const GONE: Star = Star {
+    pub(crate) const GONE: Star = Star {
         known: Known::Gone,
         place: 0,
         from: 0,
@@ -92,7 +92,7 @@ impl Star {
 }
 
 impl Ends {
-    pub const NONE: Ends = Ends {
+    pub(crate) const NONE: Ends = Ends {
         apart: false,
         steps: 0,
     };

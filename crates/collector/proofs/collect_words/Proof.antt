@@ -23,7 +23,9 @@ same-reply : (c : tie.After-run) →
     let pending = c .before .before .before .before .before .before in
     let found = pending .before .before .before .before in
     let args = found .before .before .before .before .before .before .before .args in
-    collectedBy (args .reader) (wordSeen (args .reader) (args .area .now) (args .words .now) (args .count)) (args .option) (args .scratch .now) (found .clear .last .0) (pending .clear2 .last .0) ≡ collectedBy (args .reader) (wordSeen (args .reader) (args .area .now) (args .words .now) (args .count)) (args .option) (args .scratch .now) (args .found .now) (args .pending .now)
+    let seen = wordSeen (args .reader) (args .area .now) (args .words .now) (args .count) in
+    collectedBy (args .reader) seen (args .option) (args .scratch .now) (found .clear .last .0) (pending .clear2 .last .0) ≡
+    collectedBy (args .reader) seen (args .option) (args .scratch .now) (args .found .now) (args .pending .now)
 same-reply c =
     let pending = c .before .before .before .before .before .before in
     let found = pending .before .before .before .before in

@@ -44,8 +44,7 @@ returns-2 c =
     let moved = c .before .before .before .before in
     let checked = moved .before .before .before in
     let counted = checked .before .before .before .before in
-    done _ _ _ _ _ (counted .least .ensures) (passed checked)
-    _ _ (moved .move-names .ensures)
+    done _ _ _ _ _ (counted .least .ensures) (passed checked) _ _ (moved .move-names .ensures)
 
 pub compact-words-spec : {M : Type 1} → statement M
 compact-words-spec =

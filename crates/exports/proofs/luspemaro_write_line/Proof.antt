@@ -14,5 +14,4 @@ returns c =
     (c .written-outcome .ensures ∙ ap (λ (w : Written). writtenCase w 0) (line .0) ∙ written-case _ 0, line .1)
 
 pub luspemaro-write-line-spec : {M : Type 1} → statement M
-luspemaro-write-line-spec =
-    tie.close (tie.spec (λ c κs. search needs) (λ c κs. search needs) (λ c. search needs) returns)
+luspemaro-write-line-spec = tie.close (tie.spec (λ c κs. search needs) (λ c κs. search needs) (λ c. search needs) returns)

@@ -10,5 +10,4 @@ unfolding openBytes openLines allNames namePlaces
 read-chosen-requires c κs = (c .before .before .before .pre, (refl, refl))
 
 pub read-attributes-spec : {M : Type 1} → statement M
-read-attributes-spec =
-    tie.close (tie.spec (λ c. search needs) (λ c. search needs) read-chosen-requires (λ c. search needs))
+read-attributes-spec = tie.close (tie.spec (λ c. search needs) (λ c. search needs) read-chosen-requires (λ c. search needs))

@@ -16,5 +16,4 @@ unfolding openBytes rootLine
 returns-2 c = rw (read-other _ (sym (c .before .before .same-bytes .ensures) ∙ c .before .if1 .left)) (c .read-parts .ensures)
 
 pub read-line-spec : {M : Type 1} → statement M
-read-line-spec =
-    tie.close (tie.spec (λ c. search needs) (λ c κs. search needs) (λ c κs. search needs) returns (λ c κs. search needs) returns-2)
+read-line-spec = tie.close (tie.spec (λ c. search needs) (λ c κs. search needs) (λ c κs. search needs) returns (λ c κs. search needs) returns-2)

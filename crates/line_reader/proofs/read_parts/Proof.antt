@@ -74,7 +74,8 @@ name : (c : tie.After-known-told3) →
     let after-no-name = after-read-name .before .before in
     let after-b = after-no-name .before .before in
     let start = after-b .before .before .before .before .before .before .before .before .before .before .before in
-    Names (start .args .line .now) (after-b .b .given .0 .0) (after-no-name .no-name .result) (after-read-name .read-name .last .1 .1 .0) (Of (c .before .len .given .0 .0) (c .before .len .given .0 .1 .0))
+    Names (start .args .line .now) (after-b .b .given .0 .0) (after-no-name .no-name .result) (after-read-name .read-name .last .1 .1 .0)
+    (Of (c .before .len .given .0 .0) (c .before .len .given .0 .1 .0))
 name c =
     let after-read-name = c .before .before .before .before in
     subst (Names _ _ _ _) (c .before .len .given .1) (after-read-name .read-name .ensures)
@@ -110,7 +111,9 @@ ended : (c : tie.After-known-told4) →
     let stage = c .before .before .before .before .before in
     let after-a = stage .before .before .before .before .before .before .before .before .before .before .before .before .before .before in
     let start = after-a .before .before .before .before .before in
-    readParts (start .args .line .now) ≡ cond (lawfulName (name (stage) .0)) (some (line (chosenAt (start .args .line .now) (after-a .a .given .0 .0)) (name (stage) .0) (criteriaOf (c .before .criteria .given .0 .0 .bits)))) none
+    let read = name stage .0 in
+    readParts (start .args .line .now) ≡ cond (lawfulName read)
+    (some (line (chosenAt (start .args .line .now) (after-a .a .given .0 .0)) read (criteriaOf (c .before .criteria .given .0 .0 .bits)))) none
 ended c =
     let after-read-tail = c .before .before .before in
     let stage = after-read-tail .before .before in

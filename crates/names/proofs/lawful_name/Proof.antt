@@ -32,11 +32,7 @@ returns-8 c =
     let at-if3 = after-slashes .before in
     c .inbox-spelled .ensures
     ∙ sym
-    (all-but-inbox
-    _
-    (omega arith)
-    (omega arith)
-    (sym (at-if3 .before .name-bytes .ensures) ∙ not-false _ (at-if3 .if3 .left))
+    (all-but-inbox _ (omega arith) (omega arith) (sym (at-if3 .before .name-bytes .ensures) ∙ not-false _ (at-if3 .if3 .left))
     (omega (arith, after-slashes .slashes .ensures))
     (at-if5 .if5 .left)
     (c .before .before .before .if6 .left)

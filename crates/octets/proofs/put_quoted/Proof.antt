@@ -14,5 +14,4 @@ returns c =
     put-then (put-then (start .put .ensures) (after-put-escaped .put-escaped .ensures)) (c .before .before .put2 .ensures)
 
 pub put-quoted-spec : {M : Type 1} → statement M
-put-quoted-spec =
-    tie.close (tie.spec (λ c κs. search needs) (λ c κs. search needs) (λ c κs. search needs) (λ c. search needs) returns)
+put-quoted-spec = tie.close (tie.spec (λ c κs. search needs) (λ c κs. search needs) (λ c κs. search needs) (λ c. search needs) returns)

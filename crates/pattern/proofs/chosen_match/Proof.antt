@@ -15,5 +15,4 @@ returns-2 c =
     c .run-steps .ensures .right ∙ chosen-in (start .args .levels) _ _ _ (c .before .before .ends-in-percent .ensures) (c .before .if1 .left)
 
 pub chosen-match-spec : {M : Type 1} → statement M
-chosen-match-spec =
-    tie.close (tie.spec (λ c κs. search needs) returns (λ c κs. search needs) returns-2)
+chosen-match-spec = tie.close (tie.spec (λ c κs. search needs) returns (λ c κs. search needs) returns-2)

@@ -14,9 +14,7 @@ use Rattle.server.proofs.answer_words.Tie as tie
 
 returns : tie.Need-returns
 unfolding isReader
-returns c =
-    refused-16 _ _ _ _ _ _ _ _
-    _ (lt-leb _ 7 (c .before .if1 .taken)) (c .unchanged .ensures)
+returns c = refused-16 _ _ _ _ _ _ _ _ _ (lt-leb _ 7 (c .before .if1 .taken)) (c .unchanged .ensures)
 
 -- the reader is one of eight
 reads : (c : tie.After-least) → isReader (c .before .before .before .before .before .before .before .before .args .reader) ≡ true
@@ -27,16 +25,14 @@ slice-aggregate-index-words : tie.Need-slice-aggregate-index-words
 slice-aggregate-index-words c =
     let counted = c .before .before in
     let a = counted .before .before .before .before .before .before .before .before .args in
-    front-size _ _ (a .count) (a .reader) (a .area .now) (a .namespaces .now) (a .line .now) (a .out .now)
-    _ (counted .least .ensures)
+    front-size _ _ (a .count) (a .reader) (a .area .now) (a .namespaces .now) (a .line .now) (a .out .now) _ (counted .least .ensures)
 
 returns-2 : tie.Need-returns-2
 returns-2 c =
     let indexed = c .before .before .before .before in
     let counted = indexed .before .before .before .before in
     let fails = index-refused (indexed .index-words .ensures) (ap length (counted .before .no-words .ensures)) (c .before .enum-told .given .1) in
-    refused-1 _ _ _ _ _ _ _ _
-    _ (counted .least .ensures) (reads counted) _ fails (c .unchanged2 .ensures)
+    refused-1 _ _ _ _ _ _ _ _ _ (counted .least .ensures) (reads counted) _ fails (c .unchanged2 .ensures)
 
 -- the rows, where they are found, and those that the reader sees
 known : (c : tie.After-m) → Held (c .before .before .before .index-words .ensures) (c .m .given .0 .0)
@@ -46,11 +42,9 @@ seen : (c : tie.After-see-rows) →
     let found = c .before .before .before .before .before .before .before .before in
     let m = found .m .given .0 .0 in
     let all = found .before .before .before .index-words .last .1 .1 .1 .0 in
-    Front (found .before .before .before .before .before .before .before .before .before .before .before .before .before .before .before .args .reader) (take m all) (drop m all) (c .see-rows .last .0) (c .see-rows .result)
-seen c =
-    seen-front
-    _
-    _ (c .see-rows .ensures)
+    let start = found .before .before .before .before .before .before .before .before .before .before .before .before .before .before .before in
+    Front (start .args .reader) (take m all) (drop m all) (c .see-rows .last .0) (c .see-rows .result)
+seen c = seen-front _ _ (c .see-rows .ensures)
 
 -- so the table passes
 passed : (c : tie.After-m) →
@@ -70,15 +64,13 @@ returns-3 c =
     let found = c .before .before .before .before in
     let counted = found .before .before .before .before .before .before .before in
     let bad = sym (c .before .before .check .ensures) ∙ not-true _ (c .before .if2 .taken) in
-    refused-2 _ _ _ _ _ _ _ _
-    _ (counted .least .ensures) (reads counted) (passed found) _ bad (c .unchanged3 .ensures)
+    refused-2 _ _ _ _ _ _ _ _ _ (counted .least .ensures) (reads counted) (passed found) _ bad (c .unchanged3 .ensures)
 
 slice-aggregate-edit-from : tie.Need-slice-aggregate-edit-from
 slice-aggregate-edit-from c =
     let counted = c .before .before .before .before .before .before .before .before .before .before .before .before .before .before in
     let a = counted .before .before .before .before .before .before .before .before .args in
-    front-size _ _ (a .count) (a .reader) (a .area .now) (a .namespaces .now) (a .line .now) (a .out .now)
-    _ (counted .least .ensures)
+    front-size _ _ (a .count) (a .reader) (a .area .now) (a .namespaces .now) (a .line .now) (a .out .now) _ (counted .least .ensures)
 
 edit-from-requires : tie.Need-edit-from-requires
 edit-from-requires c κs =
@@ -98,11 +90,8 @@ returns-4 c =
     let found = read .before .before .before .before in
     let counted = found .before .before .before .before .before .before .before in
     let listed = sym (read .before .before .check .ensures) ∙ not-false _ (read .before .if2 .left) in
-    edited-front _ _ _ _ _ _ _ _
-    _ (counted .least .ensures) (reads counted) (passed found) listed _ (told read)
-    (sym (kind .is-edit .ensures) ∙ done .before .before .before .before .if3 .taken) _ _
-    _
-    _ (done .edit-from .ensures)
+    edited-front _ _ _ _ _ _ _ _ _ (counted .least .ensures) (reads counted) (passed found) listed _ (told read)
+    (sym (kind .is-edit .ensures) ∙ done .before .before .before .before .if3 .taken) _ _ _ _ (done .edit-from .ensures)
 
 array-borrow-prefix-rows : tie.Need-array-borrow-prefix-rows
 array-borrow-prefix-rows c = known (c .before .before .before .before .before .before) .inside

@@ -14,5 +14,4 @@ returns-2 c =
     finishes _ _ _ _ _ (at-if1 .before .is-empty .ensures) (rw (at-if1 .if1 .left) (says-refusal 13 (c .before .before .put-refusal .ensures)))
 
 pub finish-spec : {M : Type 1} → statement M
-finish-spec =
-    tie.close (tie.spec (λ c κs. search needs) returns (λ c κs. search needs) (λ c. search needs) returns-2)
+finish-spec = tie.close (tie.spec (λ c κs. search needs) returns (λ c κs. search needs) (λ c. search needs) returns-2)

@@ -67,9 +67,7 @@ returns-6 c =
     sym
     (fresh-insert _ (start .args .words .now) _ _ _ (lawful stage) (sym (after-below-no-inferiors .below-no-inferiors .ensures) ∙ at-if2 .if2 .left)
     (at-if3 .if3 .left)
-    (at-if4 .if4 .left)
-    _
-    (sym (c .before .before .before .lowest-run .ensures) ∙ c .before .start .given .1))
+    (at-if4 .if4 .left) _ (sym (c .before .before .before .lowest-run .ensures) ∙ c .before .start .given .1))
 
 pub insertion-spec : {M : Type 1} → statement M
 insertion-spec =

@@ -19,7 +19,8 @@ begins : (c : tie.After-known-told) →
     let scratch = asked .ask .last .1 .1 .1 .1 .0 in
     let found = asked .ask .last .1 .1 .1 .1 .1 .0 in
     let pending = asked .ask .last .1 .1 .1 .1 .1 .1 .0 in
-    Walking (heldTable (start .args .area .now) (start .args .words .now)) (start .args .options) (length scratch) (length found) (length pending) scratch found pending (c .before .first .given .0 .0) 0
+    Walking (heldTable (start .args .area .now) (start .args .words .now)) (start .args .options) (length scratch) (length found)
+    (length pending) scratch found pending (c .before .first .given .0 .0) 0
 begins c =
     let asked = c .before .before .before .before .before .before .before .before .before in
     let start = asked .before .before .before .before .before .before .before .before .before .before in

@@ -19,5 +19,4 @@ returns-2 c =
     (c .astring .ensures .0 ∙ sym (bind-go _ (behind-at _ (space .0) next)), token-later _ _ _ _ (behind-ahead _ _ (space .1) next .0) (c .astring .ensures .1))
 
 pub argument-spec : {M : Type 1} → statement M
-argument-spec =
-    tie.close (tie.spec (λ c κs. search needs) (λ c. search needs) (λ c. search needs) returns (λ c κs. search needs) returns-2)
+argument-spec = tie.close (tie.spec (λ c κs. search needs) (λ c. search needs) (λ c. search needs) returns (λ c κs. search needs) returns-2)

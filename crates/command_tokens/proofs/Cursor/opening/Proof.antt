@@ -20,5 +20,4 @@ returns-2 c =
     )
 
 pub opening-spec : {M : Type 1} → statement M
-opening-spec =
-    tie.close (tie.spec (λ c κs. search needs) (λ c. search needs) (λ c. search needs) returns (λ c κs. search needs) returns-2)
+opening-spec = tie.close (tie.spec (λ c κs. search needs) (λ c. search needs) (λ c. search needs) returns (λ c κs. search needs) returns-2)

@@ -25,5 +25,4 @@ unfolding quotedStep
 returns-5 c = rw (c .before .before .before .if1 .left, ne-eqb _ _ (c .before .before .if3 .left), sym (c .before .is-line-byte .ensures) ∙ c .if4 .left)
 
 pub quoted-step-spec : {M : Type 1} → statement M
-quoted-step-spec =
-    tie.close (tie.spec (λ c κs. search needs) returns returns-2 returns-3 returns-4 returns-5)
+quoted-step-spec = tie.close (tie.spec (λ c κs. search needs) returns returns-2 returns-3 returns-4 returns-5)

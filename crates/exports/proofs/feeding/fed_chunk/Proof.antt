@@ -9,5 +9,4 @@ returns c =
     λ i. record { event = told i .event; number = told i .number; length = told i .length; used = c .before .before .args .fed .used; state = c .state-of .ensures i }
 
 pub fed-chunk-spec : {M : Type 1} → statement M
-fed-chunk-spec =
-    tie.close (tie.spec (λ c κs. search needs) (λ c κs. search needs) returns)
+fed-chunk-spec = tie.close (tie.spec (λ c κs. search needs) (λ c κs. search needs) returns)

@@ -10,5 +10,4 @@ returns c =
     feeds-chunk _ _ _ _ _ (after-machine-of .machine-of .ensures) (c .before .before .before .feed .ensures) (c .fed-chunk .ensures)
 
 pub luspemaro-feed-spec : {M : Type 1} → statement M
-luspemaro-feed-spec =
-    tie.close (tie.spec (λ c κs. search needs) (λ c κs. search needs) (λ c κs. search needs) (λ c. search needs) returns)
+luspemaro-feed-spec = tie.close (tie.spec (λ c κs. search needs) (λ c κs. search needs) (λ c κs. search needs) (λ c. search needs) returns)

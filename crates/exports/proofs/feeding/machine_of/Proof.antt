@@ -11,5 +11,4 @@ returns c =
     λ i. record { place = c .before .place-of .ensures i; size = s .size; cr = crOf (s .cr) }
 
 pub machine-of-spec : {M : Type 1} → statement M
-machine-of-spec =
-    tie.close (tie.spec (λ c κs. search needs) returns)
+machine-of-spec = tie.close (tie.spec (λ c κs. search needs) returns)

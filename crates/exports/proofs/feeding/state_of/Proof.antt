@@ -9,5 +9,4 @@ returns c =
     λ i. record { place = numbers i .place; cr = c .cr-number .ensures i; value = numbers i .value; size = c .before .before .args .machine .size }
 
 pub state-of-spec : {M : Type 1} → statement M
-state-of-spec =
-    tie.close (tie.spec (λ c κs. search needs) (λ c κs. search needs) returns)
+state-of-spec = tie.close (tie.spec (λ c κs. search needs) (λ c κs. search needs) returns)

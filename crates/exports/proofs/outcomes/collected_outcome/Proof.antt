@@ -11,5 +11,4 @@ returns-2 : tie.Need-returns-2
 returns-2 c = collected-refused _ _ (c .before .collected2 .given .1)
 
 pub collected-outcome-spec : {M : Type 1} → statement M
-collected-outcome-spec =
-    tie.close (tie.spec (λ c. search needs) (λ c. search needs) returns returns-2)
+collected-outcome-spec = tie.close (tie.spec (λ c. search needs) (λ c. search needs) returns returns-2)

@@ -11,5 +11,4 @@ returns-2 : tie.Need-returns-2
 returns-2 c = written-refused _ _ _ (c .before .written2 .given .1)
 
 pub written-outcome-spec : {M : Type 1} → statement M
-written-outcome-spec =
-    tie.close (tie.spec (λ c. search needs) (λ c. search needs) returns returns-2)
+written-outcome-spec = tie.close (tie.spec (λ c. search needs) (λ c. search needs) returns returns-2)

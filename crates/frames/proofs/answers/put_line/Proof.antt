@@ -13,5 +13,4 @@ returns c =
     put-then (put-then (after-put-pair .put-pair .ensures) (after-put-hex .put-hex .ensures)) (c .before .before .put .ensures)
 
 pub put-line-spec : {M : Type 1} → statement M
-put-line-spec =
-    tie.close (tie.spec (λ c κs. search needs) (λ c κs. search needs) (λ c κs. search needs) (λ c. search needs) returns)
+put-line-spec = tie.close (tie.spec (λ c κs. search needs) (λ c κs. search needs) (λ c κs. search needs) (λ c. search needs) returns)

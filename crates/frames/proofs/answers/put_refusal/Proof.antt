@@ -13,5 +13,4 @@ returns c =
     put-then (put-then (after-put-pair .put-pair .ensures) (after-put-pair2 .put-pair2 .ensures)) (c .before .before .put .ensures)
 
 pub put-refusal-spec : {M : Type 1} → statement M
-put-refusal-spec =
-    tie.close (tie.spec (λ c κs. search needs) (λ c κs. search needs) (λ c κs. search needs) (λ c. search needs) returns)
+put-refusal-spec = tie.close (tie.spec (λ c κs. search needs) (λ c κs. search needs) (λ c κs. search needs) (λ c. search needs) returns)

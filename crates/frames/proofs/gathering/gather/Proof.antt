@@ -39,5 +39,4 @@ returns-4 c =
     gathers _ _ _ _ _ (rw (if1 .left, le-ltb n 4102 (c .if2 .left))) (rw (if1 .left, le-ltb n 4102 (c .if2 .left)))
 
 pub gather-spec : {M : Type 1} → statement M
-gather-spec =
-    tie.close (tie.spec returns (λ c. search needs) (λ c. search needs) (λ c. search needs) returns-2 returns-3 returns-4)
+gather-spec = tie.close (tie.spec returns (λ c. search needs) (λ c. search needs) (λ c. search needs) returns-2 returns-3 returns-4)

@@ -28,5 +28,4 @@ returns-3 c =
     gathered-read _ _ _ _ _ (rw (at-if2 .before .if1 .left, le-ltb _ _ (at-if2 .if2 .left)) (c .before .before .read-frame .ensures))
 
 pub read-gathered-spec : {M : Type 1} → statement M
-read-gathered-spec =
-    tie.close (tie.spec returns returns-2 slice-aggregate-read-frame (λ c κs. search needs) (λ c. search needs) returns-3)
+read-gathered-spec = tie.close (tie.spec returns returns-2 slice-aggregate-read-frame (λ c κs. search needs) (λ c. search needs) returns-3)

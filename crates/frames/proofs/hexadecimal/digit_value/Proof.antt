@@ -14,5 +14,4 @@ returns-2 : tie.Need-returns-2
 returns-2 c = (sym (value-none _ (sym (c .before .before .read-digit .ensures) ∙ c .enum-told .given .1)), omega arith)
 
 pub digit-value-spec : {M : Type 1} → statement M
-digit-value-spec =
-    tie.close (tie.spec (λ c κs. search needs) (λ c. search needs) (λ c. search needs) returns returns-2)
+digit-value-spec = tie.close (tie.spec (λ c κs. search needs) (λ c. search needs) (λ c. search needs) returns returns-2)

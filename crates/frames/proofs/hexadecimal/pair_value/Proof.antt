@@ -9,5 +9,4 @@ unfolding pairOf
 returns c = omega arith
 
 pub pair-value-spec : {M : Type 1} → statement M
-pair-value-spec =
-    tie.close (tie.spec (λ c κs. search needs) (λ c. search needs) (λ c κs. search needs) (λ c. search needs) returns)
+pair-value-spec = tie.close (tie.spec (λ c κs. search needs) (λ c. search needs) (λ c κs. search needs) (λ c. search needs) returns)

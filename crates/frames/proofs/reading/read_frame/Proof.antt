@@ -39,9 +39,7 @@ returns-2 : tie.Need-returns-2
 returns-2 c = frame-bad _ _ (within-bad _ _ (bad-short _ (c .if2 .taken)))
 
 returns-3 : tie.Need-returns-3
-returns-3 c =
-    frame-bad _ _ (within-bad _ _
-    (bad-text _ (sym (c .before .is-hex .ensures) ∙ not-true _ (c .if3 .taken))))
+returns-3 c = frame-bad _ _ (within-bad _ _ (bad-text _ (sym (c .before .is-hex .ensures) ∙ not-true _ (c .if3 .taken))))
 
 returns-4 : tie.Need-returns-4
 returns-4 c =

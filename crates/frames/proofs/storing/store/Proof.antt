@@ -18,5 +18,4 @@ returns-4 : tie.Need-returns-4
 returns-4 c = stores-now _ _ _ _ _ _ (omega arith) (omega arith) (ap Now (omega arith)) (c .before .before .put-all .ensures .bytes)
 
 pub store-spec : {M : Type 1} → statement M
-store-spec =
-    tie.close (tie.spec returns returns-2 returns-3 (λ c κs. search needs) (λ c. search needs) returns-4)
+store-spec = tie.close (tie.spec returns returns-2 returns-3 (λ c κs. search needs) (λ c. search needs) returns-4)

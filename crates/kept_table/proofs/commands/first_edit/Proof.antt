@@ -112,8 +112,7 @@ returns-4 c =
     let kept = after-keep-store .keep-store .ensures in
     rw (c .with-records .ensures, kept .0, kept .1)
     (first-accepted (memory start) _ (start .pre .0) _ _ (start .pre .1 .0)
-    (start .pre .1 .1) (made .last .1 .0) _ _ _ (sized after-no-bytes2) laid _
-    (done .last .0) _ _ _
+    (start .pre .1 .1) (made .last .1 .0) _ _ _ (sized after-no-bytes2) laid _ (done .last .0) _ _ _
     (reply-answered _ _ (sym (after-enum-told2 .enum-told2 .given .1) ∙ done .ensures .0 .0))
     (done .ensures .0 .1) (done .ensures .1 .1 .0) (done .ensures .1 .1 .1 .0)
     (done .kept .1 .1 .1 .1 .0 ∙ made .kept .1 .1 .0 ∙ named stage) (done .kept .0 ∙ made .kept .1 .0 ∙ worded stage-2)

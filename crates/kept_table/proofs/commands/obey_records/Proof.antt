@@ -39,8 +39,7 @@ returns c =
     let done = after-answer-words .answer-words in
     let before = lent _ _ _ _ in
     rw (c .with-records .ensures)
-    (obeys-records before _ (start .pre .0) _ _ (start .pre .1) _
-    _ (done .last .0) (sized stage) _ _ _
+    (obeys-records before _ (start .pre .0) _ _ (start .pre .1) _ _ (done .last .0) (sized stage) _ _ _
     (done .ensures .0 .1) (done .ensures .1 .1 .0) (done .ensures .1 .1 .1 .0) (done .kept .1 .1 .1 .1 .0) (done .kept .0)
     (reply-says _ _ _ (done .ensures .0 .0) (done .ensures .1 .0) (c .before .before .before .put-reply .ensures)))
 

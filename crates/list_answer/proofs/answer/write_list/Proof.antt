@@ -15,5 +15,4 @@ returns c =
     rw (← list-reply _ _ _ _ _ _ (after-question .of .ensures)) (c .before .before .write-answer .ensures)
 
 pub write-list-spec : {M : Type 1} → statement M
-write-list-spec =
-    tie.close (tie.spec (λ c κs. search needs) write-answer-requires (λ c. search needs) returns)
+write-list-spec = tie.close (tie.spec (λ c κs. search needs) write-answer-requires (λ c. search needs) returns)

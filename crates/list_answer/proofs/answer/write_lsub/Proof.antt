@@ -16,5 +16,4 @@ returns c =
     rw (← lsub-reply _ _ _ _ _ (after-question .lsub .ensures) (start .pre .1)) (c .before .before .write-answer .ensures)
 
 pub write-lsub-spec : {M : Type 1} → statement M
-write-lsub-spec =
-    tie.close (tie.spec (λ c κs. search needs) write-answer-requires (λ c. search needs) returns)
+write-lsub-spec = tie.close (tie.spec (λ c κs. search needs) write-answer-requires (λ c. search needs) returns)

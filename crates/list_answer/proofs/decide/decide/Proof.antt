@@ -44,9 +44,7 @@ returns-3 c =
     let standing = after-look-at .look-at in
     let stands = standing .ensures _ (start .pre .0) in
     let n = begun _ (start .args .words .now) (start .args .name) in
-    shown-lsub _ _ _ _ n
-    _ _ (stands .level) (stands .counts) (not-false _ (at-if1 .if1 .left))
-    _ (after-is-matched .is-matched .ensures)
+    shown-lsub _ _ _ _ n _ _ (stands .level) (stands .counts) (not-false _ (at-if1 .if1 .left)) _ (after-is-matched .is-matched .ensures)
     (c .before .enum-told .given .1) (not-false _ (at-if2 .if2 .left))
     (standing .result .flags .bits) (stands .flags)
     (c .lsub-attributes .result) (c .lsub-attributes .ensures)
@@ -82,9 +80,7 @@ returns-4 c =
     = below .ensures ∙ (λ i. after-is-recursive .is-recursive .ensures i && sym (meets-below area words x name at o ps (ready .marked)) i) in
     shown-list _ (rowsAt area words) o ps n _ _ (stands .level) (stands .counts) (not-false _ (at-if1 .if1 .left))
     _ (after-is-matched .is-matched .ensures)
-    (after-word .enum-told2 .given .1) (not-false _ (at-if2 .if2 .left))
-    _ (stands .flags)
-    (parent .result) children
+    (after-word .enum-told2 .given .1) (not-false _ (at-if2 .if2 .left)) _ (stands .flags) (parent .result) children
     (attributes .result) (attributes .ensures)
     (below .result) info
     (c .child-info .result) (c .child-info .ensures)

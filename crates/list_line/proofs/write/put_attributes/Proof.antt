@@ -10,5 +10,4 @@ unfolding openBytes openLines allNames namePlaces
 put-chosen-requires c κs = (refl, refl)
 
 pub put-attributes-spec : {M : Type 1} → statement M
-put-attributes-spec =
-    tie.close (tie.spec (λ c. search needs) (λ c. search needs) put-chosen-requires (λ c. search needs) (λ c. search needs))
+put-attributes-spec = tie.close (tie.spec (λ c. search needs) (λ c. search needs) put-chosen-requires (λ c. search needs) (λ c. search needs))

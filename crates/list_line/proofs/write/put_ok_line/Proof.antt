@@ -13,5 +13,4 @@ returns c =
     put-then (after-put-all .put-all .ensures) (after-put-all2 .put-all2 .ensures)
 
 pub put-ok-line-spec : {M : Type 1} → statement M
-put-ok-line-spec =
-    tie.close (tie.spec (λ c κs. search needs) (λ c. search needs) (λ c κs. search needs) (λ c. search needs) returns)
+put-ok-line-spec = tie.close (tie.spec (λ c κs. search needs) (λ c. search needs) (λ c κs. search needs) (λ c. search needs) returns)

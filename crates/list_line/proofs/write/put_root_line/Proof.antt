@@ -9,5 +9,4 @@ unfolding openBytes openLines
 returns c = c .before .before .put-all .ensures
 
 pub put-root-line-spec : {M : Type 1} → statement M
-put-root-line-spec =
-    tie.close (tie.spec (λ c. search needs) (λ c κs. search needs) (λ c. search needs) returns)
+put-root-line-spec = tie.close (tie.spec (λ c. search needs) (λ c κs. search needs) (λ c. search needs) returns)

@@ -21,8 +21,7 @@ returns-3 c =
     let named = c .before .before in
     let checked = named .before .before in
     rw
-    (line-other _ _ _
-    (sym (checked .before .lawful .ensures) ∙ not-false _ (checked .if1 .left))
+    (line-other _ _ _ (sym (checked .before .lawful .ensures) ∙ not-false _ (checked .if1 .left))
     (sym (named .before .lawful-name .ensures) ∙ named .if2 .left)
     (sym (c .before .root-parts .ensures) ∙ not-true _ (c .if3 .taken)))
     (gives-refusal _ 12)
@@ -34,8 +33,7 @@ returns-4 c =
     let named = root .before .before in
     let checked = named .before .before in
     rw
-    (line-root _ _ _
-    (sym (checked .before .lawful .ensures) ∙ not-false _ (checked .if1 .left))
+    (line-root _ _ _ (sym (checked .before .lawful .ensures) ∙ not-false _ (checked .if1 .left))
     (sym (named .before .lawful-name .ensures) ∙ named .if2 .left)
     (sym (root .before .root-parts .ensures) ∙ not-false _ (root .if3 .left)))
     (after-write-root .write-root .ensures)

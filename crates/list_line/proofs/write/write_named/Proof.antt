@@ -19,5 +19,4 @@ returns-2 c =
     let p = after-put-line .put-line .ensures in written-fits _ _ (after-put-line2 .put-line2 .ensures) (omega (arith, p .place))
 
 pub write-named-spec : {M : Type 1} → statement M
-write-named-spec =
-    tie.close (tie.spec (λ c. search needs) (λ c κs. search needs) returns (λ c κs. search needs) (λ c. search needs) returns-2)
+write-named-spec = tie.close (tie.spec (λ c. search needs) (λ c κs. search needs) returns (λ c κs. search needs) (λ c. search needs) returns-2)

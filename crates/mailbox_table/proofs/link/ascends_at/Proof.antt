@@ -20,5 +20,4 @@ returns-3 c =
     ap (λ (s : ℕ). ltb (getD a s 0) (getD b s 0)) (start .pre) ∙ sym (order-differs a b (omega (arith, start .pre)) (omega (arith, start .pre)))
 
 pub ascends-at-spec : {M : Type 1} → statement M
-ascends-at-spec =
-    tie.close (tie.spec returns returns-2 (λ c. search needs) (λ c. search needs) returns-3)
+ascends-at-spec = tie.close (tie.spec returns returns-2 (λ c. search needs) (λ c. search needs) returns-3)

@@ -37,5 +37,4 @@ returns-2 c =
     passes-linked (after-pre .pre) (done (c .before .before)) _ (c .inferiors-pass .ensures)
 
 pub rows-pass-spec : {M : Type 1} → statement M
-rows-pass-spec =
-    tie.close (tie.spec (λ c κs. search needs) (λ c. search needs) returns inferiors-pass-requires (λ c. search needs) returns-2)
+rows-pass-spec = tie.close (tie.spec (λ c κs. search needs) (λ c. search needs) returns inferiors-pass-requires (λ c. search needs) returns-2)

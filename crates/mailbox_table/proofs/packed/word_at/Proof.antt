@@ -12,5 +12,4 @@ returns : tie.Need-returns
 returns c = c .with-marks .ensures ∙ (λ i. withMarks (c .before .before .byte-at .ensures i) (c .before .word .ensures i))
 
 pub word-at-spec : {M : Type 1} → statement M
-word-at-spec =
-    tie.close (tie.spec add-place (λ c κs. search needs) (λ c κs. search needs) (λ c. search needs) (λ c κs. search needs) returns)
+word-at-spec = tie.close (tie.spec add-place (λ c κs. search needs) (λ c κs. search needs) (λ c. search needs) (λ c κs. search needs) returns)

@@ -45,7 +45,10 @@ byte c =
 test : (c : tie.After-is-marked Inv-loop μ-loop) →
     let turn = c .before .before .before .before .before .before .before .before .before .before in
     let start = turn .before .before .before in
-    (eqb (c .before .before .before .byte-at .result) 47 && c .is-marked .result) ≡ (eqb (getD (nthName (start .args .area .now) (start .args .words .now) (turn .loop .k)) (start .args .len) 0) 47 && contains (marksOf (getD (start .args .words .now) (turn .loop .k) 0)) (start .args .marks))
+    let k = turn .loop .k in
+    (eqb (c .before .before .before .byte-at .result) 47 && c .is-marked .result) ≡
+    (eqb (getD (nthName (start .args .area .now) (start .args .words .now) k) (start .args .len) 0) 47
+    && contains (marksOf (getD (start .args .words .now) k 0)) (start .args .marks))
 test c = λ j. eqb (byte (c .before .before .before) j) 47 && c .is-marked .ensures j
 
 loop-holds : tie.Need-loop-holds Inv-loop μ-loop

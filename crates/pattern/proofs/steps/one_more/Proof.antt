@@ -13,5 +13,4 @@ unfolding oneMore
 returns-2 c = omega arith
 
 pub one-more-spec : {M : Type 1} → statement M
-one-more-spec =
-    tie.close (tie.spec returns (λ c. search needs) returns-2)
+one-more-spec = tie.close (tie.spec returns (λ c. search needs) returns-2)

@@ -20,8 +20,7 @@ returns c = turn-apart _ _ _ _ (c .before .look-at-ends .ensures) (c .if1 .taken
 loop-holds : tie.Need-loop-holds Inv-loop μ-loop
 loop-holds c =
     let at-if1 = c .before .before in
-    turn-front _ _ _ _ (at-if1 .before .look-at-ends .ensures) (at-if1 .if1 .left) _
-    (c .before .same-front .ensures) _ (c .advance .ensures)
+    turn-front _ _ _ _ (at-if1 .before .look-at-ends .ensures) (at-if1 .if1 .left) _ (c .before .same-front .ensures) _ (c .advance .ensures)
 
 step-requires : tie.Need-step-requires Inv-loop μ-loop
 step-requires c κs = turn-inside _ _ _ _ (c .loop .inv)

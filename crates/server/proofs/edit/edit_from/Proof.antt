@@ -7,9 +7,7 @@ use Rattle.server.proofs.edit.edit_from.Tie as tie
 returns : tie.Need-returns
 returns c =
     rw (c .unchanged .ensures)
-    (left-refused _ _ _ _
-    _ 16
-    (rw (ne-eqb _ 0 (c .before .if1 .taken))))
+    (left-refused _ _ _ _ _ 16 (rw (ne-eqb _ 0 (c .before .if1 .taken))))
 
 edit-requires : tie.Need-edit-requires
 edit-requires c κs = c .before .before .before .before .before .before .before .before .pre

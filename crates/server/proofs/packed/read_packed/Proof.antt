@@ -12,17 +12,18 @@ use Rattle.server.proofs.packed.read_packed.Tie as tie
 returns : tie.Need-returns
 unfolding isReader
 returns c =
-    rw (served-16 _ _ _ _ _ (lt-leb _ 7 (c .if1 .taken)))
-    (refused-with 16 _)
+    let a = c .before .before .before .before .before .args in
+    rw (served-16 (a .reader) (a .table .now) (a .namespaces .now) (a .line .now) (a .out .now) (lt-leb (a .reader) 7 (c .if1 .taken)))
+    (refused-with 16 (a .out .now))
 
 -- the reader is one of eight
 known : (c : tie.After-words) → isReader (c .before .before .before .before .before .before .before .args .reader) ≡ true
 unfolding isReader
-known c = le-leb _ 7 (c .before .before .if1 .left)
+known c = le-leb (c .before .before .before .before .before .before .before .args .reader) 7 (c .before .before .if1 .left)
 
 -- the rows, where they are found, and those that the reader sees
 found : (c : tie.After-n) → Held (c .before .before .before .index .ensures) (c .n .given .0 .0)
-found c = index-held (c .before .before .before .index .ensures) _ (c .n .given .1)
+found c = index-held (c .before .before .before .index .ensures) (c .n .given .0 .0) (c .n .given .1)
 
 seen : (c : tie.After-see-rows) → let after-n = c .before .before .before in
     let rows = after-n .before .before .before in
@@ -31,14 +32,16 @@ seen : (c : tie.After-see-rows) → let after-n = c .before .before .before in
     let all = rows .index .last .1 .0 in
     Front (a .reader) (take n all) (drop n all) (c .see-rows .last .0) (c .see-rows .result)
 seen c =
-    seen-front _
-    _ (c .see-rows .ensures)
+    let after-n = c .before .before .before in
+    seen-front (after-n .before .before .before .before .before .before .before .before .before .before .before .args .reader)
+    (drop (after-n .n .given .0 .0) (after-n .before .before .before .index .last .1 .0)) (c .see-rows .ensures)
 
 returns-2 : tie.Need-returns-2
 returns-2 c =
     let lent = c .before .before .before .before in
+    let a = lent .before .before .before .before .before .before .before .args in
     let fails = index-refused (c .before .before .before .index .ensures) (ap length (lent .before .no-words .ensures)) (c .enum-told .given .1) in
-    rw (packed-1 _ _ _ _ _ (known lent) fails) (refused-with 1 _)
+    rw (packed-1 (a .reader) (a .table .now) (a .namespaces .now) (a .line .now) (a .out .now) (known lent) fails) (refused-with 1 (a .out .now))
 
 array-borrow-prefix-words : tie.Need-array-borrow-prefix-words
 array-borrow-prefix-words c = found (c .before) .inside
@@ -57,16 +60,17 @@ read-index-requires c κs =
     let saw = c .before .before .before in
     let after-n = saw .before .before .before in
     let a = after-n .before .before .before .before .before .before .before .before .before .before .before .args in
-    subst (Index _) (sym (seen saw .words)) (seen-index _ (found after-n .index))
+    subst (Index (a .table .now)) (sym (seen saw .words)) (seen-index (a .reader) (found after-n .index))
 
 returns-3 : tie.Need-returns-3
 returns-3 c =
     let saw = c .before .before .before .before .before .before in
     let after-n = saw .before .before .before in
     let lent = after-n .before .before .before .before in
-    let rows = take (after-n .n .given .0 .0) _ in
+    let a = lent .before .before .before .before .before .before .before .args in
+    let rows = take (after-n .n .given .0 .0) (after-n .before .before .before .index .last .1 .0) in
     rw (
-      packed-on _ _ _ _ _ (known lent) rows (found after-n .table-passes)
+      packed-on (a .reader) (a .table .now) (a .namespaces .now) (a .line .now) (a .out .now) (known lent) rows (found after-n .table-passes)
           (found after-n .told),
       ← seen saw .words,
     ) (c .before .before .read-index .ensures)

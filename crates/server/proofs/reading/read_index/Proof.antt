@@ -22,5 +22,4 @@ returns-2 c =
     rw (index-on _ _ _ _ good) (c .before .before .respond .ensures)
 
 pub read-index-spec : {M : Type 1} → statement M
-read-index-spec =
-    tie.close (tie.spec (λ c κs. search needs) returns (λ c κs. search needs) respond-requires (λ c. search needs) returns-2)
+read-index-spec = tie.close (tie.spec (λ c κs. search needs) returns (λ c κs. search needs) respond-requires (λ c. search needs) returns-2)

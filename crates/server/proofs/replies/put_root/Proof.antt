@@ -10,5 +10,4 @@ returns c =
     put-then (after-put-root-line .put-root-line .ensures) (c .before .before .put-ok-line .ensures)
 
 pub put-root-spec : {M : Type 1} → statement M
-put-root-spec =
-    tie.close (tie.spec (λ c κs. search needs) (λ c κs. search needs) (λ c. search needs) returns)
+put-root-spec = tie.close (tie.spec (λ c κs. search needs) (λ c κs. search needs) (λ c. search needs) returns)

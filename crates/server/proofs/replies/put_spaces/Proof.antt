@@ -11,5 +11,4 @@ returns c =
     rw (answer-line _ _) (put-then (after-put-namespaces .put-namespaces .ensures) (c .before .before .put-ok-line .ensures))
 
 pub put-spaces-spec : {M : Type 1} → statement M
-put-spaces-spec =
-    tie.close (tie.spec (λ c κs. search needs) (λ c κs. search needs) (λ c. search needs) returns)
+put-spaces-spec = tie.close (tie.spec (λ c κs. search needs) (λ c κs. search needs) (λ c. search needs) returns)

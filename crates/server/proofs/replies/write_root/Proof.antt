@@ -16,5 +16,4 @@ returns-2 c =
     written-fits _ _ written (omega (arith, after-put-root .put-root .ensures .place, written .fits))
 
 pub write-root-spec : {M : Type 1} → statement M
-write-root-spec =
-    tie.close (tie.spec (λ c. search needs) (λ c κs. search needs) returns (λ c κs. search needs) (λ c. search needs) returns-2)
+write-root-spec = tie.close (tie.spec (λ c. search needs) (λ c κs. search needs) returns (λ c κs. search needs) (λ c. search needs) returns-2)

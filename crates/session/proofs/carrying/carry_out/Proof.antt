@@ -34,8 +34,7 @@ returns c =
     let after-add-row = c .before .before .before .before in
     let after-frame = after-add-row .before .before .before .before .before in
     let start = after-frame .before .before .before .before .before .before .before in
-    kind-row (memory start) _ (start .pre .1) _ _ _ _ _ _
-    (after-frame .frame .given .1) (after-add-row .add-row .ensures)
+    kind-row (memory start) _ (start .pre .1) _ _ _ _ _ _ (after-frame .frame .given .1) (after-add-row .add-row .ensures)
 
 returns-2 : tie.Need-returns-2
 returns-2 c =

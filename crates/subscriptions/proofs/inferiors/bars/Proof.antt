@@ -26,5 +26,4 @@ returns-2 c =
     c .is-below .ensures ∙ rw (c .before .name-of .ensures, after-of-word .of-word .ensures, sym (flag (c .before .before .before)) ∙ not-false _ (c .before .before .if1 .left))
 
 pub bars-spec : {M : Type 1} → statement M
-bars-spec =
-    tie.close (tie.spec (λ c κs. search needs) (λ c κs. search needs) returns (λ c κs. search needs) (λ c κs. search needs) returns-2)
+bars-spec = tie.close (tie.spec (λ c κs. search needs) (λ c κs. search needs) returns (λ c κs. search needs) (λ c κs. search needs) returns-2)

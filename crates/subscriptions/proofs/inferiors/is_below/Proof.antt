@@ -20,5 +20,4 @@ returns-3 c =
     c .same-bytes .ensures ∙ sym (below-at _ _ (at-if1 .if1 .left) ∙ rw (eq-eqb _ _ (c .before .before .if2 .left)) (and-true _))
 
 pub is-below-spec : {M : Type 1} → statement M
-is-below-spec =
-    tie.close (tie.spec returns (λ c. search needs) returns-2 slice-aggregate-same-bytes (λ c κs. search needs) returns-3)
+is-below-spec = tie.close (tie.spec returns (λ c. search needs) returns-2 slice-aggregate-same-bytes (λ c κs. search needs) returns-3)

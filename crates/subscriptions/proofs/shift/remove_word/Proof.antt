@@ -10,5 +10,4 @@ returns c =
     rw (c .before .before .shift-down .ensures) (removed-set _ _ _ (start .pre .0) (start .pre .1))
 
 pub remove-word-spec : {M : Type 1} → statement M
-remove-word-spec =
-    tie.close (tie.spec (λ c. search needs) (λ c κs. search needs) (λ c. search needs) (λ c. search needs) (λ c. search needs) returns)
+remove-word-spec = tie.close (tie.spec (λ c. search needs) (λ c κs. search needs) (λ c. search needs) (λ c. search needs) (λ c. search needs) returns)

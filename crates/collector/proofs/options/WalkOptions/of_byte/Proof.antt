@@ -20,5 +20,4 @@ returns-2 c =
     (λ i. Of (record { criteria = c .before .criteria .ensures i; remote = (c .has .ensures ∙ has-remote (start .args .byte)) i }))
 
 pub of-byte-spec : {M : Type 1} → statement M
-of-byte-spec =
-    tie.close (tie.spec (λ c κs. search needs) returns (λ c κs. search needs) (λ c κs. search needs) returns-2)
+of-byte-spec = tie.close (tie.spec (λ c κs. search needs) returns (λ c κs. search needs) (λ c κs. search needs) returns-2)

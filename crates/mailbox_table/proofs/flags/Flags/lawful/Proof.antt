@@ -19,5 +19,4 @@ returns c =
     )
 
 pub lawful-spec : {M : Type 1} → statement M
-lawful-spec =
-    tie.close (tie.spec (λ c κs. search needs) (λ c κs. search needs) (λ c κs. search needs) (λ c κs. search needs) returns)
+lawful-spec = tie.close (tie.spec (λ c κs. search needs) (λ c κs. search needs) (λ c κs. search needs) (λ c κs. search needs) returns)

@@ -31,5 +31,4 @@ returns-2 c =
     turn .inv .1 ∙ ap (λ (k : ℕ). 2 ^ k) end ∙ member-is reader (omega (arith, c .before .before .if1 .left))
 
 pub one-spec : {M : Type 1} → statement M
-one-spec =
-    tie.close (tie.spec Inv-loop μ-loop returns loop-holds mul-bits (λ c. search needs) (λ c. search needs) loop-again returns-2)
+one-spec = tie.close (tie.spec Inv-loop μ-loop returns loop-holds mul-bits (λ c. search needs) (λ c. search needs) loop-again returns-2)

@@ -7,5 +7,4 @@ returns : tie.Need-returns
 returns c = rw (c .one-more .ensures)
 
 pub ends-spec : {M : Type 1} → statement M
-ends-spec =
-    tie.close (tie.spec (λ c κs. search needs) returns)
+ends-spec = tie.close (tie.spec (λ c κs. search needs) returns)

@@ -7,5 +7,4 @@ returns : tie.Need-returns
 returns c = rw (c .one-more .ensures)
 
 pub goes-spec : {M : Type 1} → statement M
-goes-spec =
-    tie.close (tie.spec (λ c κs. search needs) returns)
+goes-spec = tie.close (tie.spec (λ c κs. search needs) returns)

@@ -13,5 +13,4 @@ unfolding starIs
 returns-2 c = rw (c .before .before .if1 .left) (c .begins .ensures)
 
 pub star-step-spec : {M : Type 1} → statement M
-star-step-spec =
-    tie.close (tie.spec (λ c κs. search needs) returns (λ c. search needs) (λ c κs. search needs) returns-2)
+star-step-spec = tie.close (tie.spec (λ c κs. search needs) returns (λ c. search needs) (λ c κs. search needs) returns-2)

@@ -8,7 +8,6 @@ mod store;
 mod walks;
 
 pub use commands::obey;
-pub use outcome::MAX_NAMESPACES;
 pub use outcome::MAX_TABLE;
 pub use outcome::Outcome;
 pub use outcome::said;

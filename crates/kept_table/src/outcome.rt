@@ -4,10 +4,8 @@ ghost use mathlib.Core.Bool.{true};
 ghost use Rattle.kept_table.specs.Kept.{lengthsIs, outcomeIs};
 use crate::Lengths;
 
-// "added behind the stored bytes (16,384 and 1,024; no room: 1 or 2, nothing added)"; and as many bytes of names beside the records.
+// "added behind the stored bytes (16,384 ..)"; and as many bytes of names beside the records.
 pub const MAX_TABLE: usize = 16384;
-
-pub const MAX_NAMESPACES: usize = 1024;
 
 pub struct Outcome {
     pub stored: Lengths,

@@ -17,10 +17,12 @@ use frames::MAX_DIGITS;
 use frames::put_refusal;
 use gathering::gather_line;
 use kept_table::Lengths;
-use kept_table::MAX_NAMESPACES;
 use kept_table::MAX_TABLE;
 use octets::refusals::BAD_FRAME;
 use records::MAX_ROWS;
+
+// "added behind the stored bytes (.. and 1,024; no room: .. 2, nothing added)"
+pub(crate) const MAX_NAMESPACES: usize = 1024;
 
 // The longest line of output: two digits for each of 1 + 16,384 bytes, and a line feed.
 pub const MAX_LINE: usize = 32771;

@@ -12,7 +12,7 @@ abbrev μ-loop : tie.MeasureT-loop
 μ-loop a b i₀ i = length a - i
 
 returns : tie.Need-returns Inv-loop μ-loop
-returns c = sym (same-lengths _ _ (c .if1 .taken))
+returns c = sym (same-lengths (c .before .args .a .now) (c .before .args .b .now) (c .if1 .taken))
 
 loop-holds : tie.Need-loop-holds Inv-loop μ-loop
 loop-holds c = (c .if1 .left, omega arith, refl)
@@ -27,11 +27,14 @@ returns-2 c =
 loop-again : tie.Need-loop-again Inv-loop μ-loop
 loop-again c =
     let turn-2 = c .before .before .before .before in
+    let start = turn-2 .before .before in
     let turn = turn-2 .loop in
-    (turn .inv .0, omega arith, sym (same-step _ _ (turn .i) (omega arith) (omega arith) (c .if2 .left)) ∙ turn .inv .2)
+    (turn .inv .0, omega arith, sym (same-step (start .args .a .now) (start .args .b .now) (turn .i) (omega arith) (omega arith) (c .if2 .left)) ∙ turn .inv .2)
 
 returns-3 : tie.Need-returns-3 Inv-loop μ-loop
-returns-3 c = sym (same-end _ _ (c .before .loop .i) (omega arith) (omega arith)) ∙ c .before .loop .inv .2
+returns-3 c =
+    let start = c .before .before .before in
+    sym (same-end (start .args .a .now) (start .args .b .now) (c .before .loop .i) (omega arith) (omega arith)) ∙ c .before .loop .inv .2
 
 pub same-bytes-spec : {M : Type 1} → statement M
 same-bytes-spec =

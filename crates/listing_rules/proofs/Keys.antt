@@ -44,6 +44,7 @@ use Rattle.listing_rules.specs.Walk.{walkNumber, walkCount, foundLength,
 use Rattle.listing_rules.specs.Walk.{collectedBy}
 use Rattle.listing_rules.specs.Demand3.{walkOptions, meetingNames, meetingAncestors, declaredWalk, walkAnswer, scratchTooSmall, foundTooSmall}
 use Rattle.listing_rules.specs.Demand3.{pendingTooSmall, tooSmall, Demand3}
+use Rattle.listing_rules.specs.Evidence.{listCommand, listLines, lineName, linesFor, listedIn, childInfoIn, meetingBelow, takesAway}
 use Rattle.listing_rules.specs.Frames.{digit, bytesOf, commandFrame, walkFrame, frameOf, readFrame, hexDigit, hex, answerLine, refusalLine}
 use Rattle.listing_rules.specs.Frames.{replyLine, walkLine, answering, addRow, addEntry, framed, step, start, fed, behind, fedAll, atEnd}
 use Rattle.listing_rules.specs.Frames.{programOutput, recordsFrom, filledTo, programStore, keptSeen, keptStore, addRowTo, commandOver, accepted}
@@ -155,15 +156,20 @@ unfoldable pub openDemand3 : Unit {0}
 unfolding walkOptions meetingNames meetingAncestors declaredWalk walkAnswer scratchTooSmall foundTooSmall pendingTooSmall tooSmall Demand3
 openDemand3 = tt
 
+unfoldable pub openEvidence : Unit {0}
+unfolding listCommand listLines lineName linesFor listedIn childInfoIn meetingBelow takesAway
+openEvidence = tt
+
 unfoldable pub openFrames : Unit {0}
 unfolding digit bytesOf commandFrame walkFrame frameOf readFrame hexDigit hex answerLine refusalLine replyLine walkLine recordsFrom filledTo
     programStore keptSeen
     keptStore answering addRowTo addRow addEntry commandOver accepted commandStep framed step start fed behind fedAll atEnd programOutput
 openFrames = tt
 
--- opens every definition that the cases of the two tables compute
+-- opens every definition that the cases of the computed tables compute
 unfoldable pub openAll : Unit {0}
 unfolding openBytes openLists openOrders openNames openFlags openTable openRecords openReaders openSubscriptions openNamespaces openTokens openFeeder
     openOptions
-    openCommand openMatch openListing openLines openLsub openServer openSeries openCompaction openReader openWalk openDemand3 openFrames
+    openCommand openMatch openListing openLines openLsub openServer openSeries openCompaction openReader openWalk openDemand3
+    openEvidence openFrames
 openAll = tt

@@ -59,3 +59,10 @@ pub mod EditReaders
 pub mod CompactionSpare
 pub mod WalkReads
 pub mod LineLength
+pub mod PatternLaws
+pub mod GainLaws
+pub mod AnswerReads
+pub mod EvidenceLaws
+pub mod GainedRows
+pub mod StoreEvidence
+pub mod EvidenceTables

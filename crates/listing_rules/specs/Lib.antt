@@ -23,7 +23,9 @@ pub mod Compaction
 pub mod Reader
 pub mod Walk
 pub mod Demand3
+pub mod Evidence
 pub mod Frames
 pub mod Cases
 pub mod ExpertSheet
 pub mod Limits
+pub mod EvidenceCases

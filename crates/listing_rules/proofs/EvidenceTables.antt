@@ -1,0 +1,43 @@
+-- The cases of W10 hold. Rests on Keys alone: each table is computed, and one that does not hold is named by the claim that fails.
+use Rattle.listing_rules.proofs.Prelude.{_≡_, refl, []}
+use Rattle.listing_rules.specs.EvidenceCases.{failuresOf, patterns-added, recursive-patterns-added, not-extended, subscriptions-gained}
+use Rattle.listing_rules.specs.EvidenceCases.{subscriptions-taken}
+use Rattle.listing_rules.proofs.Keys.{openAll}
+
+patterns-added-hold : failuresOf 1 patterns-added ≡ []
+unfolding openAll
+patterns-added-hold = refl
+
+recursive-patterns-added-hold : failuresOf 1 recursive-patterns-added ≡ []
+unfolding openAll
+recursive-patterns-added-hold = refl
+
+not-extended-hold : failuresOf 1 not-extended ≡ []
+unfolding openAll
+not-extended-hold = refl
+
+subscriptions-gained-hold : failuresOf 1 subscriptions-gained ≡ []
+unfolding openAll
+subscriptions-gained-hold = refl
+
+subscriptions-taken-hold : failuresOf 1 subscriptions-taken ≡ []
+unfolding openAll
+subscriptions-taken-hold = refl
+
+-- every case of W10 in one claim
+pub record EvidenceHolds : Type 0 where
+  pub patterns-added-stand : failuresOf 1 patterns-added ≡ []
+  pub recursive-patterns-added-stand : failuresOf 1 recursive-patterns-added ≡ []
+  pub not-extended-stand : failuresOf 1 not-extended ≡ []
+  pub subscriptions-gained-stand : failuresOf 1 subscriptions-gained ≡ []
+  pub subscriptions-taken-stand : failuresOf 1 subscriptions-taken ≡ []
+
+pub evidence-holds : EvidenceHolds
+evidence-holds =
+    record {
+      patterns-added-stand = patterns-added-hold;
+      recursive-patterns-added-stand = recursive-patterns-added-hold;
+      not-extended-stand = not-extended-hold;
+      subscriptions-gained-stand = subscriptions-gained-hold;
+      subscriptions-taken-stand = subscriptions-taken-hold;
+    }

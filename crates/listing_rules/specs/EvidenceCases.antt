@@ -1,0 +1,109 @@
+-- Cases of W10 over small tables, each sentence with what it says and with what is so where a premise is left out (`evidence-holds` of
+-- proofs/EvidenceTables).
+use mathlib.Core.List.{List, [], _∷_, _++_, map}
+use mathlib.Core.Bool.{Bool, cond, _&&_}
+use Prim.Native.Nat.{ℕ, suc}
+use Prim.Native.String.{String}
+use Rattle.listing_rules.specs.Bytes.{text}
+use Rattle.listing_rules.specs.Lists.{keep, joined}
+use Rattle.listing_rules.specs.Readers.{packedSeen}
+use Rattle.listing_rules.specs.Server.{Reply, refusal, answered, servedTo, commanded}
+use Rattle.listing_rules.specs.Series.{commandedAll}
+use Rattle.listing_rules.specs.Evidence.{listLines, lineName, childInfoIn}
+use Rattle.listing_rules.specs.Cases.{mailbox, mailboxFor, times, sends, Lent, lentStore, sentLine, sameNames}
+use Rattle.listing_rules.specs.ExpertSheet.{tableE}
+
+-- Which names an answer lists, in the order of its lines, and which of them with CHILDINFO, as the line reader reads them off its bytes.
+pub data EvidenceCase : Type 0 where
+  -- the answer to a reader's command over a packed table
+  lists : ℕ → List ℕ → String → List String → List String → EvidenceCase
+  -- the answer to a reader's command over records, after these lines of reader 0
+  listsAfter : Lent → List String → ℕ → String → List String → List String → EvidenceCase
+
+-- the bytes of an answer; none for a refusal
+abbrev pub bytesIn : Reply → List ℕ
+bytesIn (refusal k) = []
+bytesIn (answered a) = a
+
+abbrev readsSo : List ℕ → List String → List String → Bool
+readsSo a ns cs = sameNames (map lineName (listLines a)) (map text ns) && sameNames (keep (childInfoIn a) (map text ns)) (map text cs)
+
+abbrev pub holdsEvidence : EvidenceCase → Bool
+holdsEvidence (lists reader t l ns cs) = readsSo (bytesIn (servedTo reader (packedSeen reader t) [] (sends l) (times 4096 0))) ns cs
+holdsEvidence (listsAfter s ls reader l ns cs) =
+    readsSo (bytesIn (commanded reader (commandedAll (lentStore s) (map (λ x. sentLine (sends x)) ls)) [] (sends l) (times 4096 0) .reply)) ns cs
+
+-- the places of the cases that fail, counted from k
+abbrev pub failuresOf : ℕ → List EvidenceCase → List ℕ
+failuresOf k [] = []
+failuresOf k (c ∷ cs) = let r = failuresOf (suc k) cs in cond (holdsEvidence c) r (k ∷ r)
+
+-- "without RECURSIVEMATCH, every name listed before is listed after": a pattern more at the front, in the middle, at the end; an empty one; W1's level
+-- Foo stays where the new pattern does not end in "%"; criteria selected; a row that reader 1 does not see
+abbrev pub patterns-added : List EvidenceCase
+patterns-added =
+    lists 0 tableE "a LIST () \"\" (Foo% Moo)" ("Foo" ∷ "Foo-x" ∷ "Moo" ∷ []) []
+    ∷ lists 0 tableE "a LIST () \"\" (in% Foo% Moo)" ("Foo" ∷ "Foo-x" ∷ "INBOX" ∷ "Moo" ∷ []) []
+    ∷ lists 0 tableE "a LIST () \"\" (Foo% F*z Moo)" ("Foo" ∷ "Foo-x" ∷ "Foo/Baz" ∷ "Moo" ∷ []) []
+    ∷ lists 0 tableE "a LIST () \"\" (Foo% Moo \"\")" ("Foo" ∷ "Foo-x" ∷ "Moo" ∷ []) []
+    ∷ lists 0 tableE "a LIST (SUBSCRIBED) \"F\" (*z)" ("Foo/Baz" ∷ []) []
+    ∷ lists 0 tableE "a LIST (SUBSCRIBED) \"F\" (*z *)" ("Foo/Baz" ∷ []) []
+    ∷ lists 1 (mailbox 0x0001 "A/B" ++ mailboxFor 0x01 0x0001 "C") "a LIST \"\" (%)" ("A" ∷ []) []
+    ∷ lists 1 (mailbox 0x0001 "A/B" ++ mailboxFor 0x01 0x0001 "C") "a LIST \"\" (% *)" ("A" ∷ "A/B" ∷ []) []
+    ∷ []
+
+-- A, which meets the criteria, above A/B/C, which does; D above D/E and D/F
+abbrev tree : List ℕ
+tree = joined (mailbox 0x0003 "A" ∷ mailbox 0x0003 "A/B/C" ∷ mailbox 0x0003 "D/E" ∷ mailbox 0x0007 "D/F" ∷ [])
+
+-- "With RECURSIVEMATCH the same holds, except for a name that did not meet the criteria; that one goes exactly if each of its meeting descendants now
+-- matches a pattern": Foo goes with Foo/Baz and stays with Foo/Bar, which does not meet them. A stays, and keeps CHILDINFO. D goes when D/E matches,
+-- as D/F is remote; it stays under REMOTE, until D/F matches too.
+abbrev pub recursive-patterns-added : List EvidenceCase
+recursive-patterns-added =
+    lists 0 tableE "a LIST (SUBSCRIBED RECURSIVEMATCH) \"\" (%)" ("Foo" ∷ []) ("Foo" ∷ [])
+    ∷ lists 0 tableE "a LIST (SUBSCRIBED RECURSIVEMATCH) \"\" (% Foo/Bar)" ("Foo" ∷ []) ("Foo" ∷ [])
+    ∷ lists 0 tableE "a LIST (SUBSCRIBED RECURSIVEMATCH) \"\" (% Foo/Baz)" ("Foo/Baz" ∷ []) []
+    ∷ lists 0 tree "a LIST (SUBSCRIBED RECURSIVEMATCH) \"\" (%)" ("A" ∷ "D" ∷ []) ("A" ∷ "D" ∷ [])
+    ∷ lists 0 tree "a LIST (SUBSCRIBED RECURSIVEMATCH) \"\" (D/E %)" ("A" ∷ "D/E" ∷ []) ("A" ∷ [])
+    ∷ lists 0 tree "a LIST (SUBSCRIBED RECURSIVEMATCH) \"\" (% A/*)" ("A" ∷ "A/B/C" ∷ "D" ∷ []) ("A" ∷ "D" ∷ [])
+    ∷ lists 0 tree "a LIST (SUBSCRIBED RECURSIVEMATCH REMOTE) \"\" (% D/E)" ("A" ∷ "D" ∷ "D/E" ∷ []) ("A" ∷ "D" ∷ [])
+    ∷ lists 0 tree "a LIST (SUBSCRIBED RECURSIVEMATCH REMOTE) \"\" (% D/E *F)" ("A" ∷ "D/E" ∷ "D/F" ∷ []) ("A" ∷ [])
+    ∷ []
+
+-- where the first command is not extended its empty pattern asks for the root line, whose name is empty: it goes
+abbrev pub not-extended : List EvidenceCase
+not-extended =
+    lists 0 tableE "a LIST \"\" \"\"" ("" ∷ []) []
+    ∷ lists 0 tableE "a LIST \"\" (\"\" Moo)" ("Moo" ∷ []) []
+    ∷ []
+
+-- an existing row Foo/Baz without its subscription and with it, and a use beside it; room for a row more
+abbrev baz : ℕ → Lent
+baz f =
+    record {
+      area = text "Foo/Baz?????";
+      records = record { flags = f; start = 0; len = 7; readers = 0xFF } ∷ record { flags = 0; start = 0; len = 0; readers = 0 } ∷ [];
+      count = 1;
+    }
+
+-- "If rows gain subscriptions instead, no listed name and no CHILDINFO is lost": a flag set in a row, by hand and by SUBSCRIBE, and a row 0002 that
+-- SUBSCRIBE inserts; for criteria that do not ask for it, too
+abbrev pub subscriptions-gained : List EvidenceCase
+subscriptions-gained =
+    listsAfter (baz 0x0201) [] 0 "a LIST (SPECIAL-USE RECURSIVEMATCH) \"\" (%)" ("Foo" ∷ []) ("Foo" ∷ [])
+    ∷ listsAfter (baz 0x0203) [] 0 "a LIST (SPECIAL-USE RECURSIVEMATCH) \"\" (%)" ("Foo" ∷ []) ("Foo" ∷ [])
+    ∷ listsAfter (baz 0x0201) ("b SUBSCRIBE Foo/Baz" ∷ []) 0 "a LIST (SPECIAL-USE RECURSIVEMATCH) \"\" (%)" ("Foo" ∷ []) ("Foo" ∷ [])
+    ∷ listsAfter (baz 0x0001) [] 0 "a LIST () \"\" (%)" ("Foo" ∷ []) []
+    ∷ listsAfter (baz 0x0001) ("b SUBSCRIBE Foo" ∷ "c LIST \"\" *" ∷ "d SUBSCRIBE \"F%\"" ∷ []) 7 "a LIST () \"\" (%)" ("Foo" ∷ []) []
+    ∷ listsAfter (baz 0x0003) [] 0 "a LIST (SUBSCRIBED RECURSIVEMATCH) \"\" (%)" ("Foo" ∷ []) ("Foo" ∷ [])
+    ∷ listsAfter (baz 0x0003) ("b SUBSCRIBE Foo" ∷ []) 0 "a LIST (SUBSCRIBED RECURSIVEMATCH) \"\" (%)" ("Foo" ∷ []) ("Foo" ∷ [])
+    ∷ []
+
+-- UNSUBSCRIBE takes names and CHILDINFO away: a flag that is cleared, and a row 0002 that is removed
+abbrev pub subscriptions-taken : List EvidenceCase
+subscriptions-taken =
+    listsAfter (baz 0x0003) ("b UNSUBSCRIBE Foo/Baz" ∷ []) 0 "a LIST (SUBSCRIBED RECURSIVEMATCH) \"\" (%)" [] []
+    ∷ listsAfter (baz 0x0003) ("b SUBSCRIBE Moo" ∷ []) 0 "a LIST (SUBSCRIBED) \"\" (*)" ("Foo/Baz" ∷ "Moo" ∷ []) []
+    ∷ listsAfter (baz 0x0003) ("b SUBSCRIBE Moo" ∷ "c UNSUBSCRIBE Moo" ∷ []) 0 "a LIST (SUBSCRIBED) \"\" (*)" ("Foo/Baz" ∷ []) []
+    ∷ []

@@ -9,15 +9,18 @@ use second::shape::MAX_LINE;
 use crate::commands::{command, damaged, hostile_pattern, push_value};
 use crate::damage::{damaged_table, namespace_list};
 use crate::edit_sessions;
+use crate::gains;
 use crate::levels::levels_above;
 use crate::limits;
 use crate::literals;
 use crate::lsub;
+use crate::more_patterns;
 use crate::random::Random;
 use crate::reader_sessions;
 use crate::sending::Sending;
 use crate::special_uses;
 use crate::tables::{good_table, names_of, rows_named, table_bytes};
+use crate::trials::{Law, Trial};
 use crate::walks::some_walk;
 
 /// What makes the session of a seed.
@@ -28,20 +31,52 @@ type Generator = fn(&mut Random) -> Vec<SentFrame>;
 #[derive(Clone, Copy)]
 pub struct Kind {
     pub name: &'static str,
-    generator: Generator,
+    maker: Maker,
+}
+
+#[derive(Clone, Copy)]
+enum Maker {
+    Session(Generator),
+    /// Sessions whose answers are judged among each other, too.
+    Law(Law),
 }
 
 impl Kind {
     /// The session of a seed.
     pub fn session(self, seed: u64) -> Vec<SentFrame> {
-        (self.generator)(&mut Random::of(self.name, seed))
+        self.session_and_trial(seed).0
+    }
+
+    /// The session of a seed and, of a law, the trial whose commands it sends.
+    pub fn session_and_trial(self, seed: u64) -> (Vec<SentFrame>, Option<Trial>) {
+        let mut random = Random::of(self.name, seed);
+        match self.maker {
+            Maker::Session(generator) => (generator(&mut random), None),
+            Maker::Law(law) => {
+                let trial = (law.trial)(&mut random);
+                (trial.frames(&mut random), Some(trial))
+            }
+        }
+    }
+
+    /// The law by which its answers are judged.
+    pub fn law(self) -> Option<Law> {
+        match self.maker {
+            Maker::Session(_) => None,
+            Maker::Law(law) => Some(law),
+        }
     }
 }
 
 /// Every kind.
 pub fn kinds() -> impl Iterator<Item = Kind> {
-    GENERATORS.into_iter().map(|(name, generator)| Kind { name, generator })
+    let sessions = GENERATORS.map(|(name, generator)| (name, Maker::Session(generator)));
+    let laws = LAWS.map(|(name, law)| (name, Maker::Law(law)));
+    sessions.into_iter().chain(laws).map(|(name, maker)| Kind { name, maker })
 }
+
+const LAWS: [(&str, Law); 2] =
+    [("more patterns", more_patterns::LAW), ("rows that gain subscriptions", gains::LAW)];
 
 const GENERATORS: [(&str, Generator); 37] = [
     ("a table and commands", commands_over_a_table),

@@ -10,6 +10,7 @@ pub mod damage;
 pub mod edit_series;
 mod edit_sessions;
 pub mod edits;
+pub mod gains;
 mod kinds;
 mod levels;
 #[cfg(feature = "library")]
@@ -17,16 +18,21 @@ pub mod library;
 mod limits;
 mod literals;
 pub mod lsub;
+pub mod more_patterns;
 pub mod random;
+pub mod reached;
 mod reader_sessions;
 pub mod readers;
 pub mod records;
 mod report;
+pub mod requests;
 mod sending;
 mod special_uses;
 pub mod streams;
 mod strings;
+pub mod subjects;
 pub mod tables;
+pub mod trials;
 mod walks;
 
 use std::path::Path;
@@ -39,7 +45,9 @@ use second::Refusal;
 
 pub use kinds::{kinds, Kind};
 
+use reached::Reached;
 use report::{difference_text, explanation_text, failure_text};
+use trials::{given_of, read_by_second};
 
 /// The status of a wrong call.
 const WRONG_CALL: u8 = 2;
@@ -50,14 +58,22 @@ pub fn wrong_call(message: &str) -> ExitCode {
     ExitCode::from(WRONG_CALL)
 }
 
-/// Runs the session of a kind and a seed. The error is what differed, as text.
-pub fn compare_session(program: &Path, kind: Kind, seed: u64) -> Result<(), String> {
-    let compared = compare_frames(program, &kind.session(seed));
-    compared.map_err(|text| format!("kind '{}', seed {seed}: {text}", kind.name))
+/// Runs the session of a kind and a seed, and gives what the claims of a law reached in the program's
+/// answers. The error is what differed, or which claim does not hold, as text.
+pub fn compare_session(program: &Path, kind: Kind, seed: u64) -> Result<Reached, String> {
+    let (session, trial) = kind.session_and_trial(seed);
+    let compared = compare_frames(program, &session);
+    let judged = compared.and_then(|answers| match trial {
+        Some(trial) => trial.judge(&given_of(&answers)?, read_by_second),
+        None => Ok(Reached::default()),
+    });
+    judged.map_err(|text| format!("kind '{}', seed {seed}: {text}", kind.name))
 }
 
-fn compare_frames(program: &Path, session: &[SentFrame]) -> Result<(), String> {
+/// Gives the program's answer lines, which are those of the second program.
+fn compare_frames(program: &Path, session: &[SentFrame]) -> Result<Vec<Vec<u8>>, String> {
     let mut second = Program::default();
+    let mut answers = Vec::new();
     let running = Running::start(program, PATIENCE, sender_of(session));
     let mut running = running.map_err(failure_text)?;
     for (at, frame) in session.iter().enumerate() {
@@ -71,14 +87,15 @@ fn compare_frames(program: &Path, session: &[SentFrame]) -> Result<(), String> {
             continue;
         };
         match running.next_line() {
-            Ok(Some(line)) if line == expected => {}
+            Ok(Some(line)) if line == expected => answers.push(line),
             actual => return Err(difference_text(session, at, &second, &expected, &actual)),
         }
         if !frame.is_cut && answer.is_some_and(|answer| !is_explained(&answer, fault)) {
             return Err(explanation_text(session, at, &second, fault));
         }
     }
-    running.finish().map_err(failure_text)
+    running.finish().map_err(failure_text)?;
+    Ok(answers)
 }
 
 /// A refusal has its explanation and an answer has none. Of a buffer that is too small there is

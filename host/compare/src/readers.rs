@@ -95,11 +95,11 @@ pub fn seen_alike(random: &mut Random, rows: &[NewRow], reader: Reader) -> Vec<N
         others.push(row);
     }
     others.iter_mut().for_each(|row| row.readers.remove(reader));
-    with_hidden(seen, others)
+    with_others(seen, others)
 }
 
-/// The rows that are seen, and of the others those that a table with them may have.
-fn with_hidden(seen: Vec<NewRow>, mut others: Vec<NewRow>) -> Vec<NewRow> {
+/// The rows of a table that passes, and of the others those that a table with them may have.
+pub fn with_others(seen: Vec<NewRow>, mut others: Vec<NewRow>) -> Vec<NewRow> {
     others.sort_by(|one, other| one.name.cmp(&other.name));
     others.dedup_by(|one, other| one.name == other.name);
     let is_childless = |row: &NewRow| row.flags.has(Flags::NO_INFERIORS);
@@ -125,7 +125,7 @@ fn is_below(name: &[u8], above: &[u8]) -> bool {
 }
 
 /// A level above one of the rows, a name below one or beside it, or a name of one level.
-fn name_beside(random: &mut Random, rows: &[NewRow]) -> Vec<u8> {
+pub fn name_beside(random: &mut Random, rows: &[NewRow]) -> Vec<u8> {
     if rows.is_empty() || random.percent(20) {
         return level(random);
     }

@@ -9,6 +9,7 @@ mod compactions;
 mod compared;
 mod edits;
 mod feeding;
+mod laws;
 mod lines;
 mod matching;
 mod readers;
@@ -23,7 +24,7 @@ pub use tally::Tally;
 /// A name, and what compares.
 pub type Group = (&'static str, fn(&mut Tally));
 
-pub const GROUPS: [Group; 30] = [
+pub const GROUPS: [Group; 33] = [
     ("every set of attributes, written and read back", lines::every_set),
     ("every number of a set of criteria", lines::every_criteria_byte),
     ("names at the limits, buffers on both sides of the line's length", lines::names_and_rooms),
@@ -54,4 +55,7 @@ pub const GROUPS: [Group; 30] = [
     ("streams for the feeder, chunk by chunk", feeding::streams),
     ("memory and states that the feeder does not take", feeding::not_taken),
     ("the continuation line at any place of a buffer", feeding::continuation),
+    ("laws: more patterns", laws::more_patterns),
+    ("laws: rows that gain subscriptions by commands", laws::gains),
+    ("laws: tables whose rows gain subscriptions", laws::gained_tables),
 ];

@@ -4,6 +4,9 @@ use std::fmt::{self, Debug, Formatter};
 
 pub use crate::report::shown;
 
+use crate::reached::Reached;
+use crate::trials::{unreached, unreached_after, JUDGED};
+
 /// The seed of every stream of inputs, which are the same in every run.
 pub const SEED: u64 = 0;
 /// Differences of one group that are printed; the others are counted.
@@ -13,6 +16,8 @@ const MOST_SHOWN: u64 = 3;
 pub struct Tally {
     pub compared: u64,
     pub different: u64,
+    /// What the claims of laws reached.
+    pub reached: Reached,
     /// A group that goes on seed by seed ends when it has compared so many times.
     least: u64,
 }
@@ -23,7 +28,7 @@ pub struct Text(pub Vec<u8>);
 
 impl Tally {
     pub fn new(least: u64) -> Tally {
-        Tally { compared: 0, different: 0, least }
+        Tally { compared: 0, different: 0, reached: Reached::default(), least }
     }
 
     /// The seeds of a group, until it has compared often enough.
@@ -50,12 +55,45 @@ impl Tally {
     ) {
         self.compared += 1;
         let ([one, other], [word, other_word]) = (&given, words);
-        if one == other {
-            return;
+        if one != other {
+            self.report(|| format!("{}\n{word} {one:?}\n{other_word} {other:?}\n", call()));
         }
+    }
+
+    /// Counts the claims of a trial that hold, or shows the one that does not.
+    pub fn judged(&mut self, judged: Result<Reached, String>) {
+        match judged {
+            Ok(reached) => {
+                self.compared += reached.times(JUDGED) as u64;
+                self.reached.add_all(&reached);
+            }
+            Err(reason) => {
+                self.compared += 1;
+                self.report(|| reason);
+            }
+        }
+    }
+
+    /// After enough claims, all of this must have been reached.
+    pub fn need(&mut self, needed: fn() -> Vec<String>) {
+        self.report_unreached(&unreached(needed, &self.reached));
+    }
+
+    /// After this number of claims, all of this must have been reached.
+    pub fn need_after(&mut self, enough: usize, needed: fn() -> Vec<String>) {
+        self.report_unreached(&unreached_after(enough, needed, &self.reached));
+    }
+
+    fn report_unreached(&mut self, unreached: &[String]) {
+        for what in unreached {
+            self.report(|| format!("no claim reached: {what}\n"));
+        }
+    }
+
+    fn report(&mut self, text: impl FnOnce() -> String) {
         self.different += 1;
         if self.different <= MOST_SHOWN {
-            println!("{}\n{word} {one:?}\n{other_word} {other:?}\n", call());
+            println!("{}", text());
         }
     }
 }

@@ -20,7 +20,8 @@ const SEEDS: std::ops::Range<u64> = 0..2;
 fn the_second_program_passes() {
     for kind in kinds() {
         for seed in SEEDS {
-            assert_eq!(compare_session(&second(), kind, seed), Ok(()));
+            let compared = compare_session(&second(), kind, seed);
+            assert_eq!(compared.map(|_| ()), Ok(()));
         }
     }
 }
@@ -70,8 +71,8 @@ fn streams_hang_on_name_and_seed() {
 fn calls_and_last_lines() {
     let second = second();
     let second = second.to_str().expect("text");
-    let calls: [(&[&str], i32, &str); 8] = [
-        (&[second, "--seeds", "5..6"], 0, "37 passed, 0 failed\n"),
+    let calls: [(&[&str], i32, &str); 11] = [
+        (&[second, "--seeds", "5..6"], 0, "39 passed, 0 failed\n"),
         (&[second, "--kind", "literals", "--seeds", "5..8"], 0, "3 passed, 0 failed\n"),
         (&[ECHO, "--kind", "literals", "--seeds", "5..8"], 1, "0 passed, 3 failed\n"),
         (&[ECHO], 1, "0 passed, 10 failed\n"),
@@ -79,6 +80,17 @@ fn calls_and_last_lines() {
         (&["no-such-program"], 2, ""),
         (&[second, "--seeds", "5"], 2, ""),
         (&[second, "--kind", "no such kind"], 2, ""),
+        (
+            &[second, "--kind", "more patterns", "--seeds", "0..1", "--least", "25"],
+            0,
+            "2 passed, 0 failed\n",
+        ),
+        (
+            &[second, "--kind", "literals", "--seeds", "0..1", "--least", "25"],
+            0,
+            "1 passed, 0 failed\n",
+        ),
+        (&[second, "--least", "many"], 2, ""),
     ];
     for (arguments, status, last_line) in calls {
         let output = Command::new(COMPARE).args(arguments).output().expect("a run");

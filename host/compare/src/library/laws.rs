@@ -1,0 +1,87 @@
+//! What must hold between the answers to several commands (document 02, W10), by the proved library, its
+//! line reader included.
+
+use second::{Criteria, Line, Record};
+
+use super::both::{Asked, Mailboxes, ANSWER, PROVED};
+use super::tally::Tally;
+use crate::gains;
+use crate::more_patterns;
+use crate::random::Random;
+use crate::records::{laid_out, Layout};
+use crate::tables::NewRow;
+use crate::trials::{Given, Law, Trial};
+
+/// Longer than any answer here.
+const ROOM: usize = 16_384;
+/// After this number of claims, every set of options must have come from every reader.
+const MANY: usize = 20_000;
+/// Room for the rows that edits insert.
+const SPARE_RECORDS: usize = 16;
+const SPARE_BYTES: usize = 1_024;
+
+/// A pattern more, or several.
+pub fn more_patterns(tally: &mut Tally) {
+    judge_law(tally, "library: more patterns", more_patterns::LAW);
+}
+
+/// Rows that gain subscriptions by SUBSCRIBE commands.
+pub fn gains(tally: &mut Tally) {
+    judge_law(tally, "library: rows that gain subscriptions", gains::LAW);
+    tally.need_after(MANY, gains::needed_jointly);
+}
+
+/// Rows that gain subscriptions without a command: two tables.
+pub fn gained_tables(tally: &mut Tally) {
+    tally.for_each_seed(|tally, seed| {
+        let mut random = Random::of("library: gained subscriptions", seed);
+        let (trial, rows) = gains::two_tables(&mut random);
+        let (before, after) = trial.asked.split_at(trial.asked.len() / 2);
+        let mut given = given_of(&mut random, &trial.rows, before);
+        given.extend(given_of(&mut random, &rows, after));
+        judge(tally, seed, &trial, &given);
+    });
+    tally.need(gains::needed_of_tables);
+    tally.need_after(MANY, gains::needed_jointly);
+}
+
+fn judge_law(tally: &mut Tally, stream: &str, law: Law) {
+    tally.for_each_seed(|tally, seed| {
+        let mut random = Random::of(stream, seed);
+        let trial = (law.trial)(&mut random);
+        let given = given_of(&mut random, &trial.rows, &trial.asked);
+        judge(tally, seed, &trial, &given);
+    });
+    tally.need(law.needed);
+}
+
+fn judge(tally: &mut Tally, seed: u64, trial: &Trial, given: &[Given]) {
+    let judged = trial.judge(given, read_by_proved);
+    tally.judged(judged.map_err(|reason| format!("seed {seed}: {reason}")));
+}
+
+/// What the proved library answers to commands over rows, in their order; edits change the rows.
+fn given_of(random: &mut Random, rows: &[NewRow], asked: &[(u8, Vec<u8>)]) -> Vec<Given> {
+    let mut table = Mailboxes::new(with_room(laid_out(random, rows)));
+    let mut out = vec![0; ROOM];
+    let mut answer = |(reader, line): &(u8, Vec<u8>)| {
+        let asked = Asked { reader: *reader, ..Asked::by_0(line) };
+        let (length, _) = ANSWER[PROVED](&mut table, asked, &mut out)?;
+        Ok(out[..length].to_vec())
+    };
+    asked.iter().map(&mut answer).collect()
+}
+
+fn with_room(mut layout: Layout) -> Layout {
+    let (records, bytes) = (layout.records.len(), layout.area.len());
+    layout.records.resize(records + SPARE_RECORDS, Record::default());
+    layout.area.resize(bytes + SPARE_BYTES, b'/');
+    layout
+}
+
+/// The proved line reader.
+fn read_by_proved(line: &[u8]) -> Option<Line> {
+    let parts = luspemaro::read_line(line).ok()?;
+    let childinfo = Criteria::from_bits(parts.childinfo.bits())?;
+    Some(Line { attrs: parts.attributes, name: parts.name().to_vec(), childinfo })
+}

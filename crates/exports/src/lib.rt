@@ -34,6 +34,7 @@ ghost use Rattle.listing_rules.specs.Match.{matches};
 ghost use Rattle.listing_rules.specs.Reader.{written, readLine};
 ghost use Rattle.listing_rules.specs.Server.{bufferAfter};
 ghost use Rattle.listing_rules.specs.Walk.{collectedBy};
+ghost use Rattle.listing_rules.specs.Joining.{joinedInto};
 ghost use Rattle.records.specs.Words.{recordOf, meant};
 ghost use Rattle.records.specs.Lent.{lentTable, lentSeen, wordTable, wordSeen};
 ghost use Rattle.records.specs.Stores.{lentCommand, wordCommand, lentCompaction, Between};
@@ -280,4 +281,24 @@ pub extern "C" fn luspemaro_read_line(line: &[u8]) -> LineParts
     ensures { λ r. ⌜ r ≡ partsOf (readLine (now (line .entry))) ⌝ }
 {
     line_parts(line_reader::read_line(line))
+}
+
+// The joined command of these parts at the front of `out`. The options are a set by its number: of the selection 1 SUBSCRIBED, 2 REMOTE,
+// 4 RECURSIVEMATCH, 8 SPECIAL-USE, of the return options 16 SUBSCRIBED, 32 CHILDREN, 64 SPECIAL-USE. The patterns are packed, each as a
+// length byte and its bytes.
+#[no_mangle]
+pub extern "C" fn luspemaro_join(
+    tag: &[u8],
+    options: u8,
+    reference: &[u8],
+    patterns: &[u8],
+    out: &mut [u8],
+) -> Outcome
+    ensures { λ r. ⌜ Into (joinedInto (now (tag .entry)) options (now (reference .entry)) (now (patterns .entry)) (now (out .entry)))
+        (now (out .entry)) (now (out .exit)) r ⌝ }
+{
+    written_outcome(
+        command_writer::join(tag, options, reference, patterns, out),
+        0,
+    )
 }

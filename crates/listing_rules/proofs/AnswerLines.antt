@@ -24,22 +24,26 @@ line-split (b ∷ y) t h = rw (not-true (eqb b 10) (and-l (notLF b) (all notLF y
 pub name-notLF : (b : ℕ) → nameByte b ≡ true → notLF b ≡ true
 name-notLF b h = ap not (ne-eqb b 10 (λ e. omega (arith, name-range b h .0)))
 
-every-chosen : (p : List ℕ → Bool) (bs : List Bool) (ns : List (List ℕ)) → every p ns ≡ true → every p (chosen bs ns) ≡ true
+pub every-chosen : (p : List ℕ → Bool) (bs : List Bool) (ns : List (List ℕ)) → every p ns ≡ true → every p (chosen bs ns) ≡ true
 unfolding every chosen
 every-chosen p [] ns h = refl
 every-chosen p (b ∷ bs) [] h = refl
 every-chosen p (true ∷ bs) (n ∷ ns) h = and-i (p n) (every p (chosen bs ns)) (and-l (p n) (every p ns) h) (every-chosen p bs ns (and-r (p n) (every p ns) h))
 every-chosen p (false ∷ bs) (n ∷ ns) h = every-chosen p bs ns (and-r (p n) (every p ns) h)
 
-all-spacedTail : (ns : List (List ℕ)) → every (all notLF) ns ≡ true → all notLF (spacedTail ns) ≡ true
-unfolding every spacedTail openBytes
-all-spacedTail [] h = refl
-all-spacedTail (n ∷ ns) h = all-append notLF n (spacedTail ns) (and-l (all notLF n) (every (all notLF) ns) h) (all-spacedTail ns (and-r (all notLF n) (every (all notLF) ns) h))
+-- texts with one space between two, where each is of bytes that pass and so is the space
+module _ (p : ℕ → Bool) (s : p 32 ≡ true) where
+  all-spacedTail : (ns : List (List ℕ)) → every (all p) ns ≡ true → all p (spacedTail ns) ≡ true
+  unfolding every spacedTail openBytes
+  all-spacedTail [] h = refl
+  all-spacedTail (n ∷ ns) h =
+      and-i (p 32) (all p (n ++ spacedTail ns)) s
+      (all-append p n (spacedTail ns) (and-l (all p n) (every (all p) ns) h) (all-spacedTail ns (and-r (all p n) (every (all p) ns) h)))
 
-all-spaced : (ns : List (List ℕ)) → every (all notLF) ns ≡ true → all notLF (spaced ns) ≡ true
-unfolding all every spaced
-all-spaced [] h = refl
-all-spaced (n ∷ ns) h = all-append notLF n (spacedTail ns) (and-l (all notLF n) (every (all notLF) ns) h) (all-spacedTail ns (and-r (all notLF n) (every (all notLF) ns) h))
+  pub all-spaced : (ns : List (List ℕ)) → every (all p) ns ≡ true → all p (spaced ns) ≡ true
+  unfolding all every spaced
+  all-spaced [] h = refl
+  all-spaced (n ∷ ns) h = all-append p n (spacedTail ns) (and-l (all p n) (every (all p) ns) h) (all-spacedTail ns (and-r (all p n) (every (all p) ns) h))
 
 -- a line before its LF
 pub lineBody : List Bool → List ℕ → Criteria → List ℕ
@@ -52,7 +56,7 @@ line-body bs n c = simp append-assoc
 pub body-notLF : (bs : List Bool) (n : List ℕ) (c : Criteria) → all notLF n ≡ true → all notLF (lineBody bs n c) ≡ true
 unfolding lineBody openLines openBytes openLists openOptions
 body-notLF bs n c h =
-    all-append notLF (spaced (chosen bs attributeNames)) _ (all-spaced (chosen bs attributeNames) (every-chosen (all notLF) bs attributeNames refl))
+    all-append notLF (spaced (chosen bs attributeNames)) _ (all-spaced notLF refl (chosen bs attributeNames) (every-chosen (all notLF) bs attributeNames refl))
     (all-append notLF (escaped n ++ (quote ∷ [])) (childInfoText c ++ (13 ∷ [])) (all-append notLF (escaped n) (quote ∷ []) (all-escaped notLF refl n h) refl) (child (c .subscribed) (c .special)))
   where
     child : (a b : Bool) → all notLF (childInfoText (record { subscribed = a; special = b }) ++ (13 ∷ [])) ≡ true

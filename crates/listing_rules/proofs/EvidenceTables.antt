@@ -1,7 +1,7 @@
--- The cases of W10 hold. Rests on Keys alone: each table is computed, and one that does not hold is named by the claim that fails.
+-- The cases of W10 and W11 hold. Rests on Keys alone: each table is computed, and one that does not hold is named by the claim that fails.
 use Rattle.listing_rules.proofs.Prelude.{_≡_, refl, []}
 use Rattle.listing_rules.specs.EvidenceCases.{failuresOf, patterns-added, recursive-patterns-added, not-extended, subscriptions-gained}
-use Rattle.listing_rules.specs.EvidenceCases.{subscriptions-taken}
+use Rattle.listing_rules.specs.EvidenceCases.{subscriptions-taken, commands-joined, commands-not-joined, joins-alike, lines-merged}
 use Rattle.listing_rules.proofs.Keys.{openAll}
 
 patterns-added-hold : failuresOf 1 patterns-added ≡ []
@@ -24,13 +24,33 @@ subscriptions-taken-hold : failuresOf 1 subscriptions-taken ≡ []
 unfolding openAll
 subscriptions-taken-hold = refl
 
--- every case of W10 in one claim
+commands-joined-hold : failuresOf 1 commands-joined ≡ []
+unfolding openAll
+commands-joined-hold = refl
+
+commands-not-joined-hold : failuresOf 1 commands-not-joined ≡ []
+unfolding openAll
+commands-not-joined-hold = refl
+
+joins-alike-hold : failuresOf 1 joins-alike ≡ []
+unfolding openAll
+joins-alike-hold = refl
+
+lines-merged-hold : failuresOf 1 lines-merged ≡ []
+unfolding openAll
+lines-merged-hold = refl
+
+-- every case in one claim
 pub record EvidenceHolds : Type 0 where
   pub patterns-added-stand : failuresOf 1 patterns-added ≡ []
   pub recursive-patterns-added-stand : failuresOf 1 recursive-patterns-added ≡ []
   pub not-extended-stand : failuresOf 1 not-extended ≡ []
   pub subscriptions-gained-stand : failuresOf 1 subscriptions-gained ≡ []
   pub subscriptions-taken-stand : failuresOf 1 subscriptions-taken ≡ []
+  pub commands-joined-stand : failuresOf 1 commands-joined ≡ []
+  pub commands-not-joined-stand : failuresOf 1 commands-not-joined ≡ []
+  pub joins-alike-stand : failuresOf 1 joins-alike ≡ []
+  pub lines-merged-stand : failuresOf 1 lines-merged ≡ []
 
 pub evidence-holds : EvidenceHolds
 evidence-holds =
@@ -40,4 +60,8 @@ evidence-holds =
       not-extended-stand = not-extended-hold;
       subscriptions-gained-stand = subscriptions-gained-hold;
       subscriptions-taken-stand = subscriptions-taken-hold;
+      commands-joined-stand = commands-joined-hold;
+      commands-not-joined-stand = commands-not-joined-hold;
+      joins-alike-stand = joins-alike-hold;
+      lines-merged-stand = lines-merged-hold;
     }

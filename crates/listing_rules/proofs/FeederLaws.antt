@@ -1,11 +1,11 @@
 -- The feeder: how its bytes are cut into chunks does not matter; and a line that announces no literal has document 01's shape. Rests on TokenLaws
 -- and ListLaws.
-use Rattle.listing_rules.proofs.Prelude.{_∙_, _≡_, ap, refl, sym, Bool, _&&_, _||_, cond, false, false≢true, not, or-false, true, Option}
+use Rattle.listing_rules.proofs.Prelude.{_∙_, _≡_, ap, ap₂, refl, sym, Bool, _&&_, _||_, cond, false, false≢true, not, or-false, true, Option}
 use Rattle.listing_rules.proofs.Prelude.{Option·none-ne-some, none, some, List, [], _++_, _∷_, append-assoc, append-nil, _+_, _-_, _≤_, suc, ℕ}
-use Rattle.listing_rules.proofs.Prelude.{arith, eqb, leb, length, length-append, take, take-append-seam, eq-eqb, eqb-true, le-leb, leb-true}
+use Rattle.listing_rules.proofs.Prelude.{arith, eqb, leb, length, length-append, take, take-append-seam, eq-eqb, eqb-false, eqb-true, le-leb, leb-true}
 use Rattle.listing_rules.proofs.Prelude.{ne-eqb, not-true}
 use Rattle.listing_rules.specs.Bytes.{crlf, same, all, within, isEmpty}
-use Rattle.listing_rules.proofs.Keys.{openBytes}
+use Rattle.listing_rules.proofs.Keys.{openBytes, openTokens}
 use Rattle.listing_rules.specs.Lists.{joined}
 use Rattle.listing_rules.specs.Tokens.{got, run₁, digitByte, decimal, number, lineByte}
 use Rattle.listing_rules.specs.Feeder.{AfterByte, stillOne, gives, offends, refusing, lineEnded, textByte, endsLine, lastIs, announcedAt}
@@ -109,38 +109,67 @@ text-goes-on kept line c t a o e =
     quiet-step : fedByte (reading kept line) c ≡ gives (reading (kept ++ (c ∷ [])) (line ++ (c ∷ []))) quiet
     quiet-step = unfold fedByte textByte in rw (o, e)
 
-text-ends : (kept line : List ℕ) (c : ℕ) → allowed (reading kept line) c ≡ true → offends kept c ≡ false → endsLine (line ++ (c ∷ [])) ≡ true
-    → announced (line ++ (c ∷ [])) ≡ none → oneCommand (reading kept line) (c ∷ []) ≡ true
-unfolding oneCommand stillOne gives isEmpty
-text-ends kept line c a o e n =
-    ap (λ (r : AfterByte). allowed (reading kept line) c && stillOne (r .event) true (oneCommand (r .state) [])) last-step ∙ rw a
-  where
-    last-step : fedByte (reading kept line) c ≡ gives first (handed (kept ++ (c ∷ [])))
-    last-step = unfold fedByte textByte lineEnded in rw (o, e, n)
+-- whether it is still one command after a byte, with t to come
+abbrev pub stillAfter : AfterByte → List ℕ → Bool
+stillAfter r t = stillOne (r .event) (isEmpty t) (oneCommand (r .state) t)
 
-within-room : (kept : List ℕ) (c : ℕ) → suc (length kept) ≤ 2048 → eqb c 0 ≡ false → offends kept c ≡ false
+text-ends : (kept line : List ℕ) (c : ℕ) (t : List ℕ) → allowed (reading kept line) c ≡ true → offends kept c ≡ false
+    → endsLine (line ++ (c ∷ [])) ≡ true
+    → oneCommand (reading kept line) (c ∷ t) ≡ stillAfter (lineEnded (kept ++ (c ∷ [])) (announced (line ++ (c ∷ [])))) t
+unfolding oneCommand
+text-ends kept line c t a o e = ap (λ (r : AfterByte). allowed (reading kept line) c && stillAfter r t) last-step ∙ rw a
+  where
+    last-step : fedByte (reading kept line) c ≡ lineEnded (kept ++ (c ∷ [])) (announced (line ++ (c ∷ [])))
+    last-step = unfold fedByte textByte in rw (o, e)
+
+pub within-room : (kept : List ℕ) (c : ℕ) → suc (length kept) ≤ 2048 → eqb c 0 ≡ false → offends kept c ≡ false
 unfolding offends
 within-room kept c h e = rw (le-leb (suc (length kept)) 2048 h, e)
 
--- text, then CR LF, where nothing is announced
-run-out : (kept line x : List ℕ) → all lineByte x ≡ true → lastIs 13 line ≡ false → length kept + length x + 2 ≤ 2048
-    → announced ((line ++ x) ++ crlf) ≡ none → oneCommand (reading kept line) (x ++ crlf) ≡ true
-unfolding crlf all allowed lineByte within
-run-out kept line [] h n s a =
-    text-goes-on kept line 13 (10 ∷ []) (rw n) (within-room kept 13 (omega arith) refl) (ends-snoc line 13 ∙ ap (λ (o : Bool). o && false) n)
-    ∙ text-ends (kept ++ (13 ∷ [])) (line ++ (13 ∷ [])) 10 (rw (last-snoc 13 line 13)) (within-room (kept ++ (13 ∷ [])) 10 (omega (arith, length-append kept (13 ∷ []))) refl)
-    (ends-snoc (line ++ (13 ∷ [])) 10 ∙ ap (λ (o : Bool). o && true) (last-snoc 13 line 13))
-    (ap announced (append-assoc line (13 ∷ []) (10 ∷ []) ∙ ap (λ (l : List ℕ). l ++ crlf) (sym (append-nil line))) ∙ a)
-run-out kept line (c ∷ x) h n s a =
-    text-goes-on kept line c (x ++ crlf) (rw (n, this)) (within-room kept c (omega arith) (p .2)) (ends-snoc line c ∙ ap (λ (o : Bool). o && eqb c 10) n)
-    ∙ run-out (kept ++ (c ∷ [])) (line ++ (c ∷ [])) x (and-r (lineByte c) (all lineByte x) h) (last-snoc 13 line c ∙ p .0)
-    (omega (arith, length-append kept (c ∷ []))) (ap (λ (l : List ℕ). announced (l ++ crlf)) (append-assoc line (c ∷ []) x) ∙ a)
+-- text adds to the line
+pub text-runs : (u kept line t : List ℕ) → all lineByte u ≡ true → lastIs 13 line ≡ false → length kept + length u ≤ 2048
+    → (lastIs 13 (line ++ u) ≡ false) × (oneCommand (reading kept line) (u ++ t) ≡ oneCommand (reading (kept ++ u) (line ++ u)) t)
+unfolding all allowed
+text-runs [] kept line t h n s =
+    (ap (lastIs 13) (append-nil line) ∙ n, ap₂ (λ (k l : List ℕ). oneCommand (reading k l) t) (sym (append-nil kept)) (sym (append-nil line)))
+text-runs (c ∷ u) kept line t h n s =
+    let w = text-runs u (kept ++ (c ∷ [])) (line ++ (c ∷ [])) t (and-r (lineByte c) (all lineByte u) h) (last-snoc 13 line c ∙ p .0) room in (
+      ap (lastIs 13) (sym (append-assoc line (c ∷ []) u)) ∙ w .0,
+      step ∙ w .1 ∙ ap₂ (λ (k l : List ℕ). oneCommand (reading k l) t) (append-assoc kept (c ∷ []) u) (append-assoc line (c ∷ []) u),
+    )
   where
     this : lineByte c ≡ true
-    this = and-l (lineByte c) (all lineByte x) h
+    this = and-l (lineByte c) (all lineByte u) h
 
     p : (eqb c 13 ≡ false) × (eqb c 10 ≡ false) × (eqb c 0 ≡ false)
     p = line-byte-parts c this
+
+    room : length (kept ++ (c ∷ [])) + length u ≤ 2048
+    room = omega (arith, length-append kept (c ∷ []))
+
+    step : oneCommand (reading kept line) (c ∷ (u ++ t)) ≡ oneCommand (reading (kept ++ (c ∷ [])) (line ++ (c ∷ []))) (u ++ t)
+    step =
+        text-goes-on kept line c (u ++ t) (rw (n, this)) (within-room kept c (omega arith) (p .2))
+        (ends-snoc line c ∙ ap (λ (o : Bool). o && eqb c 10) n)
+
+-- CR LF ends it
+pub crlf-ends : (kept line t : List ℕ) → lastIs 13 line ≡ false → length kept + 2 ≤ 2048
+    → oneCommand (reading kept line) (crlf ++ t) ≡ stillAfter (lineEnded (kept ++ crlf) (announced (line ++ crlf))) t
+unfolding crlf allowed lineByte within
+crlf-ends kept line t n s =
+    text-goes-on kept line 13 (10 ∷ t) (rw n) (within-room kept 13 (omega arith) refl) (ends-snoc line 13 ∙ ap (λ (o : Bool). o && false) n)
+    ∙ text-ends (kept ++ (13 ∷ [])) (line ++ (13 ∷ [])) 10 t (rw (last-snoc 13 line 13))
+    (within-room (kept ++ (13 ∷ [])) 10 (omega (arith, length-append kept (13 ∷ []))) refl)
+    (ends-snoc (line ++ (13 ∷ [])) 10 ∙ ap (λ (o : Bool). o && true) (last-snoc 13 line 13))
+    ∙ ap₂ (λ (k l : List ℕ). stillAfter (lineEnded k (announced l)) t) (append-assoc kept (13 ∷ []) (10 ∷ [])) (append-assoc line (13 ∷ []) (10 ∷ []))
+
+-- text, then CR LF, where nothing is announced
+pub run-out : (kept line x : List ℕ) → all lineByte x ≡ true → lastIs 13 line ≡ false → length kept + length x + 2 ≤ 2048
+    → announced ((line ++ x) ++ crlf) ≡ none → oneCommand (reading kept line) (x ++ crlf) ≡ true
+unfolding crlf lineEnded gives stillOne isEmpty
+run-out kept line x h n s a =
+    let w = text-runs x kept line crlf h n (omega arith) in
+    w .1 ∙ crlf-ends (kept ++ x) (line ++ x) [] (w .0) (omega (arith, length-append kept x)) ∙ rw a
 
 -- A line that announces no literal has document 01's shape: at most 2,048 bytes, CR LF at its end, and before that only such bytes.
 pub plain-line : (x : List ℕ) → all lineByte x ≡ true → length (x ++ crlf) ≤ 2048 → announced (x ++ crlf) ≡ none → lineText (x ++ crlf) ≡ some x
@@ -300,43 +329,55 @@ plain-shape l t e a = go (oneCommand (reading [] []) l) refl
         some-is : {u v : List ℕ} → some u ≡ some v → u ≡ v
         some-is f = cc
 
--- a line that ends in another byte than "}" announces none
-clash : (v w : List ℕ) → v ++ (125 ∷ 13 ∷ 10 ∷ []) ≡ w ++ (34 ∷ 13 ∷ 10 ∷ []) → ⊥
-clash [] [] e = absurd (omega (arith, ap first-of e))
-  where
-    first-of : List ℕ → ℕ
-    first-of [] = 0
-    first-of (z ∷ l) = z
-clash [] (y ∷ w) e = absurd (omega (arith, ap length e, length-append w (34 ∷ 13 ∷ 10 ∷ [])))
-clash (x ∷ v) [] e = absurd (omega (arith, ap length e, length-append v (125 ∷ 13 ∷ 10 ∷ [])))
-clash (x ∷ v) (y ∷ w) e = clash v w (ap tail e)
-  where
-    tail : List ℕ → List ℕ
-    tail [] = []
-    tail (z ∷ l) = l
+-- a line whose last byte c before CR LF is not "}" announces none
+module _ (c : ℕ) (other : eqb c 125 ≡ false) where
+  clash : (v w : List ℕ) → v ++ (125 ∷ 13 ∷ 10 ∷ []) ≡ w ++ (c ∷ 13 ∷ 10 ∷ []) → ⊥
+  clash [] [] e = eqb-false c 125 other (sym (ap first-of e))
+    where
+      first-of : List ℕ → ℕ
+      first-of [] = 0
+      first-of (z ∷ l) = z
+  clash [] (y ∷ w) e = absurd (omega (arith, ap length e, length-append w (c ∷ 13 ∷ 10 ∷ [])))
+  clash (x ∷ v) [] e = absurd (omega (arith, ap length e, length-append v (125 ∷ 13 ∷ 10 ∷ [])))
+  clash (x ∷ v) (y ∷ w) e = clash v w (ap tail e)
+    where
+      tail : List ℕ → List ℕ
+      tail [] = []
+      tail (z ∷ l) = l
 
-not-at : (x : List ℕ) → announcedAt (x ++ (34 ∷ 13 ∷ 10 ∷ [])) ≡ none
-unfolding announcedAt number got openBytes
-not-at x = go (announcedAt (x ++ (34 ∷ 13 ∷ 10 ∷ []))) refl
-  where
-    go : (o : Option ℕ) → announcedAt (x ++ (34 ∷ 13 ∷ 10 ∷ [])) ≡ o → o ≡ none
-    go none e = refl
-    go (some k) e =
-        let w = bind-some (number (x ++ (34 ∷ 13 ∷ 10 ∷ []))) (λ n. cond (same (n .rest) (125 ∷ 13 ∷ 10 ∷ [])) (some (n .val)) none) k e in
-        let v = bind-some (run₁ digitByte (x ++ (34 ∷ 13 ∷ 10 ∷ []))) (λ g. some (got (decimal 0 (g .val)) (g .rest))) (w .0) (w .1) in
-        let r : v .0 .rest ≡ w .0 .rest = cc in
-        let s : w .0 .rest ≡ 125 ∷ 13 ∷ 10 ∷ [] = same-true (w .0 .rest) (125 ∷ 13 ∷ 10 ∷ []) (yes (w .0 .val) (same (w .0 .rest) (125 ∷ 13 ∷ 10 ∷ [])) (w .2)) in
-        absurd (clash (v .0 .val) x (sym (run₁-split digitByte (x ++ (34 ∷ 13 ∷ 10 ∷ [])) (v .0) (v .1) ∙ ap (λ (l : List ℕ). v .0 .val ++ l) (r ∙ s))))
-      where
-        yes : (m : ℕ) (b : Bool) → cond b (some m) none ≡ some k → b ≡ true
-        yes m true f = refl
-        yes m false f = absurd (Option·none-ne-some _ f)
+  not-at : (x : List ℕ) → announcedAt (x ++ (c ∷ 13 ∷ 10 ∷ [])) ≡ none
+  unfolding announcedAt number got openBytes
+  not-at x = go (announcedAt (x ++ (c ∷ 13 ∷ 10 ∷ []))) refl
+    where
+      go : (o : Option ℕ) → announcedAt (x ++ (c ∷ 13 ∷ 10 ∷ [])) ≡ o → o ≡ none
+      go none e = refl
+      go (some k) e =
+          let w = bind-some (number (x ++ (c ∷ 13 ∷ 10 ∷ []))) (λ n. cond (same (n .rest) (125 ∷ 13 ∷ 10 ∷ [])) (some (n .val)) none) k e in
+          let v = bind-some (run₁ digitByte (x ++ (c ∷ 13 ∷ 10 ∷ []))) (λ g. some (got (decimal 0 (g .val)) (g .rest))) (w .0) (w .1) in
+          let r : v .0 .rest ≡ w .0 .rest = cc in
+          let y = yes (w .0 .val) (same (w .0 .rest) (125 ∷ 13 ∷ 10 ∷ [])) (w .2) in
+          let s : w .0 .rest ≡ 125 ∷ 13 ∷ 10 ∷ [] = same-true (w .0 .rest) (125 ∷ 13 ∷ 10 ∷ []) y in
+          let split = run₁-split digitByte (x ++ (c ∷ 13 ∷ 10 ∷ [])) (v .0) (v .1) in
+          absurd (clash (v .0 .val) x (sym (split ∙ ap (λ (l : List ℕ). v .0 .val ++ l) (r ∙ s))))
+        where
+          yes : (m : ℕ) (b : Bool) → cond b (some m) none ≡ some k → b ≡ true
+          yes m true f = refl
+          yes m false f = absurd (Option·none-ne-some _ f)
 
-pub quote-announces-none : (x : List ℕ) → announced (x ++ (34 ∷ crlf)) ≡ none
-unfolding announced orElse openBytes
-quote-announces-none [] = refl
-quote-announces-none (b ∷ x) = go (eqb b 123) (quote-announces-none x)
-  where
-    go : (o : Bool) → announced (x ++ (34 ∷ crlf)) ≡ none → cond o (orElse (announcedAt (x ++ (34 ∷ crlf))) (announced (x ++ (34 ∷ crlf)))) (announced (x ++ (34 ∷ crlf))) ≡ none
-    go false e = e
-    go true e = rw (not-at x, e)
+  none-at-the-end : announcedAt crlf ≡ none
+  unfolding openBytes openTokens announcedAt
+  none-at-the-end = refl
+
+  pub other-announces-none : (x : List ℕ) → announced (x ++ (c ∷ crlf)) ≡ none
+  unfolding announced orElse openBytes
+  other-announces-none [] = go (eqb c 123)
+    where
+      go : (o : Bool) → cond o (orElse (announcedAt crlf) none) none ≡ none
+      go false = refl
+      go true = rw none-at-the-end
+  other-announces-none (b ∷ x) = go (eqb b 123) (other-announces-none x)
+    where
+      go : (o : Bool) → announced (x ++ (c ∷ crlf)) ≡ none
+          → cond o (orElse (announcedAt (x ++ (c ∷ crlf))) (announced (x ++ (c ∷ crlf)))) (announced (x ++ (c ∷ crlf))) ≡ none
+      go false e = e
+      go true e = rw (not-at x, e)

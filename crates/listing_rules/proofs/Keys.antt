@@ -45,6 +45,8 @@ use Rattle.listing_rules.specs.Walk.{collectedBy}
 use Rattle.listing_rules.specs.Demand3.{walkOptions, meetingNames, meetingAncestors, declaredWalk, walkAnswer, scratchTooSmall, foundTooSmall}
 use Rattle.listing_rules.specs.Demand3.{pendingTooSmall, tooSmall, Demand3}
 use Rattle.listing_rules.specs.Evidence.{listCommand, listLines, lineName, linesFor, listedIn, childInfoIn, meetingBelow, takesAway}
+use Rattle.listing_rules.specs.Joining.{lineOrder, mergedLines, lawfulSet, optionsFrom, patternsAfter, packedPatterns, patternsFill, digitOf}
+use Rattle.listing_rules.specs.Joining.{decimalText, stringText, canStand, selectionText, returnsAny, returnText, joinedText, joinedLine, joinedInto}
 use Rattle.listing_rules.specs.Frames.{digit, bytesOf, commandFrame, walkFrame, frameOf, readFrame, hexDigit, hex, answerLine, refusalLine}
 use Rattle.listing_rules.specs.Frames.{replyLine, walkLine, answering, addRow, addEntry, framed, step, start, fed, behind, fedAll, atEnd}
 use Rattle.listing_rules.specs.Frames.{programOutput, recordsFrom, filledTo, programStore, keptSeen, keptStore, addRowTo, commandOver, accepted}
@@ -160,6 +162,11 @@ unfoldable pub openEvidence : Unit {0}
 unfolding listCommand listLines lineName linesFor listedIn childInfoIn meetingBelow takesAway
 openEvidence = tt
 
+unfoldable pub openJoining : Unit {0}
+unfolding lineOrder mergedLines lawfulSet optionsFrom patternsAfter packedPatterns patternsFill digitOf decimalText stringText canStand selectionText
+    returnsAny returnText joinedText joinedLine joinedInto
+openJoining = tt
+
 unfoldable pub openFrames : Unit {0}
 unfolding digit bytesOf commandFrame walkFrame frameOf readFrame hexDigit hex answerLine refusalLine replyLine walkLine recordsFrom filledTo
     programStore keptSeen
@@ -171,5 +178,5 @@ unfoldable pub openAll : Unit {0}
 unfolding openBytes openLists openOrders openNames openFlags openTable openRecords openReaders openSubscriptions openNamespaces openTokens openFeeder
     openOptions
     openCommand openMatch openListing openLines openLsub openServer openSeries openCompaction openReader openWalk openDemand3
-    openEvidence openFrames
+    openEvidence openJoining openFrames
 openAll = tt

@@ -66,3 +66,8 @@ pub mod EvidenceLaws
 pub mod GainedRows
 pub mod StoreEvidence
 pub mod EvidenceTables
+pub mod JoinedPatterns
+pub mod JoinLaws
+pub mod JoinedShape
+pub mod JoinedLine
+pub mod JoiningTables

@@ -14,7 +14,7 @@ use Rattle.listing_rules.specs.Demand3.{walkOptions}
 use Rattle.listing_rules.proofs.Bools.{and-r}
 use Rattle.listing_rules.proofs.ListLaws.{all-append}
 use Rattle.listing_rules.proofs.TokenLaws.{quotedText-escaped, length-escaped, all-escaped}
-use Rattle.listing_rules.proofs.FeederLaws.{plain-line, quote-announces-none}
+use Rattle.listing_rules.proofs.FeederLaws.{plain-line, other-announces-none}
 use Rattle.listing_rules.proofs.LawfulNames.{name-range}
 
 -- a byte of a name may stand in a line
@@ -110,7 +110,7 @@ announces-none d s r n =
     ap announced (append-assoc (before d s r) (escaped n ++ text "\" \"%\"") crlf
     ∙ ap (λ (l : List ℕ). before d s r ++ l) (append-assoc (escaped n) (text "\" \"%\"") crlf) ∙ sym (append-assoc (before d s r) (escaped n) _)
     ∙ sym (append-assoc (before d s r ++ escaped n) (text "\" \"%") (34 ∷ crlf)))
-    ∙ quote-announces-none ((before d s r ++ escaped n) ++ text "\" \"%")
+    ∙ other-announces-none 34 refl ((before d s r ++ escaped n) ++ text "\" \"%")
 
 pub sent : (o : ℕ) (n : List ℕ) → lawfulByte o ≡ true → all lineByte n ≡ true → length n ≤ 254 → parsed (commandLine o n) ≡ listing (text "w") (walkOptions o) ((n ++ text "%") ∷ [])
 unfolding parsed orRefuse walkOptions lawfulByte

@@ -90,6 +90,17 @@ run₁-shorter p t g k = go (run p t) k (run-split p t)
     go : (h : Got (List ℕ)) → cond (isEmpty (h .val)) none (some h) ≡ some g → t ≡ h .val ++ h .rest → length (g .rest) < length t
     go h k e = nonempty (h .val) (h .rest) k e
 
+-- a run ends at the first byte that does not pass
+pub run-ends : (p : ℕ → Bool) (u : List ℕ) (c : ℕ) (t : List ℕ) → all p u ≡ true → p c ≡ false → run p (u ++ (c ∷ t)) ≡ got u (c ∷ t)
+unfolding run all withFirst got
+run-ends p [] c t h e = rw e
+run-ends p (b ∷ u) c t h e = rw (and-l (p b) (all p u) h, run-ends p u c t (and-r (p b) (all p u) h) e)
+
+pub run₁-ends : (p : ℕ → Bool) (u : List ℕ) (c : ℕ) (t : List ℕ) → isEmpty u ≡ false → all p u ≡ true → p c ≡ false
+    → run₁ p (u ++ (c ∷ t)) ≡ some (got u (c ∷ t))
+unfolding run₁ unlessEmpty got
+run₁-ends p u c t n h e = rw (run-ends p u c t h e, n)
+
 pub atom-shorter : (t : List ℕ) (g : Got (List ℕ)) → atom t ≡ some g → length (g .rest) < length t
 unfolding atom
 atom-shorter t g k = run₁-shorter atomByte t g k

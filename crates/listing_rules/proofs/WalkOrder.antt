@@ -13,7 +13,7 @@ module _ {A B C : Type 0} (c : B → B → Ordering) (d : C → C → Ordering) 
   abbrev pub both : A → A → Ordering
   both a b = thenBy (c (f a) (f b)) (d (g a) (g b))
 
-  both-total : Total both
+  pub both-total : Total both
   unfolding thenBy
   both-total =
       record {

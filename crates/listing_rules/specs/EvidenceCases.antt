@@ -1,7 +1,7 @@
--- Cases of W10 over small tables, each sentence with what it says and with what is so where a premise is left out (`evidence-holds` of
+-- Cases of W10 and W11 over small tables, each sentence with what it says and with what is so where a premise is left out (`evidence-holds` of
 -- proofs/EvidenceTables).
 use mathlib.Core.List.{List, [], _∷_, _++_, map}
-use mathlib.Core.Bool.{Bool, cond, _&&_}
+use mathlib.Core.Bool.{Bool, cond, _&&_, not}
 use Prim.Native.Nat.{ℕ, suc}
 use Prim.Native.String.{String}
 use Rattle.listing_rules.specs.Bytes.{text}
@@ -10,6 +10,7 @@ use Rattle.listing_rules.specs.Readers.{packedSeen}
 use Rattle.listing_rules.specs.Server.{Reply, refusal, answered, servedTo, commanded}
 use Rattle.listing_rules.specs.Series.{commandedAll}
 use Rattle.listing_rules.specs.Evidence.{listLines, lineName, childInfoIn}
+use Rattle.listing_rules.specs.Joining.{mergedLines}
 use Rattle.listing_rules.specs.Cases.{mailbox, mailboxFor, times, sends, Lent, lentStore, sentLine, sameNames}
 use Rattle.listing_rules.specs.ExpertSheet.{tableE}
 
@@ -19,6 +20,14 @@ pub data EvidenceCase : Type 0 where
   lists : ℕ → List ℕ → String → List String → List String → EvidenceCase
   -- the answer to a reader's command over records, after these lines of reader 0
   listsAfter : Lent → List String → ℕ → String → List String → List String → EvidenceCase
+  -- of reader 0: the LIST lines of the third command's answer are those of the two others merged
+  merges : List ℕ → String → String → String → EvidenceCase
+  -- they are not
+  mergesNot : List ℕ → String → String → String → EvidenceCase
+  -- of reader 0: the two commands have the same LIST lines
+  listsAlike : List ℕ → String → String → EvidenceCase
+  -- the lines of the first two lists, merged, are the third
+  mergesLines : List String → List String → List String → EvidenceCase
 
 -- the bytes of an answer; none for a refusal
 abbrev pub bytesIn : Reply → List ℕ
@@ -28,8 +37,19 @@ bytesIn (answered a) = a
 abbrev readsSo : List ℕ → List String → List String → Bool
 readsSo a ns cs = sameNames (map lineName (listLines a)) (map text ns) && sameNames (keep (childInfoIn a) (map text ns)) (map text cs)
 
+-- the LIST lines that reader 0 is answered over a packed table
+abbrev linesOver : List ℕ → String → List (List ℕ)
+linesOver t l = listLines (bytesIn (servedTo 0 (packedSeen 0 t) [] (sends l) (times 4096 0)))
+
+abbrev merged : List ℕ → String → String → String → Bool
+merged t l m k = sameNames (linesOver t k) (mergedLines (linesOver t l) (linesOver t m))
+
 abbrev pub holdsEvidence : EvidenceCase → Bool
 holdsEvidence (lists reader t l ns cs) = readsSo (bytesIn (servedTo reader (packedSeen reader t) [] (sends l) (times 4096 0))) ns cs
+holdsEvidence (merges t l m k) = merged t l m k
+holdsEvidence (mergesNot t l m k) = not (merged t l m k)
+holdsEvidence (listsAlike t l m) = sameNames (linesOver t l) (linesOver t m)
+holdsEvidence (mergesLines ks ls ms) = sameNames (mergedLines (map sends ks) (map sends ls)) (map sends ms)
 holdsEvidence (listsAfter s ls reader l ns cs) =
     readsSo (bytesIn (commanded reader (commandedAll (lentStore s) (map (λ x. sentLine (sends x)) ls)) [] (sends l) (times 4096 0) .reply)) ns cs
 
@@ -106,4 +126,45 @@ subscriptions-taken =
     listsAfter (baz 0x0003) ("b UNSUBSCRIBE Foo/Baz" ∷ []) 0 "a LIST (SUBSCRIBED RECURSIVEMATCH) \"\" (%)" [] []
     ∷ listsAfter (baz 0x0003) ("b SUBSCRIBE Moo" ∷ []) 0 "a LIST (SUBSCRIBED) \"\" (*)" ("Foo/Baz" ∷ "Moo" ∷ []) []
     ∷ listsAfter (baz 0x0003) ("b SUBSCRIBE Moo" ∷ "c UNSUBSCRIBE Moo" ∷ []) 0 "a LIST (SUBSCRIBED) \"\" (*)" ("Foo/Baz" ∷ []) []
+    ∷ []
+
+-- W11: "the LIST lines of the joined command are those of the two merged in name order with equal lines once": patterns with names in common, W1's
+-- level Foo in one of them alone, INBOX in another spelling, criteria selected, attributes returned; Foo before Foo-x before Foo/Bar
+abbrev pub commands-joined : List EvidenceCase
+commands-joined =
+    merges tableE "a LIST () \"\" (Foo% Moo)" "b LIST () \"\" (*o F*)" "c LIST () \"\" (Foo% Moo *o F*)"
+    ∷ merges tableE "a LIST () \"\" (Foo/*)" "b LIST \"\" (%)" "c LIST () \"\" (Foo/* %)"
+    ∷ merges tableE "a LIST \"\" (in%)" "b LIST \"\" (INBOX Moo)" "c LIST \"\" (in% INBOX Moo)"
+    ∷ merges tree "a LIST (SUBSCRIBED REMOTE) \"\" (D/*)" "b LIST (SUBSCRIBED REMOTE) \"\" (*/F A)" "c LIST (SUBSCRIBED REMOTE) \"\" (D/* */F A)"
+    ∷ merges tree "a LIST \"\" (A) RETURN (CHILDREN)" "b LIST \"\" (*B*) RETURN (CHILDREN)" "c LIST \"\" (A *B*) RETURN (CHILDREN)"
+    ∷ []
+
+-- Each premise is needed. RECURSIVEMATCH: Foo stands there for Foo/Baz alone, which the second command's pattern matches. Extended: an empty pattern
+-- asks for the root line. One set of options, one reference: other attributes, other names.
+abbrev pub commands-not-joined : List EvidenceCase
+commands-not-joined =
+    mergesNot tableE "a LIST (SUBSCRIBED RECURSIVEMATCH) \"\" (%)" "b LIST (SUBSCRIBED RECURSIVEMATCH) \"\" (Foo/*)"
+    "c LIST (SUBSCRIBED RECURSIVEMATCH) \"\" (% Foo/*)"
+    ∷ mergesNot tableE "a LIST \"\" \"\"" "b LIST \"\" Moo" "c LIST \"\" (\"\" Moo)"
+    ∷ mergesNot tableE "a LIST \"\" (Moo)" "b LIST \"\" (INBOX)" "c LIST \"\" (Moo INBOX) RETURN (CHILDREN)"
+    ∷ mergesNot tableE "a LIST \"\" (Moo)" "b LIST \"Foo/\" (*)" "c LIST \"\" (Moo *)"
+    ∷ []
+
+-- "indifferent to order, to grouping, and to joining a list with itself", with RECURSIVEMATCH too
+abbrev pub joins-alike : List EvidenceCase
+joins-alike =
+    listsAlike tableE "a LIST () \"\" (Foo% Moo *z)" "b LIST () \"\" (*z Foo% Moo)"
+    ∷ listsAlike tableE "a LIST (SUBSCRIBED RECURSIVEMATCH) \"\" (% Foo/*)" "b LIST (SUBSCRIBED RECURSIVEMATCH) \"\" (Foo/* %)"
+    ∷ listsAlike tableE "a LIST (SUBSCRIBED RECURSIVEMATCH) \"\" (%)" "b LIST (SUBSCRIBED RECURSIVEMATCH) \"\" (% %)"
+    ∷ listsAlike tableE "a LIST \"\" (F* in%)" "b LIST \"\" (F* in% F* in%)"
+    ∷ []
+
+-- lines as such: by name, equal ones once, two different ones of one name both kept
+abbrev pub lines-merged : List EvidenceCase
+lines-merged =
+    mergesLines ("* LIST () \"/\" \"b\"" ∷ "* LIST () \"/\" \"a-\"" ∷ []) ("* LIST () \"/\" \"a/x\"" ∷ "* LIST () \"/\" \"b\"" ∷ [])
+    ("* LIST () \"/\" \"a-\"" ∷ "* LIST () \"/\" \"a/x\"" ∷ "* LIST () \"/\" \"b\"" ∷ [])
+    ∷ mergesLines ("* LIST (\\Remote) \"/\" \"a\"" ∷ []) ("* LIST (\\Marked) \"/\" \"a\"" ∷ "* LIST () \"/\" \"a\"" ∷ [])
+    ("* LIST () \"/\" \"a\"" ∷ "* LIST (\\Marked) \"/\" \"a\"" ∷ "* LIST (\\Remote) \"/\" \"a\"" ∷ [])
+    ∷ mergesLines [] [] []
     ∷ []

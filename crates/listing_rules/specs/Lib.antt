@@ -24,8 +24,10 @@ pub mod Reader
 pub mod Walk
 pub mod Demand3
 pub mod Evidence
+pub mod Joining
 pub mod Frames
 pub mod Cases
 pub mod ExpertSheet
 pub mod Limits
 pub mod EvidenceCases
+pub mod JoiningCases

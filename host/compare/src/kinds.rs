@@ -10,6 +10,7 @@ use crate::commands::{command, damaged, hostile_pattern, push_value};
 use crate::damage::{damaged_table, namespace_list};
 use crate::edit_sessions;
 use crate::gains;
+use crate::joins;
 use crate::levels::levels_above;
 use crate::limits;
 use crate::literals;
@@ -75,8 +76,11 @@ pub fn kinds() -> impl Iterator<Item = Kind> {
     sessions.into_iter().chain(laws).map(|(name, maker)| Kind { name, maker })
 }
 
-const LAWS: [(&str, Law); 2] =
-    [("more patterns", more_patterns::LAW), ("rows that gain subscriptions", gains::LAW)];
+const LAWS: [(&str, Law); 3] = [
+    ("more patterns", more_patterns::LAW),
+    ("rows that gain subscriptions", gains::LAW),
+    ("joined requests", joins::LAW),
+];
 
 const GENERATORS: [(&str, Generator); 37] = [
     ("a table and commands", commands_over_a_table),

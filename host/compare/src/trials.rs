@@ -154,16 +154,17 @@ impl Trial {
     }
 }
 
-/// The LIST lines of an answer, by their names.
+/// The LIST lines of an answer, which ascend by their names.
 fn listing_of(answer: &[u8], read: ReadLine) -> Result<Listing, String> {
     let mut listing = Listing::new();
     let lines = answer.split_inclusive(|&byte| byte == b'\n');
     for line in lines.take_while(|line| line.starts_with(b"* LIST")) {
         let parts = read(line).ok_or_else(|| format!("a line is not read: {}", shown(line)))?;
-        let name = parts.name.clone();
-        if listing.insert(name, Listed { parts, bytes: line.to_vec() }).is_some() {
-            return Err(format!("a name is listed twice: {}", shown(line)));
+        let last = listing.last_key_value().map(|(name, _)| name);
+        if last.is_some_and(|last| *last >= parts.name) {
+            return Err(format!("lines do not ascend by name: {}", shown(line)));
         }
+        listing.insert(parts.name.clone(), Listed { parts, bytes: line.to_vec() });
     }
     Ok(listing)
 }

@@ -1,4 +1,4 @@
-//! What must hold between the answers to several commands (document 02, W10), by the proved library, its
+//! What must hold between the answers to several commands (document 02, W10 and W11), by the proved library, its
 //! line reader included.
 
 use second::{Criteria, Line, Record};
@@ -6,6 +6,7 @@ use second::{Criteria, Line, Record};
 use super::both::{Asked, Mailboxes, ANSWER, PROVED};
 use super::tally::Tally;
 use crate::gains;
+use crate::joins;
 use crate::more_patterns;
 use crate::random::Random;
 use crate::records::{laid_out, Layout};
@@ -43,6 +44,11 @@ pub fn gained_tables(tally: &mut Tally) {
     });
     tally.need(gains::needed_of_tables);
     tally.need_after(MANY, gains::needed_jointly);
+}
+
+/// Two requests made one.
+pub fn joins(tally: &mut Tally) {
+    judge_law(tally, "library: joined requests", joins::LAW);
 }
 
 fn judge_law(tally: &mut Tally, stream: &str, law: Law) {

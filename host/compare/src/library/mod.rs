@@ -24,7 +24,7 @@ pub use tally::Tally;
 /// A name, and what compares.
 pub type Group = (&'static str, fn(&mut Tally));
 
-pub const GROUPS: [Group; 33] = [
+pub const GROUPS: [Group; 34] = [
     ("every set of attributes, written and read back", lines::every_set),
     ("every number of a set of criteria", lines::every_criteria_byte),
     ("names at the limits, buffers on both sides of the line's length", lines::names_and_rooms),
@@ -58,4 +58,5 @@ pub const GROUPS: [Group; 33] = [
     ("laws: more patterns", laws::more_patterns),
     ("laws: rows that gain subscriptions by commands", laws::gains),
     ("laws: tables whose rows gain subscriptions", laws::gained_tables),
+    ("laws: joined requests", laws::joins),
 ];

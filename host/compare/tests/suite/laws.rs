@@ -1,4 +1,4 @@
-//! What must hold between the answers to several commands (document 02, W10), judged over the second
+//! What must hold between the answers to several commands (document 02, W10 and W11), judged over the second
 //! program's answers: the trials reach what they are about, and a wrong answer does not pass.
 
 use std::slice;
@@ -7,7 +7,7 @@ use compare::random::Random;
 use compare::reached::Reached;
 use compare::tables::NewRow;
 use compare::trials::{given_of, read_by_second, unreached, Given, Law, Trial, JUDGED};
-use compare::{gains, kinds, more_patterns};
+use compare::{gains, joins, kinds, more_patterns};
 use second::frames::Program;
 
 const TRIALS: u64 = 400;
@@ -88,6 +88,24 @@ fn gained_tables_lose_nothing() {
     assert_eq!(unreached(gains::needed_of_tables, &reached), [""; 0]);
 }
 
+#[test]
+fn joined_requests_are_merged() {
+    let least = [
+        (JUDGED, 10_000),
+        ("the merge does not hold under RECURSIVEMATCH", 100),
+        ("both list a name", 1_500),
+        ("each lists a name of its own", 400),
+        ("a join is refused with 8", 1_000),
+        ("another order", 600),
+        ("another order under RECURSIVEMATCH", 500),
+        ("another grouping", 300),
+        ("another grouping under RECURSIVEMATCH", 300),
+        ("a list with itself", 500),
+        ("a list with itself under RECURSIVEMATCH", 400),
+    ];
+    check_law(joins::LAW, &least);
+}
+
 /// The LIST lines of an answer.
 fn lines_of(given: &Given) -> Vec<Vec<u8>> {
     let Ok(answer) = given else { return Vec::new() };
@@ -157,7 +175,9 @@ fn a_name_that_should_go_does_not_pass() {
     let with_gone = |before: &[Vec<u8>], after: &[Vec<u8>]| {
         let is_gone = |line: &&Vec<u8>| after.iter().all(|one| name_of(one) != name_of(line));
         let gone = before.iter().find(is_gone)?;
-        Some([after, slice::from_ref(gone)].concat())
+        let mut lines = [after, slice::from_ref(gone)].concat();
+        lines.sort_by_key(|line| name_of(line));
+        Some(lines)
     };
     check_wrong(more_patterns::LAW, with_gone, "stays, though");
 }
@@ -191,6 +211,40 @@ fn a_lost_childinfo_does_not_pass() {
     check_wrong(gains::LAW, without_childinfo, "CHILDINFO of");
 }
 
+/// Whether a command selects RECURSIVEMATCH.
+fn is_recursive(line: &[u8]) -> bool {
+    let word = b"RECURSIVEMATCH";
+    line.windows(word.len()).any(|part| part.eq_ignore_ascii_case(word))
+}
+
+/// A line less in the last of two answers that must be the same, or in that of a join without
+/// RECURSIVEMATCH.
+#[test]
+fn a_wrong_join_does_not_pass() {
+    let mut reached = Reached::default();
+    for seed in 0..WRONG {
+        let (trial, given) = tried(joins::LAW, seed);
+        for places in trial.claims.iter().map(|claim| claim.places()) {
+            let (&last, others) = places.split_last().expect("places");
+            let lines = lines_of(&given[last]);
+            let is_free = others.len() == 2 && is_recursive(&trial.asked[last].1);
+            if lines.is_empty() || is_free || others.contains(&last) {
+                continue;
+            }
+            let mut wrong = given.clone();
+            wrong[last] = with_lines(&given[last], &lines[1..]);
+            let reason = trial.judge(&wrong, read_by_second).expect_err("a wrong join");
+            reached.add(reason.lines().next().expect("a line"));
+        }
+    }
+    reached.check(&[
+        ("the joined lines are not those of the two merged", 50),
+        ("another order gives other lines", 10),
+        ("another grouping gives other lines", 10),
+        ("a list with itself gives other lines", 10),
+    ]);
+}
+
 /// A refusal, a line that is no line, and an answer too few.
 #[test]
 fn no_answer_does_not_pass() {
@@ -201,7 +255,7 @@ fn no_answer_does_not_pass() {
         let no_line = Ok(b"* LIST () \"/\" Foo\r\na OK done\r\n".to_vec());
         assert!(is_refused(&trial, &given, at, no_line, "a line is not read"));
         let twice = Ok(b"* LIST () \"/\" \"Foo\"\r\n".repeat(2));
-        assert!(is_refused(&trial, &given, at, twice, "a name is listed twice"));
+        assert!(is_refused(&trial, &given, at, twice, "lines do not ascend"));
         assert!(trial.judge(&given[1..], read_by_second).is_err());
     }
 }

@@ -47,5 +47,6 @@ edit_entry('exports', 'luspemaro_compact', ('compaction', 'compact_words'), MOVI
            [Clause('result', 'r ≡ c .number', 'e ∙ a .number'), Clause('area', 'area′ ≡ c .store .area', 'e ∙ a .area')], '')
 
 entry('exports', 'luspemaro_collect', ('exports', 'collect_words'), WALK, OUTCOME,
-      collected(f'r ≡ walkOutcome (collectedBy reader t {LENT})', f'e ∙ ap walkOutcome ({COLLECTED_ALIKE})', f'(collectedOf reader t {LENT})'),
-      COLLECTOR + OUTCOMES + '{walkOutcome}\n')
+      collected(f'r ≡ walkOutcome (collectedBy reader t {LENT})', f'e ∙ ap walkOutcome ({COLLECTED_ALIKE})', f'(collectedOf reader t {LENT})')
+      + [Clause('numbers', 'allowedOutcome r ≡ true', 'e')],
+      'use mathlib.Core.Bool.{true}\n' + COLLECTOR + OUTCOMES + '{walkOutcome, allowedOutcome}\n')

@@ -86,12 +86,12 @@ abbrev pub reply : Table → List ℕ → List ℕ → Step (List ℕ)
 reply table l scratch = replied (limited (length scratch) (answer table [] l))
 
 module _ (table : Table) (l scratch : List ℕ) where
-  server-refused : {r : Written} (k : ℕ) → r ≡ writtenIs (served table [] l scratch) → r ≡ Refused k → reply table l scratch ≡ stop k
+  server-refused : {r : Written} (k : ℕ) → r ≡ writtenIs (served table [] l scratch) → r ≡ Refused k → reply table l scratch ≡ stop 9
   unfolding served writtenIs replied
   server-refused k a e = pick (served table [] l scratch) (sym a ∙ e)
     where
-      pick : (x : Reply) → writtenIs x ≡ Refused k → replied x ≡ stop k
-      pick (refusal j) z = let y : j ≡ k = cc in ap stop y
+      pick : (x : Reply) → writtenIs x ≡ Refused k → replied x ≡ stop 9
+      pick (refusal j) z = refl
       pick (answered a) z = cc
 
   pub server-done : {r : Written} (scratch′ : List ℕ) (len : ℕ) → r ≡ writtenIs (served table [] l scratch) → r ≡ Done len →
@@ -113,9 +113,9 @@ module _ (table : Table) (w : WalkOptions) (reference scratch : List ℕ) {line 
   asks-as found pending s x e = ap (λ (y : Step (List ℕ)). y then λ a. answerStep w a found pending s) (ap (λ (l : List ℕ). reply table l scratch) (sym (F .bytes)) ∙ e)
 
   pub asked-refused : {r : Written} {k : ℕ} → r ≡ writtenIs (served table [] (take n line) scratch) → r ≡ Refused k →
-      (found pending : List ℕ) (s : Lists) → commandStep table w reference scratch found pending s ≡ stop k
+      (found pending : List ℕ) (s : Lists) → commandStep table w reference scratch found pending s ≡ stop 9
   unfolding _then_
-  asked-refused {k} a e found pending s = asks-as found pending s (stop k) (server-refused table (take n line) scratch k a e)
+  asked-refused {k} a e found pending s = asks-as found pending s (stop 9) (server-refused table (take n line) scratch k a e)
 
   pub asked-done : {a : List ℕ} → reply table (take n line) scratch ≡ go a → (found pending : List ℕ) (s : Lists) →
       commandStep table w reference scratch found pending s ≡ answerStep w a found pending s

@@ -1,5 +1,5 @@
 -- The collector's promise: its answer's number, count and length, the order of its refusals, what a refused walk and one that came to
--- its end leave, and demand 3, which follows from the equations. Rests on the law of the definitions, `demand-3-holds`.
+-- its end leave, demand 3 and the numbers that it can give, which follow from the equations. Rests on the laws `demand-3-holds` and `walk-allowed`.
 use Rattle.listing_rules.proofs.Prelude.{_∙_, _≡_, ap, refl, subst, sym, false, true, List, [], _∷_, _+_, _<_, _≤_, ℕ, arith, length, replicate}
 use Rattle.listing_rules.proofs.Prelude.{le-leb, lt-leb}
 use Rattle.listing_rules.specs.Bytes.{oneOf}
@@ -8,8 +8,10 @@ use Rattle.listing_rules.specs.Readers.{isReader}
 use Rattle.listing_rules.specs.Walk.{lawfulByte, WalkReply, walkRefused, walked, walk, walkNumber, walkCount, foundLength, packed, zeroBehind}
 use Rattle.listing_rules.specs.Walk.{foundAfter, pendingAfter, scratchAfter, collected, walkBy, collectedBy}
 use Rattle.listing_rules.specs.Demand3.{Demand3, meetingNames, meetingAncestors, tooSmall}
+use Rattle.listing_rules.specs.Sending.{allowedWalk}
 use Rattle.listing_rules.proofs.Demand3.{demand-3-holds}
-use Rattle.collector.specs.Result.{collectedIs, numberOfWalk, countOf, lengthOf, collectedOf, scratchOf, foundOf, pendingOf, WholeWalk}
+use Rattle.listing_rules.proofs.OwnCommands.{walk-allowed}
+use Rattle.collector.specs.Result.{collectedIs, numberOfWalk, isAllowed, countOf, lengthOf, collectedOf, scratchOf, foundOf, pendingOf, WholeWalk}
 use Rattle.collector.specs.Result.{OwesDemand3}
 use Rattle.collector.specs.Ends.{Comes}
 use Rattle.collector.specs.declared.Collected.{Collected}
@@ -30,6 +32,12 @@ pub length-of-walk : (w : WalkReply) → lengthOf (collectedIs w) ≡ foundLengt
 unfolding lengthOf collectedIs foundLength
 length-of-walk (walkRefused k) = refl
 length-of-walk (walked count f p) = refl
+
+-- its number is one that a walk can have exactly if the reply's is
+pub allowed-of-walk : (w : WalkReply) → isAllowed (collectedIs w) ≡ allowedWalk w
+unfolding isAllowed collectedIs allowedWalk
+allowed-of-walk (walkRefused k) = refl
+allowed-of-walk (walked count f p) = refl
 
 -- 16, "1, 6, then the walk", over the table that the reader sees
 module _ (reader : ℕ) (table : Table) (o : ℕ) (scratch found pending : List ℕ) where
@@ -62,7 +70,8 @@ Promise reader all table o scratch found pending r s f p =
     (r ≡ collectedOf reader table o scratch found pending)
     × ((s ≡ scratchOf reader table o scratch found pending)
     × ((f ≡ foundOf reader table o scratch found pending)
-    × ((p ≡ pendingOf reader table o scratch found pending) × OwesDemand3 reader all table o scratch found pending r f p)))
+    × ((p ≡ pendingOf reader table o scratch found pending)
+    × (OwesDemand3 reader all table o scratch found pending r f p × (isAllowed r ≡ true)))))
 
 -- it is one of tables that are the same
 pub promise-same : (reader o : ℕ) (scratch found pending : List ℕ) (r : Collected) (s f p : List ℕ) {all every t u : Table} → all ≡ every → t ≡ u
@@ -78,8 +87,13 @@ module _ (reader : ℕ) (all table : Table) (o : ℕ) (scratch found pending : L
       f ≡ foundOf reader table o scratch found pending → p ≡ pendingOf reader table o scratch found pending →
       Promise reader all table o scratch found pending r s f p
   unfolding collectedBy walkBy
-  promised r s f p er es ef ep = (er, (es, (ef, (ep, whole))))
+  promised r s f p er es ef ep = (er, (es, (ef, (ep, (whole, numbers)))))
     where
+      numbers : isAllowed r ≡ true
+      numbers =
+          ap isAllowed er ∙ allowed-of-walk (collectedBy reader table o scratch found pending)
+          ∙ walk-allowed reader table o (length scratch) (length found) (length pending)
+
       whole : OwesDemand3 reader all table o scratch found pending r f p
       whole is ok lawful =
           let by : walkBy reader table o (length scratch) (length found) (length pending) ≡ walk table o (length scratch) (length found)

@@ -1,13 +1,16 @@
 -- What the collector answers and leaves in its buffers, in document 01's terms, and demand 3 for it.
 use mathlib.Core.Path.{_≡_}
-use mathlib.Core.Bool.{true}
+use mathlib.Core.Bool.{Bool, true}
 use mathlib.Core.List.{List}
 use Prim.Native.Nat.{ℕ}
+use lib.Dec.{leb}
 use lib.ListN.{length}
+use Rattle.listing_rules.specs.Bytes.{oneOf}
 use Rattle.listing_rules.specs.Table.{Table, passes}
 use Rattle.listing_rules.specs.Readers.{isReader}
 use Rattle.listing_rules.specs.Walk.{lawfulByte, WalkReply, walkRefused, walked, collectedBy, scratchAfter, foundAfter, pendingAfter}
 use Rattle.listing_rules.specs.Demand3.{Demand3}
+use Rattle.listing_rules.specs.Sending.{walkNumbers}
 use Rattle.collector.specs.declared.Collected.{Collected}
 use Rattle.collector.specs.declared.Collected.the-variants.{Done, Refused}
 
@@ -20,6 +23,11 @@ collectedIs (walked count f p) = Done count (length f)
 unfoldable pub numberOfWalk : Collected → ℕ
 numberOfWalk (Refused k) = k
 numberOfWalk (Done count len) = 0
+
+-- W12: no number but "1, 6, 9, 10, 11 and W9's 16"; a walk that is not refused has sent a command
+unfoldable pub isAllowed : Collected → Bool
+isAllowed (Refused k) = oneOf walkNumbers k
+isAllowed (Done count len) = leb 1 count
 
 unfoldable pub countOf : Collected → ℕ
 countOf (Refused k) = 0

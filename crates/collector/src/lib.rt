@@ -22,10 +22,11 @@ pub use packed::collect_packed;
 use records::no_words;
 use walk::walk_table;
 ghost use mathlib.Core.Path.{_≡_};
+ghost use mathlib.Core.Bool.{true};
 ghost use lib.ListN.{length, replicate};
 ghost use Rattle.listing_rules.specs.Walk.{collectedBy};
 ghost use Rattle.records.specs.Lent.{wordTable, wordSeen};
-ghost use Rattle.collector.specs.Result.{collectedOf, scratchOf, foundOf, pendingOf, OwesDemand3};
+ghost use Rattle.collector.specs.Result.{isAllowed, collectedOf, scratchOf, foundOf, pendingOf, OwesDemand3};
 ghost use Rattle.collector.specs.Ends.{Ends};
 
 // What a walk answers: how many commands were sent, and the length of what lies in found; or the number of the refusal.
@@ -58,6 +59,7 @@ pub fn collect_words(
     ensures demand3 { λ r. ⌜ OwesDemand3 reader (wordTable (now (area .entry)) (now (words .entry)) count)
         (wordSeen reader (now (area .entry)) (now (words .entry)) count) option (now (scratch .entry)) (now (found .entry)) (now (pending .entry))
         r (now (found .exit)) (now (pending .exit)) ⌝ }
+    ensures numbers { λ r. ⌜ isAllowed r ≡ true ⌝ }
 {
     clear(found);
     clear(pending);

@@ -8,11 +8,12 @@ use octets::clear;
 use octets::refusals;
 use records::no_words;
 ghost use mathlib.Core.Path.{_≡_};
+ghost use mathlib.Core.Bool.{true};
 ghost use lib.ListN.{length, replicate};
 ghost use Rattle.listing_rules.specs.Table.{packedTable};
 ghost use Rattle.listing_rules.specs.Readers.{packedSeen};
 ghost use Rattle.collector.specs.declared.Collected.the-variants.{Refused};
-ghost use Rattle.collector.specs.Result.{collectedOf, scratchOf, foundOf, pendingOf, OwesDemand3};
+ghost use Rattle.collector.specs.Result.{isAllowed, collectedOf, scratchOf, foundOf, pendingOf, OwesDemand3};
 
 // The walk of a reader over a packed table, turned into records first; else as `collect`.
 pub fn collect_packed(
@@ -33,6 +34,7 @@ pub fn collect_packed(
         option (now (scratch .entry)) (now (found .entry)) (now (pending .entry)) ⌝ }
     ensures demand3 { λ r. ⌜ OwesDemand3 reader (packedTable (now (table .entry))) (packedSeen reader (now (table .entry)))
         option (now (scratch .entry)) (now (found .entry)) (now (pending .entry)) r (now (found .exit)) (now (pending .exit)) ⌝ }
+    ensures numbers { λ r. ⌜ isAllowed r ≡ true ⌝ }
 {
     if MAX_READER < reader {
         return refuse(refusals::READER, scratch, found, pending);

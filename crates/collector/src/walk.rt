@@ -9,6 +9,7 @@ use super::lines::Taken;
 use super::lines::take_lines;
 use super::options::WalkOptions;
 use octets::Written;
+use octets::refusals;
 use octets::wide;
 use server::read_words;
 ghost use mathlib.Core.Path.{_≡_};
@@ -170,6 +171,6 @@ fn ask(
             };
             take_lines(&scratch[..len], options, found, pending, sent)
         }
-        Written::Refused(number) => Taken::Refused(number),
+        Written::Refused(_) => Taken::Refused(refusals::SHORT_BUFFER),
     }
 }

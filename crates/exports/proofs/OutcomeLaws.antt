@@ -1,5 +1,5 @@
 -- The C forms of the answers, case by case.
-use Rattle.listing_rules.proofs.Prelude.{_≡_, ap, refl, sym, List, ℕ}
+use Rattle.listing_rules.proofs.Prelude.{_≡_, ap, refl, sym, _&&_, true, List, ℕ, eqb, leb}
 use Rattle.octets.specs.declared.Written.{Written}
 use Rattle.octets.specs.declared.Written.the-variants.{Done, Refused}
 use Rattle.collector.specs.declared.Collected.{Collected}
@@ -10,13 +10,16 @@ use Rattle.line_reader.specs.declared.Line.{Line}
 use Rattle.line_reader.specs.declared.Line.the-variants.{Parts, Refused as NoLine}
 use Rattle.listing_rules.specs.Server.{Reply, refusal, answered, numberOf, lengthOf}
 use Rattle.listing_rules.specs.Reader.{Read, line, root, bad, nameBytes}
+use Rattle.listing_rules.specs.Bytes.{oneOf}
+use Rattle.listing_rules.specs.Sending.{walkNumbers}
+use Rattle.listing_rules.proofs.Bools.{or-l, or-r}
 use Rattle.listing_rules.proofs.Keys.{openOptions, openReader}
 use Rattle.listing_rules.specs.Walk.{WalkReply, walkRefused, walked, walkNumber, walkCount, foundLength}
 use Rattle.octets.specs.Written.{writtenIs}
 use Rattle.list_line.specs.Members.{setOf}
 use Rattle.line_reader.specs.Lines.{lineIs}
-use Rattle.collector.specs.Result.{collectedIs}
-use Rattle.exports.specs.Outcomes.{outcomeOf, walkOutcome, partsOf, writtenCase, collectedCase, lineCase}
+use Rattle.collector.specs.Result.{collectedIs, isAllowed}
+use Rattle.exports.specs.Outcomes.{outcomeOf, walkOutcome, allowedOutcome, partsOf, writtenCase, collectedCase, lineCase}
 
 pub written-done : (w : Written) (count n : ℕ) → w ≡ Done n → record { number = 0; length = n; count = count } ≡ writtenCase w count
 unfolding writtenCase
@@ -53,6 +56,12 @@ pub collected-case : (r : WalkReply) → collectedCase (collectedIs r) ≡ walkO
 unfolding collectedCase collectedIs walkOutcome walkNumber walkCount foundLength
 collected-case (walkRefused k) = refl
 collected-case (walked c f p) = refl
+
+-- and a walk's number is one that a walk can have
+pub collected-allowed : (w : Collected) → isAllowed w ≡ true → allowedOutcome (collectedCase w) ≡ true
+unfolding isAllowed allowedOutcome collectedCase
+collected-allowed (Walked count n) h = or-r (oneOf walkNumbers 0) (leb 1 count) h
+collected-allowed (Stopped k) h = or-l (oneOf walkNumbers k) (eqb k 0 && leb 1 0) h
 
 pub line-case : (r : Read) → lineCase (lineIs r) (nameBytes r) ≡ partsOf r
 unfolding lineCase lineIs partsOf setOf openOptions openReader

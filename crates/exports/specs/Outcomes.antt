@@ -1,12 +1,16 @@
 -- The answers of the entries, in the forms that C takes.
 use mathlib.Core.Path.{_≡_}
+use mathlib.Core.Bool.{Bool, _&&_, _||_}
 use mathlib.Core.List.{List}
 use Prim.Native.Nat.{ℕ}
+use lib.Dec.{eqb, leb}
 use lib.ListN.{length}
+use Rattle.listing_rules.specs.Bytes.{oneOf}
 use Rattle.listing_rules.specs.Options.{criteriaNumber}
 use Rattle.listing_rules.specs.Server.{Reply, numberOf, lengthOf, bufferAfter}
 use Rattle.listing_rules.specs.Reader.{Read, readNumber, attributesRead, nameRead, childInfoOf, nameBytes}
 use Rattle.listing_rules.specs.Walk.{WalkReply, walkNumber, walkCount, foundLength}
+use Rattle.listing_rules.specs.Sending.{walkNumbers}
 use Rattle.list_line.specs.Members.{setOf}
 use Rattle.octets.specs.declared.Written.{Written}
 use Rattle.octets.specs.declared.Written.the-variants.{Done, Refused}
@@ -27,6 +31,10 @@ outcomeOf r count = record { number = numberOf r; length = lengthOf r; count = c
 -- "The result has the number of commands sent and the length of found"; "Its refusals give count 0 and length 0"
 unfoldable pub walkOutcome : WalkReply → Outcome
 walkOutcome r = record { number = walkNumber r; length = foundLength r; count = walkCount r }
+
+-- W12: the number of a walk's outcome is "1, 6, 9, 10, 11 [or] W9's 16"; or it is 0, and a command was sent
+unfoldable pub allowedOutcome : Outcome → Bool
+allowedOutcome r = oneOf walkNumbers (r .number) || (eqb (r .number) 0 && leb 1 (r .count))
 
 -- what was read; "The reader's refusal gives no attributes and an empty name."
 unfoldable pub partsOf : Read → LineParts

@@ -22,6 +22,7 @@ use records::copy_back;
 use records::copy_in;
 use records::no_words;
 ghost use mathlib.Core.Path.{_≡_};
+ghost use mathlib.Core.Bool.{true};
 ghost use mathlib.Core.Bool.{_&&_};
 ghost use mathlib.Core.List.{map};
 ghost use Prim.Native.Nat.{_+_, _*_, _≤_};
@@ -41,7 +42,7 @@ ghost use Rattle.records.specs.Stores.{lentCommand, wordCommand, lentCompaction
 ghost use Rattle.pattern.specs.Steps.{countedIs};
 ghost use Rattle.list_line.specs.Members.{members};
 ghost use Rattle.collector.specs.Result.{collectedOf, scratchOf, foundOf, pendingOf, OwesDemand3};
-ghost use Rattle.exports.specs.Outcomes.{outcomeOf, Into, walkOutcome, partsOf};
+ghost use Rattle.exports.specs.Outcomes.{outcomeOf, Into, walkOutcome, allowedOutcome, partsOf};
 
 // Check 1: whether the first `count` records pass, over the area of name bytes.
 #[no_mangle]
@@ -181,6 +182,7 @@ pub extern "C" fn luspemaro_collect(
         option (now (scratch .entry)) (now (found .entry)) (now (pending .entry))
         (collectedOf reader (lentSeen reader (now (area .entry)) (now (records .entry)) count) option (now (scratch .entry)) (now (found .entry)) (now (pending .entry)))
         (now (found .exit)) (now (pending .exit)) ⌝ }
+    ensures numbers { λ r. ⌜ allowedOutcome r ≡ true ⌝ }
 {
     let mut words = no_words();
     let n = copy_in(records, count, &mut words);
@@ -220,6 +222,7 @@ fn collect_words(
         option (now (scratch .entry)) (now (found .entry)) (now (pending .entry))
         (collectedOf reader (wordSeen reader (now (area .entry)) (now (words .entry)) count) option (now (scratch .entry)) (now (found .entry)) (now (pending .entry)))
         (now (found .exit)) (now (pending .exit)) ⌝ }
+    ensures numbers { λ r. ⌜ allowedOutcome r ≡ true ⌝ }
 {
     collected_outcome(collector::collect_words(
         words,
@@ -255,6 +258,7 @@ pub extern "C" fn luspemaro_collect_packed(
         (packedSeen reader (now (table .entry))) option (now (scratch .entry)) (now (found .entry)) (now (pending .entry))
         (collectedOf reader (packedSeen reader (now (table .entry))) option (now (scratch .entry)) (now (found .entry)) (now (pending .entry)))
         (now (found .exit)) (now (pending .exit)) ⌝ }
+    ensures numbers { λ r. ⌜ allowedOutcome r ≡ true ⌝ }
 {
     collected_outcome(collector::collect_packed(table, reader, option, scratch, found, pending))
 }

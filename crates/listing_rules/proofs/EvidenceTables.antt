@@ -1,7 +1,8 @@
--- The cases of W10 and W11 hold. Rests on Keys alone: each table is computed, and one that does not hold is named by the claim that fails.
+-- The cases of W10, W11 and W12 hold. Rests on Keys alone: each table is computed, and one that does not hold is named by the claim that fails.
 use Rattle.listing_rules.proofs.Prelude.{_≡_, refl, []}
 use Rattle.listing_rules.specs.EvidenceCases.{failuresOf, patterns-added, recursive-patterns-added, not-extended, subscriptions-gained}
 use Rattle.listing_rules.specs.EvidenceCases.{subscriptions-taken, commands-joined, commands-not-joined, joins-alike, lines-merged}
+use Rattle.listing_rules.specs.EvidenceCases.{walk-commands}
 use Rattle.listing_rules.proofs.Keys.{openAll}
 
 patterns-added-hold : failuresOf 1 patterns-added ≡ []
@@ -40,6 +41,10 @@ lines-merged-hold : failuresOf 1 lines-merged ≡ []
 unfolding openAll
 lines-merged-hold = refl
 
+walk-commands-hold : failuresOf 1 walk-commands ≡ []
+unfolding openAll
+walk-commands-hold = refl
+
 -- every case in one claim
 pub record EvidenceHolds : Type 0 where
   pub patterns-added-stand : failuresOf 1 patterns-added ≡ []
@@ -51,6 +56,7 @@ pub record EvidenceHolds : Type 0 where
   pub commands-not-joined-stand : failuresOf 1 commands-not-joined ≡ []
   pub joins-alike-stand : failuresOf 1 joins-alike ≡ []
   pub lines-merged-stand : failuresOf 1 lines-merged ≡ []
+  pub walk-commands-stand : failuresOf 1 walk-commands ≡ []
 
 pub evidence-holds : EvidenceHolds
 evidence-holds =
@@ -64,4 +70,5 @@ evidence-holds =
       commands-not-joined-stand = commands-not-joined-hold;
       joins-alike-stand = joins-alike-hold;
       lines-merged-stand = lines-merged-hold;
+      walk-commands-stand = walk-commands-hold;
     }

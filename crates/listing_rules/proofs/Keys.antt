@@ -44,6 +44,7 @@ use Rattle.listing_rules.specs.Walk.{walkNumber, walkCount, foundLength,
 use Rattle.listing_rules.specs.Walk.{collectedBy}
 use Rattle.listing_rules.specs.Demand3.{walkOptions, meetingNames, meetingAncestors, declaredWalk, walkAnswer, scratchTooSmall, foundTooSmall}
 use Rattle.listing_rules.specs.Demand3.{pendingTooSmall, tooSmall, Demand3}
+use Rattle.listing_rules.specs.Sending.{goingOn, referencesFrom, references, commandsSent, walkNumbers, allowedWalk}
 use Rattle.listing_rules.specs.Evidence.{listCommand, listLines, lineName, linesFor, listedIn, childInfoIn, meetingBelow, takesAway}
 use Rattle.listing_rules.specs.Joining.{lineOrder, mergedLines, lawfulSet, optionsFrom, patternsAfter, packedPatterns, patternsFill, digitOf}
 use Rattle.listing_rules.specs.Joining.{decimalText, stringText, canStand, selectionText, returnsAny, returnText, joinedText, joinedLine, joinedInto}
@@ -158,6 +159,10 @@ unfoldable pub openDemand3 : Unit {0}
 unfolding walkOptions meetingNames meetingAncestors declaredWalk walkAnswer scratchTooSmall foundTooSmall pendingTooSmall tooSmall Demand3
 openDemand3 = tt
 
+unfoldable pub openSending : Unit {0}
+unfolding goingOn referencesFrom references commandsSent walkNumbers allowedWalk
+openSending = tt
+
 unfoldable pub openEvidence : Unit {0}
 unfolding listCommand listLines lineName linesFor listedIn childInfoIn meetingBelow takesAway
 openEvidence = tt
@@ -178,5 +183,5 @@ unfoldable pub openAll : Unit {0}
 unfolding openBytes openLists openOrders openNames openFlags openTable openRecords openReaders openSubscriptions openNamespaces openTokens openFeeder
     openOptions
     openCommand openMatch openListing openLines openLsub openServer openSeries openCompaction openReader openWalk openDemand3
-    openEvidence openJoining openFrames
+    openSending openEvidence openJoining openFrames
 openAll = tt

@@ -68,6 +68,7 @@ pub mod StoreEvidence
 pub mod EvidenceTables
 pub mod JoinedPatterns
 pub mod JoinLaws
+pub mod OwnCommands
 pub mod JoinedShape
 pub mod JoinedLine
 pub mod JoiningTables

@@ -1,7 +1,8 @@
--- Cases of W10 and W11 over small tables, each sentence with what it says and with what is so where a premise is left out (`evidence-holds` of
+-- Cases of W10, W11 and W12 over small tables, each sentence with what it says and with what is so where a premise is left out (`evidence-holds` of
 -- proofs/EvidenceTables).
 use mathlib.Core.List.{List, [], _∷_, _++_, map}
 use mathlib.Core.Bool.{Bool, cond, _&&_, not}
+use lib.Dec.{eqb}
 use Prim.Native.Nat.{ℕ, suc}
 use Prim.Native.String.{String}
 use Rattle.listing_rules.specs.Bytes.{text}
@@ -9,6 +10,8 @@ use Rattle.listing_rules.specs.Lists.{keep, joined}
 use Rattle.listing_rules.specs.Readers.{packedSeen}
 use Rattle.listing_rules.specs.Server.{Reply, refusal, answered, servedTo, commanded}
 use Rattle.listing_rules.specs.Series.{commandedAll}
+use Rattle.listing_rules.specs.Walk.{Step, stop, go, replied}
+use Rattle.listing_rules.specs.Sending.{commandsSent}
 use Rattle.listing_rules.specs.Evidence.{listLines, lineName, childInfoIn}
 use Rattle.listing_rules.specs.Joining.{mergedLines}
 use Rattle.listing_rules.specs.Cases.{mailbox, mailboxFor, times, sends, Lent, lentStore, sentLine, sameNames}
@@ -28,6 +31,10 @@ pub data EvidenceCase : Type 0 where
   listsAlike : List ℕ → String → String → EvidenceCase
   -- the lines of the first two lists, merged, are the third
   mergesLines : List String → List String → List String → EvidenceCase
+  -- a walk over a packed table with an option byte and this much scratch, and 64 bytes of found and of pending, sends these commands
+  sendsThese : List ℕ → ℕ → ℕ → List String → EvidenceCase
+  -- a command of the walk that were refused with the first number would stop it with the second
+  stopsWith : ℕ → ℕ → EvidenceCase
 
 -- the bytes of an answer; none for a refusal
 abbrev pub bytesIn : Reply → List ℕ
@@ -44,12 +51,18 @@ linesOver t l = listLines (bytesIn (servedTo 0 (packedSeen 0 t) [] (sends l) (ti
 abbrev merged : List ℕ → String → String → String → Bool
 merged t l m k = sameNames (linesOver t k) (mergedLines (linesOver t l) (linesOver t m))
 
+abbrev stopNumber : {A : Type 0} → Step A → ℕ
+stopNumber (stop k) = k
+stopNumber (go x) = 0
+
 abbrev pub holdsEvidence : EvidenceCase → Bool
 holdsEvidence (lists reader t l ns cs) = readsSo (bytesIn (servedTo reader (packedSeen reader t) [] (sends l) (times 4096 0))) ns cs
 holdsEvidence (merges t l m k) = merged t l m k
 holdsEvidence (mergesNot t l m k) = not (merged t l m k)
 holdsEvidence (listsAlike t l m) = sameNames (linesOver t l) (linesOver t m)
 holdsEvidence (mergesLines ks ls ms) = sameNames (mergedLines (map sends ks) (map sends ls)) (map sends ms)
+holdsEvidence (sendsThese t o scratch ls) = sameNames (commandsSent (packedSeen 0 t) o scratch 64 64) (map sends ls)
+holdsEvidence (stopsWith k n) = eqb (stopNumber (replied (refusal k))) n
 holdsEvidence (listsAfter s ls reader l ns cs) =
     readsSo (bytesIn (commanded reader (commandedAll (lentStore s) (map (λ x. sentLine (sends x)) ls)) [] (sends l) (times 4096 0) .reply)) ns cs
 
@@ -167,4 +180,19 @@ lines-merged =
     ∷ mergesLines ("* LIST (\\Remote) \"/\" \"a\"" ∷ []) ("* LIST (\\Marked) \"/\" \"a\"" ∷ "* LIST () \"/\" \"a\"" ∷ [])
     ("* LIST () \"/\" \"a\"" ∷ "* LIST (\\Marked) \"/\" \"a\"" ∷ "* LIST (\\Remote) \"/\" \"a\"" ∷ [])
     ∷ mergesLines [] [] []
+    ∷ []
+
+-- W12: the commands of a walk: the first and one below each pending name, a quote in it escaped; several option bytes; the first alone where its
+-- answer does not fit, or where nothing lies below. No number is passed on.
+abbrev pub walk-commands : List EvidenceCase
+walk-commands =
+    sendsThese tableE 0 16384 ("w LIST (SUBSCRIBED RECURSIVEMATCH) \"\" \"%\"" ∷ "w LIST (SUBSCRIBED RECURSIVEMATCH) \"Foo/\" \"%\"" ∷ [])
+    ∷ sendsThese tableE 0 16 ("w LIST (SUBSCRIBED RECURSIVEMATCH) \"\" \"%\"" ∷ [])
+    ∷ sendsThese tableE 3 16384 ("w LIST (SUBSCRIBED RECURSIVEMATCH SPECIAL-USE REMOTE) \"\" \"%\"" ∷ [])
+    ∷ sendsThese (mailbox 0x0201 "a\"/b/c") 6 16384 ("w LIST (RECURSIVEMATCH SPECIAL-USE) \"\" \"%\"" ∷ "w LIST (RECURSIVEMATCH SPECIAL-USE) \"a\\\"/\" \"%\""
+    ∷ "w LIST (RECURSIVEMATCH SPECIAL-USE) \"a\\\"/b/\" \"%\"" ∷ [])
+    ∷ sendsThese [] 1 16384 ("w LIST (SUBSCRIBED RECURSIVEMATCH REMOTE) \"\" \"%\"" ∷ [])
+    ∷ stopsWith 9 9
+    ∷ stopsWith 3 9
+    ∷ stopsWith 8 9
     ∷ []

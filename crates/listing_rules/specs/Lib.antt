@@ -23,6 +23,7 @@ pub mod Compaction
 pub mod Reader
 pub mod Walk
 pub mod Demand3
+pub mod Sending
 pub mod Evidence
 pub mod Joining
 pub mod Frames

@@ -99,9 +99,9 @@ unfoldable pub takenAll : ℕ → ℕ → ℕ → Lists → List (List ℕ) → 
 takenAll o found pending s [] = go s
 takenAll o found pending s (l ∷ ls) = takenIn o found pending s (readLine l) then λ u. takenAll o found pending u ls
 
--- "Refusals 3 to 8 out of one of its own commands are passed on."
+-- "after each command 9": the one refusal that a command of the walk can meet (W12, law `own-commands`)
 unfoldable pub replied : Reply → Step (List ℕ)
-replied (refusal k) = stop k
+replied (refusal k) = stop 9
 replied (answered a) = go a
 
 pub record Walked : Type 0 where

@@ -26,9 +26,10 @@ use Rattle.records.proofs.Clauses.{says-each}
 use Rattle.exports.specs.declared.outcomes.Outcome.{Outcome}
 use Rattle.exports.proofs.outcomes.Outcome as R
 use Rattle.exports.proofs.outcomes.Outcome.Laws as R′
+use mathlib.Core.Bool.{true}
 use Rattle.listing_rules.specs.Walk.{scratchAfter, foundAfter, pendingAfter, collectedBy}
 use Rattle.collector.specs.Result.{collectedOf, scratchOf, foundOf, pendingOf, OwesDemand3}
-use Rattle.exports.specs.Outcomes.{walkOutcome}
+use Rattle.exports.specs.Outcomes.{walkOutcome, allowedOutcome}
 use Rattle.records.proofs.no_words as no-words
 use Rattle.records.proofs.no_words.Symbol as no-words-def
 use Rattle.records.proofs.no_words.Symbol.{name as #records·no-words}
@@ -139,6 +140,9 @@ module _ {M : Type 1} (𝓤 : URA M) (H : Heap 𝓤) (A : Atoms 𝓤) (W : Given
   Says-demand3 all t r scratch′ found′ pending′ =
       OwesDemand3 reader all t option scratch found pending (collectedOf reader t option scratch found pending) found′ pending′
 
+  abbrev Says-numbers : Table → Table → Outcome → List ℕ → List ℕ → List ℕ → Type 0
+  Says-numbers all t r scratch′ found′ pending′ = allowedOutcome r ≡ true
+
   module _ (all t every u : Table) (a : SeenAlike all t every u) (r : Outcome) (scratch′ : List ℕ) (found′ : List ℕ) (pending′ : List ℕ) where
     moved-result : Says-result all t r scratch′ found′ pending′ → Says-result every u r scratch′ found′ pending′
     moved-result e = e ∙ ap walkOutcome (collected-by-alike t u reader option scratch found pending (a .seen))
@@ -154,6 +158,9 @@ module _ {M : Type 1} (𝓤 : URA M) (H : Heap 𝓤) (A : Atoms 𝓤) (W : Given
 
     moved-demand3 : Says-demand3 all t r scratch′ found′ pending′ → Says-demand3 every u r scratch′ found′ pending′
     moved-demand3 e = owes-alike reader option scratch found pending (λ v. (collectedOf reader v option scratch found pending)) found′ pending′ a e
+
+    moved-numbers : Says-numbers all t r scratch′ found′ pending′ → Says-numbers every u r scratch′ found′ pending′
+    moved-numbers e = e
 
   -- what `copy_in` promises of the words us, where they were xs; so n of them are a table alike to the records'
   abbrev Copied : List ℕ → List ℕ → ℕ → Type 0
@@ -172,14 +179,14 @@ module _ {M : Type 1} (𝓤 : URA M) (H : Heap 𝓤) (A : Atoms 𝓤) (W : Given
   exits : (r : Outcome) (v : Val) (scratch′ : List ℕ) (found′ : List ℕ) (pending′ : List ℕ) (all t : Table) →
       SeenAlike all t (lentTable area records count) (lentSeen reader area records count) → Says-result all t r scratch′ found′ pending′ →
       Says-scratch all t r scratch′ found′ pending′ → Says-found all t r scratch′ found′ pending′ → Says-pending all t r scratch′ found′ pending′ →
-      Says-demand3 all t r scratch′ found′ pending′ → length scratch′ ≡ length scratch → length found′ ≡ length found →
-      length pending′ ≡ length pending →
+      Says-demand3 all t r scratch′ found′ pending′ → Says-numbers all t r scratch′ found′ pending′ → length scratch′ ≡ length scratch →
+      length found′ ≡ length found → length pending′ ≡ length pending →
       ent 𝓤 (⋆ 𝓤 H A (‵ (flft κ₀ q₀) ∷ ‵ (flft κ₁ q₁) ∷ ‵ (flft κ₂ q₂) ∷ ‵ (flft κ₃ q₃) ∷ ‵ (flft κ₄ q₄) ∷
       ‵ (ShrSlice (named 0) κ₀ T.the-row .own (x .0) (at .0)) ∷ ‵ (usize .own count (vint w64 count ∷ [])) ∷
       ‵ (u8 .own reader (vint w8 reader ∷ [])) ∷ ‵ (ShrSlice (named 1) κ₁ u8 .own (x .1 .1 .1 .0) (at .1 .1 .1 .0)) ∷
       ‵ (u8 .own option (vint w8 option ∷ [])) ∷ ‵ (finally u8 γ₂ scratch′) ∷ ‵ (finally u8 γ₃ found′) ∷ ‵ (finally u8 γ₄ pending′) ∷
       ‵ (R.the-row .own r (v ∷ [])) ∷ [])) (Post v)
-  exits r v scratch′ found′ pending′ all t a s-result s-scratch s-found s-pending s-demand3 l-scratch l-found l-pending =
+  exits r v scratch′ found′ pending′ all t a s-result s-scratch s-found s-pending s-demand3 s-numbers l-scratch l-found l-pending =
       qed W (‵ (flft κ₀ q₀) ∷ ‵ (flft κ₁ q₁) ∷ ‵ (flft κ₂ q₂) ∷ ‵ (flft κ₃ q₃) ∷ ‵ (flft κ₄ q₄) ∷
       ‵ (ShrSlice (named 0) κ₀ T.the-row .own (x .0) (at .0)) ∷ ‵ (usize .own count (vint w64 count ∷ [])) ∷
       ‵ (u8 .own reader (vint w8 reader ∷ [])) ∷ ‵ (ShrSlice (named 1) κ₁ u8 .own (x .1 .1 .1 .0) (at .1 .1 .1 .0)) ∷
@@ -192,7 +199,8 @@ module _ {M : Type 1} (𝓤 : URA M) (H : Heap 𝓤) (A : Atoms 𝓤) (W : Given
       ((Says-scratch (lentTable area records count) (lentSeen reader area records count) r scratch′ found′ pending′) ∷
       (Says-found (lentTable area records count) (lentSeen reader area records count) r scratch′ found′ pending′) ∷
       (Says-pending (lentTable area records count) (lentSeen reader area records count) r scratch′ found′ pending′) ∷
-      (Says-demand3 (lentTable area records count) (lentSeen reader area records count) r scratch′ found′ pending′) ∷ []) (
+      (Says-demand3 (lentTable area records count) (lentSeen reader area records count) r scratch′ found′ pending′) ∷
+      (Says-numbers (lentTable area records count) (lentSeen reader area records count) r scratch′ found′ pending′) ∷ []) (
         moved-result all t (lentTable area records count) (lentSeen reader area records count) a r scratch′ found′ pending′ s-result,
         (
           moved-scratch all t (lentTable area records count) (lentSeen reader area records count) a r scratch′ found′ pending′ s-scratch,
@@ -200,7 +208,10 @@ module _ {M : Type 1} (𝓤 : URA M) (H : Heap 𝓤) (A : Atoms 𝓤) (W : Given
             moved-found all t (lentTable area records count) (lentSeen reader area records count) a r scratch′ found′ pending′ s-found,
             (
               moved-pending all t (lentTable area records count) (lentSeen reader area records count) a r scratch′ found′ pending′ s-pending,
-              (moved-demand3 all t (lentTable area records count) (lentSeen reader area records count) a r scratch′ found′ pending′ s-demand3),
+              (
+                moved-demand3 all t (lentTable area records count) (lentSeen reader area records count) a r scratch′ found′ pending′ s-demand3,
+                (moved-numbers all t (lentTable area records count) (lentSeen reader area records count) a r scratch′ found′ pending′ s-numbers),
+              ),
             ),
           ),
         ),
@@ -401,6 +412,8 @@ module _ {M : Type 1} (𝓤 : URA M) (H : Heap 𝓤) (A : Atoms 𝓤) (W : Given
         raw (fact 𝓤 (Says-pending (wordTable area (take n (z1 .1 .1 .0)) count) (wordSeen reader area (take n (z1 .1 .1 .0)) count) r
         (z3 .1 .1 .1 .1 .1 .0) (z3 .1 .1 .1 .1 .1 .1 .0) (z3 .1 .1 .1 .1 .1 .1 .1 .0))) ⊛
         raw (fact 𝓤 (Says-demand3 (wordTable area (take n (z1 .1 .1 .0)) count) (wordSeen reader area (take n (z1 .1 .1 .0)) count) r
+        (z3 .1 .1 .1 .1 .1 .0) (z3 .1 .1 .1 .1 .1 .1 .0) (z3 .1 .1 .1 .1 .1 .1 .1 .0))) ⊛
+        raw (fact 𝓤 (Says-numbers (wordTable area (take n (z1 .1 .1 .0)) count) (wordSeen reader area (take n (z1 .1 .1 .0)) count) r
         (z3 .1 .1 .1 .1 .1 .0) (z3 .1 .1 .1 .1 .1 .1 .0) (z3 .1 .1 .1 .1 .1 .1 .1 .0))))) (id⊢ 𝓤 _) $ pick ! (λ z3. split ! $
         move ! (1 ∷ []) $ split ! $ move ! (0 ∷ []) $
         heard ! (Says-result (wordTable area (take n (z1 .1 .1 .0)) count) (wordSeen reader area (take n (z1 .1 .1 .0)) count) r
@@ -414,9 +427,12 @@ module _ {M : Type 1} (𝓤 : URA M) (H : Heap 𝓤) (A : Atoms 𝓤) (W : Given
         move ! (0 ∷ []) $ split ! $ move ! (0 ∷ []) $
         heard ! (Says-pending (wordTable area (take n (z1 .1 .1 .0)) count) (wordSeen reader area (take n (z1 .1 .1 .0)) count) r
         (z3 .1 .1 .1 .1 .1 .0) (z3 .1 .1 .1 .1 .1 .1 .0) (z3 .1 .1 .1 .1 .1 .1 .1 .0)) (λ s-pending.
-        move ! (0 ∷ []) $
+        move ! (0 ∷ []) $ split ! $ move ! (0 ∷ []) $
         heard ! (Says-demand3 (wordTable area (take n (z1 .1 .1 .0)) count) (wordSeen reader area (take n (z1 .1 .1 .0)) count) r
         (z3 .1 .1 .1 .1 .1 .0) (z3 .1 .1 .1 .1 .1 .1 .0) (z3 .1 .1 .1 .1 .1 .1 .1 .0)) (λ s-demand3.
+        move ! (0 ∷ []) $
+        heard ! (Says-numbers (wordTable area (take n (z1 .1 .1 .0)) count) (wordSeen reader area (take n (z1 .1 .1 .0)) count) r
+        (z3 .1 .1 .1 .1 .1 .0) (z3 .1 .1 .1 .1 .1 .1 .0) (z3 .1 .1 .1 .1 .1 .1 .1 .0)) (λ s-numbers.
         move ! (1 ∷ []) $ split ! $ move ! (1 ∷ []) $ peeks ! R.the-row (Is R.the-row) (shows 𝓤 H A R.the-row) r (v3 ∷ []) (λ is3.
         land ! (from ! (stop !)) (init ! 61 refl (LL.lawful R.the-type R′.the-laws 𝓤 H A W .typed r _ is3 .0)) $ move ! (2 ∷ []) $ fsplit ! $
         move ! (1 ∷ []) $ fsplit ! $ move ! (1 ∷ []) $ fsplit ! $ move ! (1 ∷ []) $ fsplit ! $ move ! (1 ∷ []) $ fsplit ! $ move ! (1 ∷ []) $
@@ -438,7 +454,7 @@ module _ {M : Type 1} (𝓤 : URA M) (H : Heap 𝓤) (A : Atoms 𝓤) (W : Given
         keep ! (18 ∷ 5 ∷ 4 ∷ 3 ∷ 1 ∷ 24 ∷ 29 ∷ 28 ∷ 16 ∷ 27 ∷ 8 ∷ 7 ∷ 6 ∷ 15 ∷ []) $
         by ! (exits r v3 (z3 .1 .1 .1 .1 .1 .0) (z3 .1 .1 .1 .1 .1 .1 .0) (z3 .1 .1 .1 .1 .1 .1 .1 .0) (wordTable area (take n (z1 .1 .1 .0)) count)
         (wordSeen reader area (take n (z1 .1 .1 .0)) count) (same xs (z1 .1 .1 .0) n (is0 .1 .0 .1) e1) s-result s-scratch s-found s-pending
-        s-demand3 l-scratch l-found l-pending)))))))))))))))))))))))))))))))))))))))))))))))))))))
+        s-demand3 s-numbers l-scratch l-found l-pending))))))))))))))))))))))))))))))))))))))))))))))))))))))
 
 module _ {M : Type 1} (𝓤 : URA M) (H : Heap 𝓤) (A : Atoms 𝓤) (W : Given 𝓤 H A) (mem : Memory → SProp 𝓤) (run : Routine → Fun 𝓤) (𝓣 : Tables 𝓤 H)
     (known-no-words : Triple 𝓤 (𝓣 .C #records·no-words) (tripleOf 𝓤 H A no-words.signature (no-words.spec 𝓤 H A mem run)))

@@ -87,12 +87,12 @@ returns c =
 
 returns-2 : tie.Need-returns-2
 returns-2 c =
-    let answered = c .before .before .before .before .before in
+    let answered = c .before .before .before .before in
     let written = answered .before .before .before in
     let args = written .before .before .before .before .before .before .before .before .before .before .before .before .before .args in
     λ s h.
     asked-refused (heldTable (args .area .now) (args .words .now)) (args .asking .options) (args .reference .now) (args .scratch .now) (sent written)
-    (answered .read-words .ensures .0) (c .before .number .given .1) (args .found .now) (args .pending .now) s
+    (answered .read-words .ensures .0) (c .enum-told .given .1) (args .found .now) (args .pending .now) s
 
 pub ask-spec : {M : Type 1} → statement M
 ask-spec =

@@ -280,14 +280,17 @@ uint8_t luspemaro_compact(struct luspemaro_record *records, size_t records_lengt
 
 /* The collector's walk for a reader. option: the sum of LUSPEMARO_OPTION_ .. Finds lie at the front of found, length bytes of them, and
  * the names that were asked below at the front of pending, count - 1 of them; each as a length byte (1 to 200) and the name, in walk
- * order. The bytes after them, and all of scratch, are zero. Refusals: 16 for a reader above 7, 1, 6, then in the walk's own order 9
- * (scratch), 10, 11; a refusal leaves all three zero. */
+ * order. The bytes after them, and all of scratch, are zero.
+ *
+ * Refusals, LUSPEMARO_REFUSAL_ .., in this order: 16 (READER), 1 (TABLE), 6 (OPTION), then in the walk's own order 9 (SHORT_BUFFER, of
+ * scratch), 10 (FOUND_FULL) and 11 (PENDING_FULL); no other number: none of the walk's own commands is refused for anything but scratch.
+ * 16 is of a reader above 7. A refusal leaves all three buffers zero. */
 struct luspemaro_outcome luspemaro_collect(const struct luspemaro_record *records, size_t records_length, size_t count, uint8_t reader,
                                            const uint8_t *area, size_t area_length, uint8_t option, uint8_t *scratch,
                                            size_t scratch_length, uint8_t *found, size_t found_length, uint8_t *pending,
                                            size_t pending_length);
 
-/* luspemaro_collect over a packed table. */
+/* luspemaro_collect over a packed table, with the same refusals: 16, 1, 6, 9, 10 and 11, and no other number. */
 struct luspemaro_outcome luspemaro_collect_packed(const uint8_t *table, size_t table_length, uint8_t reader, uint8_t option,
                                                   uint8_t *scratch, size_t scratch_length, uint8_t *found, size_t found_length,
                                                   uint8_t *pending, size_t pending_length);

@@ -140,6 +140,58 @@ static void rooms_by_bytes(void)
     }
 }
 
+/* Each number that a walk may be refused with, from a call with every cause that comes after it. Of the first level Customers is pending
+ * and INBOX a find. */
+static void six_refusals(void)
+{
+    static const struct rows half = {2, {0, 1}};
+    reader = LUSPEMARO_MAX_READER + 1;
+    EXPECT(is_refusal(walk(&half, 4, 0, 0, 0), LUSPEMARO_REFUSAL_READER));
+    reader = LUSPEMARO_MAX_READER;
+    EXPECT(is_refusal(walk(&half, 4, 0, 0, 0), LUSPEMARO_REFUSAL_TABLE));
+    EXPECT(is_refusal(walk(night(), 4, 0, 0, 0), LUSPEMARO_REFUSAL_OPTION));
+    EXPECT(is_refusal(walk(night(), 0, 0, 0, 0), LUSPEMARO_REFUSAL_SHORT_BUFFER));
+    EXPECT(is_refusal(walk(night(), 0, ROOM, 0, ROOM), LUSPEMARO_REFUSAL_FOUND_FULL) && all_zero());
+    EXPECT(is_refusal(walk(night(), 0, ROOM, 0, 0), LUSPEMARO_REFUSAL_PENDING_FULL) && all_zero());
+}
+
+/* The numbers that walks over a table give, as bits: of option bytes and readers on both sides of the last lawful one, and with buffers
+ * from none to enough. */
+static unsigned long numbers_of(const struct rows *rows)
+{
+    static const size_t rooms[] = {0, 1, 11, 100, 1000, 20000};
+    static const uint8_t readers[] = {0, LUSPEMARO_MAX_READER, LUSPEMARO_MAX_READER + 1, 0xFF};
+    static const uint8_t options[] = {0, 1, 2, 3, 4, 5, 6, 7, 8, 0x80, 0xFF};
+    unsigned long numbers = 0;
+    for (size_t r = 0; r < sizeof readers; r++)
+        for (size_t o = 0; o < sizeof options; o++)
+            for (size_t at = 0; at < sizeof rooms / sizeof rooms[0]; at++) {
+                size_t room = rooms[at], most = 20000;
+                unsigned option = options[o];
+                reader = readers[r];
+                numbers |= 1ul << walk(rows, option, room, most, most).number;
+                numbers |= 1ul << walk(rows, option, most, room, most).number;
+                numbers |= 1ul << walk(rows, option, most, most, room).number;
+                numbers |= 1ul << walk(rows, option, room, room, room).number;
+            }
+    return numbers;
+}
+
+/* The last table has the longest names that a walk asks below, with a quote or a backslash in every level. */
+static void no_other_refusal(void)
+{
+    static const struct rows half = {2, {0, 1}};
+    const unsigned long before = 1ul << LUSPEMARO_REFUSAL_READER;
+    const unsigned long lawful = before | 1ul << LUSPEMARO_DONE | 1ul << LUSPEMARO_REFUSAL_OPTION | 1ul << LUSPEMARO_REFUSAL_SHORT_BUFFER;
+    const unsigned long all = lawful | 1ul << LUSPEMARO_REFUSAL_FOUND_FULL | 1ul << LUSPEMARO_REFUSAL_PENDING_FULL;
+    EXPECT(numbers_of(&half) == (before | 1ul << LUSPEMARO_REFUSAL_TABLE));
+    EXPECT(numbers_of(&NO_ROWS) == lawful);
+    EXPECT(numbers_of(table_e()) == all);
+    EXPECT(numbers_of(night()) == all);
+    EXPECT(numbers_of(largest_table(3, LUSPEMARO_MAX_LEVELS, 0x7F03)) == all);
+    EXPECT(numbers_of(largest_table(3, 2, 0x7F03)) == all);
+}
+
 const struct test walk_tests[] = {
     {"collect: the expert's sheet", expert_sheet},
     {"collect: every lawful option byte", every_lawful_byte},
@@ -147,6 +199,8 @@ const struct test walk_tests[] = {
     {"collect: 1, and 1 before 6", bad_table},
     {"collect: short buffers, 9 to 11", short_buffers},
     {"collect: nothing lent", nothing_lent},
+    {"collect: each of the six refusals", six_refusals},
+    {"collect: no refusal but the six", no_other_refusal},
     {"collect: the rooms that suffice", rooms_of_a_walk},
     {"collect: the rooms that suffice, by bytes", rooms_by_bytes},
     {NULL, NULL},

@@ -16,6 +16,7 @@ use crate::limits;
 use crate::literals;
 use crate::lsub;
 use crate::more_patterns;
+use crate::own_commands;
 use crate::random::Random;
 use crate::reader_sessions;
 use crate::sending::Sending;
@@ -76,13 +77,14 @@ pub fn kinds() -> impl Iterator<Item = Kind> {
     sessions.into_iter().chain(laws).map(|(name, maker)| Kind { name, maker })
 }
 
-const LAWS: [(&str, Law); 3] = [
+const LAWS: [(&str, Law); 4] = [
     ("more patterns", more_patterns::LAW),
     ("rows that gain subscriptions", gains::LAW),
     ("joined requests", joins::LAW),
+    ("own commands of walks", own_commands::LAW),
 ];
 
-const GENERATORS: [(&str, Generator); 37] = [
+const GENERATORS: [(&str, Generator); 38] = [
     ("a table and commands", commands_over_a_table),
     ("a growing table", growing_table),
     ("a damaged table", damaged_tables),
@@ -120,6 +122,7 @@ const GENERATORS: [(&str, Generator); 37] = [
     ("hidden parents", reader_sessions::hidden_parents),
     ("changes of what is hidden", reader_sessions::hidden_changes),
     ("edits of every reader", edit_sessions::every_reader),
+    ("walks below the longest names", own_commands::walks_below_the_longest_names),
 ];
 
 fn commands_over_a_table(random: &mut Random) -> Vec<SentFrame> {

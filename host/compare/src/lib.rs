@@ -20,6 +20,7 @@ mod limits;
 mod literals;
 pub mod lsub;
 pub mod more_patterns;
+pub mod own_commands;
 pub mod random;
 pub mod reached;
 mod reader_sessions;
@@ -40,8 +41,9 @@ use std::path::Path;
 use std::process::ExitCode;
 
 use child::{sender_of, Running, SentFrame, PATIENCE};
+use second::collector::WALK_REFUSALS;
 use second::fault::Fault;
-use second::frames::{Answer, Program};
+use second::frames::{Answer, Frame, Program};
 use second::Refusal;
 
 pub use kinds::{kinds, Kind};
@@ -91,12 +93,26 @@ fn compare_frames(program: &Path, session: &[SentFrame]) -> Result<Vec<Vec<u8>>,
             Ok(Some(line)) if line == expected => answers.push(line),
             actual => return Err(difference_text(session, at, &second, &expected, &actual)),
         }
+        if answer.as_ref().is_some_and(|answer| is_no_walk_refusal(frame, answer)) {
+            return Err(format!(
+                "frame {}: a walk is refused with {}\n",
+                at + 1,
+                expected.escape_ascii()
+            ));
+        }
         if !frame.is_cut && answer.is_some_and(|answer| !is_explained(&answer, fault)) {
             return Err(explanation_text(session, at, &second, fault));
         }
     }
     running.finish().map_err(failure_text)?;
     Ok(answers)
+}
+
+/// A walk that is refused with another number than the six that the collector gives (document 02, W12).
+fn is_no_walk_refusal(frame: &SentFrame, answer: &Answer) -> bool {
+    let is_walk = matches!(Frame::decode(&frame.text), Ok(Frame::Walk { .. })) && !frame.is_cut;
+    let is_other = |refusal| !WALK_REFUSALS.contains(refusal);
+    is_walk && matches!(answer, Answer::Refused(refusal) if is_other(refusal))
 }
 
 /// A refusal has its explanation and an answer has none. Of a buffer that is too small there is

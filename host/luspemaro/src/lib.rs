@@ -46,12 +46,14 @@ mod line;
 mod raw;
 mod reader;
 mod refusal;
+mod walk_refusal;
 
 pub use feeder::{feed, put_go_on, Event, Fed, Feeder, Happening, COMMAND_ROOM};
 pub use line::{read_line, write_line, write_parts, Criteria, Line};
 pub use raw::{Answered, FeederState, Record, Records, Walked, NAME_ROOM, READERS_ALL};
 pub use reader::Reader;
 pub use refusal::Refusal;
+pub use walk_refusal::WalkRefusal;
 
 /// Check 1: whether a packed mailbox table passes.
 ///
@@ -209,7 +211,7 @@ pub fn compact(records: &mut [Record], count: usize, area: &mut [u8]) -> Result<
 }
 
 /// The walk of a table for a reader. Found and pending hold their names afterwards, each with a length
-/// byte.
+/// byte. A refusal, one of the six that a walk may have, leaves all three buffers zero.
 ///
 /// ```
 /// use luspemaro::{collect, Reader, Record, Records, Walked};
@@ -236,18 +238,18 @@ pub fn collect(
     scratch: &mut [u8],
     found: &mut [u8],
     pending: &mut [u8],
-) -> Result<Walked, Refusal> {
+) -> Result<Walked, WalkRefusal> {
     collect_from(reader.number(), table, option, scratch, found, pending)
 }
 
 /// `collect` from the number of a reader: one above 7 is refused with 16, first.
 ///
 /// ```
-/// use luspemaro::{collect_from, Records, Refusal};
+/// use luspemaro::{collect_from, Records, WalkRefusal};
 ///
 /// let table = Records { records: &[], count: 1, area: b"" };
 /// let refused = collect_from(8, table, 9, &mut [], &mut [], &mut []);
-/// assert_eq!(refused, Err(Refusal::Reader));
+/// assert_eq!(refused, Err(WalkRefusal::Reader));
 /// ```
 pub fn collect_from(
     reader: u8,
@@ -256,14 +258,14 @@ pub fn collect_from(
     scratch: &mut [u8],
     found: &mut [u8],
     pending: &mut [u8],
-) -> Result<Walked, Refusal> {
+) -> Result<Walked, WalkRefusal> {
     raw::collect(reader, table, option, scratch, found, pending).walked()
 }
 
 /// `collect` over a packed table.
 ///
 /// ```
-/// use luspemaro::{collect_packed, Reader, Refusal, Walked};
+/// use luspemaro::{collect_packed, Reader, WalkRefusal, Walked};
 ///
 /// let table = b"\0\x03\xFF\x03Foo";
 /// let (mut scratch, mut found) = ([0; 100], [0; 4]);
@@ -273,7 +275,7 @@ pub fn collect_from(
 ///
 /// let found = &mut found[1..];
 /// let refused = collect_packed(Reader::EDITOR, table, 0, &mut scratch, found, &mut []);
-/// assert_eq!(refused, Err(Refusal::FoundFull));
+/// assert_eq!(refused, Err(WalkRefusal::FoundFull));
 /// ```
 pub fn collect_packed(
     reader: Reader,
@@ -282,17 +284,17 @@ pub fn collect_packed(
     scratch: &mut [u8],
     found: &mut [u8],
     pending: &mut [u8],
-) -> Result<Walked, Refusal> {
+) -> Result<Walked, WalkRefusal> {
     collect_packed_from(reader.number(), table, option, scratch, found, pending)
 }
 
 /// `collect_packed` from the number of a reader: one above 7 is refused with 16, first.
 ///
 /// ```
-/// use luspemaro::{collect_packed_from, Refusal};
+/// use luspemaro::{collect_packed_from, WalkRefusal};
 ///
 /// let refused = collect_packed_from(255, b"?", 9, &mut [], &mut [], &mut []);
-/// assert_eq!(refused, Err(Refusal::Reader));
+/// assert_eq!(refused, Err(WalkRefusal::Reader));
 /// ```
 pub fn collect_packed_from(
     reader: u8,
@@ -301,6 +303,6 @@ pub fn collect_packed_from(
     scratch: &mut [u8],
     found: &mut [u8],
     pending: &mut [u8],
-) -> Result<Walked, Refusal> {
+) -> Result<Walked, WalkRefusal> {
     raw::collect_packed(reader, table, option, scratch, found, pending).walked()
 }

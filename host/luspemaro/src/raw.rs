@@ -2,6 +2,7 @@
 //! pointer and a length, which of records is their number.
 
 use crate::refusal::Refusal;
+use crate::walk_refusal::WalkRefusal;
 
 /// The bytes of the area that a name is read into.
 pub const NAME_ROOM: usize = 200;
@@ -335,9 +336,14 @@ impl Outcome {
         self.result(count).map(|()| Answered { length: self.length, count: self.count })
     }
 
-    /// What a walk gives.
-    pub fn walked(&self) -> Result<Walked, Refusal> {
-        self.result(0).map(|()| Walked { commands: self.count, found: self.length })
+    /// What a walk gives, which is refused with six of the numbers alone.
+    pub fn walked(&self) -> Result<Walked, WalkRefusal> {
+        self.result(0).map_err(|refusal| {
+            let number = refusal.number();
+            WalkRefusal::from_number(number)
+                .unwrap_or_else(|| panic!("the archive gives the number {number} for a walk"))
+        })?;
+        Ok(Walked { commands: self.count, found: self.length })
     }
 
     /// The length of what was written.

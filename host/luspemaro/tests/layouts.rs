@@ -11,6 +11,9 @@ mod raw;
 #[allow(dead_code)]
 #[path = "../src/refusal.rs"]
 mod refusal;
+#[allow(dead_code)]
+#[path = "../src/walk_refusal.rs"]
+mod walk_refusal;
 
 use std::mem::{offset_of, size_of};
 

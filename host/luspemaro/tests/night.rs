@@ -3,7 +3,7 @@
 use luspemaro::{
     answer, check_namespaces, check_records, check_table, collect, collect_packed, match_steps,
     matches, put_go_on, read_line, write_line, Answered, Criteria, Event, Feeder, Reader, Record,
-    Records, Refusal, Walked, READERS_ALL,
+    Records, Refusal, WalkRefusal, Walked, READERS_ALL,
 };
 
 /// Flags 0003, all readers, length 13, the name.
@@ -133,7 +133,7 @@ fn the_walk() {
         collect_packed(Reader::EDITOR, PACKED, 0, &mut scratch, found_again, pending_again);
     assert_eq!((packed, packed_found, packed_pending), (walked, found, pending));
     let refused = collect(Reader::EDITOR, TABLE, 4, &mut scratch, &mut found, &mut pending);
-    assert_eq!(refused, Err(Refusal::UnknownOption));
+    assert_eq!(refused, Err(WalkRefusal::UnknownOption));
 }
 
 #[test]

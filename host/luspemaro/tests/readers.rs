@@ -2,7 +2,7 @@
 
 use luspemaro::{
     answer_from, check_records, check_table, collect_from, collect_packed_from, Answered, Reader,
-    Record, Records, Refusal, Walked, READERS_ALL,
+    Record, Records, Refusal, WalkRefusal, Walked, READERS_ALL,
 };
 
 const OK: &[u8] = b"a OK done\r\n";
@@ -82,10 +82,10 @@ fn no_such_reader() {
         let refused = collect_from(reader, table, 9, &mut scratch, &mut found, &mut pending);
         assert_eq!(
             (refused, scratch, found, pending),
-            (Err(Refusal::Reader), [0; 9], [0; 9], [0; 9])
+            (Err(WalkRefusal::Reader), [0; 9], [0; 9], [0; 9])
         );
         let refused = collect_packed_from(reader, b"?", 9, &mut [1; 9], &mut [1; 9], &mut [1; 9]);
-        assert_eq!(refused, Err(Refusal::Reader));
+        assert_eq!(refused, Err(WalkRefusal::Reader));
     }
 }
 

@@ -15,6 +15,16 @@ pub const OPTION_SPECIAL_USE: u8 = 2;
 pub const OPTION_WITHOUT_SUBSCRIBED: u8 = 4;
 pub const MAX_OPTION: u8 = 7;
 
+/// "The collector's promise then allows no number but 1, 6, 9, 10, 11 and W9's 16" (document 02, W12)
+pub const WALK_REFUSALS: [Refusal; 6] = [
+    Refusal::Table,
+    Refusal::UnknownOption,
+    Refusal::AnswerRoom,
+    Refusal::FoundRoom,
+    Refusal::PendingRoom,
+    Refusal::Reader,
+];
+
 /// "Its namespace list is empty."
 const NO_NAMESPACES: &[u8] = &[];
 
@@ -31,7 +41,8 @@ struct Names<'b> {
     used: usize,
 }
 
-/// The walk of a table for a reader. The result is the number of commands sent and the length of found.
+/// The walk of a table for a reader. The result is the number of commands sent and the length of found, or
+/// one of [`WALK_REFUSALS`].
 ///
 /// "On success pending holds its names; room behind the lengths, and all scratch, is zero."
 /// "Its refusals give count 0 and length 0 and zero all three buffers."
@@ -54,6 +65,20 @@ pub fn collect(
     found.clear_behind();
     pending.clear_behind();
     result.map(|count| (count, found.used))
+}
+
+/// The commands of a walk with an option byte that leaves these names in pending, where zeros may stand
+/// after them; none if the option byte is not lawful. "a command is made from the option byte and, after the
+/// first, a pending name alone"
+pub fn own_commands(option: u8, pending: &[u8]) -> Option<Vec<Vec<u8>>> {
+    let options = WalkOptions::from_byte(option)?;
+    let mut commands = vec![options.command(b"")];
+    let mut rest = pending;
+    while let Some((name, after)) = split_name(rest).filter(|(name, _)| !name.is_empty()) {
+        commands.push(options.command(&descendant_prefix(name)));
+        rest = after;
+    }
+    Some(commands)
 }
 
 /// Why a walk is refused with 16, 1 or 6, or none if it is not.
@@ -84,7 +109,9 @@ fn walk(
     let mut count = 0;
     loop {
         let command = options.command(&reference);
-        let length = answer_reading(reader, table, NO_NAMESPACES, &command, scratch)?;
+        // No own command is refused with another number than 9 (W12).
+        let answered = answer_reading(reader, table, NO_NAMESPACES, &command, scratch);
+        let length = answered.map_err(|_| Refusal::AnswerRoom)?;
         count += 1;
         take_lines(&scratch[..length], options, found, pending)?;
         let Some((name, behind)) = pending.name_at(asked) else {
@@ -95,7 +122,8 @@ fn walk(
     }
 }
 
-/// Each answer line is read back; the last one is the tagged OK line. "by line 10 before 11"
+/// Each answer line is read back; the last one is the tagged OK line. "by line 10 before 11" A line that is
+/// not read is neither a find nor pending; the server writes none.
 fn take_lines(
     answer: &[u8],
     options: WalkOptions,
@@ -104,7 +132,7 @@ fn take_lines(
 ) -> Result<(), Refusal> {
     let lines = answer.split_inclusive(|&byte| byte == b'\n');
     for text in lines.take_while(|line| line.starts_with(b"* ")) {
-        let line = read_line(text)?;
+        let Ok(line) = read_line(text) else { continue };
         if options.is_find(&line) && !found.push(&line.name) {
             return Err(Refusal::FoundRoom);
         }
@@ -175,12 +203,17 @@ impl Names<'_> {
 
     /// The name whose length byte is at a place, and the place behind it.
     fn name_at(&self, at: usize) -> Option<(&[u8], usize)> {
-        let (&length, rest) = self.bytes[at..self.used].split_first()?;
-        let length = usize::from(length);
-        Some((&rest[..length], at + 1 + length))
+        let (name, _) = split_name(&self.bytes[at..self.used])?;
+        Some((name, at + 1 + name.len()))
     }
 
     fn clear_behind(&mut self) {
         self.bytes[self.used..].fill(0);
     }
+}
+
+/// The first of some names, and what stands after it.
+fn split_name(names: &[u8]) -> Option<(&[u8], &[u8])> {
+    let (&length, rest) = names.split_first()?;
+    Some(rest.split_at(usize::from(length)))
 }

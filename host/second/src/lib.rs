@@ -1,5 +1,5 @@
 //! The second program of the listing rules: written from the papers alone, document 01 and of
-//! document 02 requests W1 to W7 and W9, to be compared with the proved program and to be the plain
+//! document 02 requests W1 to W7, W9 and W12, to be compared with the proved program and to be the plain
 //! measure of its speed.
 //!
 //! The entries are those of document 01: the two checks, the command entry, the line writer,

@@ -3,6 +3,7 @@
 
 use std::fmt;
 
+use luspemaro::WalkRefusal;
 use second::{Refusal, Table};
 use session::show_table;
 
@@ -103,7 +104,7 @@ pub const COLLECT: [Collect; 2] = [
                 luspemaro::collect_from(reader, table, option, scratch, found, pending)
             }
         };
-        walked.map(|walked| (walked.commands, walked.found)).map_err(luspemaro::Refusal::number)
+        walked.map(|walked| (walked.commands, walked.found)).map_err(WalkRefusal::number)
     },
     |reader, table, option, scratch, found, pending| {
         second::collect(reader, table.second(), option, scratch, found, pending)

@@ -1,5 +1,5 @@
-//! What must hold between the answers to several commands (document 02, W10 and W11), by the proved library, its
-//! line reader included.
+//! What must hold between the answers to several commands (document 02, W10 and W11), and of the collector's
+//! own (W12), by the proved library, its line reader included.
 
 use second::{Criteria, Line, Record};
 
@@ -8,6 +8,7 @@ use super::tally::Tally;
 use crate::gains;
 use crate::joins;
 use crate::more_patterns;
+use crate::own_commands;
 use crate::random::Random;
 use crate::records::{laid_out, Layout};
 use crate::tables::NewRow;
@@ -15,6 +16,8 @@ use crate::trials::{Given, Law, Trial};
 
 /// Longer than any answer here.
 const ROOM: usize = 16_384;
+/// Buffers of walks, from none up to one with room enough.
+const ROOMS: [usize; 5] = [0, 11, 300, 700, ROOM];
 /// After this number of claims, every set of options must have come from every reader.
 const MANY: usize = 20_000;
 /// Room for the rows that edits insert.
@@ -51,6 +54,19 @@ pub fn joins(tally: &mut Tally) {
     judge_law(tally, "library: joined requests", joins::LAW);
 }
 
+/// The collector's own commands, in buffers with room enough and without.
+pub fn own_commands(tally: &mut Tally) {
+    tally.for_each_seed(|tally, seed| {
+        let mut random = Random::of("library: own commands", seed);
+        let trial = (own_commands::LAW.trial)(&mut random);
+        let room = ROOMS[random.below(ROOMS.len())];
+        let given = given_in(&mut random, &trial.rows, &trial.asked, room);
+        judge(tally, seed, &trial, &given);
+    });
+    tally.need(own_commands::LAW.needed);
+    tally.need(|| vec!["refused with 9".to_string()]);
+}
+
 fn judge_law(tally: &mut Tally, stream: &str, law: Law) {
     tally.for_each_seed(|tally, seed| {
         let mut random = Random::of(stream, seed);
@@ -68,8 +84,18 @@ fn judge(tally: &mut Tally, seed: u64, trial: &Trial, given: &[Given]) {
 
 /// What the proved library answers to commands over rows, in their order; edits change the rows.
 fn given_of(random: &mut Random, rows: &[NewRow], asked: &[(u8, Vec<u8>)]) -> Vec<Given> {
+    given_in(random, rows, asked, ROOM)
+}
+
+/// What it answers in a buffer of this length.
+fn given_in(
+    random: &mut Random,
+    rows: &[NewRow],
+    asked: &[(u8, Vec<u8>)],
+    room: usize,
+) -> Vec<Given> {
     let mut table = Mailboxes::new(with_room(laid_out(random, rows)));
-    let mut out = vec![0; ROOM];
+    let mut out = vec![0; room];
     let mut answer = |(reader, line): &(u8, Vec<u8>)| {
         let asked = Asked { reader: *reader, ..Asked::by_0(line) };
         let (length, _) = ANSWER[PROVED](&mut table, asked, &mut out)?;

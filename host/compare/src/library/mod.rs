@@ -11,6 +11,7 @@ mod edits;
 mod feeding;
 mod laws;
 mod lines;
+mod longest_names;
 mod matching;
 mod readers;
 mod reading;
@@ -24,7 +25,7 @@ pub use tally::Tally;
 /// A name, and what compares.
 pub type Group = (&'static str, fn(&mut Tally));
 
-pub const GROUPS: [Group; 34] = [
+pub const GROUPS: [Group; 36] = [
     ("every set of attributes, written and read back", lines::every_set),
     ("every number of a set of criteria", lines::every_criteria_byte),
     ("names at the limits, buffers on both sides of the line's length", lines::names_and_rooms),
@@ -59,4 +60,6 @@ pub const GROUPS: [Group; 34] = [
     ("laws: rows that gain subscriptions by commands", laws::gains),
     ("laws: tables whose rows gain subscriptions", laws::gained_tables),
     ("laws: joined requests", laws::joins),
+    ("laws: own commands of walks", laws::own_commands),
+    ("walks below the longest names, over records and packed tables", longest_names::walks),
 ];

@@ -1,5 +1,7 @@
 //! The collector.
 
+use second::collector::WALK_REFUSALS;
+
 use super::both::{Lent, COLLECT, PROVED, SECOND};
 use super::tally::{Tally, Text, SEED};
 use crate::damage::damaged_table;
@@ -62,7 +64,7 @@ fn near(random: &mut Random, need: usize) -> usize {
 }
 
 /// Walks of a reader by both libraries, each over its form of the table, and gives what found and
-/// pending need.
+/// pending need. A walk that is refused gives one of six numbers (document 02, W12).
 pub fn collect_both(
     tally: &mut Tally,
     reader: u8,
@@ -75,9 +77,12 @@ pub fn collect_both(
             [rooms.scratch, rooms.found, rooms.pending].map(|room| vec![FILL; room]);
         let result =
             COLLECT[who](reader, tables[who], option, &mut scratch, &mut found, &mut pending);
-        (result, Text(scratch), Text(found), Text(pending))
+        let numbers = WALK_REFUSALS.map(second::Refusal::number);
+        let is_one_of_six = result.err().is_none_or(|number| numbers.contains(&number));
+        assert!(is_one_of_six || who == PROVED, "the second program refuses with {result:?}");
+        (result, is_one_of_six, Text(scratch), Text(found), Text(pending))
     });
-    let (result, _, _, pending) = &given[SECOND];
+    let (result, .., pending) = &given[SECOND];
     let need = Rooms {
         scratch: rooms.scratch,
         found: result.map_or(0, |(_, length)| length),

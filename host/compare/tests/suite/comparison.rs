@@ -72,7 +72,7 @@ fn calls_and_last_lines() {
     let second = second();
     let second = second.to_str().expect("text");
     let calls: [(&[&str], i32, &str); 11] = [
-        (&[second, "--seeds", "5..6"], 0, "40 passed, 0 failed\n"),
+        (&[second, "--seeds", "5..6"], 0, "42 passed, 0 failed\n"),
         (&[second, "--kind", "literals", "--seeds", "5..8"], 0, "3 passed, 0 failed\n"),
         (&[ECHO, "--kind", "literals", "--seeds", "5..8"], 1, "0 passed, 3 failed\n"),
         (&[ECHO], 1, "0 passed, 10 failed\n"),

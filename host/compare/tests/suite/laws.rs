@@ -1,5 +1,6 @@
-//! What must hold between the answers to several commands (document 02, W10 and W11), judged over the second
-//! program's answers: the trials reach what they are about, and a wrong answer does not pass.
+//! What must hold between the answers to several commands (document 02, W10 and W11), and of the collector's
+//! own (W12), judged over the second program's answers: the trials reach what they are about, and a wrong
+//! answer does not pass.
 
 use std::slice;
 
@@ -7,7 +8,7 @@ use compare::random::Random;
 use compare::reached::Reached;
 use compare::tables::NewRow;
 use compare::trials::{given_of, read_by_second, unreached, Given, Law, Trial, JUDGED};
-use compare::{gains, joins, kinds, more_patterns};
+use compare::{gains, joins, kinds, more_patterns, own_commands};
 use second::frames::Program;
 
 const TRIALS: u64 = 400;
@@ -104,6 +105,17 @@ fn joined_requests_are_merged() {
         ("a list with itself under RECURSIVEMATCH", 400),
     ];
     check_law(joins::LAW, &least);
+}
+
+#[test]
+fn own_commands_are_answered() {
+    let least = [
+        (JUDGED, 4_000),
+        ("the longest own command", 20),
+        ("a command below 15 levels", 150),
+        ("an answer with lines", 4_000),
+    ];
+    check_law(own_commands::LAW, &least);
 }
 
 /// The LIST lines of an answer.
@@ -245,13 +257,24 @@ fn a_wrong_join_does_not_pass() {
     ]);
 }
 
-/// A refusal, a line that is no line, and an answer too few.
+/// Any refusal of an own command but 9.
+#[test]
+fn a_refused_own_command_does_not_pass() {
+    let (trial, given) = tried(own_commands::LAW, 0);
+    for number in (1..=16).filter(|&number| number != 9) {
+        let reason = format!("an own command is refused with {number}");
+        assert!(is_refused(&trial, &given, 0, Err(number), &reason));
+    }
+    assert!(!is_refused(&trial, &given, 0, Err(9), ""));
+}
+
+/// A refusal with 8, a line that is no line, and an answer too few.
 #[test]
 fn no_answer_does_not_pass() {
     for kind in kinds().filter_map(|kind| kind.law()) {
         let (trial, given) = tried(kind, 0);
         let at = trial.claims[0].places()[0];
-        assert!(is_refused(&trial, &given, at, Err(9), "is refused with 9"));
+        assert!(is_refused(&trial, &given, at, Err(8), "is refused with 8"));
         let no_line = Ok(b"* LIST () \"/\" Foo\r\na OK done\r\n".to_vec());
         assert!(is_refused(&trial, &given, at, no_line, "a line is not read"));
         let twice = Ok(b"* LIST () \"/\" \"Foo\"\r\n".repeat(2));
@@ -269,6 +292,6 @@ fn what_is_not_reached() {
         assert_eq!(unreached(law.needed, &reached), [""; 0]);
         reached.add(JUDGED);
         assert_eq!(unreached(law.needed, &reached), (law.needed)());
-        assert!((law.needed)().len() > 7);
+        assert!((law.needed)().len() > 2);
     }
 }

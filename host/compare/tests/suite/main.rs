@@ -12,3 +12,4 @@ mod reached;
 mod readers;
 mod records;
 mod streams;
+mod walks;

@@ -1,10 +1,16 @@
 //! The collector's walk: its order, its finds, its buffers and its refusals.
 
-use second::{answer_reading, Table};
+use std::collections::BTreeSet;
+
+use second::collector::{own_commands, WALK_REFUSALS};
+use second::name::{is_lawful, MAX_LEVELS, MAX_NAME};
+use second::{answer_reading, check_table, collect, Refusal, Table};
 
 use crate::common::{check_dialogue, check_walk, table_of, Rows};
 
 const ROOM: usize = 4_096;
+/// The option bytes of walks that are not refused with 6.
+const LAWFUL: [u8; 6] = [0, 1, 2, 3, 6, 7];
 /// Levels before bytes: Foo-x stands before the names below Foo.
 #[test]
 fn order_of_the_walk() {
@@ -103,4 +109,107 @@ fn answer_length(command: &str) -> usize {
     let line = format!("{command}\r\n");
     answer_reading(0, Table::Packed(&table_of(NESTED)), &[], line.as_bytes(), &mut [0; ROOM])
         .expect("an answer")
+}
+
+/// "It sends tag `w`, selection in the order SUBSCRIBED RECURSIVEMATCH SPECIAL-USE REMOTE, reference "" first
+/// and later each pending name and "/", pattern "%"."
+#[test]
+fn its_own_commands() {
+    let texts = |option| {
+        let commands = own_commands(option, b"\x01a\x05a/\"\\b\0\0")?;
+        Some(commands.into_iter().map(|line| String::from_utf8(line).expect("text")).collect())
+    };
+    let lines = |selection: &str| -> Option<Vec<String>> {
+        let line = |reference| format!("w LIST ({selection}) \"{reference}\" \"%\"\r\n");
+        Some(["", "a/", r#"a/\"\\b/"#].map(line).to_vec())
+    };
+    assert_eq!(texts(0), lines("SUBSCRIBED RECURSIVEMATCH"));
+    assert_eq!(texts(1), lines("SUBSCRIBED RECURSIVEMATCH REMOTE"));
+    assert_eq!(texts(2), lines("SUBSCRIBED RECURSIVEMATCH SPECIAL-USE"));
+    assert_eq!(texts(3), lines("SUBSCRIBED RECURSIVEMATCH SPECIAL-USE REMOTE"));
+    assert_eq!(texts(6), lines("RECURSIVEMATCH SPECIAL-USE"));
+    assert_eq!(texts(7), lines("RECURSIVEMATCH SPECIAL-USE REMOTE"));
+    for option in (0..=u8::MAX).filter(|option| !LAWFUL.contains(option)) {
+        assert_eq!(own_commands(option, b""), None);
+    }
+}
+
+/// The longest names, of every byte that a name may hold, in two levels and in sixteen.
+fn longest_names() -> Vec<Vec<u8>> {
+    let mut names = Vec::new();
+    for byte in b' '..=b'~' {
+        names.push([vec![byte; MAX_NAME - 2].as_slice(), b"/x"].concat());
+        let mut name = [vec![byte; 11].as_slice(), b"/"].concat().repeat(MAX_LEVELS);
+        name.resize(MAX_NAME - 9, byte);
+        names.push([name.as_slice(), &[byte; 9]].concat());
+    }
+    names.retain(|name| is_lawful(name));
+    names
+}
+
+/// A row with every flag that makes a find of it, by any option byte that asks for remote names.
+fn found_row(name: &[u8]) -> Vec<u8> {
+    [&[0x20, 0x07, 0xFF, name.len() as u8], name].concat()
+}
+
+/// "We believe that the collector never passes on 3 to 8 from one of its own commands." (document 02, W12)
+#[test]
+fn own_commands_are_refused_for_room_alone() {
+    let (mut longest, names) = (0, longest_names());
+    assert_eq!(names.len(), 184);
+    for name in names {
+        let bytes = found_row(&name);
+        let table = Table::Packed(&bytes);
+        assert!(check_table(table));
+        for option in [1, 3, 7] {
+            let [mut scratch, mut found, mut pending] = [(); 3].map(|()| [0; ROOM]);
+            let walked = collect(0, table, option, &mut scratch, &mut found, &mut pending);
+            let (count, length) = walked.expect("a walk");
+            assert_eq!(found[..length], [&[name.len() as u8], name.as_slice()].concat());
+            let commands = own_commands(option, &pending).expect("a lawful byte");
+            assert_eq!(commands.len(), count);
+            for line in commands {
+                longest = longest.max(line.len());
+                let mut out = [0; ROOM];
+                let length = answer_reading(0, table, b"", &line, &mut out).expect("an answer");
+                for room in [0, length - 1] {
+                    let refused = answer_reading(0, table, b"", &line, &mut out[..room]);
+                    assert_eq!(refused, Err(Refusal::AnswerRoom));
+                }
+            }
+        }
+    }
+    // 198 bytes that are escaped, and "/".
+    let around = r#"w LIST (SUBSCRIBED RECURSIVEMATCH SPECIAL-USE REMOTE) "" "%""#.len() + 2;
+    assert_eq!(longest, around + 2 * (MAX_NAME - 2) + 1);
+}
+
+/// Readers, option bytes, tables that pass or not, and buffers of every kind: no number but the six is given,
+/// and each of them is.
+#[test]
+fn six_numbers_and_no_other() {
+    let longest = longest_names().into_iter().rev().map(|name| found_row(&name));
+    let bad = [vec![0], b"\0\x01\xFF\x04a//b".to_vec()];
+    let good =
+        [Vec::new(), table_of(NESTED), table_of(&[("a", "exists subscribed"), ("a/b", "0003")])];
+    let mut given = BTreeSet::new();
+    for table in bad.into_iter().chain(good).chain(longest.take(4)) {
+        for option in 0..=u8::MAX {
+            for reader in [0, 7, 8, 255] {
+                for room in [0, 2, 11, 100, 500, ROOM] {
+                    let sizes = [[room, 0, 0], [ROOM, room, 1], [ROOM, ROOM, room], [room; 3]];
+                    for sizes in sizes {
+                        let [mut scratch, mut found, mut pending] = sizes.map(|size| vec![1; size]);
+                        let table = Table::Packed(&table);
+                        let lent = (&mut scratch, &mut found, &mut pending);
+                        let walked = collect(reader, table, option, lent.0, lent.1, lent.2);
+                        given.extend(walked.err());
+                    }
+                }
+            }
+        }
+    }
+    assert_eq!(given, BTreeSet::from(WALK_REFUSALS));
+    let numbers = given.into_iter().map(Refusal::number);
+    assert_eq!(numbers.collect::<Vec<u8>>(), [1, 6, 9, 10, 11, 16]);
 }

@@ -72,3 +72,4 @@ pub mod OwnCommands
 pub mod JoinedShape
 pub mod JoinedLine
 pub mod JoiningTables
+pub mod SessionTables

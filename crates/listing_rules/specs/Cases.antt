@@ -3,7 +3,7 @@ use mathlib.Core.List.{List, [], _∷_, _++_, map}
 use mathlib.Core.Bool.{Bool, true, false, cond, _&&_, _||_, not}
 use lib.Dec.{eqb}
 use lib.ListN.{length, take, replicate}
-use Prim.Native.Nat.{ℕ, suc, _+_, _/_, _%_}
+use Prim.Native.Nat.{ℕ, suc, _+_, _-_, _/_, _%_}
 use Prim.Native.String.{String}
 use Rattle.listing_rules.specs.Bytes.{text, crlf, same, isEmpty}
 use Rattle.listing_rules.specs.Lists.{every, anyOf}
@@ -11,19 +11,19 @@ use Rattle.listing_rules.specs.Table.{Table, rows, passes, packedTable}
 use Rattle.listing_rules.specs.Records.{Record, recordTable}
 use Rattle.listing_rules.specs.Readers.{isReader, recordsSeen, packedSeen}
 use Rattle.listing_rules.specs.Command.{Edit}
-use Rattle.listing_rules.specs.Subscriptions.{Store, Edited, denied as refusedEdit, stored, edited, subscribedNames}
+use Rattle.listing_rules.specs.Subscriptions.{Store, Edited, denied as refusedEdit, stored, edited, isIn, subscribedNames}
 use Rattle.listing_rules.specs.Namespaces.{namespacesPass}
 use Rattle.listing_rules.specs.Feeder.{Event, handed, goOn, denied, quiet, goOnLine, Feeder, reading, inLiteral, dropping, first, feedChunks}
 use Rattle.listing_rules.specs.Options.{criteriaNumber}
 use Rattle.listing_rules.specs.Server.{Reply, refusal, answered, answer, limited, fromReader, servedTo, numberOf, lengthOf, bufferAfter, commanded}
-use Rattle.listing_rules.specs.Series.{Sent, commandedAll}
+use Rattle.listing_rules.specs.Series.{Sent, commandedAll, setSent}
 use Rattle.listing_rules.specs.Compaction.{compaction}
 use Rattle.listing_rules.specs.Reader.{Read, line, root, bad, readLine, readNumber, attributesRead, childInfoOf, nameBytes, sameBools, lineFrom}
 use Rattle.listing_rules.specs.Reader.{written}
 use Rattle.listing_rules.specs.Walk.{lawfulByte, WalkReply, walkRefused, walked, walkBy, collectedBy, walkNumber, walkCount, foundLength}
 use Rattle.listing_rules.specs.Walk.{scratchAfter, foundAfter, pendingAfter}
 use Rattle.listing_rules.specs.Demand3.{declaredWalk, tooSmall}
-use Rattle.listing_rules.specs.Frames.{Kept, bytes, records, programOutput, step, walkLine}
+use Rattle.listing_rules.specs.Frames.{Kept, bytes, records, programStore, programOutput, step, walkLine}
 
 -- a row of these readers, one that all eight see, and an entry, in bytes
 abbrev pub rowFor : ℕ → ℕ → List ℕ → List ℕ
@@ -126,6 +126,15 @@ pub data Case : Type 0 where
   feeds : List (List ℕ) → List Event → Bool → Case
   -- the continuation line
   continues : List ℕ → Case
+  -- of a reader: a packed table, a namespace list and a command line are answered so, in a buffer of 512 bytes
+  serves : ℕ → List ℕ → List ℕ → List ℕ → Reply → Case
+  -- of a reader: a packed table and an option byte, with 512 bytes of scratch and 64 of found and of pending, are collected so
+  collects : ℕ → List ℕ → ℕ → WalkReply → Case
+  -- the program lays packed rows out so: the records of the rows, and the bytes of their names; 512 records and 16,384 bytes, zero after these
+  laysOut : List ℕ → List Record → List ℕ → Case
+  -- records and commands as they are sent, each with its reader, namespace list and buffer: the names subscribed then, in the order of the rows, which
+  -- a plain set has too, and names that it has not
+  sentSeries : Lent → List Sent → List (List ℕ) → List (List ℕ) → Case
 
 -- what is lent as a store, and what an edit leaves
 abbrev pub lentStore : Lent → Store
@@ -255,6 +264,17 @@ holds (answersFrame t l n o) =
 holds (counts c o) = same (walkLine (walked c [] [])) o
 holds (feeds cs es b) = let f = feedChunks first cs in same (eventBytes (f .events)) (eventBytes es) && sameFlag (isFirst (f .state)) b
 holds (continues l) = same goOnLine l
+holds (serves reader t ns l r) = sameReply (servedTo reader (packedSeen reader t) ns l (times 512 0)) r
+holds (collects reader t o r) = sameWalk (collectedBy reader (packedSeen reader t) o (times 512 0) (times 64 0) (times 64 0)) r
+holds (laysOut t rs a) =
+    sameStore (programStore t) (record {
+      records = rs ++ replicate (512 - length rs) (record { flags = 0; start = 0; len = 0; readers = 0 });
+      count = length rs;
+      area = a ++ times (16384 - length a) 0;
+    })
+holds (sentSeries t cs ns others) =
+    let set = setSent (lentStore t) (isIn (subscribedNames (lentStore t))) cs in
+    sameNames (subscribedNames (commandedAll (lentStore t) cs)) ns && every set ns && not (anyOf set others)
 
 -- the places of the cases that fail, counted from k
 abbrev pub failures : ℕ → List Case → List ℕ

@@ -30,5 +30,6 @@ pub mod Frames
 pub mod Cases
 pub mod ExpertSheet
 pub mod Limits
+pub mod SessionCases
 pub mod EvidenceCases
 pub mod JoiningCases

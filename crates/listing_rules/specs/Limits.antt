@@ -228,6 +228,7 @@ records-layout =
     ∷ lent "aab" (at 0x0001 1 1 ∷ at 0x0001 0 3 ∷ []) 2
     ∷ lent "ab" (at 0x0001 1 2 ∷ []) 1 ∷ lent "ab" (at 0x0001 2 1 ∷ []) 1 ∷ lent "ab" (at 0x0001 65535 200 ∷ []) 1
     ∷ lent "ab" (at 0x0001 1 0 ∷ []) 1 ∷ lent "ba" (at 0x0001 0 1 ∷ at 0x0001 1 1 ∷ []) 2
+    ∷ lent "ACxB" (at 0x0001 0 2 ∷ at 0x0001 3 1 ∷ at 0x0001 1 2 ∷ []) 3
     ∷ lent "a" (at 0x0001 0 1 ∷ []) 2 ∷ lent "" [] 1
     ∷ lent "a%" (at 0x0001 0 2 ∷ []) 1 ∷ lent "a" (at 0x0000 0 1 ∷ []) 1 ∷ lent "a/ba" (at 0x0011 3 1 ∷ at 0x0001 0 3 ∷ []) 2 ∷ [])
     ∷ []
@@ -257,6 +258,7 @@ edits-made =
     edits b-and-d (sub "b" ∷ []) (leaves (lent "bd???" (at 0x0003 0 1 ∷ at 0x0001 1 1 ∷ at 0xFFFF 9 9 ∷ at 0xFFFF 0 5 ∷ []) 2))
     ∷ edits (lent "ab" (at 0x0003 0 1 ∷ at 0x0002 1 1 ∷ []) 2) (subs ("a" ∷ "b" ∷ [])) (leaves (lent "ab" (at 0x0003 0 1 ∷ at 0x0002 1 1 ∷ []) 2))
     ∷ edits (lent "a" (at 0x7F3D 0 1 ∷ []) 1) (sub "a" ∷ []) (leaves (lent "a" (at 0x7F3F 0 1 ∷ []) 1))
+    ∷ edits (lent "a" (at 0x0021 0 1 ∷ []) 1) (sub "a" ∷ []) (leaves (lent "a" (at 0x0023 0 1 ∷ []) 1))
     ∷ edits (lent "a" (at 0x7F3F 0 1 ∷ []) 1) (unsub "a" ∷ []) (leaves (lent "a" (at 0x7F3D 0 1 ∷ []) 1))
     ∷ edits (lent "a" (at 0x7F3D 0 1 ∷ []) 1) (unsub "a" ∷ []) (leaves (lent "a" (at 0x7F3D 0 1 ∷ []) 1))
     ∷ edits b-and-d (sub "a" ∷ []) (leaves (lent "bda??" (at 0x0002 2 1 ∷ at 0x0001 0 1 ∷ at 0x0001 1 1 ∷ at 0xFFFF 0 5 ∷ []) 3))
@@ -813,6 +815,8 @@ program-digits-and-room =
     ∷ steps 16383 0 (text "4D0000") 16383 0 (text "5201\n")
     ∷ steps 0 1023 (text "4E00") 0 1024 []
     ∷ steps 0 1023 (text "4E0000") 0 1023 (text "5202\n")
+    ∷ steps 16384 3 (text "4D00") 16384 3 (text "5201\n")
+    ∷ steps 3 1024 (text "4E00") 3 1024 (text "5202\n")
     ∷ counts 515 (text "570203\n")
     ∷ []
 

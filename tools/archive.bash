@@ -1,5 +1,5 @@
-# For ./serve and ./install, which read it: the proved library's archive. Nothing here is run by itself. They set `root`, the repository's
-# folder, and `own`, their name, first.
+# For ./serve, ./install and tools/walker, which read it: the proved library's archive. Nothing here is run by itself. They set
+# `root`, the repository's folder, and `own`, their name, first.
 # shellcheck disable=SC2154
 trouble=1
 # shellcheck source=tools/building.bash

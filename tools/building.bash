@@ -1,9 +1,36 @@
-# For ./run, ./import, ./serve and ./install, which read it: what they tell, and what is built and current. Nothing here is run by itself.
-# They set `root`, the repository's folder, `own`, their name, and `trouble`, their status where something is not proved, not built or not
-# there, first.
+# For ./run, ./import, ./compare, ./serve, ./install and tools/walker, which read it: what they tell, and what is built and current.
+# Nothing here is run by itself. They set `root`, the repository's folder, `own`, their name, and `trouble`, their status where something
+# is not proved, not built or not there, first.
 # shellcheck disable=SC2154
 
-say() { printf '%s: %s\n' "$own" "$*" >&2; }
+# A text that moves no cursor and ends no line: bytes but 20 to 7E as \x and two digits. In a text that has such a byte, or that could be
+# read so, each backslash is two. The locale is C.
+escaped() { # TEXT
+    local text=$1 byte shown='' at
+    case $text in
+    *[!\ -~]* | *\\x[0-9A-Fa-f][0-9A-Fa-f]*) ;;
+    *)
+        printf '%s' "$text"
+        return
+        ;;
+    esac
+    for ((at = 0; at < ${#text}; at += 1)); do
+        byte=${text:at:1}
+        case $byte in
+        \\) shown+=$byte$byte ;;
+        [\ -~]) shown+=$byte ;;
+        *)
+            printf -v byte '%d' "'$byte"
+            printf -v byte '\\x%02X' "$((byte & 255))"
+            shown+=$byte
+            ;;
+        esac
+    done
+    printf '%s' "$shown"
+}
+
+# One line on standard error.
+say() { printf '%s: %s\n' "$own" "$(escaped "$*")" >&2; }
 failed() {
     say "$*"
     exit "$trouble"
@@ -31,6 +58,10 @@ set_stamp() { # FILE FILES-SUM
         say 'what was built cannot be noted, so it is looked at again the next time'
     fi
 }
+
+# The sums that a stamp notes: of the files, and of the file that was built from them. Nothing where there is no stamp.
+stamped_files_sum() { sed -n '1s/ .*//p' -- "$(stamp_of "$1")" 2>/dev/null; }
+stamped_sum() { sed -n '2s/ .*//p' -- "$(stamp_of "$1")" 2>/dev/null; }
 
 # Where a program of the workspace host/ lies once it is built.
 host_program() { # PACKAGE

@@ -45,9 +45,10 @@ pub struct Running {
     report: Receiver<Vec<u8>>,
 }
 
-/// The whole path of a program, or that it cannot be found.
+/// The whole path of a program, or that it cannot be found. The path is escaped in the message.
 pub fn find_program(path: &Path) -> Result<PathBuf, String> {
-    path.canonicalize().map_err(|error| format!("cannot find {}: {error}", path.display()))
+    let shown = path.as_os_str().as_encoded_bytes().escape_ascii();
+    path.canonicalize().map_err(|error| format!("cannot find {shown}: {error}"))
 }
 
 /// What sends these frames.

@@ -1,16 +1,18 @@
 //! A recorded answer of a server to LIST and LSUB.
 //!
-//! Every untagged LIST and LSUB line is read; other lines have no mailboxes and are counted. A file may
-//! hold several answers: what they say of one name is brought together. A LIST line says that a mailbox
-//! exists, unless it has `\NonExistent`; an LSUB line says that its name is subscribed, unless it has
-//! `\Noselect`, which marks a level above subscribed names (RFC 3501, 6.3.9).
-//!
-//! A line may start with `S: ` or `< `, as in the record of a session.
+//! Every untagged LIST and LSUB line is read, after whatever a record of a session writes before it
+//! ([`crate::marks`]). Of the other lines each that may be an answer ([`crate::mention`]) is left out by
+//! its number and its text; the rest have no mailboxes and are counted. A file may hold several answers:
+//! what they say of one name is brought together. A LIST line says that a mailbox exists, unless it has
+//! `\NonExistent`; an LSUB line says that its name is subscribed, unless it has `\Noselect`, which marks a
+//! level above subscribed names (RFC 3501, 6.3.9).
 
 use second::rows::Flags;
 use session::line_text;
 
 use crate::found::{Found, Said};
+use crate::mention::may_be_answer;
+use crate::record::Record;
 use crate::response::{Cursor, Response, Word};
 use crate::told::Told;
 
@@ -36,48 +38,135 @@ const DERIVED: [&[u8]; 2] = [b"\\haschildren", b"\\hasnochildren"];
 /// What the table itself says of names below.
 const DERIVED_TAG: &[u8] = b"CHILDINFO";
 
-/// What a record writes before the lines of a server.
-const SERVER_MARKS: [&[u8]; 2] = [b"S: ", b"< "];
+/// No literal that ends after so many bytes of a response is one of a name.
+const MOST_RESPONSE: usize = 1 << 12;
 
-/// Everything that an answer says. None where there is no LIST or LSUB line at all.
+/// Everything that an answer says. None where no line is an answer, nor may be one.
 pub fn read_answer(bytes: &[u8], told: &mut Told) -> Option<Vec<Found>> {
-    let mut all_found = Vec::new();
-    let (mut has_list, mut has_lsub) = (false, false);
-    let mut others = Others::default();
-    let (mut cursor, mut number) = (Cursor::new(bytes), 1);
-    while !cursor.rest().is_empty() {
-        let start = cursor.rest();
-        let line = server_line(start);
-        let Some((word, rest)) = Word::split(line) else {
-            others.count(number, Cursor::new(line).line(), told);
-            skip_other(&mut cursor);
-            number += line_ends(start, cursor.rest());
-            continue;
-        };
-        has_list |= word == Word::List;
-        has_lsub |= word == Word::Lsub;
-        let origin = format!("line {number}");
-        let mut after = Cursor::new(rest);
+    let mut reading = Reading::of(Record::of(bytes), told);
+    let mut at = 0;
+    while at < reading.record.length() {
+        at += reading.lines_at(at);
+    }
+    reading.finished()
+}
+
+struct Reading<'t, 'o> {
+    record: Record<'t>,
+    told: &'o mut Told,
+    all_found: Vec<Found>,
+    has_list: bool,
+    has_lsub: bool,
+    /// Whether a line may have been an answer, and was not read.
+    has_missed: bool,
+    others: Others,
+}
+
+impl<'t, 'o> Reading<'t, 'o> {
+    fn of(record: Record<'t>, told: &'o mut Told) -> Reading<'t, 'o> {
+        let (has_list, has_lsub, has_missed) = (false, false, false);
+        let (all_found, others) = (Vec::new(), Others::default());
+        Reading { record, told, all_found, has_list, has_lsub, has_missed, others }
+    }
+
+    fn finished(self) -> Option<Vec<Found>> {
+        self.others.tell(self.told);
+        if self.has_lsub && !self.has_list {
+            self.told.note("the answer", "it has no LIST line, so no mailbox is known to exist");
+        }
+        (self.has_list || self.has_lsub || self.has_missed).then_some(self.all_found)
+    }
+
+    /// Reads what starts in a line. How many lines that has.
+    fn lines_at(&mut self, at: usize) -> usize {
+        let line = self.record.marked(at);
+        match Word::split(&line.text) {
+            Some((word, _)) => self.listing_at(word, at),
+            None => self.other_at(at, line.is_untagged()),
+        }
+    }
+
+    /// A LIST or LSUB line. One that cannot be read hides no line after it: what looked like its literal
+    /// may be the next line, where the record leaves literals out.
+    fn listing_at(&mut self, word: Word, at: usize) -> usize {
+        self.has_list |= word == Word::List;
+        self.has_lsub |= word == Word::Lsub;
+        let text = self.record.response(at, MOST_RESPONSE);
+        let mut after = Cursor::new(Word::split(&text).map_or(b"", |(_, rest)| rest));
+        let origin = line_origin(at);
         match after.response(word) {
-            Ok(response) => all_found.extend(found_of(&origin, response, told)),
+            Ok(response) => {
+                self.all_found.extend(found_of(&origin, response, self.told));
+                let count = line_count(&text, after.rest());
+                self.miss_within(at, count);
+                count
+            }
             Err(reason) => {
-                let line = line_text(Cursor::new(line).line());
-                told.not_taken(&origin, &format!("cannot be read: {reason}: {line}"));
-                after.skip_line();
+                let line = line_text(self.record.line(at));
+                self.told.not_taken(&origin, &format!("cannot be read: {reason}: {line}"));
+                1
             }
         }
-        number += line_ends(start, after.rest());
-        cursor = after;
     }
-    others.tell(told);
-    if has_lsub && !has_list {
-        told.note("the answer", "it has no LIST line, so no mailbox is known to exist");
+
+    /// A line that is neither, with its literals if it is untagged or appends a message: what stands in a
+    /// literal is no line.
+    fn other_at(&mut self, at: usize, is_untagged: bool) -> usize {
+        let count = if is_untagged {
+            line_count(&self.record.response(at, usize::MAX), b"")
+        } else {
+            self.record.append_length(at).unwrap_or(1)
+        };
+        self.other_line(at);
+        self.miss_within(at, count);
+        count
     }
-    (has_list || has_lsub).then_some(all_found)
+
+    /// Lines in the literals of a response that has so many lines.
+    fn miss_within(&mut self, at: usize, count: usize) {
+        for inner in at + 1..at + count {
+            if may_be_answer(self.record.line(inner)) {
+                self.miss(inner, &format!("within a literal of line {}, not read", at + 1));
+            }
+        }
+    }
+
+    /// An empty line says nothing. A word such as XLIST may name mailboxes.
+    fn other_line(&mut self, at: usize) {
+        let line = self.record.line(at);
+        let text = self.record.marked(at).text;
+        let mut words = text.split(|&byte| byte == b' ').filter(|word| !word.is_empty());
+        let is_untagged = words.next() == Some(b"*");
+        let word = words.next().unwrap_or_default().to_ascii_uppercase();
+        if is_untagged && (word.ends_with(b"LIST") || word.ends_with(b"LSUB")) {
+            self.miss(at, "neither LIST nor LSUB, not read");
+        } else if may_be_answer(line) {
+            self.miss(at, "like an answer, and not at the start of a line of the server, not read");
+        } else if !line.trim_ascii().is_empty() {
+            self.others.count(at, line);
+        }
+    }
+
+    fn miss(&mut self, at: usize, reason: &str) {
+        self.has_missed = true;
+        let line = line_text(self.record.line(at));
+        self.told.not_taken(&line_origin(at), &format!("{reason}: {line}"));
+    }
+}
+
+fn line_origin(at: usize) -> String {
+    format!("line {}", at + 1)
+}
+
+/// How many lines, at least one, a text has before what is left of it.
+fn line_count(text: &[u8], rest: &[u8]) -> usize {
+    let used = &text[..text.len() - rest.len()];
+    let ends = used.iter().filter(|&&byte| byte == b'\n').count();
+    ends + usize::from(!used.ends_with(b"\n"))
 }
 
 /// What one response says, or none for the root, which is no mailbox.
-fn found_of(origin: &str, response: Response, told: &mut Told) -> Option<Found> {
+pub(crate) fn found_of(origin: &str, response: Response, told: &mut Told) -> Option<Found> {
     let Response { word, attributes, delimiter, name, tags } = response;
     if name.is_empty() {
         told.note(origin, "the root, which is no mailbox");
@@ -134,61 +223,24 @@ fn said_by_lsub(mut flags: Flags) -> Said {
     }
 }
 
-/// How many lines end between two places, the second given by what is left there.
-fn line_ends(start: &[u8], rest: &[u8]) -> usize {
-    start[..start.len() - rest.len()].iter().filter(|&&byte| byte == b'\n').count()
-}
-
-/// What is left, without the mark of a record before its first line.
-fn server_line(rest: &[u8]) -> &[u8] {
-    SERVER_MARKS.iter().find_map(|mark| rest.strip_prefix(*mark)).unwrap_or(rest)
-}
-
-/// Goes past a line that is no LIST or LSUB line, and past its literals if it is an untagged one: what
-/// stands in a literal is no line.
-fn skip_other(cursor: &mut Cursor) {
-    let mut is_untagged = server_line(cursor.rest()).starts_with(b"* ");
-    loop {
-        let line = cursor.line();
-        let header = line.iter().rposition(|&byte| byte == b'{').filter(|_| is_untagged);
-        let Some(at) = header else {
-            return cursor.skip_line();
-        };
-        let mut ahead = Cursor::new(&cursor.rest()[at..]);
-        is_untagged = ahead.literal().is_ok();
-        if is_untagged {
-            *cursor = ahead;
-        }
-    }
-}
-
 /// Lines without a mailbox.
 #[derive(Default)]
 struct Others {
     count: usize,
-    /// The first of them, and its number.
-    first: Option<(usize, String)>,
+    /// The first of them: where it stands, and its text.
+    first: Option<(String, String)>,
 }
 
 impl Others {
-    /// An empty line says nothing. A word such as XLIST may name mailboxes.
-    fn count(&mut self, number: usize, line: &[u8], told: &mut Told) {
-        let mut words = line.split(|&byte| byte == b' ');
-        let is_untagged = words.next() == Some(b"*");
-        let word = words.next().unwrap_or_default().to_ascii_uppercase();
-        if is_untagged && (word.ends_with(b"LIST") || word.ends_with(b"LSUB")) {
-            let reason = format!("neither LIST nor LSUB, not read: {}", line_text(line));
-            told.not_taken(&format!("line {number}"), &reason);
-        } else if !line.trim_ascii().is_empty() {
-            self.count += 1;
-            self.first.get_or_insert_with(|| (number, line_text(line)));
-        }
+    fn count(&mut self, at: usize, line: &[u8]) {
+        self.count += 1;
+        self.first.get_or_insert_with(|| (line_origin(at), line_text(line)));
     }
 
-    fn tell(self, told: &mut Told) {
-        if let Some((number, line)) = self.first {
+    fn tell(&self, told: &mut Told) {
+        if let Some((origin, line)) = &self.first {
             let text = format!("the first of {} without a mailbox, not read: {line}", self.count);
-            told.note(&format!("line {number}"), &text);
+            told.note(origin, &text);
         }
     }
 }

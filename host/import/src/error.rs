@@ -1,8 +1,10 @@
-//! Why a store cannot be read, and paths as text.
+//! Why a store cannot be read.
 
 use std::fmt;
 use std::io;
 use std::path::{Path, PathBuf};
+
+use session::path_text;
 
 /// Why a store cannot be read at all. Nothing is written then.
 #[derive(Debug)]
@@ -29,9 +31,4 @@ impl fmt::Display for StoreError {
             }
         }
     }
-}
-
-/// A path as text that can be taken for nothing else.
-pub fn path_text(path: &Path) -> String {
-    session::comment_text(path.as_os_str().as_encoded_bytes())
 }

@@ -4,7 +4,7 @@ use second::name::{self, DELIMITER};
 use second::rows::Flags;
 
 /// What one line or folder of a store says.
-#[derive(Clone, Debug)]
+#[derive(Clone, Debug, PartialEq, Eq)]
 pub struct Found {
     /// Where it stands, for whoever is told of it.
     pub origin: String,
@@ -25,6 +25,20 @@ pub enum Said {
     Subscribed(Flags),
     /// The name is a level above others, and no mailbox. The flags are said beside that.
     Level(Flags),
+    /// Flags that whoever calls adds to a name of the table, and that are no reason for a row but for
+    /// SUBSCRIBED.
+    Added(Flags),
+}
+
+impl Said {
+    pub fn flags(self) -> Flags {
+        match self {
+            Said::Exists(flags)
+            | Said::Subscribed(flags)
+            | Said::Level(flags)
+            | Said::Added(flags) => flags,
+        }
+    }
 }
 
 impl Found {

@@ -47,8 +47,9 @@ impl Room {
 /// What is said of one name, by everything that says something of it.
 #[derive(Debug)]
 struct Entry {
-    /// Of the first that named it.
+    /// Of the first in the store that named it.
     origin: String,
+    /// Empty where nothing in the store names it.
     own_name: Vec<u8>,
     /// Of a mailbox that exists; none where nothing says that it does.
     existing: Option<Flags>,
@@ -57,6 +58,9 @@ struct Entry {
     is_level: bool,
     /// Said of it where it is not said to exist.
     beside: Flags,
+    /// Added to it by whoever calls, and where.
+    added: Flags,
+    added_origin: String,
 }
 
 /// What a store says, by the names of the table, which ascend by their bytes.
@@ -84,11 +88,19 @@ impl Gathered {
         if let Some(rule) = name::broken_rule(&name) {
             return told.left_out(origin, &found.name, rule);
         }
+        if matches!(found.said, Said::Added(_)) {
+            let entry = self.entries.entry(name).or_insert_with(|| Entry::new(origin, &[]));
+            return entry.add(origin, found.said);
+        }
         let own_name = found.own_name(&name);
         if own_name != found.name {
             told.note_name(origin, &found.name, "spelled INBOX in its first level");
         }
         let entry = self.entries.entry(name).or_insert_with(|| Entry::new(origin, &own_name));
+        if entry.own_name.is_empty() {
+            entry.own_name.clone_from(&own_name);
+            entry.origin.clone_from(origin);
+        }
         if entry.own_name != own_name {
             let reason = format!(
                 "it would have the name of another mailbox, of {}, which the table keeps",
@@ -96,7 +108,7 @@ impl Gathered {
             );
             return told.left_out(origin, &found.name, &reason);
         }
-        entry.add(found.said);
+        entry.add(origin, found.said);
     }
 
     /// The rows, in the order of the bytes of their names. They pass check 1.
@@ -145,10 +157,12 @@ impl Entry {
             is_subscribed: false,
             is_level: false,
             beside: Flags::IMPLIED,
+            added: Flags::IMPLIED,
+            added_origin: String::new(),
         }
     }
 
-    fn add(&mut self, said: Said) {
+    fn add(&mut self, origin: &str, said: Said) {
         match said {
             Said::Exists(flags) => {
                 let before = self.existing.unwrap_or(Flags::EXISTS);
@@ -163,6 +177,11 @@ impl Entry {
                 self.is_level = true;
                 self.beside.add(beside);
             }
+            Said::Added(flags) => {
+                self.is_subscribed |= flags.has(Flags::SUBSCRIBED);
+                self.added.add(flags);
+                self.added_origin = origin.to_string();
+            }
         }
     }
 
@@ -171,8 +190,10 @@ impl Entry {
     fn flags(&self, name: &[u8], told: &mut Told) -> Option<Flags> {
         let Some(mut flags) = self.existing else {
             self.tell_beside(name, Flags::SUBSCRIBED, told);
+            self.tell_added(name, told);
             return self.is_subscribed.then_some(Flags::SUBSCRIBED);
         };
+        flags.add(self.added);
         if self.is_subscribed {
             flags.add(Flags::SUBSCRIBED);
         }
@@ -199,6 +220,17 @@ impl Entry {
             told.left_out(&self.origin, name, &reason);
         }
     }
+
+    /// What was added to it, which does not exist.
+    fn tell_added(&self, name: &[u8], told: &mut Told) {
+        let mut lost = self.added;
+        lost.remove(Flags::SUBSCRIBED);
+        if lost != Flags::IMPLIED {
+            let words = session::words_of_flags(lost);
+            let reason = format!("there is no such mailbox, so none is {words}");
+            told.left_out(&self.added_origin, name, &reason);
+        }
+    }
 }
 
 /// The ancestor of a name that has a row with no inferiors, if one has.
@@ -216,7 +248,7 @@ fn above_without_inferiors<'n>(
 /// A level needs no row where one lies below it: its name is implied.
 fn tell_level(name: &[u8], entry: &Entry, rows: &[Row], told: &mut Told) {
     let prefix = name::descendant_prefix(name);
-    if !rows.iter().any(|row| row.name.starts_with(&prefix)) {
+    if entry.is_level && !rows.iter().any(|row| row.name.starts_with(&prefix)) {
         let reason = "it neither exists nor is subscribed, and no row lies below it";
         told.left_out(&entry.origin, name, reason);
     }

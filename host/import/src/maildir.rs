@@ -1,206 +1,304 @@
-//! A Maildir++ tree.
+//! Trees of folders in which a folder is a mailbox, in the three layouts that Dovecot writes.
 //!
-//! The folder itself is INBOX. A folder `.A.B` in it is the mailbox A/B. A mailbox is there where `cur`,
-//! `new` and `tmp` all are. The file `subscriptions` has the subscribed names, one a line: with "."
-//! between the levels, or in the form whose first line is `V`, a tab and `2`, with tabs.
+//! | Layout | A mailbox A/B | INBOX | Delimiter of `subscriptions` |
+//! |---|---|---|---|
+//! | Maildir++ | the folder `.A.B`, with `cur`, `new` and `tmp` | the tree's own folder | "." |
+//! | LAYOUT=fs | the folder `A/B`, with `cur`, `new` and `tmp` | the folder `INBOX`, or the tree's own | "/" |
+//! | dbox | the folder `mailboxes/A/B`, with `dbox-Mails` | the folder `mailboxes/INBOX` | "/" |
+//!
+//! Every folder of the tree is looked at. One that is no mailbox and not empty is left out by its name,
+//! unless mailboxes lie below it where the layout has them: then it is a level.
 
-use std::ffi::OsStr;
-use std::fs;
-use std::io;
-use std::os::unix::ffi::OsStrExt;
 use std::path::Path;
 
 use second::name::INBOX;
-use second::rows::Flags;
-use session::line_text;
+use session::Sum;
 
 use crate::error::StoreError;
-use crate::found::{Found, Said};
+use crate::found::Found;
+use crate::strays::Look;
 use crate::told::Told;
+use crate::tree::Folder;
 
-/// What parts the levels of a folder's name, and stands before the first.
-const DELIMITER: u8 = b'.';
-/// The folders of a mailbox.
-const PARTS: [&str; 3] = ["cur", "new", "tmp"];
+/// The folders of a mailbox in a Maildir.
+const MAILDIR_PARTS: &[&str] = &["cur", "new", "tmp"];
+/// The folder of a mailbox in dbox, single (sdbox) or multiple (mdbox).
+const DBOX_PARTS: &[&str] = &["dbox-Mails"];
+const ALL_PARTS: &[&str] = &["cur", "new", "tmp", "dbox-Mails"];
+/// Where dbox has its mailboxes.
+const DBOX_MAILBOXES: &[u8] = b"mailboxes";
+/// Where mdbox has its messages, in files that start so.
+const DBOX_STORAGE: &[u8] = b"storage";
+const DBOX_STORAGE_FILES: [&[u8]; 2] = [b"m.", b"dovecot.map.index"];
+
 const SUBSCRIPTIONS: &str = "subscriptions";
 /// Subscriptions as another server keeps them.
 const OTHER_SUBSCRIPTIONS: &str = "courierimapsubscribed";
+/// Folders that Courier keeps in each mailbox.
+const COURIER_FOLDERS: [&[u8]; 2] = [b"courierimapkeywords", b"courierimaphieracl"];
+/// The digits of the identifiers that LAYOUT=index has in place of names.
+const GUID_DIGITS: usize = 32;
 
-/// The first line of subscriptions whose levels are parted by tabs. In them byte 01 and one more stand
-/// for a byte that no lawful name has, so no such name is lawful and they may stay as they are.
-const TABBED: &[u8] = b"V\t2";
-const TAB: u8 = b'\t';
+/// How mailboxes lie in a tree.
+#[derive(Clone, Copy, Debug, PartialEq, Eq)]
+pub enum Layout {
+    MaildirPlusPlus,
+    Fs,
+    Dbox,
+}
 
-/// Everything that a tree says.
-pub fn read_maildir(root: &Path, told: &mut Told) -> Result<Vec<Found>, StoreError> {
-    let mut all_found = Vec::new();
-    let folders = subfolders(root, told).map_err(StoreError::unreadable(root))?;
-    let inbox = missing_parts(root).map_err(StoreError::unreadable(root))?;
-    let is_folder = |name: &Vec<u8>| name.starts_with(&[DELIMITER]);
-    if inbox.len() == PARTS.len() && !folders.iter().any(is_folder) {
-        let reason =
-            "no Maildir: neither cur, new and tmp nor a folder whose name starts with \".\"";
-        return Err(StoreError::NoStore(root.to_path_buf(), reason));
-    }
-    match inbox.as_slice() {
-        [] => all_found.push(existing("the folder itself".to_string(), INBOX)),
-        missing => tell_no_mailbox("the folder itself", missing, told),
-    }
-    for folder in &folders {
-        let path = root.join(OsStr::from_bytes(folder));
-        let origin = format!("folder {}", line_text(folder));
-        match folder.strip_prefix(&[DELIMITER]) {
-            Some(name) => all_found.extend(folder_found(&path, &origin, name, told)),
-            None => tell_other(&path, &origin, told),
+/// What a tree says.
+pub struct Maildir {
+    pub layout: Layout,
+    pub all_found: Vec<Found>,
+    pub folders_sum: Sum,
+    /// Of the file of subscriptions, if there is one.
+    pub subscriptions_sum: Option<Sum>,
+}
+
+impl Layout {
+    fn of(root: &Folder) -> Layout {
+        let has_maildir = |folder: &Folder| has_part(folder, MAILDIR_PARTS);
+        let has_dbox = |folder: &Folder| has_part(folder, DBOX_PARTS);
+        let is_part = |folder: &&Folder| is_part(folder.name(), Layout::Fs);
+        let (dotted, plain): (Vec<&Folder>, Vec<&Folder>) = root
+            .folders
+            .iter()
+            .filter(|folder| !is_part(folder))
+            .partition(|folder| folder.name().starts_with(b"."));
+        let is_nested = |folder: &Folder| has_maildir(folder) || folder.has_below(&has_maildir);
+        if root.has_below(&has_dbox) {
+            Layout::Dbox
+        } else if plain.into_iter().any(is_nested) && !dotted.into_iter().any(has_maildir) {
+            Layout::Fs
+        } else {
+            Layout::MaildirPlusPlus
         }
     }
-    all_found.extend(subscriptions(root, told)?);
-    Ok(all_found)
-}
 
-/// What a folder says whose name starts with the delimiter.
-fn folder_found(path: &Path, origin: &str, name: &[u8], told: &mut Told) -> Option<Found> {
-    match missing_parts(path).as_deref() {
-        Ok([]) if name.eq_ignore_ascii_case(INBOX) => {
-            told.left_out(origin, name, "the folder above it is INBOX");
-            None
+    /// Between the levels of a name, in folders and in the file of subscriptions.
+    fn delimiter(self) -> u8 {
+        match self {
+            Layout::MaildirPlusPlus => b'.',
+            Layout::Fs | Layout::Dbox => b'/',
         }
-        Ok([]) => {
-            tell_inner(path, origin, told);
-            Some(existing(origin.to_string(), name))
-        }
-        Ok(missing) => {
-            tell_no_mailbox(origin, missing, told);
-            tell_inner(path, origin, told);
-            None
-        }
-        Err(error) => {
-            told.not_taken(origin, &format!("cannot be read: {error}"));
-            None
+    }
+
+    fn parts(self) -> &'static [&'static str] {
+        match self {
+            Layout::MaildirPlusPlus | Layout::Fs => MAILDIR_PARTS,
+            Layout::Dbox => DBOX_PARTS,
         }
     }
 }
 
-fn existing(origin: String, name: &[u8]) -> Found {
-    let said = Said::Exists(Flags::EXISTS);
-    Found { origin, name: name.to_vec(), delimiter: Some(DELIMITER), said }
-}
-
-/// A folder with some of the parts may have been a mailbox; one with none is something else.
-fn tell_no_mailbox(origin: &str, missing: &[&str], told: &mut Told) {
-    let text = format!("no mailbox: {} missing", list_text(missing));
-    if missing.len() == PARTS.len() {
-        told.note(origin, &text);
-    } else {
-        told.not_taken(origin, &text);
+/// Everything that a tree says, in this layout or in the one that its folders show.
+pub fn read_maildir(
+    root: &Path,
+    layout: Option<Layout>,
+    told: &mut Told,
+) -> Result<Maildir, StoreError> {
+    let folder = Folder::read(root, ALL_PARTS).map_err(StoreError::unreadable(root))?;
+    let layout = layout.unwrap_or_else(|| Layout::of(&folder));
+    let mut tree = Tree { layout, look: Look::new(root, told) };
+    tree.look.report_odd(&folder);
+    tree.look.report_files(&folder, &[SUBSCRIPTIONS]);
+    match layout {
+        Layout::MaildirPlusPlus => tree.take_plus_plus(&folder),
+        Layout::Fs => tree.take_fs(&folder),
+        Layout::Dbox => tree.take_dbox(&folder),
     }
-}
-
-fn list_text(missing: &[&str]) -> String {
-    match missing {
-        [one] => format!("{one} is"),
-        [before @ .., last] => format!("{} and {last} are", before.join(", ")),
-        [] => "nothing is".to_string(),
+    if folder.file(OTHER_SUBSCRIPTIONS.as_bytes()).is_some() {
+        tree.look.told.not_taken(OTHER_SUBSCRIPTIONS, "subscriptions of another form; not read");
     }
+    let delimiter = layout.delimiter();
+    let subscriptions_sum = tree.look.add_subscriptions(&folder, SUBSCRIPTIONS, delimiter)?;
+    let folders_sum = folder.sum_of_folders();
+    Ok(Maildir { layout, all_found: tree.look.finished(), folders_sum, subscriptions_sum })
 }
 
-/// Maildirs in a folder of the tree are not Maildir++'s.
-fn tell_inner(path: &Path, origin: &str, told: &mut Told) {
-    let inner = subfolders(path, told).unwrap_or_default();
-    for name in inner.iter().filter(|name| !is_part(name)) {
-        let inner = path.join(OsStr::from_bytes(name));
-        tell_other(&inner, &format!("{origin}/{}", line_text(name)), told);
-    }
+struct Tree<'o> {
+    layout: Layout,
+    look: Look<'o>,
 }
 
-/// A folder that is none of Maildir++'s: told where it is like a mailbox.
-fn tell_other(path: &Path, origin: &str, told: &mut Told) {
-    let name = path.file_name().map(|name| name.as_bytes()).unwrap_or_default();
-    if is_part(name) {
-        return;
-    }
-    let is_like_mailbox = missing_parts(path).is_ok_and(|missing| missing.len() < PARTS.len());
-    if is_like_mailbox {
-        told.not_taken(origin, "like a mailbox, and not where Maildir++ has one; not read");
-    } else {
-        told.note(origin, "no folder of Maildir++; not read");
-    }
-}
-
-fn is_part(name: &[u8]) -> bool {
-    PARTS.iter().any(|part| part.as_bytes() == name)
-}
-
-/// Which of the folders of a mailbox are not there.
-fn missing_parts(path: &Path) -> io::Result<Vec<&'static str>> {
-    let mut missing = Vec::new();
-    for part in PARTS {
-        match fs::metadata(path.join(part)) {
-            Ok(data) if data.is_dir() => {}
-            Ok(_) => missing.push(part),
-            Err(error) if error.kind() == io::ErrorKind::NotFound => missing.push(part),
-            Err(error) => return Err(error),
-        }
-    }
-    Ok(missing)
-}
-
-/// The names of the folders in a folder, by their bytes. What cannot be looked at is told.
-fn subfolders(path: &Path, told: &mut Told) -> io::Result<Vec<Vec<u8>>> {
-    let mut names = Vec::new();
-    for entry in fs::read_dir(path)? {
-        let entry = entry?;
-        let name = entry.file_name().as_bytes().to_vec();
-        match fs::metadata(entry.path()) {
-            Ok(data) if data.is_dir() => names.push(name),
-            Ok(_) => {}
-            Err(error) => {
-                let origin = format!("entry {}", line_text(&name));
-                told.not_taken(&origin, &format!("cannot be looked at: {error}"));
+impl Tree<'_> {
+    fn take_plus_plus(&mut self, root: &Folder) {
+        self.take_own(root);
+        for folder in self.without_parts(root) {
+            match folder.name().strip_prefix(b".") {
+                Some(name) => self.take_dotted(folder, name),
+                None => self.report_stray(folder),
             }
         }
     }
-    names.sort();
-    Ok(names)
-}
 
-/// The names of the file of subscriptions, if there is one.
-fn subscriptions(root: &Path, told: &mut Told) -> Result<Vec<Found>, StoreError> {
-    if root.join(OTHER_SUBSCRIPTIONS).exists() {
-        told.not_taken(OTHER_SUBSCRIPTIONS, "subscriptions of another form; not read");
-    }
-    let path = root.join(SUBSCRIPTIONS);
-    match fs::read(&path) {
-        Ok(bytes) => Ok(read_subscriptions(&bytes)),
-        Err(error) if error.kind() == io::ErrorKind::NotFound => {
-            told.note(SUBSCRIPTIONS, "there is no such file, so no name is subscribed");
-            Ok(Vec::new())
+    /// The tree's own folder, where that is INBOX. One that only holds others is nothing by itself.
+    fn take_own(&mut self, root: &Folder) {
+        match missing_parts(root, self.layout).as_slice() {
+            [] => self.look.mailbox(&root.origin(), INBOX, self.layout.delimiter()),
+            missing if missing.len() == self.layout.parts().len() => {
+                self.look.told.note(&root.origin(), &missing_text(missing));
+            }
+            missing => self.look.told.not_taken(&root.origin(), &missing_text(missing)),
         }
-        Err(error) => Err(StoreError::Unreadable(path, error)),
+        self.report_parts(root);
+    }
+
+    /// A folder `.A.B` of Maildir++. Nothing in it is a mailbox.
+    fn take_dotted(&mut self, folder: &Folder, name: &[u8]) {
+        let origin = folder.origin();
+        self.look.report_odd(folder);
+        match missing_parts(folder, self.layout).as_slice() {
+            [] if name.eq_ignore_ascii_case(INBOX) => {
+                self.look.told.left_out(&origin, name, "the folder above it is INBOX");
+            }
+            [] => {
+                self.look.mailbox(&origin, name, self.layout.delimiter());
+                self.look.report_files(folder, &[]);
+            }
+            missing => self.report_missing(folder, missing),
+        }
+        self.report_parts(folder);
+        for inner in self.without_parts(folder) {
+            self.report_stray(inner);
+        }
+    }
+
+    fn take_fs(&mut self, root: &Folder) {
+        self.take_own(root);
+        for folder in self.without_parts(root) {
+            self.take_nested(folder, &folder.path);
+        }
+    }
+
+    fn take_dbox(&mut self, root: &Folder) {
+        let has_mailbox =
+            |folder: &&Folder| folder.has_below(&|below| is_mailbox(below, Layout::Dbox));
+        let Some(mailboxes) = root.folder(DBOX_MAILBOXES).filter(has_mailbox) else {
+            return self.take_fs(root);
+        };
+        self.look.report_odd(mailboxes);
+        self.look.report_files(mailboxes, &[]);
+        for folder in &mailboxes.folders {
+            let name = &folder.path[DBOX_MAILBOXES.len() + 1..];
+            self.take_nested(folder, name);
+        }
+        for folder in root.folders.iter().filter(|folder| folder.name() != DBOX_MAILBOXES) {
+            if !is_storage(folder) {
+                self.report_stray(folder);
+            }
+        }
+    }
+
+    /// A folder `A/B`, and those in it. Whether a mailbox is in it or below it.
+    fn take_nested(&mut self, folder: &Folder, name: &[u8]) -> bool {
+        if is_courier(folder) {
+            return false;
+        }
+        let origin = folder.origin();
+        self.look.report_odd(folder);
+        let missing = missing_parts(folder, self.layout);
+        let is_mailbox = missing.is_empty();
+        if is_mailbox && is_guid(folder.name()) {
+            let reason =
+                "an identifier: LAYOUT=index has the names in dovecot.list.index; not read";
+            self.look.told.left_out(&origin, name, reason);
+        } else if is_mailbox {
+            self.take_named(folder, name);
+        }
+        self.report_parts(folder);
+        let mut has_mailbox = is_mailbox;
+        for inner in self.without_parts(folder) {
+            let name = [name, b"/", inner.name()].concat();
+            has_mailbox |= self.take_nested(inner, &name);
+        }
+        if has_mailbox {
+            self.look.report_files(folder, &[]);
+        }
+        let is_bare = missing.len() == self.layout.parts().len();
+        if is_bare && has_mailbox {
+            self.look.told.note(&origin, "a level above mailboxes, and none itself");
+        } else if !is_mailbox {
+            self.report_missing(folder, &missing);
+        }
+        has_mailbox
+    }
+
+    fn take_named(&mut self, folder: &Folder, name: &[u8]) {
+        if folder.name().starts_with(b".") {
+            let text = "its name starts with a dot, as in Maildir++; taken as it stands";
+            self.look.told.note(&folder.origin(), text);
+        }
+        self.look.mailbox(&folder.origin(), name, self.layout.delimiter());
+    }
+
+    /// A folder where a mailbox would be. One with some of the parts may have been a mailbox.
+    fn report_missing(&mut self, folder: &Folder, missing: &[&str]) {
+        let origin = folder.origin();
+        if missing.len() < self.layout.parts().len() {
+            self.look.told.not_taken(&origin, &missing_text(missing));
+        } else if folder.error.is_none() {
+            self.look.report_no_mailbox(&origin, folder.is_empty());
+        }
+    }
+
+    /// In the parts of a mailbox are messages alone.
+    fn report_parts(&mut self, folder: &Folder) {
+        for part in folder.folders.iter().filter(|inner| is_part(inner.name(), self.layout)) {
+            self.look.report_part(part, ALL_PARTS);
+        }
+    }
+
+    fn report_stray(&mut self, folder: &Folder) {
+        if !is_courier(folder) {
+            self.look.report_stray(folder, ALL_PARTS);
+        }
+    }
+
+    fn without_parts<'t>(&self, folder: &'t Folder) -> Vec<&'t Folder> {
+        let layout = self.layout;
+        folder.folders.iter().filter(|inner| !is_part(inner.name(), layout)).collect()
     }
 }
 
-/// The subscribed names of such a file.
-pub fn read_subscriptions(bytes: &[u8]) -> Vec<Found> {
-    let lines = || (1..).zip(bytes.split(|&byte| byte == b'\n'));
-    let is_tabbed = lines().next().is_some_and(|(_, line)| line == TABBED);
-    let found = |(number, line): (usize, &[u8])| {
-        let line = line.strip_suffix(b"\r").unwrap_or(line);
-        let (name, delimiter) =
-            if is_tabbed { tabbed_name(line) } else { (line.to_vec(), DELIMITER) };
-        let origin = format!("{SUBSCRIPTIONS}, line {number}");
-        let said = Said::Subscribed(Flags::IMPLIED);
-        Found { origin, name, delimiter: Some(delimiter), said }
-    };
-    let is_name = |found: &Found| !found.name.is_empty();
-    lines().skip(usize::from(is_tabbed)).map(found).filter(is_name).collect()
+fn is_part(name: &[u8], layout: Layout) -> bool {
+    layout.parts().iter().any(|part| part.as_bytes() == name)
 }
 
-/// A name with tabs between its levels, as a folder has it; where a level holds ".", no folder does.
-fn tabbed_name(line: &[u8]) -> (Vec<u8>, u8) {
-    if line.contains(&DELIMITER) {
-        return (line.to_vec(), TAB);
+fn has_part(folder: &Folder, parts: &[&str]) -> bool {
+    parts.iter().any(|part| folder.folder(part.as_bytes()).is_some())
+}
+
+fn is_mailbox(folder: &Folder, layout: Layout) -> bool {
+    missing_parts(folder, layout).is_empty()
+}
+
+/// Which of the folders of a mailbox are not there.
+fn missing_parts(folder: &Folder, layout: Layout) -> Vec<&'static str> {
+    let is_missing = |part: &&&str| folder.folder(part.as_bytes()).is_none();
+    layout.parts().iter().filter(is_missing).copied().collect()
+}
+
+fn missing_text(missing: &[&str]) -> String {
+    match missing {
+        [one] => format!("no mailbox: {one} is missing"),
+        [before @ .., last] => format!("no mailbox: {} and {last} are missing", before.join(", ")),
+        [] => "no mailbox".to_string(),
     }
-    let in_levels = |&byte: &u8| if byte == TAB { DELIMITER } else { byte };
-    (line.iter().map(in_levels).collect(), DELIMITER)
+}
+
+fn is_guid(name: &[u8]) -> bool {
+    name.len() == GUID_DIGITS && name.iter().all(u8::is_ascii_hexdigit)
+}
+
+fn is_courier(folder: &Folder) -> bool {
+    COURIER_FOLDERS.contains(&folder.name()) && folder.folders.is_empty() && folder.odd.is_empty()
+}
+
+/// Whether a folder has the messages of mdbox, and nothing else.
+fn is_storage(folder: &Folder) -> bool {
+    let is_own = |name: &[u8]| DBOX_STORAGE_FILES.iter().any(|start| name.starts_with(start));
+    let is_plain = folder.folders.is_empty() && folder.odd.is_empty() && folder.error.is_none();
+    folder.name() == DBOX_STORAGE && is_plain && folder.files.iter().all(|file| is_own(&file.name))
 }

@@ -6,14 +6,13 @@
 use second::rows::Flags;
 
 use crate::found::{Found, Said};
-
-const BYTE_ORDER_MARK: &[u8] = b"\xEF\xBB\xBF";
+use crate::marks::BYTE_ORDER_MARK;
 
 /// The names of a file, each with what is said of it.
 pub fn read_names(bytes: &[u8], delimiter: u8, said: Said) -> Vec<Found> {
     let kind = match said {
         Said::Exists(_) => "line",
-        Said::Subscribed(_) | Said::Level(_) => "line of the subscribed names",
+        Said::Subscribed(_) | Said::Level(_) | Said::Added(_) => "line of the subscribed names",
     };
     let bytes = bytes.strip_prefix(BYTE_ORDER_MARK).unwrap_or(bytes);
     let found = |(number, line): (usize, &[u8])| Found {

@@ -37,18 +37,38 @@ pub struct Cursor<'t> {
 type Read<T> = Result<T, &'static str>;
 
 const CUT: &str = "it ends before its end";
+const NO_LITERAL: &str = "a literal is not there whole, or longer than a name can be";
 
 impl Word {
     /// The word of the response that a line starts with, and what comes after it.
     pub fn split(line: &[u8]) -> Option<(Word, &[u8])> {
-        const LENGTH: usize = b"* LIST ".len();
-        let (start, rest) = line.split_at_checked(LENGTH)?;
-        match start.to_ascii_uppercase().as_slice() {
-            b"* LIST " => Some((Word::List, rest)),
-            b"* LSUB " => Some((Word::Lsub, rest)),
+        const LENGTH: usize = b"LIST".len();
+        let mut cursor = Cursor::new(line.strip_prefix(b"* ")?);
+        cursor.skip_spaces();
+        let (word, rest) = cursor.rest.split_at_checked(LENGTH)?;
+        let goes_on =
+            rest.first().is_some_and(|byte| byte.is_ascii_alphanumeric() || *byte == b'-');
+        match word.to_ascii_uppercase().as_slice() {
+            b"LIST" if !goes_on => Some((Word::List, rest)),
+            b"LSUB" if !goes_on => Some((Word::Lsub, rest)),
             _ => None,
         }
     }
+}
+
+/// The length of the literal whose header ends a line.
+pub fn literal_length(line: &[u8]) -> Option<usize> {
+    let line = Cursor::new(line).line();
+    let at = line.iter().rposition(|&byte| byte == b'{')?;
+    header_length(&line[at..])
+}
+
+/// "{" number ["+"] "}"
+fn header_length(header: &[u8]) -> Option<usize> {
+    let digits = header.strip_prefix(b"{")?.strip_suffix(b"}")?;
+    let digits = digits.strip_suffix(b"+").unwrap_or(digits);
+    let is_number = digits.iter().all(u8::is_ascii_digit);
+    str::from_utf8(digits).ok().filter(|_| is_number)?.parse().ok()
 }
 
 impl<'t> Cursor<'t> {
@@ -75,12 +95,6 @@ impl<'t> Cursor<'t> {
         Ok(Response { word, attributes, delimiter, name, tags })
     }
 
-    /// Goes to the start of the next line.
-    pub fn skip_line(&mut self) {
-        let lf = self.rest.iter().position(|&byte| byte == b'\n');
-        self.rest = lf.map_or(b"", |at| &self.rest[at + 1..]);
-    }
-
     /// The bytes up to the line end, which is not taken.
     pub fn line(&self) -> &'t [u8] {
         let line = self.rest.split(|&byte| byte == b'\n').next().unwrap_or_default();
@@ -91,14 +105,11 @@ impl<'t> Cursor<'t> {
     /// there is none the cursor stays, so that the lines after the header can be read.
     pub fn literal(&mut self) -> Read<&'t [u8]> {
         let header = self.line();
-        let digits = header.strip_prefix(b"{").and_then(|text| text.strip_suffix(b"}"));
-        let digits = digits.map(|digits| digits.strip_suffix(b"+").unwrap_or(digits));
-        let digits = digits.filter(|digits| digits.iter().all(u8::is_ascii_digit));
-        let length = digits.and_then(|digits| str::from_utf8(digits).ok()?.parse::<usize>().ok());
+        let length = header_length(header);
         let length = length.ok_or("a literal starts with {, a number and } at the line end")?;
         let mut after = Cursor::new(&self.rest[header.len()..]);
         after.line_end()?;
-        let (bytes, rest) = after.rest.split_at_checked(length).ok_or("a literal is cut short")?;
+        let (bytes, rest) = after.rest.split_at_checked(length).ok_or(NO_LITERAL)?;
         self.rest = rest;
         Ok(bytes)
     }

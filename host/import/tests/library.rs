@@ -2,7 +2,7 @@
 
 use import::answer::read_answer;
 use import::names::{read_names, EXISTS};
-use import::{Found, Gathered, Room, Row, Told};
+use import::{read_uses, Found, Gathered, Room, Row, Told};
 use second::Readers;
 
 /// The packed table of what a store says, and how much of it was left out.
@@ -74,7 +74,9 @@ fn whatever_is_kept_passes() {
             let (attributes, name) = (attributes[next(attributes.len())], names[next(names.len())]);
             answer += &format!("* {word} ({attributes}) {delimiter} \"{name}\"\r\n");
         }
-        let found = read_answer(answer.as_bytes(), &mut Told::default()).expect("an answer");
+        let mut found = read_answer(answer.as_bytes(), &mut Told::default()).expect("an answer");
+        let uses = ["sent=a,subscribed=a/b", "subscribed=INBOX/x", "trash=none,junk=a/b/c"];
+        found.extend(read_uses(uses[next(uses.len())].as_bytes()).expect("uses"));
         let (table, _) = table(&found, Room::Program);
         assert!(luspemaro::check_table(&table), "{answer}");
     }

@@ -86,6 +86,13 @@ pub fn walk_fault(reader: u8, table: Table, option: u8) -> Option<Fault> {
     checked(reader, table, option).err()
 }
 
+/// The command that a walk sends below a name, or with none for the top level; none for an option byte
+/// that is not lawful.
+pub fn walk_command(option: u8, below: Option<&[u8]>) -> Option<Vec<u8>> {
+    let reference = below.map(descendant_prefix).unwrap_or_default();
+    WalkOptions::from_byte(option).map(|options| options.command(&reference))
+}
+
 fn checked(reader: u8, table: Table, option: u8) -> Result<WalkOptions, Fault> {
     Reader::checked(reader)?;
     checked_rows(table).map_err(Fault::Table)?;

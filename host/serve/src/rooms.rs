@@ -3,6 +3,7 @@
 use luspemaro::COMMAND_ROOM;
 use second::frames::ANSWER_ROOM;
 use second::store::STORE_AREA;
+use session::ROOM_ANSWER;
 
 /// `LUSPEMARO_MAX_ROWS`: so many records are lent.
 pub const MAX_ROWS: usize = 512;
@@ -10,8 +11,6 @@ pub const MAX_ROWS: usize = 512;
 const MAX_AREA: usize = 32_768;
 /// `LUSPEMARO_MAX_TABLE`
 pub const MAX_TABLE: usize = 32_768;
-/// `LUSPEMARO_ROOM_ANSWER`: no answer is longer, so that 9 is never given.
-const ROOM_ANSWER: usize = 1_572_864;
 /// `LUSPEMARO_STACK_ANSWER`, the most that any entry needs.
 const STACK_ANSWER: usize = 323_584;
 /// What the functions of this crate need above the entry, with a margin.

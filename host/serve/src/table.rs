@@ -7,16 +7,16 @@ use luspemaro::{
     answer, check_namespaces, check_records, check_table, compact, Answered, Reader, Record,
     Records, Refusal,
 };
-use second::fault::ListFault;
 use second::frames::{Frame, TABLE_ROOM};
 use second::namespaces::{checked_entries, entry_at, split_entries};
-use second::packed::{row_at, split_rows};
+use second::packed::split_rows;
 use second::rows::{Flags, Row};
-use second::table::checked_rows;
 use second::Readers;
-use session::name_text;
+use session::{list_fault_text, name_text};
 
 use crate::rooms::{Rooms, MAX_ROWS};
+
+const NOT_REFUSED: &str = "the programs differ: the second one does not refuse this";
 
 /// A table that passes both checks, and what it is lent.
 #[derive(Clone, Debug, PartialEq, Eq)]
@@ -138,23 +138,14 @@ impl Table {
 
 /// Which row is wrong, and which rule it breaks.
 fn table_fault(rows: &[u8]) -> String {
-    let name = |at| row_at(rows, at).map(|row| name_text(row.name));
-    fault_text(checked_rows(second::Table::Packed(rows)).err(), name)
+    session::table_fault(rows).unwrap_or_else(|| NOT_REFUSED.to_string())
 }
 
 /// Which entry is wrong, and which rule it breaks.
 fn namespaces_fault(list: &[u8]) -> String {
     let prefix = |at| entry_at(list, at).map(|entry| name_text(entry.prefix));
-    fault_text(checked_entries(list).err(), prefix)
-}
-
-fn fault_text(fault: Option<ListFault>, shown: impl Fn(usize) -> Option<String>) -> String {
-    let Some(ListFault { at, rule, other }) = fault else {
-        return "the programs differ: the second one does not refuse this".to_string();
-    };
-    let shown = |at| shown(at).unwrap_or_else(|| format!("byte {at}"));
-    let other = other.map(|other| format!(" (beside {})", shown(other))).unwrap_or_default();
-    format!("{}: {rule}{other}", shown(at))
+    let fault = checked_entries(list).err().map(|fault| list_fault_text(fault, prefix));
+    fault.unwrap_or_else(|| NOT_REFUSED.to_string())
 }
 
 impl fmt::Display for TableError {

@@ -2,7 +2,7 @@
 //! sees it: the proved program decides, and says no more than the number, or its answer.
 
 use second::command::{read_command, Request};
-use second::fault::{EditFault, Fault, LineFault, ListFault, RoomFault};
+use second::fault::{EditFault, Fault, LineFault, RoomFault};
 use second::frames::{hex_of, Answer, Frame, Program};
 use second::name;
 use second::namespaces::entry_at;
@@ -11,7 +11,11 @@ use second::rows::{rows_below, Flags, Row};
 use second::table::checked_rows;
 use second::{Reader, Readers, Refusal, Table};
 
-use crate::item::Sent;
+use crate::faults::list_fault_text;
+use crate::item::{Origin, Sent};
+use crate::reply::Reply;
+use crate::rooms::{collect_large, short_buffer_text};
+use crate::session::own_command;
 use crate::show::{beside, counted, reader_text, refusal_text};
 use crate::text::{line_text, name_text, shortened};
 use crate::words::word_of_readers;
@@ -19,6 +23,10 @@ use crate::words::word_of_readers;
 /// Beside every explanation.
 pub const UNPROVED: &str = "explained by the second program, not proved";
 
+const NOT_REFUSED: &str = "the programs differ: the second one does not refuse this";
+/// The sizes are counted from the rules, and no promise names them.
+const NEVER_SHORT: &str = "the buffers had the sizes of include/luspemaro.h, with which this is \
+                           never to be given";
 /// Of bytes that are no row or entry no more digits than this are shown.
 const MOST_OF_BYTES: usize = 40;
 /// Of hidden rows no more than this are named.
@@ -29,6 +37,8 @@ const MOST_HIDDEN: usize = 12;
 #[derive(Default)]
 pub struct Stored {
     program: Program,
+    /// The frames of the edits that the proved program accepted.
+    edits: Vec<Vec<u8>>,
     rows: Origins,
     entries: Origins,
 }
@@ -40,6 +50,11 @@ impl Stored {
     /// The second program, with what it has stored.
     pub fn program(&self) -> &Program {
         &self.program
+    }
+
+    /// The frames of the edits that were accepted, in their order.
+    pub fn edits(&self) -> &[Vec<u8>] {
+        &self.edits
     }
 
     /// Stores what a frame adds; false if it adds nothing, and then it is answered.
@@ -58,20 +73,66 @@ impl Stored {
         }
     }
 
-    /// Follows a command that was answered: an edit is made here too, and what it does is told.
-    pub fn follow(&mut self, sent: &Sent, frame: Option<&Frame>) -> Option<String> {
+    /// What the second program answers to a frame that is answered, and itself after it. Nothing is
+    /// changed here.
+    pub fn answer(&self, sent: &Sent) -> (Reply, Program) {
+        if sent.origin == Origin::LargeWalk {
+            return (self.large_walk(sent), self.program_now());
+        }
+        let mut after = self.program_now();
+        let answer = if sent.frame.is_cut { None } else { after.answer(&sent.frame.text) };
+        let line = answer.unwrap_or(Answer::Refused(Refusal::Frame)).to_line();
+        (Reply::of(line.strip_suffix(b"\n").unwrap_or(&line)), after)
+    }
+
+    fn program_now(&self) -> Program {
+        let Program { table, namespaces, store } = &self.program;
+        Program { table: table.clone(), namespaces: namespaces.clone(), store: store.clone() }
+    }
+
+    /// What the second program answers to a walk with the buffers of the library.
+    fn large_walk(&self, sent: &Sent) -> Reply {
+        let walked = match (self.fault(sent), Frame::decode(&sent.frame.text)) {
+            (Some(fault), _) => Err(fault.refusal()),
+            (None, Ok(Frame::Walk { reader, option })) => {
+                collect_large(&self.program, reader, option)
+            }
+            (None, _) => Err(Refusal::Frame),
+        };
+        match walked {
+            Ok(walk) => walk.reply(),
+            Err(refusal) => Reply::Refused(refusal.number()),
+        }
+    }
+
+    /// Follows a command that was answered: an edit is made here too, as the second program made it,
+    /// and what it does is told.
+    pub fn follow(
+        &mut self,
+        sent: &Sent,
+        frame: Option<&Frame>,
+        (reply, after): (Reply, Program),
+    ) -> Option<String> {
         let Some(Frame::Command { line, .. }) = frame else {
             return None;
         };
         let Request::Edit(edit) = read_command(line).ok()?.request else {
             return None;
         };
+        self.edits.push(sent.frame.text.clone());
         let name = name::spelled(&edit.name);
         let before = self.row_of(&name);
-        Some(match self.program.answer(&sent.frame.text) {
-            Some(Answer::Lines(_)) => effect_text(&name, before, self.row_of(&name)),
+        self.program = after;
+        Some(match reply {
+            Reply::Lines(_) => effect_text(&name, before, self.row_of(&name)),
             _ => "the programs differ: the second one refuses this".to_string(),
         })
+    }
+
+    /// Why the table, or else the namespace list, does not pass; none where both do.
+    pub fn table_fault(&self) -> Option<String> {
+        let fault = self.program.fault(&own_command().frame.text)?;
+        Some(self.text(&own_command(), fault))
     }
 
     /// What is hidden from the reader of a LIST, an LSUB or a walk that was answered, if anything is.
@@ -97,18 +158,29 @@ impl Stored {
         rows.iter().find(|row| row.name == name).map(|row| (row.flags, row.readers))
     }
 
-    /// Why a frame was refused with a number. A buffer that is too small needs no explanation.
-    pub fn explanation(&self, sent: &Sent, number: u8) -> Option<String> {
-        let rooms = [Refusal::AnswerRoom, Refusal::FoundRoom, Refusal::PendingRoom];
+    /// Why a frame was refused with a number.
+    pub fn explanation(&self, sent: &Sent, number: u8) -> String {
         let fault = self.fault(sent);
         match fault.map(|fault| (fault, fault.refusal().number())) {
-            Some((fault, seen)) if seen == number => Some(self.text(sent, fault)),
+            Some((fault, seen)) if seen == number => self.text(sent, fault),
             Some((_, seen)) => {
                 let seen = refusal_text(seen);
-                Some(format!("the programs differ: the second one refuses this with {seen}"))
+                format!("the programs differ: the second one refuses this with {seen}")
             }
-            None if rooms.iter().any(|room| room.number() == number) => None,
-            None => Some("the programs differ: the second one does not refuse this".to_string()),
+            None => {
+                let short = self.short_buffer_text(sent, number);
+                short.unwrap_or_else(|| NOT_REFUSED.to_string())
+            }
+        }
+    }
+
+    /// What had no room, where a number says that a buffer is too small.
+    fn short_buffer_text(&self, sent: &Sent, number: u8) -> Option<String> {
+        let rooms = [Refusal::AnswerRoom, Refusal::FoundRoom, Refusal::PendingRoom];
+        let refusal = rooms.into_iter().find(|room| room.number() == number)?;
+        match sent.origin {
+            Origin::LargeWalk => Some(NEVER_SHORT.to_string()),
+            _ => short_buffer_text(&self.program, &sent.frame.text, refusal),
         }
     }
 
@@ -121,8 +193,8 @@ impl Stored {
 
     fn text(&self, sent: &Sent, fault: Fault) -> String {
         match fault {
-            Fault::Table(fault) => fault_text(fault, |at| self.row_text(at)),
-            Fault::Namespaces(fault) => fault_text(fault, |at| self.entry_text(at)),
+            Fault::Table(fault) => list_fault_text(fault, |at| Some(self.row_text(at))),
+            Fault::Namespaces(fault) => list_fault_text(fault, |at| Some(self.entry_text(at))),
             Fault::TableRoom(room) | Fault::NamespacesRoom(room) => room_text(room),
             Fault::Reader(rule) => sender_text(&sent.frame.text) + rule,
             Fault::Line(fault) if fault.refusal == Refusal::Reader => {
@@ -241,12 +313,6 @@ fn change_text(name: &str, before: Option<Flags>, after: Option<Flags>) -> Strin
         }
         (true, false) => format!("{name} is not subscribed any more"),
     }
-}
-
-fn fault_text(fault: ListFault, shown: impl Fn(usize) -> String) -> String {
-    let ListFault { at, rule, other } = fault;
-    let other = other.map(|other| format!(" (beside {})", shown(other)));
-    format!("{}: {rule}{}", shown(at), other.unwrap_or_default())
 }
 
 /// The line of the frame that a byte was stored by.

@@ -1,5 +1,7 @@
 //! What a session is made of.
 
+use std::fmt;
+
 use child::SentFrame;
 use second::Refusal;
 
@@ -33,12 +35,35 @@ pub struct Sent {
     pub expected: Option<Refusal>,
 }
 
+/// Whose a frame is.
+#[derive(Clone, Copy, Debug, PartialEq, Eq)]
+pub enum Turn {
+    /// The session's, by its line.
+    Line(u64),
+    /// This tool's own command at the end.
+    Own,
+}
+
+impl fmt::Display for Turn {
+    fn fmt(&self, formatter: &mut fmt::Formatter) -> fmt::Result {
+        match self {
+            Turn::Line(line) => write!(formatter, "line {line}"),
+            Turn::Own => write!(formatter, "at the end, this tool's own command"),
+        }
+    }
+}
+
+/// What this tool's own command is for.
+pub const OWN: &str = "sent by this tool: after the last row or entry the session asks nothing";
+
 /// What a frame was made from.
 #[derive(Clone, Debug, PartialEq, Eq)]
 pub enum Origin {
     /// A mailbox line, with its name.
     Mailbox(Vec<u8>),
     Namespace,
+    /// A walk with larger buffers, through the library: the frame of the walk is not sent to the program.
+    LargeWalk,
     Other,
 }
 

@@ -1,16 +1,16 @@
 //! From the lines of a session to its items.
 
-use std::io::{self, BufRead};
+use std::io::{self, BufRead, Cursor};
 
 use child::SentFrame;
 use second::frames::MAX_DIGITS;
 use second::line::CRLF;
 use second::Refusal;
 
-use crate::error::SessionError;
+use crate::error::{BadLine, SessionError};
 use crate::item::{Content, Item, Origin, Sent};
 use crate::parse::{continuation_of, expectation_of, is_command, parse_line, Parsed};
-use crate::source::{next_line, Line};
+use crate::source::{next_line, Line, Source};
 
 /// The most bytes of an item of a session file; none needs as many.
 const MAX_ITEM_LINE: usize = 16_384;
@@ -29,7 +29,7 @@ pub enum Lines {
 /// The items of a session, in the order in which they stand. After a line that is no item the
 /// others follow.
 pub struct Items {
-    input: Box<dyn BufRead + Send>,
+    input: Cursor<Source>,
     lines: Lines,
     /// How many lines were taken.
     number: u64,
@@ -60,8 +60,8 @@ impl Iterator for Items {
 }
 
 impl Items {
-    pub fn new(input: Box<dyn BufRead + Send>, lines: Lines) -> Items {
-        Items { input, lines, number: 0, ahead: None, has_failed: false, reader: 0 }
+    pub fn new(source: &Source, lines: Lines) -> Items {
+        Items { input: source.open(), lines, number: 0, ahead: None, has_failed: false, reader: 0 }
     }
 
     fn take_line(&mut self) -> io::Result<Option<Line>> {
@@ -98,8 +98,9 @@ impl Items {
                 Ok(self.content_of(parsed)?.map(|content| Item { line: number, content }))
             }
             Err(message) => {
-                self.skip_what_belongs()?;
-                Err(SessionError::line(number, message))
+                let mut bad = vec![BadLine { number, message }];
+                bad.extend(self.skip_what_belongs()?);
+                Err(SessionError::Lines { bad, more: 0 })
             }
         }
     }
@@ -153,15 +154,20 @@ impl Items {
         expected.map(Some).map_err(|message| SessionError::line(self.number, message))
     }
 
-    /// Leaves out the lines that belong to one that is no item; they are not wrong by themselves.
-    fn skip_what_belongs(&mut self) -> io::Result<()> {
+    /// Leaves out the lines that belong to one that is no item: those that go on with it, and what it
+    /// expects. They are not wrong by themselves, unless it expects what is no refusal.
+    fn skip_what_belongs(&mut self) -> io::Result<Option<BadLine>> {
         loop {
             self.look_ahead()?;
             let text = self.ahead.as_ref().map(|line| item_text(line, false)).unwrap_or_default();
-            if continuation_of(text).is_none() && expectation_of(text).is_none() {
-                return Ok(());
+            let expected = expectation_of(text);
+            if expected.is_none() && continuation_of(text).is_none() {
+                return Ok(None);
             }
             self.take_line()?;
+            if let Some(expected) = expected {
+                return Ok(expected.err().map(|message| BadLine { number: self.number, message }));
+            }
         }
     }
 }

@@ -13,6 +13,7 @@
 //! | a command with literals | `command a LIST "" {3}`, and in the next line `+ Foo RETURN ()` |
 //! | an edit, sent as a command | `subscribe Foo/Baz`, `unsubscribe "a b"` |
 //! | a walk | `walk`, `walk remote`, `walk special-use without-subscribed`, `walk 6` |
+//! | a walk by the library, with larger buffers | `walk large`, `walk large remote` |
 //! | a frame as it is sent | `frame 5700FF` |
 //! | what the item before is refused with | `expect 7` |
 //! | mailbox lines stay as they stand | `order as-given` |
@@ -30,16 +31,31 @@
 //! the first `reader`, and then from the one that the last `reader` before them names.
 //!
 //! A file whose first line is a frame is a file of frames, and its lines are sent as they stand.
+//!
+//! Where nothing after the last row or entry asks whether the table and the namespace list pass, one
+//! command more is sent that does. It is printed and counted as this tool's own.
 
+mod csv;
+mod data;
+mod difference;
 mod error;
 mod explain;
+mod faults;
+mod form;
 mod item;
 mod items;
+mod json;
+mod judged;
+mod large;
+mod listed;
+mod new_file;
 mod order;
 mod parse;
 mod printer;
+mod ran;
 mod reply;
 mod report;
+mod rooms;
 mod run;
 mod session;
 mod sha256;
@@ -48,18 +64,29 @@ mod source;
 mod summary;
 mod text;
 mod utf7;
+mod verdict;
 mod words;
 
+pub use data::{name_members, row_members};
 pub use error::{BadLine, SessionError};
+pub use faults::{list_fault_text, table_fault};
+pub use form::Form;
 pub use item::{Content, Item, Origin, Sent};
-pub use printer::Form;
-pub use report::{date_text, now, Facts, Report};
+pub use json::Json;
+pub use large::{make_ready, BUILD};
+pub use new_file::{is_same_file, NewFile};
+pub use ran::{sum_of_file, Library, Programs};
+pub use report::{date_text, now, Facts, Matter, Report, Versions};
+pub use rooms::{ROOM_ANSWER, ROOM_FOUND, ROOM_PENDING, ROOM_SCRATCH};
 pub use run::{run_reported, run_session, RunError};
 pub use session::Session;
 pub use sha256::{sum_of, sum_of_bytes, Sum};
-pub use show::{beside, show_answer, show_frame, show_namespaces, show_table, Shown};
+pub use show::{
+    beside, counted, row_text, said_text, show_answer, show_frame, show_namespaces, show_table,
+    Shown,
+};
 pub use source::Source;
 pub use summary::Summary;
-pub use text::{comment_text, line_text, name_text, quoted_text};
+pub use text::{comment_text, line_text, name_text, path_text, quoted_text, shortened};
 pub use utf7::decoded;
 pub use words::words_of_flags;

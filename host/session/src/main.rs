@@ -1,25 +1,29 @@
-//! `session --program PATH [FILE] [--frames] [--report PAGE [--date TEXT]]`
+//! `session --program PATH [FILE] [--frames | --json | --csv] [--walker PATH] [--report PAGE ..]`
 //!
 //! Sends the session in FILE, or on standard input, to a program of frames, and prints commands
-//! and answers as text; with `--frames`, the frames and answers as they were sent. With `--report`, a
-//! page about all of it is written too. The form of a session file stands in the library. Its statuses
-//! are those of `./run`.
+//! and answers as text; with `--frames`, the frames and answers as they were sent; with `--json` or
+//! `--csv`, all of it as data for other tools. With `--report`, a page about all of it is written too.
+//! The walker walks through the library, for `walk large`. The form of a session file stands in the
+//! library. Its statuses are those of `./run`.
+
+mod call;
+mod page_file;
 
 use std::env;
 use std::fmt::Display;
-use std::fs::{self, File, OpenOptions};
 use std::io::{self, BufWriter, Write};
-use std::os::unix::fs::MetadataExt;
-use std::path::{Path, PathBuf};
 use std::process::ExitCode;
 
 use child::find_program;
 use session::{
-    comment_text, now, run_reported, run_session, sum_of, Facts, Form, Report, RunError, Session,
-    SessionError, Source, Summary,
+    make_ready, now, path_text, run_reported, run_session, sum_of_file, Facts, Form, Library,
+    NewFile, Programs, Report, RunError, Session, SessionError, Source, Summary, Versions,
 };
 
-const USAGE: &str = "usage: session --program PATH [FILE] [--frames] [--report PAGE [--date TEXT]]";
+use crate::call::{source_name, Call, Page};
+use crate::page_file::open_page;
+
+const NO_WALKER: &str = "walk large needs the walker of ./run, and none is given";
 const CR_FRAMES: &str =
     "the lines of this file of frames end in CR LF; a frame ends with LF alone, so CR is \
                          another character and such a frame is bad (13)";
@@ -28,26 +32,23 @@ const CR_FRAMES: &str =
 const TROUBLE: u8 = 1;
 /// The call or the file is wrong, and nothing was run.
 const NOT_RUN: u8 = 2;
-/// Something was refused.
+/// Something was refused, or is not as the second program answers it.
 const REFUSED: u8 = 3;
-
-struct Call {
-    program: PathBuf,
-    file: Option<PathBuf>,
-    form: Form,
-    page: Option<Page>,
-}
-
-/// The page of a report, and its date where the call has one.
-struct Page {
-    path: PathBuf,
-    date: Option<String>,
-}
 
 /// What is told on standard error, and the status.
 struct Failure {
     status: u8,
     message: String,
+}
+
+impl Failure {
+    fn trouble(message: String) -> Failure {
+        Failure { status: TROUBLE, message }
+    }
+
+    fn not_run(message: String) -> Failure {
+        Failure { status: NOT_RUN, message }
+    }
 }
 
 fn main() -> ExitCode {
@@ -63,23 +64,30 @@ fn main() -> ExitCode {
 fn run() -> Result<u8, Failure> {
     let call = read_call()?;
     let session = check_session(&call)?;
-    let facts = call.page.as_ref().map(|page| page_facts(&call, page, &session)).transpose()?;
+    let paged = call.page.as_ref().map(|page| start_page(&call, page, &session)).transpose()?;
+    let programs = Programs {
+        frames: call.program.clone(),
+        proved_sum: call.origin.proved_sum.clone(),
+        walker: call.walker.clone(),
+        library: check_walker(&call, &session)?,
+    };
     let mut report = Report::default();
     let mut output = BufWriter::new(io::stdout().lock());
-    let (summary, result) = match facts {
-        Some(_) => run_reported(&call.program, &session, call.form, &mut output, &mut report),
-        None => run_session(&call.program, &session, call.form, &mut output),
+    let (summary, result) = match paged {
+        Some(_) => run_reported(programs, &session, call.form, &mut output, &mut report),
+        None => run_session(programs, &session, call.form, &mut output),
     };
     // What was printed so far is seen before anything is told.
     let result = result.and_then(|()| output.flush().map_err(RunError::Output));
     drop(output);
     tell_summary(&call, &summary);
     let stopped = result.err().map(|error| stopped_text(&call, &session, &summary, error));
-    if let (Some(page), Some(facts)) = (&call.page, facts) {
-        write_page(&page.path, &report.page(&facts, &summary, stopped.as_deref()))?;
+    if let Some((file, facts)) = paged {
+        let text = report.page(&facts, &summary, stopped.as_deref());
+        file.write(&text).map_err(Failure::trouble)?;
     }
     match stopped {
-        Some(message) => Err(Failure { status: TROUBLE, message }),
+        Some(message) => Err(Failure::trouble(message)),
         None if summary.is_all_answered() => Ok(0),
         None => Ok(REFUSED),
     }
@@ -90,44 +98,31 @@ fn stopped_text(call: &Call, session: &Session, summary: &Summary, error: RunErr
         RunError::Output(error) => format!("cannot write the output: {error}"),
         RunError::Program(error) => {
             let place = format!("after {} of {} items", summary.sent(), session.length);
-            format!("{}: {place}: {error}", call.program.display())
+            format!("{}: {place}: {error}", path_text(&call.program))
         }
         RunError::Session(error) => session_text(call, &error),
     }
 }
 
-/// What the page of a report names; told before anything is run where it cannot be written, or where
-/// it would be written over the session or the program.
-fn page_facts(call: &Call, page: &Page, session: &Session) -> Result<Facts, Failure> {
-    let wrong = |message: String| Failure { status: NOT_RUN, message };
-    let path = path_text(&page.path);
-    let identity = |path: &Path| fs::metadata(path).ok().map(|data| (data.dev(), data.ino()));
-    let is_page = |path: &Path| identity(path).is_some() && identity(path) == identity(&page.path);
-    if is_page(&call.program) || call.file.as_deref().is_some_and(is_page) {
-        return Err(wrong(format!("{path} is read here, so no report is written there")));
-    }
-    let opened = OpenOptions::new().write(true).create(true).truncate(false).open(&page.path);
-    opened.map_err(|error| wrong(format!("cannot write {path}: {error}")))?;
-    let program_sum = File::open(&call.program).and_then(sum_of);
-    let missing = |error| format!("cannot read {}: {error}", call.program.display());
-    let failed = |message| Failure { status: TROUBLE, message };
-    Ok(Facts {
+/// The file of a report and what its page names; told before anything is run where it cannot be
+/// written, or must not be.
+fn start_page(call: &Call, page: &Page, session: &Session) -> Result<(NewFile, Facts), Failure> {
+    let tool_sum = env::current_exe().and_then(|path| sum_of_file(&path)).ok();
+    let facts = Facts {
+        matter: page.matter.clone(),
+        clock: now(),
+        date: page.date.clone(),
         session: source_name(call),
-        session_sum: session
-            .sum()
-            .map_err(|error| wrong(format!("cannot read {}: {error}", source_name(call))))?,
-        program: path_text(&call.program),
-        program_sum: program_sum.map_err(missing).map_err(failed)?,
-        date: page.date.clone().unwrap_or_else(now),
-    })
-}
-
-fn write_page(path: &Path, text: &str) -> Result<(), Failure> {
-    let failed = |error| Failure {
-        status: TROUBLE,
-        message: format!("cannot write {}: {error}", path_text(path)),
+        session_sum: session.sum(),
+        versions: Versions {
+            commit: call.origin.commit.clone(),
+            sources: call.origin.sources_sum.clone(),
+            tool: env!("CARGO_PKG_VERSION"),
+            tool_sum,
+        },
     };
-    fs::write(path, text).map_err(failed)
+    let file = open_page(call, page).map_err(Failure::not_run)?;
+    Ok((file, facts))
 }
 
 /// Tells what was refused.
@@ -150,36 +145,9 @@ fn tell(message: impl Display) {
 }
 
 fn read_call() -> Result<Call, Failure> {
-    let wrong = |message: String| Failure { status: NOT_RUN, message };
-    let usage = || wrong(USAGE.to_string());
-    let (mut program, mut file, mut form) = (None, None, Form::Text);
-    let (mut page, mut date) = (None, None);
-    let mut arguments = env::args_os().skip(1);
-    while let Some(argument) = arguments.next() {
-        match argument.to_str() {
-            Some("--program") if program.is_none() => {
-                program = Some(PathBuf::from(arguments.next().ok_or_else(usage)?));
-            }
-            Some("--frames") => form = Form::Frames,
-            Some("--report") if page.is_none() => {
-                page = Some(PathBuf::from(arguments.next().ok_or_else(usage)?));
-            }
-            Some("--date") if date.is_none() => {
-                let text = arguments.next().ok_or_else(usage)?;
-                date = Some(comment_text(text.as_encoded_bytes()));
-            }
-            Some(unknown) if unknown.starts_with("--") => return Err(usage()),
-            _ if file.is_none() => file = Some(PathBuf::from(argument)),
-            _ => return Err(usage()),
-        }
-    }
-    if date.is_some() && page.is_none() {
-        return Err(usage());
-    }
-    let program = find_program(&program.ok_or_else(usage)?);
-    let missing = |message| Failure { status: TROUBLE, message };
-    let page = page.map(|path| Page { path, date });
-    Ok(Call { program: program.map_err(missing)?, file, form, page })
+    let call = Call::read().map_err(|usage| Failure::not_run(usage.to_string()))?;
+    let program = find_program(&call.program).map_err(Failure::trouble)?;
+    Ok(Call { program, ..call })
 }
 
 /// The session, every line of it checked. A session without items is none to run, but no fault.
@@ -189,8 +157,7 @@ fn check_session(call: &Call) -> Result<Session, Failure> {
         None => Source::of_stream(io::stdin().lock()),
     };
     let session = source.map_err(SessionError::from).and_then(Session::check);
-    let wrong = |error| Failure { status: NOT_RUN, message: session_text(call, &error) };
-    let session = session.map_err(wrong)?;
+    let session = session.map_err(|error| Failure::not_run(session_text(call, &error)))?;
     if session.length == 0 {
         tell(format!("{}: no items, so there is nothing to run", source_name(call)));
     }
@@ -198,6 +165,16 @@ fn check_session(call: &Call) -> Result<Session, Failure> {
         tell(format!("{}: {CR_FRAMES}", source_name(call)));
     }
     Ok(session)
+}
+
+/// Where the session has a `walk large`, the walker is made ready before anything is run, and says what
+/// its library is.
+fn check_walker(call: &Call, session: &Session) -> Result<Option<Library>, Failure> {
+    match &call.walker {
+        _ if !session.has_large_walk => Ok(None),
+        None => Err(Failure::not_run(NO_WALKER.to_string())),
+        Some(walker) => make_ready(walker).map_err(Failure::trouble),
+    }
 }
 
 fn session_text(call: &Call, error: &SessionError) -> String {
@@ -210,12 +187,4 @@ fn session_text(call: &Call, error: &SessionError) -> String {
             lines.join("\n")
         }
     }
-}
-
-fn source_name(call: &Call) -> String {
-    call.file.as_deref().map_or("standard input".to_string(), path_text)
-}
-
-fn path_text(path: &Path) -> String {
-    comment_text(path.as_os_str().as_encoded_bytes())
 }

@@ -84,7 +84,7 @@ fn row_name(item: &Item) -> &[u8] {
     match &item.content {
         Content::Sent(sent) => match &sent.origin {
             Origin::Mailbox(name) => name,
-            Origin::Namespace | Origin::Other => b"",
+            Origin::Namespace | Origin::LargeWalk | Origin::Other => b"",
         },
         _ => b"",
     }
@@ -97,7 +97,7 @@ fn is_row(item: &Item) -> bool {
 /// Whether rows after an item must not be sent before it.
 fn is_end(item: &Item) -> bool {
     match &item.content {
-        Content::Sent(sent) => sent.origin == Origin::Other,
+        Content::Sent(sent) => matches!(sent.origin, Origin::LargeWalk | Origin::Other),
         Content::AsGiven => true,
         Content::Comment(_) | Content::Sorted(_) => false,
     }

@@ -11,7 +11,7 @@ use crate::item::Origin;
 use crate::text::{comment_text, line_text, shortened};
 use crate::words::{
     class_of_word, class_words, flag_words, flags_of_words, readers_of_word, walk_option_of_words,
-    walk_words, READERS,
+    walk_words, LARGE, READERS,
 };
 
 /// What a line says.
@@ -175,12 +175,18 @@ fn parse_edit(reader: u8, start: &str, text: &[u8]) -> Result<Parsed, String> {
     Ok(other(&Frame::Command { reader, line: [&line, CRLF].concat() }))
 }
 
-/// *(remote / special-use / without-subscribed / NUMBER)
+/// [large] *(remote / special-use / without-subscribed / NUMBER)
 fn parse_walk(reader: u8, text: &[u8]) -> Result<Parsed, String> {
-    let option = walk_option_of_words(words_of(text)?);
+    let words = words_of(text)?;
+    let (origin, words) = match words.split_once(char::is_whitespace) {
+        _ if words == LARGE => (Origin::LargeWalk, ""),
+        Some((LARGE, words)) => (Origin::LargeWalk, words),
+        _ => (Origin::Other, words),
+    };
+    let option = walk_option_of_words(words);
     let option =
         option.map_err(|word| unknown("option of a walk", word.as_bytes(), &walk_words()))?;
-    Ok(other(&Frame::Walk { reader, option }))
+    Ok(Parsed::Frame(Frame::Walk { reader, option }.encode(), origin))
 }
 
 const BAD_QUOTED: &str = "a quoted string ends with a quote, and a backslash in it stands \

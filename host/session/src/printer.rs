@@ -2,20 +2,16 @@
 
 use std::io::{self, Write};
 
+use crate::data::{Data, End, Remark};
+use crate::difference::{Difference, SECOND};
 use crate::explain::UNPROVED;
-use crate::item::Sent;
+use crate::form::Form;
+use crate::item::{Origin, Sent, OWN};
 use crate::reply::Reply;
-use crate::show::{refusal_text, show_frame, show_overlong, show_reply, shown_start, Shown};
-use crate::summary::{came_text, Summary, Verdict};
+use crate::report::Came;
+use crate::show::{came_text, refusal_text, show_reply, show_sent, shown_start, Shown};
+use crate::summary::{Summary, Verdict};
 use crate::text::line_text;
-
-/// How a session is printed.
-#[derive(Clone, Copy, Debug, PartialEq, Eq)]
-pub enum Form {
-    Text,
-    /// Frames after `>` and answers after `<`, as they were sent.
-    Frames,
-}
 
 /// What an item is to whoever reads the session.
 #[derive(Clone, Copy, Debug, PartialEq, Eq)]
@@ -25,24 +21,27 @@ pub enum Part {
     SetUp,
     /// A frame that is answered.
     Exchange,
+    /// This tool's own command, and its answer.
+    Own,
 }
 
 pub struct Printer<'o, W> {
     output: &'o mut W,
     form: Form,
+    data: Data,
     previous: Option<Part>,
 }
 
 impl<'o, W: Write> Printer<'o, W> {
     pub fn new(output: &'o mut W, form: Form) -> Printer<'o, W> {
-        Printer { output, form, previous: None }
+        Printer { output, form, data: Data::new(form), previous: None }
     }
 
     pub fn print_comment(&mut self, comment: &str) -> io::Result<()> {
         self.start_part(Part::Comment)?;
         match self.form {
             Form::Text => writeln!(self.output, "{comment}"),
-            Form::Frames => Ok(()),
+            _ => self.output.write_all(self.data.remark(Remark::Comment(comment)).as_bytes()),
         }
     }
 
@@ -54,30 +53,36 @@ impl<'o, W: Write> Printer<'o, W> {
             // The frames show it too.
             let _ = writeln!(io::stderr(), "{text}");
         }
+        self.output.write_all(self.data.remark(Remark::Order(text)).as_bytes())?;
         self.print_shown(&Shown::one_line("Order", text.to_string()))
     }
 
     pub fn print_sent(&mut self, sent: &Sent, part: Part) -> io::Result<()> {
         self.start_part(part)?;
-        let Sent { frame, length, .. } = sent;
-        match (self.form, sent.is_overlong()) {
-            (Form::Text, true) => {
-                let shown = show_overlong(&frame.text, *length, frame.is_cut);
-                self.print_shown(&shown)
-            }
-            (Form::Text, false) => self.print_shown(&show_frame(frame)),
-            (Form::Frames, true) => {
-                writeln!(self.output, "> {}", shown_start(&frame.text, *length))
-            }
-            (Form::Frames, false) => writeln!(self.output, "> {}", line_text(&frame.text)),
+        let own = Some("own").filter(|_| part == Part::Own);
+        if self.form != Form::Frames {
+            return self.print_shown(&match own {
+                Some(_) => show_own(sent),
+                None => show_sent(sent),
+            });
         }
+        let Sent { frame, length, .. } = sent;
+        let text = match sent.is_overlong() {
+            true => shown_start(&frame.text, *length),
+            false => line_text(&frame.text),
+        };
+        writeln!(self.output, "{}> {text}", own.unwrap_or_else(|| frame_mark(sent)))
     }
 
     /// An answer line as it was sent.
-    pub fn print_answer(&mut self, line: &[u8]) -> io::Result<()> {
+    pub fn print_answer(&mut self, sent: &Sent, line: &[u8]) -> io::Result<()> {
         match self.form {
-            Form::Text => Ok(()),
-            Form::Frames => writeln!(self.output, "< {}", line_text(line)),
+            Form::Frames => {
+                let own = Some("own").filter(|_| self.previous == Some(Part::Own));
+                let mark = own.unwrap_or_else(|| frame_mark(sent));
+                writeln!(self.output, "{mark}< {}", line_text(line))
+            }
+            _ => Ok(()),
         }
     }
 
@@ -122,6 +127,24 @@ impl<'o, W: Write> Printer<'o, W> {
         self.print_shown(&Shown::new("Hidden", lines))
     }
 
+    /// Where an answer is not the second program's.
+    pub fn print_difference(&mut self, difference: &Difference) -> io::Result<()> {
+        let Difference { short, lines } = difference;
+        let short = format!("from the second program: {short}");
+        let lines = [vec![short], lines.clone(), vec![format!("({SECOND})")]].concat();
+        self.print_shown(&Shown::new("Differs", lines))
+    }
+
+    /// What was sent and what came of it, in the forms that are data.
+    pub fn print_came(&mut self, came: &Came) -> io::Result<()> {
+        self.output.write_all(self.data.came(came).as_bytes())
+    }
+
+    /// What came of the session, in the forms that are data.
+    pub fn print_end(&mut self, end: End) -> io::Result<()> {
+        self.output.write_all(self.data.end(end).as_bytes())
+    }
+
     /// The last line of the text.
     pub fn print_summary(&mut self, summary: &Summary) -> io::Result<()> {
         if self.form == Form::Text && self.previous.is_some() {
@@ -145,7 +168,21 @@ impl<'o, W: Write> Printer<'o, W> {
     fn print_shown(&mut self, shown: &Shown) -> io::Result<()> {
         match self.form {
             Form::Text => write!(self.output, "{shown}"),
-            Form::Frames => Ok(()),
+            _ => Ok(()),
         }
+    }
+}
+
+/// This tool's own command, and what it is for.
+fn show_own(sent: &Sent) -> Shown {
+    let command = show_sent(sent).lines().map(|(_, line)| line.to_string()).collect();
+    Shown::new("Own check", [command, vec![format!("({OWN})")]].concat())
+}
+
+/// Before the marks of frames that the program was not sent and did not answer, but the library.
+fn frame_mark(sent: &Sent) -> &'static str {
+    match sent.origin {
+        Origin::LargeWalk => "library",
+        _ => "",
     }
 }

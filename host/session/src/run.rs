@@ -1,20 +1,26 @@
 //! Running a session and printing it.
 
 use std::io::{self, Write};
-use std::path::Path;
 
 use child::{Running, PATIENCE};
 use second::frames::Frame;
 
+use crate::data::End;
+use crate::difference::Difference;
 use crate::error::SessionError;
 use crate::explain::Stored;
-use crate::item::{Content, Item, Sent};
-use crate::printer::{Form, Part, Printer};
+use crate::form::Form;
+use crate::item::{Content, Item, Origin, Sent, Turn};
+use crate::large::walk_large;
+use crate::printer::{Part, Printer};
+use crate::ran::{Programs, Ran};
 use crate::reply::Reply;
 use crate::report::{Came, Report};
-use crate::session::Session;
+use crate::session::{own_command, EndCheck, Session};
+use crate::sha256::Sum;
 use crate::show::counted;
 use crate::summary::Summary;
+use crate::text::path_text;
 
 /// A session of more items shows its progress on standard error.
 const LONG_SESSION: u64 = 2_000;
@@ -37,59 +43,63 @@ pub enum RunError {
 /// Sends a session to a program and prints each item, with its answer if it has one, and at the end
 /// what came of it all. What came of it is given too where it stopped before its end.
 pub fn run_session(
-    program: &Path,
+    programs: impl Into<Programs>,
     session: &Session,
     form: Form,
     output: &mut impl Write,
 ) -> (Summary, Result<(), RunError>) {
-    run_printing(program, session, Printer::new(output, form), None)
+    run_printing(programs.into(), session, Printer::new(output, form), None)
 }
 
 /// The same, and fills a report, be it one of a session that stopped.
 pub fn run_reported(
-    program: &Path,
+    programs: impl Into<Programs>,
     session: &Session,
     form: Form,
     output: &mut impl Write,
     report: &mut Report,
 ) -> (Summary, Result<(), RunError>) {
-    run_printing(program, session, Printer::new(output, form), Some(report))
+    run_printing(programs.into(), session, Printer::new(output, form), Some(report))
 }
 
 fn run_printing(
-    program: &Path,
+    programs: Programs,
     session: &Session,
     printer: Printer<impl Write>,
     report: Option<&mut Report>,
 ) -> (Summary, Result<(), RunError>) {
     let mut summary = Summary::default();
-    let result = run_items(program, session, printer, &mut summary, report);
+    let result = run_items(programs, session, printer, &mut summary, report);
     (summary, result)
 }
 
 fn run_items(
-    program: &Path,
+    programs: Programs,
     session: &Session,
     printer: Printer<impl Write>,
     summary: &mut Summary,
     report: Option<&mut Report>,
 ) -> Result<(), RunError> {
     let send = session.sender().map_err(RunError::Session)?;
-    let running = Running::start(program, PATIENCE, send).map_err(RunError::Program)?;
+    *summary.ran_mut() = Ran::before(&programs);
+    let running = Running::start(&programs.frames, PATIENCE, send).map_err(RunError::Program)?;
     let progress = Progress { done: 0, length: session.length };
-    let mut run = Run { running, printer, stored: Stored::default(), summary, report, progress };
-    let result = run.take_all(session);
+    let stored = Stored::default();
+    let session_sum = session.sum();
+    let mut run =
+        Run { running, programs, session_sum, printer, stored, summary, report, progress };
+    let result = run.take_all(session).and_then(|()| run.check_end(session.end_check()));
     if let Some(report) = &mut run.report {
         report.record_end(run.stored.program());
     }
-    result?;
-    run.printer.print_summary(run.summary).map_err(RunError::Output)?;
-    run.running.finish().map_err(RunError::Program)
+    run.finish(result)
 }
 
 /// A session under way.
 struct Run<'o, 's, W> {
     running: Running,
+    programs: Programs,
+    session_sum: Sum,
     printer: Printer<'o, W>,
     stored: Stored,
     summary: &'s mut Summary,
@@ -106,9 +116,35 @@ struct Told {
     effect: Option<String>,
     /// What its reader does not see.
     hidden: Option<Vec<String>>,
+    /// Where it is not the second program's.
+    difference: Option<Difference>,
 }
 
 impl<W: Write> Run<'_, '_, W> {
+    /// Prints what came of it all. Data has an end too where the session stopped before its own.
+    fn finish(mut self, result: Result<(), RunError>) -> Result<(), RunError> {
+        let result = match result {
+            Ok(()) => {
+                self.printer.print_summary(self.summary).map_err(RunError::Output)?;
+                self.running.finish().map_err(RunError::Program)
+            }
+            stopped => stopped,
+        };
+        self.summary.ran_mut().look_again(&self.programs.frames);
+        let stopped = match &result {
+            Ok(()) => None,
+            Err(RunError::Program(error)) => Some(error.to_string()),
+            Err(RunError::Session(error)) => Some(error.to_string()),
+            // Nothing more can be written.
+            Err(RunError::Output(_)) => return result,
+        };
+        let (summary, program) = (&*self.summary, self.stored.program());
+        let (session_sum, stopped) = (self.session_sum, stopped.as_deref());
+        let end = End { summary, program, session_sum, stopped };
+        self.printer.print_end(end).map_err(RunError::Output)?;
+        result
+    }
+
     fn take_all(&mut self, session: &Session) -> Result<(), RunError> {
         for item in session.items().map_err(RunError::Session)? {
             self.take(&item.map_err(RunError::Session)?)?;
@@ -135,47 +171,101 @@ impl<W: Write> Run<'_, '_, W> {
         }
     }
 
+    /// Asks whether the table and the namespace list pass, where the session does not; or reports that
+    /// nobody can.
+    fn check_end(&mut self, check: EndCheck) -> Result<(), RunError> {
+        match check {
+            EndCheck::Done => Ok(()),
+            EndCheck::Own => {
+                let sent = own_command();
+                let frame = Frame::decode(&sent.frame.text).ok();
+                self.printer.print_sent(&sent, Part::Own).map_err(RunError::Output)?;
+                self.answer(Turn::Own, &sent, frame.as_ref())
+            }
+            EndCheck::Impossible => {
+                let fault = self.stored.table_fault();
+                let judged = fault.map_or("they pass".to_string(), |fault| fault);
+                self.summary.report(format!(
+                    "at the end: nobody asked whether the last rows and entries pass, since the \
+                     last frame has no LF; by the second program, not proved: {judged}"
+                ));
+                Ok(())
+            }
+        }
+    }
+
     /// Prints what is sent and what comes of it, counts both, and reports them.
     fn exchange(&mut self, line: u64, sent: &Sent) -> Result<(), RunError> {
         let whole = Some(&sent.frame).filter(|frame| !frame.is_cut);
         let frame = whole.and_then(|frame| Frame::decode(&frame.text).ok());
         let is_kept = self.stored.store(line, frame.as_ref());
         let part = if is_kept { Part::SetUp } else { Part::Exchange };
-        self.summary.count_sent(frame.as_ref(), is_kept);
+        self.summary.count_sent(frame.as_ref(), is_kept, sent.origin == Origin::LargeWalk);
         self.printer.print_sent(sent, part).map_err(RunError::Output)?;
-        let reply = if is_kept { None } else { Some(self.next_reply(frame.as_ref())?) };
-        let told = self.told(sent, frame.as_ref(), reply.as_ref());
-        let (reply, explanation) = (reply.as_ref(), told.explanation.as_deref());
-        self.summary.count_reply(line, sent, reply, explanation);
-        if let Some(report) = &mut self.report {
-            let program = self.stored.program();
-            let (effect, hidden) = (told.effect.as_deref(), told.hidden.as_deref());
-            let frame = frame.as_ref();
-            let came = Came { line, sent, frame, reply, explanation, effect, hidden, program };
-            report.record(&came);
+        let turn = Turn::Line(line);
+        if is_kept {
+            self.take_reply(turn, sent, frame.as_ref(), None)?;
+        } else {
+            self.answer(turn, sent, frame.as_ref())?;
         }
-        self.print_reply(sent, reply, &told).map_err(RunError::Output)?;
         self.progress.count();
+        Ok(())
+    }
+
+    /// Takes the answer to a frame that has one.
+    fn answer(&mut self, turn: Turn, sent: &Sent, frame: Option<&Frame>) -> Result<(), RunError> {
+        let reply = self.next_reply(sent, frame)?;
+        self.take_reply(turn, sent, frame, Some(&reply))?;
         match reply {
-            Some(Reply::Unreadable(_)) => Err(program_error("what it answers is no answer")),
+            Reply::Unreadable(_) => Err(program_error("what it answers is no answer")),
             _ => Ok(()),
         }
     }
 
-    fn told(&mut self, sent: &Sent, frame: Option<&Frame>, reply: Option<&Reply>) -> Told {
-        match reply {
-            Some(Reply::Refused(number)) => {
-                Told { explanation: self.stored.explanation(sent, *number), ..Told::default() }
-            }
-            Some(Reply::Lines(_)) => {
-                let effect = self.stored.follow(sent, frame);
-                Told { effect, hidden: self.stored.hidden(frame), explanation: None }
-            }
-            Some(Reply::Walked { .. }) => {
-                Told { hidden: self.stored.hidden(frame), ..Told::default() }
-            }
-            Some(Reply::Unreadable(_)) | None => Told::default(),
+    fn take_reply(
+        &mut self,
+        turn: Turn,
+        sent: &Sent,
+        frame: Option<&Frame>,
+        reply: Option<&Reply>,
+    ) -> Result<(), RunError> {
+        let told = self.told(sent, frame, reply);
+        let explanation = told.explanation.as_deref();
+        self.summary.count_reply((turn, sent), frame, reply, explanation);
+        if reply.is_some_and(|reply| !matches!(reply, Reply::Unreadable(_))) {
+            self.summary.count_compared(turn, told.difference.as_ref());
         }
+        let program = self.stored.program();
+        let (effect, hidden) = (told.effect.as_deref(), told.hidden.as_deref());
+        let difference = told.difference.as_ref();
+        let came =
+            Came { turn, sent, frame, reply, explanation, effect, hidden, difference, program };
+        if let Some(report) = &mut self.report {
+            report.record(&came);
+        }
+        self.printer.print_came(&came).map_err(RunError::Output)?;
+        self.print_reply(sent, reply, &told).map_err(RunError::Output)
+    }
+
+    fn told(&mut self, sent: &Sent, frame: Option<&Frame>, reply: Option<&Reply>) -> Told {
+        let Some(reply) = reply.filter(|reply| !matches!(reply, Reply::Unreadable(_))) else {
+            return Told::default();
+        };
+        let second = self.stored.answer(sent);
+        let difference = Difference::between(reply, &second.0);
+        let mut told = Told { difference, ..Told::default() };
+        match reply {
+            Reply::Refused(number) => {
+                told.explanation = Some(self.stored.explanation(sent, *number));
+            }
+            Reply::Lines(_) => {
+                told.effect = self.stored.follow(sent, frame, second);
+                told.hidden = self.stored.hidden(frame);
+            }
+            Reply::Walked { .. } => told.hidden = self.stored.hidden(frame),
+            Reply::Unreadable(_) => {}
+        }
+        told
     }
 
     fn print_reply(&mut self, sent: &Sent, reply: Option<&Reply>, told: &Told) -> io::Result<()> {
@@ -183,18 +273,38 @@ impl<W: Write> Run<'_, '_, W> {
         if let Some(effect) = &told.effect {
             self.printer.print_effect(effect)?;
         }
-        match &told.hidden {
-            Some(hidden) => self.printer.print_hidden(hidden.clone()),
+        if let Some(hidden) = &told.hidden {
+            self.printer.print_hidden(hidden.clone())?;
+        }
+        match &told.difference {
+            Some(difference) => self.printer.print_difference(difference),
             None => Ok(()),
         }
     }
 
-    fn next_reply(&mut self, frame: Option<&Frame>) -> Result<Reply, RunError> {
+    fn next_reply(&mut self, sent: &Sent, frame: Option<&Frame>) -> Result<Reply, RunError> {
+        let line = match sent.origin {
+            Origin::LargeWalk => self.walk_large(sent)?,
+            _ => self.next_line()?,
+        };
+        self.printer.print_answer(sent, &line).map_err(RunError::Output)?;
+        Ok(Reply::to_frame(&line, frame))
+    }
+
+    fn next_line(&mut self) -> Result<Vec<u8>, RunError> {
         let line = self.running.next_line().map_err(RunError::Program)?;
         let mut line = line.ok_or_else(|| program_error("no more answers"))?;
         line.pop_if(|byte| *byte == b'\n');
-        self.printer.print_answer(&line).map_err(RunError::Output)?;
-        Ok(Reply::to_frame(&line, frame))
+        Ok(line)
+    }
+
+    /// A walk by the library, over what the program of frames was sent and accepted so far.
+    fn walk_large(&self, sent: &Sent) -> Result<Vec<u8>, RunError> {
+        let walker = self.programs.walker.as_ref();
+        let walker = walker.ok_or_else(|| program_error("there is no walker for walk large"))?;
+        let failed = |error: io::Error| program_error(&format!("{}: {error}", path_text(walker)));
+        let (rows, edits) = (&self.stored.program().table, self.stored.edits());
+        walk_large(walker, rows, edits, &sent.frame.text).map_err(failed)
     }
 }
 

@@ -8,9 +8,10 @@ use second::frames::{hex_of, Frame};
 use second::line::{read_line, CRLF};
 use second::namespaces::{split_entries, Entry};
 use second::packed::split_rows;
-use second::rows::Row;
+use second::rows::{Flags, Row};
 use second::{Reader, Readers, Refusal};
 
+use crate::item::{Origin, Sent};
 use crate::reply::Reply;
 use crate::text::{line_text, name_text, quoted, quoted_text, shortened};
 use crate::utf7::decoded;
@@ -24,6 +25,9 @@ const NAME_WIDTH: usize = 28;
 const MOST_OF_BAD_FRAME: usize = 60;
 /// Of bytes that are no row or entry no more digits than this are shown.
 const MOST_OF_BYTES: usize = 200;
+
+/// Who walks where an item is `walk large`.
+pub const BY_LIBRARY: &str = "the library, with larger buffers, and not the program of frames";
 
 /// Lines of text, each with its label, which is empty where a line goes on.
 pub struct Shown(Vec<(&'static str, String)>);
@@ -65,6 +69,23 @@ pub fn reader_text(reader: u8) -> String {
     format!("reader {reader}")
 }
 
+/// What an item sends, or has walked by the library.
+pub fn show_sent(sent: &Sent) -> Shown {
+    let Sent { frame, length, .. } = sent;
+    if sent.is_overlong() {
+        return Shown::one_line(
+            "Frame",
+            shown_start(&frame.text, *length) + cut_text(frame.is_cut),
+        );
+    }
+    let mut shown = show_frame(frame);
+    if sent.origin == Origin::LargeWalk {
+        shown.0[0].0 = "Walk large";
+        shown.0.push(("By", BY_LIBRARY.to_string()));
+    }
+    shown
+}
+
 /// A frame as it is sent.
 pub fn show_frame(frame: &SentFrame) -> Shown {
     if frame.is_cut {
@@ -81,11 +102,6 @@ pub fn show_frame(frame: &SentFrame) -> Shown {
         }
         Err(_) => Shown::one_line("Frame", bad_frame_text(&frame.text)),
     }
-}
-
-/// A frame with more digits than a frame may have.
-pub fn show_overlong(start: &[u8], length: u64, is_cut: bool) -> Shown {
-    Shown::one_line("Frame", shown_start(start, length) + cut_text(is_cut))
 }
 
 /// The start of a frame that is too long to be shown, and its length.
@@ -124,8 +140,20 @@ pub fn show_reply(reply: &Reply) -> Shown {
 
 /// The number and the meaning.
 pub fn refusal_text(number: u8) -> String {
-    let known = Refusal::from_number(number).map(|refusal| refusal.to_string());
-    known.unwrap_or_else(|| format!("{number}: no number of document 01"))
+    format!("{number}: {}", refusal_meaning(number))
+}
+
+/// What came of a frame, to stand after "it was".
+pub fn came_text(reply: Option<&Reply>) -> String {
+    match reply {
+        None => "kept".to_string(),
+        Some(Reply::Refused(number)) => format!("refused with {}", refusal_text(*number)),
+        Some(_) => "answered".to_string(),
+    }
+}
+
+pub fn refusal_meaning(number: u8) -> &'static str {
+    Refusal::from_number(number).map_or("no number of document 01", Refusal::meaning)
 }
 
 pub fn counted(count: usize, one: &str, more: &str) -> String {
@@ -147,13 +175,19 @@ fn bad_frame_text(text: &[u8]) -> String {
     shortened(&line_text(text), MOST_OF_BAD_FRAME)
 }
 
-/// Who sees the row is told where not all readers do.
-fn row_text(row: &Row) -> String {
-    let mut words = words_of_flags(row.flags);
-    if row.readers != Readers::ALL {
-        words += &format!(" {READERS} {}", word_of_readers(row.readers));
+/// A row: its name, what it says, and what its name says in modified UTF-7.
+pub fn row_text(row: &Row) -> String {
+    let said = said_text(row.flags, row.readers);
+    format!("{:NAME_WIDTH$} {said}{}", name_text(row.name), beside(row.name))
+}
+
+/// The flags of a row, and who sees it where not all readers do.
+pub fn said_text(flags: Flags, readers: Readers) -> String {
+    let mut words = words_of_flags(flags);
+    if readers != Readers::ALL {
+        words += &format!(" {READERS} {}", word_of_readers(readers));
     }
-    format!("{:NAME_WIDTH$} {words}{}", name_text(row.name), beside(row.name))
+    words
 }
 
 fn entry_text(entry: &Entry) -> String {

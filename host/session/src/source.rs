@@ -1,31 +1,29 @@
-//! Where a session comes from: a file, or bytes that were read whole.
+//! Where a session comes from: a file, or a stream, read once and whole.
 //!
-//! A session is gone through three times: once to check every line of it before anything is run,
-//! then line by line to send it and to print it. So a file is never held in memory, however long
-//! it is, and neither is a line.
+//! A session is gone through several times: to check every line of it before anything is run, to sum
+//! it up, to send it and to print it. All of them see the bytes that were read at first, so what is
+//! summed up is what is sent and printed, whatever becomes of the file meanwhile.
 
-use std::fs::{self, File};
-use std::io::{self, BufRead, BufReader, Cursor, Read};
-use std::path::{Path, PathBuf};
+use std::fs::File;
+use std::io::{self, BufRead, Cursor, Read};
+use std::path::Path;
 use std::sync::Arc;
 
-/// What is no file, as standard input, is held in memory and has at most so many bytes.
-const MOST_BYTES: u64 = 256 << 20;
-const BLOCK: usize = 1 << 16;
+/// A session is held in memory and has at most this number of bytes.
+const MOST_BYTES: u64 = 1 << 30;
 
 /// A session's bytes, to be read from the start as often as they are wanted.
 #[derive(Clone, Debug)]
-pub enum Source {
-    File(PathBuf),
-    Bytes(Arc<[u8]>),
+pub struct Source(Arc<Vec<u8>>);
+
+impl AsRef<[u8]> for Source {
+    fn as_ref(&self) -> &[u8] {
+        &self.0
+    }
 }
 
 impl Source {
-    /// A file stays where it is; a pipe or a device is read to its end.
     pub fn of_path(path: &Path) -> io::Result<Source> {
-        if fs::metadata(path)?.is_file() {
-            return Ok(Source::File(path.to_path_buf()));
-        }
         Source::of_stream(File::open(path)?)
     }
 
@@ -33,22 +31,19 @@ impl Source {
         let mut bytes = Vec::new();
         stream.take(MOST_BYTES + 1).read_to_end(&mut bytes)?;
         if bytes.len() as u64 > MOST_BYTES {
-            let message = format!("over {} MB; put it in a file first", MOST_BYTES >> 20);
+            let message = format!("a session has at most {} MB", MOST_BYTES >> 20);
             return Err(io::Error::new(io::ErrorKind::FileTooLarge, message));
         }
-        Ok(Source::of_bytes(&bytes))
+        Ok(Source(Arc::new(bytes)))
     }
 
     pub fn of_bytes(bytes: &[u8]) -> Source {
-        Source::Bytes(Arc::from(bytes))
+        Source(Arc::new(bytes.to_vec()))
     }
 
     /// The bytes from the start.
-    pub fn open(&self) -> io::Result<Box<dyn BufRead + Send>> {
-        Ok(match self {
-            Source::File(path) => Box::new(BufReader::with_capacity(BLOCK, File::open(path)?)),
-            Source::Bytes(bytes) => Box::new(Cursor::new(Arc::clone(bytes))),
-        })
+    pub fn open(&self) -> Cursor<Source> {
+        Cursor::new(self.clone())
     }
 }
 

@@ -5,6 +5,8 @@
 //! byte, or that could be read so, each backslash is shown as two. So what looks like `\x1B` is
 //! always an escape, and `\\x1B` never is.
 
+use std::path::Path;
+
 use second::name::is_printable;
 use second::quoted::push_quoted;
 
@@ -16,6 +18,11 @@ pub fn line_text(bytes: &[u8]) -> String {
 /// Characters as they stand, but for controls and those that are not seen or turn the others round.
 pub fn comment_text(bytes: &[u8]) -> String {
     escaped(bytes, is_seen)
+}
+
+/// A path, as characters.
+pub fn path_text(path: &Path) -> String {
+    comment_text(path.as_os_str().as_encoded_bytes())
 }
 
 /// A name bare where it can stand so, or in quotes.

@@ -21,6 +21,9 @@ pub const READERS: &str = "readers";
 const ALL_READERS: &str = "all";
 const NO_READERS: &str = "none";
 
+/// The word after `walk` for one with larger buffers.
+pub const LARGE: &str = "large";
+
 /// The digits of a flag number, as 0003.
 const FLAG_DIGITS: usize = 4;
 
@@ -97,7 +100,7 @@ pub fn flag_words() -> String {
 
 /// The words for options of a walk, for a message.
 pub fn walk_words() -> String {
-    format!("{} and 0 to 255", listed(WALK_WORDS))
+    format!("{} and 0 to 255; {LARGE} stands first", listed(WALK_WORDS))
 }
 
 /// The words for classes of namespaces, for a message.

@@ -1,5 +1,4 @@
-//! Explanations on generated damage: what is refused with 1 to 8 or 13 to 16 is explained, and
-//! nothing else is.
+//! Explanations on generated damage: what is refused is explained, and nothing else is.
 
 use child::sender_of;
 use compare::kinds;
@@ -24,8 +23,6 @@ const DAMAGED: [&str; 11] = [
 ];
 /// Of each kind.
 const SEEDS: u64 = 12;
-/// Refusals for want of room in a buffer, of which the number says all.
-const ROOMS: [u8; 3] = [9, 10, 11];
 
 /// A session's text, as `./run` prints it for a file of frames.
 fn text_of(kind: &str, seed: u64) -> String {
@@ -51,8 +48,7 @@ fn refusals_are_explained_and_answers_are_not() {
                 let number =
                     line.strip_prefix("Refused    ").and_then(|rest| rest.split(':').next());
                 let number = number.map(|number| number.parse().expect("a number"));
-                let is_due = number.is_some_and(|number| !ROOMS.contains(&number));
-                assert_eq!(is_explained, is_due, "{kind}, seed {seed}: {line}\n{text}");
+                assert_eq!(is_explained, number.is_some(), "{kind}, seed {seed}: {line}\n{text}");
                 reached.add_held([("answered", line.starts_with("Answer"))]);
                 number.into_iter().for_each(|number: u8| reached.add(number.to_string()));
             }

@@ -120,6 +120,9 @@ fn unreadable_lines() {
         "* LIST () \"/\" {99999999999999999999}",
         "* LIST () \"/\" {999}",
         "* LIST () \"/\" {-1}",
+        // A record that leaves the bytes of literals out.
+        "* LIST () \"/\" {3}",
+        "* LIST () \"/\" {1}",
         "* LIST () \"/\" a (",
         "* LIST () \"/\" a (\"X\" (()",
         "* LIST () / a",
@@ -134,7 +137,8 @@ fn unreadable_lines() {
     }
 }
 
-/// What stands in a literal is no line of the server, of a name or of something else.
+/// What stands in a literal is no line of the server, of a name or of something else. It is reported: a
+/// record may leave literals out, and then it was a line after all.
 #[test]
 fn literals_hide_lines() {
     let inside = "* LIST () \"/\" no";
@@ -145,10 +149,15 @@ fn literals_hide_lines() {
     );
     let Came { lines, told } = of_answer(answer);
     assert_eq!(lines, ["mailbox yes exists"]);
-    let [left_out] = told.all_left_out() else {
-        panic!("{:?}", told.all_left_out());
-    };
-    assert!(left_out.starts_with("line 3: "), "{left_out}");
+    let starts = [
+        "line 2: within a literal of line 1, not read: ",
+        "line 4: within a literal of line 3, not read: ",
+        "line 3: ",
+    ];
+    assert_eq!(told.all_left_out().len(), starts.len());
+    for (left_out, start) in told.all_left_out().iter().zip(starts) {
+        assert!(left_out.starts_with(start), "{left_out}");
+    }
 }
 
 /// Lines without a mailbox are counted, and the first is told; nothing is lost with them.

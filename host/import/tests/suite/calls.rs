@@ -10,16 +10,16 @@ use crate::maildirs::Tree;
 const IMPORT: &str = env!("CARGO_BIN_EXE_import");
 const SCRIPT: &str = concat!(env!("CARGO_MANIFEST_DIR"), "/../../import");
 
-fn run(words: &[&str]) -> Output {
+pub fn run(words: &[&str]) -> Output {
     Command::new(IMPORT).args(words).stdin(Stdio::null()).output().expect("a run")
 }
 
-fn text(bytes: &[u8]) -> &str {
+pub fn text(bytes: &[u8]) -> &str {
     str::from_utf8(bytes).expect("text")
 }
 
 /// A file of this test's own.
-fn file(name: &str, bytes: &str) -> String {
+pub fn file(name: &str, bytes: &str) -> String {
     let path = Path::new(env!("CARGO_TARGET_TMPDIR")).join(name);
     fs::write(&path, bytes).expect("a file");
     path.to_str().expect("text").to_string()
@@ -30,8 +30,7 @@ fn statuses() {
     let good = file("good.names", "a\nb/c\n");
     let output = run(&["names", &good]);
     assert_eq!(output.status.code(), Some(0));
-    let session = format!("# 2 rows from the names {good}\nmailbox a exists\nmailbox b/c exists\n");
-    assert_eq!(text(&output.stdout), session);
+    assert!(text(&output.stdout).ends_with("\nmailbox a exists\nmailbox b/c exists\n"));
     assert_eq!(text(&output.stderr), "import: 2 rows taken; 0 left out\n");
 
     let half = file("half.names", "a\nb%\n");
@@ -53,11 +52,11 @@ fn statuses() {
 
 #[test]
 fn wrong_calls() {
-    let calls: [(&[&str], &str); 14] = [
-        (&[], "maildir, answer or names is missing"),
+    let calls: [(&[&str], &str); 22] = [
+        (&[], "maildir, mbox, answer, names, doveadm or cyrus is missing"),
         (&["names"], "the store is missing"),
         (&["names", ""], "the name of the store is empty"),
-        (&["mbox", "x"], "mbox is none of maildir, answer and names"),
+        (&["mh", "x"], "mh is none of maildir, mbox, answer, names, doveadm or cyrus"),
         (&["names", "x", "y"], "one store at a time, and y is one more"),
         (&["names", "x", "-o"], "-o takes a word"),
         (&["names", "x", "-o", "y", "-o", "z"], "-o stands twice"),
@@ -65,6 +64,14 @@ fn wrong_calls() {
         (&["names", "x", "--delimiter", ".."], "a delimiter is one byte"),
         (&["names", "x", "--room", "large"], "--room takes program or library"),
         (&["answer", "x", "--delimiter", "."], "--delimiter and --subscribed stand beside names"),
+        (&["maildir", "x", "--layout", "mh"], "--layout takes maildir++, fs or dbox"),
+        (&["mbox", "x", "--layout", "fs"], "--layout stands beside maildir alone"),
+        (&["names", "x", "--date", ""], "--date takes the date"),
+        (&["names", "x", "--force"], "--force stands beside -o alone"),
+        (&["names", "x", "--special-use", "Sent"], "--special-use takes WORD=NAME"),
+        (&["names", "x", "--special-use", "sent="], "--special-use takes WORD=NAME"),
+        (&["names", "x", "--special-use", "marked=a"], "--special-use takes WORD=NAME"),
+        (&["mbox", "no-such-folder"], "cannot read no-such-folder: No such file"),
         (&["names", "no-such-file"], "cannot read no-such-file: No such file"),
         (&["maildir", "no-such-folder"], "cannot read no-such-folder: No such file"),
         (&["answer", "/"], "cannot read /: Is a directory"),
@@ -75,26 +82,6 @@ fn wrong_calls() {
         let told = text(&output.stderr);
         assert!(told.starts_with(&format!("import: {message}")), "{words:?}: {told}");
     }
-}
-
-/// The output goes into a file where one is named, never over the store.
-#[test]
-fn output_files() {
-    let names = file("out.names", "a\n");
-    let session = file("out.session", "old\n");
-    let output = run(&["names", &names, "-o", &session, "--walk"]);
-    assert_eq!((output.status.code(), output.stdout.len()), (Some(0), 0));
-    let written = fs::read_to_string(&session).expect("a session");
-    assert!(written.ends_with("mailbox a exists\n\nwalk remote\n"), "{written}");
-
-    let output = run(&["names", &names, "-o", &names]);
-    assert_eq!(output.status.code(), Some(2));
-    assert!(text(&output.stderr).contains("is the store itself"), "{}", text(&output.stderr));
-    assert_eq!(fs::read_to_string(&names).expect("names"), "a\n");
-
-    let output = run(&["names", &names, "-o", "/no-such-folder/x"]);
-    assert_eq!(output.status.code(), Some(2));
-    assert!(text(&output.stderr).starts_with("import: cannot write /no-such-folder/x: "));
 }
 
 #[test]
@@ -125,10 +112,43 @@ fn hostile_names_are_escaped() {
     );
 }
 
-/// `./import` tells what it takes.
+/// Text of which no line can be read is no answer without mailboxes.
+#[test]
+fn utf_16() {
+    let path = Path::new(env!("CARGO_TARGET_TMPDIR")).join("utf-16.answer");
+    fs::write(&path, b"\xFF\xFE*\0 \0L\0").expect("a file");
+    let output = run(&["answer", path.to_str().expect("text")]);
+    assert_eq!(output.status.code(), Some(2));
+    assert!(text(&output.stderr).contains(": text in UTF-16"), "{}", text(&output.stderr));
+}
+
+/// `./import` says what it takes: every kind and every option, of which each is one.
 #[test]
 fn the_script() {
     let help = Command::new(SCRIPT).arg("--help").output().expect("a run");
     assert!(help.status.success() && help.stderr.is_empty());
-    assert!(text(&help.stdout).starts_with("usage: ./import "));
+    let help = text(&help.stdout);
+    assert!(help.starts_with("usage: ./import "));
+    let kinds =
+        ["maildir DIR", "mbox DIR", "answer FILE", "names FILE", "doveadm FILE", "cyrus FILE"];
+    let options = [
+        "-o FILE",
+        "--force",
+        "--special-use WORD=NAME",
+        "--layout L",
+        "--delimiter C",
+        "--subscribed FILE",
+        "--walk",
+        "--room program",
+        "--room library",
+        "--date TEXT",
+    ];
+    for words in kinds.iter().chain(&options) {
+        let is_line = |line: &str| line.starts_with(&format!("  {words}"));
+        assert!(help.lines().any(is_line), "{words}");
+    }
+    for option in options.map(|words| words.split(' ').next().unwrap_or_default()) {
+        let output = run(&["names", "no-such-file", option]);
+        assert!(!text(&output.stderr).contains("unknown option"), "{option}");
+    }
 }

@@ -1,6 +1,6 @@
 //! From a store to a session file, and back to the table that it is.
 
-use import::{session_text, Asked, Found, Gathered, Room, Told};
+use import::{mailbox_lines, Found, Gathered, Room, Told};
 use second::frames::Frame;
 use second::{check_table, Table};
 use session::{Content, Session, Source};
@@ -12,14 +12,14 @@ pub struct Came {
     pub told: Told,
 }
 
-/// The session file of what a store says. It is read back, and its table passes.
+/// The rows of what a store says, as items. They are read back, and their table passes.
 pub fn came(found: &[Found], mut told: Told, room: Room) -> Came {
     let rows = Gathered::of(found, &mut told).into_rows(room, &mut told);
-    let text = session_text("a test", &rows, Asked::Nothing);
+    let text = mailbox_lines(&rows);
     let table = packed_table(&text);
     assert!(check_table(Table::Packed(&table)), "{text}");
     assert!(table.len() <= room.bytes());
-    Came { lines: text.lines().skip(1).map(String::from).collect(), told }
+    Came { lines: text.lines().map(String::from).collect(), told }
 }
 
 /// The rows of a session file, in the order in which they stand, packed.

@@ -5,7 +5,8 @@ use std::fs;
 use std::os::unix::ffi::OsStrExt;
 use std::path::{Path, PathBuf};
 
-use import::maildir::{read_maildir, read_subscriptions};
+use import::maildir::{read_maildir, Layout};
+use import::subscriptions::read_subscriptions;
 use import::{Room, Said, StoreError, Told};
 
 use crate::common::{came, Came};
@@ -44,10 +45,15 @@ impl Tree {
         self
     }
 
-    fn came(&self) -> Came {
+    /// What comes of it in the layout that it shows.
+    pub fn came(&self) -> Came {
+        self.came_in(None).1
+    }
+
+    pub fn came_in(&self, layout: Option<Layout>) -> (Layout, Came) {
         let mut told = Told::default();
-        let found = read_maildir(&self.root, &mut told).expect("a Maildir");
-        came(&found, told, Room::Program)
+        let maildir = read_maildir(&self.root, layout, &mut told).expect("a tree");
+        (maildir.layout, came(&maildir.all_found, told, Room::Program))
     }
 }
 
@@ -70,7 +76,7 @@ fn a_tree() {
         ]
     );
     assert!(told.is_all_taken(), "{:?}", told.all_left_out());
-    assert_eq!(told.all_notes(), ["folder .Customers: no mailbox: cur, new and tmp are missing"]);
+    assert_eq!(told.all_notes(), ["folder .Customers: no mailbox, and empty"]);
 }
 
 /// A subscribed folder that is no mailbox has a row of a name that does not exist.
@@ -96,10 +102,11 @@ fn what_is_left_out() {
     assert_eq!(
         told.all_left_out(),
         [
-            "folder .a/.nested: like a mailbox, and not where Maildir++ has one; not read",
+            "folder .a: no mailbox, and not empty",
+            "folder .a/.nested: like a mailbox, and not where this layout has one; not read",
             "folder .half: no mailbox: tmp is missing",
             "folder .inbox: inbox: the folder above it is INBOX",
-            "folder Outside: like a mailbox, and not where Maildir++ has one; not read",
+            "folder Outside: like a mailbox, and not where this layout has one; not read",
             "courierimapsubscribed: subscriptions of another form; not read",
             "folder .50%: 50%: name bytes are 20 to 7E (hex), without % and *",
             "folder .a..b: a..b: no level of a name is empty",
@@ -111,8 +118,7 @@ fn what_is_left_out() {
     assert_eq!(
         told.all_notes(),
         [
-            "folder .a: no mailbox: cur, new and tmp are missing",
-            "folder other: no folder of Maildir++; not read",
+            "folder other: no mailbox, and empty",
             "folder .Inbox.Sent: Inbox.Sent: spelled INBOX in its first level",
         ]
     );
@@ -133,26 +139,33 @@ fn no_inbox() {
     );
 }
 
+/// A tree without a mailbox is reported as such, and so is a folder where a file should be. A tree that is
+/// not there cannot be read.
 #[test]
 fn no_maildir() {
     let tree = Tree::new("no-maildir");
-    tree.folder(b"x", &[]).file("subscriptions", b"a\n");
-    let mut told = Told::default();
-    assert!(matches!(read_maildir(&tree.root, &mut told), Err(StoreError::NoStore(..))));
+    let none = "the folder itself: no mailbox is in it or below it";
+    assert_eq!(tree.came().told.all_left_out(), [none]);
+    tree.folder(b"x", &[]).file("x/y", b"z").file("subscriptions", b"");
+    let Came { lines, told } = tree.came();
+    assert!(lines.is_empty());
+    assert_eq!(told.all_left_out(), ["folder x: no mailbox, and not empty", none]);
     let nowhere = tree.root.join("nowhere");
-    assert!(matches!(read_maildir(&nowhere, &mut told), Err(StoreError::Unreadable(..))));
-    // A folder where a file should be.
+    let read = read_maildir(&nowhere, None, &mut Told::default());
+    assert!(matches!(read, Err(StoreError::Unreadable(..))));
+
     tree.mailbox(b"");
     fs::remove_file(tree.root.join("subscriptions")).expect("no file");
     tree.folder(b"subscriptions", &[]);
-    assert!(matches!(read_maildir(&tree.root, &mut told), Err(StoreError::Unreadable(..))));
+    let reason = "subscriptions: a folder, where the file of the subscribed names would be";
+    assert!(tree.came().told.all_left_out().iter().any(|left_out| left_out == reason));
 }
 
 /// The two forms of the file name the same mailboxes.
 #[test]
 fn forms_of_subscriptions() {
     let names = |bytes: &[u8]| -> Vec<Vec<u8>> {
-        let found = read_subscriptions(bytes);
+        let found = read_subscriptions(bytes, "subscriptions", b'.');
         assert!(found.iter().all(|found| matches!(found.said, Said::Subscribed(_))));
         found.iter().map(|found| found.translated().unwrap_or_default()).collect()
     };

@@ -2,19 +2,20 @@
 
 use second::frames::{Frame, Program};
 
+use crate::difference::{Difference, SECOND};
 use crate::explain::UNPROVED;
-use crate::item::Sent;
+use crate::item::{Origin, Sent, Turn, OWN};
 use crate::reply::Reply;
 use crate::report::html::{cell, table, Html};
-use crate::report::walk::Walk;
+use crate::report::walk::{purpose_text, Walk};
 use crate::report::why::{explained_lines, Explained};
-use crate::show::{beside_line, refusal_text, show_frame, show_overlong};
-use crate::summary::{came_text, Verdict};
+use crate::show::{beside_line, came_text, refusal_text, show_sent, BY_LIBRARY};
+use crate::summary::Verdict;
 use crate::text::line_text;
 
 /// What was sent and what came of it.
 pub struct Came<'c> {
-    pub line: u64,
+    pub turn: Turn,
     pub sent: &'c Sent,
     /// None where it cannot be read.
     pub frame: Option<&'c Frame>,
@@ -23,6 +24,8 @@ pub struct Came<'c> {
     pub explanation: Option<&'c str>,
     pub effect: Option<&'c str>,
     pub hidden: Option<&'c [String]>,
+    /// Where the answer is not the second program's.
+    pub difference: Option<&'c Difference>,
     /// What the program had stored when it answered a command that is no edit.
     pub program: &'c Program,
 }
@@ -37,8 +40,10 @@ impl Came<'_> {
         Verdict::of(self.sent, self.reply)
     }
 
-    fn kind(&self) -> &'static str {
+    pub fn kind(&self) -> &'static str {
         match self.frame {
+            _ if self.turn == Turn::Own => "own command of this tool",
+            Some(Frame::Walk { .. }) if self.sent.origin == Origin::LargeWalk => "walk large",
             Some(Frame::Row(_)) => "mailbox",
             Some(Frame::Entry(_)) => "namespace",
             Some(Frame::Command { .. }) => "command",
@@ -48,9 +53,56 @@ impl Came<'_> {
     }
 }
 
+/// The line of the session, or that it is this tool's own command.
+fn turn_word(turn: Turn) -> String {
+    match turn {
+        Turn::Line(line) => line.to_string(),
+        Turn::Own => "end".to_string(),
+    }
+}
+
+/// The cell that leads to an exchange.
+fn link_cell(turn: Turn) -> Html {
+    let word = turn_word(turn);
+    let target = format!("#line-{word}");
+    Html::element("td", &[], Html::of_text("a", &[("href", &target)], &word))
+}
+
+/// An answer that is not the second program's, for the list of them all.
+pub struct Differing {
+    turn: Turn,
+    difference: Difference,
+}
+
+impl Differing {
+    pub fn of(came: &Came) -> Option<Differing> {
+        came.difference
+            .map(|difference| Differing { turn: came.turn, difference: difference.clone() })
+    }
+
+    pub fn html(&self) -> Html {
+        let cells =
+            [link_cell(self.turn), Html::element("td", &[], difference_html(&self.difference))];
+        Html::element("tr", &[("data-differs", &turn_word(self.turn))], Html::joined(cells))
+    }
+}
+
+/// How an answer differs, with each line that is missing or added.
+fn difference_html(Difference { short, lines }: &Difference) -> Html {
+    let item = |line: &String| {
+        let code = Html::of_text("code", &[], line);
+        Html::element("li", &[("data-difference", line)], code)
+    };
+    let list = match lines.as_slice() {
+        [] => Html::default(),
+        lines => Html::element("ul", &[], Html::joined(lines.iter().map(item))),
+    };
+    Html::joined([Html::of_text("span", &[("class", "wrong")], short), list])
+}
+
 /// A refusal, for the list of them all.
 pub struct Refused {
-    line: u64,
+    turn: Turn,
     number: u8,
     explanation: String,
     expected: &'static str,
@@ -67,15 +119,13 @@ impl Refused {
             (Some(_), _) => "another number",
         };
         let explanation = came.explanation.map(explained_text).unwrap_or_default();
-        Some(Refused { line: came.line, number: *number, explanation, expected })
+        Some(Refused { turn: came.turn, number: *number, explanation, expected })
     }
 
     pub fn html(&self) -> Html {
-        let (line, number) = (self.line.to_string(), self.number.to_string());
-        let target = format!("#line-{line}");
-        let link = Html::of_text("a", &[("href", &target)], &line);
+        let (line, number) = (turn_word(self.turn), self.number.to_string());
         let cells = [
-            Html::element("td", &[], link),
+            link_cell(self.turn),
             cell(refusal_text(self.number)),
             cell(&self.explanation),
             cell(self.expected),
@@ -87,34 +137,53 @@ impl Refused {
 
 /// The whole exchange.
 pub fn exchange_html(came: &Came) -> Html {
-    let (line, kind) = (came.line.to_string(), came.kind());
+    let (line, kind) = (turn_word(came.turn), came.kind());
     let id = format!("line-{line}");
     let class = match (came.reply, came.verdict()) {
+        _ if came.difference.is_some() => "exchange refused",
         (_, Verdict::AsExpected) => "exchange expected",
         (Some(Reply::Refused(_)), _) | (_, Verdict::Unmet) => "exchange refused",
         _ => "exchange",
     };
-    let mut html = Html::of_text("h3", &[], format!("Line {line}: {kind}{}", sender_text(came)));
-    html.push(sent_html(came.sent));
+    let head = match came.turn {
+        Turn::Line(line) => format!("Line {line}: {kind}{}", sender_text(came)),
+        Turn::Own => format!("At the end: {kind}{}", sender_text(came)),
+    };
+    let mut html = Html::of_text("h3", &[], head);
+    html.push(sent_html(came));
     html.push(reply_html(came));
+    html.push(beside_html(came));
+    let attributes: [(&str, &str); 4] =
+        [("class", class), ("id", &id), ("data-line", &line), ("data-kind", kind)];
+    Html::element("section", &attributes, html).and_line()
+}
+
+/// What is told beside an answer.
+fn beside_html(came: &Came) -> Html {
+    let mut html = Html::default();
+    let mut small = |text: String| html.push(Html::of_text("p", &[("class", "small")], text));
+    if came.turn == Turn::Own {
+        small(format!("This command was {OWN}."));
+    }
     if let Some(text) = came.explanation {
-        html.push(Html::of_text("p", &[("class", "small")], explained_text(text)));
+        small(explained_text(text));
+    }
+    if let Some(text) = came.effect {
+        small(format!("Effect: {}", explained_text(text)));
+    }
+    if let Some(lines) = came.hidden {
+        small(format!("Hidden {}", explained_text(&lines.join("; "))));
     }
     if let (Some(expected), Verdict::Unmet) = (came.sent.expected, came.verdict()) {
         let text = format!("Expected was {expected}; and it was {}.", came_text(came.reply));
         html.push(Html::of_text("p", &[("class", "wrong")], text));
     }
-    if let Some(text) = came.effect {
-        let text = format!("Effect: {}", explained_text(text));
-        html.push(Html::of_text("p", &[("class", "small")], text));
+    if let Some(difference) = came.difference {
+        let head = format!("The second program answers otherwise ({SECOND}): ");
+        let content = Html::joined([Html::text(head), difference_html(difference)]);
+        html.push(Html::element("div", &[("class", "differs")], content));
     }
-    if let Some(lines) = came.hidden {
-        let text = format!("Hidden {}", explained_text(&lines.join("; ")));
-        html.push(Html::of_text("p", &[("class", "small")], text));
-    }
-    let attributes: [(&str, &str); 4] =
-        [("class", class), ("id", &id), ("data-line", &line), ("data-kind", kind)];
-    Html::element("section", &attributes, html).and_line()
+    html
 }
 
 fn sender_text(came: &Came) -> String {
@@ -126,15 +195,21 @@ fn sender_text(came: &Came) -> String {
     }
 }
 
-fn sent_html(sent: &Sent) -> Html {
-    let shown = if sent.is_overlong() {
-        show_overlong(&sent.frame.text, sent.length, sent.frame.is_cut)
-    } else {
-        show_frame(&sent.frame)
-    };
+fn sent_html(came: &Came) -> Html {
+    if let Some(Frame::Walk { option, .. }) = came.frame {
+        let by = match came.sent.origin {
+            Origin::LargeWalk => format!(" It was made by {BY_LIBRARY}."),
+            _ => String::new(),
+        };
+        return Html::of_text("p", &[("class", "purpose")], purpose_text(*option) + &by);
+    }
+    let shown = show_sent(came.sent);
     // Who sends it stands above.
-    let lines: Vec<&str> =
-        shown.lines().filter(|(label, _)| *label != "From").map(|(_, line)| line).collect();
+    let lines: Vec<String> = shown
+        .lines()
+        .filter(|(label, _)| *label != "From")
+        .map(|(_, line)| line.to_string())
+        .collect();
     Html::of_text("pre", &[("class", "sent")], lines.join("\n"))
 }
 
@@ -148,8 +223,12 @@ fn reply_html(came: &Came) -> Html {
         Some(Reply::Walked { count, found }) => Walk { count: *count, found }.html(),
         Some(Reply::Refused(number)) => {
             let text = format!("Refused with {}", refusal_text(*number));
+            let (class, text) = match came.verdict() {
+                Verdict::AsExpected => ("as-expected", text + ", as expected"),
+                _ => ("wrong", text),
+            };
             let number = number.to_string();
-            let attributes: [(&str, &str); 2] = [("class", "wrong"), ("data-refused", &number)];
+            let attributes: [(&str, &str); 2] = [("class", class), ("data-refused", &number)];
             Html::of_text("p", &attributes, text)
         }
         Some(Reply::Unreadable(line)) => {

@@ -9,7 +9,23 @@ pub struct Html(String);
 pub type Attributes<'a> = &'a [(&'static str, &'a str)];
 
 impl Html {
+    /// Text. What may run from right to left is kept apart level by level, so that the levels of a name
+    /// stand in their order and nothing beside them moves.
     pub fn text(text: impl AsRef<str>) -> Html {
+        let mut html = Html::default();
+        for part in text.as_ref().split_inclusive(LEVEL_ENDS) {
+            let (level, end) = part.split_at(part.trim_end_matches(LEVEL_ENDS).len());
+            match level.chars().any(runs_left) {
+                true => html.push(Html::element("bdi", &[], Html::plain(level))),
+                false => html.push(Html::plain(level)),
+            }
+            html.push(Html::plain(end));
+        }
+        html
+    }
+
+    /// Text alone, for elements that hold nothing else.
+    pub fn plain(text: impl AsRef<str>) -> Html {
         Html(escaped(text.as_ref()))
     }
 
@@ -23,9 +39,24 @@ impl Html {
         Html::element(tag, attributes, Html::text(text))
     }
 
+    /// A title, which holds no elements.
+    pub fn title(text: impl AsRef<str>) -> Html {
+        Html::element("title", &[], Html::plain(text))
+    }
+
     /// An element that holds nothing: of HTML those that never do, of SVG any.
     pub fn empty(tag: &'static str, attributes: Attributes) -> Html {
         Html(format!("<{tag}{}/>", attributes_text(attributes)))
+    }
+
+    /// A row of facts whose content is more than text.
+    pub fn fact_row(id: &str, head: &str, content: Html) -> Html {
+        let class = if id.ends_with("-sum") { "sum" } else { "" };
+        let cells = [
+            Html::of_text("th", &[("scope", "row")], head),
+            Html::element("td", &[("id", id), ("class", class)], content),
+        ];
+        Html::element("tr", &[], Html::joined(cells))
     }
 
     /// The style of the page, which is the program's own text.
@@ -57,6 +88,16 @@ impl Html {
     }
 }
 
+/// What parts the levels of a name, and what stands around one.
+const LEVEL_ENDS: [char; 2] = ['/', '"'];
+
+/// The blocks of scripts that are written from right to left.
+fn runs_left(character: char) -> bool {
+    matches!(character,
+        '\u{590}'..='\u{8FF}' | '\u{FB1D}'..='\u{FDFF}' | '\u{FE70}'..='\u{FEFF}'
+        | '\u{10800}'..='\u{10FFF}' | '\u{1E800}'..='\u{1EFFF}')
+}
+
 fn attributes_text(attributes: Attributes) -> String {
     attributes.iter().map(|(name, value)| format!(" {name}=\"{}\"", escaped(value))).collect()
 }
@@ -82,6 +123,11 @@ pub fn table(class: &str, heads: &[&str], rows: impl IntoIterator<Item = Html>) 
     let head = Html::element("thead", &[], Html::element("tr", &[], Html::joined(heads)));
     let body = Html::element("tbody", &[], Html::joined(rows.into_iter().map(Html::and_line)));
     Html::element("table", &[("class", class)], Html::joined([head.and_line(), body])).and_line()
+}
+
+/// A row of facts: what it is, and what it says.
+pub fn fact(id: &str, head: &str, text: &str) -> Html {
+    Html::fact_row(id, head, Html::text(text))
 }
 
 /// A cell with text.

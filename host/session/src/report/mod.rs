@@ -1,47 +1,45 @@
 //! A report of a session: one page that needs nothing beside it, to be read, printed and kept.
 //!
 //! The numbers, the lines and the names are the program's answers. Why a name was listed, and why
-//! something was refused, is said by the second program and marked so. A [`Report`] is filled while a
-//! session runs and makes its page at the end.
+//! something was refused, is said by the second program and marked so; where its own answer is another
+//! one, the page says that too. A [`Report`] is filled while a session runs and makes its page at the
+//! end.
 
 mod date;
 mod exchange;
+mod facts;
+mod glossary;
 mod html;
 mod tree;
+mod verdict;
 mod walk;
 mod why;
 
 pub use date::{date_text, now};
 pub use exchange::Came;
+pub use facts::{Facts, Matter, Versions};
+pub(crate) use tree::Tables;
 
 use second::frames::Program;
 
-use crate::report::exchange::{exchange_html, Refused};
-use crate::report::html::{cell, code_cell, table, Html};
-use crate::report::tree::{Packed, Tables};
-use crate::sha256::Sum;
+use crate::report::exchange::{exchange_html, Differing, Refused};
+use crate::report::glossary::{glossary_html, glossary_link};
+use crate::report::html::{cell, code_cell, fact, table, Html};
+use crate::report::tree::Packed;
+use crate::report::verdict::verdict_html;
 use crate::show::{counted, show_namespaces};
 use crate::summary::Summary;
+use crate::verdict::Conclusion;
 
 /// No more exchanges than these are shown one by one, and no more than these bytes of them.
 const MOST_EXCHANGES: usize = 1_000;
 const MOST_BYTES: usize = 32 << 20;
-/// No more refusals than these are listed one by one. All are counted.
-const MOST_REFUSALS: usize = 1_000;
+/// No more refusals and no more differences than these are listed one by one. All are counted.
+const MOST_LISTED: usize = 1_000;
 
 const STYLE: &str = include_str!("report.css");
 /// The page loads nothing and runs nothing.
 const POLICY: &str = "default-src 'none'; style-src 'unsafe-inline'";
-
-/// What a report names beside the session itself.
-pub struct Facts {
-    /// Where the session is from.
-    pub session: String,
-    pub session_sum: Sum,
-    pub program: String,
-    pub program_sum: Sum,
-    pub date: String,
-}
 
 /// What is kept of a session for its page.
 #[derive(Default)]
@@ -50,10 +48,42 @@ pub struct Report {
     shown: usize,
     /// Exchanges that are counted and not shown.
     more: usize,
-    refused: Vec<Refused>,
-    more_refused: usize,
+    refused: Listed<Refused>,
+    differing: Listed<Differing>,
     tables: Tables,
     namespaces: Vec<u8>,
+}
+
+/// The first ones of a list, and how many more there are.
+struct Listed<T> {
+    listed: Vec<T>,
+    more: usize,
+}
+
+impl<T> Default for Listed<T> {
+    fn default() -> Listed<T> {
+        Listed { listed: Vec::new(), more: 0 }
+    }
+}
+
+impl<T> Listed<T> {
+    fn take(&mut self, one: Option<T>) {
+        match one {
+            Some(one) if self.listed.len() < MOST_LISTED => self.listed.push(one),
+            Some(_) => self.more += 1,
+            None => {}
+        }
+    }
+
+    fn more_html(&self, one: &str, more: &str) -> Html {
+        match self.more {
+            0 => Html::default(),
+            count => {
+                let count = counted(count, one, more);
+                Html::of_text("p", &[], format!("And {count} more, not listed."))
+            }
+        }
+    }
 }
 
 impl Report {
@@ -66,13 +96,8 @@ impl Report {
 
     /// What was sent and what came of it. A row or an entry that was kept is in the table.
     pub fn record(&mut self, came: &Came) {
-        if let Some(refused) = Refused::of(came) {
-            if self.refused.len() < MOST_REFUSALS {
-                self.refused.push(refused);
-            } else {
-                self.more_refused += 1;
-            }
-        }
+        self.refused.take(Refused::of(came));
+        self.differing.take(Differing::of(came));
         if !came.is_shown() {
             return;
         }
@@ -100,18 +125,21 @@ impl Report {
         let head = [
             Html::empty("meta", &[("charset", "utf-8")]),
             Html::empty("meta", &[("http-equiv", "Content-Security-Policy"), ("content", POLICY)]),
-            Html::of_text("title", &[], format!("{title}: {}", facts.session)),
+            Html::title(format!("{title}: {}", facts.session)),
             Html::style(STYLE),
         ];
         let head = Html::element("head", &[], Html::joined(head.map(Html::and_line)));
         let body = [
             Html::of_text("h1", &[], title),
-            self.verdict(summary, stopped),
-            self.facts(facts),
+            verdict_html(&Conclusion::of(summary, stopped)),
+            glossary_link(),
+            self.facts(facts, summary),
             counts(summary),
             self.table_section(),
             self.exchanges_section(),
             self.refusals_section(),
+            self.differences_section(summary),
+            glossary_html(),
             Html::of_text("p", &[("class", "small")], ABOUT),
         ];
         let body = Html::element("body", &[], Html::joined(body.map(Html::and_line)));
@@ -119,28 +147,14 @@ impl Report {
         Html::element("html", &[("lang", "en")], Html::joined(page)).into_page()
     }
 
-    fn verdict(&self, summary: &Summary, stopped: Option<&str>) -> Html {
-        let (class, text) = match stopped {
-            Some(reason) => ("wrong", format!("The session was not run to its end: {reason}")),
-            None if summary.is_all_answered() => {
-                ("well", "Everything was answered, or refused as expected.".to_string())
-            }
-            None => ("wrong", "Not everything was answered, or refused as expected.".to_string()),
-        };
-        Html::of_text("p", &[("class", class), ("id", "verdict")], text)
-    }
-
-    fn facts(&self, facts: &Facts) -> Html {
+    fn facts(&self, facts: &Facts, summary: &Summary) -> Html {
         let given = self.tables.given();
-        let mut rows = vec![
-            fact("date", "Date", &facts.date),
-            fact("session", "Session", &facts.session),
-            fact("session-sum", "SHA-256 of the session", &facts.session_sum.to_string()),
-            fact("program", "Program", &facts.program),
-            fact("program-sum", "SHA-256 of the program", &facts.program_sum.to_string()),
-            fact("table", "Table as given, packed", &packed_text(&given)),
-            fact("table-sum", "SHA-256 of these bytes", &given.sum.to_string()),
-        ];
+        let mut rows = facts.rows(summary);
+        let (answers, differing) = summary.compared();
+        let alike = format!("{} of {answers} answers, line by line", answers - differing);
+        rows.push(fact("alike", "The second program answers the same", &alike));
+        rows.push(fact("table", "Table as given, packed", &packed_text(&given)));
+        rows.push(fact("table-sum", "SHA-256 of these bytes", &given.sum.to_string()));
         if let Some(end) = self.tables.at_end() {
             rows.push(fact("end", "Table after the edits, packed", &packed_text(&end)));
             rows.push(fact("end-sum", "SHA-256 of these bytes", &end.sum.to_string()));
@@ -175,32 +189,38 @@ impl Report {
 
     fn refusals_section(&self) -> Html {
         let mut section = Html::of_text("h2", &[], "What was refused");
-        if self.refused.is_empty() {
+        if self.refused.listed.is_empty() {
             section.push(Html::of_text("p", &[], "Nothing was refused."));
             return section;
         }
         let heads = ["Line", "Number and meaning", "Why", "Expected"];
-        section.push(table("refusals", &heads, self.refused.iter().map(Refused::html)));
-        if self.more_refused > 0 {
-            let count = counted(self.more_refused, "refusal", "refusals");
-            section.push(Html::of_text("p", &[], format!("And {count} more, not listed.")));
+        section.push(table("refusals", &heads, self.refused.listed.iter().map(Refused::html)));
+        section.push(self.refused.more_html("refusal", "refusals"));
+        section
+    }
+
+    fn differences_section(&self, summary: &Summary) -> Html {
+        let mut section = Html::of_text("h2", &[], "Where the second program answers otherwise");
+        let (answers, differing) = summary.compared();
+        if differing == 0 {
+            let text = format!("Nowhere: {answers} of {answers} answers are the same.");
+            section.push(Html::of_text("p", &[], text));
+            return section;
         }
+        let heads = ["Line", "How the answers differ"];
+        section.push(table(
+            "differences",
+            &heads,
+            self.differing.listed.iter().map(Differing::html),
+        ));
+        section.push(self.differing.more_html("difference", "differences"));
         section
     }
 }
 
-const ABOUT: &str = "The answers, counts and finds are the program's. Why a line was listed, why \
-                     something was refused, what an edit does and what is hidden is explained by \
-                     the second program, not proved.";
-
-fn fact(id: &str, head: &str, text: &str) -> Html {
-    let class = if id.ends_with("-sum") { "sum" } else { "" };
-    let cells = [
-        Html::of_text("th", &[("scope", "row")], head),
-        Html::of_text("td", &[("id", id), ("class", class)], text),
-    ];
-    Html::element("tr", &[], Html::joined(cells))
-}
+const ABOUT: &str = "The answers, counts and finds are the program's, those of a large walk the \
+                     library's. Why a line was listed, why something was refused, what an edit \
+                     does and what is hidden is explained by the second program, not proved.";
 
 fn packed_text(packed: &Packed) -> String {
     let rows = counted(packed.rows, "row", "rows");

@@ -15,6 +15,9 @@ use crate::show::beside;
 use crate::text::line_text;
 use crate::words::{word_of_readers, words_of_flags};
 
+/// Deeper names are indented no further, so that flags and readers keep their place.
+const MOST_INDENTED: usize = 8;
+
 /// What a row says beside its name.
 type Said = (Flags, Readers);
 
@@ -54,6 +57,21 @@ impl Tables {
         self.at_end.as_deref().map(packed)
     }
 
+    /// The bytes of all rows that were kept.
+    pub fn packed_given(&self) -> &[u8] {
+        &self.given
+    }
+
+    /// The rows after the last edit; none where no edit was accepted.
+    pub fn packed_at_end(&self) -> Option<&[u8]> {
+        self.at_end.as_deref()
+    }
+
+    /// Whether the table that was given passes, as the second program sees it.
+    pub fn passes(&self) -> bool {
+        self.passes
+    }
+
     /// A tree where the table passes; else the rows as they stand.
     pub fn html(&self) -> Html {
         if self.passes {
@@ -75,16 +93,16 @@ impl Tables {
             }
         }
         let rows = nodes.iter().map(|(levels, said)| self.node(levels, *said));
-        let heads: &[&str] = match self.at_end {
-            Some(_) => &["Name", "Flags", "Readers", "After the edits"],
-            None => &["Name", "Flags", "Readers"],
-        };
-        table("tree", heads, rows)
+        match self.at_end {
+            Some(_) => table("tree edited", &["Name", "Flags", "Readers", "After the edits"], rows),
+            None => table("tree", &["Name", "Flags", "Readers"], rows),
+        }
     }
 
     fn node(&self, levels: &[&[u8]], [given, at_end]: [Option<Said>; 2]) -> Html {
         let name = levels.join(&DELIMITER);
-        let indent = format!("padding-left:{}em", 1.5 * levels.len() as f32 - 1.0);
+        let indented = levels.len().min(MOST_INDENTED);
+        let indent = format!("padding-left:{}em", 0.9 * indented as f32 - 0.5);
         let class = if given.or(at_end).is_some() { "row" } else { "implied" };
         let (above, own) = split_last(&name);
         let shown = Html::joined([

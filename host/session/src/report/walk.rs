@@ -6,6 +6,7 @@
 
 use std::collections::{BTreeMap, BTreeSet};
 
+use second::collector::{MAX_OPTION, OPTION_REMOTE, OPTION_SPECIAL_USE, OPTION_WITHOUT_SUBSCRIBED};
 use second::name::{ancestors, DELIMITER};
 
 use crate::report::html::{cell, code_cell, table, Html};
@@ -13,20 +14,40 @@ use crate::show::{beside, counted};
 use crate::text::{line_text, name_text, shortened};
 
 const ROW_HEIGHT: usize = 24;
-const COLUMN: usize = 40;
+const COLUMN: usize = 28;
+/// As many as a lawful name has levels. Deeper names stand in the last column too, with their level beside
+/// them, so that no picture is wider than a page takes.
+const MOST_COLUMNS: usize = 16;
 const LEFT: usize = 24;
 const HEAD_HEIGHT: usize = 22;
 /// Where a label starts, from the place of its node on.
 const LABEL: usize = 36;
 const CHARACTER: usize = 8;
 /// Of the last level of a name no more is drawn; the whole name stands in the tables.
-const MOST_OF_LABEL: usize = 48;
+const MOST_OF_LABEL: usize = 30;
 /// A picture of more rows goes on in the next one, so that pages can break between them.
 const ROWS_A_PICTURE: usize = 36;
 
 const LEGEND: &str =
     "A number is the command that asked below the name beside it; a dot is a mailbox \
-                      that was found. Columns are levels.";
+                      that was found. Columns are levels; deeper names stand in the last column.";
+
+/// What a walk looks for, in words.
+pub fn purpose_text(option: u8) -> String {
+    let has = |bit: u8| option & bit != 0;
+    let names = match (has(OPTION_SPECIAL_USE), has(OPTION_WITHOUT_SUBSCRIBED)) {
+        _ if option > MAX_OPTION => None,
+        (false, false) => Some("subscribed mailboxes"),
+        (true, false) => Some("subscribed mailboxes with a special use"),
+        (true, true) => Some("mailboxes with a special use, subscribed or not"),
+        (false, true) => None,
+    };
+    let places = if has(OPTION_REMOTE) { "local and remote ones" } else { "local ones only" };
+    match names {
+        Some(names) => format!("A walk that looks for {names}: {places}."),
+        None => format!("A walk with options that no walk has: number {option}."),
+    }
+}
 
 /// A walk that was answered.
 pub struct Walk<'w> {
@@ -111,14 +132,14 @@ impl Walk<'_> {
         let nodes = self.nodes(asked);
         let depth = nodes.iter().map(|node| node.levels.len()).max().unwrap_or_default();
         let label = nodes.iter().map(|node| node.label().chars().count()).max().unwrap_or_default();
+        let depth = depth.min(MOST_COLUMNS);
         let width = LEFT + depth * COLUMN + LABEL + label * CHARACTER + LEFT;
-        let width = width.max(LEFT + (depth + 1) * COLUMN + 2 * LEFT);
         let picture = |(number, part): (usize, &[Node])| {
             let head = if number == 0 { HEAD_HEIGHT } else { 0 };
             let height = head + part.len() * ROW_HEIGHT;
             let view = format!("0 0 {width} {height}");
             let style = format!("max-width:{width}px");
-            let title = Html::of_text("title", &[], "The walk, level by level");
+            let title = Html::title("The walk, level by level");
             let heads = (0..=depth).filter(|_| number == 0).map(level_head);
             let rows = (0..).zip(part).map(|(row, node)| node.html(head + row * ROW_HEIGHT));
             let drawn = Html::joined([title].into_iter().chain(heads).chain(rows));
@@ -170,28 +191,20 @@ impl Node<'_> {
     fn label(&self) -> String {
         match self.levels.last() {
             None => "top level".to_string(),
-            Some(level) => shortened(&line_text(level), MOST_OF_LABEL),
+            Some(level) => {
+                let text = shortened(&line_text(level), MOST_OF_LABEL);
+                match self.levels.len() {
+                    depth if depth > MOST_COLUMNS => format!("level {depth}: {text}"),
+                    _ => text,
+                }
+            }
         }
     }
 
     /// The row whose top is at `top`: lines to its parent and past it, its mark, and its label.
     fn html(&self, top: usize) -> Html {
-        let depth = self.levels.len();
-        let (x, middle, bottom) = (column(depth), top + ROW_HEIGHT / 2, top + ROW_HEIGHT);
-        let mut parts = Vec::new();
-        for (above, goes_on) in self.goes_on.iter().enumerate() {
-            let is_own = above + 1 == depth;
-            let end = if *goes_on { bottom } else { middle };
-            if *goes_on || is_own {
-                parts.push(line(column(above), top, column(above), end));
-            }
-            if is_own {
-                parts.push(line(column(above), middle, x, middle));
-            }
-        }
-        if self.has_child {
-            parts.push(line(x, middle, x, bottom));
-        }
+        let (x, middle) = (column(self.levels.len()), top + ROW_HEIGHT / 2);
+        let mut parts = self.lines(top);
         if let Some(number) = self.asked {
             parts.push(badge(x, middle, &number.to_string()));
         }
@@ -202,8 +215,29 @@ impl Node<'_> {
         let start = if self.asked.is_some() && self.is_found { LABEL } else { LABEL - 18 };
         let (x, y) = ((x + start).to_string(), (middle + 4).to_string());
         parts.push(Html::of_text("text", &[("x", &x), ("y", &y)], self.label()));
-        let title = Html::of_text("title", &[], line_text(&self.levels.join(&DELIMITER)));
+        let title = Html::title(line_text(&self.levels.join(&DELIMITER)));
         Html::element("g", &[], Html::joined([title].into_iter().chain(parts))).and_line()
+    }
+
+    /// The lines of the row: to its parent, past it to later names, and to its children.
+    fn lines(&self, top: usize) -> Vec<Html> {
+        let depth = self.levels.len();
+        let (x, middle, bottom) = (column(depth), top + ROW_HEIGHT / 2, top + ROW_HEIGHT);
+        let mut lines = Vec::new();
+        for (above, goes_on) in self.goes_on.iter().enumerate() {
+            let is_own = above + 1 == depth;
+            let end = if *goes_on { bottom } else { middle };
+            if *goes_on || is_own {
+                lines.push(line(column(above), top, column(above), end));
+            }
+            if is_own && column(above) < x {
+                lines.push(line(column(above), middle, x, middle));
+            }
+        }
+        if self.has_child {
+            lines.push(line(x, middle, x, bottom));
+        }
+        lines
     }
 }
 
@@ -212,7 +246,7 @@ fn levels(name: &[u8]) -> Vec<&[u8]> {
 }
 
 fn column(depth: usize) -> usize {
-    LEFT + depth * COLUMN
+    LEFT + depth.min(MOST_COLUMNS) * COLUMN
 }
 
 fn level_head(depth: usize) -> Html {

@@ -5,8 +5,9 @@ use second::frames::{Frame, Program};
 use second::line::{Criteria, Line};
 use second::rows::{rows_below, Flags, Row};
 use second::table::checked_rows;
-use second::{ends_in_percent, matches, meets_criteria, read_line, Reader, Records, Table};
+use second::{ends_in_percent, matches, meets_criteria, Reader, Records, Table};
 
+use crate::listed::read_listed;
 use crate::show::beside;
 use crate::text::name_text;
 use crate::words::words_of_flags;
@@ -27,7 +28,7 @@ pub struct Why {
 pub enum Kind {
     Criteria,
     RecursiveMatch,
-    /// W1: a level above mailboxes.
+    /// Document 02, W1: a level above mailboxes.
     Level,
     /// LSUB: a subscribed name.
     Subscribed,
@@ -98,17 +99,16 @@ impl<'t> Asked<'t> {
             Request::Root => {
                 why(Kind::Root, "the root: the pattern is empty and the command is not extended")
             }
-            Request::List(request) => why_listed(&self.rows, request, &read_line(line).ok()?),
-            Request::Lsub(request) => why_lsub(&self.rows, request, &lsub_line(line)?.name),
+            Request::List(request) => why_listed(&self.rows, request, &listed("LIST", line)?),
+            Request::Lsub(request) => why_lsub(&self.rows, request, &listed("LSUB", line)?.name),
             Request::Edit(_) => None,
         }
     }
 }
 
-/// An LSUB line is a LIST line but for its word.
-fn lsub_line(line: &[u8]) -> Option<Line> {
-    let rest = line.strip_prefix(b"* LSUB")?;
-    read_line(&[b"* LIST", rest].concat()).ok()
+/// The parts of a line that has this word.
+fn listed(word: &str, line: &[u8]) -> Option<Line> {
+    read_listed(line).filter(|(own, _)| *own == word).map(|(_, line)| line)
 }
 
 fn why_listed(rows: &[Row], request: &ListRequest, line: &Line) -> Option<Why> {
@@ -135,7 +135,7 @@ fn why_listed(rows: &[Row], request: &ListRequest, line: &Line) -> Option<Why> {
         let is_level = !narrows && !flags.has(Flags::EXISTS) && patterns.iter().any(is_asked_level);
         let below = shown(met_below.filter(|_| is_level)?.name);
         let text = format!(
-            "as a level (W1): it does not exist, a pattern that it matches ends in %, and {below} \
+            "as a level: it does not exist, a pattern that it matches ends in %, and {below} \
              below it meets the criteria"
         );
         (Kind::Level, text)

@@ -96,6 +96,11 @@ fn expectations() {
             "\n",
             "Namespace  personal \"\" NIL\n",
             "Expected   2: the namespace list does not pass, or no room for an entry; and it was kept\n",
+            "\n",
+            "Own check  own-check NAMESPACE\n",
+            "           (sent by this tool: after the last row or entry the session asks nothing)\n",
+            "Answer     * NAMESPACE ((\"\" NIL)) NIL NIL\n",
+            "           own-check OK done\n",
         )
     );
 }
@@ -105,7 +110,7 @@ fn expectations() {
 fn expectations_that_are_not_met() {
     let counts = concat!(
         "1 of 1 rows and 1 of 1 entries kept; 2 commands, 1 walk; ",
-        "2 refused, 1 of them as expected, 3 not refused as expected",
+        "2 refused, 1 of them as expected, 3 not refused as expected; own check passed",
     );
     assert_eq!(summary(EXPECTING), counts);
     assert_eq!(

@@ -7,6 +7,7 @@ use std::path::{Path, PathBuf};
 use std::process::{Command, Output};
 
 use child::testing::write_program;
+use session::sum_of_bytes;
 
 use crate::common::{second, told, SESSION};
 
@@ -14,6 +15,10 @@ const RUN: &str = include_str!("../../../../run");
 
 /// What `run` reads.
 const BUILDING: &str = include_str!("../../../../tools/building.bash");
+
+/// What `tools/walker` is, and what it reads.
+const WALKER: &str = include_str!("../../../../tools/walker");
+const ARCHIVE: &str = include_str!("../../../../tools/archive.bash");
 
 /// What `rt` says when it proves two crates: notes, functions, sums, and a line for each crate.
 const RT_SAYS: &str = r#"
@@ -31,13 +36,13 @@ echo 'rt: ok, 3 crates proved'
 "#;
 
 /// A tree with `run` in it, and beside it the folder of the stand-ins.
-struct Tree {
-    root: PathBuf,
+pub struct Tree {
+    pub root: PathBuf,
     stand_ins: PathBuf,
 }
 
 impl Tree {
-    fn new(name: &str) -> Tree {
+    pub fn new(name: &str) -> Tree {
         let folder = Path::new(env!("CARGO_TARGET_TMPDIR")).join(name);
         if folder.exists() {
             fs::remove_dir_all(&folder).expect("a folder that is gone");
@@ -83,10 +88,15 @@ impl Tree {
 
     /// Runs `run` with the stand-ins, or where there is neither `rt` nor `cargo`.
     fn run(&self, has_stand_ins: bool) -> Output {
+        self.call(has_stand_ins, &[])
+    }
+
+    /// The same with arguments.
+    pub fn call(&self, has_stand_ins: bool, arguments: &[&str]) -> Output {
         let tools = "/usr/bin:/bin";
         let path = format!("{}:{tools}", self.stand_ins.display());
         let mut command = Command::new(self.root.join("run"));
-        command.env("PATH", if has_stand_ins { &path } else { tools });
+        command.env("PATH", if has_stand_ins { &path } else { tools }).args(arguments);
         command.output().expect("a run")
     }
 
@@ -201,4 +211,79 @@ fn output_that_fails() {
         assert_eq!(output.status.code(), Some(1), "{redirection}");
         assert!(told(&output).starts_with(message), "{redirection}: {}", told(&output));
     }
+}
+
+/// A session with `walk large` starts `tools/walker`, which builds what it needs; no other session does.
+#[test]
+fn walk_large() {
+    let tree = Tree::new("large");
+    let walker = "#!/bin/sh\n[ \"$1\" = --build ] || { cat >/dev/null; echo 570001; }\n";
+    tree.program(&tree.root.join("tools/walker"), walker);
+    check_walk(&tree.run(true));
+    tree.write("host/sessions/customers.session", "walk large\n");
+    let output = tree.run(false);
+    assert_eq!((output.status.code(), told(&output).as_str()), (Some(0), ""));
+    let text = String::from_utf8(output.stdout).expect("text");
+    assert!(text.starts_with("Walk large option byte 0\nBy         the library, with"), "{text}");
+    tree.program(&tree.root.join("tools/walker"), "#!/bin/sh\necho not proved >&2\nexit 1\n");
+    let output = tree.run(false);
+    assert_eq!((output.status.code(), output.stdout.len()), (Some(1), 0));
+    assert!(told(&output).starts_with("not proved\n"), "{}", told(&output));
+    tree.write("host/sessions/customers.session", "walk\n");
+    check_walk(&tree.run(false));
+}
+
+/// A tree with `tools/walker`, and with stand-ins that make an archive and a walker.
+fn walker_tree() -> (Tree, PathBuf) {
+    let tree = Tree::new("walker");
+    tree.write("tools/archive.bash", ARCHIVE);
+    for part in ["luspemaro", "serve", "walker"] {
+        tree.write(&format!("host/{part}/src/lib.rs"), "");
+    }
+    let script = tree.root.join("tools/walker");
+    tree.program(&script, WALKER);
+    let rt = "#!/bin/sh\nmkdir -p target/stamp target/staticlib\necho 1 >target/stamp/exports\n\
+              echo $1 >target/staticlib/libexports.a\n";
+    tree.program(&tree.stand_ins.join("rt"), rt);
+    let built = tree.root.join("target/host/release/walker");
+    let stub = "printf '#!/bin/sh\\necho walked $*\\n' >";
+    let cargo = format!(
+        "#!/bin/sh\n[ -f {root}/target/staticlib/libexports.a ] || exit 1\nmkdir -p {root}/target/host/release\n\
+         {stub}{built}\nchmod 755 {built}\n",
+        root = tree.root.display(),
+        built = built.display()
+    );
+    tree.program(&tree.stand_ins.join("cargo"), &cargo);
+    (tree, script)
+}
+
+/// `tools/walker` makes the archive and the walker, once, and then runs the walker with its words.
+#[test]
+fn the_walker_is_built_once() {
+    let (tree, script) = walker_tree();
+    let run = |path: &str, word: &str| {
+        let mut command = Command::new(&script);
+        command.arg(word).env("PATH", path).env_remove("LUSPEMARO_ARCHIVE_DIR");
+        command.output().expect("a run")
+    };
+    let path = format!("{}:/usr/bin:/bin", tree.stand_ins.display());
+    let output = run(&path, "--build");
+    let sum = sum_of_bytes(b"staticlib\n");
+    let ready = |whose: &str| format!("library {whose} {sum}\nwalked --build\n").into_bytes();
+    assert_eq!(output.stdout, ready("proved"), "{}", told(&output));
+    let archive = fs::read_to_string(tree.root.join("target/staticlib/libexports.a"));
+    assert_eq!(archive.expect("an archive"), "staticlib\n");
+    // An archive that is named is taken as it is, and that is what is said of it.
+    let mut named = Command::new(&script);
+    named.arg("--build").env("PATH", &path);
+    let output = named.env("LUSPEMARO_ARCHIVE_DIR", tree.root.join("target/staticlib")).output();
+    assert_eq!(output.expect("a run").stdout, ready("given"));
+    let before = tree.state();
+    let output = run("/usr/bin:/bin", "");
+    assert_eq!((output.stdout.as_slice(), told(&output).as_str()), (&b"walked\n"[..], ""));
+    assert_eq!(tree.state(), before);
+    tree.write("host/walker/src/lib.rs", "changed");
+    let output = run("/usr/bin:/bin", "--build");
+    assert_eq!(output.status.code(), Some(1));
+    assert!(told(&output).starts_with("run: 'cargo' is missing"), "{}", told(&output));
 }

@@ -90,15 +90,21 @@ fn refused_before_it_failed() {
 }
 
 /// A program that takes an edit which the second one refuses: what it does is not told as if it were
-/// known.
+/// known, and that they differ is reported.
 #[test]
 fn programs_that_differ_in_an_edit() {
     let ok = "4173204F4B20646F6E650D0A";
     let program = script(FOLDER, "takes-all", &format!("while read x; do echo {ok}; done"));
     let output = run_with(&program, "subscribe \"\"\n");
-    assert_eq!(output.status.code(), Some(0), "{}", told(&output));
+    assert_eq!(output.status.code(), Some(3), "{}", told(&output));
+    let differ =
+        "it was answered, and by the second program refused with 14: unlawful name, or below \
+                  a row with no inferiors";
+    assert_eq!(told(&output), format!("standard input: line 1: the programs differ: {differ}\n"));
     let text = String::from_utf8(output.stdout).expect("text");
     let effect =
         "Answer     s OK done\nEffect     the programs differ: the second one refuses this\n";
     assert!(text.contains(effect), "{text}");
+    let differs = format!("Differs    from the second program: {differ}\n");
+    assert!(text.contains(&differs), "{text}");
 }

@@ -1,6 +1,9 @@
 //! Session files: what they say, what is wrong with them, and what is printed of them.
 
-use session::{Content, Form, Item, Sent, SessionError};
+use std::fs;
+use std::path::Path;
+
+use session::{sum_of_bytes, Content, Form, Item, Sent, Session, SessionError, Source};
 
 use crate::common::{check, printed, run_on, told};
 
@@ -163,6 +166,44 @@ fn every_bad_line_is_told() {
     let told = told(&output);
     assert_eq!(told.lines().count(), 1_001);
     assert!(told.ends_with("standard input: and 10 more\n"), "{told}");
+}
+
+/// What a bad line expects is not wrong by itself, unless it is no refusal. Nor is a second expectation
+/// the bad line's.
+#[test]
+fn expectations_of_bad_lines() {
+    let sources: [(&str, &[u64]); 6] = [
+        ("walk home\nexpect 99\nwalk\n", &[1, 2]),
+        ("walk home\nexpect 6\n", &[1]),
+        ("comand a {1}\n+ x\nexpect nine\nwalk home\n", &[1, 3, 4]),
+        ("mailbox x\nexpect 0\nexpect 1\n", &[1, 2, 3]),
+        ("walk home\nexpect 6\nexpect 6\n", &[1, 3]),
+        ("walk home\nexpect 6\n+ x\n", &[1, 3]),
+    ];
+    for (source, expected) in sources {
+        let bad = bad_lines(source);
+        let numbers: Vec<u64> = bad.iter().map(|(number, _)| *number).collect();
+        assert_eq!(numbers, expected, "{source}");
+    }
+    let told = told(&run_on("walk home\nexpect 99\n"));
+    let second = "standard input: line 2: expect takes the number of a refusal, 1 to 16\n";
+    assert!(told.ends_with(second), "{told}");
+}
+
+/// A session is read once: what becomes of its file afterwards changes nothing.
+#[test]
+fn files_are_read_once() {
+    let path = Path::new(env!("CARGO_TARGET_TMPDIR")).join("read-once.session");
+    let text = "mailbox a exists\nwalk\n";
+    fs::write(&path, text).expect("a session");
+    let source = Source::of_path(&path).expect("a source");
+    fs::write(&path, "walk 9\n").expect("another session");
+    let session = Session::check(source).expect("a session");
+    assert_eq!((session.length, session.sum()), (2, sum_of_bytes(text.as_bytes())));
+    fs::remove_file(&path).expect("a file that goes");
+    let lines: Vec<u64> =
+        session.items().expect("items").map(|item| item.expect("an item").line).collect();
+    assert_eq!(lines, [1, 2]);
 }
 
 /// Of a line that is no text at all the message shows a start.

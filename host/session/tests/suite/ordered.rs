@@ -36,6 +36,11 @@ fn any_order() {
             "\n",
             "Walk       option byte 0\n",
             "Answer     1 command sent, 0 mailboxes found\n",
+            "\n",
+            "Own check  own-check NAMESPACE\n",
+            "           (sent by this tool: after the last row or entry the session asks nothing)\n",
+            "Answer     * NAMESPACE ((\"\" \"/\")) NIL NIL\n",
+            "           own-check OK done\n",
         )
     );
     assert_eq!(run_on(source).status.code(), Some(0));
@@ -56,7 +61,7 @@ fn told_beside_frames() {
         told(&output.expect("a run")),
         concat!(
             "2 mailbox lines, put in the order of the bytes of their names\n",
-            "2 of 2 rows and 0 of 0 entries kept; 0 commands, 0 walks; 0 refused\n",
+            "2 of 2 rows and 0 of 0 entries kept; 0 commands, 0 walks; 0 refused; own check passed\n",
         )
     );
 }

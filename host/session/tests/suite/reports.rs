@@ -3,7 +3,7 @@
 
 use std::collections::{BTreeMap, BTreeSet};
 use std::fs;
-use std::path::{Path, PathBuf};
+use std::path::Path;
 use std::process::{Command, Output};
 
 use child::testing::script;
@@ -40,7 +40,7 @@ fn bundled() -> Vec<(String, String)> {
 }
 
 /// Runs a session with a report, and gives what was told and the page, if one was written.
-fn run(name: &str, program: &Path, source: &str, options: &[&str]) -> (Output, Option<String>) {
+pub fn run(name: &str, program: &Path, source: &str, options: &[&str]) -> (Output, Option<String>) {
     let session = Path::new(FOLDER).join(format!("{name}.session"));
     let page = Path::new(FOLDER).join(format!("{name}.html"));
     fs::write(&session, source).expect("a session");
@@ -51,7 +51,7 @@ fn run(name: &str, program: &Path, source: &str, options: &[&str]) -> (Output, O
     (output, fs::read_to_string(page).ok())
 }
 
-fn report(name: &str, source: &str) -> Element {
+pub fn report(name: &str, source: &str) -> Element {
     let (output, page) = run(name, &second(), source, &["--date", "the 16th"]);
     assert!(matches!(output.status.code(), Some(0 | 3)), "{}", told(&output));
     Element::of_page(&page.expect("a page"))
@@ -72,7 +72,7 @@ fn exchanges(source: &str) -> (Program, Vec<(u64, Sent, Option<Answer>)>) {
     (program, exchanges)
 }
 
-fn values(element: &Element, name: &str) -> Vec<String> {
+pub fn values(element: &Element, name: &str) -> Vec<String> {
     element.with(name).into_iter().map(|(_, value)| value.to_string()).collect()
 }
 
@@ -136,6 +136,9 @@ fn every_number_of_the_bundled_sessions() {
             check_exchange(section, answer);
         }
         check_counts(&page, &exchanges);
+        let alike = format!("{0} of {0} answers, line by line", answered.len());
+        assert_eq!(page.with_id("alike").text(), alike, "{name}");
+        assert!(page.with("data-differs").is_empty(), "{name}");
         check_refusals(&page, &answered);
         check_tree(&page, &program);
     }
@@ -212,12 +215,32 @@ fn facts() {
     let table = sum_of_bytes(b"\0\x01\xFF\x01a").to_string();
     assert_eq!(page.with_id("table-sum").text(), table);
     assert_eq!(page.with_id("table").text(), "1 row, 5 bytes");
-    assert_eq!(page.with_id("date").text(), "the 16th");
-    assert_eq!(page.with_id("verdict").text(), "Everything was answered, or refused as expected.");
-    let (_, page) = run("report-clock", &second(), source, &[]);
+    let tool = fs::read(SESSION).expect("this tool");
+    assert_eq!(page.with_id("tool-sum").text(), sum_of_bytes(&tool).to_string());
+}
+
+/// A date of the call is marked as given, and the clock's stands beside it. What the call does not say of
+/// the case is said to be missing.
+#[test]
+fn dates_and_fields() {
+    let source = "mailbox a exists\nwalk\n";
+    let fields = ["--case", "12/2026", "--examiner", "\u{5d0} <b>", "--exhibit", "A\x1B"];
+    let (_, page) =
+        run("report-fields", &second(), source, &[&["--date", "x"], &fields[..]].concat());
     let page = Element::of_page(&page.expect("a page"));
-    let date = page.with_id("date").text();
-    assert!(date.starts_with("20") && date.ends_with(" UTC"), "{date}");
+    let text = |id: &str| page.with_id(id).text();
+    let clock = text("clock");
+    assert!(clock.starts_with("20") && clock.ends_with(" UTC"), "{clock}");
+    assert_eq!(text("date"), "x");
+    assert!(page.text().contains("Date as given by the examiner"));
+    assert_eq!([text("case"), text("examiner")], ["12/2026", "\u{5d0} <b>"]);
+    assert_eq!(text("exhibit"), "A\\x1B");
+    let (_, page) = run("report-no-fields", &second(), source, &[]);
+    let page = Element::of_page(&page.expect("a page"));
+    assert!(page.with("id").iter().all(|(_, id)| *id != "date"));
+    for id in ["case", "examiner", "exhibit"] {
+        assert_eq!(page.with_id(id).text(), "not given");
+    }
 }
 
 /// Why each name was listed: one line of each kind.
@@ -226,7 +249,7 @@ fn reasons() {
     let rows = "mailbox Foo/Bar exists subscribed sent\nmailbox INBOX exists\n";
     let commands: [(&str, &[(&str, &str)]); 8] = [
         ("LIST \"\" *", &[("criteria", "it exists, it is local"), ("criteria", "it exists")]),
-        ("LIST \"\" F%", &[("level", "as a level (W1)")]),
+        ("LIST \"\" F%", &[("level", "as a level: it does not exist")]),
         ("LIST (SUBSCRIBED) \"\" *", &[("criteria", "it is subscribed")]),
         ("LIST (SPECIAL-USE REMOTE) \"\" *", &[("criteria", "it has a special use (sent)")]),
         (
@@ -247,18 +270,6 @@ fn reasons() {
             assert!(cell.text().contains(text), "{command}: {}", cell.text());
         }
     }
-}
-
-/// A line that the second program would not give is said to be one.
-#[test]
-fn programs_that_differ() {
-    let lines = "* LIST () \"/\" \"x\"\r\na OK done\r\n";
-    let hex: String = lines.bytes().map(|byte| format!("{byte:02X}")).collect();
-    let program = script(FOLDER, "lists-x", &format!("while read x; do echo 41{hex}; done"));
-    let (output, page) = run("report-differs", &program, "command a LIST \"\" *\n", &[]);
-    assert_eq!(output.status.code(), Some(0), "{}", told(&output));
-    let page = Element::of_page(&page.expect("a page"));
-    assert_eq!(values(&page, "data-why"), ["unexplained"]);
 }
 
 /// A count that does not fit what was found is told.
@@ -344,10 +355,10 @@ fn a_session_that_stopped() {
     let (output, page) = run("report-stopped", &program, "walk\nwalk\nwalk\n", &[]);
     assert_eq!(output.status.code(), Some(1));
     let page = Element::of_page(&page.expect("a page"));
-    let verdict = page.with_id("verdict").text();
+    let reason = page.with("data-reason")[0].0.text();
     assert!(
-        verdict.starts_with("The session was not run to its end: ") && verdict.ends_with("4"),
-        "{verdict}"
+        reason.starts_with("The session was not run to its end: ") && reason.ends_with("4."),
+        "{reason}"
     );
     assert_eq!(values(&page, "data-commands"), ["1"]);
 }
@@ -373,38 +384,4 @@ fn long_walks() {
     let page = report("report-long-walk", &(rows + "walk\n"));
     let drawn = |tag: &str| page.all().iter().filter(|element| element.tag == tag).count();
     assert_eq!((drawn("svg"), drawn("rect"), drawn("circle")), (3, 4, 100));
-}
-
-/// A page is never written over what is read, and one that cannot be written is told before the run.
-#[test]
-fn where_pages_go() {
-    let session = Path::new(FOLDER).join("report-kept.session");
-    fs::write(&session, "walk\n").expect("a session");
-    let linked = Path::new(FOLDER).join("report-linked.html");
-    let _ = fs::remove_file(&linked);
-    fs::hard_link(&session, &linked).expect("a link");
-    let call = |page: &Path, options: &[&str]| {
-        let mut command = Command::new(SESSION);
-        command.arg("--program").arg(second()).arg(&session).arg("--report").arg(page);
-        command.args(options).output().expect("a run")
-    };
-    let nowhere = PathBuf::from("/no-such-folder/x.html");
-    for (page, message) in [
-        (&session, "is read here, so no report is written there"),
-        (&linked, "is read here, so no report is written there"),
-        (&nowhere, "cannot write /no-such-folder/x.html: No such file"),
-        (&PathBuf::from(FOLDER), "cannot write "),
-    ] {
-        let output = call(page, &[]);
-        assert_eq!((output.status.code(), output.stdout.len()), (Some(2), 0), "{}", told(&output));
-        assert!(told(&output).contains(message), "{}", told(&output));
-    }
-    assert_eq!(fs::read(&session).expect("a session"), b"walk\n");
-    let output = call(Path::new("/dev/full"), &[]);
-    assert_eq!(output.status.code(), Some(1));
-    assert!(told(&output).contains("cannot write /dev/full: No space left"), "{}", told(&output));
-    let output = call(&PathBuf::from(FOLDER).join("twice.html"), &["--report", "x"]);
-    assert_eq!(output.status.code(), Some(2));
-    let date_alone = Command::new(SESSION).args(["--program", "x", "--date", "y"]).output();
-    assert_eq!(date_alone.expect("a run").status.code(), Some(2));
 }

@@ -1,0 +1,4 @@
+//! The tests of walks with larger buffers, over the proved library.
+
+mod given;
+mod sessions;

@@ -131,6 +131,17 @@ struct luspemaro_record {
 #define LUSPEMARO_OPTION_SPECIAL_USE 0x02        /* only those with a special use */
 #define LUSPEMARO_OPTION_WITHOUT_SUBSCRIBED 0x04 /* those that are not subscribed too */
 
+/* ---- The options of a joined command, selection options and return options: any of these together, as one number, but that
+ * SELECT_RECURSIVEMATCH stands beside SELECT_SUBSCRIBED, SELECT_SPECIAL_USE or both (else 7). */
+
+#define LUSPEMARO_SELECT_SUBSCRIBED 0x01
+#define LUSPEMARO_SELECT_REMOTE 0x02
+#define LUSPEMARO_SELECT_RECURSIVEMATCH 0x04
+#define LUSPEMARO_SELECT_SPECIAL_USE 0x08
+#define LUSPEMARO_RETURN_SUBSCRIBED 0x10
+#define LUSPEMARO_RETURN_CHILDREN 0x20
+#define LUSPEMARO_RETURN_SPECIAL_USE 0x40
+
 /* ---- The papers' numbers of refusal. Of several causes the first in the entry's order is told. */
 
 #define LUSPEMARO_DONE 0 /* no refusal */
@@ -162,7 +173,7 @@ struct luspemaro_record {
 #define LUSPEMARO_ROOM_FOUND 33280
 #define LUSPEMARO_ROOM_PENDING 491520
 #define LUSPEMARO_ROOM_LIST_LINE 612 /* the longest LIST line */
-#define LUSPEMARO_ROOM_COMMAND 2048  /* the feeder asks for this much, and refuses less */
+#define LUSPEMARO_ROOM_COMMAND 2048  /* the feeder asks for this much, and refuses less; a joined command has at most so much */
 #define LUSPEMARO_ROOM_GO_ON 6       /* the continuation line */
 
 /* ---- Stacks: bytes below the call that each entry needs at most, with a margin. They are computed from the archive's machine code and
@@ -180,6 +191,7 @@ struct luspemaro_record {
 #define LUSPEMARO_STACK_COLLECT_PACKED 98304
 #define LUSPEMARO_STACK_WRITE_LINE 12288
 #define LUSPEMARO_STACK_READ_LINE 12288
+#define LUSPEMARO_STACK_JOIN 12288
 #define LUSPEMARO_STACK_FEED 12288
 #define LUSPEMARO_STACK_PUT_GO_ON 12288
 
@@ -303,6 +315,26 @@ struct luspemaro_outcome luspemaro_write_line(uint16_t attributes, const uint8_t
 
 /* The parts of a LIST line, its CR LF included. An LSUB line is none. */
 struct luspemaro_line luspemaro_read_line(const uint8_t *line, size_t line_length);
+
+/* One LIST command from its parts at the front of out, its CR LF included: one request for two that have one reference and the same
+ * options, with the patterns of both. options: the sum of LUSPEMARO_SELECT_ .. and LUSPEMARO_RETURN_ .. patterns: packed, each as a
+ * length byte and its bytes, without a gap. What is written is an extended command,
+ *
+ *     tag LIST (selection options) reference (patterns) RETURN (return options)
+ *
+ * without RETURN where no return option is asked. A string is written in quotes, or as a literal if it has CR, LF or a byte above 7F. So
+ * the line may have several lines; a server asks for continuation after the header of each literal.
+ *
+ * Refusals, in this order: 3 for a line of over 2,048 bytes, a byte 00 in the reference or in a pattern, or a literal of over 1,024 bytes;
+ * 4 for what is no tag, for no pattern, or for a list that its patterns do not fill; 6 for a number with another bit than the seven; 7; 8;
+ * 9. In a list that is not filled, the last pattern ends with the list, for 3. The bytes after the line stay; a refusal changes no byte.
+ *
+ * luspemaro_answer refuses a line that was written here with none of 3 to 8. Without RECURSIVEMATCH, and if the two commands that it was
+ * joined from are extended and all three are accepted, over the same rows and from the same reader, the LIST lines of its answer are those
+ * of the two merged in name order with equal lines once. */
+struct luspemaro_outcome luspemaro_join(const uint8_t *tag, size_t tag_length, uint8_t options, const uint8_t *reference,
+                                        size_t reference_length, const uint8_t *patterns, size_t patterns_length, uint8_t *out,
+                                        size_t out_length);
 
 /* Takes the chunk through the first byte that something comes of, or all of it, and stores the command's bytes at the front of the
  * lent memory, LUSPEMARO_ROOM_COMMAND bytes or more. Call it again with the rest until nothing is left. A chunk may be empty. */

@@ -331,7 +331,8 @@ int main(void)
 {
     static const struct test *const of_tables[] = {table_tests, walk_tests};
     static const struct test *const others[] = {answer_tests, record_tests, edit_tests, compaction_tests,
-                                                reader_tests, check_tests,  line_tests, feeder_tests};
+                                                reader_tests, check_tests,  line_tests, join_tests,
+                                                feeder_tests};
     for (size_t group = 0; group < sizeof of_tables / sizeof of_tables[0]; group++) {
         form = PACKED;
         run(of_tables[group], ", packed");

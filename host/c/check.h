@@ -17,7 +17,7 @@ struct test {
 
 /* The tests of one topic, up to a row without a name. Those of tables and walks run once for each form of a table. */
 extern const struct test table_tests[], answer_tests[], walk_tests[], record_tests[], edit_tests[], compaction_tests[], reader_tests[],
-    check_tests[], line_tests[], feeder_tests[];
+    check_tests[], line_tests[], join_tests[], feeder_tests[];
 
 /* The form in which `struct rows` are lent. */
 enum form { PACKED, RECORDS };
@@ -29,7 +29,7 @@ extern uint8_t reader;
 /* Memory to lend, filled with FILLER. An access past its end stops the program: a page that no one may touch begins there. One area
  * lends one run at a time, of at most AREA_ROOM bytes. */
 enum { FILLER = 0xA5, AREA_ROOM = 1 << 21 };
-enum area { TABLE, RECORD, NAMES, NAMESPACES, LINE, OUT, SCRATCH, FOUND, PENDING, AREAS };
+enum area { TABLE, RECORD, NAMES, NAMESPACES, LINE, OUT, SCRATCH, FOUND, PENDING, TAG, REFERENCE, PATTERNS, AREAS };
 uint8_t *lend(enum area area, size_t length);
 
 /* Lent memory with these bytes. */

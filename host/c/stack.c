@@ -2,21 +2,12 @@
  *
  * The stack ends at a page that no one may touch, so that a call which needs more ends the program. The last line is 'N passed, M
  * failed'. */
-#ifndef _GNU_SOURCE
-#define _GNU_SOURCE
-#endif
 #include <stdio.h>
 #include <stdlib.h>
 #include <string.h>
-#include <sys/mman.h>
-#include <sys/resource.h>
-#include <sys/wait.h>
-#include <ucontext.h>
-#include <unistd.h>
 
 #include "luspemaro.h"
-
-enum { PAGE = 4096, PAINT = 0x5A };
+#include "stack_run.h"
 
 static unsigned passed, failed;
 
@@ -30,69 +21,11 @@ static void claim(bool holds, const char *entry, const char *input)
     }
 }
 
-/* ---- a call on a stack of its own */
-
-static ucontext_t caller, called;
-static void (*body)(void);
-
-static void enter(void)
-{
-    body();
-}
-
-static void give_up(const char *what)
-{
-    perror(what);
-    exit(2);
-}
-
-/* Runs the call on a stack of so many bytes, a whole number of pages, and gives the number of bytes from the top of the stack to the
- * lowest one that was written. */
-static size_t run_on(size_t size, void (*call)(void))
-{
-    void *start = mmap(NULL, PAGE + size, PROT_READ | PROT_WRITE, MAP_PRIVATE | MAP_ANONYMOUS, -1, 0);
-    if (start == MAP_FAILED || mprotect(start, PAGE, PROT_NONE) != 0 || getcontext(&called) != 0)
-        give_up("stack");
-    uint8_t *stack = (uint8_t *)start + PAGE;
-    memset(stack, PAINT, size);
-    called.uc_stack.ss_sp = stack;
-    called.uc_stack.ss_size = size;
-    called.uc_link = &caller;
-    body = call;
-    makecontext(&called, enter, 0);
-    if (swapcontext(&caller, &called) != 0)
-        give_up("stack");
-    size_t untouched = 0;
-    while (untouched < size && stack[untouched] == PAINT)
-        untouched++;
-    munmap(start, PAGE + size);
-    return size - untouched;
-}
-
-/* Whether the call ends its process by a signal on a stack of so many bytes. */
-static bool dies_on(size_t size, void (*call)(void))
-{
-    fflush(stdout);
-    pid_t child = fork();
-    if (child < 0)
-        give_up("fork");
-    if (child == 0) {
-        const struct rlimit no_core = {0, 0};
-        setrlimit(RLIMIT_CORE, &no_core);
-        run_on(size, call);
-        _exit(0);
-    }
-    int status = 0;
-    if (waitpid(child, &status, 0) != child)
-        give_up("wait");
-    return WIFSIGNALED(status);
-}
-
 /* ---- the inputs */
 
 static uint8_t table[LUSPEMARO_MAX_TABLE], area[LUSPEMARO_MAX_AREA], namespaces[LUSPEMARO_MAX_NAMESPACES], line[LUSPEMARO_MAX_COMMAND];
 static struct luspemaro_record records[LUSPEMARO_MAX_ROWS];
-static size_t table_length, count, namespaces_length, line_length;
+static size_t table_length, count, namespaces_length, line_length, tag_length, reference_length;
 static uint8_t out[LUSPEMARO_ROOM_ANSWER], scratch[LUSPEMARO_ROOM_SCRATCH], found[LUSPEMARO_ROOM_FOUND],
     pending[LUSPEMARO_ROOM_PENDING], command[LUSPEMARO_ROOM_COMMAND];
 
@@ -179,6 +112,22 @@ static void set_edit_line(const char *word, const struct luspemaro_record *row)
     line_length += NAME + 2;
 }
 
+/* The parts of a joined command, in the place of a line: so many times each byte, as a tag, as a reference and as each of eight packed
+ * patterns. */
+static void set_parts(char tag, size_t tags, char reference, size_t references, char pattern, size_t patterns)
+{
+    tag_length = tags;
+    reference_length = references;
+    memset(line, tag, tags);
+    memset(line + tags, reference, references);
+    line_length = tags + references;
+    for (unsigned i = 0; i < LUSPEMARO_MAX_PATTERNS; i++) {
+        line[line_length++] = (uint8_t)patterns;
+        memset(line + line_length, pattern, patterns);
+        line_length += patterns;
+    }
+}
+
 /* ---- the calls, and what they answered */
 
 static struct luspemaro_outcome outcome;
@@ -244,6 +193,12 @@ static void call_write_line(void)
 static void call_read_line(void)
 {
     parts = luspemaro_read_line(out, line_length);
+}
+
+static void call_join(void)
+{
+    outcome = luspemaro_join(line, tag_length, option, line + tag_length, reference_length, line + tag_length + reference_length,
+                             line_length - tag_length - reference_length, out, sizeof out);
 }
 
 static void call_feed(void)
@@ -404,6 +359,36 @@ static void measure_lines(void)
     claim(parts.number == LUSPEMARO_REFUSAL_NOT_SUCH_LINE, "read_line", "nothing");
 }
 
+static void measure_join(const char *input, unsigned given)
+{
+    static const struct entry join = {"join", LUSPEMARO_STACK_JOIN, call_join};
+    measure_outcome(&join, input, given);
+}
+
+static void measure_joins(void)
+{
+    option = 0x7F;
+    set_parts('t', 1, 'r', 0, 'p', 200);
+    measure_join("eight long patterns", LUSPEMARO_DONE);
+    set_parts('t', 1, '"', 90, '\\', 90);
+    measure_join("every byte with a backslash", LUSPEMARO_DONE);
+    set_parts('t', 1, '\xFF', 20, '\xFF', 200);
+    measure_join("every string a literal", LUSPEMARO_DONE);
+    set_parts('t', 1850, 'r', 0, 'p', 0);
+    measure_join("a long tag", LUSPEMARO_DONE);
+    set_parts('t', 1, 'r', 500, 'p', 1);
+    measure_join("a long reference", LUSPEMARO_REFUSAL_PATTERNS);
+    set_parts('t', 1, '\xFF', 1025, 'p', 1);
+    measure_join("the longest literal and a byte", LUSPEMARO_REFUSAL_LINE_SHAPE);
+    set_parts('+', 1, 'r', 0, 'p', 1);
+    measure_join("no tag", LUSPEMARO_REFUSAL_GRAMMAR);
+    option = 0x84;
+    set_parts('t', 1, 'r', 0, 'p', 1);
+    measure_join("no set of options", LUSPEMARO_REFUSAL_OPTION);
+    option = LUSPEMARO_SELECT_RECURSIVEMATCH;
+    measure_join("RECURSIVEMATCH alone", LUSPEMARO_REFUSAL_RECURSIVEMATCH_ALONE);
+}
+
 static void measure_others(void)
 {
     measure("check_records", "full records", LUSPEMARO_STACK_CHECK_RECORDS, call_check_records);
@@ -443,6 +428,7 @@ int main(void)
     for (size_t form = 0; form < 2; form++)
         measure_walks(&walks[form]);
     measure_lines();
+    measure_joins();
     measure_others();
     printf("%u passed, %u failed\n", passed, failed);
     return failed == 0 ? EXIT_SUCCESS : EXIT_FAILURE;

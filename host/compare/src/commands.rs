@@ -31,7 +31,11 @@ pub fn command(random: &mut Random, names: &[Vec<u8>]) -> Vec<u8> {
 
 /// A tag and the space after it.
 pub fn tag_and_space(random: &mut Random) -> Vec<u8> {
-    [random.pick(&TAGS), b" ".as_slice()].concat()
+    [some_tag(random), b" "].concat()
+}
+
+pub fn some_tag(random: &mut Random) -> &'static [u8] {
+    random.pick(&TAGS)
 }
 
 /// A line after one to three damages, most of them before its CR LF and to its grammar alone.

@@ -6,8 +6,10 @@
 use std::collections::BTreeSet;
 
 use second::command::MAX_PATTERNS;
+use second::shape::MAX_LINE;
 use second::Refusal;
 
+use crate::commands::some_tag;
 use crate::random::Random;
 use crate::reached::Reached;
 use crate::requests::Request;
@@ -66,7 +68,15 @@ struct Same {
     recursive_match: bool,
 }
 
+/// Writes the line of a request.
+pub type Write = fn(&Request, &mut Random) -> Vec<u8>;
+
 fn trial(random: &mut Random) -> Trial {
+    trial_with(random, Request::line)
+}
+
+/// A trial whose joined commands are written so; those that they are joined from are in any spelling.
+pub fn trial_with(random: &mut Random, join: Write) -> Trial {
     let subject = Subject::some(random);
     let mut trial = Trial::over(subject.rows.clone());
     for _ in 0..TRIPLES {
@@ -81,9 +91,26 @@ fn trial(random: &mut Random) -> Trial {
             }
             list
         });
-        claim_all(&mut trial, random, &request, &lists);
+        claim_all(&mut trial, random, &request, &lists, join);
     }
     trial
+}
+
+/// The line of a request by a writer of joined commands, which takes a tag, the request and a buffer. A
+/// request of too many patterns must be refused with 8; it is then sent in another spelling. Another refusal
+/// gives no line, which no claim takes.
+pub fn joined_line(
+    request: &Request,
+    random: &mut Random,
+    join: impl Fn(&[u8], &Request, &mut [u8]) -> Result<usize, u8>,
+) -> Vec<u8> {
+    let mut out = [0; MAX_LINE];
+    let is_too_many = request.patterns.len() > MAX_PATTERNS;
+    match join(some_tag(random), request, &mut out) {
+        Ok(length) => out[..length].to_vec(),
+        Err(number) if is_too_many && number == Refusal::Patterns.number() => request.line(random),
+        Err(_) => Vec::new(),
+    }
 }
 
 /// A list of patterns.
@@ -95,14 +122,20 @@ fn join(one: &List, other: &List) -> List {
 }
 
 /// What holds of three lists of patterns for one request.
-fn claim_all(trial: &mut Trial, random: &mut Random, request: &Request, lists: &[List; 3]) {
+fn claim_all(
+    trial: &mut Trial,
+    random: &mut Random,
+    request: &Request,
+    lists: &[List; 3],
+    join_line: Write,
+) {
     let [a, b, c] = lists;
-    let recursive_match = request.options.selection.recursive_match;
-    let mut send = |list: &List| {
-        let line = request.with(list.clone()).line(random);
+    let mut write = |write: Write, list: &List| {
+        let line = write(&request.with(list.clone()), random);
         Sent { at: trial.ask(request.reader.number(), line), patterns: list.len() }
     };
-    let [one, two, three] = [a, b, c].map(&mut send);
+    let [one, two, three] = [a, b, c].map(|list| write(Request::line, list));
+    let mut send = |list: &List| write(join_line, list);
     let (ab, ba, bc) = (join(a, b), join(b, a), join(b, c));
     let [one_two, two_one, two_three] = [&ab, &ba, &bc].map(&mut send);
     // The patterns of both groupings are the same list: what differs is how the commands are written.
@@ -124,10 +157,19 @@ fn claim_all(trial: &mut Trial, random: &mut Random, request: &Request, lists: &
         ([one, twice], ITSELF),
         ([one_two, twice_both], ITSELF),
     ];
-    for (parts, joined) in merges {
+    push_claims(trial, &merges, &same, request.options.selection.recursive_match);
+}
+
+fn push_claims(
+    trial: &mut Trial,
+    merges: &[([Sent; 2], Sent)],
+    same: &[([Sent; 2], &'static str)],
+    recursive_match: bool,
+) {
+    for &(parts, joined) in merges {
         trial.claims.push(Box::new(Merge { parts, joined, recursive_match }));
     }
-    for (sent, what) in same {
+    for &(sent, what) in same {
         trial.claims.push(Box::new(Same { sent, what, recursive_match }));
     }
 }

@@ -11,6 +11,7 @@ pub mod edit_series;
 mod edit_sessions;
 pub mod edits;
 pub mod gains;
+pub mod join_parts;
 pub mod joins;
 mod kinds;
 mod levels;

@@ -2,6 +2,7 @@
 //! shown of several commands at a time (document 02, W10 and W11) is shown of these.
 
 use second::command::{Return, Selection};
+use second::joined::{options_of, MAX_OPTIONS};
 use second::Reader;
 
 use crate::commands::{push_in_some_case, tag_and_space};
@@ -27,30 +28,26 @@ pub struct Request {
 impl Options {
     /// The selections that 7 does not refuse, each with every set of return options.
     pub fn all() -> Vec<Options> {
-        let bit = |number: u8, bit: u8| number & (1 << bit) != 0;
-        let options = |number: u8| Options {
-            selection: Selection {
-                subscribed: bit(number, 0),
-                remote: bit(number, 1),
-                recursive_match: bit(number, 2),
-                special_use: bit(number, 3),
-            },
-            returned: Return {
-                subscribed: bit(number, 4),
-                children: bit(number, 5),
-                special_use: bit(number, 6),
-            },
+        let options = |number: u8| {
+            let (selection, returned) = options_of(number);
+            Options { selection, returned }
         };
-        (0..1 << 7).map(options).filter(Options::are_lawful).collect()
+        let all = (0..=MAX_OPTIONS).map(options);
+        all.filter(|options| options.selection.is_lawful()).collect()
+    }
+
+    /// The number of the set, from which a joined command is written.
+    pub fn number(self) -> u8 {
+        let Selection { subscribed, remote, recursive_match, special_use } = self.selection;
+        let selection = [subscribed, remote, recursive_match, special_use];
+        let Return { subscribed, children, special_use } = self.returned;
+        let bits = selection.into_iter().chain([subscribed, children, special_use]);
+        bits.zip(0..).map(|(is_given, bit)| u8::from(is_given) << bit).sum()
     }
 
     pub fn some(random: &mut Random) -> Options {
         let all = Options::all();
         all[random.below(all.len())]
-    }
-
-    fn are_lawful(&self) -> bool {
-        !self.selection.recursive_match || !self.selection.criteria().is_empty()
     }
 
     fn selected(self) -> Vec<&'static str> {

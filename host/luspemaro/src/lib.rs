@@ -42,14 +42,18 @@
 #![warn(missing_docs)]
 
 mod feeder;
+mod join;
 mod line;
+mod list_options;
 mod raw;
 mod reader;
 mod refusal;
 mod walk_refusal;
 
 pub use feeder::{feed, put_go_on, Event, Fed, Feeder, Happening, COMMAND_ROOM};
+pub use join::{join, join_packed};
 pub use line::{read_line, write_line, write_parts, Criteria, Line};
+pub use list_options::ListOptions;
 pub use raw::{Answered, FeederState, Record, Records, Walked, NAME_ROOM, READERS_ALL};
 pub use reader::Reader;
 pub use refusal::Refusal;

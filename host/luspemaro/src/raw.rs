@@ -177,6 +177,17 @@ extern "C" {
         out_len: usize,
     ) -> Outcome;
     fn luspemaro_read_line(line: *const u8, line_len: usize) -> LineParts;
+    fn luspemaro_join(
+        tag: *const u8,
+        tag_len: usize,
+        options: u8,
+        reference: *const u8,
+        reference_len: usize,
+        patterns: *const u8,
+        patterns_len: usize,
+        out: *mut u8,
+        out_len: usize,
+    ) -> Outcome;
     fn luspemaro_feed(
         state: FeederState,
         command: *mut u8,
@@ -307,6 +318,22 @@ pub fn write_line(attributes: u16, name: &[u8], criteria: u8, out: &mut [u8]) ->
 
 pub fn read_line(line: &[u8]) -> LineParts {
     unsafe { luspemaro_read_line(line.as_ptr(), line.len()) }
+}
+
+pub fn join(tag: &[u8], options: u8, reference: &[u8], patterns: &[u8], out: &mut [u8]) -> Outcome {
+    unsafe {
+        luspemaro_join(
+            tag.as_ptr(),
+            tag.len(),
+            options,
+            reference.as_ptr(),
+            reference.len(),
+            patterns.as_ptr(),
+            patterns.len(),
+            out.as_mut_ptr(),
+            out.len(),
+        )
+    }
 }
 
 pub fn feed(state: FeederState, command: &mut [u8], chunk: &[u8]) -> FedChunk {

@@ -173,7 +173,7 @@ fn read_edit(edit: Edit, word_at: usize, mut cursor: Cursor) -> Result<EditReque
 fn judge(list: WrittenList) -> Result<Request, LineFault> {
     let selection = Selection::of(&list.selection)?;
     let returned = Return::of(&list.returned)?;
-    if selection.recursive_match && selection.criteria().is_empty() {
+    if !selection.is_lawful() {
         return Err(recursive_match_alone(&list.selection));
     }
     let canonical_patterns = canonical_patterns(&list.reference, &list.patterns, list.patterns_at)?;
@@ -205,6 +205,11 @@ impl Selection {
             criteria.add(Criteria::SPECIAL_USE);
         }
         criteria
+    }
+
+    /// Whether 7 is not given.
+    pub fn is_lawful(self) -> bool {
+        !self.recursive_match || !self.criteria().is_empty()
     }
 
     fn of(options: &[WrittenOption]) -> Result<Selection, LineFault> {
@@ -258,12 +263,12 @@ fn unknown(option: &WrittenOption, rule: &'static str) -> LineFault {
 
 /// "The canonical pattern is the reference followed by the pattern". An empty pattern counts
 /// for the eight and has no canonical form, so its reference may be of any length.
-fn canonical_patterns(
+pub(crate) fn canonical_patterns(
     reference: &[u8],
-    patterns: &[Vec<u8>],
+    patterns: &[impl AsRef<[u8]>],
     at: usize,
 ) -> Result<Vec<Vec<u8>>, LineFault> {
-    let written = patterns.iter().filter(|pattern| !pattern.is_empty());
+    let written = patterns.iter().map(AsRef::as_ref).filter(|pattern| !pattern.is_empty());
     let canonical: Vec<_> = written.map(|pattern| [reference, pattern].concat()).collect();
     let rule = if patterns.len() > MAX_PATTERNS {
         "a command has at most 8 patterns"

@@ -75,7 +75,7 @@ impl<'l, 's> Cursor<'l, 's> {
     /// tag = 1*(atom byte / "]"), no "+"
     pub fn tag(&mut self) -> Token<&'l [u8]> {
         let rule = "a tag is atom bytes and \"]\", no \"+\"";
-        self.non_empty_run(|byte| is_astring_byte(byte) && byte != b'+', rule)
+        self.non_empty_run(is_tag_byte, rule)
     }
 
     /// word = *(atom byte), the longest run
@@ -221,6 +221,15 @@ impl<'l, 's> Cursor<'l, 's> {
 /// Atom bytes are 21 to 7E without ( ) { % * " \ and "]".
 fn is_atom_byte(byte: u8) -> bool {
     byte.is_ascii_graphic() && !b"(){%*\"\\]".contains(&byte)
+}
+
+/// Whether all of some bytes, one at least, are a tag.
+pub fn is_tag(bytes: &[u8]) -> bool {
+    !bytes.is_empty() && bytes.iter().copied().all(is_tag_byte)
+}
+
+fn is_tag_byte(byte: u8) -> bool {
+    is_astring_byte(byte) && byte != b'+'
 }
 
 fn is_astring_byte(byte: u8) -> bool {

@@ -1,12 +1,12 @@
 //! The second program of the listing rules: written from the papers alone, document 01 and of
-//! document 02 requests W1 to W7, W9 and W12, to be compared with the proved program and to be the plain
-//! measure of its speed.
+//! document 02 requests W1 to W7, W9, W11 and W12, to be compared with the proved program and to be the
+//! plain measure of its speed.
 //!
 //! The entries are those of document 01: the two checks, the command entry, the line writer,
 //! the line reader, the collector and the frames of the program; W2's feeder; and W7's operation that
-//! moves names together. Each command and each walk comes from a reader (W9). A table is given in either of its forms, and as records for the command
-//! entry, which edits them, and for W7's. Left out, as there: login, SELECT, FETCH, modified UTF-7,
-//! sockets.
+//! moves names together; and W11's joined command, written from its parts. Each command and each walk comes
+//! from a reader (W9). A table is given in either of its forms, and as records for the command entry, which
+//! edits them, and for W7's. Left out, as there: login, SELECT, FETCH, modified UTF-7, sockets.
 
 pub mod collector;
 pub mod command;
@@ -15,6 +15,7 @@ mod cursor;
 pub mod fault;
 pub mod feeder;
 pub mod frames;
+pub mod joined;
 pub mod line;
 mod listing;
 pub mod literal;
@@ -37,6 +38,7 @@ pub mod table;
 pub use collector::collect;
 pub use compaction::compact;
 pub use feeder::{Event, Feeder};
+pub use joined::{join, join_packed};
 pub use line::{read_line, write_line, write_parts, Criteria, Line};
 pub use listing::meets_criteria;
 pub use namespaces::check_namespaces;

@@ -213,7 +213,11 @@ pub fn push_line(
 }
 
 /// The words of a set's members, in order and parted by single spaces.
-fn push_words<M: Copy>(line: &mut Vec<u8>, words: &[(M, &[u8])], is_member: impl Fn(M) -> bool) {
+pub(crate) fn push_words<M: Copy>(
+    line: &mut Vec<u8>,
+    words: &[(M, &[u8])],
+    is_member: impl Fn(M) -> bool,
+) {
     let mut separator: &[u8] = b"";
     for &(_, word) in words.iter().filter(|(member, _)| is_member(*member)) {
         line.extend_from_slice(separator);

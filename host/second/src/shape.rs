@@ -60,11 +60,15 @@ fn split_literals(line: &[u8]) -> Result<Shape<'_>, LineFault> {
 /// "It ends with CR LF, and before that holds only bytes 01 to 7F other than CR and LF", which
 /// since W2 "reads over the text outside literals".
 fn check_text(text: &[u8], place: usize) -> Result<(), LineFault> {
-    let is_odd = |byte: &u8| !(0x01..=0x7F).contains(byte) || CRLF.contains(byte);
-    match text.iter().position(is_odd) {
+    match text.iter().position(|&byte| !is_text_byte(byte)) {
         Some(at) => Err(fault(place + at, "a line holds bytes 01 to 7F (hex), without CR and LF")),
         None => Ok(()),
     }
+}
+
+/// Whether a byte may stand outside literals, before the CR LF of a line.
+pub fn is_text_byte(byte: u8) -> bool {
+    (0x01..=0x7F).contains(&byte) && !CRLF.contains(&byte)
 }
 
 fn fault(at: usize, rule: &'static str) -> LineFault {

@@ -1,10 +1,10 @@
 //! `compare-library [--group TEXT] [--least N]`
 //!
 //! Compares the proved library with the second program's: lines written and read, patterns, the two
-//! checks, commands, walks, records, edits, readers, compactions and the feeder; and judges the proved
-//! library's answers to several commands by the laws about them. With `--group` only the groups whose name
-//! has TEXT in it. Groups that go on seed by seed compare, or judge, at least N times; without N, 100,000 times,
-//! and those of laws 20,000 times.
+//! checks, commands, walks, records, edits, readers, compactions, joined commands and the feeder; and judges
+//! the proved library's answers to several commands by the laws about them. With `--group` only the groups
+//! whose name has TEXT in it. Groups that go on seed by seed compare, or judge, at least N times; without N,
+//! 100,000 times, and those of laws 20,000 times.
 //!
 //! Each difference is printed, and each claim that does not hold; of a law, what its claims reached, too; the last line is `N passed, M failed`, by groups of comparisons.
 //! Status 1 is a difference; status 2 a wrong call.

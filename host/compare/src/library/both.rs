@@ -3,7 +3,7 @@
 
 use std::fmt;
 
-use luspemaro::WalkRefusal;
+use luspemaro::{ListOptions, WalkRefusal};
 use second::{Refusal, Table};
 use session::show_table;
 
@@ -58,6 +58,10 @@ pub type Compact = fn(&mut Mailboxes) -> Result<(), u8>;
 /// Of a walk of a reader, with an option byte.
 pub type Collect = fn(u8, Lent, u8, &mut [u8], &mut [u8], &mut [u8]) -> Result<(usize, usize), u8>;
 pub type WriteLine = fn(u16, &[u8], u8, &mut [u8]) -> Result<usize, u8>;
+/// Of a tag, a number of options, a reference and a packed list of patterns.
+pub type JoinPacked = fn(&[u8], u8, &[u8], &[u8], &mut [u8]) -> Result<usize, u8>;
+/// Of patterns of any length.
+pub type Join = fn(&[u8], ListOptions, &[u8], &[&[u8]], &mut [u8]) -> Result<usize, u8>;
 
 pub const CHECK_TABLE: [Check; 2] = [
     |table| match table {
@@ -118,6 +122,25 @@ pub const WRITE_LINE: [WriteLine; 2] = [
     },
     |attributes, name, criteria, out| {
         second::write_parts(attributes, name, criteria, out).map_err(Refusal::number)
+    },
+];
+
+pub const JOIN_PACKED: [JoinPacked; 2] = [
+    |tag, options, reference, list, out| {
+        luspemaro::join_packed(tag, options, reference, list, out)
+            .map_err(luspemaro::Refusal::number)
+    },
+    |tag, options, reference, list, out| {
+        second::join_packed(tag, options, reference, list, out).map_err(Refusal::number)
+    },
+];
+
+pub const JOIN: [Join; 2] = [
+    |tag, options, reference, patterns, out| {
+        luspemaro::join(tag, options, reference, patterns, out).map_err(luspemaro::Refusal::number)
+    },
+    |tag, options, reference, patterns, out| {
+        second::join(tag, options.bits(), reference, patterns, out).map_err(Refusal::number)
     },
 ];
 

@@ -1,9 +1,10 @@
 //! What must hold between the answers to several commands (document 02, W10 and W11), and of the collector's
 //! own (W12), by the proved library, its line reader included.
 
+use luspemaro::ListOptions;
 use second::{Criteria, Line, Record};
 
-use super::both::{Asked, Mailboxes, ANSWER, PROVED};
+use super::both::{Asked, Mailboxes, ANSWER, JOIN, PROVED};
 use super::tally::Tally;
 use crate::gains;
 use crate::joins;
@@ -52,6 +53,21 @@ pub fn gained_tables(tally: &mut Tally) {
 /// Two requests made one.
 pub fn joins(tally: &mut Tally) {
     judge_law(tally, "library: joined requests", joins::LAW);
+}
+
+/// Two requests made one, whose line the library writes.
+pub fn written_joins(tally: &mut Tally) {
+    let trial = |random: &mut Random| {
+        joins::trial_with(random, |request, random| {
+            joins::joined_line(request, random, |tag, request, out| {
+                let patterns: Vec<&[u8]> = request.patterns.iter().map(Vec::as_slice).collect();
+                let list_options = ListOptions::from_bits(request.options.number());
+                let options = list_options.expect("a set of options");
+                JOIN[PROVED](tag, options, &request.reference, &patterns, out)
+            })
+        })
+    };
+    judge_law(tally, "library: written joins", Law { trial, needed: joins::LAW.needed });
 }
 
 /// The collector's own commands, in buffers with room enough and without.

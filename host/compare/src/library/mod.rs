@@ -9,6 +9,8 @@ mod compactions;
 mod compared;
 mod edits;
 mod feeding;
+mod join_limits;
+mod joining;
 mod laws;
 mod lines;
 mod longest_names;
@@ -25,7 +27,7 @@ pub use tally::Tally;
 /// A name, and what compares.
 pub type Group = (&'static str, fn(&mut Tally));
 
-pub const GROUPS: [Group; 36] = [
+pub const GROUPS: [Group; 39] = [
     ("every set of attributes, written and read back", lines::every_set),
     ("every number of a set of criteria", lines::every_criteria_byte),
     ("names at the limits, buffers on both sides of the line's length", lines::names_and_rooms),
@@ -56,10 +58,13 @@ pub const GROUPS: [Group; 36] = [
     ("streams for the feeder, chunk by chunk", feeding::streams),
     ("memory and states that the feeder does not take", feeding::not_taken),
     ("the continuation line at any place of a buffer", feeding::continuation),
+    ("joined commands of random parts, lawful and damaged, and their answers", joining::parts),
+    ("joined commands at the limits, with several faults at a time", join_limits::limits),
     ("laws: more patterns", laws::more_patterns),
     ("laws: rows that gain subscriptions by commands", laws::gains),
     ("laws: tables whose rows gain subscriptions", laws::gained_tables),
     ("laws: joined requests", laws::joins),
+    ("laws: joined requests, as the library writes them", laws::written_joins),
     ("laws: own commands of walks", laws::own_commands),
     ("walks below the longest names, over records and packed tables", longest_names::walks),
 ];

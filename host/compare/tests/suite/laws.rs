@@ -34,7 +34,7 @@ fn tried(law: Law, seed: u64) -> (Trial, Vec<Given>) {
 }
 
 /// The claims hold, each of them was judged, and they reach what is needed, this often.
-fn check_law(law: Law, least: &[(&str, usize)]) {
+pub fn check_law(law: Law, least: &[(&str, usize)]) {
     let mut reached = Reached::default();
     for seed in 0..TRIALS {
         let (trial, given) = tried(law, seed);

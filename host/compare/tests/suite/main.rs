@@ -6,6 +6,7 @@ mod comparison;
 mod edit_series;
 mod edits;
 mod explanations;
+mod join_parts;
 mod laws;
 mod lsub;
 mod reached;

@@ -7,6 +7,7 @@ mod compaction;
 mod expert_sheet;
 mod faults;
 mod feeder;
+mod joined;
 mod lines;
 mod listing;
 mod literals;

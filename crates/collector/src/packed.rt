@@ -15,7 +15,7 @@ ghost use Rattle.listing_rules.specs.Readers.{packedSeen};
 ghost use Rattle.collector.specs.declared.Collected.the-variants.{Refused};
 ghost use Rattle.collector.specs.Result.{isAllowed, collectedOf, scratchOf, foundOf, pendingOf, OwesDemand3};
 
-// The walk of a reader over a packed table, turned into records first; else as `collect`.
+// The walk of a reader over a packed table, turned into records first; else as `collect_words`.
 pub fn collect_packed(
     table: &[u8],
     reader: u8,

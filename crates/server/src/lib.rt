@@ -2,7 +2,8 @@
 // records, each as a number, over an area of name bytes; SUBSCRIBE and UNSUBSCRIBE change both. Who lends the records themselves calls
 // `exports::luspemaro_answer`.
 //
-// Refusals in document 01's order: the table 1, the namespace list 2, the command 3 to 8, an edit 14 and 15, the length of the answer 9.
+// Refusals in the papers' order: a reader above 7 16, the table 1, the namespace list 2, the command 3 to 8, an edit from another reader
+// than 0 16, an edit 14 and 15, the length of the answer 9.
 // An answer is measured before a byte is written, and an edit is decided before it is done, so a refusal changes no byte and no record.
 mod edit;
 mod packed;

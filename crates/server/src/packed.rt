@@ -26,8 +26,8 @@ pub fn is_edit_line(line: &[u8]) -> bool
     is_edit(kind)
 }
 
-// The answer to a reader's command that is no edit over a packed table, turned into records first; else as `answer`. That the line is none
-// is its requirement, since a packed table has no records to change.
+// The answer to a reader's command that is no edit over a packed table, turned into records first; else as `answer_words`. That the line is
+// none is its requirement, since a packed table has no records to change.
 pub fn read_packed(
     table: &[u8],
     reader: u8,

@@ -7,11 +7,14 @@ trouble=1
 
 archives=$(readlink -m -- "${LUSPEMARO_ARCHIVE_DIR:-$root/target/staticlib}")
 archive=$archives/libexports.a
+# As ./install names it.
+[ -r "$archive" ] || [ ! -r "$archives/libluspemaro.a" ] || archive=$archives/libluspemaro.a
 
 # Proves the library and makes its archive. A crate that has not changed is not proved again. An archive that LUSPEMARO_ARCHIVE_DIR
-# names is taken as it is.
+# names is taken as it is, and where all is installed, nothing is built.
 build_archive() {
     local files log made=$root/target/staticlib/exports.stamp
+    if is_installed; then return; fi
     if [ -n "${LUSPEMARO_ARCHIVE_DIR:-}" ]; then
         [ -r "$archive" ] || failed "there is no archive '$archive'"
         return

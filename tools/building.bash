@@ -40,17 +40,40 @@ needs() { # COMMAND WHAT
 }
 
 # A stamp is what a file was built from and what it is: the sum of the files, and its own sum. Files that are the same have the same
-# stamp, however they came here.
+# stamp, however they came here: a name counts from the repository's folder on, and a file from elsewhere has none.
 sum_of_files() { # PATH..
-    (cd "$root" && find "$@" -type f -print0 | sort -z | xargs -0 sha256sum | sha256sum) 2>/dev/null
+    local path names=() others=()
+    for path in "$@"; do
+        case $path in
+        "$root"/*) names+=("${path#"$root"/}") ;;
+        /*) others+=("$path") ;;
+        *) names+=("$path") ;;
+        esac
+    done
+    (
+        cd "$root" || exit
+        {
+            find "${names[@]}" -type f -print0 | sort -z | xargs -0 sha256sum
+            for path in "${others[@]}"; do sha256sum <"$path"; done
+        } | sha256sum
+    ) 2>/dev/null
 }
 stamp_of() { printf '%s\n' "$root/target/run/$(basename -- "$1").stamp"; }
 stamp_text() { # FILE FILES-SUM
     printf '%s\n%s\n' "$2" "$(sha256sum <"$1" 2>/dev/null)"
 }
 
-# Whether a file is there and nothing has changed since it was built. Nothing is written to find out.
+# Whether this is what ./install put into place, which holds nothing to build from. Its file `installed` has the sum of each file.
+is_installed() { [ -e "$root/installed" ]; }
+
+# Whether a file is there and nothing has changed since it was built. Nothing is written to find out. What is installed is never built
+# here: a file that is another than the one that was installed is reported, and that is the end.
 is_current() { # FILE FILES-SUM
+    if is_installed; then
+        grep -q -x -F -e "$(sha256sum <"$1" | cut -d ' ' -f 1)  lib/luspemaro/${1#"$root"/}" -- "$root/installed" ||
+            failed "'$1' is not the file that was installed"
+        return
+    fi
     [ -r "$1" ] && [ "$(stamp_text "$1" "$2")" = "$(cat -- "$(stamp_of "$1")" 2>/dev/null)" ]
 }
 set_stamp() { # FILE FILES-SUM
@@ -73,6 +96,7 @@ build_host() { # PACKAGE NAME CONSEQUENCE PATH..
     local package=$1 name=$2 consequence=$3 program files
     shift 3
     program=$(host_program "$package")
+    ! is_installed || [ -x "$program" ] || failed "there is no '$program'"
     files=$(sum_of_files host/Cargo.toml host/Cargo.lock "$@")
     if [ -x "$program" ] && is_current "$program" "$files"; then return; fi
     needs cargo "Rust builds $name"

@@ -1,28 +1,51 @@
-//! An account: the table, its review file and its record. Commands of all connections are decided one
-//! after another, and that order is the record's.
+//! An account: the table, its review file, its record and its log. Commands of all connections are decided
+//! one after another, and that order is the record's and the log's.
 
-use std::fmt::Display;
+use std::fmt::{self, Display};
 use std::io::{self, Write};
 use std::mem;
 use std::sync::{Mutex, MutexGuard};
+use std::time::Duration;
 
 use luspemaro::{Reader, Refusal};
 
+use crate::log::{word_text, Log, Peer};
 use crate::record::Record;
 use crate::review::Review;
 use crate::rooms::Rooms;
 use crate::table::Table;
-use crate::words::is_edit;
+use crate::words::{is_edit, own_answer, Own};
 
 /// What a command comes to.
-#[derive(Clone, Copy, Debug, PartialEq, Eq)]
+#[derive(Debug, PartialEq, Eq)]
 pub enum Decided {
     /// So many bytes of the buffer.
     Answered(usize),
+    /// The library refuses its word, which the server answers by itself.
+    Own(Own),
     /// By the library.
     Refused(Refusal),
-    /// The edit or the record cannot be written, so nothing was done.
+    /// The edit, the record or the log cannot be written, so nothing was done.
     NotKept(&'static str),
+}
+
+/// A client as the server knows it, and how it is served.
+#[derive(Clone, Debug)]
+pub struct Client {
+    pub peer: Peer,
+    pub reader: Reader,
+    /// Whether LOGIN is answered OK.
+    pub accepts_login: bool,
+    /// How long it may go without a whole command; none is for ever.
+    pub idle: Option<Duration>,
+}
+
+/// What is kept of commands, each if it is wanted.
+#[derive(Default)]
+pub struct Keeping {
+    pub review: Option<Review>,
+    pub record: Option<Record>,
+    pub log: Option<Log>,
 }
 
 /// What is served.
@@ -35,19 +58,22 @@ struct State {
     table: Table,
     /// Where a command is decided.
     copy: Table,
-    review: Option<Review>,
-    record: Option<Record>,
+    keeping: Keeping,
+    /// All is written, and nothing is decided any more.
+    has_ended: bool,
 }
 
 const NOT_RECORDED: &str = "the record cannot be written, so the command is not answered";
+const NOT_LOGGED: &str = "the log cannot be written, so the command is not answered";
 const NOT_REVIEWED: &str = "the review file cannot be written, so the edit is not made";
 const FAILED: &str = "the server has failed before, so nothing is decided any more";
+const ENDED: &str = "the server ends, so the command is not answered";
 
 impl Account {
     /// An account without edits or commands so far.
-    pub fn new(table: Table, review: Option<Review>, record: Option<Record>) -> Account {
+    pub fn new(table: Table, keeping: Keeping) -> Account {
         let (copy, rooms) = (table.clone(), table.rooms());
-        Account { state: Mutex::new(State { table, copy, review, record }), rooms }
+        Account { state: Mutex::new(State { table, copy, keeping, has_ended: false }), rooms }
     }
 
     /// Memory for the longest answer.
@@ -57,11 +83,32 @@ impl Account {
 
     /// Decides one command. It is decided on a copy of the table, then written where it has to be, and
     /// only then is an edit kept.
-    pub fn decide(&self, reader: Reader, line: &[u8], out: &mut [u8]) -> Decided {
+    pub fn decide(&self, client: &Client, line: &[u8], out: &mut [u8]) -> Decided {
         match self.lock() {
-            Some(mut state) => state.decide(reader, line, out),
+            Some(state) if state.has_ended => Decided::NotKept(ENDED),
+            Some(mut state) => state.decide(client, line, out),
             None => Decided::NotKept(FAILED),
         }
+    }
+
+    /// Adds a line to the log, if there is one, of what is no command that was decided.
+    pub fn note(&self, peer: Option<&Peer>, what: fmt::Arguments) -> io::Result<()> {
+        let Some(mut state) = self.lock() else {
+            return Err(io::Error::other(FAILED));
+        };
+        state.note(peer, None, what)
+    }
+
+    /// Returns when all that was written is on the disk. Nothing is decided after it.
+    pub fn end(&self) -> io::Result<()> {
+        let Some(mut state) = self.lock() else {
+            return Err(io::Error::other(FAILED));
+        };
+        state.has_ended = true;
+        state.note(None, None, format_args!("the server ends"))?;
+        let Keeping { record, log, .. } = &mut state.keeping;
+        record.as_mut().map_or(Ok(()), Record::sync)?;
+        log.as_mut().map_or(Ok(()), Log::sync)
     }
 
     /// The table as it is.
@@ -76,37 +123,96 @@ impl Account {
 }
 
 impl State {
-    fn decide(&mut self, reader: Reader, line: &[u8], out: &mut [u8]) -> Decided {
+    fn decide(&mut self, client: &Client, line: &[u8], out: &mut [u8]) -> Decided {
         self.copy.clone_from(&self.table);
-        let answered = self.copy.answer(reader, line, out);
-        if let Some(record) = &mut self.record {
-            let written = record.add(reader, line, answered.map(|length| &out[..length]));
-            if let Err(error) = written {
-                tell(format_args!("the record: {error}"));
-                return Decided::NotKept(NOT_RECORDED);
-            }
-        }
-        match answered {
+        let answered = self.copy.answer(client.reader, line, out);
+        let decided = match answered {
+            Ok(length) => Decided::Answered(length),
+            Err(Refusal::Word) => own_answer(line, client.accepts_login)
+                .map_or(Decided::Refused(Refusal::Word), Decided::Own),
             Err(refusal) => Decided::Refused(refusal),
-            Ok(length) if !is_edit(line) => Decided::Answered(length),
-            Ok(length) => {
-                self.keep(line).map_or_else(Decided::NotKept, |()| Decided::Answered(length))
+        };
+        let answer = answered.map(|length| &out[..length]);
+        match self.write(client, line, answer, &decided) {
+            Ok(()) => decided,
+            Err(why) => {
+                let decided = Decided::NotKept(why);
+                if why != NOT_LOGGED {
+                    let what = format_args!("{} {decided}", word_text(line));
+                    // Where the log takes nothing either, that is reported, and the client is told no more than why.
+                    let _ = self.note(Some(&client.peer), None, what);
+                }
+                decided
             }
         }
     }
 
+    /// Writes a command to the record, to the log and, where it is an edit that was made in the copy, to the
+    /// review file; or to none of them.
+    fn write(
+        &mut self,
+        client: &Client,
+        line: &[u8],
+        answer: Result<&[u8], Refusal>,
+        decided: &Decided,
+    ) -> Result<(), &'static str> {
+        let mut frame = None;
+        if let Some(record) = &mut self.keeping.record {
+            let added = record.add(client.reader, line, answer);
+            frame = Some(added.map_err(|error| not_written("the record", &error, NOT_RECORDED))?);
+        }
+        let what = format_args!("{} {decided}", word_text(line));
+        if self.note(Some(&client.peer), frame, what).is_err() {
+            self.keeping.record.iter_mut().for_each(Record::take_back);
+            return Err(NOT_LOGGED);
+        }
+        if answer.is_ok() && is_edit(line) {
+            self.keep(line).inspect_err(|_| {
+                self.keeping.record.iter_mut().for_each(Record::take_back);
+                self.keeping.log.iter_mut().for_each(Log::take_back);
+            })?;
+        }
+        Ok(())
+    }
+
     /// Keeps the edit that was made in the copy.
     fn keep(&mut self, line: &[u8]) -> Result<(), &'static str> {
-        if let Some(Err(error)) = self.review.as_mut().map(|review| review.keep(line)) {
-            tell(format_args!("the review file: {error}"));
-            if let Some(record) = &mut self.record {
-                record.take_back();
-            }
-            return Err(NOT_REVIEWED);
+        if let Some(review) = &mut self.keeping.review {
+            let kept = review.keep(line);
+            kept.map_err(|error| not_written("the review file", &error, NOT_REVIEWED))?;
         }
         mem::swap(&mut self.table, &mut self.copy);
         Ok(())
     }
+
+    fn note(
+        &mut self,
+        peer: Option<&Peer>,
+        frame: Option<u64>,
+        what: fmt::Arguments,
+    ) -> io::Result<()> {
+        let Some(log) = &mut self.keeping.log else {
+            return Ok(());
+        };
+        log.add(peer, frame, what).inspect_err(|error| tell(format_args!("the log: {error}")))
+    }
+}
+
+/// As the log says it.
+impl Display for Decided {
+    fn fmt(&self, formatter: &mut fmt::Formatter) -> fmt::Result {
+        match self {
+            Decided::Answered(length) => write!(formatter, "answered {length} bytes"),
+            Decided::Own(own) => write!(formatter, "refused 5, server {}", own.status()),
+            Decided::Refused(refusal) => write!(formatter, "refused {}", refusal.number()),
+            Decided::NotKept(why) => write!(formatter, "server NO: {why}"),
+        }
+    }
+}
+
+fn not_written(what: &str, error: &io::Error, why: &'static str) -> &'static str {
+    tell(format_args!("{what}: {error}"));
+    why
 }
 
 /// One line on standard error. Where that cannot be written to, nothing is told.
@@ -127,25 +233,34 @@ mod tests {
         account: Account,
         review: Fake,
         record: Fake,
+        log: Fake,
     }
 
     fn kept() -> Kept {
         let table = Table::new(b"\0\x01\xFF\x03Foo", b"", Rooms::PROGRAM).expect("a table");
-        let (review, record) = (Fake::default(), Fake::default());
-        let account = Account::new(
-            table,
-            Some(Review::of_file(FrameFile::new(review.clone(), 0))),
-            Some(Record::of_file(FrameFile::new(record.clone(), 0))),
-        );
-        Kept { account, review, record }
+        let (review, record, log) = (Fake::default(), Fake::default(), Fake::default());
+        let keeping = Keeping {
+            review: Some(Review::of_file(FrameFile::new(review.clone(), 0))),
+            record: Some(Record::of_file(FrameFile::new(record.clone(), 0))),
+            log: Some(Log::of_file(FrameFile::new(log.clone(), 0))),
+        };
+        Kept { account: Account::new(table, keeping), review, record, log }
     }
 
     fn decide(account: &Account, line: &[u8]) -> Result<String, Decided> {
         let mut out = account.answer_memory();
-        match account.decide(Reader::EDITOR, line, &mut out) {
+        let peer = Peer { connection: 1, address: "tunnel".to_string() };
+        let client = Client { peer, reader: Reader::EDITOR, accepts_login: false, idle: None };
+        match account.decide(&client, line, &mut out) {
             Decided::Answered(length) => Ok(String::from_utf8_lossy(&out[..length]).into_owned()),
             other => Err(other),
         }
+    }
+
+    /// The lines of a log, each from the number of the frame on.
+    fn told(log: &Fake) -> Vec<String> {
+        let rest = |line: &str| line.splitn(4, ' ').nth(3).unwrap_or_default().to_string();
+        log.text().lines().map(rest).collect()
     }
 
     #[test]
@@ -153,7 +268,7 @@ mod tests {
         for fails in
             [Fails { add: true, ..Fails::default() }, Fails { sync: true, ..Fails::default() }]
         {
-            let Kept { account, review, record } = kept();
+            let Kept { account, review, record, log } = kept();
             let before = account.table();
             review.fail(fails);
             assert_eq!(decide(&account, SUBSCRIBE), Err(Decided::NotKept(NOT_REVIEWED)));
@@ -161,6 +276,7 @@ mod tests {
                 (account.table(), review.text(), record.text()),
                 (before, String::new(), String::new())
             );
+            assert_eq!(told(&log), [format!("- SUBSCRIBE server NO: {NOT_REVIEWED}")]);
             // What is no edit is answered.
             assert_eq!(decide(&account, LSUB).as_deref(), Ok("b OK done\r\n"));
             // A full disk may have room again; one that failed to sync is not trusted.
@@ -171,7 +287,7 @@ mod tests {
 
     #[test]
     fn what_cannot_be_recorded_is_not_answered() {
-        let Kept { account, review, record } = kept();
+        let Kept { account, review, record, log } = kept();
         let before = account.table();
         record.fail(Fails { add: true, ..Fails::default() });
         for line in [SUBSCRIBE, LSUB] {
@@ -185,5 +301,52 @@ mod tests {
         assert_eq!(decide(&account, SUBSCRIBE).as_deref(), Ok("a OK done\r\n"));
         assert_eq!(review.text().lines().count(), 1);
         assert_eq!(record.text().lines().count(), 2);
+        let not = |word: &str| format!("- {word} server NO: {NOT_RECORDED}");
+        let answered = "1 SUBSCRIBE answered 11 bytes".to_string();
+        assert_eq!(told(&log), [not("SUBSCRIBE"), not("LSUB"), answered]);
+    }
+
+    #[test]
+    fn what_cannot_be_logged_is_not_answered() {
+        let Kept { account, review, record, log } = kept();
+        let before = account.table();
+        log.fail(Fails { add: true, ..Fails::default() });
+        for line in [SUBSCRIBE, LSUB] {
+            assert_eq!(decide(&account, line), Err(Decided::NotKept(NOT_LOGGED)));
+        }
+        assert_eq!(
+            (account.table(), review.text(), record.text(), log.text()),
+            (before, String::new(), String::new(), String::new())
+        );
+        log.fail(Fails::default());
+        assert!(decide(&account, SUBSCRIBE).is_ok() && decide(&account, LSUB).is_ok());
+        assert!(decide(&account, b"c NOOP\r\n").is_err());
+        let lines = [
+            "1 SUBSCRIBE answered 11 bytes",
+            "3 LSUB answered 32 bytes",
+            "5 NOOP refused 5, server OK",
+        ];
+        assert_eq!(told(&log), lines);
+        // The number of each is that of its frame in the record.
+        let frames = record.text();
+        assert!([0, 2, 4]
+            .iter()
+            .all(|&at| frames.lines().nth(at).is_some_and(|f| f.starts_with("43"))));
+    }
+
+    /// After the end nothing is decided, and what cannot be synced is an error.
+    #[test]
+    fn the_end() {
+        let Kept { account, log, .. } = kept();
+        assert!(decide(&account, SUBSCRIBE).is_ok());
+        account.end().expect("all is on the disk");
+        assert_eq!(decide(&account, SUBSCRIBE), Err(Decided::NotKept(ENDED)));
+        assert_eq!(told(&log).len(), 2);
+        for fails_record in [true, false] {
+            let Kept { account, record, log, .. } = kept();
+            let failing = if fails_record { record } else { log };
+            failing.fail(Fails { sync: true, ..Fails::default() });
+            assert!(account.end().is_err());
+        }
     }
 }

@@ -2,17 +2,17 @@
 
 use std::env;
 use std::ffi::OsString;
-use std::net::SocketAddr;
+use std::net::{SocketAddr, TcpListener};
 use std::path::PathBuf;
 use std::str::FromStr;
 use std::time::Duration;
 
 use luspemaro::Reader;
-use serve::Limits;
+use serve::{handed_over, Limits};
 
 const USAGE: &str =
-    "usage: serve [--reader N] [--review FILE] [--record FILE] [--listen ADDRESS:PORT \
-                     [--any-address] [--connections N] [--idle SECONDS]] TABLE";
+    "usage: serve [--reader N] [--accept-login] [--review FILE] [--record FILE] [--log FILE] \
+                     [--listen ADDRESS:PORT [--any-address] [--connections N] [--idle SECONDS]] TABLE";
 /// So many threads are more than any account needs.
 const MOST_CONNECTIONS: usize = 10_000;
 const LONGEST_IDLE: u64 = 86_400;
@@ -21,17 +21,26 @@ const LONGEST_IDLE: u64 = 86_400;
 pub struct Call {
     pub table: PathBuf,
     pub reader: Reader,
+    pub accepts_login: bool,
     pub review: Option<PathBuf>,
-    pub record: Option<PathBuf>,
+    /// A name that may hold the date.
+    pub record: Option<String>,
+    pub log: Option<PathBuf>,
     /// None is standard input and output.
     pub listening: Option<Listening>,
 }
 
 /// A socket.
-#[derive(Clone, Copy)]
 pub struct Listening {
-    pub address: SocketAddr,
+    pub place: Place,
     pub limits: Limits,
+}
+
+/// Where connections come from.
+pub enum Place {
+    Address(SocketAddr),
+    /// Opened by another process.
+    HandedOver(TcpListener),
 }
 
 /// The words so far.
@@ -39,8 +48,10 @@ pub struct Listening {
 struct Words {
     table: Option<PathBuf>,
     reader: Option<Reader>,
+    accepts_login: bool,
     review: Option<PathBuf>,
-    record: Option<PathBuf>,
+    record: Option<String>,
+    log: Option<PathBuf>,
     address: Option<SocketAddr>,
     connections: Option<usize>,
     idle: Option<u64>,
@@ -50,7 +61,7 @@ struct Words {
 impl Call {
     /// The call of this process, or what is wrong with it.
     pub fn read() -> Result<Call, String> {
-        Words::read(env::args_os().skip(1))?.call()
+        Words::read(env::args_os().skip(1))?.call(handed_over()?)
     }
 }
 
@@ -68,7 +79,9 @@ impl Words {
                     words.reader = Reader::new(number);
                 }
                 Some("--review") => words.review = Some(value("a file")?.into()),
-                Some("--record") => words.record = Some(value("a file")?.into()),
+                Some("--record") => words.record = Some(name(value("a file")?, "--record")?),
+                Some("--log") => words.log = Some(value("a file")?.into()),
+                Some("--accept-login") => words.accepts_login = true,
                 Some("--listen") => {
                     let what = "an address and a port, as 127.0.0.1:1143";
                     words.address = Some(parsed(value(what)?, "--listen", what)?);
@@ -93,30 +106,63 @@ impl Words {
         Ok(words)
     }
 
-    fn call(self) -> Result<Call, String> {
+    /// The call, with the socket that is handed over, if there is one.
+    fn call(self, handed: Option<TcpListener>) -> Result<Call, String> {
+        let limits = self.limits();
+        let listening = self.place(handed)?.map(|place| Listening { place, limits });
         let limited = self.any_address || self.connections.is_some() || self.idle.is_some();
-        if self.address.is_none() && limited {
+        if listening.is_none() && limited {
             return Err("--any-address, --connections and --idle go with --listen".to_string());
         }
-        if self.address.is_some_and(|address| !self.any_address && !address.ip().is_loopback()) {
+        Ok(Call {
+            table: self.table.ok_or(USAGE)?,
+            reader: self.reader.unwrap_or(Reader::EDITOR),
+            accepts_login: self.accepts_login,
+            review: self.review,
+            record: self.record,
+            log: self.log,
+            listening,
+        })
+    }
+
+    fn limits(&self) -> Limits {
+        let usual = Limits::default();
+        Limits {
+            connections: self.connections.unwrap_or(usual.connections),
+            idle: self.idle.map_or(usual.idle, Duration::from_secs),
+        }
+    }
+
+    /// The socket, which is of this machine alone unless any address is allowed.
+    fn place(&self, handed: Option<TcpListener>) -> Result<Option<Place>, String> {
+        let place = match (self.address, handed) {
+            (Some(_), Some(_)) => {
+                return Err(
+                    "a socket is handed over (LISTEN_FDS), so --listen names none".to_string()
+                );
+            }
+            (Some(address), None) => Place::Address(address),
+            (None, Some(listener)) => Place::HandedOver(listener),
+            (None, None) => return Ok(None),
+        };
+        let address = match &place {
+            Place::Address(address) => *address,
+            Place::HandedOver(listener) => listener
+                .local_addr()
+                .map_err(|error| format!("the socket of LISTEN_FDS is none of TCP: {error}"))?,
+        };
+        if !self.any_address && !address.ip().is_loopback() {
             return Err(
                 "there is no login, so only this machine is served; --any-address lifts that"
                     .to_string(),
             );
         }
-        let usual = Limits::default();
-        let limits = Limits {
-            connections: self.connections.unwrap_or(usual.connections),
-            idle: self.idle.map_or(usual.idle, Duration::from_secs),
-        };
-        Ok(Call {
-            table: self.table.ok_or(USAGE)?,
-            reader: self.reader.unwrap_or(Reader::EDITOR),
-            review: self.review,
-            record: self.record,
-            listening: self.address.map(|address| Listening { address, limits }),
-        })
+        Ok(Some(place))
     }
+}
+
+fn name(word: OsString, option: &str) -> Result<String, String> {
+    parsed(word, option, "a name in UTF-8")
 }
 
 fn parsed<T: FromStr>(word: OsString, option: &str, what: &str) -> Result<T, String> {

@@ -71,6 +71,11 @@ impl FrameFile {
         synced
     }
 
+    /// Returns when all that was added is on the disk.
+    pub fn sync(&mut self) -> io::Result<()> {
+        self.medium.sync()
+    }
+
     /// Takes back what was added last.
     pub fn take_back(&mut self) {
         self.length = self.before;

@@ -12,30 +12,47 @@
 //! | `frame_file` | a file of frames that is only added to |
 //! | `review` | the accepted edits, kept so that no crash loses one |
 //! | `record` | every command with what the library answered |
-//! | `account` | table, review and record together: one command decided and kept |
+//! | `log` | a line for each connection, command and line of the server itself |
+//! | `account` | table, review, record and log together: one command decided and kept |
 //! | `words` | tag and word of a line, and what is answered to words that the library does not know |
 //! | `connection` | one connection: bytes in, answers out |
 //! | `listen` | connections of a socket: threads, and the limits of their number and idle time |
+//! | `start` | what is said of the table at the start |
+//! | `clock` | times in UTC, for the log and the name of a record |
+//! | `stop` | waiting, and the end that SIGTERM and SIGINT ask for |
+//! | `activation` | a socket that is handed over in the environment |
+//! | `system` | the calls of the C library behind the two, the only unsafe code |
 //!
 //! Nothing here is proved. docs/SERVING.md says what a client is answered.
 
 mod account;
+mod activation;
+mod clock;
 mod connection;
 mod frame_file;
 mod listen;
 mod load;
+mod log;
 mod record;
 mod review;
 mod rooms;
+mod start;
+mod stop;
+mod system;
 mod table;
 mod words;
 
-pub use account::{Account, Decided};
+pub use account::{Account, Client, Decided, Keeping};
+pub use activation::handed_over;
+pub use clock::dated;
 pub use connection::{converse, Ending};
 pub use listen::{listen, Limits};
 pub use load::{load, LoadError, Loaded};
+pub use log::{Log, Peer};
 pub use record::Record;
 pub use review::{Review, ReviewError};
 pub use rooms::{Rooms, THREAD_STACK};
+pub use start::start_text;
+pub use stop::{Stop, Woken, END_WAIT};
 pub use table::{Table, TableError};
 pub use words::CAPABILITIES;

@@ -11,6 +11,8 @@ pub const MAX_ROWS: usize = 512;
 const MAX_AREA: usize = 32_768;
 /// `LUSPEMARO_MAX_TABLE`
 pub const MAX_TABLE: usize = 32_768;
+/// `LUSPEMARO_ROOM_LIST_LINE`: no line of LIST or LSUB is longer.
+pub const LIST_LINE: usize = 612;
 /// `LUSPEMARO_STACK_ANSWER`, the most that any entry needs.
 const STACK_ANSWER: usize = 323_584;
 /// What the functions of this crate need above the entry, with a margin.
@@ -62,6 +64,7 @@ mod tests {
         assert_eq!(MAX_TABLE, defined("LUSPEMARO_MAX_TABLE"));
         assert_eq!(ROOM_ANSWER, defined("LUSPEMARO_ROOM_ANSWER"));
         assert_eq!(COMMAND_ROOM, defined("LUSPEMARO_ROOM_COMMAND"));
+        assert_eq!(LIST_LINE, defined("LUSPEMARO_ROOM_LIST_LINE"));
         assert_eq!(STACK_ANSWER, defined("LUSPEMARO_STACK_ANSWER"));
         for entry in ["FEED", "PUT_GO_ON", "COMPACT", "CHECK_RECORDS", "CHECK_TABLE"] {
             assert!(defined(&format!("LUSPEMARO_STACK_{entry}")) <= STACK_ANSWER, "{entry}");

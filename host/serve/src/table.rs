@@ -79,6 +79,11 @@ impl Table {
         self.rooms
     }
 
+    /// How many rows there are, and how many entries of the namespace list.
+    pub fn counts(&self) -> (usize, usize) {
+        (self.count, split_entries(&self.namespaces).0.len())
+    }
+
     /// The records, as the library's walk takes them.
     pub fn records(&self) -> Records<'_> {
         Records { records: &self.records, count: self.count, area: &self.area }

@@ -9,6 +9,10 @@ pub const CAPABILITIES: &str = "IMAP4rev1 LIST-EXTENDED SPECIAL-USE CHILDREN NAM
 const NO_MESSAGES: &str =
     "[CANNOT] no messages are served here, only the names of mailboxes: LIST, LSUB, \
                            NAMESPACE, SUBSCRIBE, UNSUBSCRIBE, CAPABILITY, ID, NOOP, LOGOUT";
+const NO_LOGIN: &str =
+    "[CANNOT] PREAUTH was the greeting: this connection needs no login, and none is taken";
+const NO_AUTHENTICATE: &str =
+    "[CANNOT] PREAUTH was the greeting: this connection needs no login; LOGIN is taken, AUTHENTICATE is not";
 const CRLF: &[u8] = b"\r\n";
 /// Stands where a line has no tag.
 const NO_TAG: &[u8] = b"*";
@@ -42,13 +46,21 @@ pub fn farewell(why: &str) -> Vec<u8> {
     line(&[NO_TAG, b"BYE", why.as_bytes()])
 }
 
+/// Said once to a client whose line ends in LF without CR, which ends no command.
+pub fn bare_lf_hint() -> Vec<u8> {
+    line(&[
+        NO_TAG,
+        b"BAD a line ended in LF without CR; a command ends in CR LF, so it is not read yet",
+    ])
+}
+
 /// Whether the word of a line that the library has accepted is that of an edit.
 pub fn is_edit(line: &[u8]) -> bool {
     Start::of(line).is_some_and(|start| start.is_word("SUBSCRIBE") || start.is_word("UNSUBSCRIBE"))
 }
 
 /// The answer to a line whose word the library does not know. A line without a word has none.
-pub fn own_answer(text: &[u8]) -> Option<Own> {
+pub fn own_answer(text: &[u8], accepts_login: bool) -> Option<Own> {
     let start = Start::of(text).filter(|start| !start.word.is_empty())?;
     let (lines, is_end) = if start.is_word("CAPABILITY") {
         (start.plain(&["CAPABILITY ", CAPABILITIES].concat()), false)
@@ -58,10 +70,20 @@ pub fn own_answer(text: &[u8]) -> Option<Own> {
         (start.plain("BYE Luspemaro"), start.rest.is_empty())
     } else if start.is_word("ID") {
         (start.id(), false)
+    } else if start.is_word("LOGIN") || start.is_word("AUTHENTICATE") {
+        (start.login(accepts_login), false)
     } else {
         (start.tagged("NO", NO_MESSAGES), false)
     };
     Some(Own { lines, is_end })
+}
+
+impl Own {
+    /// OK, NO or BAD: the word after the tag of the last line.
+    pub fn status(&self) -> String {
+        let text = String::from_utf8_lossy(&self.lines);
+        text.lines().last().and_then(|line| line.split(' ').nth(1)).unwrap_or_default().to_string()
+    }
 }
 
 /// The line of a refusal: BAD for 3 to 8, which are about the line, and NO for all others. The text is
@@ -120,6 +142,19 @@ impl<'l> Start<'l> {
         }
         let version = env!("CARGO_PKG_VERSION");
         self.done(&format!("ID (\"name\" \"Luspemaro\" \"version\" \"{version}\")"))
+    }
+
+    /// What a client says who it is decides nothing, and is not looked at: who reaches the server is its
+    /// reader. AUTHENTICATE would go on in lines that are no commands, so it is never taken.
+    fn login(&self, is_accepted: bool) -> Vec<u8> {
+        match (is_accepted, self.is_word("LOGIN")) {
+            (false, _) => self.tagged("NO", NO_LOGIN),
+            (true, false) => self.tagged("NO", NO_AUTHENTICATE),
+            (true, true) if self.rest.is_empty() => {
+                self.tagged("BAD", "a name and a password come after LOGIN")
+            }
+            (true, true) => self.done(""),
+        }
     }
 
     fn done(&self, untagged: &str) -> Vec<u8> {
@@ -222,15 +257,42 @@ mod tests {
             ("a id (\"name\" \"x\")\r\n", Some(id), false),
             ("a ID\r\n", Some("a BAD a list or NIL comes after ID\r\n"), false),
             ("a SELECT INBOX\r\n", Some(&no), false),
-            ("a LOGIN x y\r\n", Some(&no), false),
+            ("a EXAMINE INBOX\r\n", Some(&no), false),
             ("a }+\r\n", Some(&no), false),
             ("a  NOOP\r\n", None, false),
             ("a (NOOP\r\n", None, false),
         ];
         for (text, expected, is_end) in cases {
-            let own = own_answer(text.as_bytes());
-            let expected = expected.map(|text| Own { lines: text.as_bytes().to_vec(), is_end });
-            assert_eq!(own, expected, "{text:?}");
+            for accepts_login in [false, true] {
+                let own = own_answer(text.as_bytes(), accepts_login);
+                let expected = expected.map(|text| Own { lines: text.as_bytes().to_vec(), is_end });
+                assert_eq!(own, expected, "{text:?}");
+            }
+        }
+    }
+
+    /// Each line, and the answer without and with `--accept-login`.
+    #[test]
+    fn logins() {
+        let [no, never] = [NO_LOGIN, NO_AUTHENTICATE].map(|text| format!("a NO {text}\r\n"));
+        let cases: [(&str, &str, &str); 6] = [
+            ("a LOGIN x y\r\n", &no, "a OK done\r\n"),
+            ("a login \"x\" {1}\r\ny\r\n", &no, "a OK done\r\n"),
+            ("a LOGIN\r\n", &no, "a BAD a name and a password come after LOGIN\r\n"),
+            ("a AUTHENTICATE PLAIN\r\n", &no, &never),
+            ("a authenticate plain AHgAeQ==\r\n", &no, &never),
+            (
+                "a LOGINS x y\r\n",
+                &format!("a NO {NO_MESSAGES}\r\n"),
+                &format!("a NO {NO_MESSAGES}\r\n"),
+            ),
+        ];
+        for (text, without, with) in cases {
+            for (accepts_login, expected) in [(false, without), (true, with)] {
+                let own = own_answer(text.as_bytes(), accepts_login).expect("an answer");
+                assert_eq!(String::from_utf8_lossy(&own.lines), expected, "{text:?}");
+                assert!(!own.is_end && expected.starts_with(&format!("a {} ", own.status())));
+            }
         }
     }
 }

@@ -8,7 +8,8 @@ use std::process::{Child, ChildStderr, Command, Output, Stdio};
 use std::sync::atomic::{AtomicUsize, Ordering};
 use std::time::Duration;
 
-use serve::{load, Rooms, Table};
+use luspemaro::Reader;
+use serve::{load, Peer, Rooms, Table, Woken};
 
 pub const SERVE: &str = env!("CARGO_BIN_EXE_serve");
 pub const FOLDER: &str = env!("CARGO_TARGET_TMPDIR");
@@ -32,6 +33,22 @@ mailbox Hidden exists subscribed readers 1
 namespace personal "" "/"
 namespace shared "#sha\"red/" "/"
 "##;
+
+/// A client of a connection in memory.
+pub fn client() -> serve::Client {
+    let peer = Peer { connection: 1, address: "test".to_string() };
+    serve::Client { peer, reader: Reader::EDITOR, accepts_login: false, idle: None }
+}
+
+/// What is in memory is there.
+pub fn no_wait(_: Option<Duration>) -> io::Result<Woken> {
+    Ok(Woken::Input)
+}
+
+/// A path as a word of a call.
+pub fn word(path: &Path) -> &str {
+    path.to_str().expect("text")
+}
 
 /// A new path in the folder of the tests.
 pub fn path(name: &str) -> PathBuf {
@@ -110,6 +127,19 @@ impl Server {
     pub fn start(table: &Path, arguments: &[&str]) -> Server {
         let mut command = Command::new(SERVE);
         command.args(["--listen", "127.0.0.1:0"]).args(arguments).arg(table);
+        Server::start_by(command)
+    }
+
+    /// Starts a server by bash, after a script that does what it is to find.
+    pub fn start_after(script: &str, arguments: &[&str]) -> Server {
+        let mut command = Command::new("/bin/bash");
+        let script = format!("{script}; exec \"$@\"");
+        command.args(["-c", &script, "bash", SERVE, "--listen", "127.0.0.1:0"]).args(arguments);
+        Server::start_by(command)
+    }
+
+    /// A command that becomes a server.
+    pub fn start_by(mut command: Command) -> Server {
         let mut child = command.stderr(Stdio::piped()).spawn().expect("a start");
         let mut stderr = BufReader::new(child.stderr.take().expect("an error output"));
         let mut told = String::new();
@@ -152,6 +182,26 @@ impl Server {
         fs::read_dir(format!("/proc/{}/task", self.child.id())).expect("a process").count()
     }
 
+    /// The number of its process.
+    pub fn id(&self) -> u32 {
+        self.child.id()
+    }
+
+    /// The next line that it tells; none at its end.
+    pub fn told_line(&mut self) -> String {
+        let mut line = String::new();
+        self.stderr.read_line(&mut line).expect("text");
+        line
+    }
+
+    /// Sends a signal, and waits for the end: the status, and what it told.
+    pub fn end_by(mut self, signal: &str) -> (Option<i32>, String) {
+        signal_to(self.id(), signal);
+        let mut told = String::new();
+        self.stderr.read_to_string(&mut told).expect("text");
+        (self.child.wait().expect("an end").code(), told)
+    }
+
     /// As a power cut does to it; then what it told.
     pub fn kill(mut self) -> String {
         self.child.kill().expect("a process");
@@ -159,6 +209,11 @@ impl Server {
         self.stderr.read_to_string(&mut told).expect("text");
         told
     }
+}
+
+pub fn signal_to(process: u32, signal: &str) {
+    let sent = Command::new("kill").args([signal, &process.to_string()]).status();
+    assert!(sent.expect("kill").success());
 }
 
 impl Drop for Server {

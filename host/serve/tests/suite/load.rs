@@ -174,10 +174,31 @@ fn clients_that_never_read() {
 /// A client that sends nothing is told so.
 #[test]
 fn idle_clients() {
-    let server = Server::start(&session_file(), &["--idle", "1"]);
+    let server = Server::start(&session_file(), &["--idle", "2"]);
     let mut client = server.connect();
     client.send(b"a NOOP\r\nb NO").expect("open");
+    let bye = "* BYE a command was not finished for too long\r\n";
+    assert_eq!(text(&client.rest()), format!("a OK done\r\n{bye}"));
+    let mut client = server.connect();
+    client.send(b"a NOOP\r\n").expect("open");
     assert_eq!(text(&client.rest()), "a OK done\r\n* BYE nothing came for too long\r\n");
+}
+
+/// A client that goes on sending, and never ends a command, is ended too: the time counts from its last whole
+/// command. One that sends whole commands is not.
+#[test]
+fn a_command_without_an_end() {
+    let server = Server::start(&session_file(), &["--idle", "4"]);
+    let (mut slow, mut steady) = (server.connect(), server.connect());
+    let begin = Instant::now();
+    slow.send(b"a LIST \"\" ").expect("open");
+    while slow.send(b"x").is_ok() {
+        assert!(begin.elapsed() < LONG, "it is never ended");
+        assert_eq!(steady.command(b"s NOOP\r\n"), [b"s OK done\r\n"]);
+        thread::sleep(Duration::from_millis(100));
+    }
+    assert!(begin.elapsed() >= Duration::from_secs(4), "{:?}", begin.elapsed());
+    log_out(steady);
 }
 
 /// One client more than the limit is turned away, until another has gone.

@@ -3,8 +3,12 @@
 mod calls;
 mod collector;
 mod common;
+mod documents;
+mod ending;
 mod figures;
+mod handed;
 mod load;
+mod logged;
 mod recorded;
 mod reviewed;
 mod streams;

@@ -2,14 +2,13 @@
 
 use std::fs;
 use std::path::Path;
+use std::process::Command;
 use std::thread;
 
-use crate::common::{answers, file, large_session, path, session_file, text, tunnel, Server};
+use crate::common::{
+    answers, file, large_session, path, run, session_file, text, tunnel, word, Server, SERVE,
+};
 use crate::streams::random_stream;
-
-fn word(path: &Path) -> &str {
-    path.to_str().expect("text")
-}
 
 /// Splits a record and compares what it says was answered with the second program.
 fn check(record: &Path) -> (usize, usize) {
@@ -86,4 +85,40 @@ fn a_record_is_not_written_over() {
     let output = tunnel(&["--record", word(&record), word(&table)], b"");
     assert_eq!(output.status.code(), Some(2));
     assert_eq!(fs::read_to_string(record).expect("a file"), "what is there");
+}
+
+/// A record that cannot be begun leaves no file, so that the next start can begin it.
+#[test]
+fn a_full_disk_leaves_no_record() {
+    let (table, record) = (file("large.session", large_session()), path("record"));
+    let words = [SERVE, "--record", word(&record), word(&table)];
+    let mut command = Command::new("/bin/bash");
+    // No file may have more than 2,048 bytes, and the rows need more.
+    command.args(["-c", "trap '' XFSZ; ulimit -f 2; exec \"$@\"", "bash"]).args(words);
+    let output = run(command, b"a NOOP\r\n");
+    let told = text(&output.stderr);
+    assert_eq!(output.status.code(), Some(2), "{told}");
+    assert!(told.contains("File too large") && output.stdout.is_empty(), "{told}");
+    assert!(!record.exists());
+    assert_eq!(answers(&tunnel(&words[1..], b"a NOOP\r\n")), "a OK done\r\n");
+    assert_eq!(check(&record), (0, 1));
+}
+
+/// The name of a record holds the time of the start where it says so, and the server says which it is.
+#[test]
+fn a_record_with_the_date() {
+    let (table, folder) = (session_file(), path("records"));
+    fs::create_dir(&folder).expect("a folder");
+    let pattern = folder.join("night-%Y-%m-%dT%H%M%SZ-100%%");
+    let output = tunnel(&["--record", word(&pattern), word(&table)], b"a NOOP\r\n");
+    let entry =
+        fs::read_dir(&folder).expect("a folder").next().expect("a record").expect("a record");
+    let name = entry.file_name().into_string().expect("text");
+    let is_dated =
+        name.chars().map(|c| if c.is_ascii_digit() { '9' } else { c }).collect::<String>();
+    assert_eq!(is_dated, "night-9999-99-99T999999Z-999%");
+    assert!(
+        text(&output.stderr).contains(&format!("serve: the record is {}\n", word(&entry.path())))
+    );
+    assert_eq!(check(&entry.path()), (0, 1));
 }

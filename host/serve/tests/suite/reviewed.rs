@@ -4,7 +4,7 @@ use std::fs;
 use std::path::Path;
 use std::process::Command;
 
-use crate::common::{answers, file, path, run, session_file, text, tunnel, Server, SERVE};
+use crate::common::{answers, file, path, run, session_file, text, tunnel, word, Server, SERVE};
 use crate::streams::Numbers;
 
 const LSUB: &[u8] = b"l LSUB \"\" *\r\n";
@@ -18,10 +18,6 @@ fn subscribed(table: &Path, review: &Path) -> Vec<String> {
         .filter_map(|line| line.strip_prefix("* LSUB () \"/\" "))
         .map(String::from)
         .collect()
-}
-
-fn word(path: &Path) -> &str {
-    path.to_str().expect("text")
 }
 
 #[test]

@@ -1,18 +1,50 @@
 //! What a client is answered, in process.
 
-use luspemaro::Reader;
-use serve::{converse, Account, Ending, Rooms, CAPABILITIES};
+use serve::{converse, Account, Ending, Keeping, Rooms, CAPABILITIES};
 
-use crate::common::{session_file, table_of, text};
+use crate::common::{client, no_wait, session_file, table_of, text};
+
+const HINT: &str =
+    "* BAD a line ended in LF without CR; a command ends in CR LF, so it is not read yet\r\n";
 
 /// The lines after the greeting, and how it ended.
 fn answered(input: &[u8]) -> (String, Ending) {
-    let account = Account::new(table_of(&session_file(), Rooms::WIDE), None, None);
+    let account = Account::new(table_of(&session_file(), Rooms::WIDE), Keeping::default());
     let mut output = Vec::new();
-    let ending =
-        converse(&account, Reader::EDITOR, &mut &input[..], &mut output).expect("no error");
+    let ending = converse(&account, &client(), &mut &input[..], &mut output, no_wait);
     let text = text(&output);
-    (text.split_once("\r\n").expect("a greeting").1.to_string(), ending)
+    (text.split_once("\r\n").expect("a greeting").1.to_string(), ending.expect("no error"))
+}
+
+/// Who ends with a line that ended in LF alone is told so, once; in a literal LF is a byte like any other.
+#[test]
+fn a_line_that_ends_in_lf_alone() {
+    let cases: [(&[u8], &str); 9] = [
+        (b"a NOOP\n", HINT),
+        (b"a NOOP\r\nb NOOP\nc NOOP\n", &format!("a OK done\r\n{HINT}")),
+        (b"a NOOP\r\n", "a OK done\r\n"),
+        (b"a NOOP", ""),
+        (b"a NOOP\nb NOOP", ""),
+        (b"a LIST \"\" {2}\r\nx\n", "+ go\r\n"),
+        (b"a LIST \"\" {3}\r\nx\n", "+ go\r\n"),
+        (b"a LIST \"\" {1}\r\nx\n", &format!("+ go\r\n{HINT}")),
+        (b"", ""),
+    ];
+    for (input, expected) in cases {
+        let told = answered(input);
+        assert_eq!(told, (expected.to_string(), Ending::Closed), "{:?}", text(input));
+    }
+}
+
+/// A return option that the library does not know is its refusal, LIST-STATUS (RFC 5819) among them.
+#[test]
+fn return_options_that_are_not_known() {
+    for options in ["STATUS (MESSAGES UNSEEN)", "MYRIGHTS", "METADATA", "CHILDREN COLOUR"] {
+        let command = format!("a LIST \"\" * RETURN ({options})\r\n");
+        let told = answered(command.as_bytes()).0;
+        assert!(told.starts_with("a BAD [refusal 6] ") && told.lines().count() == 1, "{told}");
+    }
+    assert!(!CAPABILITIES.contains("LIST-STATUS"));
 }
 
 #[test]
@@ -53,7 +85,7 @@ fn refusals() {
         ("a SELECT INBOX\r\n", "a NO [CANNOT] no messages are served here"),
         ("a EXAMINE INBOX\r\n", "a NO [CANNOT] no messages are served here"),
         ("a STATUS INBOX (MESSAGES)\r\n", "a NO [CANNOT] no messages are served here"),
-        ("a LOGIN \"x\" {1}\r\ny\r\n", "a NO [CANNOT] no messages are served here"),
+        ("a LOGIN \"x\" {1}\r\ny\r\n", "a NO [CANNOT] PREAUTH was the greeting"),
         ("a CREATE x\r\n", "a NO [CANNOT] no messages are served here"),
         ("a LIST \"\" {3+}\r\nabc\r\n", "a BAD [refusal 4] "),
         ("a IDLE\r\n", "a NO [CANNOT] no messages are served here"),

@@ -3,8 +3,8 @@
  * Every entry takes any bytes and any numbers, and its result and every byte of lent memory are decided by a promise that is proved
  * (crates/exports). What the caller owes:
  *
- * - Lent memory passes as a pointer and a length, which of records is their number. The pointer is never null, at length 0 too: lend
- *   any object of its type then.
+ * - Lent memory passes as a pointer and a length, which of records and of numbers of a summary is how many they are. The pointer is never
+ *   null, at length 0 too: lend any object of its type then.
  * - What an entry writes (a pointer without const) overlaps nothing else that the same call is lent.
  * - The stack has room for the entry: see LUSPEMARO_STACK_ .. below. Nothing checks it.
  *
@@ -44,8 +44,16 @@ extern "C" {
  * that is long enough, and UNSUBSCRIBE may remove one, whose bytes become zero and free, and the last record zero and spare.
  * luspemaro_compact moves the names together, so that the free bytes are one run.
  *
- * Packed, for the entries that say so: rows without a gap, for reading. A row is its flags (2 bytes, high byte first), the set of its
- * readers (1 byte), the name's length (1 to 200), the name. */
+ * Summary: beside the records lies a run of numbers of 64 bits, one for each record, in the order of the records. The number of a row
+ * holds four counts of 16 bits: how many rows lie strictly below its name, at any depth and whoever sees them, that are subscribed and
+ * local, subscribed and remote, existing and local, existing and remote; local is what is not remote. A row that exists and is subscribed
+ * counts twice; a row that does not exist is subscribed and local. A record counts as lent only if the run has a number for it, so the
+ * records lent are as many as the shorter of the two runs. Check 1 includes it: a number of a row that is not what counting afresh
+ * gives does not pass. The numbers of spare records are not looked at. luspemaro_summarize counts a caller's first summary;
+ * luspemaro_answer keeps it up to date, and no other entry changes it.
+ *
+ * Packed, for the entries that say so: rows without a gap, for reading, without a summary. A row is its flags (2 bytes, high byte first),
+ * the set of its readers (1 byte), the name's length (1 to 200), the name. */
 
 #define LUSPEMARO_FLAG_EXISTS 0x0001
 #define LUSPEMARO_FLAG_SUBSCRIBED 0x0002
@@ -81,6 +89,12 @@ struct luspemaro_record {
     uint8_t len;
     uint8_t readers;
 };
+
+/* The four counts of a number of the summary. */
+#define LUSPEMARO_SUMMARY_SUBSCRIBED_LOCAL(number) ((uint16_t)(number))
+#define LUSPEMARO_SUMMARY_SUBSCRIBED_REMOTE(number) ((uint16_t)((uint64_t)(number) >> 16))
+#define LUSPEMARO_SUMMARY_EXISTING_LOCAL(number) ((uint16_t)((uint64_t)(number) >> 32))
+#define LUSPEMARO_SUMMARY_EXISTING_REMOTE(number) ((uint16_t)((uint64_t)(number) >> 48))
 
 /* ---- The namespace list: entries without a gap. An entry is its class, the prefix's length (0 to 64), the prefix, the delimiter (0
  * for NIL, or 21 to 7E). Classes do not descend. An empty list passes. */
@@ -146,7 +160,7 @@ struct luspemaro_record {
 
 #define LUSPEMARO_DONE 0 /* no refusal */
 
-#define LUSPEMARO_REFUSAL_TABLE 1                /* the mailbox table does not pass, or count is above the records lent */
+#define LUSPEMARO_REFUSAL_TABLE 1                /* the mailbox table or its summary does not pass, or count is above the records lent */
 #define LUSPEMARO_REFUSAL_NAMESPACES 2           /* the namespace list does not pass */
 #define LUSPEMARO_REFUSAL_LINE_SHAPE 3           /* too long, no CR LF at its end, a byte that no line has, a literal cut short or too long */
 #define LUSPEMARO_REFUSAL_GRAMMAR 4              /* the tag, or the rest after a known word, is off the grammar */
@@ -186,7 +200,8 @@ struct luspemaro_record {
 #define LUSPEMARO_STACK_MATCHES 12288
 #define LUSPEMARO_STACK_MATCH_STEPS 12288
 #define LUSPEMARO_STACK_ANSWER 323584
-#define LUSPEMARO_STACK_COMPACT 122880
+#define LUSPEMARO_STACK_COMPACT 147456
+#define LUSPEMARO_STACK_SUMMARIZE 53248
 #define LUSPEMARO_STACK_COLLECT 98304
 #define LUSPEMARO_STACK_COLLECT_PACKED 98304
 #define LUSPEMARO_STACK_WRITE_LINE 12288
@@ -197,11 +212,13 @@ struct luspemaro_record {
 
 /* ---- What the entries answer. */
 
-/* Of a call that writes into lent memory. number: LUSPEMARO_DONE or a refusal. length: bytes written at the front of out, or of found; 0
- * with a refusal. count: of luspemaro_answer, how many of the records are rows now, which is the count passed but for an edit that
- * inserts or removes a row; of a walk, the commands sent, 0 with a refusal; else 0. */
+/* Of a call that writes into lent memory. number: LUSPEMARO_DONE or a refusal. changed: 1 exactly if the call changed a row, which is an
+ * accepted SUBSCRIBE of a name that was not subscribed or an accepted UNSUBSCRIBE of one that was; else 0. length: bytes written at the
+ * front of out, or of found; 0 with a refusal. count: of luspemaro_answer, how many of the records are rows now, which is the count passed
+ * but for an edit that inserts or removes a row; of a walk, the commands sent, 0 with a refusal; else 0. */
 struct luspemaro_outcome {
     uint8_t number;
+    uint8_t changed;
     size_t length;
     size_t count;
 };
@@ -248,9 +265,9 @@ struct luspemaro_fed {
 
 /* ---- The entries. */
 
-/* Check 1: whether the records pass. A count above records_length does not. */
+/* Check 1: whether the records pass, with their summary. A count above records_length or above summary_length does not. */
 bool luspemaro_check_records(const struct luspemaro_record *records, size_t records_length, size_t count, const uint8_t *area,
-                             size_t area_length);
+                             size_t area_length, const uint64_t *summary, size_t summary_length);
 
 /* Check 1 of the packed form: whether the table passes. */
 bool luspemaro_check_table(const uint8_t *table, size_t table_length);
@@ -268,27 +285,37 @@ size_t luspemaro_match_steps(const uint8_t *pattern, size_t pattern_length, cons
 /* The answer to one command line of a reader, LIST, LSUB, NAMESPACE, SUBSCRIBE or UNSUBSCRIBE, its CR LF included, at the front of out.
  * Refusals, in this order: 16 for a reader above 7, 1, 2, 3, 4 for the tag, 5, 4 for the rest, 6, 7, 8, 16 for an edit from another
  * reader than 0, 14, 15, 9; 6 and 7 are of LIST, 8 of LIST and LSUB, 14 and 15 of SUBSCRIBE. The bytes after the answer stay; a refusal
- * changes no byte of out, no record and no byte of the area.
+ * changes no byte of out, no record, no byte of the area and no number of the summary.
  *
  * SUBSCRIBE and UNSUBSCRIBE edit the rows. A name whose first level is INBOX in any case of letters is spelled INBOX first. SUBSCRIBE
  * sets the flag SUBSCRIBED of the name's row, or inserts a row with that flag alone, which all readers see; UNSUBSCRIBE clears the flag,
  * removes a row that has no other flag, and is done where the name has no subscription. The row keeps its readers, whether reader 0 is
  * among them or not. The other rows keep flags, readers, name and order, and where the names lie; the records after the place move by
- * one. Other commands change no record and no byte of the area.
+ * one, and so do their numbers of the summary. The numbers of the named row's ancestors and of an inserted row become what counting afresh
+ * gives; that of a freed record becomes zero, and the numbers of other spare records stay, as do those past the last record. Other commands
+ * change no record, no byte of the area and no number.
  *
  * Of two tables that pass and have the same names with the same flags visible to a reader, LIST and LSUB give that reader the same bytes
  * and numbers, and so does the walk, with the same count. */
 struct luspemaro_outcome luspemaro_answer(struct luspemaro_record *records, size_t records_length, size_t count, uint8_t reader,
-                                          uint8_t *area, size_t area_length, const uint8_t *namespaces, size_t namespaces_length,
-                                          const uint8_t *line, size_t line_length, uint8_t *out, size_t out_length);
+                                          uint8_t *area, size_t area_length, uint64_t *summary, size_t summary_length,
+                                          const uint8_t *namespaces, size_t namespaces_length, const uint8_t *line,
+                                          size_t line_length, uint8_t *out, size_t out_length);
 
 /* Moves the names of the rows together, in the order of their starts, to the front of the area; the bytes after them, all that no row
  * uses, become zero. LUSPEMARO_DONE, or 1 for a table that does not pass: then no record and no byte of the area changes.
  *
- * Of the first count records the starts change and nothing else; those after them stay. Every command and every walk is answered as
- * before, but that a SUBSCRIBE which was refused with 15 may find room. Straight after it, no edit between, 15 for want of bytes is
- * given exactly if all free bytes together are fewer than the name's. */
-uint8_t luspemaro_compact(struct luspemaro_record *records, size_t records_length, size_t count, uint8_t *area, size_t area_length);
+ * Of the first count records the starts change and nothing else; those after them and the summary stay. Every command and every walk is
+ * answered as before, but that a SUBSCRIBE which was refused with 15 may find room. Straight after it, no edit between, 15 for want of
+ * bytes is given exactly if all free bytes together are fewer than the name's. */
+uint8_t luspemaro_compact(struct luspemaro_record *records, size_t records_length, size_t count, uint8_t *area, size_t area_length,
+                          const uint64_t *summary, size_t summary_length);
+
+/* Counts the summary of the rows afresh, as a caller's first one. LUSPEMARO_DONE: the first count numbers are what counting gives, and
+ * those after them stay. 1 where the rest of check 1 does not pass, a count above the records lent among it: then no number changes. What
+ * the numbers hold before the call is not looked at. */
+uint8_t luspemaro_summarize(const struct luspemaro_record *records, size_t records_length, size_t count, const uint8_t *area,
+                            size_t area_length, uint64_t *summary, size_t summary_length);
 
 /* The collector's walk for a reader. option: the sum of LUSPEMARO_OPTION_ .. Finds lie at the front of found, length bytes of them, and
  * the names that were asked below at the front of pending, count - 1 of them; each as a length byte (1 to 200) and the name, in walk
@@ -298,9 +325,9 @@ uint8_t luspemaro_compact(struct luspemaro_record *records, size_t records_lengt
  * scratch), 10 (FOUND_FULL) and 11 (PENDING_FULL); no other number: none of the walk's own commands is refused for anything but scratch.
  * 16 is of a reader above 7. A refusal leaves all three buffers zero. */
 struct luspemaro_outcome luspemaro_collect(const struct luspemaro_record *records, size_t records_length, size_t count, uint8_t reader,
-                                           const uint8_t *area, size_t area_length, uint8_t option, uint8_t *scratch,
-                                           size_t scratch_length, uint8_t *found, size_t found_length, uint8_t *pending,
-                                           size_t pending_length);
+                                           const uint8_t *area, size_t area_length, const uint64_t *summary,
+                                           size_t summary_length, uint8_t option, uint8_t *scratch, size_t scratch_length,
+                                           uint8_t *found, size_t found_length, uint8_t *pending, size_t pending_length);
 
 /* luspemaro_collect over a packed table, with the same refusals: 16, 1, 6, 9, 10 and 11, and no other number. */
 struct luspemaro_outcome luspemaro_collect_packed(const uint8_t *table, size_t table_length, uint8_t reader, uint8_t option,

@@ -1,4 +1,4 @@
-# For ./serve, ./install and tools/walker, which read it: the proved library's archive. Nothing here is run by itself. They set
+# For ./serve, ./replay, ./verify, ./install and tools/walker, which read it: the proved library's archive. Nothing here is run by itself. They set
 # `root`, the repository's folder, and `own`, their name, first.
 # shellcheck disable=SC2154
 trouble=1
@@ -29,4 +29,17 @@ build_archive() {
         cp "$root/target/stamp/exports" "$made"
     fi
     set_stamp "$archive" "$files"
+}
+
+# What a page says of the library, as words of a call, in `facts`: its sum, the sum of what it was proved from, and the commit. Of an archive
+# that LUSPEMARO_ARCHIVE_DIR names, and of an installed one, it is not known what built it.
+set_facts() {
+    local sum commit of=$archive
+    ! is_installed || of=$root/../libluspemaro.a
+    facts=()
+    sum=$(sha256sum <"$of" 2>/dev/null) && facts+=(--archive-sum "${sum%% *}")
+    if [ -z "${LUSPEMARO_ARCHIVE_DIR:-}" ] && ! is_installed; then
+        facts+=(--built-by-proof --sources-sum "$(stamped_files_sum "$archive")")
+    fi
+    if commit=$(commit_text); then facts+=(--commit "$commit"); fi
 }

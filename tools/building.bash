@@ -1,6 +1,6 @@
-# For ./run, ./import, ./compare, ./serve, ./install and tools/walker, which read it: what they tell, and what is built and current.
-# Nothing here is run by itself. They set `root`, the repository's folder, `own`, their name, and `trouble`, their status where something
-# is not proved, not built or not there, first.
+# For ./run, ./import, ./compare, ./serve, ./replay, ./verify, ./install and tools/walker, which read it: what they report, and what is built
+# and current. Nothing here is run by itself. They set `root`, the repository's folder, `own`, their name, and `trouble`, their status where
+# something is not proved, not built or not there, first.
 # shellcheck disable=SC2154
 
 # A text that moves no cursor and ends no line: bytes but 20 to 7E as \x and two digits. In a text that has such a byte, or that could be
@@ -106,4 +106,73 @@ build_host() { # PACKAGE NAME CONSEQUENCE PATH..
         failed "$name cannot be built, so $consequence"
     fi
     set_stamp "$program" "$files"
+}
+
+# How many crates of the repository one crate is proved with, itself among them.
+count_crates() { # NAME
+    local todo=("$1") seen=' ' name count=0
+    while [ "${#todo[@]}" -gt 0 ]; do
+        name=${todo[0]}
+        todo=("${todo[@]:1}")
+        case $seen in *" $name "*) continue ;; esac
+        if ! grep -q "^$name:" "$root/crates.txt"; then continue; fi
+        seen="$seen$name "
+        count=$((count + 1))
+        # shellcheck disable=SC2207
+        todo+=($(sed -n "s/^$name://p" "$root/crates.txt"))
+    done
+    printf '%s\n' "$count"
+}
+
+# What rt says, as one line for each crate that it has proved. The lines of single functions and the prover's notes are left
+# out; what is refused is shown.
+show_progress() { # COUNT
+    local line words done=0
+    while IFS= read -r line || [ -n "$line" ]; do
+        read -ra words <<<"$line "
+        case $line in
+        'rt: '*' proved ('*)
+            done=$((done + 1))
+            case $line in *'(unchanged since'*) continue ;; esac
+            say "$done of $1: ${words[1]} proved ${words[*]:3}"
+            ;;
+        *': proved' | *': note: '* | 'note: '* | 'rt: ok,'* | 'rt: '*' ran'*', and wrote what '* | '') ;;
+        'logic '* | 'logic='* | 'library '* | 'linked'* | 'axioms '*) ;;
+        *) printf '%s\n' "$line" ;;
+        esac
+    done
+}
+
+# The proved program of frames.
+proved=$root/target/bin/luspemaro
+
+# Proves and builds the program. A crate that has not changed is not proved again.
+build_program() {
+    local files
+    files=$(sum_of_files crates crates.txt)
+    if [ -x "$proved" ] && is_current "$proved" "$files"; then return; fi
+    needs rt 'the Rattle kit proves and builds the program'
+    if [ ! -x "$proved" ]; then
+        say 'proving and building the program; the first time this takes some 5 minutes'
+        rm -f "$root/target/stamp/luspemaro"
+    else
+        say 'the program was not built by this command, or files have changed; what has changed is proved again'
+    fi
+    (cd "$root" && rt check luspemaro) </dev/null 2>&1 | show_progress "$(count_crates luspemaro)" >&2
+    if [ "${PIPESTATUS[0]}" -ne 0 ] || [ ! -x "$proved" ]; then
+        failed 'the program is not proved, so nothing was run'
+    fi
+    set_stamp "$proved" "$files"
+}
+
+# The commit of the repository, where git can say it, and whether files differ from it.
+commit_text() {
+    local commit
+    [ -e "$root/.git" ] || return
+    commit=$(git -C "$root" rev-parse --verify HEAD 2>/dev/null) || return
+    if [ -z "$(git --no-optional-locks -C "$root" status --porcelain 2>&1)" ]; then
+        printf 'commit %s\n' "$commit"
+    else
+        printf 'commit %s, with changes\n' "$commit"
+    fi
 }

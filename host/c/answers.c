@@ -12,8 +12,9 @@ static struct luspemaro_outcome answer_text(const struct rows *rows, const char 
 static bool answers(const struct rows *rows, const char *line, const char *answer)
 {
     struct luspemaro_outcome r = answer_text(rows, line, 2000);
-    return r.number == LUSPEMARO_DONE && r.length == strlen(answer) && r.count == lent_records_length() && front_untouched(OUT)
-           && memcmp(lent(OUT), answer, r.length) == 0 && all_are(lent(OUT) + r.length, 2000 - r.length, FILLER) && rows_untouched();
+    return r.number == LUSPEMARO_DONE && r.changed == 0 && r.length == strlen(answer) && r.count == lent_records_length()
+           && front_untouched(OUT) && memcmp(lent(OUT), answer, r.length) == 0
+           && all_are(lent(OUT) + r.length, 2000 - r.length, FILLER) && rows_untouched();
 }
 
 /* Whether the answer is this refusal, with the count that was passed, and no byte has changed. */
@@ -211,10 +212,11 @@ static void short_buffers(void)
 static void nothing_lent(void)
 {
     struct luspemaro_record none = {1, 2, 3, 4};
+    uint64_t number = SPARE_NUMBER;
     uint8_t nothing = FILLER;
-    struct luspemaro_outcome r = luspemaro_answer(&none, 0, 0, 0, &nothing, 0, &nothing, 0, &nothing, 0, &nothing, 0);
+    struct luspemaro_outcome r = luspemaro_answer(&none, 0, 0, 0, &nothing, 0, &number, 0, &nothing, 0, &nothing, 0, &nothing, 0);
     EXPECT(is_refusal(r, LUSPEMARO_REFUSAL_LINE_SHAPE));
-    EXPECT(nothing == FILLER && none.flags == 1 && none.start == 2 && none.len == 3 && none.readers == 4);
+    EXPECT(nothing == FILLER && number == SPARE_NUMBER && none.flags == 1 && none.start == 2 && none.len == 3 && none.readers == 4);
 }
 
 /* The room that suffices for every answer: here 512 rows of 16 levels, of which the pattern matches every ancestor and no row, so that

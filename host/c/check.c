@@ -171,6 +171,54 @@ size_t lent_records_length(void)
     return lent_length(RECORD) / sizeof(struct luspemaro_record);
 }
 
+/* ---- the summary */
+
+uint64_t *lent_summary(void)
+{
+    return (uint64_t *)lent(SUMMARY);
+}
+
+size_t lent_numbers(void)
+{
+    return lent_length(SUMMARY) / sizeof(uint64_t);
+}
+
+/* Whether the name of one record lies strictly below that of another. Names that do not lie in the area lie below none. */
+static bool is_below(const struct luspemaro_record *record, const struct luspemaro_record *above)
+{
+    size_t length = lent_length(NAMES);
+    if ((size_t)record->start + record->len > length || (size_t)above->start + above->len > length || record->len <= above->len)
+        return false;
+    const uint8_t *name = lent(NAMES) + record->start;
+    return name[above->len] == '/' && memcmp(name, lent(NAMES) + above->start, above->len) == 0;
+}
+
+uint64_t counted(size_t count, size_t record)
+{
+    static const uint64_t one = 1;
+    uint64_t number = 0;
+    for (size_t i = 0; i < count; i++) {
+        const struct luspemaro_record *below = lent_records() + i;
+        unsigned place = (below->flags & LUSPEMARO_FLAG_REMOTE) != 0 ? 16 : 0;
+        if (!is_below(below, lent_records() + record))
+            continue;
+        if ((below->flags & LUSPEMARO_FLAG_SUBSCRIBED) != 0)
+            number += one << place;
+        if ((below->flags & LUSPEMARO_FLAG_EXISTS) != 0)
+            number += one << (32 + place);
+    }
+    return number;
+}
+
+void lend_summary(size_t count, size_t numbers)
+{
+    if (count > lent_records_length())
+        count = lent_records_length();
+    lend(SUMMARY, numbers * sizeof(uint64_t));
+    for (size_t i = 0; i < count && i < numbers; i++)
+        lent_summary()[i] = counted(count, i);
+}
+
 /* Whether a whole row begins at this place. */
 static bool is_row(const struct rows *rows, size_t at)
 {
@@ -204,7 +252,14 @@ size_t lend_records(const struct rows *rows)
         records[count].len = 1;
         records[count].readers = LUSPEMARO_READERS_ALL;
     }
+    lend_summary(count + is_cut, count + is_cut);
     return count + is_cut;
+}
+
+/* The number of a spare record of a store. */
+static uint64_t spare_number(const struct stored_row *row)
+{
+    return row->flags == 0 && row->start == 0 && row->len == 0 && row->readers == 0 ? 0 : SPARE_NUMBER;
 }
 
 void lend_store(const struct store *store)
@@ -217,6 +272,9 @@ void lend_store(const struct store *store)
         lent_records()[i].len = (uint8_t)store->rows[i].len;
         lent_records()[i].readers = (uint8_t)store->rows[i].readers;
     }
+    lend_summary(store->count, store->records);
+    for (size_t i = store->count; i < store->records; i++)
+        lent_summary()[i] = spare_number(store->rows + i);
 }
 
 bool is_store(const struct store *store)
@@ -226,11 +284,13 @@ bool is_store(const struct store *store)
         const struct stored_row *row = store->rows + i;
         if (record->flags != row->flags || record->start != row->start || record->len != row->len || record->readers != row->readers)
             return false;
+        if (lent_summary()[i] != (i < store->count ? counted(store->count, i) : spare_number(row)))
+            return false;
     }
     for (size_t i = 0; i < lent_length(NAMES); i++)
         if (lent(NAMES)[i] != (store->names[i] == '?' ? 0 : (uint8_t)store->names[i]))
             return false;
-    return lent_records_length() == store->records && front_untouched(RECORD) && front_untouched(NAMES);
+    return lent_records_length() == store->records && front_untouched(RECORD) && front_untouched(NAMES) && front_untouched(SUMMARY);
 }
 
 /* ---- calls */
@@ -244,17 +304,24 @@ bool table_passes(const struct rows *rows)
 {
     if (form == PACKED)
         return luspemaro_check_table(lend_packed(rows), rows->length);
-    size_t count = lend_records(rows);
-    return luspemaro_check_records(lent_records(), count, count, lent(NAMES), lent_length(NAMES));
+    return lent_pass(lend_records(rows));
 }
 
-/* What the records and the names were before the last call that may change them. */
-static uint8_t records_before[AREA_ROOM], names_before[AREA_ROOM];
+bool lent_pass(size_t count)
+{
+    return luspemaro_check_records(lent_records(), lent_records_length(), count, lent(NAMES), lent_length(NAMES), lent_summary(),
+                                   lent_numbers());
+}
+
+/* What the records, the names and the summary were before the last call that may change them. */
+enum { KEPT = 3 };
+static const enum area kept[KEPT] = {RECORD, NAMES, SUMMARY};
+static uint8_t before[KEPT][AREA_ROOM];
 
 static void keep_rows(void)
 {
-    memcpy(records_before, lent(RECORD), lent_length(RECORD));
-    memcpy(names_before, lent(NAMES), lent_length(NAMES));
+    for (size_t i = 0; i < KEPT; i++)
+        memcpy(before[i], lent(kept[i]), lent_length(kept[i]));
 }
 
 struct luspemaro_outcome answer_lent(size_t count, const void *line, size_t line_length, size_t room)
@@ -262,25 +329,42 @@ struct luspemaro_outcome answer_lent(size_t count, const void *line, size_t line
     lend_bytes(LINE, line, line_length);
     lend(OUT, room);
     keep_rows();
-    return luspemaro_answer(lent_records(), lent_records_length(), count, reader, lent(NAMES), lent_length(NAMES), lent(NAMESPACES),
-                            lent_length(NAMESPACES), lent(LINE), line_length, lent(OUT), room);
+    return luspemaro_answer(lent_records(), lent_records_length(), count, reader, lent(NAMES), lent_length(NAMES), lent_summary(),
+                            lent_numbers(), lent(NAMESPACES), lent_length(NAMESPACES), lent(LINE), line_length, lent(OUT), room);
 }
 
 unsigned compact_lent(size_t count)
 {
     keep_rows();
-    return luspemaro_compact(lent_records(), lent_records_length(), count, lent(NAMES), lent_length(NAMES));
+    return luspemaro_compact(lent_records(), lent_records_length(), count, lent(NAMES), lent_length(NAMES), lent_summary(), lent_numbers());
+}
+
+unsigned summarize_lent(size_t count)
+{
+    keep_rows();
+    return luspemaro_summarize(lent_records(), lent_records_length(), count, lent(NAMES), lent_length(NAMES), lent_summary(),
+                               lent_numbers());
 }
 
 bool rows_untouched(void)
 {
-    return memcmp(records_before, lent(RECORD), lent_length(RECORD)) == 0 && front_untouched(RECORD)
-           && memcmp(names_before, lent(NAMES), lent_length(NAMES)) == 0 && front_untouched(NAMES);
+    for (size_t i = 0; i < KEPT; i++)
+        if (memcmp(before[i], lent(kept[i]), lent_length(kept[i])) != 0 || !front_untouched(kept[i]))
+            return false;
+    return true;
 }
 
 struct luspemaro_outcome answer_to(const struct rows *rows, const void *line, size_t line_length, size_t room)
 {
     return answer_lent(lend_records(rows), line, line_length, room);
+}
+
+/* The walk over the first count of the lent records, in the buffers that are lent. */
+static struct luspemaro_outcome walk_records(size_t count, unsigned option)
+{
+    return luspemaro_collect(lent_records(), lent_records_length(), count, reader, lent(NAMES), lent_length(NAMES), lent_summary(),
+                             lent_numbers(), (uint8_t)option, lent(SCRATCH), lent_length(SCRATCH), lent(FOUND), lent_length(FOUND),
+                             lent(PENDING), lent_length(PENDING));
 }
 
 struct luspemaro_outcome walk(const struct rows *rows, unsigned option, size_t scratch, size_t found, size_t pending)
@@ -291,9 +375,15 @@ struct luspemaro_outcome walk(const struct rows *rows, unsigned option, size_t s
     if (form == PACKED)
         return luspemaro_collect_packed(lend_packed(rows), rows->length, reader, (uint8_t)option, lent(SCRATCH), scratch, lent(FOUND),
                                         found, lent(PENDING), pending);
-    size_t count = lend_records(rows);
-    return luspemaro_collect(lent_records(), count, count, reader, lent(NAMES), lent_length(NAMES), (uint8_t)option, lent(SCRATCH),
-                             scratch, lent(FOUND), found, lent(PENDING), pending);
+    return walk_records(lend_records(rows), option);
+}
+
+struct luspemaro_outcome walk_lent(size_t count, unsigned option, size_t room)
+{
+    lend(SCRATCH, room);
+    lend(FOUND, room);
+    lend(PENDING, room);
+    return walk_records(count, option);
 }
 
 bool is_refusal(struct luspemaro_outcome outcome, unsigned number)
@@ -303,7 +393,7 @@ bool is_refusal(struct luspemaro_outcome outcome, unsigned number)
 
 bool is_refusal_of_rows(struct luspemaro_outcome outcome, unsigned number, size_t count)
 {
-    return outcome.number == number && outcome.length == 0 && outcome.count == count;
+    return outcome.number == number && outcome.changed == 0 && outcome.length == 0 && outcome.count == count;
 }
 
 /* ---- the tests */
@@ -330,9 +420,8 @@ static void run(const struct test *test, const char *note)
 int main(void)
 {
     static const struct test *const of_tables[] = {table_tests, walk_tests};
-    static const struct test *const others[] = {answer_tests, record_tests, edit_tests, compaction_tests,
-                                                reader_tests, check_tests,  line_tests, join_tests,
-                                                feeder_tests};
+    static const struct test *const others[] = {answer_tests,  record_tests, edit_tests, compaction_tests, reader_tests,
+                                                summary_tests, check_tests,  line_tests, join_tests,       feeder_tests};
     for (size_t group = 0; group < sizeof of_tables / sizeof of_tables[0]; group++) {
         form = PACKED;
         run(of_tables[group], ", packed");

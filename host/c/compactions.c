@@ -60,6 +60,7 @@ static void counts(void)
     static const struct store *const after[] = {&none, &one};
     for (size_t count = 0; count < 2; count++) {
         lend_store(&TREE);
+        lend_summary(count, TREE.records);
         EXPECT(compact_lent(count) == LUSPEMARO_DONE && is_store(after[count]));
     }
     lend_store(&TREE);
@@ -92,6 +93,7 @@ static void refusals(void)
     for (size_t length = LUSPEMARO_MAX_AREA; length <= LUSPEMARO_MAX_AREA + 1; length++) {
         memset(lend(NAMES, length), '-', length);
         lend(RECORD, 0);
+        lend_summary(0, 0);
         if (length > LUSPEMARO_MAX_AREA)
             EXPECT(refuses(0));
         else
@@ -128,6 +130,7 @@ static void lend_many(size_t rows, size_t length, size_t gap)
         records[row].len = (uint8_t)length;
         records[row].readers = (uint8_t)row;
     }
+    lend_summary(rows, rows);
 }
 
 /* Whether the names lie side by side, each before that of the row before it, and zeros after them. */
@@ -216,24 +219,15 @@ static void answers(void)
     }
 }
 
-static struct luspemaro_outcome walk_lent(uint8_t option)
-{
-    lend(SCRATCH, ROOM);
-    lend(FOUND, ROOM);
-    lend(PENDING, ROOM);
-    return luspemaro_collect(lent_records(), lent_records_length(), 3, reader, lent(NAMES), lent_length(NAMES), option, lent(SCRATCH),
-                             ROOM, lent(FOUND), ROOM, lent(PENDING), ROOM);
-}
-
 static void walks(void)
 {
     static uint8_t found[ROOM];
     for (unsigned option = 0; option <= 8; option++) {
         lend_store(&TREE);
-        struct luspemaro_outcome before = walk_lent((uint8_t)option);
+        struct luspemaro_outcome before = walk_lent(3, option, ROOM);
         memcpy(found, lent(FOUND), ROOM);
         compact_lent(3);
-        struct luspemaro_outcome after = walk_lent((uint8_t)option);
+        struct luspemaro_outcome after = walk_lent(3, option, ROOM);
         EXPECT(after.number == before.number && after.length == before.length && after.count == before.count);
         EXPECT(memcmp(found, lent(FOUND), ROOM) == 0);
     }

@@ -11,13 +11,15 @@ static struct luspemaro_outcome edit(size_t count, const char *line, size_t room
     return answer_lent(count, line, strlen(line), room);
 }
 
-/* Whether the edit is done with the OK line alone, gives this table and its count, and leaves the bytes after the line. */
+/* Whether the edit is done with the OK line alone, gives this table, its count and whether it is another one, and leaves the bytes after
+ * the line. */
 static bool makes(const struct store *before, const char *line, const struct store *after)
 {
     lend_store(before);
     struct luspemaro_outcome r = edit(before->count, line, ROOM);
-    return r.number == LUSPEMARO_DONE && r.length == OK_LENGTH && r.count == after->count && memcmp(lent(OUT), OK, OK_LENGTH) == 0
-           && all_are(lent(OUT) + OK_LENGTH, ROOM - OK_LENGTH, FILLER) && front_untouched(OUT) && is_store(after);
+    return r.number == LUSPEMARO_DONE && r.changed == (before != after) && r.length == OK_LENGTH && r.count == after->count
+           && memcmp(lent(OUT), OK, OK_LENGTH) == 0 && all_are(lent(OUT) + OK_LENGTH, ROOM - OK_LENGTH, FILLER) && front_untouched(OUT)
+           && is_store(after);
 }
 
 /* Whether the edit is refused so, with the count that was passed, and no byte changes. */
@@ -136,6 +138,7 @@ static void longest_name(void)
     for (size_t length = LUSPEMARO_MAX_NAME; length <= LUSPEMARO_MAX_NAME + 1; length++) {
         memset(lend(NAMES, LUSPEMARO_MAX_AREA), '-', LUSPEMARO_MAX_AREA);
         lend(RECORD, sizeof(struct luspemaro_record));
+        lend_summary(0, 1);
         memset(line, 'n', sizeof line);
         memcpy(line, "a SUBSCRIBE ", 12);
         memcpy(line + 12 + length, "\r\n", 2);
@@ -166,6 +169,7 @@ static void most_rows(void)
         records[row].len = 3;
         records[row].readers = (uint8_t)row;
     }
+    lend_summary(MANY, LENT);
     EXPECT(is_refusal_of_rows(edit(MANY, "a SUBSCRIBE x\r\n", ROOM), LUSPEMARO_REFUSAL_NO_ROOM, MANY) && rows_untouched());
     EXPECT(edit(MANY, "a SUBSCRIBE 007\r\n", ROOM).count == MANY && rows_untouched());
     EXPECT(edit(MANY, "a UNSUBSCRIBE 007\r\n", ROOM).count == MANY - 1 && all_are(lent(NAMES) + 21, 3, 0));
@@ -175,6 +179,8 @@ static void most_rows(void)
     EXPECT(records[6].readers == 6 && records[7].readers == LUSPEMARO_READERS_ALL && records[8].readers == 8);
     EXPECT(edit(MANY, "a UNSUBSCRIBE 0070\r\n", ROOM).count == MANY - 1);
     EXPECT(edit(MANY - 1, "a SUBSCRIBE xyz\r\n", ROOM).count == MANY && records[MANY - 1].start == 21);
+    EXPECT(all_are(lent(SUMMARY), MANY * sizeof(uint64_t), 0));
+    EXPECT(all_are(lent(SUMMARY) + MANY * sizeof(uint64_t), (LENT - MANY) * sizeof(uint64_t), FILLER) && front_untouched(SUMMARY));
 }
 
 const struct test edit_tests[] = {

@@ -12,7 +12,7 @@ static struct luspemaro_outcome answer_text(const struct rows *rows, const char 
 static bool answers(const struct rows *rows, const char *line, const char *answer)
 {
     struct luspemaro_outcome r = answer_text(rows, line, ROOM);
-    return r.number == LUSPEMARO_DONE && r.length == strlen(answer) && r.count == lent_records_length()
+    return r.number == LUSPEMARO_DONE && r.changed == 0 && r.length == strlen(answer) && r.count == lent_records_length()
            && memcmp(lent(OUT), answer, r.length) == 0 && all_are(lent(OUT) + r.length, ROOM - r.length, FILLER) && rows_untouched();
 }
 
@@ -168,7 +168,7 @@ static bool makes(const struct store *before, const char *line, const struct sto
 {
     lend_store(before);
     struct luspemaro_outcome r = answer_lent(before->count, line, strlen(line), 20);
-    return r.number == LUSPEMARO_DONE && r.count == after->count && is_store(after);
+    return r.number == LUSPEMARO_DONE && r.changed == (before != after) && r.count == after->count && is_store(after);
 }
 
 static bool refuses(const char *line, unsigned number)

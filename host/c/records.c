@@ -19,10 +19,11 @@ static void lend_places(const struct place *places, size_t count)
     lend_bytes(RECORD, records, count * sizeof records[0]);
 }
 
-/* Whether the first count of the lent records pass over the lent names. */
-static bool lent_pass(size_t count)
+/* Whether the first count of the lent records pass over the lent names, with a summary that is counted of them. */
+static bool counted_pass(size_t count)
 {
-    return luspemaro_check_records(lent_records(), lent_records_length(), count, lent(NAMES), lent_length(NAMES));
+    lend_summary(count, lent_records_length());
+    return lent_pass(count);
 }
 
 /* Names inside the area, in any order of their bytes, without overlap; the records ascend by name. */
@@ -58,7 +59,7 @@ static void layouts(void)
     for (size_t i = 0; i < sizeof cases / sizeof cases[0]; i++) {
         lend_places(cases[i].places, cases[i].count);
         lend_bytes(NAMES, cases[i].area, strlen(cases[i].area));
-        EXPECT(lent_pass(cases[i].count) == cases[i].good);
+        EXPECT(counted_pass(cases[i].count) == cases[i].good);
     }
 }
 
@@ -68,7 +69,7 @@ static void expect_place(unsigned start, unsigned len)
 {
     const struct place place = {start, len};
     lend_places(&place, 1);
-    EXPECT(lent_pass(1) == (1 <= len && len <= LUSPEMARO_MAX_NAME && start + len <= lent_length(NAMES)));
+    EXPECT(counted_pass(1) == (1 <= len && len <= LUSPEMARO_MAX_NAME && start + len <= lent_length(NAMES)));
 }
 
 static void every_place(void)
@@ -90,8 +91,8 @@ static void limits(void)
     for (size_t length = LUSPEMARO_MAX_AREA - 1; length <= LUSPEMARO_MAX_AREA + 1; length++) {
         memset(lend(NAMES, length), 'a', length);
         lend_places(ends, 2);
-        EXPECT(lent_pass(2) == (length == LUSPEMARO_MAX_AREA));
-        EXPECT(lent_pass(0) == (length <= LUSPEMARO_MAX_AREA));
+        EXPECT(counted_pass(2) == (length == LUSPEMARO_MAX_AREA));
+        EXPECT(counted_pass(0) == (length <= LUSPEMARO_MAX_AREA));
     }
     enum { MANY = LUSPEMARO_MAX_ROWS + 1 };
     struct luspemaro_record *records = (struct luspemaro_record *)lend(RECORD, MANY * sizeof *records);
@@ -104,7 +105,7 @@ static void limits(void)
         records[row].len = 2;
         records[row].readers = (uint8_t)row;
     }
-    EXPECT(lent_pass(LUSPEMARO_MAX_ROWS) && !lent_pass(MANY));
+    EXPECT(counted_pass(LUSPEMARO_MAX_ROWS) && !counted_pass(MANY));
 }
 
 /* Rows are the first records: those after them are not looked at, and no count above the records passes. */
@@ -115,10 +116,10 @@ static void counts(void)
     for (size_t lent_count = 0; lent_count <= 4; lent_count++) {
         lend_places(places, lent_count);
         for (size_t count = 0; count <= 5; count++)
-            EXPECT(lent_pass(count) == (count <= lent_count && count <= 2));
+            EXPECT(counted_pass(count) == (count <= lent_count && count <= 2));
         for (unsigned bit = 3; bit < 64; bit++)
-            EXPECT(!lent_pass((size_t)1 << bit) && !lent_pass(((size_t)1 << bit) + 2));
-        EXPECT(!lent_pass(SIZE_MAX));
+            EXPECT(!counted_pass((size_t)1 << bit) && !counted_pass(((size_t)1 << bit) + 2));
+        EXPECT(!counted_pass(SIZE_MAX));
     }
 }
 
@@ -128,16 +129,14 @@ enum { ROOM = 2000 };
 
 static struct luspemaro_outcome answer_text(size_t count, const char *line)
 {
+    lend_summary(count, lent_records_length());
     return answer_lent(count, line, strlen(line), ROOM);
 }
 
-static struct luspemaro_outcome walk_lent(size_t count, uint8_t option)
+static struct luspemaro_outcome walk_of(size_t count, unsigned option)
 {
-    lend(SCRATCH, ROOM);
-    lend(FOUND, ROOM);
-    lend(PENDING, ROOM);
-    return luspemaro_collect(lent_records(), lent_records_length(), count, reader, lent(NAMES), lent_length(NAMES), option,
-                             lent(SCRATCH), ROOM, lent(FOUND), ROOM, lent(PENDING), ROOM);
+    lend_summary(count, lent_records_length());
+    return walk_lent(count, option, ROOM);
 }
 
 /* Whether 1 is given before every other refusal, and the lent memory is as it is after a refusal. */
@@ -151,7 +150,7 @@ static bool refuses_table(size_t count)
                 && rows_untouched();
     lend(NAMESPACES, 0);
     for (unsigned option = 0; option <= 0xFF; option += 51)
-        holds = holds && is_refusal(walk_lent(count, (uint8_t)option), LUSPEMARO_REFUSAL_TABLE) && all_are(lent(SCRATCH), ROOM, 0)
+        holds = holds && is_refusal(walk_of(count, option), LUSPEMARO_REFUSAL_TABLE) && all_are(lent(SCRATCH), ROOM, 0)
                 && all_are(lent(FOUND), ROOM, 0) && all_are(lent(PENDING), ROOM, 0);
     return holds;
 }
@@ -181,7 +180,7 @@ static void count_of_an_answer(void)
     EXPECT(r.number == LUSPEMARO_DONE && r.count == 1 && r.length == strlen(one) && memcmp(lent(OUT), one, strlen(one)) == 0);
     EXPECT(answer_text(2, line).length > r.length && answer_text(0, line).length == strlen("a OK done\r\n"));
     EXPECT(is_refusal_of_rows(answer_text(3, line), LUSPEMARO_REFUSAL_TABLE, 3));
-    r = walk_lent(2, 0);
+    r = walk_of(2, 0);
     EXPECT(r.number == LUSPEMARO_DONE && r.count == 1 && r.length == 0);
 }
 
@@ -205,7 +204,7 @@ static void packed_in_place(void)
     form = PACKED;
     struct luspemaro_outcome packed = walk(table, 0, ROOM, ROOM, ROOM);
     memcpy(before, lent(FOUND), ROOM);
-    r = walk_lent(count, 0);
+    r = walk_of(count, 0);
     EXPECT(r.number == LUSPEMARO_DONE && r.length == packed.length && r.count == packed.count);
     EXPECT(memcmp(lent(FOUND), before, ROOM) == 0);
 }
@@ -216,8 +215,8 @@ static void lent_for_reading(void)
     size_t count = lend_records(table_e());
     EXPECT(answer_text(count, "a LIST \"\" *\r\n").number == LUSPEMARO_DONE && rows_untouched());
     EXPECT(answer_text(count, "a LSUB \"\" *\r\n").number == LUSPEMARO_DONE && rows_untouched());
-    EXPECT(lent_pass(count) && rows_untouched());
-    EXPECT(walk_lent(count, 0).number == LUSPEMARO_DONE && walk_lent(count, 9).number == LUSPEMARO_REFUSAL_OPTION && rows_untouched());
+    EXPECT(counted_pass(count) && rows_untouched());
+    EXPECT(walk_of(count, 0).number == LUSPEMARO_DONE && walk_of(count, 9).number == LUSPEMARO_REFUSAL_OPTION && rows_untouched());
 }
 
 const struct test record_tests[] = {

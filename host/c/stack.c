@@ -25,6 +25,7 @@ static void claim(bool holds, const char *entry, const char *input)
 
 static uint8_t table[LUSPEMARO_MAX_TABLE], area[LUSPEMARO_MAX_AREA], namespaces[LUSPEMARO_MAX_NAMESPACES], line[LUSPEMARO_MAX_COMMAND];
 static struct luspemaro_record records[LUSPEMARO_MAX_ROWS];
+static uint64_t summary[LUSPEMARO_MAX_ROWS];
 static size_t table_length, count, namespaces_length, line_length, tag_length, reference_length;
 static uint8_t out[LUSPEMARO_ROOM_ANSWER], scratch[LUSPEMARO_ROOM_SCRATCH], found[LUSPEMARO_ROOM_FOUND],
     pending[LUSPEMARO_ROOM_PENDING], command[LUSPEMARO_ROOM_COMMAND];
@@ -59,6 +60,29 @@ static void fill_tables(void)
         fill_name(area + start, row, NAME);
     }
     table_length = sizeof table;
+    count = LUSPEMARO_MAX_ROWS;
+    /* No row lies below another. */
+    memset(summary, 0, sizeof summary);
+}
+
+/* 32 names of 16 levels, each with a row for every level: as many rows below rows as may be, and free bytes after them. */
+static void fill_nested(void)
+{
+    size_t start = 0;
+    memset(area, 0, sizeof area);
+    for (unsigned row = 0; row < LUSPEMARO_MAX_ROWS; row++) {
+        unsigned name = row / LUSPEMARO_MAX_LEVELS, level = row % LUSPEMARO_MAX_LEVELS;
+        records[row].flags = FLAGS;
+        records[row].start = (uint16_t)start;
+        records[row].len = (uint8_t)(2 + 2 * level);
+        records[row].readers = LUSPEMARO_READERS_ALL;
+        area[start++] = (uint8_t)('a' + name / 8);
+        area[start++] = (uint8_t)('a' + name % 8);
+        for (; level > 0; level--) {
+            area[start++] = '/';
+            area[start++] = 'x';
+        }
+    }
     count = LUSPEMARO_MAX_ROWS;
 }
 
@@ -139,7 +163,7 @@ static uint8_t reader, option, number;
 
 static void call_check_records(void)
 {
-    truth = luspemaro_check_records(records, LUSPEMARO_MAX_ROWS, LUSPEMARO_MAX_ROWS, area, sizeof area);
+    truth = luspemaro_check_records(records, LUSPEMARO_MAX_ROWS, LUSPEMARO_MAX_ROWS, area, sizeof area, summary, LUSPEMARO_MAX_ROWS);
 }
 
 static void call_check_table(void)
@@ -164,19 +188,24 @@ static void call_match_steps(void)
 
 static void call_answer(void)
 {
-    outcome = luspemaro_answer(records, LUSPEMARO_MAX_ROWS, count, reader, area, sizeof area, namespaces, namespaces_length, line,
-                               line_length, out, sizeof out);
+    outcome = luspemaro_answer(records, LUSPEMARO_MAX_ROWS, count, reader, area, sizeof area, summary, LUSPEMARO_MAX_ROWS, namespaces,
+                               namespaces_length, line, line_length, out, sizeof out);
 }
 
 static void call_compact(void)
 {
-    number = luspemaro_compact(records, LUSPEMARO_MAX_ROWS, count, area, sizeof area);
+    number = luspemaro_compact(records, LUSPEMARO_MAX_ROWS, count, area, sizeof area, summary, LUSPEMARO_MAX_ROWS);
+}
+
+static void call_summarize(void)
+{
+    number = luspemaro_summarize(records, LUSPEMARO_MAX_ROWS, count, area, sizeof area, summary, LUSPEMARO_MAX_ROWS);
 }
 
 static void call_collect(void)
 {
-    outcome = luspemaro_collect(records, LUSPEMARO_MAX_ROWS, LUSPEMARO_MAX_ROWS, reader, area, sizeof area, option, scratch,
-                                sizeof scratch, found, sizeof found, pending, sizeof pending);
+    outcome = luspemaro_collect(records, LUSPEMARO_MAX_ROWS, LUSPEMARO_MAX_ROWS, reader, area, sizeof area, summary, LUSPEMARO_MAX_ROWS,
+                                option, scratch, sizeof scratch, found, sizeof found, pending, sizeof pending);
 }
 
 static void call_collect_packed(void)
@@ -332,6 +361,42 @@ static void measure_compactions(void)
     fill_tables();
 }
 
+static void measure_summary(const char *input, unsigned given)
+{
+    measure("summarize", input, LUSPEMARO_STACK_SUMMARIZE, call_summarize);
+    claim(number == given, "summarize", input);
+}
+
+/* Rows below rows: every entry that looks at the summary. */
+static void measure_nested(const struct entry *answer, const struct entry *walk)
+{
+    measure_summary("full records", LUSPEMARO_DONE);
+    fill_nested();
+    measure_summary("rows below rows", LUSPEMARO_DONE);
+    claim(summary[0] == UINT64_C(0x0000000F0000000F), "summarize", "fifteen rows below the first");
+    measure("check_records", "rows below rows", LUSPEMARO_STACK_CHECK_RECORDS, call_check_records);
+    claim(truth, "check_records", "rows below rows");
+    set_line("a LIST (SUBSCRIBED RECURSIVEMATCH) \"\" % RETURN (CHILDREN)\r\n");
+    measure_outcome(answer, "rows below rows", LUSPEMARO_DONE);
+    set_line("a UNSUBSCRIBE aa/x/x/x/x/x/x/x/x/x/x/x/x/x/x/x\r\n");
+    measure_outcome(answer, "a flag cleared below fifteen rows", LUSPEMARO_DONE);
+    claim(outcome.changed == 1 && summary[0] == UINT64_C(0x0000000F0000000E), "answer", "fourteen subscribed rows below the first");
+    option = 0;
+    measure_outcome(walk, "rows below rows", LUSPEMARO_DONE);
+    measure_compaction("rows below rows", LUSPEMARO_DONE);
+    count = LUSPEMARO_MAX_ROWS - 1;
+    measure_summary("511 rows", LUSPEMARO_DONE);
+    set_line("a SUBSCRIBE aa/x/x/x/x/x/x/x/x/x/x/x/x/x/x/y\r\n");
+    measure_outcome(answer, "a row inserted below fourteen rows", LUSPEMARO_DONE);
+    claim(outcome.count == LUSPEMARO_MAX_ROWS && summary[0] == UINT64_C(0x0000000F0000000F), "answer", "a row more below the first");
+    records[1].flags ^= LUSPEMARO_FLAG_SUBSCRIBED;
+    measure("check_records", "a summary that disagrees", LUSPEMARO_STACK_CHECK_RECORDS, call_check_records);
+    claim(!truth, "check_records", "a summary that disagrees");
+    records[1].len = 0;
+    measure_summary("a name without bytes", LUSPEMARO_REFUSAL_TABLE);
+    fill_tables();
+}
+
 static void measure_walks(const struct entry *entry)
 {
     option = 3;
@@ -425,6 +490,7 @@ int main(void)
     measure_answers(&answer);
     measure_edits(&answer);
     measure_compactions();
+    measure_nested(&answer, &walks[0]);
     for (size_t form = 0; form < 2; form++)
         measure_walks(&walks[form]);
     measure_lines();

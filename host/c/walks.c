@@ -32,7 +32,7 @@ static bool all_zero(void)
 static bool walks(const struct rows *rows, unsigned option, size_t count, const char *found, const char *pending)
 {
     struct luspemaro_outcome r = walk(rows, option, ROOM, ROOM, ROOM);
-    return r.number == LUSPEMARO_DONE && r.count == count && r.length == strlen(found) && holds(SCRATCH, "", 0)
+    return r.number == LUSPEMARO_DONE && r.changed == 0 && r.count == count && r.length == strlen(found) && holds(SCRATCH, "", 0)
            && holds(FOUND, found, strlen(found)) && holds(PENDING, pending, strlen(pending));
 }
 

@@ -3,7 +3,7 @@ change them, and copy back what changed.
 
 An entry is `fn NAME(records: &mut [Record], count: usize, ..) -> R` with the body
     let mut words = no_words();
-    let lent = copy_in(records, records.len(), &mut words);
+    let lent = copy_in(records, summary.len(), &mut words);
     let done = CORE(&mut words, lent, count, ..);
     copy_back(records, done.from, done.to, &words);
     done.FIELD
@@ -20,16 +20,15 @@ RUN = '(r .from) (r .to)'  # those of them that became others, by its result
 
 
 class Act:
-    """What is done over a store: the type of what it comes to, its names over records and over words, and the law that the one comes to
-    what the other does, with the record that says so."""
+    """What is done over a store: the type of what is handed back, its names over records and over words, and the law that the one hands back
+    what the other does, with what that takes after count and area, and the record that says so."""
 
-    def __init__(self, module, type_, lent, word, law, alike):
-        self.type, self.lent, self.word, self.law, self.alike = type_, lent, word, law, alike
-        self.uses = f'use Rattle.listing_rules.specs.{module}.{{{type_}}}\n'
+    def __init__(self, type_, lent, word, law, more, alike):
+        self.type, self.lent, self.word, self.law, self.more, self.alike = type_, lent, word, law, more, alike
 
 
-COMMAND = Act('Server', 'Commanded', 'lentCommand', 'wordCommand', 'answers', 'Answers')
-COMPACTION = Act('Compaction', 'Compaction', 'lentCompaction', 'wordCompaction', 'compacts', 'Compacts')
+COMMAND = Act('Handed', 'lentCommand', 'wordCommand', 'answers', ' reader namespaces line out', 'Answers')
+COMPACTION = Act('Moved', 'lentCompaction', 'wordCompaction', 'compacts', '', 'Compacts')
 
 
 class Done:
@@ -63,6 +62,7 @@ class EditEntry(Lender):
                          [('records', 'mut records'), ('count', 'usize')] + rest, result, clauses, uses, 'own_given')
         self.act, self.result_of_core = act, done
         self.value = result.lowered('(given r)')  # the machine value of what is returned
+        self.summary = next(p for p in self.params if p.name == 'summary')
         # the locals: the result, the parameters, the words, how many are lent, the core's result, and what the compiler adds for each operand
         self.lent, self.done, self.made, self.copying, self.lending = (self.p + k for k in (2, 3, 4, 5, 10))
         self.copied_back = self.lending + 2 + 2 * len(self.bytes)
@@ -72,8 +72,12 @@ class EditEntry(Lender):
         self.over_records = f'{act.lent} records {names}'
         self.over_words = f'{act.word} ({US}) n {names}'
         self.last = ''.join(f' (z3 {path(m.place + 1)})' for m in self.bytes)
-        self.answers = (f'({act.law} records xs ({US}) ({VS}) n {RUN} (is0 .1 .0 .1) (is2 .1 .0 .1) (is4 .1 .0 .1) e1 {names}'
-                        ' (s-words .0) (s-words .1) (z5 .0) e5)')
+        # as many words are lent as copy_in counted
+        self.lent_words = f'(lentOf ({US}) n summary)'
+        self.whole = f'(all-lent xs ({US}) n (is0 .1 .0 .1) (is2 .1 .0 .1) e1)'
+        self.answers = (f'({act.law} records xs ({US}) ({VS}) summary n {RUN} (is0 .1 .0 .1) (is2 .1 .0 .1) (is4 .1 .0 .1) e1 count area{act.more}'
+                        f' (subst (λ (k : ℕ). map recordOf (take k ({VS})) ≡ {self.over_words} .records) {self.whole} (s-words .0))'
+                        f' (subst (λ (k : ℕ). Between ({US}) ({VS}) k {RUN}) {self.whole} (s-words .1)) (z5 .0) e5)')
         self.given = ''.join(f' s-{c.name}' for c in clauses) + self.lengths
 
     # ---- The walk.
@@ -82,7 +86,7 @@ class EditEntry(Lender):
         at, r, first = self.place, self.records, self.copying
         again = f'T.the-row {r.block} {r.offset} {r.kappa} {r.share} {r.ghost}'
         self.passed_on(w, first, r)
-        w.set(first + 2, 'of-opd ! ' + w.ldf(1, 1), f'(tt, record {{ fits = {r.good} .0 }})')
+        w.set(first + 2, 'of-opd ! ' + w.ldf(self.summary.place + 1, 1), f'(tt, record {{ fits = {self.summary.good} .0 }})')
         self.whole_words(w, first + 3)
         w.say('-- copy_in has the records lent as `&` and the words as `&mut`, for two lifetimes of the call')
         self.parts(w)
@@ -91,12 +95,12 @@ class EditEntry(Lender):
             f'use2 W (later (some (λ (δ : GName). ‵ (ShrSlice (named 0) (ν ∷ []) T.the-row .own (shown δ) (at .0)) ⊛ ‵ (SharedAgain {again} (ν ∷ []) records))))'
             f' (shares-again {again} 𝓤 H A W (named 0) records (ν ∷ []) (named 0)) $ await ! tt $ pick ! (λ δ₀. split ! $', ['records', 'lft0'], ['shared', 'again'])
         self.lends(w, 'own_xs', 'μ', 'xs', 'v0', 'δ₁')
-        w.step(number_made('usize', '(length records)', f'{r.good} .0'), [], ['length'])
+        w.step(number_made('usize', '(length summary)', f'{self.summary.good} .0'), [], ['length'])
         to = f'(to-copy {at} ν μ δ₀ δ₁ xs)'
         self.hands(w, 'copy_in', to, ['shared', 'length', 'msl'], ['lftν', 'lftμ'])
         w.call('copy-in', to, [w.ld_later(first + 1), w.ld_later(first + 2), w.ld_later(first + 4)], 'v1')
         w.told('copy-in', '(ν ∷ [], (μ ∷ [], tt))', '(‵ (flft (ν ∷ []) fullShare) ⊛ ‵ (flft (μ ∷ []) fullShare) ⊛ ‵ ftrue)', 'usize', 'ℕ',
-               f'(shown δ₀, (length records, (words {at} δ₁ xs, tt)))', 'n', 'v1', [('e1', f'Copied records xs ({US}) n')], 'z1')
+               f'(shown δ₀, (length summary, (words {at} δ₁ xs, tt)))', 'n', 'v1', [('e1', f'Copied (length summary) records xs ({US}) n')], 'z1')
         self.counted(w, self.lent)
         w.split('fsplit', 'lasts', 'a0', 'a1', 'a2', 'a3').split('fsplit', 'a2', 'fin', 'len').split('split', 'toks', 'lftν', 'lftμ', 'true1')
         w.say('-- and both come back')
@@ -123,7 +127,7 @@ class EditEntry(Lender):
         self.hands(w, self.core[1], to, ['msl', 'lent2'] + owns, ['lftξ'] + self.tokens[1:])
         w.call(callee, to, [w.ld_later(self.lending + 1), w.ld_later(self.lent)] + operands, 'v3')
         told = [('s-' + c.name, f'Says-{c.name} ({self.over_words}) (given r){self.last}') for c in self.clauses]
-        told.append(('s-words', f'(map recordOf (take n ({VS})) ≡ {self.over_words} .store .records) × Between ({US}) ({VS}) n {RUN}'))
+        told.append(('s-words', f'(map recordOf (take {self.lent_words} ({VS})) ≡ {self.over_words} .records) × Between ({US}) ({VS}) {self.lent_words} {RUN}'))
         w.told(callee, self.core_lifetimes('ξ ∷ []'), self.core_tokens('ξ'), r.row, r.denot, self.core_args(f'words {self.place} δ₂ ({US})', 'n'), 'r', 'v3', told, 'z3')
         w.opens(f'peeks ! {r.row} (Is {r.row}) (shows 𝓤 H A {r.row}) r (v3 ∷ []) (λ is3.', [], [])
         w.say(f'land ! (from ! (stop !)) (init ! {w.at(self.done)} refl ({r.lawful} .typed r _ is3 .0)) $')
@@ -202,6 +206,10 @@ given-is : (r : {core}) (v : Val) → Is D.the-row r (v ∷ []) → Is {self.res
 
   -- what is promised of what comes of it, and that it is so of what is the same
 {kept}
+  -- all that `copy_in` copied are lent
+  all-lent : (xs us : List ℕ) (n : ℕ) → length xs ≡ 512 → length us ≡ 512 → Copied (length summary) records xs us n → lentOf us n summary ≡ n
+  all-lent xs us n l k c = let e : n ≡ min (length summary) (min (length records) (length xs)) = c .0 in omega (arith, l, k, e)
+
   module _ (c d : {self.act.type}) (records′ : List Record) (a : {self.act.alike} c d records′) (r : {self.result.denot}){self.lists} where
 {moved}'''
 
@@ -213,13 +221,13 @@ given-is : (r : {core}) (v : Val) → Is D.the-row r (v ∷ []) → Is {self.res
         return f'r v records′{self.primes} c a{self.given}'
 
     def stated(self):
-        return self.each_stated([f'(Says-{c.name} ({self.over_records}) r{self.primes})' for c in self.clauses] + [f'(map meant records′ ≡ {self.over_records} .store .records)'],
+        return self.each_stated([f'(Says-{c.name} ({self.over_records}) r{self.primes})' for c in self.clauses] + [f'(map meant records′ ≡ {self.over_records} .records)'],
                                 [f'moved-{c.name} c ({self.over_records}) records′ a r{self.primes} s-{c.name}' for c in self.clauses] + ['a .records'])
 
     def to_callees(self):
         r, core = self.records, capital(self.core[1])
         return f'''  abbrev to-copy : ℕ → ℕ → ℕ → GName → GName → List ℕ → CopyIn 𝓤 H A mem run .Ghost
-  to-copy l ν μ δ₀ δ₁ xs = (((ν ∷ [], (μ ∷ [], tt)), (fullShare, (fullShare, tt)), tt, (shown δ₀, (length records, (words l δ₁ xs, tt))), (at .0, (vint w64 (length records) ∷ [], (sliceVal (l, 0) 512 ∷ [], tt)))), tt)
+  to-copy l ν μ δ₀ δ₁ xs = (((ν ∷ [], (μ ∷ [], tt)), (fullShare, (fullShare, tt)), tt, (shown δ₀, (length summary, (words l δ₁ xs, tt))), (at .0, (vint w64 (length summary) ∷ [], (sliceVal (l, 0) 512 ∷ [], tt)))), tt)
 
   abbrev to-core : ℕ → ℕ → GName → List ℕ → ℕ → {core} 𝓤 H A mem run .Ghost
   to-core l ξ δ us n = (({self.core_lifetimes('ξ ∷ []')}, {nested(['fullShare'] + [p.share for p in self.slices[1:]])}, tt, {self.core_args('words l δ us', 'n')}, {nested(['sliceVal (l, 0) 512 ∷ []', 'vint w64 n ∷ []'] + ['at ' + p.path for p in self.params[1:]])}), tt)
@@ -234,9 +242,11 @@ given-is : (r : {core}) (v : Val) → Is D.the-row r (v ∷ []) → Is {self.res
 -- meet their contracts; that these give what is promised is `{self.act.law}` of StoreLaws.'''
         specs, proofs = specs_of('records', self.crate), proofs_of('records', self.crate)
         return self.file(doc, f'''use denote.Plain.{{Nothing}}
-{self.act.uses}use {specs}.declared.Record.{{Record}}
+use {specs}.declared.Record.{{Record}}
 use {specs}.Words.{{recordOf, meant}}
-use {specs}.Stores.{{{self.act.lent}, {self.act.word}, Between}}
+use {specs}.Numbers.{{summaryOf}}
+use {specs}.Lent.{{lentOf}}
+use {specs}.Stores.{{{self.act.type}, {self.act.lent}, {self.act.word}, Between}}
 use {proofs}.Relend.{{SharedAgain, shares-again, again-back}}
 use {proofs}.StoreLaws.{{Copied, CopiedBack, {self.act.alike}, {self.act.law}}}
 use {proofs}.Clauses.{{says-each}}

@@ -1,12 +1,13 @@
 """Writes the walk of each entry that takes records: what it is called, its core, its parameters, and what it promises."""
 from edit_entry import COMMAND, COMPACTION, Done, edit_entry
-from entry import Clause, declared, entry, number, truth
+from entry import PLAIN, ROWS, SEEN, Clause, declared, entry, number, truth
 from head import specs_of
 
-TABLE = [('area', 'shr')]
-MOVING = [('area', 'mut')]
-EDIT = [('reader', 'u8'), ('area', 'mut'), ('namespaces', 'shr'), ('line', 'shr'), ('out', 'mut')]
-WALK = [('reader', 'u8'), ('area', 'shr'), ('option', 'u8'), ('scratch', 'mut'), ('found', 'mut'), ('pending', 'mut')]
+TABLE = [('area', 'shr'), ('summary', 'shr64')]
+COUNTING = [('area', 'shr'), ('summary', 'mut64')]
+MOVING = [('area', 'mut'), ('summary', 'shr64')]
+EDIT = [('reader', 'u8'), ('area', 'mut'), ('summary', 'mut64'), ('namespaces', 'shr'), ('line', 'shr'), ('out', 'mut')]
+WALK = [('reader', 'u8'), ('area', 'shr'), ('summary', 'shr64'), ('option', 'u8'), ('scratch', 'mut'), ('found', 'mut'), ('pending', 'mut')]
 
 # a collection: what is lent, and that it is the same of tables that are alike
 LENT = 'option scratch found pending'
@@ -34,19 +35,27 @@ COLLECTOR = ('use Rattle.listing_rules.specs.Walk.{scratchAfter, foundAfter, pe
 OUTCOME = declared('exports', 'outcomes.Outcome', 'exports')
 OUTCOMES = 'use ' + specs_of('exports', 'exports') + '.Outcomes.'
 
-entry('exports', 'luspemaro_check_records', ('mailbox_table', 'check_words'), TABLE, truth(), passing(), 'use Rattle.listing_rules.specs.Table.{passes}\n')
+entry('exports', 'luspemaro_check_records', ('summary', 'check_summed'), TABLE, truth(), passing(), 'use Rattle.listing_rules.specs.Table.{passes}\n', ROWS)
+
+FIRST = 'summarized t (map summaryOf summary)'
+FIRST_ALIKE = 'summarized-alike t u (map summaryOf summary) a'
+entry('exports', 'luspemaro_summarize', ('summary', 'summarize_words'), COUNTING, number('u8'),
+      [Clause('result', f'r ≡ {FIRST} .number', f'e ∙ ap (λ (m : Summarized). m .number) ({FIRST_ALIKE})'),
+       Clause('summary', f'map summaryOf summary′ ≡ {FIRST} .summary', f'e ∙ ap (λ (m : Summarized). m .summary) ({FIRST_ALIKE})')],
+      'use Rattle.listing_rules.specs.Summary.{Summarized, summarized}\nuse Rattle.records.specs.Numbers.{summaryOf}\n', PLAIN)
 
 edit_entry('exports', 'luspemaro_answer', ('exports', 'answer_words'), EDIT, COMMAND, Done('exports', 'outcomes.Done', 'exports', ['outcome', 'from', 'to'], 'outcome'), OUTCOME,
-           [Clause('result', 'r ≡ outcomeOf (c .reply) (c .store .count)', 'e ∙ (λ i. outcomeOf (a .reply i) (a .count i))'),
+           [Clause('result', 'r ≡ outcomeOf (c .reply) (c .changed) (c .count)', 'e ∙ (λ i. outcomeOf (a .reply i) (a .changed i) (a .count i))'),
             Clause('bytes', 'out′ ≡ bufferAfter out (c .reply)', 'e ∙ ap (bufferAfter out) (a .reply)'),
-            Clause('area', 'area′ ≡ c .store .area', 'e ∙ a .area')],
+            Clause('area', 'area′ ≡ c .area', 'e ∙ a .area'),
+            Clause('summary', 'map summaryOf summary′ ≡ c .summary', 'e ∙ a .summary')],
            'use Rattle.listing_rules.specs.Server.{bufferAfter}\n' + OUTCOMES + '{outcomeOf}\n')
 
 edit_entry('exports', 'luspemaro_compact', ('compaction', 'compact_words'), MOVING, COMPACTION,
            Done('compaction', 'Compacted', 'exports', ['number', 'from', 'to'], 'number'), number('u8'),
-           [Clause('result', 'r ≡ c .number', 'e ∙ a .number'), Clause('area', 'area′ ≡ c .store .area', 'e ∙ a .area')], '')
+           [Clause('result', 'r ≡ c .number', 'e ∙ a .number'), Clause('area', 'area′ ≡ c .area', 'e ∙ a .area')], '')
 
 entry('exports', 'luspemaro_collect', ('exports', 'collect_words'), WALK, OUTCOME,
       collected(f'r ≡ walkOutcome (collectedBy reader t {LENT})', f'e ∙ ap walkOutcome ({COLLECTED_ALIKE})', f'(collectedOf reader t {LENT})')
       + [Clause('numbers', 'allowedOutcome r ≡ true', 'e')],
-      'use mathlib.Core.Bool.{true}\n' + COLLECTOR + OUTCOMES + '{walkOutcome, allowedOutcome}\n')
+      'use mathlib.Core.Bool.{true}\n' + COLLECTOR + OUTCOMES + '{walkOutcome, allowedOutcome}\n', SEEN)

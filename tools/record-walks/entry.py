@@ -45,9 +45,9 @@ class Param:
     def __init__(self, place, name, kind, lifetime):
         self.place, self.name, self.kind = place, name, kind
         self.path = path(place)
-        self.slice = kind in ('records', 'mut records', 'shr', 'mut')
-        self.mut = kind in ('mut records', 'mut')
-        self.row = 'T.the-row' if 'records' in kind else 'u8' if self.slice else kind
+        self.slice = kind in ('records', 'mut records', 'shr', 'mut', 'shr64', 'mut64')
+        self.mut = kind in ('mut records', 'mut', 'mut64')
+        self.row = 'T.the-row' if 'records' in kind else 'u64' if kind.endswith('64') else 'u8' if self.slice else kind
         self.good = 'good-' + name
         if self.slice:
             s = SUBSCRIPTS[lifetime]
@@ -135,27 +135,32 @@ def declared(crate, name, own, short='R'):
 
 
 class Tables:
-    """The tables that the clauses speak of: their names in a clause, and the names of those that are alike to them; what each is called, after
-    `word` or `lent`; what says that they are alike, and its law; and the file of laws, by its crate, with what is used of it."""
+    """The tables that the clauses speak of: their names in a clause, and the names of those that are alike to them; what each is called over
+    words and over records; what says that they are alike, its law and what that takes at its end; and the imports, each with its crate."""
 
-    def __init__(self, names, others, called, alike, law, laws):
-        self.names, self.others, self.called, self.alike, self.law, self.laws = names, others, called, alike, law, laws
-        self.types = 'Table → ' * len(called)
+    def __init__(self, names, others, words, lents, alike, law, last, imports):
+        self.names, self.others, self.words, self.lents, self.alike, self.law, self.last, self.imports = names, others, words, lents, alike, law, last, imports
+        self.types = 'Table → ' * len(words)
 
     def word(self, words):
-        return ' '.join(f'(word{c} area (take n {words}) count)' for c in self.called)
+        return ' '.join(f'({c} (take n {words}) count area summary)' for c in self.words)
 
     def lent(self):
-        return ' '.join(f'(lent{c} area records count)' for c in self.called)
+        return ' '.join(f'({c} records count area summary)' for c in self.lents)
 
     def uses(self, own):
-        crate, file = self.laws
-        return f'use {specs_of("records", own)}.Lent.{{lentTable, wordTable, lentSeen, wordSeen}}\nuse {proofs_of(crate, own)}.{file}\n'
+        kinds = {'specs': specs_of, 'proofs': proofs_of}
+        return ''.join(f'use {kinds[kind](crate, own)}.{names}\n' for kind, crate, names in self.imports)
 
 
-ROWS = Tables('t', 'u', ['Table'], 'Alike', 'words-alike area', ('records', 'WordsAlike.{words-alike}'))
-SEEN = Tables('all t', 'every u', ['Table', 'Seen reader'], 'SeenAlike', 'words-seen-alike reader area',
-              ('collector', 'SeenAlike.{SeenAlike, words-seen-alike, owes-alike}'))
+LENT_SPECS = ('specs', 'records', 'Lent.{lentTable, wordsTable, lentSeen, wordsSeen}')
+ROWS = Tables('t', 'u', ['wordsTable'], ['lentTable'], 'Alike', 'words-alike', '', [LENT_SPECS, ('proofs', 'records', 'WordsAlike.{words-alike}')])
+SEEN = Tables('all t', 'every u', ['wordsTable', 'wordsSeen reader'], ['lentTable', 'lentSeen reader'], 'SeenAlike', 'words-seen-alike', ' reader',
+              [LENT_SPECS, ('proofs', 'records', 'WordsAlike.{SeenAlike, words-seen-alike}'), ('proofs', 'collector', 'SeenAlike.{owes-alike}')])
+# the table that a first summary is counted for
+PLAIN = Tables('t', 'u', ['numberedTable'], ['plainTable'], 'Alike', 'numbered-alike', '',
+               [('specs', 'summary', 'Counts.{numberedTable}'), ('specs', 'exports', 'Outcomes.{plainTable}'),
+                ('proofs', 'exports', 'NumberedLaws.{numbered-alike, summarized-alike}')])
 
 
 class Clause:
@@ -178,7 +183,7 @@ class Lender:
             self.params.append(Param(place, name, kind, sum(p.slice for p in self.params)))
         self.slices = [p for p in self.params if p.slice]
         self.muts = [p for p in self.params if p.mut]
-        self.bytes = [p for p in self.muts if p.kind == 'mut']
+        self.bytes = [p for p in self.muts if p.kind in ('mut', 'mut64')]
         self.records, self.count = self.params[:2]
         self.p = len(self.params)
         self.words = self.p + 1  # the local that has the words; the entries set those after it
@@ -383,10 +388,10 @@ module _ {{M : Type 1}} (𝓤 : URA M) (H : Heap 𝓤) (A : Atoms 𝓤) (W : Giv
 class Entry(Lender):
     """`core` is a crate and a function; `rest` are the names and kinds of the parameters after the records and their count."""
 
-    def __init__(self, crate, fn, core, rest, result, clauses, uses):
+    def __init__(self, crate, fn, core, rest, result, clauses, uses, tables):
         super().__init__(crate, fn, core, [('records', 'no_words'), ('records', 'copy_in'), core], [('records', 'records'), ('count', 'usize')] + rest,
                          result, clauses, uses, 'own_r')
-        self.tables = SEEN if any(p.name == 'reader' for p in self.params) else ROWS
+        self.tables = tables
         # the locals: the result, the parameters, the words, their count, and what the compiler adds for each operand
         self.copied, self.made = self.p + 2, self.p + 3
         self.locals = self.p + 8 + 2 * len(self.muts)
@@ -484,7 +489,7 @@ class Entry(Lender):
   held xs us n l k c = let e : n ≡ min count (min (length records) (length xs)) = c .0 in omega (arith, l, k, e)
 
   same : (xs us : List ℕ) (n : ℕ) → length xs ≡ 512 → Copied xs us n → {tables.alike} {tables.word('us')} {tables.lent()}
-  same xs us n l c = {tables.law} records us count n (c .0 ∙ ap (λ (k : ℕ). min count (min (length records) k)) l) (c .2)
+  same xs us n l c = {tables.law} records us count area summary n (c .0 ∙ ap (λ (k : ℕ). min count (min (length records) k)) l) (c .2){tables.last}
 '''
 
     def told_type(self):
@@ -524,6 +529,6 @@ use {specs}.Words.{{wordOf, recordOf, meant}}
 ''')
 
 
-def entry(crate, fn, core, rest, result, clauses, uses):
-    """Writes the walk of an entry; `uses` are the imports that its clauses need."""
-    write(crate, fn, Entry(crate, fn, core, rest, result, clauses, uses).text())
+def entry(crate, fn, core, rest, result, clauses, uses, tables):
+    """Writes the walk of an entry; `uses` are the imports that its clauses need, `tables` what these speak of."""
+    write(crate, fn, Entry(crate, fn, core, rest, result, clauses, uses, tables).text())

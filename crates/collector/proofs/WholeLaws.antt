@@ -11,9 +11,9 @@ use Rattle.listing_rules.specs.Demand3.{Demand3, meetingNames, meetingAncestors
 use Rattle.listing_rules.specs.Sending.{allowedWalk}
 use Rattle.listing_rules.proofs.Demand3.{demand-3-holds}
 use Rattle.listing_rules.proofs.OwnCommands.{walk-allowed}
-use Rattle.collector.specs.Result.{collectedIs, numberOfWalk, isAllowed, countOf, lengthOf, collectedOf, scratchOf, foundOf, pendingOf, WholeWalk}
-use Rattle.collector.specs.Result.{OwesDemand3}
-use Rattle.collector.specs.Ends.{Comes}
+use Rattle.collector.specs.Result.{collectedIs, numberOfWalk, isAllowed, countOf, lengthOf, collectedOf, scratchOf, foundOf, pendingOf}
+use Rattle.collector.specs.Result.{WholeWalk, OwesDemand3}
+use Rattle.collector.specs.Ends.{Comes, Collects}
 use Rattle.collector.specs.declared.Collected.{Collected}
 use Rattle.collector.specs.declared.Collected.the-variants.{Done, Refused}
 
@@ -39,30 +39,31 @@ unfolding isAllowed collectedIs allowedWalk
 allowed-of-walk (walkRefused k) = refl
 allowed-of-walk (walked count f p) = refl
 
--- 16, "1, 6, then the walk", over the table that the reader sees
+pub refuses-option : (table : Table) (o : ℕ) (scratch found pending : List ℕ) → passes table ≡ true → lawfulByte o ≡ false →
+    collected table o scratch found pending ≡ walkRefused 6
+unfolding collected walk
+refuses-option table o scratch found pending e g = rw (e, g)
+
+-- 16, 1, then the walk, over the table that the reader sees
 module _ (reader : ℕ) (table : Table) (o : ℕ) (scratch found pending : List ℕ) where
   pub refuses-reader : 7 < reader → collectedBy reader table o scratch found pending ≡ walkRefused 16
   unfolding collectedBy walkBy isReader
   refuses-reader h = rw (lt-leb reader 7 h)
 
   -- a reader up to 7 is walked for
-  pub reader-walks : reader ≤ 7 → collectedBy reader table o scratch found pending ≡ collected table o scratch found pending
-  unfolding collectedBy walkBy isReader collected
-  reader-walks h = rw (le-leb reader 7 h)
+  pub reader-walks : isReader reader ≡ true → collectedBy reader table o scratch found pending ≡ collected table o scratch found pending
+  unfolding collectedBy walkBy collected
+  reader-walks h = rw h
 
   pub refuses-table : reader ≤ 7 → passes table ≡ false → collectedBy reader table o scratch found pending ≡ walkRefused 1
   unfolding collectedBy walkBy isReader walk
   refuses-table h e = rw (le-leb reader 7 h, e)
 
-  pub refuses-option : reader ≤ 7 → passes table ≡ true → lawfulByte o ≡ false → collectedBy reader table o scratch found pending ≡ walkRefused 6
-  unfolding collectedBy walkBy isReader walk
-  refuses-option h e g = rw (le-leb reader 7 h, e, g)
-
-  -- the walk goes by the lengths of the buffers
-  pub collected-by-long : (s f p : List ℕ) → length s ≡ length scratch → length f ≡ length found → length p ≡ length pending →
-      collectedBy reader table o s f p ≡ collectedBy reader table o scratch found pending
-  unfolding collectedBy
-  collected-by-long s f p ls lf lp = λ i. walkBy reader table o (ls i) (lf i) (lp i)
+  -- and the walk goes by the lengths of the buffers
+  pub reader-walks-long : isReader reader ≡ true → (f p : List ℕ) → length f ≡ length found → length p ≡ length pending →
+      collected table o scratch f p ≡ collectedBy reader table o scratch found pending
+  unfolding collected
+  reader-walks-long h f p lf lp = (λ i. walk table o (length scratch) (lf i) (lp i)) ∙ sym (reader-walks h)
 
 -- the promise of `collect`, of its answer and what lies in the buffers after it: of the rows that the reader sees, and of all where they pass
 abbrev pub Promise : ℕ → Table → Table → ℕ → List ℕ → List ℕ → List ℕ → Collected → List ℕ → List ℕ → List ℕ → Type 0
@@ -73,56 +74,57 @@ Promise reader all table o scratch found pending r s f p =
     × ((p ≡ pendingOf reader table o scratch found pending)
     × (OwesDemand3 reader all table o scratch found pending r f p × (isAllowed r ≡ true)))))
 
--- it is one of tables that are the same
-pub promise-same : (reader o : ℕ) (scratch found pending : List ℕ) (r : Collected) (s f p : List ℕ) {all every t u : Table} → all ≡ every → t ≡ u
-    → Promise reader all t o scratch found pending r s f p → Promise reader every u o scratch found pending r s f p
-promise-same reader o scratch found pending r s f p {all} {every} {t} {u} a e held =
-    subst (λ (v : Table). Promise reader v u o scratch found pending r s f p) a
-    (subst (λ (v : Table). Promise reader all v o scratch found pending r s f p) e held)
+-- it follows from the answer and what lies in the buffers, where what is seen passes as all rows do; and so it does from those over a table that is the same
+pub promised : (reader : ℕ) (all table : Table) (o : ℕ) (scratch found pending : List ℕ) → passes table ≡ passes all →
+    (r : Collected) (s f p : List ℕ) → Collects reader table o scratch found pending r s f p →
+    Promise reader all table o scratch found pending r s f p
+unfolding collectedBy walkBy
+promised reader all table o scratch found pending alike r s f p c = (c .0, (c .1, (c .2, (c .3, (whole, numbers)))))
+  where
+    numbers : isAllowed r ≡ true
+    numbers =
+        ap isAllowed (c .0) ∙ allowed-of-walk (collectedBy reader table o scratch found pending)
+        ∙ walk-allowed reader table o (length scratch) (length found) (length pending)
 
--- what is seen passes where all rows do
-module _ (reader : ℕ) (all table : Table) (o : ℕ) (scratch found pending : List ℕ) (alike : passes table ≡ passes all) where
-  promised : (r : Collected) (s f p : List ℕ) → r ≡ collectedOf reader table o scratch found pending →
-      s ≡ scratchOf reader table o scratch found pending →
-      f ≡ foundOf reader table o scratch found pending → p ≡ pendingOf reader table o scratch found pending →
-      Promise reader all table o scratch found pending r s f p
-  unfolding collectedBy walkBy
-  promised r s f p er es ef ep = (er, (es, (ef, (ep, (whole, numbers)))))
-    where
-      numbers : isAllowed r ≡ true
-      numbers =
-          ap isAllowed er ∙ allowed-of-walk (collectedBy reader table o scratch found pending)
-          ∙ walk-allowed reader table o (length scratch) (length found) (length pending)
+    whole : OwesDemand3 reader all table o scratch found pending r f p
+    whole is ok lawful =
+        let by : walkBy reader table o (length scratch) (length found) (length pending) ≡ walk table o (length scratch) (length found)
+        (length pending) = rw is in
+        record {
+          reply = walk table o (length scratch) (length found) (length pending);
+          owed = demand-3-holds table o (length scratch) (length found) (length pending) (alike ∙ ok) lawful;
+          result = c .0 ∙ ap collectedIs by;
+          found-holds = c .2 ∙ ap (foundAfter (length found)) by;
+          pending-holds = c .3 ∙ ap (pendingAfter (length pending)) by;
+        }
 
-      whole : OwesDemand3 reader all table o scratch found pending r f p
-      whole is ok lawful =
-          let by : walkBy reader table o (length scratch) (length found) (length pending) ≡ walk table o (length scratch) (length found)
-          (length pending) = rw is in
-          record {
-            reply = walk table o (length scratch) (length found) (length pending);
-            owed = demand-3-holds table o (length scratch) (length found) (length pending) (alike ∙ ok) lawful;
-            result = er ∙ ap collectedIs by;
-            found-holds = ef ∙ ap (foundAfter (length found)) by;
-            pending-holds = ep ∙ ap (pendingAfter (length pending)) by;
-          }
+pub promised-same : (reader : ℕ) (all table : Table) (o : ℕ) (scratch found pending : List ℕ) → passes table ≡ passes all →
+    (r : Collected) (s f p : List ℕ) {held : Table} → held ≡ table → Collects reader held o scratch found pending r s f p
+    → Promise reader all table o scratch found pending r s f p
+promised-same reader all table o scratch found pending alike r s f p e c =
+    promised reader all table o scratch found pending alike r s f p (subst (λ (v : Table). Collects reader v o scratch found pending r s f p) e c)
 
-  module _ {s f p : List ℕ} (zs : s ≡ replicate (length scratch) 0) where
-    pub promise-refused : {r : Collected} {k : ℕ} → r ≡ Refused k → collectedBy reader table o scratch found pending ≡ walkRefused k
-        → f ≡ replicate (length found) 0 → p ≡ replicate (length pending) 0 → Promise reader all table o scratch found pending r s f p
-    unfolding collectedIs scratchAfter foundAfter pendingAfter
-    promise-refused {r} {k} er e zf zp =
-        promised r s f p (er ∙ sym (ap collectedIs e)) zs (zf ∙ sym (ap (foundAfter (length found)) e))
-        (zp ∙ sym (ap (pendingAfter (length pending)) e))
+-- of a walk that was refused, and of one that came to its end
+module _ (reader : ℕ) (table : Table) (o : ℕ) (scratch found pending : List ℕ) {s f p : List ℕ} (zs : s ≡ replicate (length scratch) 0) where
+  pub collects-refused : {r : Collected} {k : ℕ} → r ≡ Refused k → collectedBy reader table o scratch found pending ≡ walkRefused k
+      → f ≡ replicate (length found) 0 → p ≡ replicate (length pending) 0 → Collects reader table o scratch found pending r s f p
+  unfolding collectedIs scratchAfter foundAfter pendingAfter
+  collects-refused {r} {k} er e zf zp = (
+    er ∙ sym (ap collectedIs e),
+    zs,
+    zf ∙ sym (ap (foundAfter (length found)) e),
+    zp ∙ sym (ap (pendingAfter (length pending)) e),
+  )
 
-    pub promise-done : {count len : ℕ} → Comes (collectedBy reader table o scratch found pending) f p count len → length f ≡ length found →
-        length p ≡ length pending → Promise reader all table o scratch found pending (Done count len) s f p
-    unfolding collectedIs scratchAfter foundAfter pendingAfter
-    promise-done {count} {len} C lf lp =
-        promised (Done count len) s f p
-        (ap (Done count) (C .counted) ∙ sym (ap collectedIs (C .is)))
-        zs
-        (C .found ∙ ap (λ (k : ℕ). zeroBehind k (C .finds)) lf ∙ sym (ap (foundAfter (length found)) (C .is)))
-        (C .pending ∙ ap (λ (k : ℕ). zeroBehind k (C .asks)) lp ∙ sym (ap (pendingAfter (length pending)) (C .is)))
+  pub collects-done : {count len : ℕ} → Comes (collectedBy reader table o scratch found pending) f p count len → length f ≡ length found →
+      length p ≡ length pending → Collects reader table o scratch found pending (Done count len) s f p
+  unfolding collectedIs scratchAfter foundAfter pendingAfter
+  collects-done {count} {len} C lf lp = (
+    ap (Done count) (C .counted) ∙ sym (ap collectedIs (C .is)),
+    zs,
+    C .found ∙ ap (λ (k : ℕ). zeroBehind k (C .finds)) lf ∙ sym (ap (foundAfter (length found)) (C .is)),
+    C .pending ∙ ap (λ (k : ℕ). zeroBehind k (C .asks)) lp ∙ sym (ap (pendingAfter (length pending)) (C .is)),
+  )
 
 -- a reply by the collector's answer
 reply-refused : (w : WalkReply) {k : ℕ} → collectedIs w ≡ Refused k → w ≡ walkRefused k

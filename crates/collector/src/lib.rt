@@ -4,30 +4,27 @@
 // else. A command is made from the option byte and a pending name, finds and pending names come from the answer and the option byte.
 // Who lends the records themselves calls `exports::luspemaro_collect`.
 mod command;
+mod indexed;
 mod lines;
 mod names;
 mod options;
 mod packed;
 mod walk;
 
+use indexed::collect_index;
 use mailbox_table::Indexing;
 use mailbox_table::MAX_READER;
-use mailbox_table::index_words;
-use mailbox_table::see_rows;
 use octets::clear;
 use octets::refusals;
-use options::Asked;
-use options::WalkOptions;
 pub use packed::collect_packed;
 use records::no_words;
-use walk::walk_table;
+use summary::index_summed;
 ghost use mathlib.Core.Path.{_≡_};
 ghost use mathlib.Core.Bool.{true};
 ghost use lib.ListN.{length, replicate};
-ghost use Rattle.listing_rules.specs.Walk.{collectedBy};
-ghost use Rattle.records.specs.Lent.{wordTable, wordSeen};
+ghost use Rattle.records.specs.Lent.{wordsTable, wordsSeen};
+ghost use Rattle.collector.specs.declared.Collected.the-variants.{Refused};
 ghost use Rattle.collector.specs.Result.{isAllowed, collectedOf, scratchOf, foundOf, pendingOf, OwesDemand3};
-ghost use Rattle.collector.specs.Ends.{Ends};
 
 // What a walk answers: how many commands were sent, and the length of what lies in found; or the number of the refusal.
 pub enum Collected {
@@ -35,70 +32,65 @@ pub enum Collected {
     Refused(u8),
 }
 
-// The whole walk of a reader. The first `count` words are the rows, each as a number (`records::word_of`), over the area of names. Finds
-// lie at the front of `found` and the names that were asked below at the front of `pending`, zero after them; `scratch` takes the
-// answers, and is zero in the end. A refusal zeroes all three.
+// The whole walk of a reader. The first `count` words are the rows, each as a number (`records::word_of`), over the area of names, and `sums` the numbers
+// of their summary (`summary`). Finds lie at the front of `found` and the names that were asked below at the front of `pending`, zero after them;
+// `scratch` takes the answers, and is zero in the end. A refusal zeroes all three.
 pub fn collect_words(
     words: &[u64],
     count: usize,
     reader: u8,
     area: &[u8],
+    sums: &[u64],
     option: u8,
     scratch: &mut [u8],
     found: &mut [u8],
     pending: &mut [u8],
 ) -> Collected
-    ensures result { λ r. ⌜ r ≡ collectedOf reader (wordSeen reader (now (area .entry)) (now (words .entry)) count)
+    ensures result { λ r. ⌜ r ≡ collectedOf reader (wordsSeen reader (now (words .entry)) count (now (area .entry)) (now (sums .entry)))
         option (now (scratch .entry)) (now (found .entry)) (now (pending .entry)) ⌝ }
-    ensures scratch { λ _. ⌜ now (scratch .exit) ≡ scratchOf reader (wordSeen reader (now (area .entry)) (now (words .entry)) count)
+    ensures scratch { λ _. ⌜ now (scratch .exit) ≡ scratchOf reader (wordsSeen reader (now (words .entry)) count (now (area .entry)) (now (sums .entry)))
         option (now (scratch .entry)) (now (found .entry)) (now (pending .entry)) ⌝ }
-    ensures found { λ _. ⌜ now (found .exit) ≡ foundOf reader (wordSeen reader (now (area .entry)) (now (words .entry)) count)
+    ensures found { λ _. ⌜ now (found .exit) ≡ foundOf reader (wordsSeen reader (now (words .entry)) count (now (area .entry)) (now (sums .entry)))
         option (now (scratch .entry)) (now (found .entry)) (now (pending .entry)) ⌝ }
-    ensures pending { λ _. ⌜ now (pending .exit) ≡ pendingOf reader (wordSeen reader (now (area .entry)) (now (words .entry)) count)
+    ensures pending { λ _. ⌜ now (pending .exit) ≡ pendingOf reader (wordsSeen reader (now (words .entry)) count (now (area .entry)) (now (sums .entry)))
         option (now (scratch .entry)) (now (found .entry)) (now (pending .entry)) ⌝ }
-    ensures demand3 { λ r. ⌜ OwesDemand3 reader (wordTable (now (area .entry)) (now (words .entry)) count)
-        (wordSeen reader (now (area .entry)) (now (words .entry)) count) option (now (scratch .entry)) (now (found .entry)) (now (pending .entry))
-        r (now (found .exit)) (now (pending .exit)) ⌝ }
+    ensures demand3 { λ r. ⌜ OwesDemand3 reader (wordsTable (now (words .entry)) count (now (area .entry)) (now (sums .entry)))
+        (wordsSeen reader (now (words .entry)) count (now (area .entry)) (now (sums .entry)))
+        option (now (scratch .entry)) (now (found .entry)) (now (pending .entry)) r (now (found .exit)) (now (pending .exit)) ⌝ }
     ensures numbers { λ r. ⌜ isAllowed r ≡ true ⌝ }
 {
-    clear(found);
-    clear(pending);
-    let result = run(words, count, reader, area, option, scratch, found, pending);
-    clear(scratch);
-    if let Collected::Refused(number) = result {
-        clear(found);
-        clear(pending);
-        return Collected::Refused(number);
+    if MAX_READER < reader {
+        return refuse(refusals::READER, scratch, found, pending);
     }
-    result
+    let mut rows = no_words();
+    let Indexing::Rows(n) = index_summed(area, words, count, sums, &mut rows) else {
+        return refuse(refusals::TABLE, scratch, found, pending);
+    };
+    collect_index(
+        &mut rows[..n],
+        area,
+        reader,
+        option,
+        scratch,
+        found,
+        pending,
+    )
 }
 
-// Refusals 16, 1 and 6, then the walk over the rows that the reader sees. Found and pending are zero; a refusal leaves them anyhow.
-fn run(
-    words: &[u64],
-    count: usize,
-    reader: u8,
-    area: &[u8],
-    option: u8,
+// A refusal, which zeroes the three buffers.
+pub(crate) fn refuse(
+    number: u8,
     scratch: &mut [u8],
     found: &mut [u8],
     pending: &mut [u8],
 ) -> Collected
-    requires { ⌜ now found ≡ replicate (length (now found)) 0 ⌝ }
-    requires { ⌜ now pending ≡ replicate (length (now pending)) 0 ⌝ }
-    ensures { λ r. ⌜ Ends (collectedBy reader (wordSeen reader (now (area .entry)) (now (words .entry)) count) option
-        (now (scratch .entry)) (now (found .entry)) (now (pending .entry))) (now (found .exit)) (now (pending .exit)) r ⌝ }
+    ensures { λ r. ⌜ (r ≡ Refused number)
+        × (now (scratch .exit) ≡ replicate (length (now (scratch .entry))) 0)
+        × (now (found .exit) ≡ replicate (length (now (found .entry))) 0)
+        × (now (pending .exit) ≡ replicate (length (now (pending .entry))) 0) ⌝ }
 {
-    if MAX_READER < reader {
-        return Collected::Refused(refusals::READER);
-    }
-    let mut rows = no_words();
-    let Indexing::Rows(n) = index_words(area, words, count, &mut rows) else {
-        return Collected::Refused(refusals::TABLE);
-    };
-    let Asked::Of(options) = WalkOptions::of_byte(option) else {
-        return Collected::Refused(refusals::OPTION);
-    };
-    let seen = see_rows(&mut rows[..n], reader);
-    walk_table(&rows[..seen], area, options, scratch, found, pending)
+    clear(scratch);
+    clear(found);
+    clear(pending);
+    Collected::Refused(number)
 }

@@ -1,21 +1,19 @@
 // The packed form of the walk.
 use super::Collected;
-use super::collect_words;
+use super::indexed::collect_index;
+use super::refuse;
 use mailbox_table::Indexing;
 use mailbox_table::MAX_READER;
-use mailbox_table::unpack;
-use octets::clear;
+use mailbox_table::index;
 use octets::refusals;
 use records::no_words;
 ghost use mathlib.Core.Path.{_≡_};
 ghost use mathlib.Core.Bool.{true};
-ghost use lib.ListN.{length, replicate};
 ghost use Rattle.listing_rules.specs.Table.{packedTable};
 ghost use Rattle.listing_rules.specs.Readers.{packedSeen};
-ghost use Rattle.collector.specs.declared.Collected.the-variants.{Refused};
 ghost use Rattle.collector.specs.Result.{isAllowed, collectedOf, scratchOf, foundOf, pendingOf, OwesDemand3};
 
-// The walk of a reader over a packed table, turned into records first; else as `collect_words`.
+// The walk of a reader over a packed table, which has no summary; else as `collect_words`.
 pub fn collect_packed(
     table: &[u8],
     reader: u8,
@@ -39,31 +37,17 @@ pub fn collect_packed(
     if MAX_READER < reader {
         return refuse(refusals::READER, scratch, found, pending);
     }
-    let mut words = no_words();
-    let Indexing::Rows(n) = unpack(table, &mut words) else {
+    let mut rows = no_words();
+    let Indexing::Rows(n) = index(table, &mut rows) else {
         return refuse(refusals::TABLE, scratch, found, pending);
     };
-    collect_words(
-        &words[..n],
-        n,
-        reader,
+    collect_index(
+        &mut rows[..n],
         table,
+        reader,
         option,
         scratch,
         found,
         pending,
     )
-}
-
-// A refusal, which zeroes the three buffers.
-fn refuse(number: u8, scratch: &mut [u8], found: &mut [u8], pending: &mut [u8]) -> Collected
-    ensures { λ r. ⌜ (r ≡ Refused number)
-        × (now (scratch .exit) ≡ replicate (length (now (scratch .entry))) 0)
-        × (now (found .exit) ≡ replicate (length (now (found .entry))) 0)
-        × (now (pending .exit) ≡ replicate (length (now (pending .entry))) 0) ⌝ }
-{
-    clear(scratch);
-    clear(found);
-    clear(pending);
-    Collected::Refused(number)
 }

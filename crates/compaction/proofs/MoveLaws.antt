@@ -2,23 +2,25 @@
 -- the store is the compacted one. Rests on UsedBytes of the definitions, MapLaws of subscriptions, StartLaws.
 use Rattle.listing_rules.proofs.ListLaws.{map-drop}
 use Rattle.listing_rules.proofs.Prelude.{_∙_, _≡_, ap, refl, subst, sym, Bool, cond, false, not, true, List, [], _++_, _∷_, append-nil, map}
-use Rattle.listing_rules.proofs.Prelude.{map-append, _%_, _+_, _-_, _/_, _<_, _≤_, min, suc, zero, ℕ, zero-add, decLe, arith, leb, drop}
-use Rattle.listing_rules.proofs.Prelude.{drop-of-length-le, getD, length, length-append, length-drop, length-map, length-take, replicate, take}
-use Rattle.listing_rules.proofs.Prelude.{drop-at, getD-take, length-take-le, paste-zero, take-add, take-all, take-append-add, take-at, take-take}
-use Rattle.listing_rules.proofs.Prelude.{leb-true}
+use Rattle.listing_rules.proofs.Prelude.{map-append, _%_, _+_, _-_, _/_, _<_, _≤_, suc, zero, ℕ, zero-add, arith, leb, drop, drop-of-length-le, getD}
+use Rattle.listing_rules.proofs.Prelude.{length, length-append, length-drop, length-map, length-take, replicate, take, drop-at, getD-take}
+use Rattle.listing_rules.proofs.Prelude.{length-take-le, paste-zero, take-add, take-append-add, take-at, take-take, leb-true}
 use Rattle.listing_rules.specs.Lists.{every, anyOf}
 use Rattle.listing_rules.specs.Bytes.{within}
 use Rattle.listing_rules.specs.Names.{lawfulName}
 use Rattle.listing_rules.specs.Table.{Row, passes}
 use Rattle.listing_rules.specs.Records.{Record, recordRows, rowOf}
 use Rattle.listing_rules.specs.Subscriptions.{Store, storeTable, storeRows, held, uses, freeFrom}
-use Rattle.listing_rules.specs.Compaction.{usedFrom, placeAfter, moved, compacted, compaction}
+use Rattle.listing_rules.specs.Compaction.{usedFrom, placeAfter, moved, compacted}
 use Rattle.listing_rules.proofs.Bools.{and-l, and-r}
 use Rattle.listing_rules.proofs.EditPasses.{StoreParts, store-parts}
 use Rattle.listing_rules.proofs.UsedBytes.{used-most, place-most}
 use Rattle.records.specs.Words.{recordOf}
-use Rattle.records.specs.Lent.{wordTable}
-use Rattle.records.specs.Stores.{wordStore, wordCompaction, Between}
+use Rattle.listing_rules.specs.Summary.{Summed, summedTable, SummedCompaction, summedCompaction}
+use Rattle.listing_rules.proofs.SummaryAlike.{grown-parts}
+use Rattle.records.specs.Numbers.{summaryOf}
+use Rattle.records.specs.Lent.{lentOf, wordStore, wordSummed, wordsSummed, wordsTable}
+use Rattle.records.specs.Stores.{wordCompaction, Between}
 use Rattle.records.proofs.WordsAlike.{map-take}
 use Rattle.compaction.specs.Gathered.{kept, keptBefore, Gathers}
 use Rattle.compaction.specs.Moves.{restarted, Starts, Within, together, MovesBytes, MovesNames}
@@ -117,10 +119,86 @@ starts-inside area (w ∷ ws) h (suc k) l = starts-inside area ws
     (and-r (lawfulName (rowOf area (recordOf w) .name)) (every (λ (r : Row). lawfulName (r .name)) (recordRows area (map recordOf ws))) h) k
     (omega (arith, l))
 
--- One call over words ws of which `lent` are lent, n of them there; the first `count` are rows.
-module _ (ws : List ℕ) (lent count : ℕ) (area : List ℕ) (n : ℕ) (n-is : n ≡ min lent (length ws)) where
+-- The first n words as the records of a store, the first `count` of them rows, whose table passes.
+module _ (ws : List ℕ) (n count : ℕ) (area : List ℕ) (inside : n ≤ length ws) (good : passes (storeTable (wordStore ws n count area)) ≡ true) where
   abbrev s : Store
-  s = wordStore ws lent count area
+  s = wordStore ws n count area
+
+  p : StoreParts (wordStore ws n count area)
+  p = store-parts s good
+
+  rows-most : count ≤ n
+  rows-most = omega (arith, p .counted, length-map (take n ws) recordOf, length-take n ws)
+
+  pub count-inside : count ≤ length ws
+  count-inside = omega (arith, rows-most, inside)
+
+  pub count-size : count ≡ length (take count ws)
+  count-size = sym (length-take-le count ws count-inside)
+
+  rows-are : held (wordStore ws n count area) ≡ map recordOf (take count ws)
+  unfolding held
+  rows-are = sym (map-take recordOf count (take n ws)) ∙ ap (map recordOf) (take-take count n ws rows-most)
+
+  pub rows-within : Within (take count ws) area
+  unfolding storeRows
+  rows-within =
+      record {
+        short = p .laid .small;
+        starts =
+            starts-inside area (take count ws) (subst (λ (rs : List Record). every (λ (r : Row). lawfulName (r .name)) (recordRows area rs) ≡ true)
+            rows-are (p .parts .lawful-names));
+      }
+
+  module _ (vs area′ : List ℕ) (m : MovesNames (take count ws) area vs area′) where
+    size : length vs ≡ count
+    size = m .size ∙ sym count-size
+
+    abbrev spare : List ℕ
+    spare = drop count ws
+
+    more : n ≡ count + (n - count)
+    more = omega (arith, rows-most)
+
+    -- the spare words that are lent
+    spare-front : take (n - count) (drop count ws) ≡ drop count (take n ws)
+    spare-front =
+        sym (ap (λ (k : ℕ). drop count (take k ws)) more
+        ∙ ap (drop count) (take-add count (n - count) ws)
+        ∙ drop-at (take count ws) (take (n - count) (drop count ws)) count (sym count-size))
+
+    taken : take n (vs ++ spare) ≡ vs ++ drop count (take n ws)
+    taken =
+        ap (λ (k : ℕ). take k (vs ++ spare)) (more ∙ ap (λ (k : ℕ). k + (n - count)) (sym size))
+        ∙ take-append-add vs spare (n - count)
+        ∙ ap (λ (l : List ℕ). vs ++ l) spare-front
+
+    records-moved : map recordOf (take n (vs ++ spare)) ≡ compacted s .records
+    unfolding compacted
+    records-moved =
+        ap (map recordOf) taken
+        ∙ map-append recordOf vs (drop count (take n ws))
+        ∙ (λ i. (m .records-are ∙ ap (λ (rs : List Record). map (moved rs area) rs) (sym rows-are)) i ++ map-drop recordOf count (take n ws) i)
+
+    area-moved : area′ ≡ compacted s .area
+    unfolding compacted together
+    area-moved = m .area-is ∙ ap (λ (rs : List Record). together rs area) (sym rows-are)
+
+    between-moved : Between ws (vs ++ spare) n 0 count
+    between-moved =
+        let z : count - 0 ≡ count = omega arith in
+        record {
+          order = omega arith;
+          lent-only = rows-most;
+          within = count-inside;
+          size = omega (arith, length-append vs spare, size, length-drop count ws, count-inside);
+          others = rw (z, zero-add count, take-at vs spare count size);
+        }
+
+-- One call over words ws of which `lent` are lent, with the numbers of a summary beside them; n of both are there.
+module _ (ws : List ℕ) (lent count : ℕ) (area sums : List ℕ) (n : ℕ) (n-is : n ≡ lentOf ws lent sums) where
+  abbrev whole : Summed
+  whole = wordSummed ws lent count area sums
 
   pub front-size : n ≡ length (take n ws)
   front-size = sym (length-take-le n ws (omega (arith, n-is)))
@@ -128,104 +206,57 @@ module _ (ws : List ℕ) (lent count : ℕ) (area : List ℕ) (n : ℕ) (n-is : 
   pub front-inside : n ≤ length ws
   front-inside = omega (arith, n-is)
 
-  same-front : take n ws ≡ take lent ws
-  same-front = go (decLe lent (length ws))
-    where
-      go : Dec (lent ≤ length ws) → take n ws ≡ take lent ws
-      go (yes h) = let e : n ≡ lent = omega (arith, n-is) in ap (λ (k : ℕ). take k ws) e
-      go (no h) = take-all n ws (omega (arith, n-is)) ∙ sym (take-all lent ws (omega arith))
+  pub sums-size : n ≡ length (take n sums)
+  sums-size = sym (length-take-le n sums (omega (arith, n-is)))
 
-  same-table : passes (wordTable area (take n ws) count) ≡ passes (storeTable s)
-  unfolding storeTable
-  same-table = ap (λ (l : List ℕ). passes (wordTable area l count)) same-front
+  pub sums-inside : n ≤ length sums
+  sums-inside = omega (arith, n-is)
+
+  same-front : wordsSummed (take n ws) count area (take n sums) ≡ whole
+  same-front = λ i. record { store = wordStore ws (n-is i) count area; summary = map summaryOf (take (n-is i) sums) }
 
   -- what a call leaves: its number, the words, the area, and which words changed
   abbrev pub Leaves : ℕ → List ℕ → List ℕ → ℕ → ℕ → Type 0
   Leaves number vs area′ from to =
-      (number ≡ wordCompaction ws lent count area .number)
-      × ((area′ ≡ wordCompaction ws lent count area .store .area)
-      × ((map recordOf (take lent vs) ≡ wordCompaction ws lent count area .store .records) × Between ws vs lent from to))
+      (number ≡ wordCompaction ws lent count area sums .number)
+      × ((area′ ≡ wordCompaction ws lent count area sums .area)
+      × ((map recordOf (take (lentOf ws lent sums) vs) ≡ wordCompaction ws lent count area sums .records) × Between ws vs (lentOf ws lent sums) from
+      to))
 
   -- the table does not pass: 1, and nothing changes
-  pub refused : passes (wordTable area (take n ws) count) ≡ false → Leaves 1 ws area 0 0
-  unfolding compaction
+  pub refused : passes (wordsTable (take n ws) count area (take n sums)) ≡ false → Leaves 1 ws area 0 0
   refused e =
-      let bad = sym same-table ∙ e in
-      (rw bad, (rw bad, (rw bad, record { order = omega arith; lent-only = omega arith; within = omega arith; size = refl; others = paste-zero ws 0 ws })))
+      let x : summedCompaction whole ≡ record { number = 1; left = whole } = unfold summedCompaction in rw
+      (ap (λ (m : Summed). passes (summedTable m)) (sym same-front) ∙ e) in (
+        ap (λ (c : SummedCompaction). c .number) (sym x),
+        (
+          ap (λ (c : SummedCompaction). c .left .store .area) (sym x),
+          (
+            ap (λ (c : SummedCompaction). c .left .store .records) (sym x),
+            record { order = omega arith; lent-only = omega arith; within = omega arith; size = refl; others = paste-zero ws 0 ws },
+          ),
+        ),
+      )
 
-  module _ (e : passes (wordTable area (take n ws) count) ≡ true) where
-    good : passes (storeTable s) ≡ true
-    good = sym same-table ∙ e
+  module _ (e : passes (wordsTable (take n ws) count area (take n sums)) ≡ true) where
+    pub good : passes (storeTable (wordStore ws n count area)) ≡ true
+    good = grown-parts (wordsSummed (take n ws) count area (take n sums)) e .0
 
-    p : StoreParts s
-    p = store-parts s good
-
-    rows-most : count ≤ n
-    rows-most = omega (arith, p .counted, length-map (take lent ws) recordOf, length-take lent ws, n-is)
-
-    pub count-inside : count ≤ length ws
-    count-inside = omega (arith, rows-most, n-is)
-
-    pub count-size : count ≡ length (take count ws)
-    count-size = sym (length-take-le count ws count-inside)
-
-    rows-are : held s ≡ map recordOf (take count ws)
-    unfolding held
-    rows-are = sym (map-take recordOf count (take lent ws)) ∙ ap (map recordOf) (take-take count lent ws (omega (arith, rows-most, n-is)))
-
-    pub rows-within : Within (take count ws) area
-    unfolding storeRows
-    rows-within =
-        record {
-          short = p .laid .small;
-          starts =
-              starts-inside area (take count ws) (subst (λ (rs : List Record). every (λ (r : Row). lawfulName (r .name)) (recordRows area rs) ≡ true)
-              rows-are (p .parts .lawful-names));
-        }
-
-    module _ (vs area′ : List ℕ) (m : MovesNames (take count ws) area vs area′) where
-      size : length vs ≡ count
-      size = m .size ∙ sym count-size
-
-      abbrev spare : List ℕ
-      spare = drop count ws
-
-      more : lent ≡ count + (lent - count)
-      more = omega (arith, rows-most, n-is)
-
-      -- the spare words that are lent
-      spare-front : take (lent - count) spare ≡ drop count (take lent ws)
-      spare-front =
-          sym (ap (λ (k : ℕ). drop count (take k ws)) more
-          ∙ ap (drop count) (take-add count (lent - count) ws)
-          ∙ drop-at (take count ws) (take (lent - count) (drop count ws)) count (sym count-size))
-
-      taken : take lent (vs ++ spare) ≡ vs ++ drop count (take lent ws)
-      taken =
-          ap (λ (k : ℕ). take k (vs ++ spare)) (more ∙ ap (λ (k : ℕ). k + (lent - count)) (sym size))
-          ∙ take-append-add vs spare (lent - count)
-          ∙ ap (λ (l : List ℕ). vs ++ l) spare-front
-
-      records-moved : map recordOf (take lent (vs ++ spare)) ≡ compacted s .records
-      unfolding compacted
-      records-moved =
-          ap (map recordOf) taken
-          ∙ map-append recordOf vs (drop count (take lent ws))
-          ∙ (λ i. (m .records-are ∙ ap (λ (rs : List Record). map (moved rs area) rs) (sym rows-are)) i ++ map-drop recordOf count (take lent ws) i)
-
-      area-moved : area′ ≡ compacted s .area
-      unfolding compacted together
-      area-moved = m .area-is ∙ ap (λ (rs : List Record). together rs area) (sym rows-are)
-
-      pub done : Leaves 0 (vs ++ spare) area′ 0 count
-      unfolding compaction
-      done =
-          let z : count - 0 ≡ count = omega arith in
-          let between : Between ws (vs ++ spare) lent 0 count = record {
-            order = omega arith;
-            lent-only = omega (arith, more);
-            within = count-inside;
-            size = omega (arith, length-append vs spare, size, length-drop count ws, count-inside);
-            others = rw (z, zero-add count, take-at vs spare count size);
-          } in
-          (rw good, (rw good area-moved, (rw good records-moved, between)))
+    pub done : (vs area′ : List ℕ) → MovesNames (take count ws) area vs area′ → Leaves 0 (vs ++ drop count ws) area′ 0 count
+    done vs area′ m =
+        let x : summedCompaction whole ≡ record { number = 0; left = record { store = compacted (whole .store); summary = whole .summary } } =
+        unfold summedCompaction in rw (ap (λ (y : Summed). passes (summedTable y)) (sym same-front) ∙ e) in (
+          ap (λ (c : SummedCompaction). c .number) (sym x),
+          (
+            area-moved ws n count area front-inside good vs area′ m
+                ∙ ap (λ (k : ℕ). compacted (wordStore ws k count area) .area) n-is
+                ∙ ap (λ (c : SummedCompaction). c .left .store .area) (sym x),
+            (
+              ap (λ (k : ℕ). map recordOf (take k (vs ++ drop count ws))) (sym n-is)
+                  ∙ records-moved ws n count area front-inside good vs area′ m
+                  ∙ ap (λ (k : ℕ). compacted (wordStore ws k count area) .records) n-is
+                  ∙ ap (λ (c : SummedCompaction). c .left .store .records) (sym x),
+              subst (λ (k : ℕ). Between ws (vs ++ drop count ws) k 0 count) n-is (between-moved ws n count area front-inside good vs area′ m),
+            ),
+          ),
+        )

@@ -10,15 +10,16 @@ use gather::SHORT_BYTES;
 use gather::few_places;
 use gather::move_bytes;
 use gather::no_places;
-use mailbox_table::check_words;
 use octets::least;
 use octets::refusals::TABLE;
 use starts::restart;
+use summary::check_summed;
 ghost use mathlib.Core.Path.{_≡_};
 ghost use mathlib.Core.List.{map};
 ghost use Prim.Native.Nat.{_≤_};
 ghost use lib.ListN.{length, take};
 ghost use Rattle.records.specs.Words.{recordOf};
+ghost use Rattle.records.specs.Lent.{lentOf};
 ghost use Rattle.records.specs.Stores.{wordCompaction, Between};
 ghost use Rattle.compaction.specs.Moves.{Within, MovesNames};
 
@@ -29,18 +30,24 @@ pub struct Compacted {
     pub to: usize,
 }
 
-// "moves names together, in the order of their starts": 0, or the number of the refusal of a table that does not pass. The first `lent`
-// words, or all where they are fewer, are the records, each as a number (`records::word_of`); the first `count` of those are the table's
-// rows, over the area of name bytes. A row's word changes in its start alone, a spare one not at all.
-pub fn compact_words(words: &mut [u64], lent: usize, count: usize, area: &mut [u8]) -> Compacted
-    ensures result { λ r. ⌜ r .number ≡ wordCompaction (now (words .entry)) lent count (now (area .entry)) .number ⌝ }
-    ensures area { λ _. ⌜ now (area .exit) ≡ wordCompaction (now (words .entry)) lent count (now (area .entry)) .store .area ⌝ }
-    ensures words { λ r. ⌜ (map recordOf (take lent (now (words .exit)))
-        ≡ wordCompaction (now (words .entry)) lent count (now (area .entry)) .store .records)
-        × Between (now (words .entry)) (now (words .exit)) lent (r .from) (r .to) ⌝ }
+// "moves names together, in the order of their starts": 0, or the number of the refusal of a table that does not pass. Of the first `lent` words, as many are
+// the records, each as a number (`records::word_of`), as there are words and numbers of the summary; the first `count` of those are the table's rows, over the
+// area of name bytes. A row's word changes in its start alone, a spare one not at all. The summary is looked at by check 1 and stays.
+pub fn compact_words(
+    words: &mut [u64],
+    lent: usize,
+    count: usize,
+    area: &mut [u8],
+    sums: &[u64],
+) -> Compacted
+    ensures result { λ r. ⌜ r .number ≡ wordCompaction (now (words .entry)) lent count (now (area .entry)) (now (sums .entry)) .number ⌝ }
+    ensures area { λ _. ⌜ now (area .exit) ≡ wordCompaction (now (words .entry)) lent count (now (area .entry)) (now (sums .entry)) .area ⌝ }
+    ensures words { λ r. ⌜ (map recordOf (take (lentOf (now (words .entry)) lent (now (sums .entry))) (now (words .exit)))
+        ≡ wordCompaction (now (words .entry)) lent count (now (area .entry)) (now (sums .entry)) .records)
+        × Between (now (words .entry)) (now (words .exit)) (lentOf (now (words .entry)) lent (now (sums .entry))) (r .from) (r .to) ⌝ }
 {
-    let n = least(lent, words.len());
-    if !check_words(&words[..n], count, area) {
+    let n = least(lent, least(words.len(), sums.len()));
+    if !check_summed(&words[..n], count, area, &sums[..n]) {
         return Compacted {
             number: TABLE,
             from: 0,

@@ -1,3 +1,5 @@
 -- Laws of the C forms.
 mod OutcomeLaws
 mod FeedingLaws
+mod NumberedLaws
+mod WordLaws

@@ -1,5 +1,5 @@
 -- The C forms of the answers, case by case.
-use Rattle.listing_rules.proofs.Prelude.{_≡_, ap, refl, sym, _&&_, true, List, ℕ, eqb, leb}
+use Rattle.listing_rules.proofs.Prelude.{_≡_, ap, refl, sym, Bool, _&&_, true, List, ℕ, eqb, leb}
 use Rattle.octets.specs.declared.Written.{Written}
 use Rattle.octets.specs.declared.Written.the-variants.{Done, Refused}
 use Rattle.collector.specs.declared.Collected.{Collected}
@@ -19,21 +19,24 @@ use Rattle.octets.specs.Written.{writtenIs}
 use Rattle.list_line.specs.Members.{setOf}
 use Rattle.line_reader.specs.Lines.{lineIs}
 use Rattle.collector.specs.Result.{collectedIs, isAllowed}
-use Rattle.exports.specs.Outcomes.{outcomeOf, walkOutcome, allowedOutcome, partsOf, writtenCase, collectedCase, lineCase}
+use Rattle.exports.specs.Outcomes.{asNumber, outcomeOf, walkOutcome, allowedOutcome, partsOf, writtenCase, collectedCase, lineCase}
 
-pub written-done : (w : Written) (count n : ℕ) → w ≡ Done n → record { number = 0; length = n; count = count } ≡ writtenCase w count
+pub written-done : (w : Written) (changed count n : ℕ) → w ≡ Done n
+    → record { number = 0; changed = changed; length = n; count = count } ≡ writtenCase w changed count
 unfolding writtenCase
-written-done w count n e = sym (ap (λ (x : Written). writtenCase x count) e)
+written-done w changed count n e = sym (ap (λ (x : Written). writtenCase x changed count) e)
 
-pub written-refused : (w : Written) (count k : ℕ) → w ≡ Refused k → record { number = k; length = 0; count = count } ≡ writtenCase w count
+pub written-refused : (w : Written) (changed count k : ℕ) → w ≡ Refused k
+    → record { number = k; changed = changed; length = 0; count = count } ≡ writtenCase w changed count
 unfolding writtenCase
-written-refused w count k e = sym (ap (λ (x : Written). writtenCase x count) e)
+written-refused w changed count k e = sym (ap (λ (x : Written). writtenCase x changed count) e)
 
-pub collected-done : (w : Collected) (count n : ℕ) → w ≡ Walked count n → record { number = 0; length = n; count = count } ≡ collectedCase w
+pub collected-done : (w : Collected) (count n : ℕ) → w ≡ Walked count n →
+    record { number = 0; changed = 0; length = n; count = count } ≡ collectedCase w
 unfolding collectedCase
 collected-done w count n e = sym (ap collectedCase e)
 
-pub collected-refused : (w : Collected) (k : ℕ) → w ≡ Stopped k → record { number = k; length = 0; count = 0 } ≡ collectedCase w
+pub collected-refused : (w : Collected) (k : ℕ) → w ≡ Stopped k → record { number = k; changed = 0; length = 0; count = 0 } ≡ collectedCase w
 unfolding collectedCase
 collected-refused w k e = sym (ap collectedCase e)
 
@@ -42,15 +45,16 @@ pub parts-read : (l : Line) (bytes : List ℕ) (a : Attributes) (n : ℕ) (c : C
 unfolding lineCase
 parts-read l bytes a n c e = λ i. lineCase (sym e i) bytes
 
-pub parts-refused : (l : Line) (bytes : List ℕ) (k : ℕ) → l ≡ NoLine k → record { number = k; criteria = 0; attributes = 0; length = 0; name = bytes } ≡ lineCase l bytes
+pub parts-refused : (l : Line) (bytes : List ℕ) (k : ℕ) → l ≡ NoLine k →
+    record { number = k; criteria = 0; attributes = 0; length = 0; name = bytes } ≡ lineCase l bytes
 unfolding lineCase
 parts-refused l bytes k e = λ i. lineCase (sym e i) bytes
 
 -- the cases of the entries' enums are document 01's numbers
-pub written-case : (r : Reply) (count : ℕ) → writtenCase (writtenIs r) count ≡ outcomeOf r count
+pub written-case : (r : Reply) (changed : Bool) (count : ℕ) → writtenCase (writtenIs r) (asNumber changed) count ≡ outcomeOf r changed count
 unfolding writtenCase writtenIs outcomeOf numberOf lengthOf
-written-case (refusal k) count = refl
-written-case (answered a) count = refl
+written-case (refusal k) changed count = refl
+written-case (answered a) changed count = refl
 
 pub collected-case : (r : WalkReply) → collectedCase (collectedIs r) ≡ walkOutcome r
 unfolding collectedCase collectedIs walkOutcome walkNumber walkCount foundLength

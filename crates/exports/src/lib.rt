@@ -1,7 +1,7 @@
 // The library for programs in C and Rust: the entries of document 01 under plain names; and document 02's feeder (`feeding`).
 //
-// The entries over lent records stand here and nowhere else: each copies the records in as numbers, hands these to the entry of the crate
-// below that works on them, and copies back what it changed. Every other function calls the entry that it is named after and repeats its
+// The entries over lent records, with the summary beside them, stand here and nowhere else: each copies the records in as numbers, hands these and the
+// summary to the entry of the crate below that works on them, and copies back the records that it changed. Every other function calls the entry that it is named after and repeats its
 // promise. A slice passes as a pointer and a length, an answer as a struct of numbers (`outcomes`).
 pub mod feeding;
 pub mod outcomes;
@@ -9,7 +9,7 @@ pub mod outcomes;
 use compaction::compact_words;
 use list_line::Attributes;
 use list_line::Criteria;
-use mailbox_table::check_words;
+use octets::least;
 use outcomes::Done;
 use outcomes::LineParts;
 use outcomes::Outcome;
@@ -21,6 +21,8 @@ use records::Record;
 use records::copy_back;
 use records::copy_in;
 use records::no_words;
+use summary::check_summed;
+use summary::summarize_words;
 ghost use mathlib.Core.Path.{_≡_};
 ghost use mathlib.Core.Bool.{true};
 ghost use mathlib.Core.Bool.{_&&_};
@@ -36,25 +38,50 @@ ghost use Rattle.listing_rules.specs.Reader.{written, readLine};
 ghost use Rattle.listing_rules.specs.Server.{bufferAfter};
 ghost use Rattle.listing_rules.specs.Walk.{collectedBy};
 ghost use Rattle.listing_rules.specs.Joining.{joinedInto};
+ghost use Rattle.listing_rules.specs.Summary.{summarized};
 ghost use Rattle.records.specs.Words.{recordOf, meant};
-ghost use Rattle.records.specs.Lent.{lentTable, lentSeen, wordTable, wordSeen};
+ghost use Rattle.records.specs.Numbers.{summaryOf};
+ghost use Rattle.records.specs.Lent.{lentOf, lentTable, lentSeen, wordsTable, wordsSeen};
 ghost use Rattle.records.specs.Stores.{lentCommand, wordCommand, lentCompaction, Between};
 ghost use Rattle.pattern.specs.Steps.{countedIs};
 ghost use Rattle.list_line.specs.Members.{members};
 ghost use Rattle.collector.specs.Result.{collectedOf, scratchOf, foundOf, pendingOf, OwesDemand3};
-ghost use Rattle.exports.specs.Outcomes.{outcomeOf, Into, walkOutcome, allowedOutcome, partsOf};
+ghost use Rattle.exports.specs.Outcomes.{handedOutcome, plainTable, Into, walkOutcome, allowedOutcome, partsOf};
 
-// Check 1: whether the first `count` records pass, over the area of name bytes.
+// Check 1: whether the first `count` records pass, over the area of name bytes, and their summary agrees.
 #[no_mangle]
-pub extern "C" fn luspemaro_check_records(records: &[Record], count: usize, area: &[u8]) -> bool
-    ensures { λ r. ⌜ r ≡ passes (lentTable (now (area .entry)) (now (records .entry)) count) ⌝ }
+pub extern "C" fn luspemaro_check_records(
+    records: &[Record],
+    count: usize,
+    area: &[u8],
+    summary: &[u64],
+) -> bool
+    ensures { λ r. ⌜ r ≡ passes (lentTable (now (records .entry)) count (now (area .entry)) (now (summary .entry))) ⌝ }
 {
     let mut words = no_words();
     let n = copy_in(records, count, &mut words);
-    check_words(&words[..n], count, area)
+    check_summed(&words[..n], count, area, summary)
 }
 
-// The same for a packed table.
+// A caller's first summary, counted afresh: 0, or 1 where the records do not pass without one, or are more than the numbers; then every number stays.
+#[no_mangle]
+pub extern "C" fn luspemaro_summarize(
+    records: &[Record],
+    count: usize,
+    area: &[u8],
+    summary: &mut [u64],
+) -> u8
+    ensures result { λ r. ⌜ r ≡ summarized (plainTable (now (records .entry)) count (now (area .entry)) (now (summary .entry)))
+        (map summaryOf (now (summary .entry))) .number ⌝ }
+    ensures summary { λ _. ⌜ map summaryOf (now (summary .exit))
+        ≡ summarized (plainTable (now (records .entry)) count (now (area .entry)) (now (summary .entry))) (map summaryOf (now (summary .entry))) .summary ⌝ }
+{
+    let mut words = no_words();
+    let n = copy_in(records, count, &mut words);
+    summarize_words(&words[..n], count, area, summary)
+}
+
+// Check 1 of a packed table, which has no summary.
 #[no_mangle]
 pub extern "C" fn luspemaro_check_table(table: &[u8]) -> bool
     ensures { λ r. ⌜ r ≡ passes (packedTable (now (table .entry))) ⌝ }
@@ -88,71 +115,102 @@ pub extern "C" fn luspemaro_match_steps(pattern: &[u8], name: &[u8]) -> usize
     counted.steps
 }
 
-// The answer to one command of a reader at the front of `out`. SUBSCRIBE and UNSUBSCRIBE change records and area; `count` of the outcome is the
-// number of rows given back, on a refusal the one that was passed.
+// The answer to one command of a reader at the front of `out`. SUBSCRIBE and UNSUBSCRIBE change records, area and summary; `count` of the outcome is the
+// number of rows given back, on a refusal the one that was passed, and `changed` says whether a row changed.
 #[no_mangle]
 pub extern "C" fn luspemaro_answer(
     records: &mut [Record],
     count: usize,
     reader: u8,
     area: &mut [u8],
+    summary: &mut [u64],
     namespaces: &[u8],
     line: &[u8],
     out: &mut [u8],
 ) -> Outcome
-    ensures result { λ r. ⌜ r ≡ outcomeOf
-        (lentCommand (now (records .entry)) count reader (now (area .entry)) (now (namespaces .entry)) (now (line .entry)) (now (out .entry)) .reply)
-        (lentCommand (now (records .entry)) count reader (now (area .entry)) (now (namespaces .entry)) (now (line .entry)) (now (out .entry)) .store .count) ⌝ }
-    ensures bytes { λ _. ⌜ now (out .exit) ≡ bufferAfter (now (out .entry))
-        (lentCommand (now (records .entry)) count reader (now (area .entry)) (now (namespaces .entry)) (now (line .entry)) (now (out .entry)) .reply) ⌝ }
-    ensures area { λ _. ⌜ now (area .exit)
-        ≡ lentCommand (now (records .entry)) count reader (now (area .entry)) (now (namespaces .entry)) (now (line .entry)) (now (out .entry)) .store .area ⌝ }
-    ensures records { λ _. ⌜ map meant (now (records .exit))
-        ≡ lentCommand (now (records .entry)) count reader (now (area .entry)) (now (namespaces .entry)) (now (line .entry)) (now (out .entry)) .store .records ⌝ }
+    ensures result { λ r. ⌜ r ≡ handedOutcome (lentCommand (now (records .entry)) count reader (now (area .entry)) (now (summary .entry))
+        (now (namespaces .entry)) (now (line .entry)) (now (out .entry))) ⌝ }
+    ensures bytes { λ _. ⌜ now (out .exit) ≡ bufferAfter (now (out .entry)) (lentCommand (now (records .entry)) count reader (now (area .entry)) (now (summary .entry))
+        (now (namespaces .entry)) (now (line .entry)) (now (out .entry)) .reply) ⌝ }
+    ensures area { λ _. ⌜ now (area .exit) ≡ lentCommand (now (records .entry)) count reader (now (area .entry)) (now (summary .entry))
+        (now (namespaces .entry)) (now (line .entry)) (now (out .entry)) .area ⌝ }
+    ensures summary { λ _. ⌜ map summaryOf (now (summary .exit)) ≡ lentCommand (now (records .entry)) count reader (now (area .entry)) (now (summary .entry))
+        (now (namespaces .entry)) (now (line .entry)) (now (out .entry)) .summary ⌝ }
+    ensures records { λ _. ⌜ map meant (now (records .exit)) ≡ lentCommand (now (records .entry)) count reader (now (area .entry)) (now (summary .entry))
+        (now (namespaces .entry)) (now (line .entry)) (now (out .entry)) .records ⌝ }
 {
     let mut words = no_words();
-    let lent = copy_in(records, records.len(), &mut words);
-    let done = answer_words(&mut words, lent, count, reader, area, namespaces, line, out);
+    let lent = copy_in(records, summary.len(), &mut words);
+    let done = answer_words(
+        &mut words,
+        lent,
+        count,
+        reader,
+        area,
+        summary,
+        namespaces,
+        line,
+        out,
+    );
     copy_back(records, done.from, done.to, &words);
     done.outcome
 }
 
-// The same over records, each as a number.
+// That over records, each as a number, of which the first `lent` are lent.
 fn answer_words(
     words: &mut [u64],
     lent: usize,
     count: usize,
     reader: u8,
     area: &mut [u8],
+    summary: &mut [u64],
     namespaces: &[u8],
     line: &[u8],
     out: &mut [u8],
 ) -> Done
-    ensures result { λ r. ⌜ r .outcome ≡ outcomeOf
-        (wordCommand (now (words .entry)) lent count reader (now (area .entry)) (now (namespaces .entry)) (now (line .entry)) (now (out .entry)) .reply)
-        (wordCommand (now (words .entry)) lent count reader (now (area .entry)) (now (namespaces .entry)) (now (line .entry)) (now (out .entry)) .store .count) ⌝ }
-    ensures bytes { λ _. ⌜ now (out .exit) ≡ bufferAfter (now (out .entry))
-        (wordCommand (now (words .entry)) lent count reader (now (area .entry)) (now (namespaces .entry)) (now (line .entry)) (now (out .entry)) .reply) ⌝ }
-    ensures area { λ _. ⌜ now (area .exit)
-        ≡ wordCommand (now (words .entry)) lent count reader (now (area .entry)) (now (namespaces .entry)) (now (line .entry)) (now (out .entry)) .store .area ⌝ }
-    ensures words { λ r. ⌜ (map recordOf (take lent (now (words .exit)))
-        ≡ wordCommand (now (words .entry)) lent count reader (now (area .entry)) (now (namespaces .entry)) (now (line .entry)) (now (out .entry)) .store .records)
-        × Between (now (words .entry)) (now (words .exit)) lent (r .from) (r .to) ⌝ }
+    ensures result { λ r. ⌜ r .outcome ≡ handedOutcome (wordCommand (now (words .entry)) lent count reader (now (area .entry)) (now (summary .entry))
+        (now (namespaces .entry)) (now (line .entry)) (now (out .entry))) ⌝ }
+    ensures bytes { λ _. ⌜ now (out .exit) ≡ bufferAfter (now (out .entry)) (wordCommand (now (words .entry)) lent count reader (now (area .entry)) (now (summary .entry))
+        (now (namespaces .entry)) (now (line .entry)) (now (out .entry)) .reply) ⌝ }
+    ensures area { λ _. ⌜ now (area .exit) ≡ wordCommand (now (words .entry)) lent count reader (now (area .entry)) (now (summary .entry))
+        (now (namespaces .entry)) (now (line .entry)) (now (out .entry)) .area ⌝ }
+    ensures summary { λ _. ⌜ map summaryOf (now (summary .exit)) ≡ wordCommand (now (words .entry)) lent count reader (now (area .entry)) (now (summary .entry))
+        (now (namespaces .entry)) (now (line .entry)) (now (out .entry)) .summary ⌝ }
+    ensures words { λ r. ⌜ (map recordOf (take (lentOf (now (words .entry)) lent (now (summary .entry))) (now (words .exit)))
+        ≡ wordCommand (now (words .entry)) lent count reader (now (area .entry)) (now (summary .entry))
+        (now (namespaces .entry)) (now (line .entry)) (now (out .entry)) .records)
+        × Between (now (words .entry)) (now (words .exit)) (lentOf (now (words .entry)) lent (now (summary .entry))) (r .from) (r .to) ⌝ }
 {
-    let stored = server::answer_words(words, lent, count, reader, area, namespaces, line, out);
+    let n = least(lent, words.len());
+    let stored = server::answer_words(
+        &mut words[..n],
+        summary,
+        count,
+        reader,
+        area,
+        namespaces,
+        line,
+        out,
+    );
     command_done(stored)
 }
 
-// Names moved together: 0, or 1 where the table does not pass.
+// Names moved together: 0, or 1 where the table does not pass with its summary.
 #[no_mangle]
-pub extern "C" fn luspemaro_compact(records: &mut [Record], count: usize, area: &mut [u8]) -> u8
-    ensures result { λ r. ⌜ r ≡ lentCompaction (now (records .entry)) count (now (area .entry)) .number ⌝ }
-    ensures area { λ _. ⌜ now (area .exit) ≡ lentCompaction (now (records .entry)) count (now (area .entry)) .store .area ⌝ }
-    ensures records { λ _. ⌜ map meant (now (records .exit)) ≡ lentCompaction (now (records .entry)) count (now (area .entry)) .store .records ⌝ }
+pub extern "C" fn luspemaro_compact(
+    records: &mut [Record],
+    count: usize,
+    area: &mut [u8],
+    summary: &[u64],
+) -> u8
+    ensures result { λ r. ⌜ r ≡ lentCompaction (now (records .entry)) count (now (area .entry)) (now (summary .entry)) .number ⌝ }
+    ensures area { λ _. ⌜ now (area .exit) ≡ lentCompaction (now (records .entry)) count (now (area .entry)) (now (summary .entry)) .area ⌝ }
+    ensures records { λ _. ⌜ map meant (now (records .exit))
+        ≡ lentCompaction (now (records .entry)) count (now (area .entry)) (now (summary .entry)) .records ⌝ }
 {
     let mut words = no_words();
-    let lent = copy_in(records, records.len(), &mut words);
-    let moved = compact_words(&mut words, lent, count, area);
+    let lent = copy_in(records, summary.len(), &mut words);
+    let moved = compact_words(&mut words, lent, count, area, summary);
     copy_back(records, moved.from, moved.to, &words);
     moved.number
 }
@@ -164,23 +222,24 @@ pub extern "C" fn luspemaro_collect(
     count: usize,
     reader: u8,
     area: &[u8],
+    summary: &[u64],
     option: u8,
     scratch: &mut [u8],
     found: &mut [u8],
     pending: &mut [u8],
 ) -> Outcome
-    ensures result { λ r. ⌜ r ≡ walkOutcome (collectedBy reader (lentSeen reader (now (area .entry)) (now (records .entry)) count)
+    ensures result { λ r. ⌜ r ≡ walkOutcome (collectedBy reader (lentSeen reader (now (records .entry)) count (now (area .entry)) (now (summary .entry)))
         option (now (scratch .entry)) (now (found .entry)) (now (pending .entry))) ⌝ }
-    ensures scratch { λ _. ⌜ now (scratch .exit) ≡ scratchOf reader (lentSeen reader (now (area .entry)) (now (records .entry)) count)
+    ensures scratch { λ _. ⌜ now (scratch .exit) ≡ scratchOf reader (lentSeen reader (now (records .entry)) count (now (area .entry)) (now (summary .entry)))
         option (now (scratch .entry)) (now (found .entry)) (now (pending .entry)) ⌝ }
-    ensures found { λ _. ⌜ now (found .exit) ≡ foundOf reader (lentSeen reader (now (area .entry)) (now (records .entry)) count)
+    ensures found { λ _. ⌜ now (found .exit) ≡ foundOf reader (lentSeen reader (now (records .entry)) count (now (area .entry)) (now (summary .entry)))
         option (now (scratch .entry)) (now (found .entry)) (now (pending .entry)) ⌝ }
-    ensures pending { λ _. ⌜ now (pending .exit) ≡ pendingOf reader (lentSeen reader (now (area .entry)) (now (records .entry)) count)
+    ensures pending { λ _. ⌜ now (pending .exit) ≡ pendingOf reader (lentSeen reader (now (records .entry)) count (now (area .entry)) (now (summary .entry)))
         option (now (scratch .entry)) (now (found .entry)) (now (pending .entry)) ⌝ }
-    ensures demand3 { λ _. ⌜ OwesDemand3 reader (lentTable (now (area .entry)) (now (records .entry)) count)
-        (lentSeen reader (now (area .entry)) (now (records .entry)) count)
+    ensures demand3 { λ _. ⌜ OwesDemand3 reader (lentTable (now (records .entry)) count (now (area .entry)) (now (summary .entry)))
+        (lentSeen reader (now (records .entry)) count (now (area .entry)) (now (summary .entry)))
         option (now (scratch .entry)) (now (found .entry)) (now (pending .entry))
-        (collectedOf reader (lentSeen reader (now (area .entry)) (now (records .entry)) count) option (now (scratch .entry)) (now (found .entry)) (now (pending .entry)))
+        (collectedOf reader (lentSeen reader (now (records .entry)) count (now (area .entry)) (now (summary .entry))) option (now (scratch .entry)) (now (found .entry)) (now (pending .entry)))
         (now (found .exit)) (now (pending .exit)) ⌝ }
     ensures numbers { λ r. ⌜ allowedOutcome r ≡ true ⌝ }
 {
@@ -191,6 +250,7 @@ pub extern "C" fn luspemaro_collect(
         count,
         reader,
         area,
+        summary,
         option,
         scratch,
         found,
@@ -198,29 +258,30 @@ pub extern "C" fn luspemaro_collect(
     )
 }
 
-// The same over records, each as a number.
+// That over records, each as a number.
 fn collect_words(
     words: &[u64],
     count: usize,
     reader: u8,
     area: &[u8],
+    summary: &[u64],
     option: u8,
     scratch: &mut [u8],
     found: &mut [u8],
     pending: &mut [u8],
 ) -> Outcome
-    ensures result { λ r. ⌜ r ≡ walkOutcome (collectedBy reader (wordSeen reader (now (area .entry)) (now (words .entry)) count)
+    ensures result { λ r. ⌜ r ≡ walkOutcome (collectedBy reader (wordsSeen reader (now (words .entry)) count (now (area .entry)) (now (summary .entry)))
         option (now (scratch .entry)) (now (found .entry)) (now (pending .entry))) ⌝ }
-    ensures scratch { λ _. ⌜ now (scratch .exit) ≡ scratchOf reader (wordSeen reader (now (area .entry)) (now (words .entry)) count)
+    ensures scratch { λ _. ⌜ now (scratch .exit) ≡ scratchOf reader (wordsSeen reader (now (words .entry)) count (now (area .entry)) (now (summary .entry)))
         option (now (scratch .entry)) (now (found .entry)) (now (pending .entry)) ⌝ }
-    ensures found { λ _. ⌜ now (found .exit) ≡ foundOf reader (wordSeen reader (now (area .entry)) (now (words .entry)) count)
+    ensures found { λ _. ⌜ now (found .exit) ≡ foundOf reader (wordsSeen reader (now (words .entry)) count (now (area .entry)) (now (summary .entry)))
         option (now (scratch .entry)) (now (found .entry)) (now (pending .entry)) ⌝ }
-    ensures pending { λ _. ⌜ now (pending .exit) ≡ pendingOf reader (wordSeen reader (now (area .entry)) (now (words .entry)) count)
+    ensures pending { λ _. ⌜ now (pending .exit) ≡ pendingOf reader (wordsSeen reader (now (words .entry)) count (now (area .entry)) (now (summary .entry)))
         option (now (scratch .entry)) (now (found .entry)) (now (pending .entry)) ⌝ }
-    ensures demand3 { λ _. ⌜ OwesDemand3 reader (wordTable (now (area .entry)) (now (words .entry)) count)
-        (wordSeen reader (now (area .entry)) (now (words .entry)) count)
+    ensures demand3 { λ _. ⌜ OwesDemand3 reader (wordsTable (now (words .entry)) count (now (area .entry)) (now (summary .entry)))
+        (wordsSeen reader (now (words .entry)) count (now (area .entry)) (now (summary .entry)))
         option (now (scratch .entry)) (now (found .entry)) (now (pending .entry))
-        (collectedOf reader (wordSeen reader (now (area .entry)) (now (words .entry)) count) option (now (scratch .entry)) (now (found .entry)) (now (pending .entry)))
+        (collectedOf reader (wordsSeen reader (now (words .entry)) count (now (area .entry)) (now (summary .entry))) option (now (scratch .entry)) (now (found .entry)) (now (pending .entry)))
         (now (found .exit)) (now (pending .exit)) ⌝ }
     ensures numbers { λ r. ⌜ allowedOutcome r ≡ true ⌝ }
 {
@@ -229,6 +290,7 @@ fn collect_words(
         count,
         reader,
         area,
+        summary,
         option,
         scratch,
         found,
@@ -276,7 +338,7 @@ pub extern "C" fn luspemaro_write_line(
 {
     let set = Attributes { bits: attributes };
     let named = Criteria { bits: criteria };
-    written_outcome(list_line::write_line(set, name, named, out), 0)
+    written_outcome(list_line::write_line(set, name, named, out), 0, 0)
 }
 
 // The line reader.
@@ -303,6 +365,7 @@ pub extern "C" fn luspemaro_join(
 {
     written_outcome(
         command_writer::join(tag, options, reference, patterns, out),
+        0,
         0,
     )
 }

@@ -7,13 +7,16 @@ use line_reader::Read;
 use octets::Written;
 use server::Stored;
 ghost use mathlib.Core.Path.{_≡_};
-ghost use Rattle.exports.specs.Outcomes.{doneCase, writtenCase, collectedCase, lineCase};
+ghost use lib.Dec.{ltb};
+ghost use Rattle.exports.specs.Outcomes.{asNumber, doneCase, writtenCase, collectedCase, lineCase};
 
 // What a call that writes into lent memory answers: 0 and the length of what it wrote, for a walk with the number of commands
-// sent; or the number of the refusal, length 0 and count 0. Of a command the count is the number of rows, on a refusal too.
+// sent; or the number of the refusal, length 0 and count 0. Of a command the count is the number of rows, on a refusal too, and `changed` is 1 where it
+// changed a row, else 0; of all others it is 0.
 #[repr(C)]
 pub struct Outcome {
     pub number: u8,
+    pub changed: u8,
     pub length: usize,
     pub count: usize,
 }
@@ -41,7 +44,7 @@ pub(crate) fn command_done(stored: Stored) -> Done
     ensures { λ r. ⌜ r ≡ doneCase stored ⌝ }
 {
     let written = stored.written;
-    let outcome = written_outcome(written, stored.count);
+    let outcome = written_outcome(written, change_number(stored.from, stored.to), stored.count);
     Done {
         outcome,
         from: stored.from,
@@ -49,17 +52,29 @@ pub(crate) fn command_done(stored: Stored) -> Done
     }
 }
 
-pub(crate) fn written_outcome(written: Written, count: usize) -> Outcome
-    ensures { λ r. ⌜ r ≡ writtenCase written count ⌝ }
+// 1 where words changed, `from` up to `to`, else 0.
+fn change_number(from: usize, to: usize) -> u8
+    ensures { λ r. ⌜ r ≡ asNumber (ltb from to) ⌝ }
+{
+    if from < to {
+        return 1;
+    }
+    0
+}
+
+pub(crate) fn written_outcome(written: Written, changed: u8, count: usize) -> Outcome
+    ensures { λ r. ⌜ r ≡ writtenCase written changed count ⌝ }
 {
     match written {
         Written::Done(length) => Outcome {
             number: 0,
+            changed,
             length,
             count,
         },
         Written::Refused(number) => Outcome {
             number,
+            changed,
             length: 0,
             count,
         },
@@ -72,11 +87,13 @@ pub(crate) fn collected_outcome(collected: Collected) -> Outcome
     match collected {
         Collected::Done(count, length) => Outcome {
             number: 0,
+            changed: 0,
             length,
             count,
         },
         Collected::Refused(number) => Outcome {
             number,
+            changed: 0,
             length: 0,
             count: 0,
         },

@@ -1,21 +1,29 @@
 -- Laws of the store that packed bytes become: names placed one after the other, as the loop of `place_names` meets them, words copied,
--- and the whole store. Rests on listing_rules' ProgramStore.
-use Rattle.listing_rules.proofs.Prelude.{_∙_, _≡_, ap, refl, subst, sym, false, List, [], _++_, _∷_, append-assoc, append-nil, map, map-append, _%_}
-use Rattle.listing_rules.proofs.Prelude.{_+_, _-_, _/_, _<_, _≤_, suc, zero, ℕ, arith, drop, drop-of-length-le, getD, length, length-append}
-use Rattle.listing_rules.proofs.Prelude.{length-drop, length-map, length-replicate, length-set, length-take, replicate, set, take, drop-cons}
-use Rattle.listing_rules.proofs.Prelude.{drop-drop, drop-set-lt, paste, paste-suc, sets, sets-eq, take-all, take-suc-set}
-use Rattle.listing_rules.specs.Lists.{joined}
-use Rattle.listing_rules.specs.Table.{Row, names, passes, packedRows, packedTable}
+-- the whole store, and its first summary. Rests on listing_rules' ProgramStore.
+use Rattle.listing_rules.proofs.Prelude.{_∙_, _≡_, ap, refl, subst, sym, Bool, cond, false, true, none, leb, le-leb, List, [], _++_, _∷_}
+use Rattle.listing_rules.proofs.Prelude.{append-assoc, append-nil, map, map-append, _%_, _+_, _-_, _/_, _<_, _≤_, suc, zero, ℕ, arith, drop}
+use Rattle.listing_rules.proofs.Prelude.{drop-of-length-le, getD, length, length-append, length-drop, length-map, length-replicate, length-set}
+use Rattle.listing_rules.proofs.Prelude.{length-take, replicate, set, take, drop-cons, drop-drop, drop-set-lt, paste, paste-suc, sets, sets-eq}
+use Rattle.listing_rules.proofs.Prelude.{take-all, take-suc-set}
+use Rattle.listing_rules.specs.Lists.{joined, filledTo}
+use Rattle.listing_rules.specs.Table.{Row, Table, names, passes, packedRows, packedTable}
 use Rattle.listing_rules.specs.Records.{Record as Meant, packedRecords}
-use Rattle.listing_rules.specs.Subscriptions.{Store, zeroRecord}
-use Rattle.listing_rules.specs.Frames.{recordsFrom, filledTo, programStore}
+use Rattle.listing_rules.specs.Subscriptions.{Store, storeTable, storeRows, zeroRecord}
+use Rattle.listing_rules.specs.Summary.{Summary, afresh, noSummary, summarized, countedFirst}
+use Rattle.listing_rules.specs.Frames.{recordsFrom, programStore, programSummed}
 use Rattle.listing_rules.proofs.Passes.{packed-parts, packed-rows}
 use Rattle.listing_rules.proofs.RecordLaws.{packed-count}
-use Rattle.listing_rules.proofs.ProgramStore.{count-from, packed-rows-fit, packed-names-fit}
+use Rattle.listing_rules.proofs.ListLaws.{map-drop}
+use Rattle.listing_rules.proofs.ProgramStore.{count-from, packed-rows-fit, packed-names-fit, program-records, program-store-passes}
+use Rattle.listing_rules.proofs.SummaryAlike.{rows-held}
+use Rattle.listing_rules.proofs.SummaryLaws.{afresh-length}
 use Rattle.octets.specs.Put.{Put}
 use Rattle.octets.proofs.Clearing.{drop-zeros}
 use Rattle.octets.proofs.Puts.{sets-append}
 use Rattle.records.specs.Words.{recordOf, meant}
+use Rattle.records.specs.Numbers.{summaryOf}
+use Rattle.records.specs.Lent.{wordTable, wordStore}
+use Rattle.summary.specs.Counts.{numberedTable}
 use Rattle.mailbox_table.specs.declared.rows.Row.{Row as CodeRow}
 use Rattle.mailbox_table.specs.Words.{rowOfWord}
 use Rattle.mailbox_table.specs.Index.{nameAt, rowsAt, Rest, Indexes}
@@ -211,6 +219,48 @@ module _ {t ws us : List ℕ} {r : Indexing} (x : Indexes t (packedTable t) (pac
 pub laid-few : (t ws a : List ℕ) (count : ℕ) → Lays t ws a (Rows count) → count ≤ 512
 unfolding programStore
 laid-few t ws a count x = omega (arith, ap (λ (s : Store). s .count) (x .1), packed-count t, packed-parts t (x .0) .parts .few)
+
+-- no summary for each zero
+zero-sums : (n : ℕ) → map summaryOf (zeros n) ≡ replicate n noSummary
+unfolding summaryOf noSummary
+zero-sums zero = refl
+zero-sums (suc n) = ap (λ (l : List Summary). noSummary ∷ l) (zero-sums n)
+
+sums-left : (n k : ℕ) → drop k (map summaryOf (zeros n)) ≡ replicate (n - k) noSummary
+sums-left n k = sym (map-drop summaryOf k (zeros n)) ∙ ap (map summaryOf) (drop-zeros n k) ∙ zero-sums (n - k)
+
+-- The first summary of the store, counted over zeros: with it the words are the program's records and their summary.
+module _ (t ws a : List ℕ) (count : ℕ) (short : length t ≤ 16384) (laid : Lays t ws a (Rows count)) (size : length ws ≡ 512) where
+  few : length (packedRecords t) ≤ 512
+  few = omega (arith, packed-count t, packed-parts t (laid .0) .parts .few)
+
+  counted-over : numberedTable ws count a (zeros 512) ≡ storeTable (programStore t)
+  unfolding storeTable
+  counted-over =
+      let enough : leb count (length (zeros 512)) ≡ true = le-leb count (length (zeros 512))
+      (omega (arith, laid-few t ws a count laid, length-replicate {A = ℕ} 512 0)) in
+      let all : ws ≡ take 512 ws = sym (take-all 512 ws (omega (arith, size))) in
+      ap (λ (b : Bool). cond b (wordTable a ws count) none) enough ∙ ap (λ (l : List ℕ). wordTable a l count) all ∙ ap storeTable (laid .1)
+
+  first-sums : summarized (storeTable (programStore t)) (map summaryOf (zeros 512)) .summary ≡ programSummed t .summary
+  unfolding summarized programSummed countedFirst filledTo
+  first-sums =
+      let rs = storeRows (programStore t) in
+      let is = rows-held (programStore t) (program-store-passes t short (laid .0)) in
+      let all = program-records t few in
+      let same : 512 - length rs ≡ length (programStore t .records) - length (afresh rs) = omega (arith, all, afresh-length rs) in
+      rw (program-store-passes t short (laid .0))
+      ((λ i. afresh (is i) ++ drop (length (is i)) (map summaryOf (zeros 512)))
+      ∙ ap (λ (l : List Summary). afresh rs ++ l) (sums-left 512 (length rs) ∙ ap (λ (k : ℕ). replicate k noSummary) same))
+
+  pub laid-summed : (zs ss : List ℕ) → zs ≡ replicate 512 0 →
+      map summaryOf ss ≡ summarized (numberedTable ws count a zs) (map summaryOf zs) .summary →
+      record { store = wordStore ws 512 count a; summary = map summaryOf ss } ≡ programSummed t
+  unfolding programSummed countedFirst
+  laid-summed zs ss blank told =
+      let summed = told ∙ ap (λ (l : List ℕ). summarized (numberedTable ws count a l) (map summaryOf l) .summary) blank
+      ∙ ap (λ (u : Table). summarized u (map summaryOf (zeros 512)) .summary) counted-over ∙ first-sums in
+      λ i. record { store = laid .1 i; summary = summed i }
 
 -- the answer tells which
 module _ (t ws a : List ℕ) {r : Indexing} where

@@ -1,9 +1,11 @@
--- Laws of the lent memory: lines of output and their lengths, the parts that hold what is stored, and a frame that only says a line.
-use Rattle.listing_rules.proofs.Prelude.{_≡_, refl, sym, List, [], _∷_, _*_, _+_, _≤_, ℕ, arith, length, length-append, take, length-take-le}
+-- Laws of the lent memory: lines of output and their lengths, the parts that hold what is stored, records and summary put there, and a frame that only says
+-- a line.
+use Rattle.listing_rules.proofs.Prelude.{_∙_, _≡_, ap, refl, sym, List, [], _++_, _∷_, append-nil, _*_, _+_, _≤_, ℕ, arith, drop, drop-of-length-le}
+use Rattle.listing_rules.proofs.Prelude.{length, length-append, length-drop, take, drop-at, drop-drop, length-take-le, paste, take-at, take-length}
 use Rattle.listing_rules.specs.Frames.{hex, answerLine, refusalLine, answering}
 use Rattle.octets.specs.Put.{Put}
 use Rattle.kept_table.specs.declared.Lengths.{Lengths}
-use Rattle.kept_table.specs.Kept.{Lent, lent, storedIn, Held, Within, outcomeIs, Says, Carries}
+use Rattle.kept_table.specs.Kept.{Lent, lent, numbersWith, storedIn, Held, Within, outcomeIs, Says, Carries}
 
 -- two digits a byte, and a line feed
 length-hex : (bs : List ℕ) → length (hex bs) ≡ 2 * length bs
@@ -38,14 +40,61 @@ module _ {n : Lengths} {t w : List ℕ} (x : Held n t w) where
   whole-area = sym (length-take-le 16384 t (x .table))
 
   pub whole-records : 512 ≡ length (take 512 w)
-  whole-records = sym (length-take-le 512 w (x .records))
+  whole-records = sym (length-take-le 512 w (omega (arith, x .records)))
+
+  pub whole-sums : 512 ≡ length (take 512 (drop 512 w))
+  whole-sums = sym (length-take-le 512 (drop 512 w) (omega (arith, x .records, length-drop 512 w)))
 
 pub whole-namespaces : {n : Lengths} {t w m : List ℕ} → Within n t w m → n .namespaces ≡ length (take (n .namespaces) m)
 whole-namespaces {n} {t} {w} {m} x = sym (length-take-le (n .namespaces) m (omega (arith, x .entries, x .namespaces)))
 
+-- records and summary put into the numbers that are lent: they lie there, and the numbers after them stay
+module _ (words sums numbers : List ℕ) (hw : length words ≡ 512) (hs : length sums ≡ 512) where
+  pub with-words : take 512 (numbersWith words sums numbers) ≡ words
+  with-words = take-at words (sums ++ drop 1024 numbers) 512 hw
+
+  pub with-sums : take 512 (drop 512 (numbersWith words sums numbers)) ≡ sums
+  with-sums = ap (take 512) (drop-at words (sums ++ drop 1024 numbers) 512 hw) ∙ take-at sums (drop 1024 numbers) 512 hs
+
+  pub with-rest : drop 1024 (numbersWith words sums numbers) ≡ drop 1024 numbers
+  with-rest =
+      sym (drop-drop 512 512 (numbersWith words sums numbers))
+      ∙ ap (drop 512) (drop-at words (sums ++ drop 1024 numbers) 512 hw)
+      ∙ drop-at sums (drop 1024 numbers) 512 hs
+
+  -- over numbers whose first 512 are these words
+  pub with-over : numbersWith (take 512 (words ++ drop 512 numbers)) sums (words ++ drop 512 numbers) ≡ numbersWith words sums numbers
+  with-over =
+      let front = take-at words (drop 512 numbers) 512 hw in
+      let rest : drop 1024 (words ++ drop 512 numbers) ≡ drop 1024 numbers = sym (drop-drop 512 512 (words ++ drop 512 numbers))
+      ∙ ap (drop 512) (drop-at words (drop 512 numbers) 512 hw) ∙ drop-drop 512 512 numbers in
+      λ i. front i ++ (sums ++ rest i)
+
+-- words copied over the first numbers, over others that are as many, and a summary over the 512 numbers after the first 512
+pub copied-front : (words numbers : List ℕ) → length words ≡ 512 → paste numbers 0 words (length words) ≡ words ++ drop 512 numbers
+copied-front words numbers hw =
+    let all = take-length words in
+    let size : 0 + length words ≡ 512 = omega (arith, hw) in
+    λ i. all i ++ drop (size i) numbers
+
+pub copied-all : (words numbers : List ℕ) → length words ≡ 512 → length numbers ≡ 512 → paste numbers 0 words (length words) ≡ words
+copied-all words numbers hw hn =
+    copied-front words numbers hw
+    ∙ ap (λ (l : List ℕ). words ++ l) (drop-of-length-le numbers {i = 512} (omega (arith, hn)))
+    ∙ append-nil words
+
+pub copied-sums : (sums numbers copied : List ℕ) → length sums ≡ 512 → length (take 512 (drop 512 numbers)) ≡ 512 →
+    copied ≡ paste (take 512 (drop 512 numbers)) 0 sums (length sums)
+    → take 512 numbers ++ (copied ++ drop 512 (drop 512 numbers)) ≡ numbersWith (take 512 numbers) sums numbers
+copied-sums sums numbers copied hs hn e =
+    let is = e ∙ copied-all sums (take 512 (drop 512 numbers)) hs hn in
+    let rest = drop-drop 512 512 numbers in
+    λ i. take 512 numbers ++ (is i ++ rest i)
+
 -- a frame that only says a line
 module _ (d : Lent) (n : Lengths) (rows : n .table ≤ 16384) (entries : n .namespaces ≤ 1024) where
-  pub carries-said : (line o : List ℕ) (k : ℕ) → Says line (d .out) o k → Carries (answering (storedIn d n) line) d (lent (d .table) (d .records) (d .namespaces) o) (outcomeIs n k)
+  pub carries-said : (line o : List ℕ) (k : ℕ) → Says line (d .out) o k →
+      Carries (answering (storedIn d n) line) d (lent (d .table) (d .records) (d .namespaces) o) (outcomeIs n k)
   unfolding answering
   carries-said line o k x =
       record {

@@ -1,18 +1,21 @@
 -- Laws of commands: the line of the server's answer, what document 02 has a command leave of what is kept, and the memory that holds it.
--- Rests on LentLaws and on listing_rules' CommandLaws and ProgramStore.
-use Rattle.listing_rules.proofs.Prelude.{_∙_, _≡_, ap, refl, subst, sym, Bool, and-false, cond, false, false≢true, true, List, _++_, _∷_, map, _+_}
-use Rattle.listing_rules.proofs.Prelude.{_<_, _≤_, ℕ, arith, drop, length, length-append, length-map, length-take, take, drop-at, length-take-le}
-use Rattle.listing_rules.proofs.Prelude.{paste, sets, sets-eq, take-append-le, take-at, take-take, le-leb, lt-leb}
-use Rattle.listing_rules.specs.Table.{rows, passes, packedTable}
+-- Rests on LentLaws and on listing_rules' CommandLaws, SummaryCommands and ProgramStore.
+use Rattle.listing_rules.proofs.Prelude.{_∙_, _≡_, ap, refl, subst, sym, Bool, and-false, cond, false, false≢true, true, List, [], _++_, _∷_}
+use Rattle.listing_rules.proofs.Prelude.{append-nil, map, min, _+_, _<_, _≤_, ℕ, arith, drop, drop-of-length-le, length, length-append, length-map}
+use Rattle.listing_rules.proofs.Prelude.{length-take, take, drop-at, length-take-le, sets, sets-eq, take-all, take-at, take-take, le-leb, lt-leb}
+use Rattle.listing_rules.specs.Table.{Table, passes, packedTable}
 use Rattle.listing_rules.specs.Readers.{isReader, packedSeen}
 use Rattle.listing_rules.specs.Command.{isEdit, parsed}
 use Rattle.listing_rules.specs.Subscriptions.{Store, storeTable}
 use Rattle.listing_rules.specs.Server.{Reply, refusal, answered, isAnswered, limited, answer, served, fromReader, servedTo, bufferAfter, Commanded}
 use Rattle.listing_rules.specs.Server.{unchangedBy, concluded, commandedOver, commanded}
-use Rattle.listing_rules.specs.Frames.{Kept, bytes, records, Stored, Stepped, answering, answerLine, refusalLine, replyLine, keptSeen, keptStore}
-use Rattle.listing_rules.specs.Frames.{commandOver, accepted, commandStep}
+use Rattle.listing_rules.specs.Summary.{Summed, agrees, sumsAfter, summedOver, SummedCommand, summedCommand, countedFirst}
+use Rattle.listing_rules.specs.Frames.{Kept, bytes, records, Stored, Stepped, answering, answerLine, refusalLine, replyLine, programStore}
+use Rattle.listing_rules.specs.Frames.{programSummed, keptSeen, keptSummed, commandOver, accepted, commandStep}
 use Rattle.listing_rules.proofs.EditPasses.{store-parts}
-use Rattle.listing_rules.proofs.ProgramStore.{answered-over-store, command-over-bytes, command-over-records}
+use Rattle.listing_rules.proofs.ProgramStore.{program-store-seen, program-agrees, command-over-bytes, command-over-records}
+use Rattle.listing_rules.proofs.SummaryCommands.{untouched, refused-sums, read-sums, stranger-summed, disagrees-refused, summed-as, reply-with}
+use Rattle.listing_rules.proofs.SummaryCommands.{store-with}
 use Rattle.listing_rules.proofs.CommandLaws.{refused-leaves, read-leaves, read-answered, table-refused, unsound-ends, command-passes}
 use Rattle.listing_rules.proofs.ReaderLaws.{packed-seen-passes}
 use Rattle.octets.specs.Put.{Put}
@@ -20,14 +23,15 @@ use Rattle.octets.specs.Written.{writtenIs}
 use Rattle.octets.specs.declared.Written.{Written}
 use Rattle.octets.specs.declared.Written.the-variants.{Done, Refused}
 use Rattle.records.specs.Words.{recordOf}
-use Rattle.records.specs.Stores.{wordStore, wordCommand}
-use Rattle.mailbox_table.specs.declared.Indexing.the-variants.{Rows}
+use Rattle.records.specs.Numbers.{summaryOf}
+use Rattle.records.specs.Lent.{wordStore, lentOf, wordSummed}
+use Rattle.records.specs.Stores.{wordCommand}
+use Rattle.server.specs.declared.Stored.{Stored as Answered}
+use Rattle.server.specs.Answering.{memory, Answers}
 use Rattle.kept_table.specs.declared.Lengths.{Lengths}
-use Rattle.kept_table.specs.Kept.{Lent, lent, keptAs, keptIn, storedIn, Within, lengthsIs, outcomeIs, Says}
+use Rattle.kept_table.specs.Kept.{Lent, lent, summedIn, numbersWith, keptAs, keptIn, storedIn, Within, lengthsIs, outcomeIs, Says}
 use Rattle.kept_table.specs.Commanding.{commandLine, writtenLine, answerLength, Fits, Obeys}
-use Rattle.kept_table.specs.Laying.{Lays}
-use Rattle.kept_table.proofs.LayLaws.{laid-few}
-use Rattle.kept_table.proofs.LentLaws.{length-line, says, says-refusal, whole-area, whole-records, carries-said}
+use Rattle.kept_table.proofs.LentLaws.{length-line, says, says-refusal, whole-area, with-words, with-sums, with-rest, with-over, carries-said}
 
 -- The line of an answer that lies in its buffer.
 module _ {w : Written} {a : List ℕ} (f : Fits w a) where
@@ -75,14 +79,60 @@ unfolding writtenIs isAnswered
 reply-answered (refusal j) n e = cc
 reply-answered (answered a) n e = refl
 
--- What a command leaves stored: the same where it is no edit or is refused, else the records that the edit leaves.
+-- What the server's command over 512 words and their summary comes to: what it wrote, and the words, the summary, the area and the answer buffer then.
+pub record Came (c : SummedCommand) (b vs ss us e : List ℕ) (r : Answered) : Type 0 where
+  pub written : r .written ≡ writtenIs (c .reply)
+  pub count : r .count ≡ c .left .store .count
+  pub bytes : e ≡ bufferAfter b (c .reply)
+  pub area : us ≡ c .left .store .area
+  pub records : map recordOf vs ≡ c .left .store .records
+  pub summary : map summaryOf ss ≡ c .left .summary
+  pub size : length vs ≡ 512
+
+module _ (ws sums area b : List ℕ) (count reader : ℕ) (spaces l : List ℕ) (hw : length ws ≡ 512) (hs : length sums ≡ 512) where
+  abbrev all : Summed
+  all = record { store = wordStore ws 512 count area; summary = map summaryOf sums }
+
+  -- all of them are lent
+  every-lent : lentOf ws (length ws) sums ≡ 512
+  every-lent = omega (arith, hw, hs)
+
+  all-summed : wordSummed ws (length ws) count area sums ≡ all
+  all-summed =
+      let summary : take (lentOf ws (length ws) sums) sums ≡ sums = take-all (lentOf ws (length ws) sums) sums (omega (arith, hw, hs)) in
+      λ i. record { store = wordStore ws (every-lent i) count area; summary = map summaryOf (summary i) }
+
+  came-over : summedCommand reader (wordSummed ws (length ws) count area sums) spaces l b ≡ summedCommand reader all spaces l b
+  came-over = ap (λ (m : Summed). summedCommand reader m spaces l b) all-summed
+
+  pub came : {vs ss us e : List ℕ} {r : Answered} →
+      Answers (wordCommand ws (length ws) count reader area sums spaces l b) (memory ws sums area b) (memory vs ss us e) r →
+      Came (summedCommand reader (record { store = wordStore ws 512 count area; summary = map summaryOf sums }) spaces l b) b vs ss us e r
+  came {vs} {ss} {us} {e} {r} x =
+      let lent-all : min (length ws) (length sums) ≡ 512 = omega (arith, hw, hs) in
+      let size : length vs ≡ 512 = x .between .size ∙ hw in
+      let words : take (min (length ws) (length sums)) vs ≡ vs = take-all (min (length ws) (length sums)) vs (omega (arith, size, lent-all)) in
+      let none-left : drop (lentOf ws (length ws) sums) (map summaryOf sums) ≡ [] = drop-of-length-le (map summaryOf sums)
+      {i = lentOf ws (length ws) sums}
+      (omega (arith, every-lent, length-map sums summaryOf, hs)) in
+      record {
+        written = x .written ∙ ap (λ (c : SummedCommand). writtenIs (c .reply)) came-over;
+        count = x .count ∙ ap (λ (c : SummedCommand). c .left .store .count) came-over;
+        bytes = x .bytes ∙ ap (λ (c : SummedCommand). bufferAfter b (c .reply)) came-over;
+        area = x .area ∙ ap (λ (c : SummedCommand). c .left .store .area) came-over;
+        records = sym (ap (map recordOf) words) ∙ x .records ∙ ap (λ (c : SummedCommand). c .left .store .records) came-over;
+        summary = x .summary ∙ (λ i. came-over i .left .summary ++ none-left i) ∙ append-nil (summedCommand reader all spaces l b .left .summary);
+        size = size;
+      }
+
+-- What a command leaves stored: the same where it is no edit or is refused, else the records with their summary that the edit leaves.
 module _ (s : Stored) (reader : ℕ) (l : List ℕ) where
-  abbrev over : Commanded
+  abbrev over : SummedCommand
   over = commandOver reader (s .table) (s .namespaces) l
 
   abbrev kept-after : Bool → Stepped
   kept-after b =
-      record { stored = record { table = cond b (records (over .store)) (s .table); namespaces = s .namespaces }; output = replyLine (over .reply) }
+      record { stored = record { table = cond b (records (over .left)) (s .table); namespaces = s .namespaces }; output = replyLine (over .reply) }
 
   by-case : (b : Bool) → accepted (parsed l) (over .reply) ≡ b → commandStep s reader l ≡ kept-after b
   unfolding commandStep
@@ -100,50 +150,99 @@ module _ (s : Stored) (reader : ℕ) (l : List ℕ) where
   unfolding accepted
   step-accepted e a = by-case true (rw (e, a))
 
--- over records: the records that the command leaves
-module _ (reader : ℕ) (s : Store) (spaces l b : List ℕ) (size : length b ≡ 16384) where
-  abbrev done : Commanded
-  done = commanded reader s spaces l b
+-- over records with their summary
+module _ (reader : ℕ) (m : Summed) (spaces l b : List ℕ) where
+  abbrev done : SummedCommand
+  done = summedCommand reader m spaces l b
 
-  same : commandOver reader (records s) spaces l ≡ done
-  same = command-over-records reader s spaces l b size
+  abbrev plain : Commanded
+  plain = commanded reader (m .store) spaces l b
 
-  abbrev leaves : Commanded → Stepped
-  leaves c = record { stored = record { table = records (c .store); namespaces = spaces }; output = replyLine (c .reply) }
-
-  step-records : commandStep (record { table = records s; namespaces = spaces }) reader l ≡ leaves done
-  unfolding answering
-  step-records = go (isEdit (parsed l)) refl
+  -- a summary that disagrees is refused
+  disagreed : agrees m ≡ false → (k : ℕ) × (done ≡ untouched m k)
+  disagreed h = go (isReader reader) refl
     where
-      stays : done .store ≡ s →
-          commandStep (record { table = records s; namespaces = spaces }) reader l ≡ record
-          { stored = record { table = records s; namespaces = spaces }; output = replyLine (commandOver reader (records s) spaces l .reply) } →
-          commandStep (record { table = records s; namespaces = spaces }) reader l ≡ leaves done
-      stays e x = x ∙ (λ i. record { stored = record { table = records (sym e i); namespaces = spaces }; output = replyLine (same i .reply) })
+      go : (o : Bool) → isReader reader ≡ o → (k : ℕ) × (done ≡ untouched m k)
+      go true r = (1, disagrees-refused reader m spaces l b r h)
+      go false r = (16, stranger-summed reader m spaces l b r)
 
-      judged : isEdit (parsed l) ≡ true → (r : Reply) → done .reply ≡ r →
-          commandStep (record { table = records s; namespaces = spaces }) reader l ≡ leaves done
-      judged e (refusal k) q = stays (refused-leaves reader s spaces l b k q)
-          (step-refused (record { table = records s; namespaces = spaces }) reader l k (ap (λ (c : Commanded). c .reply) same ∙ q))
-      judged e (answered a) q = step-accepted (record { table = records s; namespaces = spaces }) reader l e
-          (unfold isAnswered in ap (λ (c : Commanded). isAnswered (c .reply)) same ∙ ap isAnswered q) ∙ ap leaves same
+  -- so a refusal leaves both, and a command that is no edit
+  left-by : (agrees m ≡ true → (plain .store ≡ m .store) × (sumsAfter m (parsed l) (plain .reply) ≡ m .summary)) → done .left ≡ m
+  left-by stay = go (agrees m) refl
+    where
+      go : (o : Bool) → agrees m ≡ o → done .left ≡ m
+      go true h =
+          ap (λ (c : SummedCommand). c .left) (summed-as m h reader spaces l b)
+          ∙ (λ i. record { store = stay h .0 i; summary = stay h .1 i })
+      go false h = ap (λ (c : SummedCommand). c .left) (disagreed h .1)
 
-      go : (o : Bool) → isEdit (parsed l) ≡ o → commandStep (record { table = records s; namespaces = spaces }) reader l ≡ leaves done
-      go false e = stays (read-leaves reader s spaces l b e) (step-read (record { table = records s; namespaces = spaces }) reader l e)
-      go true e = judged e (done .reply) refl
+  left-refused : (k : ℕ) → done .reply ≡ refusal k → done .left ≡ m
+  left-refused k q = left-by (λ h. let r = sym (reply-with m h reader spaces l b) ∙ q in (
+    refused-leaves reader (m .store) spaces l b k r,
+    ap (sumsAfter m (parsed l)) r ∙ refused-sums m (parsed l) k,
+  ))
 
-  -- and no more rows than there are records, or as many as before
-  few-after : s .count ≤ 16384 → length (done .store .records) ≤ 512 → done .store .count ≤ 16384
+  left-read : isEdit (parsed l) ≡ false → done .left ≡ m
+  left-read e = left-by (λ h. (read-leaves reader (m .store) spaces l b e, read-sums m (parsed l) (plain .reply) e))
+
+  -- no more rows than there are records, or as many as before
+  few-after : m .store .count ≤ 16384 → length (done .left .store .records) ≤ 512 → done .left .store .count ≤ 16384
   unfolding unchangedBy
-  few-after h few = go (passes (storeTable s)) refl
+  few-after h few = go (agrees m) refl
     where
-      go : (o : Bool) → passes (storeTable s) ≡ o → done .store .count ≤ 16384
-      go true e = omega (arith, few, store-parts (done .store) (command-passes reader s spaces l b e) .counted)
-      go false e = omega (arith, h, ap (λ (c : Commanded). c .store .count) (unsound-ends reader s spaces l b e .1))
+      sound : agrees m ≡ true → (o : Bool) → passes (storeTable (m .store)) ≡ o → done .left .store .count ≤ 16384
+      sound a true e =
+          let same = store-with m a reader spaces l b in
+          omega (
+            arith,
+            few,
+            ap (λ (s : Store). length (s .records)) same,
+            ap (λ (s : Store). s .count) same,
+            store-parts (plain .store) (command-passes reader (m .store) spaces l b e) .counted,
+          )
+      sound a false e =
+          omega (
+            arith,
+            h,
+            ap (λ (s : Store). s .count) (store-with m a reader spaces l b),
+            ap (λ (c : Commanded). c .store .count) (unsound-ends reader (m .store) spaces l b e .1),
+          )
+
+      go : (o : Bool) → agrees m ≡ o → done .left .store .count ≤ 16384
+      go true a = sound a (passes (storeTable (m .store))) refl
+      go false a = omega (arith, h, ap (λ (c : SummedCommand). c .left .store .count) (disagreed a .1))
+
+  module _ (size : length b ≡ 16384) where
+    same : commandOver reader (records m) spaces l ≡ done
+    same = command-over-records reader m spaces l b size
+
+    abbrev leaves : SummedCommand → Stepped
+    leaves c = record { stored = record { table = records (c .left); namespaces = spaces }; output = replyLine (c .reply) }
+
+    step-records : commandStep (record { table = records m; namespaces = spaces }) reader l ≡ leaves done
+    unfolding answering
+    step-records = go (isEdit (parsed l)) refl
+      where
+        stays : done .left ≡ m →
+            commandStep (record { table = records m; namespaces = spaces }) reader l ≡ record
+            { stored = record { table = records m; namespaces = spaces }; output = replyLine (commandOver reader (records m) spaces l .reply) } →
+            commandStep (record { table = records m; namespaces = spaces }) reader l ≡ leaves done
+        stays e x = x ∙ (λ i. record { stored = record { table = records (sym e i); namespaces = spaces }; output = replyLine (same i .reply) })
+
+        judged : isEdit (parsed l) ≡ true → (r : Reply) → done .reply ≡ r →
+            commandStep (record { table = records m; namespaces = spaces }) reader l ≡ leaves done
+        judged e (refusal k) q = stays (left-refused k q)
+            (step-refused (record { table = records m; namespaces = spaces }) reader l k (ap (λ (c : SummedCommand). c .reply) same ∙ q))
+        judged e (answered a) q = step-accepted (record { table = records m; namespaces = spaces }) reader l e
+            (unfold isAnswered in ap (λ (c : SummedCommand). isAnswered (c .reply)) same ∙ ap isAnswered q) ∙ ap leaves same
+
+        go : (o : Bool) → isEdit (parsed l) ≡ o → commandStep (record { table = records m; namespaces = spaces }) reader l ≡ leaves done
+        go false e = stays (left-read e) (step-read (record { table = records m; namespaces = spaces }) reader l e)
+        go true e = judged e (done .reply) refl
 
 -- a reader above 7
 stranger-over : (reader : ℕ) (k : Kept) (spaces l : List ℕ) → isReader reader ≡ false → commandOver reader k spaces l .reply ≡ refusal 16
-unfolding commandOver commandedOver unchangedBy
+unfolding commandOver summedOver commandedOver unchangedBy
 stranger-over reader k spaces l e = rw e
 
 -- over packed bytes
@@ -152,13 +251,13 @@ module _ (reader : ℕ) (t spaces l : List ℕ) where
   seen-refused e = table-refused (packedSeen reader t) spaces l (packed-seen-passes reader t ∙ e)
 
   table-fails : isReader reader ≡ true → passes (packedTable t) ≡ false → commandOver reader (bytes t) spaces l .reply ≡ refusal 1
-  unfolding commandOver commandedOver keptSeen concluded unchangedBy
+  unfolding commandOver summedOver commandedOver keptSeen concluded unchangedBy
   table-fails r e = rw (r, seen-refused e)
 
   -- a command that is no edit is answered as the packed bytes are read
   reads-packed : (b : List ℕ) → length b ≡ 16384 → length t ≤ 16384 → isEdit (parsed l) ≡ false
       → servedTo reader (packedSeen reader t) spaces l b ≡ commandOver reader (bytes t) spaces l .reply
-  unfolding servedTo served keptSeen
+  unfolding servedTo served keptSeen keptSummed programSummed countedFirst
   reads-packed b size short e = go (passes (packedTable t)) refl
     where
       fails : (o : Bool) → isReader reader ≡ o → passes (packedTable t) ≡ false
@@ -169,9 +268,10 @@ module _ (reader : ℕ) (t spaces l : List ℕ) where
       go : (o : Bool) → passes (packedTable t) ≡ o
           → fromReader reader (limited (length b) (answer (packedSeen reader t) spaces l)) ≡ commandOver reader (bytes t) spaces l .reply
       go true p =
-          ap (λ (r : Reply). fromReader reader (limited (length b) r)) (answered-over-store reader t short p spaces l)
-          ∙ sym (read-answered reader (keptStore (bytes t)) spaces l b e)
-          ∙ sym (ap (λ (c : Commanded). c .reply) (command-over-bytes reader t short p spaces l b size))
+          ap (λ (u : Table). fromReader reader (limited (length b) (answer u spaces l))) (sym (program-store-seen t short p reader))
+          ∙ sym (read-answered reader (programStore t) spaces l b e)
+          ∙ sym (reply-with (programSummed t) (program-agrees t) reader spaces l b)
+          ∙ sym (ap (λ (c : SummedCommand). c .reply) (command-over-bytes reader t short p spaces l b size))
       go false p = fails (isReader reader) refl p
 
   pub reads-line : (b a o p : List ℕ) (w : Written) (r : ℕ) → length b ≡ 16384 → length t ≤ 16384 → isEdit (parsed l) ≡ false →
@@ -181,12 +281,12 @@ module _ (reader : ℕ) (t spaces l : List ℕ) where
       subst (λ (line : List ℕ). Says line o p r) (ap replyLine (reads-packed b size short e))
       (reply-says (servedTo reader (packedSeen reader t) spaces l b) b a i m x)
 
-  -- an edit is judged on the store that the packed bytes become
-  first-over : (ws a b : List ℕ) (count : ℕ) → length b ≡ 16384 → length t ≤ 16384 → Lays t ws a (Rows count) →
-      commandOver reader (bytes t) spaces l ≡ wordCommand ws 512 count reader a spaces l b
-  unfolding keptStore
-  first-over ws a b count size short laid =
-      command-over-bytes reader t short (laid .0) spaces l b size ∙ ap (λ (s : Store). commanded reader s spaces l b) (sym (laid .1))
+  -- an edit is judged on the store that the packed bytes become, with its first summary
+  first-over : (m : Summed) (b : List ℕ) → length b ≡ 16384 → length t ≤ 16384 → passes (packedTable t) ≡ true → m ≡ programSummed t →
+      commandOver reader (bytes t) spaces l ≡ summedCommand reader m spaces l b
+  unfolding keptSummed
+  first-over m b size short p is =
+      command-over-bytes reader t short p spaces l b size ∙ ap (λ (s : Summed). summedCommand reader s spaces l b) (sym is)
 
 -- The memory that was `d`, of which `n` is stored, after the command l.
 module _ (d : Lent) (n : Lengths) (x : Within n (d .table) (d .records) (d .namespaces)) (reader : ℕ) (l : List ℕ) where
@@ -199,7 +299,7 @@ module _ (d : Lent) (n : Lengths) (x : Within n (d .table) (d .records) (d .name
   kept-bytes : n .edited ≡ false → keptIn d n ≡ bytes packed
   kept-bytes e = ap (λ (b : Bool). keptAs b (n .table) (d .table) (d .records)) e
 
-  kept-records : n .edited ≡ true → keptIn d n ≡ records (wordStore (d .records) 512 (n .table) (take 16384 (d .table)))
+  kept-records : n .edited ≡ true → keptIn d n ≡ records (summedIn (n .table) (d .table) (d .records))
   kept-records e = ap (λ (b : Bool). keptAs b (n .table) (d .table) (d .records)) e
 
   -- nothing but the output changes where it is no edit, and where it is refused
@@ -234,106 +334,108 @@ module _ (d : Lent) (n : Lengths) (x : Within n (d .table) (d .records) (d .name
       Obeys n reader l d (lent (d .table) (d .records) (d .namespaces) o) (outcomeIs n k)
   first-fails o k e r f put = obeys-number 1 o k e (table-fails reader packed spaces l (unfold isReader in le-leb reader 7 r) f) put
 
-  -- records are kept where it leaves the store of c
-  obeys-kept : (c : Commanded) (t w o : List ℕ) (k : ℕ) →
-      commandStep (storedIn d n) reader l ≡ record
-      { stored = record { table = records (c .store); namespaces = spaces }; output = replyLine (c .reply) }
-      → c .store .count ≤ 16384 → take 16384 t ≡ c .store .area → map recordOf (take 512 w) ≡ c .store .records →
-      drop 16384 t ≡ drop 16384 (d .table) → drop 512 w ≡ drop 512 (d .records) → Says (replyLine (c .reply)) (d .out) o k
-      → Obeys n reader l d (lent t w (d .namespaces) o) (outcomeIs (lengthsIs (c .store .count) (n .namespaces) true) k)
-  obeys-kept c t w o k step few area told behind others s =
-      rw step (record {
-        table = λ i. records (record { records = told i; count = c .store .count; area = area i });
-        namespaces = refl;
-        table-room = few;
-        namespaces-room = x .entries;
-        table-behind = behind;
-        records-behind = others;
-        records-stay = λ e. absurd (false≢true (sym e));
-        namespaces-behind = refl;
-        says = s;
-      })
+  -- records are kept where it leaves what c has left: the area lies in the table's memory, words and summary in the numbers
+  module _ (c : SummedCommand) (us vs ss : List ℕ) (area : us ≡ c .left .store .area) (told : map recordOf vs ≡ c .left .store .records)
+      (summed : map summaryOf ss ≡ c .left .summary) (hu : length us ≡ 16384) (hv : length vs ≡ 512) (hs : length ss ≡ 512) where
+    obeys-kept : (o : List ℕ) (k : ℕ) →
+        commandStep (storedIn d n) reader l ≡ record
+        { stored = record { table = records (c .left); namespaces = spaces }; output = replyLine (c .reply) }
+        → c .left .store .count ≤ 16384 → Says (replyLine (c .reply)) (d .out) o k
+        → Obeys n reader l d (lent (us ++ drop 16384 (d .table)) (numbersWith vs ss (d .records)) (d .namespaces) o)
+        (outcomeIs (lengthsIs (c .left .store .count) (n .namespaces) true) k)
+    obeys-kept o k step few s =
+        let area-is = take-at us (drop 16384 (d .table)) 16384 hu ∙ area in
+        let records-are = ap (map recordOf) (with-words vs ss (d .records) hv hs) ∙ told in
+        let summary-is = ap (map summaryOf) (with-sums vs ss (d .records) hv hs) ∙ summed in
+        rw step (record {
+          table = λ i. records (record {
+            store = record { records = records-are i; count = c .left .store .count; area = area-is i };
+            summary = summary-is i;
+          });
+          namespaces = refl;
+          table-room = few;
+          namespaces-room = x .entries;
+          table-behind = drop-at us (drop 16384 (d .table)) 16384 hu;
+          records-behind = with-rest vs ss (d .records) hv hs;
+          records-stay = λ e. absurd (false≢true (sym e));
+          namespaces-behind = refl;
+          says = s;
+        })
 
-  -- over the records: the area is `us` then and the words are `vs`
-  module _ (e : n .edited ≡ true) (b us vs : List ℕ) (size : length b ≡ 16384) where
-    abbrev changed : Commanded
-    changed = wordCommand (take 512 (d .records)) 512 (n .table) reader (take 16384 (d .table)) spaces l b
+    few-records : length (c .left .store .records) ≤ 512
+    few-records = omega (arith, sym (ap length told), length-map vs recordOf, hv)
 
-    stored-as : commandStep (storedIn d n) reader l ≡ record
-        { stored = record { table = records (changed .store); namespaces = spaces }; output = replyLine (changed .reply) }
+  -- over the records: what the server's command over them came to
+  module _ (e : n .edited ≡ true) (b sums : List ℕ) (size : length b ≡ 16384) (are : sums ≡ take 512 (drop 512 (d .records))) where
+    abbrev held : Summed
+    held = record { store = wordStore (take 512 (d .records)) 512 (n .table) (take 16384 (d .table)); summary = map summaryOf sums }
+
+    stored-as : commandStep (storedIn d n) reader l ≡ record {
+      stored = record { table = records (summedCommand reader held spaces l b .left); namespaces = spaces };
+      output = replyLine (summedCommand reader held spaces l b .reply);
+    }
     stored-as =
-        let words = sym (take-take 512 512 (d .records) (omega arith)) in
-        let kept : storedIn d n ≡ record
-        { table = records (wordStore (take 512 (d .records)) 512 (n .table) (take 16384 (d .table))); namespaces = spaces } =
-        λ i. record
-        { table = (kept-records e ∙ ap (λ (w : List ℕ). records (record { records = map recordOf w; count = n .table; area = take 16384 (d .table) })) words) i; namespaces = spaces } in
-        ap (λ (s : Stored). commandStep s reader l) kept ∙ step-records reader
-        (wordStore (take 512 (d .records)) 512 (n .table) (take 16384 (d .table))) spaces l b size
+        let again = sym (take-take 512 512 (d .records) (omega arith)) in
+        let was = sym are in
+        let kept : keptIn d n ≡ records held = kept-records e ∙
+        (λ i. records (record
+        { store = record { records = map recordOf (again i); count = n .table; area = take 16384 (d .table) }; summary = map summaryOf (was i) })) in
+        (λ i. commandStep (record { table = kept i; namespaces = spaces }) reader l) ∙ step-records reader held spaces l b size
 
-    pub obeys-records : (o : List ℕ) (count k : ℕ) → count ≡ changed .store .count → us ≡ changed .store .area →
-        map recordOf (take 512 vs) ≡ changed .store .records
-        → length us ≡ length (take 16384 (d .table)) → length vs ≡ length (take 512 (d .records)) → Says (replyLine (changed .reply)) (d .out) o k
-        → Obeys n reader l d (lent (us ++ drop 16384 (d .table)) (vs ++ drop 512 (d .records)) (d .namespaces) o)
-        (outcomeIs (lengthsIs count (n .namespaces) true) k)
-    obeys-records o count k counts area told lu lv s =
+    pub obeys-records : (us vs ss f o : List ℕ) (r : Answered) (k : ℕ) →
+        Came (summedCommand reader (record
+        { store = wordStore (take 512 (d .records)) 512 (n .table) (take 16384 (d .table)); summary = map summaryOf sums }) spaces l b)
+        b vs ss us f r
+        → length us ≡ length (take 16384 (d .table)) → length ss ≡ 512 → Says (writtenLine (r .written) f) (d .out) o k
+        → Obeys n reader l d
+        (lent (us ++ drop 16384 (d .table)) (numbersWith (take 512 (vs ++ drop 512 (d .records))) ss (vs ++ drop 512 (d .records))) (d .namespaces) o)
+        (outcomeIs (lengthsIs (r .count) (n .namespaces) true) k)
+    obeys-records us vs ss f o r k c lu hs s =
         let hu : length us ≡ 16384 = lu ∙ sym (whole-area (x .held)) in
-        let hv : length vs ≡ 512 = lv ∙ sym (whole-records (x .held)) in
-        let front : take 512 (vs ++ drop 512 (d .records)) ≡ take 512 vs = take-append-le 512 vs (drop 512 (d .records)) (omega (arith, hv)) in
-        let few : length (changed .store .records) ≤ 512 = omega (arith, ap length told, length-map (take 512 vs) recordOf, length-take 512 vs) in
-        rw counts
-        (obeys-kept changed (us ++ drop 16384 (d .table)) (vs ++ drop 512 (d .records)) o k stored-as
-        (few-after reader (wordStore (take 512 (d .records)) 512 (n .table) (take 16384 (d .table))) spaces l b size (x .held .rows) few)
-        (take-at us (drop 16384 (d .table)) 16384 hu ∙ area)
-        (ap (map recordOf) front ∙ told)
-        (drop-at us (drop 16384 (d .table)) 16384 hu)
-        (drop-at vs (drop 512 (d .records)) 512 hv)
-        s)
+        let done = summedCommand reader held spaces l b in
+        let few = few-after reader held spaces l b (x .held .rows) (few-records done us vs ss (c .area) (c .records) (c .summary) hu (c .size) hs) in
+        rw (c .count, with-over vs ss (d .records) (c .size) hs)
+        (obeys-kept done us vs ss (c .area) (c .records) (c .summary) hu (c .size) hs o k stored-as few
+        (reply-says (done .reply) b f (c .written) (c .bytes) s))
 
-  -- over the packed bytes, an edit: the store that they become is `ws` and `a`
-  module _ (e : n .edited ≡ false) (edit : isEdit (parsed l) ≡ true) (ws a b : List ℕ) (count : ℕ) (size : length b ≡ 16384)
-      (laid : Lays packed ws a (Rows count)) where
-    abbrev made : Commanded
-    made = wordCommand ws 512 count reader a spaces l b
+  -- over the packed bytes, an edit: the store that they become, with its first summary, is m
+  module _ (e : n .edited ≡ false) (edit : isEdit (parsed l) ≡ true) (m : Summed) (b : List ℕ) (size : length b ≡ 16384)
+      (p : passes (packedTable packed) ≡ true) (is : m ≡ programSummed packed) where
+    abbrev made : SummedCommand
+    made = summedCommand reader m spaces l b
 
     over-made : commandOver reader (bytes packed) spaces l ≡ made
-    over-made = first-over reader packed spaces l ws a b count size (omega (arith, length-take (n .table) (d .table), x .held .rows)) laid
+    over-made = first-over reader packed spaces l m b size (omega (arith, length-take (n .table) (d .table), x .held .rows)) p is
 
     -- it is refused
-    pub first-refused : (j : ℕ) (o : List ℕ) (k : ℕ) → made .reply ≡ refusal j → Says (replyLine (made .reply)) (d .out) o k →
+    pub first-refused : (vs ss us f o : List ℕ) (r : Answered) (j k : ℕ) → Came (summedCommand reader m spaces l b) b vs ss us f r →
+        r .written ≡ Refused j → Says (writtenLine (r .written) f) (d .out) o k →
         Obeys n reader l d (lent (d .table) (d .records) (d .namespaces) o) (outcomeIs n k)
-    first-refused j o k r s =
-        obeys-refused j o k e (ap (λ (c : Commanded). c .reply) over-made ∙ r) (rw over-made s)
+    first-refused vs ss us f o r j k c q s =
+        obeys-refused j o k e (ap (λ (y : SummedCommand). y .reply) over-made ∙ reply-refused (made .reply) j (sym q ∙ c .written))
+        (rw over-made (reply-says (made .reply) b f (c .written) (c .bytes) s))
 
     step-made : isAnswered (made .reply) ≡ true →
         commandStep (storedIn d n) reader l ≡ record
-        { stored = record { table = records (made .store); namespaces = spaces }; output = replyLine (made .reply) }
+        { stored = record { table = records (made .left); namespaces = spaces }; output = replyLine (made .reply) }
     step-made r =
-        let kept : storedIn d n ≡ record { table = bytes packed; namespaces = spaces } = λ i. record
-        { table = kept-bytes e i; namespaces = spaces } in
-        ap (λ (s : Stored). commandStep s reader l) kept
+        (λ i. commandStep (record { table = kept-bytes e i; namespaces = spaces }) reader l)
         ∙ step-accepted (record { table = bytes packed; namespaces = spaces }) reader l edit
-        (ap (λ (c : Commanded). isAnswered (c .reply)) over-made ∙ r)
-        ∙ ap (λ (c : Commanded). record { stored = record { table = records (c .store); namespaces = spaces }; output = replyLine (c .reply) })
+        (ap (λ (c : SummedCommand). isAnswered (c .reply)) over-made ∙ r)
+        ∙ ap (λ (c : SummedCommand). record { stored = record { table = records (c .left); namespaces = spaces }; output = replyLine (c .reply) })
         over-made
 
-    -- it is accepted: words and area lie in the memory now
-    pub first-accepted : (us vs o : List ℕ) (rows k : ℕ) → isAnswered (made .reply) ≡ true → rows ≡ made .store .count → us ≡ made .store .area →
-        map recordOf (take 512 vs) ≡ made .store .records
-        → length us ≡ 16384 → length vs ≡ 512 → Says (replyLine (made .reply)) (d .out) o k
-        → Obeys n reader l d (lent (sets (d .table) 0 us) (paste (d .records) 0 vs (length vs)) (d .namespaces) o)
-        (outcomeIs (lengthsIs rows (n .namespaces) true) k)
-    first-accepted us vs o rows k r counts area told hu hv s =
-        let words : paste (d .records) 0 vs (length vs) ≡ take 512 vs ++ drop 512 (d .records) = ap (paste (d .records) 0 vs) hv in
-        let front : length (take 512 vs) ≡ 512 = length-take-le 512 vs (omega (arith, hv)) in
+    -- it is accepted: area, words and summary lie in the memory now
+    pub first-accepted : (vs ss us f o : List ℕ) (r : Answered) (j k : ℕ) → Came (summedCommand reader m spaces l b) b vs ss us f r →
+        r .written ≡ Done j → m .store .count ≤ 16384 → length us ≡ 16384 → length ss ≡ 512 → Says (writtenLine (r .written) f) (d .out) o k
+        → Obeys n reader l d (lent (sets (d .table) 0 us) (numbersWith vs ss (d .records)) (d .namespaces) o)
+        (outcomeIs (lengthsIs (r .count) (n .namespaces) true) k)
+    first-accepted vs ss us f o r j k c q counted hu hs s =
         let end : 0 + length us ≡ 16384 = omega (arith, hu) in
         let bytes-are : sets (d .table) 0 us ≡ us ++ drop 16384 (d .table) = sets-eq us (d .table) 0 (omega (arith, hu, x .held .table)) ∙ ap
-        (λ (j : ℕ). us ++ drop j (d .table)) end in
-        let few : length (made .store .records) ≤ 512 = omega (arith, ap length told, length-map (take 512 vs) recordOf, front) in
-        rw counts
-        (obeys-kept made (sets (d .table) 0 us) (paste (d .records) 0 vs (length vs)) o k (step-made r)
-        (few-after reader (wordStore ws 512 count a) spaces l b size (omega (arith, laid-few packed ws a count laid)) few)
-        (ap (take 16384) bytes-are ∙ take-at us (drop 16384 (d .table)) 16384 hu ∙ area)
-        (ap (λ (l : List ℕ). map recordOf (take 512 l)) words ∙ ap (map recordOf) (take-at (take 512 vs) (drop 512 (d .records)) 512 front) ∙ told)
-        (ap (drop 16384) bytes-are ∙ drop-at us (drop 16384 (d .table)) 16384 hu)
-        (ap (drop 512) words ∙ drop-at (take 512 vs) (drop 512 (d .records)) 512 front)
-        s)
+        (λ (i : ℕ). us ++ drop i (d .table)) end in
+        let few = few-after reader m spaces l b counted (few-records made us vs ss (c .area) (c .records) (c .summary) hu (c .size) hs) in
+        rw (c .count, bytes-are)
+        (obeys-kept made us vs ss (c .area) (c .records) (c .summary) hu (c .size) hs o k
+        (step-made (reply-answered (made .reply) j (sym q ∙ c .written))) few
+        (reply-says (made .reply) b f (c .written) (c .bytes) s))

@@ -1,13 +1,12 @@
 -- Laws of walks: the table that the collector goes over is the one that the reader sees of what is kept, and the line of what it found. Rests on LentLaws.
-use Rattle.listing_rules.proofs.Prelude.{_∙_, _≡_, ap, sym, Bool, false, true, List, _∷_, _%_, _-_, _/_, _≤_, ℕ, arith, length, length-append}
+use Rattle.listing_rules.proofs.Prelude.{_∙_, _≡_, ap, sym, Bool, false, true, List, _∷_, _%_, _-_, _/_, _≤_, ℕ, arith, drop, length, length-append}
 use Rattle.listing_rules.proofs.Prelude.{length-replicate, replicate, take, take-at}
 use Rattle.listing_rules.specs.Table.{Table}
 use Rattle.listing_rules.specs.Readers.{packedSeen}
-use Rattle.listing_rules.specs.Subscriptions.{storeSeen}
 use Rattle.listing_rules.specs.Walk.{WalkReply, walkRefused, walked, walkBy, collectedBy, foundAfter, zeroBehind}
 use Rattle.listing_rules.specs.Frames.{keptSeen, answerLine, refusalLine, walkLine}
 use Rattle.octets.specs.Put.{Put}
-use Rattle.records.specs.Lent.{wordSeen}
+use Rattle.records.specs.Lent.{wordsSeen}
 use Rattle.collector.specs.Result.{collectedIs}
 use Rattle.collector.specs.declared.Collected.{Collected}
 use Rattle.collector.specs.declared.Collected.the-variants.{Done, Refused}
@@ -17,8 +16,9 @@ use Rattle.kept_table.proofs.LentLaws.{length-line, says, says-refusal}
 
 -- the table that a reader sees of what is kept
 module _ (reader : ℕ) (n : Lengths) (t w : List ℕ) where
-  pub walks-records : n .edited ≡ true → wordSeen reader (take 16384 t) (take 512 w) (n .table) ≡ keptSeen reader (keptOf n t w)
-  unfolding keptSeen storeSeen
+  pub walks-records : n .edited ≡ true
+      → wordsSeen reader (take 512 w) (n .table) (take 16384 t) (take 512 (drop 512 w)) ≡ keptSeen reader (keptOf n t w)
+  unfolding keptSeen
   walks-records e = sym (ap (λ (b : Bool). keptSeen reader (keptAs b (n .table) t w)) e)
 
   pub walks-packed : n .edited ≡ false → packedSeen reader (take (n .table) t) ≡ keptSeen reader (keptOf n t w)

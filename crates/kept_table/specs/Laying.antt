@@ -7,7 +7,7 @@ use Prim.Native.Nat.{ℕ, _+_, _≤_, _<_}
 use Rattle.listing_rules.specs.Lists.{joined}
 use Rattle.listing_rules.specs.Table.{Row, names, passes, packedTable}
 use Rattle.listing_rules.specs.Frames.{programStore}
-use Rattle.records.specs.Stores.{wordStore}
+use Rattle.records.specs.Lent.{wordStore}
 use Rattle.mailbox_table.specs.Index.{nthRow}
 use Rattle.mailbox_table.specs.declared.Indexing.{Indexing}
 use Rattle.mailbox_table.specs.declared.Indexing.the-variants.{Rows, Fails}

@@ -13,6 +13,8 @@ use crate::outcome::Outcome;
 use crate::outcome::said;
 use crate::outcome::with_records;
 use crate::store::keep_store;
+use crate::store::keep_sums;
+use crate::store::kept_sums;
 use crate::store::lay_out;
 use crate::store::no_bytes;
 use frames::ANSWER;
@@ -28,6 +30,7 @@ use records::no_words;
 use server::answer_words;
 use server::is_edit_line;
 use server::read_packed;
+use summary::summarize_words;
 
 // The line of an answer that lies at the front of its buffer, or of a refusal.
 fn put_reply(written: Written, answer: &[u8], out: &mut [u8]) -> usize
@@ -80,7 +83,7 @@ fn read_line(table: &[u8], reader: u8, namespaces: &[u8], command: &[u8], out: &
     put_reply(written, &answer, out)
 }
 
-// A command over the records.
+// A command over the records and their summary.
 fn obey_records(
     stored: Lengths,
     reader: u8,
@@ -98,26 +101,25 @@ fn obey_records(
 {
     let count = stored.table;
     let entries = stored.namespaces;
-    let spaces = &namespaces[..entries];
-    let words = &mut records[..MAX_ROWS];
-    let area = &mut table[..MAX_TABLE];
+    let mut sums = kept_sums(records);
     let mut answer = no_bytes();
     let done = answer_words(
-        words,
-        MAX_ROWS,
+        &mut records[..MAX_ROWS],
+        &mut sums,
         count,
         reader,
-        area,
-        spaces,
+        &mut table[..MAX_TABLE],
+        &namespaces[..entries],
         command,
         &mut answer,
     );
+    keep_sums(records, &sums);
     let reply = done.written;
     let written = put_reply(reply, &answer, out);
     with_records(stored, done.count, written)
 }
 
-// An edit over the packed bytes: judged on the store that they become, which is kept if the edit is accepted.
+// An edit over the packed bytes: judged on the store that they become, with its first summary; both are kept if the edit is accepted.
 fn first_edit(
     stored: Lengths,
     reader: u8,
@@ -143,10 +145,12 @@ fn first_edit(
     let Indexing::Rows(count) = lay_out(&table[..rows], &mut words, &mut area) else {
         return said(stored, put_refusal(out, 0, TABLE));
     };
+    let mut sums = no_words();
+    summarize_words(&words, count, &area, &mut sums);
     let mut answer = no_bytes();
     let made = answer_words(
         &mut words,
-        MAX_ROWS,
+        &mut sums,
         count,
         reader,
         &mut area,
@@ -159,6 +163,6 @@ fn first_edit(
     let Written::Done(_) = reply else {
         return said(stored, written);
     };
-    keep_store(table, records, &area, &words);
+    keep_store(table, records, &area, &words, &sums);
     with_records(stored, made.count, written)
 }

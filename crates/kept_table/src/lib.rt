@@ -1,7 +1,7 @@
 // What the program keeps of the table between two frames, in lent memory, and a command or a walk over it.
 //
-// The table is kept as its packed bytes until the first edit is accepted, and as records over an area of names from then on: the store
-// that the packed bytes become (`store`). Frames, and how they are read, are not known here.
+// The table is kept as its packed bytes until the first edit is accepted, and as records with their summary over an area of names from then on: the
+// store that the packed bytes become (`store`), and its summary, counted then. Frames, and how they are read, are not known here.
 mod commands;
 mod outcome;
 mod store;
@@ -13,6 +13,7 @@ pub use outcome::Outcome;
 pub use outcome::said;
 pub use outcome::with_entries;
 pub use outcome::with_rows;
+pub use store::MAX_NUMBERS;
 pub use walks::walk_line;
 
 // How many bytes are stored of the table and of the namespace list. Once an edit was accepted, `table` is how many records are rows.

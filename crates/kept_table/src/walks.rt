@@ -7,6 +7,7 @@ ghost use Rattle.collector.specs.Result.{collectedOf, foundOf};
 ghost use Rattle.kept_table.specs.Kept.{keptOf, Held, Says};
 use crate::Lengths;
 use crate::outcome::MAX_TABLE;
+use crate::store::MAX_NUMBERS;
 use crate::store::no_bytes;
 use collector::Collected;
 use collector::collect_packed;
@@ -73,11 +74,13 @@ fn collect_kept(
     let rows = stored.table;
     if stored.edited {
         let words = &records[..MAX_ROWS];
+        let sums = &records[MAX_ROWS..MAX_NUMBERS];
         return collect_words(
             words,
             rows,
             reader,
             &table[..MAX_TABLE],
+            sums,
             option,
             scratch,
             found,

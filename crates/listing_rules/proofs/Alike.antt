@@ -51,7 +51,7 @@ module _ (t u : Table) where
 
 -- A count above the records lent, or above 512, fails.
 module _ (area : List ℕ) (rs : List Record) (count : ℕ) where
-  few-fail : length rs < count → passes (recordTable area rs count) ≡ false
+  pub few-fail : length rs < count → passes (recordTable area rs count) ≡ false
   unfolding recordTable passes
   few-fail h = rw (lt-leb count (length rs) h) refl
 

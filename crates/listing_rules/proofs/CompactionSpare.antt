@@ -14,11 +14,12 @@ abbrev compactionWith : List Record → Compaction → Compaction
 compactionWith z c = record { number = c .number; store = withSpare (c .store) z }
 
 module _ (s : Store) (z : List Record) (full : length (s .records) ≡ 512) where
-  compacted-spare : s .count ≤ 512 → compacted (withSpare s z) ≡ withSpare (compacted s) z
+  pub compacted-spare : s .count ≤ 512 → compacted (withSpare s z) ≡ withSpare (compacted s) z
   unfolding compacted
   compacted-spare few =
       let rows = held-spare s z full few in
-      let rest : drop (s .count) (s .records ++ z) ≡ drop (s .count) (s .records) ++ z = drop-append-le (s .count) (s .records) z (inside s z full few) in
+      let rest : drop (s .count) (s .records ++ z) ≡ drop (s .count) (s .records) ++ z = drop-append-le (s .count) (s .records) z
+      (inside s z full few) in
       let kept = map (moved (held s) (s .area)) (held s) in
       let names = usedFrom (held s) 0 (s .area) in
       (λ i. record {
@@ -51,7 +52,9 @@ module _ (s : Store) (z : List Record) (full : length (s .records) ≡ 512) wher
 
       go : (b : Bool) → leb (s .count) 512 ≡ b → Both (passes (storeTable (withSpare s z))) (passes (storeTable s))
       go true e = let h = leb-true (s .count) 512 e in rw (table-spare s z full h) (few h (passes (storeTable s)))
-      go false e = let h = leb-false (s .count) 512 e in many (passes (storeTable (withSpare s z))) (passes (storeTable s)) (too-many (withSpare s z) h) (too-many s h)
+      go false e =
+          let h = leb-false (s .count) 512 e in many (passes (storeTable (withSpare s z))) (passes (storeTable s)) (too-many (withSpare s z) h)
+          (too-many s h)
 
 -- What compaction makes of the store s, and of t, which has the first records of s alone.
 pub record SameCompaction (s t : Store) (z : List Record) : Type 0 where
@@ -77,8 +80,10 @@ same-compaction rs n e count area =
     go true q =
         let all : length rs ≤ n = omega (arith, e, leb-true (length rs) 512 q) in
         let c = compaction (over rs) in
-        sym (λ i. record { number = c .number; store = record { records = append-nil (c .store .records) i; count = c .store .count; area = c .store .area } })
+        sym (λ i. record
+        { number = c .number; store = record { records = append-nil (c .store .records) i; count = c .store .count; area = c .store .area } })
         ∙ sym (λ i. compactionWith (drop-of-length-le rs all i) (compaction (over (take-all n rs all i))))
     go false q =
         let more : 512 < length rs = leb-false (length rs) 512 q in
-        ap (λ (k : List Record). compaction (over k)) (sym (take-append-drop n rs)) ∙ beyond (over (take n rs)) (drop n rs) (omega (arith, e, more, length-take n rs))
+        ap (λ (k : List Record). compaction (over k)) (sym (take-append-drop n rs)) ∙ beyond (over (take n rs)) (drop n rs)
+        (omega (arith, e, more, length-take n rs))

@@ -1,7 +1,7 @@
 -- Keys that open the definitions of a file of specs/ for a proof by computation: a proof that unfolds a key unfolds every definition that the key
 -- names. Rests on the definitions alone.
 use Rattle.listing_rules.specs.Bytes.{text, slash, quote, backslash, crlf, bit, within, oneOf, all, isEmpty, same, raise, raised, spells}
-use Rattle.listing_rules.specs.Lists.{every, anyOf, keep, joined, onFirst}
+use Rattle.listing_rules.specs.Lists.{every, anyOf, keep, joined, onFirst, filledTo}
 use Rattle.listing_rules.specs.Orders.{thenBy, lexBy, byteOrder, isLt, ascendsFrom, ascends, placed, insert, sorted}
 use Rattle.listing_rules.specs.Names.{levels, properAncestors, below, levelOrder, walkOrder, inbox, nameByte, isFull, inboxSpelled, lawfulName}
 use Rattle.listing_rules.specs.Flags.{exists, subscribed, remote, noSelect, noInferiors, marked, unmarked, uses, hasUse, lawfulFlags}
@@ -32,9 +32,13 @@ use Rattle.listing_rules.specs.Lsub.{isSubscribed, subscribedMatch, subs
 use Rattle.listing_rules.specs.Lsub.{lsubLine}
 use Rattle.listing_rules.specs.Server.{lineOf, listAnswer, lsubAnswer, delimiterText, entryText, classText, namespaceAnswer, answerTo, answer}
 use Rattle.listing_rules.specs.Server.{limited, bufferAfter, numberOf, isAnswered, lengthOf, served, fromReader, servedTo, attempted}
-use Rattle.listing_rules.specs.Server.{unchangedBy, concluded, commandedOver, commanded}
+use Rattle.listing_rules.specs.Server.{unchangedBy, concluded, commandedOver, commanded, changes}
 use Rattle.listing_rules.specs.Series.{sentTo, commandedAll, setCommanded, setSent}
 use Rattle.listing_rules.specs.Compaction.{usedFrom, placeAfter, moved, compacted, compaction}
+use Rattle.listing_rules.specs.Summary.{isSubscribedLocal, isSubscribedRemote, isExistingLocal, isExistingRemote, countBelow, counted, afresh}
+use Rattle.listing_rules.specs.Summary.{sameSummary, sameSummaries, agrees, grown, summedTable, summedSeen, one, switched, resummed}
+use Rattle.listing_rules.specs.Summary.{ancestorsResummed, noSummary, putIn, takenOut, subscribingSums, unsubscribingSums, sumsEdited}
+use Rattle.listing_rules.specs.Summary.{sumsAfter, summedOver, summedCommand, summedAll, summedCompaction, countedFirst, summarized}
 use Rattle.listing_rules.specs.Reader.{separated, readChosen, criteriaSets, readAmong, childInfoRead, readParts, orBad, readLine}
 use Rattle.listing_rules.specs.Reader.{rootAttributes, attributesRead, nameRead, childInfoOf, readNumber, nameBytes, sameBools, rootParts}
 use Rattle.listing_rules.specs.Reader.{lineFrom, written}
@@ -47,18 +51,19 @@ use Rattle.listing_rules.specs.Demand3.{pendingTooSmall, tooSmall, Deman
 use Rattle.listing_rules.specs.Sending.{goingOn, referencesFrom, references, commandsSent, walkNumbers, allowedWalk}
 use Rattle.listing_rules.specs.Evidence.{listCommand, listLines, lineName, linesFor, listedIn, childInfoIn, meetingBelow, takesAway}
 use Rattle.listing_rules.specs.Joining.{lineOrder, mergedLines, lawfulSet, optionsFrom, patternsAfter, packedPatterns, patternsFill, digitOf}
-use Rattle.listing_rules.specs.Joining.{decimalText, stringText, canStand, selectionText, returnsAny, returnText, joinedText, joinedLine, joinedInto}
+use Rattle.listing_rules.specs.Joining.{decimalText, stringText, canStand, selectionText, returnsAny, returnText, joinedText, joinedLine}
+use Rattle.listing_rules.specs.Joining.{joinedInto}
 use Rattle.listing_rules.specs.Frames.{digit, bytesOf, commandFrame, walkFrame, frameOf, readFrame, hexDigit, hex, answerLine, refusalLine}
 use Rattle.listing_rules.specs.Frames.{replyLine, walkLine, answering, addRow, addEntry, framed, step, start, fed, behind, fedAll, atEnd}
-use Rattle.listing_rules.specs.Frames.{programOutput, recordsFrom, filledTo, programStore, keptSeen, keptStore, addRowTo, commandOver, accepted}
-use Rattle.listing_rules.specs.Frames.{commandStep}
+use Rattle.listing_rules.specs.Frames.{programOutput, recordsFrom, programStore, programSummed, keptSeen, keptSummed, addRowTo, commandOver}
+use Rattle.listing_rules.specs.Frames.{accepted, commandStep}
 
 unfoldable pub openBytes : Unit {0}
 unfolding text slash quote backslash crlf bit within oneOf all isEmpty same raise raised spells
 openBytes = tt
 
 unfoldable pub openLists : Unit {0}
-unfolding every anyOf keep joined onFirst
+unfolding every anyOf keep joined onFirst filledTo
 openLists = tt
 
 unfoldable pub openOrders : Unit {0}
@@ -133,7 +138,7 @@ openLsub = tt
 
 unfoldable pub openServer : Unit {0}
 unfolding lineOf listAnswer lsubAnswer delimiterText entryText classText namespaceAnswer answerTo answer limited bufferAfter numberOf isAnswered
-    lengthOf served fromReader servedTo attempted unchangedBy concluded commandedOver commanded
+    lengthOf served fromReader servedTo attempted unchangedBy concluded commandedOver commanded changes
 openServer = tt
 
 unfoldable pub openSeries : Unit {0}
@@ -173,15 +178,24 @@ unfolding lineOrder mergedLines lawfulSet optionsFrom patternsAfter packedPatter
 openJoining = tt
 
 unfoldable pub openFrames : Unit {0}
-unfolding digit bytesOf commandFrame walkFrame frameOf readFrame hexDigit hex answerLine refusalLine replyLine walkLine recordsFrom filledTo
-    programStore keptSeen
-    keptStore answering addRowTo addRow addEntry commandOver accepted commandStep framed step start fed behind fedAll atEnd programOutput
+unfolding digit bytesOf commandFrame walkFrame frameOf readFrame hexDigit hex answerLine refusalLine replyLine walkLine recordsFrom
+    programStore programSummed keptSeen
+    keptSummed answering addRowTo addRow addEntry commandOver accepted commandStep framed step start fed behind fedAll atEnd programOutput
 openFrames = tt
+
+unfoldable pub openSummary : Unit {0}
+unfolding isSubscribedLocal isSubscribedRemote isExistingLocal isExistingRemote countBelow counted afresh sameSummary sameSummaries agrees grown
+    summedTable
+    summedSeen
+    one switched resummed ancestorsResummed noSummary putIn takenOut subscribingSums unsubscribingSums sumsEdited sumsAfter summedOver summedCommand
+    summedAll
+    summedCompaction countedFirst summarized
+openSummary = tt
 
 -- opens every definition that the cases of the computed tables compute
 unfoldable pub openAll : Unit {0}
 unfolding openBytes openLists openOrders openNames openFlags openTable openRecords openReaders openSubscriptions openNamespaces openTokens openFeeder
     openOptions
     openCommand openMatch openListing openLines openLsub openServer openSeries openCompaction openReader openWalk openDemand3
-    openSending openEvidence openJoining openFrames
+    openSending openEvidence openJoining openSummary openFrames
 openAll = tt

@@ -73,3 +73,10 @@ pub mod JoinedShape
 pub mod JoinedLine
 pub mod JoiningTables
 pub mod SessionTables
+pub mod SummaryLaws
+pub mod SummaryCommands
+pub mod SummaryTables
+pub mod SummaryLengths
+pub mod SummaryAlike
+pub mod SummarySpare
+pub mod ProgramSums

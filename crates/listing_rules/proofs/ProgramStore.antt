@@ -5,19 +5,21 @@ use Rattle.listing_rules.proofs.Prelude.{_∙_, _≡_, ap, refl, sym, B
 use Rattle.listing_rules.proofs.Prelude.{append-assoc, _+_, _-_, _≤_, suc, zero, ℕ, arith, leb, drop, getD, length, length-append, length-drop}
 use Rattle.listing_rules.proofs.Prelude.{length-replicate, length-take, replicate, take, drop-at, drop-drop, take-at, le-leb, leb-true}
 use Rattle.listing_rules.specs.Bytes.{bit}
-use Rattle.listing_rules.specs.Lists.{every, keep, joined}
+use Rattle.listing_rules.specs.Lists.{every, keep, joined, filledTo}
 use Rattle.listing_rules.specs.Table.{Row, Table, rows, names, passes, rowAt, rowsAfter, packedRows, rowsFill, packedTable}
 use Rattle.listing_rules.specs.Records.{Record, rowOf, recordRows, liesInside, apart, allApart, recordTable, packedRecords}
 use Rattle.listing_rules.specs.Readers.{sees, visible, seen, recordsSeen, packedSeen}
-use Rattle.listing_rules.specs.Subscriptions.{Store, storeTable, storeSeen, zeroRecord}
-use Rattle.listing_rules.specs.Server.{answer, commandedOver, commanded}
-use Rattle.listing_rules.specs.Frames.{bytes, records, recordsFrom, filledTo, programStore, keptSeen, keptStore, commandOver}
+use Rattle.listing_rules.specs.Subscriptions.{storeTable, storeSeen, zeroRecord}
+use Rattle.listing_rules.specs.Server.{answer}
+use Rattle.listing_rules.specs.Summary.{Summed, agrees, summedSeen, summedOver, summedCommand, countedFirst}
+use Rattle.listing_rules.specs.Frames.{bytes, records, recordsFrom, programStore, programSummed, keptSeen, keptSummed, commandOver}
 use Rattle.listing_rules.proofs.Bools.{and-l, and-r, and-i, or-l}
 use Rattle.listing_rules.proofs.ListLaws.{mem-every}
 use Rattle.listing_rules.proofs.Passes.{packed-parts, packed-some}
 use Rattle.listing_rules.proofs.RecordLaws.{packed-rows-are, packed-inside}
 use Rattle.listing_rules.proofs.EditLists.{keep-all}
 use Rattle.listing_rules.proofs.EditLayout.{LaidParts, parts-laid}
+use Rattle.listing_rules.proofs.SummaryCommands.{seen-with, counted-agrees}
 
 -- how many bytes the names have
 abbrev pub namesLength : List Row → ℕ
@@ -144,6 +146,13 @@ packed-names-fit t = go (leb (length t) 32768 && rowsFill 0 t)
     go true = packed-rows-fit t
     go false = omega arith
 
+-- it has a record for each row
+pub program-counted : (t : List ℕ) → programStore t .count ≤ length (programStore t .records)
+unfolding programStore filledTo
+program-counted t =
+    let laid = recordsFrom 0 (packedRecords t) in
+    omega (arith, length-append laid (replicate (512 - length laid) zeroRecord), count-from 0 (packedRecords t))
+
 -- The program's store is the packed table, and a reader sees the same of both.
 module _ (t : List ℕ) (h : length t ≤ 16384) (p : passes (packedTable t) ≡ true) where
   abbrev laidRecords : List Record
@@ -174,14 +183,10 @@ module _ (t : List ℕ) (h : length t ≤ 16384) (p : passes (packedTable t) ≡
   program-store-table =
       rw (
         program-holds,
-        le-leb (programStore t .count) (length (programStore t .records)) counted,
+        le-leb (programStore t .count) (length (programStore t .records)) (program-counted t),
         parts-laid (programStore t .area) laidRecords laid,
       ) (ap some (rows-same ∙ packed-rows-are t) ∙ sym (packed-some t (packed-parts t p .size) (packed-parts t p .fills)))
     where
-      counted : programStore t .count ≤ length (programStore t .records)
-      counted = unfold programStore filledTo in
-          omega (arith, length-append laidRecords (replicate (512 - length laidRecords) zeroRecord), count-from 0 (packedRecords t))
-
       laid : LaidParts (programStore t .area) laidRecords
       laid =
           record {
@@ -214,22 +219,27 @@ module _ (t : List ℕ) (h : length t ≤ 16384) (p : passes (packedTable t) ≡
       = ap (visible reader (programStore t .area)) program-holds ∙ (unfold visible sees in rows-from (bit reader)) in
       λ i. seen (program-store-table i) (visible-same i)
 
--- So a reader's command is answered over the packed bytes as over the store.
-module _ (reader : ℕ) (t : List ℕ) (h : length t ≤ 16384) (p : passes (packedTable t) ≡ true) (spaces l : List ℕ) where
-  kept-seen : keptSeen reader (bytes t) ≡ storeSeen reader (keptStore (bytes t))
-  unfolding keptSeen keptStore
-  kept-seen = sym (program-store-seen t h p reader)
+-- its summary was counted first, and so agrees
+pub program-agrees : (t : List ℕ) → agrees (programSummed t) ≡ true
+unfolding programSummed
+program-agrees t = counted-agrees (programStore t) (program-counted t)
 
-  pub answered-over-store : answer (keptSeen reader (bytes t)) spaces l ≡ answer (storeSeen reader (keptStore (bytes t))) spaces l
+-- So a reader's command is answered over the packed bytes as over the store with its summary.
+module _ (reader : ℕ) (t : List ℕ) (h : length t ≤ 16384) (p : passes (packedTable t) ≡ true) (spaces l : List ℕ) where
+  kept-seen : keptSeen reader (bytes t) ≡ summedSeen reader (keptSummed (bytes t))
+  unfolding keptSeen keptSummed programSummed countedFirst
+  kept-seen = sym (seen-with (programSummed t) (program-agrees t) reader ∙ program-store-seen t h p reader)
+
+  pub answered-over-store : answer (keptSeen reader (bytes t)) spaces l ≡ answer (summedSeen reader (keptSummed (bytes t))) spaces l
   answered-over-store = ap (λ (u : Table). answer u spaces l) kept-seen
 
   pub command-over-bytes : (buffer : List ℕ) → length buffer ≡ 16384 →
-      commandOver reader (bytes t) spaces l ≡ commanded reader (keptStore (bytes t)) spaces l buffer
-  unfolding commandOver commanded
-  command-over-bytes buffer b = let room = sym b in λ i. commandedOver reader (keptStore (bytes t)) (kept-seen i) spaces l (room i)
+      commandOver reader (bytes t) spaces l ≡ summedCommand reader (keptSummed (bytes t)) spaces l buffer
+  unfolding commandOver summedCommand
+  command-over-bytes buffer b = let room = sym b in λ i. summedOver reader (keptSummed (bytes t)) (kept-seen i) spaces l (room i)
 
--- and over the store that is kept from the first accepted edit on
-pub command-over-records : (reader : ℕ) (s : Store) (spaces l buffer : List ℕ) → length buffer ≡ 16384 →
-    commandOver reader (records s) spaces l ≡ commanded reader s spaces l buffer
-unfolding commandOver commanded keptSeen keptStore
-command-over-records reader s spaces l buffer b = ap (λ (n : ℕ). commandedOver reader s (storeSeen reader s) spaces l n) (sym b)
+-- and over what is kept from the first accepted edit on
+pub command-over-records : (reader : ℕ) (m : Summed) (spaces l buffer : List ℕ) → length buffer ≡ 16384 →
+    commandOver reader (records m) spaces l ≡ summedCommand reader m spaces l buffer
+unfolding commandOver summedCommand keptSeen keptSummed
+command-over-records reader m spaces l buffer b = ap (λ (n : ℕ). summedOver reader m (summedSeen reader m) spaces l n) (sym b)

@@ -27,11 +27,11 @@ use Rattle.listing_rules.proofs.CommandLaws.{unsound-refused, stranger-
 abbrev pub withSpare : Store → List Record → Store
 withSpare s z = record { records = s .records ++ z; count = s .count; area = s .area }
 
-abbrev editedWith : List Record → Edited → Edited
+abbrev pub editedWith : List Record → Edited → Edited
 editedWith z (denied k) = denied k
 editedWith z (stored s) = stored (withSpare s z)
 
-abbrev commandedWith : List Record → Commanded → Commanded
+abbrev pub commandedWith : List Record → Commanded → Commanded
 commandedWith z c = record { reply = c .reply; store = withSpare (c .store) z }
 
 -- "edits are allowed to reader 0 only"
@@ -65,7 +65,7 @@ module _ (s : Store) (z : List Record) (full : length (s .records) ≡ 512) (few
   unfolding held
   held-spare = take-append-le (s .count) (s .records) z inside
 
-  rows-spare : storeRows (withSpare s z) ≡ storeRows s
+  pub rows-spare : storeRows (withSpare s z) ≡ storeRows s
   unfolding storeRows
   rows-spare = ap (recordRows (s .area)) held-spare
 
@@ -266,7 +266,7 @@ too-many s h = go (passes (storeTable s)) refl
     go false e = refl
 
 -- with 512 records before them, more spare records are left alone
-beyond : (reader : ℕ) (s : Store) (z : List Record) → length (s .records) ≡ 512 → (spaces l buffer : List ℕ)
+pub beyond : (reader : ℕ) (s : Store) (z : List Record) → length (s .records) ≡ 512 → (spaces l buffer : List ℕ)
     → commanded reader (withSpare s z) spaces l buffer ≡ commandedWith z (commanded reader s spaces l buffer)
 beyond reader s z full spaces l buffer = who (isReader reader) refl
   where

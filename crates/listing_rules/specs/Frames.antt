@@ -3,17 +3,18 @@ use mathlib.Core.List.{List, [], _∷_, _++_}
 use mathlib.Core.Bool.{Bool, cond, _&&_}
 use mathlib.Core.Option.{Option, none, some}
 use lib.Dec.{eqb, leb}
-use lib.ListN.{length, replicate}
+use lib.ListN.{length}
 use Prim.Native.Nat.{ℕ, _+_, _-_, _*_, _/_, _%_}
 use Rattle.listing_rules.specs.Bytes.{within, isEmpty, digit0, digit9, capitalA, capitalF, smallA, smallF, LF}
-use Rattle.listing_rules.specs.Lists.{joined}
+use Rattle.listing_rules.specs.Lists.{joined, filledTo}
 use Rattle.listing_rules.specs.Table.{Table, names, packedRows}
 use Rattle.listing_rules.specs.Records.{Record, packedRecords}
 use Rattle.listing_rules.specs.Readers.{packedSeen}
 use Rattle.listing_rules.specs.Tokens.{_>>=_}
 use Rattle.listing_rules.specs.Command.{Parsed, isEdit, parsed}
-use Rattle.listing_rules.specs.Subscriptions.{Store, storeSeen, zeroRecord}
-use Rattle.listing_rules.specs.Server.{Reply, refusal, answered, isAnswered, Commanded, commandedOver}
+use Rattle.listing_rules.specs.Subscriptions.{Store, zeroRecord}
+use Rattle.listing_rules.specs.Server.{Reply, refusal, answered, isAnswered}
+use Rattle.listing_rules.specs.Summary.{Summed, summedSeen, countedFirst, SummedCommand, summedOver}
 use Rattle.listing_rules.specs.Walk.{WalkReply, walkRefused, walked, walkBy}
 
 -- what the digits A to F, or a to f, have over their numbers, 10 to 15
@@ -94,19 +95,15 @@ unfoldable pub walkLine : WalkReply → List ℕ
 walkLine (walkRefused k) = refusalLine k
 walkLine (walked c f p) = answerLine (0x57 ∷ c / 256 % 256 ∷ c % 256 ∷ f)
 
--- The table as the program keeps it: its packed bytes, and "from the first accepted edit" records (document 02, W6).
+-- The table as the program keeps it: its packed bytes, and "from the first accepted edit" records (document 02, W6) with their summary (W13).
 pub data Kept : Type 0 where
   bytes : List ℕ → Kept
-  records : Store → Kept
+  records : Summed → Kept
 
 -- "names at first in row order without gaps": records, the first name at a place
 unfoldable pub recordsFrom : ℕ → List Record → List Record
 recordsFrom at [] = []
 recordsFrom at (r ∷ rs) = record { flags = r .flags; start = at; len = r .len; readers = r .readers } ∷ recordsFrom (at + r .len) rs
-
--- n of them, the others as z is
-unfoldable pub filledTo : {A : Type 0} → ℕ → A → List A → List A
-filledTo n z xs = xs ++ replicate (n - length xs) z
 
 -- "The program keeps 512 records, names at first in row order without gaps from the start of 16,384 bytes"; the others are zero
 unfoldable pub programStore : List ℕ → Store
@@ -117,15 +114,19 @@ programStore t =
       area = filledTo 16384 0 (joined (names (packedRows t)));
     }
 
+-- its summary is counted when the packed rows become records
+unfoldable pub programSummed : List ℕ → Summed
+programSummed t = countedFirst (programStore t)
+
 -- the table that a reader sees of it
 unfoldable pub keptSeen : ℕ → Kept → Table
 keptSeen reader (bytes t) = packedSeen reader t
-keptSeen reader (records s) = storeSeen reader s
+keptSeen reader (records m) = summedSeen reader m
 
 -- "every edit is judged on them"
-unfoldable pub keptStore : Kept → Store
-keptStore (bytes t) = programStore t
-keptStore (records s) = s
+unfoldable pub keptSummed : Kept → Summed
+keptSummed (bytes t) = programSummed t
+keptSummed (records m) = m
 
 -- the stored table and the stored bytes of the namespace list
 pub record Stored : Type 0 where
@@ -143,7 +144,7 @@ answering s l = record { stored = s; output = l }
 -- "is added behind the stored bytes (16,384 and 1,024; no room: 1 or 2, nothing added) and answers nothing"; after the first accepted
 -- edit "4D then is 13"
 unfoldable pub addRowTo : Kept → List ℕ → List ℕ → Stepped
-addRowTo (records t) spaces bs = answering (record { table = records t; namespaces = spaces }) (refusalLine 13)
+addRowTo (records m) spaces bs = answering (record { table = records m; namespaces = spaces }) (refusalLine 13)
 addRowTo (bytes t) spaces bs =
     cond (leb (length t + length bs) 16384)
     (answering (record { table = bytes (t ++ bs); namespaces = spaces }) [])
@@ -158,9 +159,9 @@ addEntry s bs =
     (answering (record { table = s .table; namespaces = s .namespaces ++ bs }) [])
     (answering s (refusalLine 2))
 
--- a reader's command over what is kept: its reply, and the store that an accepted edit leaves
-unfoldable pub commandOver : ℕ → Kept → List ℕ → List ℕ → Commanded
-commandOver reader k spaces l = commandedOver reader (keptStore k) (keptSeen reader k) spaces l 16384
+-- a reader's command over what is kept: its reply, and what an accepted edit leaves
+unfoldable pub commandOver : ℕ → Kept → List ℕ → List ℕ → SummedCommand
+commandOver reader k spaces l = summedOver reader (keptSummed k) (keptSeen reader k) spaces l 16384
 
 -- an edit is accepted if it is answered OK, also where it changed no row
 unfoldable pub accepted : Parsed → Reply → Bool
@@ -172,7 +173,7 @@ commandStep s reader l =
     let c = commandOver reader (s .table) (s .namespaces) l in
     record {
       stored = record {
-        table = cond (accepted (parsed l) (c .reply)) (records (c .store)) (s .table);
+        table = cond (accepted (parsed l) (c .reply)) (records (c .left)) (s .table);
         namespaces = s .namespaces;
       };
       output = replyLine (c .reply);

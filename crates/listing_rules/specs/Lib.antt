@@ -26,6 +26,7 @@ pub mod Demand3
 pub mod Sending
 pub mod Evidence
 pub mod Joining
+pub mod Summary
 pub mod Frames
 pub mod Cases
 pub mod ExpertSheet
@@ -33,3 +34,4 @@ pub mod Limits
 pub mod SessionCases
 pub mod EvidenceCases
 pub mod JoiningCases
+pub mod SummaryCases

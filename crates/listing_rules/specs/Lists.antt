@@ -1,6 +1,8 @@
 -- Lists of anything: tests on all or some of their members, members that pass a test, lists joined.
 use mathlib.Core.List.{List, [], _∷_, _++_}
 use mathlib.Core.Bool.{Bool, true, false, cond, _&&_, _||_}
+use lib.ListN.{length, replicate}
+use Prim.Native.Nat.{ℕ, _-_}
 
 module _ {A : Type 0} where
   -- every member passes
@@ -27,3 +29,7 @@ module _ {A : Type 0} where
   unfoldable pub onFirst : A → List (List A) → List (List A)
   onFirst b [] = (b ∷ []) ∷ []
   onFirst b (l ∷ ls) = (b ∷ l) ∷ ls
+
+  -- n members, z where the list has no more
+  unfoldable pub filledTo : ℕ → A → List A → List A
+  filledTo n z xs = xs ++ replicate (n - length xs) z

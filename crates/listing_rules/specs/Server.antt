@@ -1,20 +1,21 @@
 -- The server's answer, its refusals in order, and what they leave in the answer buffer.
 use mathlib.Core.List.{List, [], _∷_, _++_, map}
-use mathlib.Core.Bool.{Bool, true, false, cond}
+use mathlib.Core.Bool.{Bool, true, false, cond, not}
 use lib.Dec.{eqb, leb}
 use lib.ListN.{length, drop}
 use Prim.Native.Nat.{ℕ}
 use Rattle.listing_rules.specs.Bytes.{text, crlf}
 use Rattle.listing_rules.specs.Lists.{joined}
-use Rattle.listing_rules.specs.Table.{Row, Table, rows, passes}
+use Rattle.listing_rules.specs.Flags.{subscribed}
+use Rattle.listing_rules.specs.Table.{Row, Table, rows, passes, flagsOf}
 use Rattle.listing_rules.specs.Namespaces.{Entry, entries, namespacesPass, ofClass}
 use Rattle.listing_rules.specs.Options.{Options}
-use Rattle.listing_rules.specs.Command.{Parsed, refused, namespace, listing, rootOf, subscriptions, editing, parsed}
+use Rattle.listing_rules.specs.Command.{subscribe, unsubscribe, Parsed, refused, namespace, listing, rootOf, subscriptions, editing, parsed}
 use Rattle.listing_rules.specs.Listing.{listedNames, attributes, childInfo}
 use Rattle.listing_rules.specs.Lines.{listLine, rootLine, okLine, quoted}
 use Rattle.listing_rules.specs.Lsub.{lsubNames, lsubLine}
 use Rattle.listing_rules.specs.Readers.{isReader}
-use Rattle.listing_rules.specs.Subscriptions.{Store, Edited, denied, stored, storeSeen, edited}
+use Rattle.listing_rules.specs.Subscriptions.{Store, Edited, denied, stored, storeSeen, storeRows, spelled, edited}
 
 -- a number of refusal, or the bytes of an answer
 pub data Reply : Type 0 where
@@ -136,3 +137,14 @@ commandedOver reader s table spaces l room =
 -- one command over a store: its reader, the namespace list, the line, and the answer buffer as it was lent
 unfoldable pub commanded : ℕ → Store → List ℕ → List ℕ → List ℕ → Commanded
 commanded reader s spaces l buffer = commandedOver reader s (storeSeen reader s) spaces l (length buffer)
+
+-- Whether a command changed a row: SUBSCRIBE that was answered did if the name was not subscribed, UNSUBSCRIBE if it was.
+unfoldable pub changes : Store → Parsed → Reply → Bool
+changes s (editing tag (subscribe n)) (answered a) = not (subscribed (flagsOf (storeRows s) (spelled n)))
+changes s (editing tag (unsubscribe n)) (answered a) = subscribed (flagsOf (storeRows s) (spelled n))
+changes s (editing tag e) (refusal k) = false
+changes s (refused k) r = false
+changes s (namespace tag) r = false
+changes s (listing tag o ps) r = false
+changes s (rootOf tag) r = false
+changes s (subscriptions tag ps) r = false

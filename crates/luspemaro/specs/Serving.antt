@@ -21,10 +21,10 @@ turnIs state used frames written = record { state = state; used = used; frames =
 abbrev pub placeIs : State → ℕ → Bool → Bool → Place
 placeIs state frames more failed = record { state = state; frames = frames; more = more; failed = failed }
 
--- the memory is lent in document 01's sizes, with words for 512 records, and the output has room for a line
+-- the memory is lent in document 01's sizes, with numbers for 512 records and their summary, and the output can take a line
 pub record Sized (d : Lent) (line : List ℕ) : Type 0 where
   pub table : 16384 ≤ length (d .table)
-  pub records : 512 ≤ length (d .records)
+  pub records : 1024 ≤ length (d .records)
   pub namespaces : 1024 ≤ length (d .namespaces)
   pub digits : 4102 ≤ length line
   pub out : 32771 ≤ length (d .out)

@@ -20,6 +20,7 @@ ghost use mathlib.Core.Path.{_≡_};
 ghost use lib.ListN.{length};
 ghost use Rattle.kept_table.specs.Kept.{lent};
 ghost use Rattle.luspemaro.specs.Serving.{Reached, Sized};
+use kept_table::MAX_NUMBERS;
 use serving::Place;
 use serving::read_on;
 
@@ -30,11 +31,11 @@ fn table_area() -> [u8; 16384]
     [0; 16384]
 }
 
-// "The program keeps 512 records".
-fn records_area() -> [u64; 512]
-    ensures { λ r. ⌜ 512 ≡ length r ⌝ }
+// "The program keeps 512 records"; and a summary for each.
+fn records_area() -> [u64; MAX_NUMBERS]
+    ensures { λ r. ⌜ 1024 ≡ length r ⌝ }
 {
-    [0; 512]
+    [0u64; MAX_NUMBERS]
 }
 
 fn namespaces_area() -> [u8; 1024]

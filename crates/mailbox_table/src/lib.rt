@@ -64,17 +64,6 @@ pub fn index(table: &[u8], words: &mut [u64]) -> Indexing
     Indexing::Rows(n)
 }
 
-// Check 1: whether the first `count` of the records, each as a number (`records::word_of`), pass over the area of name bytes.
-pub fn check_words(raw: &[u64], count: usize, area: &[u8]) -> bool
-    ensures { λ r. ⌜ r ≡ passes (wordTable (now (area .entry)) (now (raw .entry)) count) ⌝ }
-{
-    let mut words = no_words();
-    match index_words(area, raw, count, &mut words) {
-        Indexing::Rows(_) => true,
-        Indexing::Fails => false,
-    }
-}
-
 // Check 1 of the first `count` of the records, and the index of their rows as `index` gives it.
 pub fn index_words(area: &[u8], raw: &[u64], count: usize, words: &mut [u64]) -> Indexing
     ensures { λ r. ⌜ Indexes (now (area .entry)) (wordTable (now (area .entry)) (now (raw .entry)) count)
@@ -100,7 +89,7 @@ pub fn unpack(table: &[u8], words: &mut [u64]) -> Indexing
 }
 
 // Zeros in all words.
-fn clear_words(words: &mut [u64])
+pub fn clear_words(words: &mut [u64])
     ensures { λ _. ⌜ now (words .exit) ≡ replicate (length (now (words .entry))) 0 ⌝ }
 {
     let mut i = 0;

@@ -1,17 +1,25 @@
 -- A command over the words of records is the command over the records, and so are names moved together: the words are copied in, and those that
--- became others are copied back. Rests on SpareLaws and CompactionSpare of the definitions (records after the first 512 do not matter), and on the library.
-use Rattle.listing_rules.proofs.Prelude.{_∙_, _≡_, ap, refl, subst, sym, List, [], _++_, _∷_, map, map-append, _+_, _-_, _≤_, min, ℕ, decLe, arith}
-use Rattle.listing_rules.proofs.Prelude.{drop, length, length-drop, length-map, take, take-append-drop, drop-at, drop-drop, drop-paste}
-use Rattle.listing_rules.proofs.Prelude.{length-take-le, paste, paste-zero, take-add, take-paste, take-take}
-use Rattle.listing_rules.specs.Records.{Record as Meant}
-use Rattle.listing_rules.specs.Server.{Commanded}
-use Rattle.listing_rules.specs.Compaction.{Compaction}
+-- became others are copied back. Rests on SummarySpare of the definitions (records after the first 512 do not matter), and on the library.
+use Rattle.listing_rules.proofs.Prelude.{_∙_, _≡_, ap, refl, sym, Bool, false, true, List, [], _++_, _∷_, append-assoc, map, map-append, _+_, _-_}
+use Rattle.listing_rules.proofs.Prelude.{_<_, _≤_, min, ℕ, decLe, arith, leb, leb-false, leb-true, length-take, drop-append-le, drop, length}
+use Rattle.listing_rules.proofs.Prelude.{length-drop, length-map, take, take-append-drop, drop-at, drop-drop, drop-paste, length-take-le, paste}
+use Rattle.listing_rules.proofs.Prelude.{paste-zero, take-add, take-paste, take-take}
+use Rattle.listing_rules.specs.Records.{Record as Meant, recordRows}
+use Rattle.listing_rules.specs.Command.{parsed}
+use Rattle.listing_rules.specs.Table.{passes}
+use Rattle.listing_rules.specs.Readers.{isReader}
+use Rattle.listing_rules.specs.Server.{refusal, changes}
+use Rattle.listing_rules.specs.Subscriptions.{Store, storeTable, storeRows, held}
+use Rattle.listing_rules.specs.Summary.{Summary, Summed, SummedCommand, summedCommand, SummedCompaction, summedCompaction}
 use Rattle.listing_rules.proofs.ListLaws.{map-take, map-drop}
-use Rattle.listing_rules.proofs.SpareLaws.{SameFront, same-front}
-use Rattle.listing_rules.proofs.CompactionSpare.{SameCompaction, same-compaction}
+use Rattle.listing_rules.proofs.Alike.{few-fail}
+use Rattle.listing_rules.proofs.SummaryCommands.{stranger-summed, unsound-summed, changes-refused, changes-rows}
+use Rattle.listing_rules.proofs.SummarySpare.{commandWith, compactionMore, summed-front, compaction-front}
 use Rattle.records.specs.declared.Record.{Record}
 use Rattle.records.specs.Words.{wordOf, meant, recordOf, structOf}
-use Rattle.records.specs.Stores.{lentStore, wordStore, lentCommand, wordCommand, lentCompaction, wordCompaction, Between}
+use Rattle.records.specs.Numbers.{summaryOf}
+use Rattle.records.specs.Lent.{lentSummed, lentOf, wordStore, wordSummed}
+use Rattle.records.specs.Stores.{Handed, lentCommand, wordCommand, Moved, lentCompaction, wordCompaction, Between}
 
 map-paste : {A B : Type 0} (f : A → B) (d : List A) (at : ℕ) (s : List A) (n : ℕ) → map f (paste d at s n) ≡ paste (map f d) at (map f s) n
 map-paste f d at s n =
@@ -52,33 +60,40 @@ module _ {A : Type 0} (at : ℕ) (s : List A) (k n : ℕ) (inside : at + k ≤ n
   pasted-alike d e h g same =
       rw (pasted-front e g, sym same, sym (pasted-front d h), sym (pasted-rest d h)) (take-append-drop n (paste d at s k))
 
--- what the command c over words comes to is what the command d over records comes to, and these are the records then
-pub record Answers (c d : Commanded) (rs : List Record) : Type 0 where
+-- what the command c over words hands back is what the command d over records hands back, and these are the records then
+pub record Answers (c d : Handed) (rs : List Record) : Type 0 where
   pub reply : c .reply ≡ d .reply
-  pub count : c .store .count ≡ d .store .count
-  pub area : c .store .area ≡ d .store .area
-  pub records : map meant rs ≡ d .store .records
+  pub changed : c .changed ≡ d .changed
+  pub count : c .count ≡ d .count
+  pub area : c .area ≡ d .area
+  pub records : map meant rs ≡ d .records
+  pub summary : c .summary ≡ d .summary
 
 -- the same of names moved together
-pub record Compacts (c d : Compaction) (rs : List Record) : Type 0 where
+pub record Compacts (c d : Moved) (rs : List Record) : Type 0 where
   pub number : c .number ≡ d .number
-  pub area : c .store .area ≡ d .store .area
-  pub records : map meant rs ≡ d .store .records
+  pub area : c .area ≡ d .area
+  pub records : map meant rs ≡ d .records
 
--- what `copy_in` promises of n records rs and the words us, which were xs
-abbrev pub Copied : List Record → List ℕ → List ℕ → ℕ → Type 0
-Copied rs xs us n =
-    (n ≡ min (length rs) (min (length rs) (length xs))) × (us ≡ paste xs 0 (map wordOf rs) n) × (map recordOf (take n us) ≡ map meant (take n rs))
+-- what `copy_in` promises of n records rs, at most `most`, and the words us, which were xs
+abbrev pub Copied : ℕ → List Record → List ℕ → List ℕ → ℕ → Type 0
+Copied most rs xs us n =
+    (n ≡ min most (min (length rs) (length xs))) × (us ≡ paste xs 0 (map wordOf rs) n) × (map recordOf (take n us) ≡ map meant (take n rs))
 
 -- and `copy_back` of the records rs′, which were rs, and the words vs
 abbrev pub CopiedBack : List Record → List ℕ → ℕ → ℕ → List Record → Type 0
 CopiedBack rs vs start to rs′ = rs′ ≡ paste rs start (map structOf (drop start vs)) (min to (min (length rs) (length vs)) - start)
 
--- of the words us those between `start` and `to` became others, vs
-module _ (rs : List Record) (xs us vs : List ℕ) (lent start to : ℕ) (lx : length xs ≡ 512) (lu : length us ≡ 512) (lv : length vs ≡ 512)
-    (c : Copied rs xs us lent) where
-  short : lent ≡ min (length rs) 512
-  short = let e : lent ≡ min (length rs) (min (length rs) (length xs)) = c .0 in omega (arith, e, lx)
+-- a list after its first n, in two parts
+in-parts : {A : Type 0} (n k : ℕ) (xs : List A) → n ≤ k → n ≤ length xs → drop n (take k xs) ++ drop k xs ≡ drop n xs
+in-parts n k xs h g =
+    sym (drop-append-le n (take k xs) (drop k xs) (omega (arith, h, g, length-take k xs))) ∙ ap (λ (l : List _). drop n l) (take-append-drop k xs)
+
+-- of the words us those between `start` and `to` became others, vs; the summary beside them is `sums`
+module _ (rs : List Record) (xs us vs sums : List ℕ) (lent start to : ℕ) (lx : length xs ≡ 512) (lu : length us ≡ 512) (lv : length vs ≡ 512)
+    (c : Copied (length sums) rs xs us lent) where
+  short : lent ≡ min (length sums) (min (length rs) 512)
+  short = let e : lent ≡ min (length sums) (min (length rs) (length xs)) = c .0 in omega (arith, e, lx)
 
   front-is : take lent (map meant rs) ≡ take lent (map recordOf us)
   front-is = sym (map-take meant lent rs) ∙ sym (c .2) ∙ map-take recordOf lent us
@@ -122,42 +137,139 @@ module _ (rs : List Record) (xs us vs : List ℕ) (lent start to : ℕ) (lx : le
           ∙ sym (paste-zero (map meant rs) start ms)
           ∙ sym (rw (map-take recordOf lent vs, same, sym front-is) (take-append-drop lent (map meant rs)))
 
-  module _ (count reader : ℕ) (area spaces l out : List ℕ) where
-    -- the command over the words is the command over the first records
-    front-command : SameFront reader (lentStore rs count area) (wordStore us lent count area) (drop lent (map meant rs)) spaces l out
-    front-command =
-        subst
-        (λ (ms : List Meant). SameFront reader (lentStore rs count area) (record { records = ms; count = count; area = area })
-        (drop lent (map meant rs)) spaces l out)
-        (sym (c .2 ∙ map-take meant lent rs))
-        (same-front reader (map meant rs) lent (short ∙ ap (λ (k : ℕ). min k 512) (sym (length-map rs meant))) count area spaces l out)
+  -- the records and numbers that are lent, as many of both
+  abbrev RS : List Meant
+  RS = map meant (take (length sums) rs)
 
-    pub answers : map recordOf (take lent vs) ≡ wordCommand us lent count reader area spaces l out .store .records → Between us vs lent start to
-        → (rs′ : List Record) → CopiedBack rs vs start to rs′ →
-        Answers (wordCommand us lent count reader area spaces l out) (lentCommand rs count reader area spaces l out) rs′
-    answers e b rs′ back =
-        record {
-          reply = sym (front-command .reply);
-          count = sym (front-command .count);
-          area = sym (front-command .area);
-          records = back-are b rs′ back ∙ ap (λ (ms : List Meant). ms ++ drop lent (map meant rs)) e ∙ sym (front-command .records);
-        }
+  abbrev MS : List Summary
+  MS = map summaryOf (take (length rs) sums)
+
+  both : length RS ≡ length MS
+  both =
+      omega (
+        arith,
+        length-map (take (length sums) rs) meant,
+        length-map (take (length rs) sums) summaryOf,
+        length-take (length sums) rs,
+        length-take (length rs) sums,
+      )
+
+  lent-is : lent ≡ min (length RS) 512
+  lent-is = omega (arith, short, length-map (take (length sums) rs) meant, length-take (length sums) rs)
+
+  -- the words are the first of them
+  words-are : map recordOf (take lent us) ≡ take lent RS
+  words-are =
+      c .2
+      ∙ ap (map meant) (sym (take-take lent (length sums) rs (omega (arith, short))))
+      ∙ map-take meant lent (take (length sums) rs)
+
+  numbers-are : map summaryOf (take lent sums) ≡ take lent MS
+  numbers-are =
+      ap (map summaryOf) (sym (take-take lent (length rs) sums (omega (arith, short)))) ∙ map-take summaryOf lent (take (length rs) sums)
+
+  whole : lentOf us lent sums ≡ lent
+  whole = omega (arith, short, lu)
 
   module _ (count : ℕ) (area : List ℕ) where
-    -- names moved together over the words, and over the first records
-    front-compaction : SameCompaction (lentStore rs count area) (wordStore us lent count area) (drop lent (map meant rs))
-    front-compaction =
-        subst
-        (λ (ms : List Meant). SameCompaction (lentStore rs count area) (record { records = ms; count = count; area = area })
-        (drop lent (map meant rs)))
-        (sym (c .2 ∙ map-take meant lent rs))
-        (same-compaction (map meant rs) lent (short ∙ ap (λ (k : ℕ). min k 512) (sym (length-map rs meant))) count area)
+    -- the store of the words is the first part of what is lent
+    word-is : wordSummed us lent count area sums ≡ record
+        { store = record { records = take lent RS; count = count; area = area }; summary = take lent MS }
+    word-is =
+        (λ i. record { store = wordStore us (whole i) count area; summary = map summaryOf (take (whole i) sums) })
+        ∙ (λ i. record { store = record { records = words-are i; count = count; area = area }; summary = numbers-are i })
 
-    pub compacts : map recordOf (take lent vs) ≡ wordCompaction us lent count area .store .records → Between us vs lent start to
-        → (rs′ : List Record) → CopiedBack rs vs start to rs′ → Compacts (wordCompaction us lent count area) (lentCompaction rs count area) rs′
+    records-rest : drop lent RS ++ drop (length sums) (map meant rs) ≡ drop lent (map meant rs)
+    records-rest =
+        ap (λ (l : List Meant). drop lent l ++ drop (length sums) (map meant rs)) (map-take meant (length sums) rs)
+        ∙ in-parts lent (length sums) (map meant rs) (omega (arith, short)) (omega (arith, short, length-map rs meant))
+
+    numbers-rest : drop lent MS ++ drop (length rs) (map summaryOf sums) ≡ drop lent (map summaryOf sums)
+    numbers-rest =
+        ap (λ (l : List Summary). drop lent l ++ drop (length rs) (map summaryOf sums)) (map-take summaryOf (length rs) sums)
+        ∙ in-parts lent (length rs) (map summaryOf sums) (omega (arith, short)) (omega (arith, short, length-map sums summaryOf))
+
+    module _ (reader : ℕ) (spaces l out : List ℕ) where
+      abbrev ofWords : SummedCommand
+      ofWords = summedCommand reader (wordSummed us lent count area sums) spaces l out
+
+      front-command : summedCommand reader (lentSummed rs count area sums) spaces l out ≡ commandWith (drop lent RS) (drop lent MS) ofWords
+      front-command =
+          summed-front reader RS MS lent both lent-is count area spaces l out
+          ∙ ap (λ (m : Summed). commandWith (drop lent RS) (drop lent MS) (summedCommand reader m spaces l out)) (sym word-is)
+
+      -- a row was changed in the one as in the other
+      same-change : changes (wordSummed us lent count area sums .store) (parsed l) (ofWords .reply)
+          ≡ changes (lentSummed rs count area sums .store) (parsed l) (ofWords .reply)
+      same-change = go (leb count lent) refl
+        where
+          w : Store
+          w = wordSummed us lent count area sums .store
+
+          v : Store
+          v = lentSummed rs count area sums .store
+
+          rows-same : count ≤ lent → storeRows w ≡ storeRows v
+          rows-same h = unfold storeRows held in
+              ap (λ (m : Summed). recordRows area (take count (m .store .records))) word-is ∙ ap (recordRows area) (take-take count lent RS h)
+
+          fails : lent < count → passes (storeTable w) ≡ false
+          fails h = unfold storeTable in
+              few-fail area (w .records) count (omega (arith, h, ap (λ (m : Summed). length (m .store .records)) word-is, length-take lent RS))
+
+          refused-so : lent < count → (b : Bool) → isReader reader ≡ b → (k : ℕ) × (ofWords .reply ≡ refusal k)
+          refused-so h true r =
+              (1, ap (λ (x : SummedCommand). x .reply) (unsound-summed reader (wordSummed us lent count area sums) spaces l out r (fails h)))
+          refused-so h false r =
+              (16, ap (λ (x : SummedCommand). x .reply) (stranger-summed reader (wordSummed us lent count area sums) spaces l out r))
+
+          go : (b : Bool) → leb count lent ≡ b → changes w (parsed l) (ofWords .reply) ≡ changes v (parsed l) (ofWords .reply)
+          go true e = changes-rows w v (parsed l) (ofWords .reply) (rows-same (leb-true count lent e))
+          go false e =
+              let r = refused-so (leb-false count lent e) (isReader reader) refl in
+              ap (changes w (parsed l)) (r .1) ∙ changes-refused w (parsed l) (r .0) ∙ sym
+              (ap (changes v (parsed l)) (r .1) ∙ changes-refused v (parsed l) (r .0))
+
+      pub answers : map recordOf (take lent vs) ≡ wordCommand us lent count reader area sums spaces l out .records → Between us vs lent start to
+          → (rs′ : List Record) → CopiedBack rs vs start to rs′
+          → Answers (wordCommand us lent count reader area sums spaces l out) (lentCommand rs count reader area sums spaces l out) rs′
+      answers e b rs′ back =
+          record {
+            reply = sym (ap (λ (x : SummedCommand). x .reply) front-command);
+            changed =
+                same-change ∙ ap (changes (lentSummed rs count area sums .store) (parsed l))
+                (sym (ap (λ (x : SummedCommand). x .reply) front-command));
+            count = sym (ap (λ (x : SummedCommand). x .left .store .count) front-command);
+            area = sym (ap (λ (x : SummedCommand). x .left .store .area) front-command);
+            records =
+                back-are b rs′ back
+                ∙ (λ i. e i ++ sym records-rest i)
+                ∙ sym (append-assoc (ofWords .left .store .records) (drop lent RS) (drop (length sums) (map meant rs)))
+                ∙ ap (λ (x : SummedCommand). x .left .store .records ++ drop (length sums) (map meant rs)) (sym front-command);
+            summary =
+                ap (λ (k : ℕ). ofWords .left .summary ++ drop k (map summaryOf sums)) whole
+                ∙ ap (λ (x : List Summary). ofWords .left .summary ++ x) (sym numbers-rest)
+                ∙ sym (append-assoc (ofWords .left .summary) (drop lent MS) (drop (length rs) (map summaryOf sums)))
+                ∙ ap (λ (x : SummedCommand). x .left .summary ++ drop (length rs) (map summaryOf sums)) (sym front-command);
+          }
+
+    front-compaction : summedCompaction (lentSummed rs count area sums)
+        ≡ compactionMore (drop lent RS) (drop lent MS) (summedCompaction (wordSummed us lent count area sums))
+    front-compaction =
+        compaction-front RS MS lent both lent-is count area
+        ∙ ap (λ (m : Summed). compactionMore (drop lent RS) (drop lent MS) (summedCompaction m)) (sym word-is)
+
+    pub compacts : map recordOf (take lent vs) ≡ wordCompaction us lent count area sums .records → Between us vs lent start to
+        → (rs′ : List Record) → CopiedBack rs vs start to rs′ →
+        Compacts (wordCompaction us lent count area sums) (lentCompaction rs count area sums) rs′
     compacts e b rs′ back =
         record {
-          number = sym (front-compaction .number);
-          area = sym (front-compaction .area);
-          records = back-are b rs′ back ∙ ap (λ (ms : List Meant). ms ++ drop lent (map meant rs)) e ∙ sym (front-compaction .records);
+          number = sym (ap (λ (x : SummedCompaction). x .number) front-compaction);
+          area = sym (ap (λ (x : SummedCompaction). x .left .store .area) front-compaction);
+          records =
+              back-are b rs′ back
+              ∙ (λ i. e i ++ sym records-rest i)
+              ∙ sym (append-assoc (summedCompaction (wordSummed us lent count area sums) .left .store .records) (drop lent RS)
+              (drop (length sums) (map meant rs)))
+              ∙ ap (λ (x : SummedCompaction). x .left .store .records ++ drop (length sums) (map meant rs)) (sym front-compaction);
         }

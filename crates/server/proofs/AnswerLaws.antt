@@ -1,34 +1,32 @@
--- One command over words of which some are lent: from what it comes to over those alone. Rests on EditLaws.
-use Rattle.listing_rules.proofs.Prelude.{_∙_, _≡_, ap, refl, subst, sym, false, true, List, _++_, append-assoc, append-nil, map, _+_, _-_, _≤_, min}
-use Rattle.listing_rules.proofs.Prelude.{ℕ, decLe, arith, drop, drop-of-length-le, length, length-append, length-drop, take, take-append-drop}
-use Rattle.listing_rules.proofs.Prelude.{drop-append-le, length-take-le, paste, paste-zero, take-all, take-append-le, take-at}
+-- One command over words and numbers of which as many are lent as there are of both: from what it comes to over those alone. Rests on EditLaws.
+use Rattle.listing_rules.proofs.Prelude.{_∙_, _≡_, ap, refl, subst, sym, false, true, List, _++_, append-assoc, map, map-append, _+_, _-_, _≤_, min}
+use Rattle.listing_rules.proofs.Prelude.{ℕ, arith, drop, length, length-append, length-drop, take, take-append-drop, drop-append-le, length-take-le}
+use Rattle.listing_rules.proofs.Prelude.{paste, paste-zero, take-append-le, take-at}
 use Rattle.listing_rules.specs.Table.{passes}
+use Rattle.listing_rules.specs.Command.{parsed}
 use Rattle.listing_rules.specs.Namespaces.{namespacesPass}
 use Rattle.listing_rules.specs.Readers.{isReader, visible}
-use Rattle.listing_rules.specs.Subscriptions.{Store, storeTable, held}
-use Rattle.listing_rules.specs.Server.{Commanded, limited, bufferAfter, unchangedBy}
+use Rattle.listing_rules.specs.Subscriptions.{held}
+use Rattle.listing_rules.specs.Server.{limited, bufferAfter, changes}
+use Rattle.listing_rules.specs.Summary.{Summary, Summed, summedTable, SummedCommand, summedCommand}
+use Rattle.listing_rules.proofs.ListLaws.{map-take, map-drop}
+use Rattle.listing_rules.proofs.SummaryCommands.{untouched, changes-refused, changes-read}
 use Rattle.octets.specs.declared.Written.{Written}
 use Rattle.octets.specs.declared.Written.the-variants.{Refused}
 use Rattle.octets.specs.Written.{writtenIs, Gives}
 use Rattle.records.specs.Words.{recordOf}
-use Rattle.records.specs.Lent.{wordTable}
-use Rattle.records.specs.Stores.{wordStore, wordCommand, Between}
+use Rattle.records.specs.Numbers.{summaryOf}
+use Rattle.records.specs.Lent.{lentOf, wordStore, wordSummed, wordsSummed, wordsTable}
+use Rattle.records.specs.Stores.{Handed, wordCommand, Between}
 use Rattle.command_line.specs.declared.Command.{Command}
 use Rattle.mailbox_table.specs.Index.{rowsAt}
 use Rattle.mailbox_table.specs.Seen.{seenWords}
 use Rattle.mailbox_table.proofs.SeenLaws.{seen-rows}
-use Rattle.subscriptions.specs.Stored.{wholeStore}
 use Rattle.server.specs.declared.Stored.{Stored}
 use Rattle.server.specs.Replies.{commandReply}
-use Rattle.server.specs.Edits.{Leaves, memory, Reads, editKind, readerEdit}
-use Rattle.server.proofs.EditLaws.{no-edit, an-edit, comes-16, comes-1, comes-2, comes-read, comes-edit}
-
--- the clauses of the promise, where the command comes to c
-abbrev pub Clauses : Commanded → ℕ → List ℕ → List ℕ → List ℕ → List ℕ → List ℕ → Stored → Type 0
-Clauses c lent ws vs us out out′ r =
-    ((r .written ≡ writtenIs (c .reply)) × (r .count ≡ c .store .count))
-    × ((out′ ≡ bufferAfter out (c .reply))
-    × ((us ≡ c .store .area) × ((map recordOf (take lent vs) ≡ c .store .records) × Between ws vs lent (r .from) (r .to))))
+use Rattle.server.specs.Answering.{memory, Answers}
+use Rattle.server.specs.Edits.{Sound, Leaves, Reads, editKind, readerEdit, editChanges}
+use Rattle.server.proofs.EditLaws.{no-edit, an-edit, comes-16, comes-1, comes-2, comes-read, comes-edit, change-so}
 
 -- words that change at the front of others
 paste-front : (f es rest : List ℕ) (from m : ℕ) → length es ≡ length f → from + m ≤ length f → es ≡ paste f from (drop from es) m
@@ -40,135 +38,159 @@ paste-front f es rest from m l h e =
     ∙ rw (take-append-le from f rest (omega (arith, h)), d, t, drop-append-le (from + m) f rest h)
     (append-assoc (take from f ++ take m (drop from es)) (drop (from + m) f) rest)
 
-module _ (ws : List ℕ) (lent count reader : ℕ) (area spaces l out : List ℕ) where
-  abbrev D : Commanded
-  D = wordCommand ws lent count reader area spaces l out
+pub between-front : (ws es : List ℕ) (n m k from to : ℕ) → n ≤ length ws → m ≤ k → Between (take n ws) es m from to →
+    Between ws (es ++ drop n ws) k from to
+between-front ws es n m k from to inside h b =
+    let last : from + (to - from) ≡ to = omega (arith, b .order) in
+    let front : length (take n ws) ≡ n = length-take-le n ws inside in
+    record {
+      order = b .order;
+      lent-only = omega (arith, b .lent-only, h);
+      within = omega (arith, b .within, front, inside);
+      size = omega (arith, length-append es (drop n ws), b .size, front, length-drop n ws, inside);
+      others =
+          subst (λ (z : List ℕ). es ++ drop n ws ≡ paste z from (drop from (es ++ drop n ws)) (to - from)) (take-append-drop n ws)
+          (paste-front (take n ws) es (drop n ws) from (to - from) (b .size) (omega (arith, last, b .within)) (b .others));
+    }
+
+-- as many words as there are words and numbers
+module _ (ws sums : List ℕ) (n : ℕ) (least : n ≡ min (length ws) (length sums)) where
+  pub front-size : n ≡ length (take n ws)
+  front-size = sym (length-take-le n ws (omega (arith, least)))
+
+  pub sums-size : n ≡ length (take n sums)
+  sums-size = sym (length-take-le n sums (omega (arith, least)))
+
+  pub front-inside : n ≤ length ws
+  front-inside = omega (arith, least)
+
+  pub sums-inside : n ≤ length sums
+  sums-inside = omega (arith, least)
+
+module _ (ws sums : List ℕ) (count reader : ℕ) (area spaces l out : List ℕ) where
+  -- what is handed back, and what the command comes to over what is lent
+  abbrev D : Handed
+  D = wordCommand ws (length ws) count reader area sums spaces l out
+
+  abbrev m : Summed
+  m = wordSummed ws (length ws) count area sums
+
+  abbrev C : SummedCommand
+  C = summedCommand reader m spaces l out
+
+  -- how many are lent
+  lent-is : lentOf ws (length ws) sums ≡ min (length ws) (length sums)
+  lent-is = omega arith
 
   -- nothing changed
-  pub alone : (w : Written) (out′ : List ℕ) (r : Stored) → D .store ≡ wordStore ws lent count area → w ≡ writtenIs (D .reply) →
-      out′ ≡ bufferAfter out (D .reply)
-      → r ≡ record { written = w; count = count; from = 0; to = 0 } → Clauses D lent ws ws area out out′ r
-  alone w out′ r e f g h =
-      rw h (
-        (f, ap (λ (t : Store). t .count) (sym e)),
-        (
-          g,
-          (
-            ap (λ (t : Store). t .area) (sym e),
-            (ap (λ (t : Store). t .records) (sym e), record { order = omega arith; lent-only = omega arith; within = omega arith; size = refl; others = paste-zero ws 0 ws }),
-          ),
-        ),
-      )
+  pub alone : (w : Written) (out′ : List ℕ) (r : Stored) → C .left ≡ m → changes (m .store) (parsed l) (C .reply) ≡ false
+      → w ≡ writtenIs (C .reply) → out′ ≡ bufferAfter out (C .reply)
+      → r ≡ record { written = w; count = count; from = 0; to = 0 } → Answers D (memory ws sums area out) (memory ws sums area out′) r
+  alone w out′ r e d f g h =
+      rw h (record {
+        written = f;
+        count = ap (λ (t : Summed). t .store .count) (sym e);
+        changed = sym d;
+        bytes = g;
+        area = ap (λ (t : Summed). t .store .area) (sym e);
+        records = ap (λ (k : ℕ). map recordOf (take k ws)) (sym lent-is) ∙ ap (λ (t : Summed). t .store .records) (sym e);
+        summary =
+            sym (take-append-drop (lentOf ws (length ws) sums) (map summaryOf sums))
+            ∙ ap (λ (x : List Summary). x ++ drop (lentOf ws (length ws) sums) (map summaryOf sums))
+            (sym (map-take summaryOf (lentOf ws (length ws) sums) sums) ∙ ap (λ (t : Summed). t .summary) (sym e));
+        between = record { order = omega arith; lent-only = omega arith; within = omega arith; size = refl; others = paste-zero ws 0 ws };
+      })
 
-  alone-refused : (k : ℕ) (r : Stored) → D ≡ unchangedBy (wordStore ws lent count area) k →
-      r ≡ record { written = Refused k; count = count; from = 0; to = 0 } → Clauses D lent ws ws area out out r
-  unfolding unchangedBy writtenIs bufferAfter
+  alone-refused : (k : ℕ) (r : Stored) → C ≡ untouched m k → r ≡ record { written = Refused k; count = count; from = 0; to = 0 }
+      → Answers D (memory ws sums area out) (memory ws sums area out) r
+  unfolding writtenIs bufferAfter
   alone-refused k r e h =
-      alone (Refused k) out r (ap (λ (d : Commanded). d .store) e) (ap (λ (d : Commanded). writtenIs (d .reply)) (sym e))
-      (ap (λ (d : Commanded). bufferAfter out (d .reply)) (sym e)) h
+      alone (Refused k) out r (ap (λ (x : SummedCommand). x .left) e)
+      (ap (λ (x : SummedCommand). changes (m .store) (parsed l) (x .reply)) e ∙ changes-refused (m .store) (parsed l) k)
+      (ap (λ (x : SummedCommand). writtenIs (x .reply)) (sym e)) (ap (λ (x : SummedCommand). bufferAfter out (x .reply)) (sym e)) h
 
   -- 16 above reader 7
-  pub refused-16 : (r : Stored) → isReader reader ≡ false → r ≡ record { written = Refused 16; count = count; from = 0; to = 0 } →
-      Clauses D lent ws ws area out out r
-  refused-16 r h e = alone-refused 16 r (comes-16 reader (wordStore ws lent count area) spaces l out h) e
+  pub refused-16 : (r : Stored) → isReader reader ≡ false → r ≡ record { written = Refused 16; count = count; from = 0; to = 0 }
+      → Answers D (memory ws sums area out) (memory ws sums area out) r
+  refused-16 r h e = alone-refused 16 r (comes-16 reader m spaces l out h) e
 
-  -- the words that are lent, n of them
-  module _ (n : ℕ) (least : n ≡ min lent (length ws)) where
-    front : take n ws ≡ take lent ws
-    front = go (decLe lent (length ws))
-      where
-        go : Dec (lent ≤ length ws) → take n ws ≡ take lent ws
-        go (yes h) = ap (λ (k : ℕ). take k ws) (let e : n ≡ lent = omega (arith, least, h) in e)
-        go (no h) = take-all n ws (omega (arith, least, h)) ∙ sym (take-all lent ws (omega (arith, h)))
+  -- the words and numbers that are lent, n of them
+  module _ (n : ℕ) (least : n ≡ min (length ws) (length sums)) where
+    whole : n ≡ lentOf ws (length ws) sums
+    whole = least ∙ sym lent-is
 
-    pub front-size : n ≡ length (take n ws)
-    front-size = sym (length-take-le n ws (omega (arith, least)))
+    front-is : wordsSummed (take n ws) count area (take n sums) ≡ m
+    front-is = λ i. record { store = wordStore ws (whole i) count area; summary = map summaryOf (take (whole i) sums) }
 
-    pub front-inside : n ≤ length ws
-    front-inside = omega (arith, least)
-
-    front-table : wordTable area (take n ws) count ≡ storeTable (wordStore ws lent count area)
-    unfolding storeTable
-    front-table = ap (λ (x : List ℕ). wordTable area x count) front
-
-    store-is : wholeStore (take n ws) count area ≡ wordStore ws lent count area
-    store-is = ap (λ (x : List ℕ). wholeStore x count area) front
-
-    pub front-passes : passes (wordTable area (take n ws) count) ≡ true → passes (storeTable (wholeStore (take n ws) count area)) ≡ true
-    unfolding storeTable
-    front-passes h = h
+    pub front-sound : passes (wordsTable (take n ws) count area (take n sums)) ≡ true → Sound (take n ws) (take n sums) count area
+    front-sound h = record { table = h; sized = sym (front-size ws sums n least) ∙ sums-size ws sums n least }
 
     -- 1, 2, and a command that reads, of a reader up to 7
     module _ (known : isReader reader ≡ true) where
-      pub refused-1 : (r : Stored) → passes (wordTable area (take n ws) count) ≡ false →
-          r ≡ record { written = Refused 1; count = count; from = 0; to = 0 } → Clauses D lent ws ws area out out r
-      refused-1 r h e = alone-refused 1 r (comes-1 reader (wordStore ws lent count area) spaces l out known (ap passes (sym front-table) ∙ h)) e
+      pub refused-1 : (r : Stored) → passes (wordsTable (take n ws) count area (take n sums)) ≡ false
+          → r ≡ record { written = Refused 1; count = count; from = 0; to = 0 } → Answers D (memory ws sums area out) (memory ws sums area out) r
+      refused-1 r h e =
+          alone-refused 1 r (comes-1 reader m spaces l out known (ap (λ (t : Summed). passes (summedTable t)) (sym front-is) ∙ h)) e
 
-      module _ (passed : passes (wordTable area (take n ws) count) ≡ true) where
-        passes-on : passes (storeTable (wordStore ws lent count area)) ≡ true
-        passes-on = ap passes (sym front-table) ∙ passed
+      module _ (passed : passes (wordsTable (take n ws) count area (take n sums)) ≡ true) where
+        passes-on : passes (summedTable m) ≡ true
+        passes-on = ap (λ (t : Summed). passes (summedTable t)) (sym front-is) ∙ passed
 
-        pub refused-2 : (r : Stored) → namespacesPass spaces ≡ false → r ≡ record { written = Refused 2; count = count; from = 0; to = 0 } →
-            Clauses D lent ws ws area out out r
-        refused-2 r h e = alone-refused 2 r (comes-2 reader (wordStore ws lent count area) spaces l out known passes-on h) e
+        pub refused-2 : (r : Stored) → namespacesPass spaces ≡ false → r ≡ record { written = Refused 2; count = count; from = 0; to = 0 }
+            → Answers D (memory ws sums area out) (memory ws sums area out) r
+        refused-2 r h e = alone-refused 2 r (comes-2 reader m spaces l out known passes-on h) e
 
         module _ (listed : namespacesPass spaces ≡ true) (c : Command) (reads : Reads l c) where
           -- the rows that the reader sees, of an index that tells the records
           pub read-only : (index : List ℕ) → map recordOf index ≡ take count (map recordOf (take n ws)) → editKind (c .kind) ≡ false
               → {out′ : List ℕ} {w : Written} → Gives (commandReply area (seenWords reader index) spaces l) out out′ w
-              → (r : Stored) → r ≡ record { written = w; count = count; from = 0; to = 0 } → Clauses D lent ws ws area out out′ r
+              → (r : Stored) → r ≡ record { written = w; count = count; from = 0; to = 0 }
+              → Answers D (memory ws sums area out) (memory ws sums area out′) r
           unfolding held
           read-only index told k {out′} {w} g r e =
-              let x = comes-read reader (wordStore ws lent count area) spaces l out known passes-on listed (no-edit l c reads k) in
-              let rows-are : rowsAt area (seenWords reader index) ≡ visible reader area (take count (map recordOf (take lent ws)))
-              = seen-rows reader area index ∙ ap (visible reader area) (told ∙ ap (λ (z : List ℕ). take count (map recordOf z)) front) in
-              let y : D ≡ record
-              { reply = limited (length out) (commandReply area (seenWords reader index) spaces l); store = wordStore ws lent count area } = x ∙
-              rw rows-are in
-              alone w out′ r (ap (λ (d : Commanded). d .store) y) (g .0 ∙ ap (λ (d : Commanded). writtenIs (d .reply)) (sym y))
-              (g .1 ∙ ap (λ (d : Commanded). bufferAfter out (d .reply)) (sym y)) e
+              let x = comes-read reader m spaces l out known passes-on listed (no-edit l c reads k) in
+              let rows-are : rowsAt area (seenWords reader index) ≡ visible reader area (take count (m .store .records))
+              = seen-rows reader area index ∙ ap (visible reader area) (told ∙ ap (λ (t : Summed). take count (t .store .records)) front-is) in
+              let y : C ≡ record { reply = limited (length out) (commandReply area (seenWords reader index) spaces l); left = m } = x ∙ rw rows-are in
+              alone w out′ r (ap (λ (d : SummedCommand). d .left) y) (changes-read (m .store) (parsed l) (C .reply) (no-edit l c reads k))
+              (g .0 ∙ ap (λ (d : SummedCommand). writtenIs (d .reply)) (sym y))
+              (g .1 ∙ ap (λ (d : SummedCommand). bufferAfter out (d .reply)) (sym y)) e
 
-          -- an edit, which has the words that are lent, and the others behind them
-          pub edited-front : editKind (c .kind) ≡ true → (es us out′ : List ℕ) (r : Stored)
-              → Leaves (readerEdit reader (wholeStore (take n ws) count area) l c out) (memory (take n ws) area out) (memory es us out′) r →
-              Clauses D lent ws (es ++ drop n ws) us out out′ r
-          edited-front k es us out′ r x = (
-            (x .written ∙ ap (λ (d : Commanded). writtenIs (d .reply)) same, x .count ∙ ap (λ (d : Commanded). d .store .count) same),
-            (
-              x .bytes ∙ ap (λ (d : Commanded). bufferAfter out (d .reply)) same,
-              (x .area ∙ ap (λ (d : Commanded). d .store .area) same, (ap (map recordOf) taken ∙ x .records ∙ ap (λ (d : Commanded). d .store .records) same, moved)),
-            ),
-          )
+          -- an edit, which has the words and numbers that are lent, and the others after them
+          pub edited-front : editKind (c .kind) ≡ true → (es ts us out′ : List ℕ) (r : Stored)
+              → Leaves (readerEdit reader (wordsSummed (take n ws) count area (take n sums)) l c out)
+              (editChanges reader (wordsSummed (take n ws) count area (take n sums)) l c out)
+              (memory (take n ws) (take n sums) area out) (memory es ts us out′) r
+              → Answers D (memory ws sums area out) (memory (es ++ drop n ws) (ts ++ drop n sums) us out′) r
+          edited-front k es ts us out′ r x =
+              record {
+                written = x .written ∙ ap (λ (d : SummedCommand). writtenIs (d .reply)) same;
+                count = x .count ∙ ap (λ (d : SummedCommand). d .left .store .count) same;
+                changed =
+                    x .changed-so
+                    ∙ ap (λ (t : Summed). editChanges reader t l c out) front-is
+                    ∙ change-so reader m l c out (an-edit l c reads k)
+                    ∙ ap (λ (d : SummedCommand). changes (m .store) (parsed l) (d .reply)) edits;
+                bytes = x .bytes ∙ ap (λ (d : SummedCommand). bufferAfter out (d .reply)) same;
+                area = x .area ∙ ap (λ (d : SummedCommand). d .left .store .area) same;
+                records = ap (map recordOf) taken ∙ x .records ∙ ap (λ (d : SummedCommand). d .left .store .records) same;
+                summary =
+                    map-append summaryOf ts (drop n sums)
+                    ∙ (λ i. (x .summary ∙ ap (λ (d : SummedCommand). d .left .summary) same) i
+                    ++ (map-drop summaryOf n sums ∙ ap (λ (j : ℕ). drop j (map summaryOf sums)) whole) i);
+                between =
+                    between-front ws es n (length (take n ws)) (min (length ws) (length sums)) (r .from) (r .to) (front-inside ws sums n least)
+                    (omega (arith, front-size ws sums n least, least)) (x .between);
+              }
             where
-              same : readerEdit reader (wholeStore (take n ws) count area) l c out ≡ D
-              same =
-                  ap (λ (s : Store). readerEdit reader s l c out) store-is
-                  ∙ sym (comes-edit reader (wordStore ws lent count area) spaces l out known passes-on listed c (an-edit l c reads k))
+              edits : readerEdit reader m l c out ≡ C
+              edits = sym (comes-edit reader m spaces l out known passes-on listed c (an-edit l c reads k))
+
+              same : readerEdit reader (wordsSummed (take n ws) count area (take n sums)) l c out ≡ C
+              same = ap (λ (t : Summed). readerEdit reader t l c out) front-is ∙ edits
 
               size : length es ≡ n
-              size = x .between .size ∙ sym front-size
+              size = x .between .size ∙ sym (front-size ws sums n least)
 
-              taken : take lent (es ++ drop n ws) ≡ es
-              taken = go (decLe lent (length ws))
-                where
-                  go : Dec (lent ≤ length ws) → take lent (es ++ drop n ws) ≡ es
-                  go (yes h) = take-at es (drop n ws) lent (omega (arith, size, least, h))
-                  go (no h) =
-                      ap (λ (z : List ℕ). take lent (es ++ z)) (drop-of-length-le ws {i = n} (omega (arith, least, h)))
-                      ∙ ap (take lent) (append-nil es)
-                      ∙ take-all lent es (omega (arith, size, least, h))
-
-              moved : Between ws (es ++ drop n ws) lent (r .from) (r .to)
-              moved =
-                  let b = x .between in
-                  let last : r .from + (r .to - r .from) ≡ r .to = omega (arith, b .order) in
-                  record {
-                    order = b .order;
-                    lent-only = omega (arith, b .within, front-size, least);
-                    within = omega (arith, b .within, front-size, least);
-                    size = omega (arith, length-append es (drop n ws), size, length-drop n ws, least);
-                    others =
-                        subst (λ (z : List ℕ). es ++ drop n ws ≡ paste z (r .from) (drop (r .from) (es ++ drop n ws)) (r .to - r .from))
-                        (take-append-drop n ws)
-                        (paste-front (take n ws) es (drop n ws) (r .from) (r .to - r .from) (b .size) (omega (arith, last, b .within)) (b .others));
-                  }
+              taken : take (min (length ws) (length sums)) (es ++ drop n ws) ≡ es
+              taken = take-at es (drop n ws) (min (length ws) (length sums)) (size ∙ least)

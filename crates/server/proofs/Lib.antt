@@ -2,4 +2,4 @@
 mod Inputs
 mod Order
 mod EditLaws
-mod AnswerLaws
+pub mod AnswerLaws

@@ -1,42 +1,45 @@
--- What a command leaves of words, area and answer buffer, and what an edit that was read comes to.
+-- What an edit that was read comes to, and what it leaves of words, summary, area and answer buffer.
 use mathlib.Core.Path.{_≡_}
 use mathlib.Core.Bool.{Bool, true, false, cond}
 use mathlib.Core.List.{List, map}
 use Prim.Native.Nat.{ℕ, _≤_}
-use lib.Dec.{eqb}
+use lib.Dec.{eqb, ltb}
 use lib.ListN.{length, take}
-use Rattle.listing_rules.specs.Command.{Edit, subscribe, unsubscribe, parsed}
+use Rattle.listing_rules.specs.Table.{passes}
+use Rattle.listing_rules.specs.Command.{Edit, subscribe, unsubscribe, Parsed, editing, parsed}
 use Rattle.listing_rules.specs.Subscriptions.{Store, edited}
 use Rattle.listing_rules.specs.Lines.{okLine}
-use Rattle.subscriptions.specs.declared.Plan.{Plan}
-use Rattle.subscriptions.specs.declared.Plan.the-variants.{Keep, Flag, Insert, Remove, Refused as Refuses}
-use Rattle.listing_rules.specs.Server.{Reply, Commanded, refusal, answered, unchangedBy, concluded, bufferAfter}
+use Rattle.listing_rules.specs.Server.{Reply, Commanded, refusal, answered, concluded, bufferAfter, changes}
+use Rattle.listing_rules.specs.Summary.{Summed, SummedCommand, sumsAfter}
 use Rattle.octets.specs.Written.{writtenIs}
 use Rattle.records.specs.Words.{recordOf}
+use Rattle.records.specs.Numbers.{summaryOf}
+use Rattle.records.specs.Lent.{wordsTable}
 use Rattle.records.specs.Stores.{Between}
 use Rattle.command_tokens.specs.Spans.{spanBytes}
 use Rattle.command_line.specs.declared.Kind.{Kind}
 use Rattle.command_line.specs.declared.Kind.the-variants.{List as Listing, Root, Namespace, Lsub, Subscribe, Unsubscribe, Refused}
 use Rattle.command_line.specs.declared.Command.{Command}
 use Rattle.command_line.specs.Commands.{meaning, nameOf, Inside}
+use Rattle.subscriptions.specs.declared.Plan.{Plan}
+use Rattle.subscriptions.specs.declared.Plan.the-variants.{Keep, Flag, Insert, Remove, Refused as Refuses}
 use Rattle.server.specs.declared.Stored.{Stored}
+use Rattle.server.specs.Answering.{Memory}
 
--- the memory that a command may change
-pub record Memory : Type 0 where
-  pub words : List ℕ
-  pub area : List ℕ
-  pub out : List ℕ
+-- Words whose table passes with its summary, and a number for each of them.
+pub record Sound (ws sums : List ℕ) (count : ℕ) (area : List ℕ) : Type 0 where
+  pub table : passes (wordsTable ws count area sums) ≡ true
+  pub sized : length ws ≡ length sums
 
-abbrev pub memory : List ℕ → List ℕ → List ℕ → Memory
-memory words area out = record { words = words; area = area; out = out }
-
--- the result and every byte, where the command comes to c; the words are the records lent
-pub record Leaves (c : Commanded) (before after : Memory) (r : Stored) : Type 0 where
+-- the result and every byte, where the edit comes to c and changes a row or does not; the words are the records lent
+pub record Leaves (c : SummedCommand) (changed : Bool) (before after : Memory) (r : Stored) : Type 0 where
   pub written : r .written ≡ writtenIs (c .reply)
-  pub count : r .count ≡ c .store .count
+  pub count : r .count ≡ c .left .store .count
+  pub changed-so : ltb (r .from) (r .to) ≡ changed
   pub bytes : after .out ≡ bufferAfter (before .out) (c .reply)
-  pub area : after .area ≡ c .store .area
-  pub records : map recordOf (after .words) ≡ c .store .records
+  pub area : after .area ≡ c .left .store .area
+  pub records : map recordOf (after .words) ≡ c .left .store .records
+  pub summary : map summaryOf (after .sums) ≡ c .left .summary
   pub between : Between (before .words) (after .words) (length (before .words)) (r .from) (r .to)
 
 -- these bytes lie at the front of a buffer, r of them
@@ -76,13 +79,27 @@ editAs false n = unsubscribe n
 abbrev pub editOf : List ℕ → Command → Edit
 editOf line c = editAs (subscribeKind (c .kind)) (nameOf line c)
 
--- what an edit comes to, over a table that passes and beside a namespace list that passes
-abbrev pub editCommand : Store → List ℕ → Command → List ℕ → Commanded
-editCommand s line c out = concluded s (length out) (edited s (editOf line c)) (answered (okLine (spanBytes line (c .tag))))
+-- what an edit comes to, over a table that passes and beside a namespace list that passes; and whether it changes a row
+abbrev pub editStored : Store → List ℕ → Command → List ℕ → Commanded
+editStored s line c out = concluded s (length out) (edited s (editOf line c)) (answered (okLine (spanBytes line (c .tag))))
+
+abbrev pub editParsed : List ℕ → Command → Parsed
+editParsed line c = editing (spanBytes line (c .tag)) (editOf line c)
+
+abbrev pub editCommand : Summed → List ℕ → Command → List ℕ → SummedCommand
+editCommand m line c out =
+    let d = editStored (m .store) line c out in
+    record { reply = d .reply; left = record { store = d .store; summary = sumsAfter m (editParsed line c) (d .reply) } }
+
+abbrev pub editChange : Summed → List ℕ → Command → List ℕ → Bool
+editChange m line c out = changes (m .store) (editParsed line c) (editStored (m .store) line c out .reply)
 
 -- the same of an edit from a reader: 16 if it is not reader 0
-abbrev pub readerEdit : ℕ → Store → List ℕ → Command → List ℕ → Commanded
-readerEdit reader s line c out = cond (eqb reader 0) (editCommand s line c out) (unchangedBy s 16)
+abbrev pub readerEdit : ℕ → Summed → List ℕ → Command → List ℕ → SummedCommand
+readerEdit reader m line c out = cond (eqb reader 0) (editCommand m line c out) (record { reply = refusal 16; left = m })
+
+abbrev pub editChanges : ℕ → Summed → List ℕ → Command → List ℕ → Bool
+editChanges reader m line c out = cond (eqb reader 0) (editChange m line c out) false
 
 -- what is answered to an edit by its plan, if the buffer has room for it
 unfoldable pub planReply : Plan → List ℕ → Reply

@@ -15,12 +15,12 @@ ghost use mathlib.Core.Path.{_≡_};
 ghost use mathlib.Core.Bool.{true};
 ghost use Prim.Native.Nat.{_≤_};
 ghost use lib.ListN.{length, replicate};
-ghost use Rattle.listing_rules.specs.Table.{passes};
-ghost use Rattle.listing_rules.specs.Subscriptions.{storeTable, spelled};
+ghost use Rattle.listing_rules.specs.Subscriptions.{spelled};
+ghost use Rattle.records.specs.Lent.{wordsSummed};
 ghost use Rattle.command_line.specs.Commands.{Inside, nameOf};
-ghost use Rattle.subscriptions.specs.Stored.{wholeStore};
 ghost use Rattle.octets.specs.Written.{Gives};
-ghost use Rattle.server.specs.Edits.{Fronts, planReply, Leaves, memory, Reads, editKind, subscribeKind, editCommand, readerEdit};
+ghost use Rattle.server.specs.Answering.{memory};
+ghost use Rattle.server.specs.Edits.{Fronts, planReply, Sound, Leaves, Reads, editKind, subscribeKind, editCommand, editChange, readerEdit, editChanges};
 
 // Room for the name of any command line.
 const NAME_ROOM: usize = 2048;
@@ -94,10 +94,11 @@ fn put_spelled(line: &[u8], command: Command, name: &mut [u8]) -> usize
     end
 }
 
-// The edit of a command that was read, over words whose table passes: 16 for another reader than 0, then 14, 15 and 9, all before any
+// The edit of a command that was read, over words whose table passes with its summary, a number for each word: 16 for another reader than 0, then 14, 15 and 9, all before any
 // change.
 pub(crate) fn edit_from(
     words: &mut [u64],
+    sums: &mut [u64],
     count: usize,
     reader: u8,
     area: &mut [u8],
@@ -105,43 +106,47 @@ pub(crate) fn edit_from(
     command: Command,
     out: &mut [u8],
 ) -> Stored
-    requires { ⌜ passes (storeTable (wholeStore (now words) count (now area))) ≡ true ⌝ }
+    requires { ⌜ Sound (now words) (now sums) count (now area) ⌝ }
     requires { ⌜ Reads (now line) command × (editKind (command .kind) ≡ true) ⌝ }
     ensures { λ r. ⌜ Leaves
-        (readerEdit reader (wholeStore (now (words .entry)) count (now (area .entry))) (now (line .entry)) command (now (out .entry)))
-        (memory (now (words .entry)) (now (area .entry)) (now (out .entry)))
-        (memory (now (words .exit)) (now (area .exit)) (now (out .exit))) r ⌝ }
+        (readerEdit reader (wordsSummed (now (words .entry)) count (now (area .entry)) (now (sums .entry))) (now (line .entry)) command (now (out .entry)))
+        (editChanges reader (wordsSummed (now (words .entry)) count (now (area .entry)) (now (sums .entry))) (now (line .entry)) command (now (out .entry)))
+        (memory (now (words .entry)) (now (sums .entry)) (now (area .entry)) (now (out .entry)))
+        (memory (now (words .exit)) (now (sums .exit)) (now (area .exit)) (now (out .exit))) r ⌝ }
 {
     if reader != 0 {
         return unchanged(Written::Refused(READER), count);
     }
-    edit(words, count, area, line, command, out)
+    edit(words, sums, count, area, line, command, out)
 }
 
-// The same from reader 0.
+// That of reader 0: its name is put into a buffer and spelled.
 fn edit(
     words: &mut [u64],
+    sums: &mut [u64],
     count: usize,
     area: &mut [u8],
     line: &[u8],
     command: Command,
     out: &mut [u8],
 ) -> Stored
-    requires { ⌜ passes (storeTable (wholeStore (now words) count (now area))) ≡ true ⌝ }
+    requires { ⌜ Sound (now words) (now sums) count (now area) ⌝ }
     requires { ⌜ Reads (now line) command × (editKind (command .kind) ≡ true) ⌝ }
     ensures { λ r. ⌜ Leaves
-        (editCommand (wholeStore (now (words .entry)) count (now (area .entry))) (now (line .entry)) command (now (out .entry)))
-        (memory (now (words .entry)) (now (area .entry)) (now (out .entry)))
-        (memory (now (words .exit)) (now (area .exit)) (now (out .exit))) r ⌝ }
+        (editCommand (wordsSummed (now (words .entry)) count (now (area .entry)) (now (sums .entry))) (now (line .entry)) command (now (out .entry)))
+        (editChange (wordsSummed (now (words .entry)) count (now (area .entry)) (now (sums .entry))) (now (line .entry)) command (now (out .entry)))
+        (memory (now (words .entry)) (now (sums .entry)) (now (area .entry)) (now (out .entry)))
+        (memory (now (words .exit)) (now (sums .exit)) (now (area .exit)) (now (out .exit))) r ⌝ }
 {
     let mut name = no_name();
     let n = put_spelled(line, command, &mut name);
-    edit_named(words, count, area, &name[..n], line, command, out)
+    edit_named(words, sums, count, area, &name[..n], line, command, out)
 }
 
-// The same where its name is at hand, spelled.
+// That of a name that is at hand, spelled: decided, answered, and only then done.
 fn edit_named(
     words: &mut [u64],
+    sums: &mut [u64],
     count: usize,
     area: &mut [u8],
     name: &[u8],
@@ -149,13 +154,14 @@ fn edit_named(
     command: Command,
     out: &mut [u8],
 ) -> Stored
-    requires { ⌜ passes (storeTable (wholeStore (now words) count (now area))) ≡ true ⌝ }
+    requires { ⌜ Sound (now words) (now sums) count (now area) ⌝ }
     requires { ⌜ Inside (now line) command ⌝ }
     requires { ⌜ now name ≡ spelled (nameOf (now line) command) ⌝ }
     ensures { λ r. ⌜ Leaves
-        (editCommand (wholeStore (now (words .entry)) count (now (area .entry))) (now (line .entry)) command (now (out .entry)))
-        (memory (now (words .entry)) (now (area .entry)) (now (out .entry)))
-        (memory (now (words .exit)) (now (area .exit)) (now (out .exit))) r ⌝ }
+        (editCommand (wordsSummed (now (words .entry)) count (now (area .entry)) (now (sums .entry))) (now (line .entry)) command (now (out .entry)))
+        (editChange (wordsSummed (now (words .entry)) count (now (area .entry)) (now (sums .entry))) (now (line .entry)) command (now (out .entry)))
+        (memory (now (words .entry)) (now (sums .entry)) (now (area .entry)) (now (out .entry)))
+        (memory (now (words .exit)) (now (sums .exit)) (now (area .exit)) (now (out .exit))) r ⌝ }
 {
     let kind = command.kind;
     let subscribe = is_subscribe(kind);
@@ -164,7 +170,7 @@ fn edit_named(
     match verdict(plan, raw(line, command.tag), out) {
         Written::Refused(number) => unchanged(Written::Refused(number), count),
         Written::Done(length) => {
-            let change = carry_out(plan, words, count, area, name);
+            let change = carry_out(plan, words, sums, count, area, name);
             Stored {
                 written: Written::Done(length),
                 count: change.count,

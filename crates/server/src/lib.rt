@@ -1,5 +1,5 @@
 // The server side: one command over a mailbox table and a namespace list, into an answer buffer, all lent. The table is a run of
-// records, each as a number, over an area of name bytes; SUBSCRIBE and UNSUBSCRIBE change both. Who lends the records themselves calls
+// records, each as a number, over an area of name bytes, with a summary beside them; SUBSCRIBE and UNSUBSCRIBE change all three. Who lends the records themselves calls
 // `exports::luspemaro_answer`.
 //
 // Refusals in the papers' order: a reader above 7 16, the table 1, the namespace list 2, the command 3 to 8, an edit from another reader
@@ -16,7 +16,6 @@ use edit::is_edit;
 use edit::unchanged;
 use mailbox_table::Indexing;
 use mailbox_table::MAX_READER;
-use mailbox_table::index_words;
 use mailbox_table::see_rows;
 use octets::Written;
 use octets::least;
@@ -28,13 +27,10 @@ pub use packed::read_packed;
 pub use reading::read_words;
 use reading::respond;
 use records::no_words;
-ghost use mathlib.Core.Path.{_≡_};
-ghost use mathlib.Core.List.{map};
-ghost use lib.ListN.{take};
-ghost use Rattle.listing_rules.specs.Server.{bufferAfter};
-ghost use Rattle.records.specs.Words.{recordOf};
-ghost use Rattle.records.specs.Stores.{wordCommand, Between};
-ghost use Rattle.octets.specs.Written.{writtenIs};
+use summary::index_summed;
+ghost use lib.ListN.{length};
+ghost use Rattle.records.specs.Stores.{wordCommand};
+ghost use Rattle.server.specs.Answering.{Answers, memory};
 
 // What a command comes to: the length of its answer or the number of its refusal, how many words are rows now, and the
 // words that changed or moved, `from` up to `to`.
@@ -45,12 +41,13 @@ pub struct Stored {
     pub to: usize,
 }
 
-// The answer to one command of a reader at the front of `out`. The first `lent` words, or all where they are fewer, are the records, each
-// as a number (`records::word_of`); the first `count` of those are the table's rows, over the area of name bytes, and the others are spare.
-// SUBSCRIBE and UNSUBSCRIBE change words, area and count; a refusal, and any other command, leaves them.
+// The answer to one command of a reader at the front of `out`. The words are the records, each as a number (`records::word_of`), and `sums` the numbers of
+// their summary (`summary`): as many records are lent as there are of both. The first `count` of them are the table's rows, over the area of name bytes, and
+// the others are spare. SUBSCRIBE and UNSUBSCRIBE change words, summary, area and count; a refusal, and any other command, leaves them. A row changed exactly
+// if `from` is below `to`.
 pub fn answer_words(
     words: &mut [u64],
-    lent: usize,
+    sums: &mut [u64],
     count: usize,
     reader: u8,
     area: &mut [u8],
@@ -58,25 +55,18 @@ pub fn answer_words(
     line: &[u8],
     out: &mut [u8],
 ) -> Stored
-    ensures result { λ r. ⌜
-        (r .written ≡ writtenIs
-        (wordCommand (now (words .entry)) lent count reader (now (area .entry)) (now (namespaces .entry)) (now (line .entry)) (now (out .entry)) .reply))
-        × (r .count
-        ≡ wordCommand (now (words .entry)) lent count reader (now (area .entry)) (now (namespaces .entry)) (now (line .entry)) (now (out .entry)) .store .count) ⌝ }
-    ensures bytes { λ _. ⌜ now (out .exit) ≡ bufferAfter (now (out .entry))
-        (wordCommand (now (words .entry)) lent count reader (now (area .entry)) (now (namespaces .entry)) (now (line .entry)) (now (out .entry)) .reply) ⌝ }
-    ensures area { λ _. ⌜ now (area .exit)
-        ≡ wordCommand (now (words .entry)) lent count reader (now (area .entry)) (now (namespaces .entry)) (now (line .entry)) (now (out .entry)) .store .area ⌝ }
-    ensures words { λ r. ⌜ (map recordOf (take lent (now (words .exit)))
-        ≡ wordCommand (now (words .entry)) lent count reader (now (area .entry)) (now (namespaces .entry)) (now (line .entry)) (now (out .entry)) .store .records)
-        × Between (now (words .entry)) (now (words .exit)) lent (r .from) (r .to) ⌝ }
+    ensures { λ r. ⌜ Answers
+        (wordCommand (now (words .entry)) (length (now (words .entry))) count reader (now (area .entry)) (now (sums .entry))
+        (now (namespaces .entry)) (now (line .entry)) (now (out .entry)))
+        (memory (now (words .entry)) (now (sums .entry)) (now (area .entry)) (now (out .entry)))
+        (memory (now (words .exit)) (now (sums .exit)) (now (area .exit)) (now (out .exit))) r ⌝ }
 {
     if MAX_READER < reader {
         return unchanged(Written::Refused(READER), count);
     }
     let mut rows = no_words();
-    let n = least(lent, words.len());
-    let Indexing::Rows(m) = index_words(area, &words[..n], count, &mut rows) else {
+    let n = least(words.len(), sums.len());
+    let Indexing::Rows(m) = index_summed(area, &words[..n], count, &sums[..n], &mut rows) else {
         return unchanged(Written::Refused(TABLE), count);
     };
     if !namespace_list::check(namespaces) {
@@ -85,7 +75,16 @@ pub fn answer_words(
     let command = read_command(line);
     let kind = command.kind;
     if is_edit(kind) {
-        return edit_from(&mut words[..n], count, reader, area, line, command, out);
+        return edit_from(
+            &mut words[..n],
+            &mut sums[..n],
+            count,
+            reader,
+            area,
+            line,
+            command,
+            out,
+        );
     }
     let seen = see_rows(&mut rows[..m], reader);
     let written = respond(area, &rows[..seen], namespaces, line, command, out);

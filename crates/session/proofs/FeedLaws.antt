@@ -22,7 +22,7 @@ use Rattle.kept_table.proofs.LentLaws.{says-none}
 -- what a ready memory is
 pub record Sizes (t w n l o : ℕ) (st : State) : Type 0 where
   pub table : 16384 ≤ t
-  pub records : 512 ≤ w
+  pub records : 1024 ≤ w
   pub namespaces : 1024 ≤ n
   pub line : 4102 ≤ l
   pub out : 32771 ≤ o
@@ -38,16 +38,16 @@ sizes t w n l o st h =
     let u = leb 32771 o && r in
     let v = leb 4102 l && u in
     let x = leb 1024 n && v in
-    let y = leb 512 w && x in
+    let y = leb 1024 w && x in
     let hy = and-r (leb 16384 t) y h in
-    let hx = and-r (leb 512 w) x hy in
+    let hx = and-r (leb 1024 w) x hy in
     let hv = and-r (leb 1024 n) v hx in
     let hu = and-r (leb 4102 l) u hv in
     let hr = and-r (leb 32771 o) r hu in
     let he = and-r (leb (st .stored .table) 16384) e hr in
     record {
       table = leb-true 16384 t (and-l (leb 16384 t) y h);
-      records = leb-true 512 w (and-l (leb 512 w) x hy);
+      records = leb-true 1024 w (and-l (leb 1024 w) x hy);
       namespaces = leb-true 1024 n (and-l (leb 1024 n) v hx);
       line = leb-true 4102 l (and-l (leb 4102 l) u hv);
       out = leb-true 32771 o (and-l (leb 32771 o) r hu);
@@ -69,7 +69,7 @@ pub ready-again : (t w n l o : ℕ) (st : State) → Sizes t w n l o st → read
 ready-again t w n l o st z =
     rw (
       le-leb 16384 t (z .table),
-      le-leb 512 w (z .records),
+      le-leb 1024 w (z .records),
       le-leb 1024 n (z .namespaces),
       le-leb 4102 l (z .line),
       le-leb 32771 o (z .out),

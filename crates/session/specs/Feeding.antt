@@ -21,11 +21,11 @@ abbrev pub startIs : State
 startIs = record { stored = record { table = 0; namespaces = 0; edited = false }; gathered = gatheredNone }
 
 -- The memory is lent in document 01's sizes, and the state lies within them: stored bytes 16,384 and 1,024, digits 4,102; a line
--- of output has at most 2 digits for each of 1 + 16,384 bytes and a line feed. There are words for 512 records.
+-- of output has at most 2 digits for each of 1 + 16,384 bytes and a line feed. There are numbers for 512 records and their summary.
 abbrev pub ready : ℕ → ℕ → ℕ → ℕ → ℕ → State → Bool
 ready table records namespaces line out st =
     leb 16384 table
-    && (leb 512 records
+    && (leb 1024 records
     && (leb 1024 namespaces
     && (leb 4102 line
     && (leb 32771 out
@@ -82,10 +82,10 @@ pub record Feeds (chunk : List ℕ) (d e : Lent) (line line′ : List ℕ) (st :
   pub used : r .used ≡ throughLine chunk
   -- whatever session the memory held, it came to what document 01 says of these bytes
   pub comes : (s : Session) → Holds d line st s → Comes (fedAll s (take (throughLine chunk) chunk)) d e line′ r
-  -- bytes after what is stored stay, and so do the words after the records, and every word where no records are kept; every byte of the
+  -- bytes after what is stored stay, and so do the numbers after the summary, and every number where no records are kept; every byte of the
   -- line, and what is gathered in it, are given by a definition
   pub table-behind : drop (reach (r .state .stored)) (e .table) ≡ drop (reach (r .state .stored)) (d .table)
-  pub records-behind : drop 512 (e .records) ≡ drop 512 (d .records)
+  pub records-behind : drop 1024 (e .records) ≡ drop 1024 (d .records)
   pub records-stay : r .state .stored .edited ≡ false → e .records ≡ d .records
   pub namespaces-behind : drop (r .state .stored .namespaces) (e .namespaces) ≡ drop (r .state .stored .namespaces) (d .namespaces)
   pub line-bytes : line′ ≡ lineAfter line (st .gathered) (beforeLine chunk)

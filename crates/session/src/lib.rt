@@ -17,9 +17,9 @@ use frames::MAX_DIGITS;
 use frames::put_refusal;
 use gathering::gather_line;
 use kept_table::Lengths;
+use kept_table::MAX_NUMBERS;
 use kept_table::MAX_TABLE;
 use octets::refusals::BAD_FRAME;
-use records::MAX_ROWS;
 
 // "added behind the stored bytes (.. and 1,024; no room: .. 2, nothing added)"
 pub(crate) const MAX_NAMESPACES: usize = 1024;
@@ -72,7 +72,7 @@ fn is_ready(
     let stored = state.stored;
     let g = state.gathered;
     (MAX_TABLE <= table)
-        & ((MAX_ROWS <= records)
+        & ((MAX_NUMBERS <= records)
             & ((MAX_NAMESPACES <= namespaces)
                 & ((MAX_DIGITS <= line)
                     & ((MAX_LINE <= out)
@@ -83,7 +83,8 @@ fn is_ready(
 
 // The bytes of the piece through its first line feed, or all if there is none. `table` and `namespaces` hold the stored bytes at
 // their front, `line` the digits of the frame so far; `out` takes the line that the frame answers. Once an edit was accepted, the first
-// 512 of `records` are the records, each as a number (`records::word_of`), and the first 16,384 bytes of `table` are their names' area.
+// 512 of `records` are the records, each as a number (`records::word_of`), the next 512 their summary, and the first 16,384 bytes of `table` their names'
+// area.
 pub fn feed(
     state: State,
     chunk: &[u8],

@@ -10,3 +10,7 @@ mod ShiftLaws
 pub mod FitLaws
 pub mod AppliedLaws
 pub mod StoredLaws
+mod ResumLaws
+pub mod MeantLaws
+pub mod SumLaws
+pub mod PlanSums

@@ -2,4 +2,6 @@
 pub mod Plans
 pub mod Runs
 pub mod Applied
+pub mod Resums
+pub mod Summed
 pub mod Stored

@@ -36,7 +36,7 @@ fn bars(area: &[u8], word: u64, name: &[u8]) -> bool
 }
 
 // Whether n lies below a: it begins with a and goes on with a slash.
-fn is_below(a: &[u8], n: &[u8]) -> bool
+pub(crate) fn is_below(a: &[u8], n: &[u8]) -> bool
     ensures { λ r. ⌜ r ≡ below (now (a .entry)) (now (n .entry)) ⌝ }
 {
     let len = a.len();

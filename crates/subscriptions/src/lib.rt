@@ -1,13 +1,15 @@
 // SUBSCRIBE and UNSUBSCRIBE over an index (document 02, W6): decided first, then applied.
 //
 // `decide` touches nothing. It answers what is to be done as a plan, by value, so that every refusal is known before a record or a
-// byte changes. `carry_out` does it on the words and on the area of name bytes, and tells which words changed or moved: only those
-// are to be copied back. A word that is put in tells nothing of what its name shares with the name before: an index is made anew.
+// byte changes. `carry_out` does it on the summary, on the words and on the area of name bytes, and reports which words changed or
+// moved: only those are to be copied back. A word that is put in tells nothing of what its name shares with the name before: an index is made anew.
 mod apply;
 pub mod free;
 mod inferiors;
 mod order;
+mod resum;
 mod shift;
+mod sums;
 
 use apply::flag_row;
 use apply::insert_row;
@@ -24,13 +26,15 @@ use octets::refusals::UNLAWFUL_NAME;
 use order::place_of;
 use order::stands_at;
 use records::MAX_ROWS;
+use sums::carry_sums;
 ghost use mathlib.Core.Path.{_≡_};
 ghost use mathlib.Core.List.{map};
 ghost use Prim.Native.Nat.{_≤_};
-ghost use lib.ListN.{length};
+ghost use lib.ListN.{length, take};
 ghost use Rattle.records.specs.Words.{recordOf};
 ghost use Rattle.subscriptions.specs.Plans.{Ordered, planFor, settingPlan, clearingPlan, freshPlan};
 ghost use Rattle.subscriptions.specs.Applied.{Fits, wordsAfter, areaAfter, changeOf};
+ghost use Rattle.subscriptions.specs.Summed.{SumsFit, numbersAfter};
 
 // What an edit comes to: nothing changes; row k has these flags; a row 0002 stands at place k, its name at a start; row k goes; or the
 // number of its refusal.
@@ -115,14 +119,29 @@ fn insertion(area: &[u8], words: &[u64], lent: usize, k: usize, name: &[u8]) -> 
     Plan::Insert(k, start)
 }
 
-// The plan done: the first `count` words are rows, the words after them are spare.
+// The plan done: the first `count` words are rows, the words after them are spare, and `sums` are the numbers of their summary. These first, over the
+// rows as they were.
 pub fn carry_out(
     plan: Plan,
     words: &mut [u64],
+    sums: &mut [u64],
     count: usize,
     area: &mut [u8],
     name: &[u8],
 ) -> Change
+    requires { ⌜ Fits plan (now words) count (now area) (now name) × (count ≤ length (now words)) ⌝ }
+    requires { ⌜ SumsFit plan (now sums) (take count (now words)) (now area) (now name) ⌝ }
+    ensures { λ r. ⌜ (r ≡ changeOf plan count)
+        × (now (words .exit) ≡ wordsAfter plan (now (words .entry)) count (now (name .entry)))
+        × (now (sums .exit) ≡ numbersAfter plan (now (sums .entry)) (take count (now (words .entry))) (now (area .entry)) (now (name .entry)))
+        × (now (area .exit) ≡ areaAfter plan (now (words .entry)) (now (area .entry)) (now (name .entry))) ⌝ }
+{
+    carry_sums(plan, sums, &words[..count], area, name);
+    apply_plan(plan, words, count, area, name)
+}
+
+// The plan done on words and area.
+fn apply_plan(plan: Plan, words: &mut [u64], count: usize, area: &mut [u8], name: &[u8]) -> Change
     requires { ⌜ Fits plan (now words) count (now area) (now name) ⌝ }
     ensures { λ r. ⌜ (r ≡ changeOf plan count)
         × (now (words .exit) ≡ wordsAfter plan (now (words .entry)) count (now (name .entry)))

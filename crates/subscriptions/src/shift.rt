@@ -40,6 +40,15 @@ pub(crate) fn insert_word(words: &mut [u64], count: usize, k: usize, start: usiz
     words[k] = word;
 }
 
+// A word put in at place k; the words from there on move up by one.
+pub(crate) fn put_word(words: &mut [u64], count: usize, k: usize, word: u64)
+    requires { ⌜ (k ≤ count) × (count < length (now words)) ⌝ }
+    ensures { λ _. ⌜ now (words .exit) ≡ insertedAt (now (words .entry)) count k word ⌝ }
+{
+    shift_up(words, count, k);
+    words[k] = word;
+}
+
 // The words from k up to `count` move up by one place, over the first spare word.
 fn shift_up(words: &mut [u64], count: usize, k: usize)
     requires { ⌜ (k ≤ count) × (count < length (now words)) ⌝ }

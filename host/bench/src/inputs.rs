@@ -1,11 +1,18 @@
 //! What is measured: tables of several sizes, in both forms, and the calls over them.
 
-use compare::records::Layout;
+use compare::records::{extend, Layout};
 use compare::tables::{table_bytes, NewRow};
 use second::name::MAX_NAME;
 use second::namespaces::Entry;
 use second::rows::Flags;
 use second::{Readers, Record};
+
+/// What every deep name begins with, as `deep_name` makes it.
+macro_rules! below_thirteen {
+    () => {
+        "abb/abb/abb/abb/abb/abb/abb/abb/abb/abb/abb/abb/abb/"
+    };
+}
 
 /// Rows of the tables.
 pub const SIZES: [usize; 4] = [64, 128, 256, 512];
@@ -21,6 +28,8 @@ pub enum Call {
     Edit(Edit),
     /// Names moved together.
     Compaction,
+    /// The summary counted afresh.
+    Summary,
 }
 
 /// An edit of the rows.
@@ -77,6 +86,11 @@ pub enum Table {
     LongA,
     /// Names of fourteen levels, of which thirteen are "abb".
     Levels,
+    /// The same with a row for each of the thirteen, so that every name lies below thirteen rows; all kinds of flags.
+    Deep,
+    /// Fifty names `a-..-`, each of which begins as the next one does, and names below them, so that fifty rows are
+    /// open at once; all kinds of flags.
+    Dashes,
 }
 
 #[derive(Clone, Copy, PartialEq)]
@@ -92,7 +106,7 @@ pub struct Case {
     pub call: Call,
 }
 
-pub const CASES: [Case; 25] = [
+pub const CASES: [Case; 31] = [
     packed_case("check of the table", Call::Check),
     text_case(r#"`LIST "" "*"`"#, r#"a LIST "" "*""#),
     records_case(
@@ -146,6 +160,9 @@ pub const CASES: [Case; 25] = [
     text_case("`NAMESPACE`", "a NAMESPACE"),
     packed_case("a whole walk", Call::Walk(0)),
     records_case("check of records", Table::Tree, Call::Check),
+    records_case("check of records, fourteen levels", Table::Deep, Call::Check),
+    records_case("check of records, fifty names `a-..-`", Table::Dashes, Call::Check),
+    records_case("a summary counted afresh", Table::Tree, Call::Summary),
     records_case("a whole walk over records", Table::Tree, Call::Walk(0)),
     edit_case(
         "`SUBSCRIBE`, a flag set",
@@ -168,6 +185,30 @@ pub const CASES: [Case; 25] = [
         undone_edit(
             r#"a UNSUBSCRIBE "Customer 00/Folder 4""#,
             r#"a SUBSCRIBE "Customer 00/Folder 4""#,
+            false,
+        ),
+    ),
+    deep_edit_case(
+        "`SUBSCRIBE`, a flag set below thirteen rows",
+        undone_edit(
+            concat!("a SUBSCRIBE ", below_thirteen!(), "020"),
+            concat!("a UNSUBSCRIBE ", below_thirteen!(), "020"),
+            false,
+        ),
+    ),
+    deep_edit_case(
+        "`SUBSCRIBE`, a row inserted below thirteen rows",
+        undone_edit(
+            concat!("a SUBSCRIBE ", below_thirteen!(), "new"),
+            concat!("a UNSUBSCRIBE ", below_thirteen!(), "new"),
+            true,
+        ),
+    ),
+    deep_edit_case(
+        "`UNSUBSCRIBE`, a row removed below thirteen rows",
+        undone_edit(
+            concat!("a UNSUBSCRIBE ", below_thirteen!(), "018"),
+            concat!("a SUBSCRIBE ", below_thirteen!(), "018"),
             false,
         ),
     ),
@@ -221,6 +262,10 @@ const fn edit_case(title: &'static str, edit: Edit) -> Case {
     records_case(title, Table::Tree, Call::Edit(edit))
 }
 
+const fn deep_edit_case(title: &'static str, edit: Edit) -> Case {
+    records_case(title, Table::Deep, Call::Edit(edit))
+}
+
 const fn undone_edit(line: &'static str, undo: &'static str, has_spare: bool) -> Edit {
     Edit { line, undo: Some(undo), refusal: None, has_spare }
 }
@@ -237,7 +282,7 @@ impl Case {
     pub fn reader(&self) -> u8 {
         match self.table {
             Table::Halved => HALF_READER,
-            Table::Tree | Table::ManyA | Table::LongA | Table::Levels => 0,
+            _ => 0,
         }
     }
 
@@ -259,8 +304,8 @@ impl Case {
             _ => return self.table.layout(rows, |_| 1),
         };
         let mut layout = self.table.layout(rows - usize::from(edit.has_spare), |_| 1);
-        layout.records.resize(rows, Record::default());
-        layout.area.resize(layout.area.len() + MAX_NAME, UNUSED);
+        let spare = rows - layout.records.len();
+        extend(&mut layout, spare, MAX_NAME, UNUSED);
         layout
     }
 }
@@ -326,7 +371,7 @@ impl Table {
             records[at] = rows[at].record_at(area.len());
             area.extend_from_slice(&rows[at].name);
         }
-        Layout { count: records.len(), records, area }
+        Layout::counted(records, rows.len(), area)
     }
 
     pub fn rows(self, count: usize) -> Vec<NewRow> {
@@ -348,9 +393,28 @@ impl Table {
             Table::Tree | Table::Halved => tree_row(at),
             Table::ManyA => (format!("{}{at:03}", "a".repeat(30)), Flags::EXISTS),
             Table::LongA => (format!("{}{at:03}", "a".repeat(60)), Flags::EXISTS),
-            Table::Levels => (format!("{}{at:03}", "abb/".repeat(13)), Flags::EXISTS),
+            Table::Levels => (deep_name(at), Flags::EXISTS),
+            Table::Deep if at < DEPTH => (vec!["abb"; at + 1].join("/"), some_flags(at)),
+            Table::Deep => (deep_name(at), some_flags(at)),
+            Table::Dashes if at < DASHES => (dashed_name(at), some_flags(at)),
+            Table::Dashes => {
+                (format!("{}/{:02}", dashed_name(at % DASHES), at / DASHES), some_flags(at))
+            }
         }
     }
+}
+
+/// Levels above the last one of a deep name.
+const DEPTH: usize = 13;
+/// Names that begin as one another do.
+const DASHES: usize = 50;
+
+fn deep_name(at: usize) -> String {
+    format!("{}{at:03}", "abb/".repeat(DEPTH))
+}
+
+fn dashed_name(dashes: usize) -> String {
+    format!("a{}", "-".repeat(dashes))
 }
 
 /// Of 32 rows, one is a customer, seven are its folders and 24 lie in folders, some of which have
@@ -362,14 +426,18 @@ fn tree_row(at: usize) -> (String, Flags) {
         folder @ 1..8 => format!("{customer}/Folder {folder}"),
         rest => format!("{customer}/Folder {}/Letters of {rest}", rest % 8 + 1),
     };
-    let flags = match at % 7 {
+    (name, some_flags(at))
+}
+
+/// Flags that differ from row to row.
+fn some_flags(at: usize) -> Flags {
+    Flags::from_bits(match at % 7 {
         0 | 1 => Flags::EXISTS.bits() | Flags::SUBSCRIBED.bits(),
         2 => Flags::EXISTS.bits() | Flags::MARKED.bits() | Flags::SENT.bits(),
         3 => Flags::EXISTS.bits() | Flags::REMOTE.bits(),
         4 => Flags::SUBSCRIBED.bits(),
         _ => Flags::EXISTS.bits(),
-    };
-    (name, Flags::from_bits(flags))
+    })
 }
 
 /// Four entries of each class.

@@ -4,7 +4,7 @@ use std::array;
 use std::hint::black_box;
 
 use compare::library::both::{
-    Asked, Lent, Mailboxes, ANSWER, CHECK_TABLE, COLLECT, COMPACT, PROVED, SECOND,
+    Asked, Lent, Mailboxes, ANSWER, CHECK_TABLE, COLLECT, COMPACT, PROVED, SECOND, SUMMARIZE,
 };
 
 use crate::clock::seconds_of_one;
@@ -144,7 +144,7 @@ impl Inputs {
         let (line, undo) = match case.call {
             Call::Command(command) => (command.line(), None),
             Call::Edit(Edit { line, undo, .. }) => (line_of(line), undo.map(line_of)),
-            Call::Check | Call::Walk(_) | Call::Compaction => (Vec::new(), None),
+            Call::Check | Call::Walk(_) | Call::Compaction | Call::Summary => (Vec::new(), None),
         };
         let records = Mailboxes::new(case.layout(rows));
         Inputs {
@@ -248,11 +248,12 @@ impl Inputs {
                 COLLECT[library](self.reader, self.table(who), option, out, found, pending)
             }
             Call::Compaction if !is_listing => COMPACT[library](&mut self.records).map(|()| (0, 0)),
+            Call::Summary => SUMMARIZE[library](&mut self.records).map(|()| (0, 0)),
             Call::Command(_) | Call::Edit(_) | Call::Compaction => {
                 let line = if is_listing { &self.listing } else { &self.line };
                 let asked = Asked { reader: self.reader, list: &self.namespaces, line };
                 let answered = ANSWER[library](&mut self.records, asked, out);
-                answered.map(|(length, count)| (count, length))
+                answered.map(|given| (given.count, given.length))
             }
         }
     }

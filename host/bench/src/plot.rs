@@ -15,7 +15,7 @@ const COLOURS: [&str; CASES.len()] = [
     "#1b9e77", "#d95f02", "#7570b3", "#e7298a", "#66a61e", "#e6ab02", "#a6761d", "#666666",
     "#1f78b4", "#8dd3c7", "#fdb462", "#bebada", "#80b1d3", "#b3de69", "#fb8072", "#bc80bd",
     "#33a02c", "#e31a1c", "#ff7f00", "#6a3d9a", "#b15928", "#a6cee3", "#b2df8a", "#fb9a99",
-    "#525252",
+    "#525252", "#c51b7d", "#01665e", "#543005", "#35978f", "#9970ab", "#5aae61",
 ];
 
 /// One of the two panels: what it shows, between which values, and a line to compare with.

@@ -9,7 +9,7 @@ use second::{answer, check_table, Table};
 use crate::edit_series;
 use crate::edits::{edit_command, free_runs, name_of_length, SUBSCRIBE, UNSUBSCRIBE};
 use crate::random::Random;
-use crate::records::{some_layout, Layout};
+use crate::records::{extend, some_layout, Layout};
 use crate::tables::{good_table, names_of};
 
 /// The most rows of a layout without edits, and the fewest of a table that has one wave of them alone.
@@ -43,10 +43,9 @@ pub fn some_table(random: &mut Random) -> (Layout, Vec<Vec<u8>>) {
 fn full_of_holes(random: &mut Random) -> (Layout, Vec<Vec<u8>>) {
     let (mut table, names) = edit_series::some_table(random);
     if check_table(Table::Records(table.as_records())) {
-        let bytes = table.area.len() + ADDED_BYTES[random.below(ADDED_BYTES.len())];
-        table.area.resize(bytes.min(MAX_AREA), random.byte());
-        let records = table.records.len() + ADDED_RECORDS[random.below(ADDED_RECORDS.len())];
-        table.records.resize(records, Record::default());
+        let bytes = ADDED_BYTES[random.below(ADDED_BYTES.len())].min(MAX_AREA - table.area.len());
+        let (byte, records) = (random.byte(), ADDED_RECORDS[random.below(ADDED_RECORDS.len())]);
+        extend(&mut table, records, bytes, byte);
         let waves = if table.count < MANY { random.within(1..=3) } else { 1 };
         for _ in 0..waves {
             fill(random, &mut table);

@@ -11,7 +11,7 @@ use crate::edits::{edit_command, length_near_a_run, name_of_length, some_edit, S
 use crate::lsub::{lsub_command, subscriptions};
 use crate::random::Random;
 use crate::readers::{some_reader, veil_records};
-use crate::records::{some_layout, Layout};
+use crate::records::{some_layout, summarized, Layout};
 use crate::tables::{names_of, NewRow};
 
 /// A call over what the calls before it have left.
@@ -112,7 +112,7 @@ fn numbered_rows(random: &mut Random, count: usize, length: usize) -> Vec<NewRow
 
 /// The rows in some order of their names' bytes, with unused runs of many lengths between them, as far
 /// as the area goes, and spare records. What is unused or spare holds anything.
-fn in_pieces(random: &mut Random, rows: &[NewRow]) -> Layout {
+pub fn in_pieces(random: &mut Random, rows: &[NewRow]) -> Layout {
     let mut order: Vec<usize> = (0..rows.len()).collect();
     random.shuffle(&mut order);
     let mut left = MAX_AREA - rows.iter().map(|row| row.name.len()).sum::<usize>();
@@ -134,11 +134,11 @@ fn in_pieces(random: &mut Random, rows: &[NewRow]) -> Layout {
         let (flags, start, len) = (number(random), number(random), random.byte());
         records.push(Record { flags, start, len, readers: start as u8 });
     }
-    Layout { count: rows.len(), records, area }
+    summarized(records, rows.len(), area)
 }
 
 /// The table, or one without rows in place of a table that does not pass.
-fn passing(table: &Layout) -> Layout {
+pub fn passing(table: &Layout) -> Layout {
     let passes = check_table(Table::Records(table.as_records()));
     Layout { count: if passes { table.count } else { 0 }, ..table.clone() }
 }

@@ -134,9 +134,9 @@ pub fn below_or_beside(random: &mut Random, name: &[u8]) -> Vec<u8> {
 }
 
 /// The name of some row with such flags, of a table that passes.
-fn some_row(
+pub fn some_row(
     random: &mut Random,
-    Layout { records, count, area }: &Layout,
+    Layout { records, count, area, .. }: &Layout,
     is_such: impl Fn(Flags) -> bool,
 ) -> Option<Vec<u8>> {
     let is_meant = |record: &&Record| is_such(Flags::from_bits(record.flags));
@@ -146,7 +146,7 @@ fn some_row(
 }
 
 /// The runs of bytes that no row of a table that passes uses.
-pub fn free_runs(Layout { records, count, area }: &Layout) -> Vec<Range<usize>> {
+pub fn free_runs(Layout { records, count, area, .. }: &Layout) -> Vec<Range<usize>> {
     let mut used = vec![false; area.len()];
     records[..*count].iter().for_each(|record| used[record.place()].fill(true));
     let mut runs: Vec<Range<usize>> = Vec::new();

@@ -4,9 +4,8 @@
 use std::ops::Range;
 
 use second::name;
-use second::packed::packed_records;
 use second::records::{Record, MAX_AREA};
-use second::Store;
+use second::{Store, Summary};
 
 use crate::damage::damaged_rows;
 use crate::random::Random;
@@ -27,11 +26,33 @@ const UNUSED: usize = 40;
 const LAST_START: usize = u16::MAX as usize;
 const LONGEST: u8 = u8::MAX;
 
-/// The records of a packed table, over its bytes; none if its rows do not fill it, or it has too many
-/// bytes.
-pub fn in_place(table: &[u8]) -> Option<Layout> {
-    let records = packed_records(table)?;
-    Some(Layout { count: records.len(), records, area: table.to_vec() })
+/// Records over an area with a summary that is right as far as there are rows, so that it is no reason to be
+/// refused. The numbers of spare records hold anything.
+pub fn summarized(records: Vec<Record>, count: usize, area: Vec<u8>) -> Layout {
+    let mut layout = Layout::counted(records, count, area);
+    let spare = layout.summary.iter_mut().enumerate().skip(count);
+    spare.for_each(|(at, number)| *number = spare_number(at));
+    layout
+}
+
+/// What the number of a spare record holds.
+pub fn spare_number(at: usize) -> Summary {
+    Summary::from_number((at as u64 + 1).wrapping_mul(0x9E37_79B9_7F4A_7C15))
+}
+
+/// Adds spare records and bytes, with numbers for the records.
+pub fn extend(layout: &mut Layout, records: usize, bytes: usize, byte: u8) {
+    layout.records.resize(layout.records.len() + records, Record::default());
+    layout.summary.resize(layout.records.len(), spare_number(records));
+    layout.area.resize(layout.area.len() + bytes, byte);
+}
+
+/// Makes so many of the records rows, with the summary of these.
+pub fn set_count(layout: &mut Layout, count: usize) {
+    if layout.count != count {
+        layout.count = count;
+        layout.recount();
+    }
 }
 
 /// A layout of the rows of a good table, or of nearly these: right, with a damaged row, with an
@@ -65,7 +86,7 @@ pub fn damaged_layout(random: &mut Random, rows: &[NewRow]) -> Layout {
         _ if layout.count > 0 => damage_records(random, &mut layout),
         _ => {}
     }
-    layout
+    summarized(layout.records, layout.count, layout.area)
 }
 
 /// The end cut off, nothing left, filled up to the most there may be or one more, or one bit flipped.
@@ -84,7 +105,7 @@ fn damage_area(random: &mut Random, area: &mut Vec<u8>) {
 
 /// Two rows changed for each other, one of them twice, or one with an odd place.
 fn damage_records(random: &mut Random, layout: &mut Layout) {
-    let Layout { records, count, area } = layout;
+    let Layout { records, count, area, .. } = layout;
     let (one, other) = (random.below(*count), random.below(*count));
     match random.below(6) {
         0 => records.swap(one, other),
@@ -183,11 +204,10 @@ fn of_pieces(random: &mut Random, rows: &[NewRow], mut pieces: Vec<Piece>) -> La
     if random.percent(unused) {
         push_unused(&mut area, random, rows);
     }
-    let mut layout = Layout { count: records.len(), records, area };
     if random.percent(40) {
-        push_spare(random, &mut layout);
+        push_spare(random, &mut records);
     }
-    layout
+    summarized(records, rows.len(), area)
 }
 
 /// Unused bytes: anything, a copy of a name, or a byte that no name has.
@@ -200,10 +220,11 @@ fn push_unused(area: &mut Vec<u8>, random: &mut Random, rows: &[NewRow]) {
 }
 
 /// Records that are not looked at: anything, copies of rows, and records past every area.
-fn push_spare(random: &mut Random, layout: &mut Layout) {
+fn push_spare(random: &mut Random, records: &mut Vec<Record>) {
+    let rows = records.len();
     for _ in 0..random.within(1..=4) {
         let spare = match random.below(3) {
-            0 if layout.count > 0 => layout.records[random.below(layout.count)],
+            0 if rows > 0 => records[random.below(rows)],
             1 => Record { flags: u16::MAX, start: u16::MAX, len: LONGEST, readers: u8::MAX },
             _ => {
                 let number =
@@ -212,7 +233,7 @@ fn push_spare(random: &mut Random, layout: &mut Layout) {
                 Record { flags, start, len, readers: start as u8 }
             }
         };
-        layout.records.push(spare);
+        records.push(spare);
     }
 }
 

@@ -99,12 +99,17 @@ fn answer_text(line: &[u8]) -> String {
     }
 }
 
-/// The records, spare ones too, and the area, a line each.
-pub fn show_layout(Layout { records, count, area }: &Layout) -> String {
-    let mut text = format!("{count} of {} records over {} bytes\n", records.len(), area.len());
-    for Record { flags, start, len, readers } in records {
-        text +=
-            &format!("    flags {flags:04X}, start {start}, length {len}, readers {readers:02X}\n");
+/// The records, spare ones too, each with its number of the summary, and the area, a line each.
+pub fn show_layout(Layout { records, count, area, summary }: &Layout) -> String {
+    let (held, numbers) = (records.len(), summary.len());
+    let mut text =
+        format!("{count} of {held} records over {} bytes, with {numbers} numbers\n", area.len());
+    for (at, Record { flags, start, len, readers }) in records.iter().enumerate() {
+        let number = summary.get(at).map(|summary| format!(", summary {:016X}", summary.number()));
+        text += &format!(
+            "    flags {flags:04X}, start {start}, length {len}, readers {readers:02X}{}\n",
+            number.unwrap_or_default()
+        );
     }
     text + &format!("    area {}\n", shown(area))
 }
@@ -113,6 +118,7 @@ pub fn show_layout(Layout { records, count, area }: &Layout) -> String {
 fn show_held(layout: &Layout) -> String {
     let mut held = layout.clone();
     held.records.truncate(held.count);
+    held.summary.truncate(held.count);
     show_layout(&held)
 }
 

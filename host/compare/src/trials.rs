@@ -78,7 +78,7 @@ pub fn unreached_after(
     needed().into_iter().filter(|what| reached.times(what) == 0).collect()
 }
 
-/// How many claims were judged, and how many of them reached what. Of sets of options it is said alone how
+/// How many claims were judged, if any were, and how many of them, or of the calls, reached what. Of sets of options it is said alone how
 /// many there were, and how many by reader.
 pub fn reached_text(reached: &Reached) -> String {
     let (sets, others): (Vec<_>, Vec<_>) =
@@ -89,7 +89,10 @@ pub fn reached_text(reached: &Reached) -> String {
     if alone > 0 {
         texts.push(format!("{alone} sets of options, {} by reader", sets.len() - alone));
     }
-    format!("{} {JUDGED}: {}", reached.times(JUDGED), texts.join(", "))
+    match reached.times(JUDGED) {
+        0 => texts.join(", "),
+        times => format!("{times} {JUDGED}: {}", texts.join(", ")),
+    }
 }
 
 impl Trial {

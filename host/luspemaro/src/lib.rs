@@ -9,32 +9,40 @@
 //! back. `compact` moves names together where removals have left holes between them. The packed form,
 //! rows without a gap, is for reading: it is checked and walked by the functions whose name says so.
 //!
+//! Beside the records lies their summary, a number for each: how many rows lie below its name. `summarize`
+//! counts the first one, `answer` keeps it up to date, and check 1 refuses one that is wrong.
+//!
 //! Each command and each walk comes from a [`Reader`]. A record has the set of readers who see its row,
 //! and a row that is hidden from the reader counts as absent. Edits are allowed to reader 0 alone; they
 //! look at all rows, and so does check 1.
 //!
 //! ```
-//! use luspemaro::{answer, Answered, Reader, Record, READERS_ALL};
+//! use luspemaro::{answer, summarize, Answered, Reader, Record, RecordsMut, Refusal, Summary, READERS_ALL};
 //!
-//! // One mailbox that exists, and a spare record; its name, and three bytes that no name uses.
+//! // One mailbox that exists, and a spare record; its name, and ten bytes that no name uses.
 //! let row = Record { flags: 1, start: 0, len: 13, readers: Reader::EDITOR.bit() };
 //! let mut records = [row, Record::default()];
-//! let mut area = *b"Customers/ABC   ";
+//! let mut area = *b"Customers/ABC          ";
+//! let mut summary = [Summary::default(); 2];
 //! let mut out = [0; 1_000];
+//! summarize(&records, 1, &area, &mut summary)?;
 //!
-//! // A new subscription is inserted as a row, which all readers see.
-//! let line = b"a SUBSCRIBE Moo\r\n";
-//! let answered = answer(Reader::EDITOR, &mut records, 1, &mut area, b"", line, &mut out);
-//! assert_eq!(answered, Ok(Answered { length: 11, count: 2 }));
-//! assert_eq!(records[1], Record { flags: 2, start: 13, len: 3, readers: READERS_ALL });
+//! // A new subscription is inserted as a row, which all readers see, and its summary is counted.
+//! let line = b"a SUBSCRIBE Customers\r\n";
+//! let table = RecordsMut { records: &mut records, count: 1, area: &mut area, summary: &mut summary };
+//! let answered = answer(Reader::EDITOR, table, b"", line, &mut out);
+//! assert_eq!(answered, Ok(Answered { length: 11, count: 2, changed: true }));
+//! assert_eq!(records[0], Record { flags: 2, start: 13, len: 9, readers: READERS_ALL });
+//! assert_eq!((summary[0].existing_local(), summary[0].subscribed_local()), (1, 0));
 //!
 //! // Reader 3 does not see Customers/ABC.
 //! let three = Reader::new(3).expect("a reader");
 //! let line = b"a LIST (SUBSCRIBED) \"\" *\r\n";
-//! let answered = answer(three, &mut records, 2, &mut area, b"", line, &mut out);
-//! let length = answered.expect("an answer").length;
-//! let expected = b"* LIST (\\Subscribed \\NonExistent) \"/\" \"Moo\"\r\na OK done\r\n";
-//! assert_eq!(out[..length], *expected);
+//! let table = RecordsMut { records: &mut records, count: 2, area: &mut area, summary: &mut summary };
+//! let answered = answer(three, table, b"", line, &mut out)?;
+//! let expected = b"* LIST (\\Subscribed \\NonExistent) \"/\" \"Customers\"\r\na OK done\r\n";
+//! assert_eq!(out[..answered.length], *expected);
+//! # Ok::<(), Refusal>(())
 //! ```
 //!
 //! `rt staticlib exports` makes the archive; the build script finds it.
@@ -48,15 +56,17 @@ mod list_options;
 mod raw;
 mod reader;
 mod refusal;
+mod summary;
 mod walk_refusal;
 
 pub use feeder::{feed, put_go_on, Event, Fed, Feeder, Happening, COMMAND_ROOM};
 pub use join::{join, join_packed};
 pub use line::{read_line, write_line, write_parts, Criteria, Line};
 pub use list_options::ListOptions;
-pub use raw::{Answered, FeederState, Record, Records, Walked, NAME_ROOM, READERS_ALL};
+pub use raw::{Answered, FeederState, Record, Records, RecordsMut, Walked, NAME_ROOM, READERS_ALL};
 pub use reader::Reader;
 pub use refusal::Refusal;
+pub use summary::Summary;
 pub use walk_refusal::WalkRefusal;
 
 /// Check 1: whether a packed mailbox table passes.
@@ -70,17 +80,21 @@ pub fn check_table(table: &[u8]) -> bool {
     raw::check_table(table)
 }
 
-/// Check 1 of records: whether the mailbox table that they are passes.
+/// Check 1 of records: whether the mailbox table that they are passes, with its summary.
 ///
 /// ```
-/// use luspemaro::{check_records, Record, Records};
+/// use luspemaro::{check_records, Record, Records, Summary};
 ///
-/// // Nobody sees the row: the check does.
+/// // Nobody sees the row: the check does. No row lies below it, so its four counts are zero.
 /// let records = [Record { flags: 3, start: 2, len: 3, readers: 0 }, Record::default()];
-/// let table = Records { records: &records, count: 1, area: b"--Foo" };
+/// let summary = [Summary(0), Summary(9)];
+/// let table = Records { records: &records, count: 1, area: b"--Foo", summary: &summary };
 /// assert!(check_records(table));
 /// // The second record is spare: as a row it would have no name.
 /// assert!(!check_records(Records { count: 2, ..table }));
+/// // A wrong number of a row, and no number for it.
+/// assert!(!check_records(Records { summary: &[Summary(1)], ..table }));
+/// assert!(!check_records(Records { summary: &[], ..table }));
 /// ```
 pub fn check_records(table: Records) -> bool {
     raw::check_records(table)
@@ -128,101 +142,135 @@ pub fn match_steps(pattern: &[u8], name: &[u8]) -> usize {
 /// `out`.
 ///
 /// The first `count` records are the rows; those after them are spare. An edit that is accepted changes
-/// the records, the area and the count; where it is refused, and for every other command, all of them
-/// stay. A new row takes the first spare record and the lowest free bytes of the area. An edit from
+/// the records, the area, the summary and the count; where it is refused, and for every other command, all
+/// of them stay. A new row takes the first spare record and the lowest free bytes of the area. An edit from
 /// another reader than 0 is refused with 16.
 ///
 /// ```
-/// use luspemaro::{answer, Reader, Record, Refusal, READERS_ALL};
+/// use luspemaro::{answer, Reader, Record, RecordsMut, Refusal, Summary, READERS_ALL};
 ///
 /// let mut records = [Record { flags: 3, start: 0, len: 13, readers: READERS_ALL }];
-/// let mut area = *b"Customers/ABC";
+/// let (mut area, mut summary) = (*b"Customers/ABC", [Summary::default()]);
 /// let mut out = [0; 100];
+/// let mut ask = |reader: Reader, line: &[u8]| {
+///     let table = RecordsMut { records: &mut records, count: 1, area: &mut area, summary: &mut summary };
+///     let answered = answer(reader, table, b"", line, &mut out)?;
+///     Ok::<_, Refusal>((out[..answered.length].to_vec(), answered.changed))
+/// };
 ///
-/// let line = b"a LIST (SUBSCRIBED RECURSIVEMATCH) \"\" %\r\n";
-/// let answered = answer(Reader::EDITOR, &mut records, 1, &mut area, b"", line, &mut out)?;
+/// let given = ask(Reader::EDITOR, b"a LIST (SUBSCRIBED RECURSIVEMATCH) \"\" %\r\n")?;
 /// let expected = b"* LIST (\\NonExistent) \"/\" \"Customers\" (\"CHILDINFO\" (\"SUBSCRIBED\"))\r\na OK done\r\n";
-/// assert_eq!(&out[..answered.length], expected);
+/// assert_eq!(given, (expected.to_vec(), false));
 ///
 /// let line = b"a SUBSCRIBE Moo\r\n";
-/// let refused = answer(Reader::EDITOR, &mut records, 1, &mut area, b"", line, &mut out);
-/// assert_eq!(refused, Err(Refusal::NoRoom));
-/// let three = Reader::new(3).expect("a reader");
-/// let refused = answer(three, &mut records, 1, &mut area, b"", line, &mut out);
-/// assert_eq!(refused, Err(Refusal::Reader));
+/// assert_eq!(ask(Reader::EDITOR, line), Err(Refusal::NoRoom));
+/// assert_eq!(ask(Reader::new(3).expect("a reader"), line), Err(Refusal::Reader));
 /// # Ok::<(), Refusal>(())
 /// ```
 pub fn answer(
     reader: Reader,
-    records: &mut [Record],
-    count: usize,
-    area: &mut [u8],
+    table: RecordsMut,
     namespaces: &[u8],
     line: &[u8],
     out: &mut [u8],
 ) -> Result<Answered, Refusal> {
-    answer_from(reader.number(), records, count, area, namespaces, line, out)
+    answer_from(reader.number(), table, namespaces, line, out)
 }
 
 /// `answer` from the number of a reader: one above 7 is refused with 16, first.
 ///
 /// ```
-/// use luspemaro::{answer_from, Refusal};
+/// use luspemaro::{answer_from, RecordsMut, Refusal};
 ///
-/// let refused = answer_from(8, &mut [], 9, &mut [], b"", b"", &mut []);
+/// let table = RecordsMut { records: &mut [], count: 9, area: &mut [], summary: &mut [] };
+/// let refused = answer_from(8, table, b"", b"", &mut []);
 /// assert_eq!(refused, Err(Refusal::Reader));
 /// ```
 pub fn answer_from(
     reader: u8,
-    records: &mut [Record],
-    count: usize,
-    area: &mut [u8],
+    table: RecordsMut,
     namespaces: &[u8],
     line: &[u8],
     out: &mut [u8],
 ) -> Result<Answered, Refusal> {
-    raw::answer(reader, records, count, area, namespaces, line, out).answered(count)
+    let count = table.count;
+    raw::answer(reader, table, namespaces, line, out).answered(count)
 }
 
 /// Moves the names of the rows together, in the order of their starts, to the front of the area; the
 /// bytes after them, all that no row uses, become zero.
 ///
 /// Of the first `count` records the starts change and nothing else, so their readers stay; spare records
-/// stay. Every command and every walk is answered as before, but that a SUBSCRIBE which was refused with 15 may find room.
+/// and the summary stay. Every command and every walk is answered as before, but that a SUBSCRIBE which was refused with 15 may find room.
 /// Straight after it, no edit between, 15 for want of bytes is given exactly if all free bytes together
 /// are fewer than the name's. A table that does not pass is refused with 1, and then nothing changes.
 ///
 /// ```
-/// use luspemaro::{answer, compact, Reader, Record, Refusal, READERS_ALL};
+/// use luspemaro::{answer, compact, Reader, Record, RecordsMut, Refusal, Summary, READERS_ALL};
 ///
 /// let row = Record { flags: 1, start: 2, len: 3, readers: READERS_ALL };
 /// let mut records = [row, Record::default()];
-/// let mut area = *b"--Foo--";
+/// let (mut area, mut summary) = (*b"--Foo--", [Summary::default(); 2]);
 /// let mut out = [0; 100];
 ///
 /// // No run of free bytes is long enough; all of them together are.
 /// let line = b"a SUBSCRIBE Mood\r\n";
-/// let refused = answer(Reader::EDITOR, &mut records, 1, &mut area, b"", line, &mut out);
-/// assert_eq!(refused, Err(Refusal::NoRoom));
-/// compact(&mut records, 1, &mut area)?;
+/// let table = RecordsMut { records: &mut records, count: 1, area: &mut area, summary: &mut summary };
+/// assert_eq!(answer(Reader::EDITOR, table, b"", line, &mut out), Err(Refusal::NoRoom));
+/// compact(&mut records, 1, &mut area, &summary)?;
 /// assert_eq!((records[0].start, area), (0, *b"Foo\0\0\0\0"));
-/// let answered = answer(Reader::EDITOR, &mut records, 1, &mut area, b"", line, &mut out)?;
+/// let table = RecordsMut { records: &mut records, count: 1, area: &mut area, summary: &mut summary };
+/// let answered = answer(Reader::EDITOR, table, b"", line, &mut out)?;
 /// assert_eq!((answered.count, area), (2, *b"FooMood"));
 /// # Ok::<(), Refusal>(())
 /// ```
-pub fn compact(records: &mut [Record], count: usize, area: &mut [u8]) -> Result<(), Refusal> {
-    Refusal::check(raw::compact(records, count, area))
+pub fn compact(
+    records: &mut [Record],
+    count: usize,
+    area: &mut [u8],
+    summary: &[Summary],
+) -> Result<(), Refusal> {
+    Refusal::check(raw::compact(records, count, area, summary))
+}
+
+/// Counts the summary of the rows afresh, as the first one of a table: the first `count` numbers become what
+/// counting gives, and those after them stay. What they hold before is not looked at.
+///
+/// Rows that do not pass the rest of check 1 are refused with 1, and so is a count above the records or above the
+/// numbers; then no number changes.
+///
+/// ```
+/// use luspemaro::{summarize, Record, Refusal, Summary};
+///
+/// // Foo exists, Foo/Bar exists and is subscribed; a spare record.
+/// let row = |flags, start, len| Record { flags, start, len, readers: 1 };
+/// let records = [row(1, 7, 3), row(3, 0, 7), Record::default()];
+/// let mut summary = [Summary(7); 3];
+/// summarize(&records, 2, b"Foo/BarFoo", &mut summary)?;
+/// assert_eq!((summary[0].subscribed_local(), summary[0].existing_local()), (1, 1));
+/// assert_eq!(summary[1..], [Summary(0), Summary(7)]);
+/// assert_eq!(summarize(&records, 2, b"Foo/BarFoo", &mut summary[..1]), Err(Refusal::Table));
+/// # Ok::<(), Refusal>(())
+/// ```
+pub fn summarize(
+    records: &[Record],
+    count: usize,
+    area: &[u8],
+    summary: &mut [Summary],
+) -> Result<(), Refusal> {
+    Refusal::check(raw::summarize(records, count, area, summary))
 }
 
 /// The walk of a table for a reader. Found and pending hold their names afterwards, each with a length
 /// byte. A refusal, one of the six that a walk may have, leaves all three buffers zero.
 ///
 /// ```
-/// use luspemaro::{collect, Reader, Record, Records, Walked};
+/// use luspemaro::{collect, Reader, Record, Records, Summary, Walked};
 ///
 /// let seven = Reader::new(7).expect("a reader");
 /// let records = [Record { flags: 3, start: 0, len: 13, readers: seven.bit() }];
-/// let table = Records { records: &records, count: 1, area: b"Customers/ABC" };
+/// let summary = [Summary::default()];
+/// let table = Records { records: &records, count: 1, area: b"Customers/ABC", summary: &summary };
 /// let (mut scratch, mut found, mut pending) = ([0; 100], [0; 20], [0; 20]);
 ///
 /// // The top level is asked, then what lies below Customers.
@@ -251,7 +299,7 @@ pub fn collect(
 /// ```
 /// use luspemaro::{collect_from, Records, WalkRefusal};
 ///
-/// let table = Records { records: &[], count: 1, area: b"" };
+/// let table = Records { records: &[], count: 1, area: b"", summary: &[] };
 /// let refused = collect_from(8, table, 9, &mut [], &mut [], &mut []);
 /// assert_eq!(refused, Err(WalkRefusal::Reader));
 /// ```

@@ -1,7 +1,8 @@
 //! The C names of the crate `exports` and its structs, and a safe call of each. A slice passes as a
-//! pointer and a length, which of records is their number.
+//! pointer and a length, which of records and of numbers of a summary is how many they are.
 
 use crate::refusal::Refusal;
+use crate::summary::Summary;
 use crate::walk_refusal::WalkRefusal;
 
 /// The bytes of the area that a name is read into.
@@ -13,6 +14,7 @@ pub const READERS_ALL: u8 = 0xFF;
 #[repr(C)]
 pub struct Outcome {
     pub number: u8,
+    pub changed: u8,
     pub length: usize,
     pub count: usize,
 }
@@ -24,6 +26,8 @@ pub struct Answered {
     pub length: usize,
     /// How many of the records are rows now.
     pub count: usize,
+    /// Whether a row changed: SUBSCRIBE of a name that was not subscribed, or UNSUBSCRIBE of one that was.
+    pub changed: bool,
 }
 
 /// What a walk of the collector gives.
@@ -68,10 +72,25 @@ pub struct Records<'m> {
     /// The rows, and spare records after them.
     pub records: &'m [Record],
     /// How many of the records are rows; those after them are spare and not looked at. More than
-    /// there are records do not pass.
+    /// there are records, or numbers of the summary, do not pass.
     pub count: usize,
     /// The bytes among which the names lie.
     pub area: &'m [u8],
+    /// A number for each record, of which those of the rows pass exactly if counting afresh gives them.
+    pub summary: &'m [Summary],
+}
+
+/// A mailbox table as [`Records`] are, lent to be changed.
+#[derive(Debug)]
+pub struct RecordsMut<'m> {
+    /// The rows, and spare records after them.
+    pub records: &'m mut [Record],
+    /// How many of the records are rows.
+    pub count: usize,
+    /// The bytes among which the names lie.
+    pub area: &'m mut [u8],
+    /// A number for each record.
+    pub summary: &'m mut [Summary],
 }
 
 /// A feeder between two chunks, `FeederState` of the crate `exports`. The default is its first state.
@@ -106,6 +125,8 @@ extern "C" {
         count: usize,
         area: *const u8,
         area_len: usize,
+        summary: *const Summary,
+        summary_len: usize,
     ) -> bool;
     fn luspemaro_check_namespaces(list: *const u8, list_len: usize) -> bool;
     fn luspemaro_matches(
@@ -127,6 +148,8 @@ extern "C" {
         reader: u8,
         area: *mut u8,
         area_len: usize,
+        summary: *mut Summary,
+        summary_len: usize,
         namespaces: *const u8,
         namespaces_len: usize,
         line: *const u8,
@@ -140,6 +163,17 @@ extern "C" {
         count: usize,
         area: *mut u8,
         area_len: usize,
+        summary: *const Summary,
+        summary_len: usize,
+    ) -> u8;
+    fn luspemaro_summarize(
+        records: *const Record,
+        records_len: usize,
+        count: usize,
+        area: *const u8,
+        area_len: usize,
+        summary: *mut Summary,
+        summary_len: usize,
     ) -> u8;
     fn luspemaro_collect(
         records: *const Record,
@@ -148,6 +182,8 @@ extern "C" {
         reader: u8,
         area: *const u8,
         area_len: usize,
+        summary: *const Summary,
+        summary_len: usize,
         option: u8,
         scratch: *mut u8,
         scratch_len: usize,
@@ -207,9 +243,17 @@ pub fn check_table(table: &[u8]) -> bool {
 }
 
 pub fn check_records(table: Records) -> bool {
-    let Records { records, count, area } = table;
+    let Records { records, count, area, summary } = table;
     unsafe {
-        luspemaro_check_records(records.as_ptr(), records.len(), count, area.as_ptr(), area.len())
+        luspemaro_check_records(
+            records.as_ptr(),
+            records.len(),
+            count,
+            area.as_ptr(),
+            area.len(),
+            summary.as_ptr(),
+            summary.len(),
+        )
     }
 }
 
@@ -227,13 +271,12 @@ pub fn match_steps(pattern: &[u8], name: &[u8]) -> usize {
 
 pub fn answer(
     reader: u8,
-    records: &mut [Record],
-    count: usize,
-    area: &mut [u8],
+    table: RecordsMut,
     namespaces: &[u8],
     line: &[u8],
     out: &mut [u8],
 ) -> Outcome {
+    let RecordsMut { records, count, area, summary } = table;
     unsafe {
         luspemaro_answer(
             records.as_mut_ptr(),
@@ -242,6 +285,8 @@ pub fn answer(
             reader,
             area.as_mut_ptr(),
             area.len(),
+            summary.as_mut_ptr(),
+            summary.len(),
             namespaces.as_ptr(),
             namespaces.len(),
             line.as_ptr(),
@@ -252,9 +297,32 @@ pub fn answer(
     }
 }
 
-pub fn compact(records: &mut [Record], count: usize, area: &mut [u8]) -> u8 {
-    let (records, records_len) = (records.as_mut_ptr(), records.len());
-    unsafe { luspemaro_compact(records, records_len, count, area.as_mut_ptr(), area.len()) }
+pub fn compact(records: &mut [Record], count: usize, area: &mut [u8], summary: &[Summary]) -> u8 {
+    unsafe {
+        luspemaro_compact(
+            records.as_mut_ptr(),
+            records.len(),
+            count,
+            area.as_mut_ptr(),
+            area.len(),
+            summary.as_ptr(),
+            summary.len(),
+        )
+    }
+}
+
+pub fn summarize(records: &[Record], count: usize, area: &[u8], summary: &mut [Summary]) -> u8 {
+    unsafe {
+        luspemaro_summarize(
+            records.as_ptr(),
+            records.len(),
+            count,
+            area.as_ptr(),
+            area.len(),
+            summary.as_mut_ptr(),
+            summary.len(),
+        )
+    }
 }
 
 pub fn collect(
@@ -265,7 +333,7 @@ pub fn collect(
     found: &mut [u8],
     pending: &mut [u8],
 ) -> Outcome {
-    let Records { records, count, area } = table;
+    let Records { records, count, area, summary } = table;
     unsafe {
         luspemaro_collect(
             records.as_ptr(),
@@ -274,6 +342,8 @@ pub fn collect(
             reader,
             area.as_ptr(),
             area.len(),
+            summary.as_ptr(),
+            summary.len(),
             option,
             scratch.as_mut_ptr(),
             scratch.len(),
@@ -347,25 +417,33 @@ pub fn put_go_on(out: &mut [u8], at: usize) -> usize {
 }
 
 impl Outcome {
-    /// A refusal has length 0 and this count.
+    /// A refusal has length 0 and this count, and changed nothing.
     fn result(&self, refused_count: usize) -> Result<(), Refusal> {
-        let Outcome { number, length, count } = *self;
+        let Outcome { number, changed, length, count } = *self;
         let result = Refusal::check(number);
         assert!(
-            result.is_ok() || (length, count) == (0, refused_count),
-            "refused with {number}, length {length}, count {count} for {refused_count}"
+            result.is_ok() || (changed, length, count) == (0, 0, refused_count),
+            "refused with {number}, changed {changed}, length {length}, count {count} for {refused_count}"
         );
+        assert!(changed <= 1, "changed is {changed}");
         result
+    }
+
+    /// The same of a call that changes no row.
+    fn unchanged(&self) -> Result<(), Refusal> {
+        assert!(self.changed == 0, "a call that reads changed a row");
+        self.result(0)
     }
 
     /// What a command over so many rows gives; a refusal gives their count back.
     pub fn answered(&self, count: usize) -> Result<Answered, Refusal> {
-        self.result(count).map(|()| Answered { length: self.length, count: self.count })
+        let Outcome { length, count: given, changed, .. } = *self;
+        self.result(count).map(|()| Answered { length, count: given, changed: changed == 1 })
     }
 
     /// What a walk gives, which is refused with six of the numbers alone.
     pub fn walked(&self) -> Result<Walked, WalkRefusal> {
-        self.result(0).map_err(|refusal| {
+        self.unchanged().map_err(|refusal| {
             let number = refusal.number();
             WalkRefusal::from_number(number)
                 .unwrap_or_else(|| panic!("the archive gives the number {number} for a walk"))
@@ -375,6 +453,6 @@ impl Outcome {
 
     /// The length of what was written.
     pub fn written(&self) -> Result<usize, Refusal> {
-        self.result(0).map(|()| self.length)
+        self.unchanged().map(|()| self.length)
     }
 }

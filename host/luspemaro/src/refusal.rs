@@ -33,7 +33,7 @@ macro_rules! refusals {
 }
 
 refusals! {
-    Table = 1, "the mailbox table does not pass, or count is above the records lent";
+    Table = 1, "the mailbox table or its summary does not pass, or count is above the records lent";
     Namespaces = 2, "the namespace list does not pass";
     LineShape = 3, "too long, no CR LF at its end, a byte that no line has, a literal cut short or too long";
     Grammar = 4, "the tag, or the rest after a known word, is off the grammar";

@@ -17,7 +17,7 @@ use crate::refusal::Refusal;
 #[derive(Clone, Copy, Debug, PartialEq, Eq, PartialOrd, Ord, Hash)]
 #[repr(u8)]
 pub enum WalkRefusal {
-    /// The mailbox table does not pass, or count is above the records lent.
+    /// The mailbox table or its summary does not pass, or count is above the records lent.
     Table = Refusal::Table.number(),
     /// The option byte is not lawful.
     UnknownOption = Refusal::UnknownOption.number(),

@@ -1,9 +1,9 @@
 //! Names moved together, called from Rust.
 
-use luspemaro::{
-    answer, check_records, collect, compact, Answered, Reader, Record, Records, Refusal, Walked,
-    READERS_ALL,
-};
+mod common;
+
+use common::{Lent, SPARE};
+use luspemaro::{check_records, collect, Answered, Reader, Record, Refusal, Walked, READERS_ALL};
 
 const OK: &[u8] = b"a OK done\r\n";
 
@@ -26,13 +26,17 @@ fn starting_at(starts: [u16; COUNT]) -> [Record; 5] {
     records
 }
 
+fn lent() -> Lent {
+    Lent::new(&RECORDS, COUNT, &AREA)
+}
+
 #[test]
 fn names_move_together() {
-    let (mut records, mut area) = (RECORDS, AREA);
+    let mut table = lent();
     for _ in 0..2 {
-        assert_eq!(compact(&mut records, COUNT, &mut area), Ok(()));
-        assert_eq!((records, area), (starting_at([8, 3, 0]), COMPACTED));
-        assert!(check_records(Records { records: &records, count: COUNT, area: &area }));
+        assert_eq!(table.compact(), Ok(()));
+        assert_eq!(table, Lent::new(&starting_at([8, 3, 0]), COUNT, &COMPACTED));
+        assert!(check_records(table.as_records()));
     }
 }
 
@@ -45,62 +49,79 @@ fn counts() {
         (2, [5, 0, 1], *b"INBOXFoo\0\0\0\0\0\0\0\0\0\0"),
         (3, [8, 3, 0], COMPACTED),
     ] {
-        let (mut records, mut area) = (RECORDS, AREA);
-        assert_eq!(compact(&mut records, count, &mut area), Ok(()));
-        assert_eq!((records, area), (starting_at(starts), expected), "{count}");
+        let mut table = Lent::new(&RECORDS, count, &AREA);
+        assert_eq!(table.compact(), Ok(()));
+        assert_eq!(table, Lent::new(&starting_at(starts), count, &expected), "{count}");
     }
-    assert_eq!(compact(&mut [], 0, &mut []), Ok(()));
+    assert_eq!(Lent::new(&[], 0, &[]).compact(), Ok(()));
 }
 
 /// 1 is the only refusal, and it changes nothing.
 #[test]
 fn tables_that_do_not_pass() {
+    let refused = |before: Lent| {
+        let mut table = before.clone();
+        assert_eq!(table.compact(), Err(Refusal::Table));
+        assert_eq!(table, before);
+    };
     for count in [4, 5, 6, 512, usize::MAX] {
-        let (mut records, mut area) = (RECORDS, AREA);
-        assert_eq!(compact(&mut records, count, &mut area), Err(Refusal::Table));
-        assert_eq!((records, area), (RECORDS, AREA), "{count}");
+        refused(Lent { count, ..lent() });
     }
     for starts in [[13, 6, 5], [13, 6, 16], [1, 6, 13]] {
-        let (mut records, mut area) = (starting_at(starts), AREA);
-        assert_eq!(compact(&mut records, COUNT, &mut area), Err(Refusal::Table));
-        assert_eq!((records, area), (starting_at(starts), AREA), "{starts:?}");
+        refused(Lent::new(&starting_at(starts), COUNT, &AREA));
     }
-    let mut large = vec![b'-'; 32_769];
-    assert_eq!(compact(&mut [], 0, &mut large), Err(Refusal::Table));
-    assert!(large.iter().all(|&byte| byte == b'-'));
-    assert_eq!(compact(&mut [], 0, &mut large[1..]), Ok(()));
-    assert!(large[1..].iter().all(|&byte| byte == 0));
+    refused(Lent::new(&[], 0, &[b'-'; 32_769]));
+    let mut large = Lent::new(&[], 0, &[b'-'; 32_768]);
+    assert_eq!(large.compact(), Ok(()));
+    assert!(large.area.iter().all(|&byte| byte == 0));
+}
+
+/// A summary that is wrong or too short is 1 too; what is beside the rows is not looked at.
+#[test]
+fn summaries() {
+    for (at, bit) in (0..COUNT).flat_map(|at| (0..64).map(move |bit| (at, bit))) {
+        let mut before = lent();
+        before.summary[at].0 ^= 1 << bit;
+        let mut table = before.clone();
+        assert_eq!((table.compact(), &table), (Err(Refusal::Table), &before));
+    }
+    for numbers in 0..8 {
+        let mut table = lent();
+        table.summary.resize(numbers, SPARE);
+        let before = table.summary.clone();
+        assert_eq!(table.compact().is_ok(), numbers >= COUNT);
+        assert_eq!(table.summary, before);
+    }
 }
 
 /// A server's two calls: names moved together after a 15, and the same line again.
 #[test]
 fn room_after_15() {
-    let (mut records, mut area) = (RECORDS, AREA);
-    let line = |length: usize| format!("a SUBSCRIBE {}\r\n", "n".repeat(length));
-    let subscribe = |records: &mut [Record], area: &mut [u8], length: usize| {
-        let line = line(length);
-        answer(Reader::EDITOR, records, COUNT, area, b"", line.as_bytes(), &mut [0; 20])
+    let mut table = lent();
+    let subscribe = |table: &mut Lent, length: usize| {
+        let line = format!("a SUBSCRIBE {}\r\n", "n".repeat(length));
+        table.answer(0, line.as_bytes(), &mut [0; 20])
     };
     for length in [3, 7, 8] {
-        assert_eq!(subscribe(&mut records, &mut area, length), Err(Refusal::NoRoom));
+        assert_eq!(subscribe(&mut table, length), Err(Refusal::NoRoom));
     }
-    assert_eq!((records, area), (RECORDS, AREA));
-    assert_eq!(compact(&mut records, COUNT, &mut area), Ok(()));
+    assert_eq!(table, lent());
+    assert_eq!(table.compact(), Ok(()));
     // All free bytes together are 7.
-    assert_eq!(subscribe(&mut records, &mut area, 8), Err(Refusal::NoRoom));
-    let answered = subscribe(&mut records, &mut area, 7);
-    assert_eq!(answered, Ok(Answered { length: OK.len(), count: 4 }));
-    assert_eq!(&area, b"MooINBOXFoonnnnnnn");
-    assert_eq!(records[3], Record { flags: 2, start: 11, len: 7, readers: READERS_ALL });
-    assert_eq!(records[4], RECORDS[4]);
+    assert_eq!(subscribe(&mut table, 8), Err(Refusal::NoRoom));
+    let answered = subscribe(&mut table, 7);
+    assert_eq!(answered, Ok(Answered { length: OK.len(), count: 4, changed: true }));
+    assert_eq!(table.area, b"MooINBOXFoonnnnnnn");
+    assert_eq!(table.records[3], Record { flags: 2, start: 11, len: 7, readers: READERS_ALL });
+    assert_eq!(table.records[4], RECORDS[4]);
 }
 
 /// Commands and walks are answered as before.
 #[test]
 fn answers_stay() {
-    let (mut moved, mut moved_area) = (RECORDS, AREA);
-    assert_eq!(compact(&mut moved, COUNT, &mut moved_area), Ok(()));
-    let tables = [(RECORDS, AREA), (moved, moved_area)];
+    let mut moved = lent();
+    assert_eq!(moved.compact(), Ok(()));
+    let tables = [lent(), moved];
     for line in [
         "a LIST \"\" *\r\n",
         "a LSUB \"\" %\r\n",
@@ -108,16 +129,15 @@ fn answers_stay() {
         "a SUBSCRIBE inbox/x\r\n",
         "a UNSUBSCRIBE Moo\r\n",
     ] {
-        let given = tables.map(|(mut records, mut area)| {
+        let given = tables.clone().map(|mut table| {
             let mut out = [b'.'; 200];
-            let line = line.as_bytes();
-            (answer(Reader::EDITOR, &mut records, COUNT, &mut area, b"", line, &mut out), out)
+            (table.answer(0, line.as_bytes(), &mut out), out)
         });
         assert_eq!(given[0], given[1], "{line}");
     }
-    let walks = tables.each_ref().map(|(records, area)| {
+    let walks = tables.each_ref().map(|table| {
         let (mut scratch, mut found, mut pending) = ([1; 200], [1; 30], [1; 30]);
-        let table = Records { records, count: COUNT, area };
+        let table = table.as_records();
         let walked = collect(Reader::EDITOR, table, 0, &mut scratch, &mut found, &mut pending);
         (walked, found, pending)
     });

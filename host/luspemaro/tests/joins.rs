@@ -1,9 +1,11 @@
 //! The line of a joined command: its options by the names of the header, its refusals in their order, and the
 //! answer to it.
 
+mod common;
+
+use common::Lent;
 use luspemaro::{
-    answer, join, join_packed, Event, Feeder, ListOptions, Reader, Record, Refusal, COMMAND_ROOM,
-    READERS_ALL,
+    join, join_packed, Event, Feeder, ListOptions, Record, Refusal, COMMAND_ROOM, READERS_ALL,
 };
 
 const HEADER: &str = include_str!("../../../include/luspemaro.h");
@@ -154,11 +156,10 @@ fn the_longest_literal() {
 #[test]
 fn one_request_for_two() {
     let row = |start, len| Record { flags: 1, start, len, readers: READERS_ALL };
-    let mut records = [row(0, 1), row(1, 3), row(4, 2)];
-    let mut area = *b"aa/bcc";
+    let mut table = Lent::new(&[row(0, 1), row(1, 3), row(4, 2)], 3, b"aa/bcc");
     let mut lines_of = |line: &[u8]| {
         let mut out = [0; 1_000];
-        let answered = answer(Reader::EDITOR, &mut records, 3, &mut area, b"", line, &mut out);
+        let answered = table.answer(0, line, &mut out);
         let text = String::from_utf8(out[..answered.expect("an answer").length].to_vec());
         let text = text.expect("text");
         text.lines().filter(|line| line.starts_with("* ")).map(str::to_string).collect::<Vec<_>>()

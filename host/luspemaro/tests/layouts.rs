@@ -12,12 +12,16 @@ mod raw;
 #[path = "../src/refusal.rs"]
 mod refusal;
 #[allow(dead_code)]
+#[path = "../src/summary.rs"]
+mod summary;
+#[allow(dead_code)]
 #[path = "../src/walk_refusal.rs"]
 mod walk_refusal;
 
-use std::mem::{offset_of, size_of};
+use std::mem::{align_of, offset_of, size_of};
 
 use raw::{FedChunk, FeederState, LineParts, Outcome, Record};
+use summary::Summary;
 
 const LAYOUTS: &str = include_str!("../../c/layouts.def");
 
@@ -43,6 +47,7 @@ fn layouts_are_those_of_the_header() {
         ("luspemaro_record", Some("readers"), offset_of!(Record, readers)),
         ("luspemaro_record", None, size_of::<Record>()),
         ("luspemaro_outcome", Some("number"), offset_of!(Outcome, number)),
+        ("luspemaro_outcome", Some("changed"), offset_of!(Outcome, changed)),
         ("luspemaro_outcome", Some("length"), offset_of!(Outcome, length)),
         ("luspemaro_outcome", Some("count"), offset_of!(Outcome, count)),
         ("luspemaro_outcome", None, size_of::<Outcome>()),
@@ -64,6 +69,10 @@ fn layouts_are_those_of_the_header() {
         ("luspemaro_fed", Some("state"), offset_of!(FedChunk, state)),
         ("luspemaro_fed", None, size_of::<FedChunk>()),
     ];
+    assert_eq!(
+        (size_of::<Summary>(), align_of::<Summary>()),
+        (size_of::<u64>(), align_of::<u64>())
+    );
     let in_file: Vec<Layout> = LAYOUTS.lines().filter_map(parse).collect();
     assert_eq!(in_file, in_rust);
 }

@@ -1,9 +1,12 @@
 //! The night of Customers/ABC, called from Rust.
 
+mod common;
+
+use common::{Lent, SPARE};
 use luspemaro::{
-    answer, check_namespaces, check_records, check_table, collect, collect_packed, match_steps,
-    matches, put_go_on, read_line, write_line, Answered, Criteria, Event, Feeder, Reader, Record,
-    Records, Refusal, WalkRefusal, Walked, READERS_ALL,
+    check_namespaces, check_records, check_table, collect, collect_packed, match_steps, matches,
+    put_go_on, read_line, write_line, Answered, Criteria, Event, Feeder, Reader, Record, Records,
+    Refusal, Summary, WalkRefusal, Walked, READERS_ALL,
 };
 
 /// Flags 0003, all readers, length 13, the name.
@@ -16,7 +19,8 @@ const RECORDS: [Record; 2] = [
 /// What an edit inserts.
 const INSERTED: Record = Record { flags: 2, start: 0, len: 2, readers: READERS_ALL };
 const AREA: [u8; 16] = *b"%%Customers/ABC%";
-const TABLE: Records = Records { records: &RECORDS, count: 1, area: &AREA };
+const SUMMARY: [Summary; 2] = [Summary(0), SPARE];
+const TABLE: Records = Records { records: &RECORDS, count: 1, area: &AREA, summary: &SUMMARY };
 const OK: &[u8] = b"a OK done\r\n";
 const LINE: &[u8] =
     b"* LIST (\\NonExistent) \"/\" \"Customers\" (\"CHILDINFO\" (\"SUBSCRIBED\"))\r\n";
@@ -26,45 +30,30 @@ const NON_EXISTENT: u16 = 1 << 6;
 fn checks_and_matches() {
     assert!(check_table(PACKED) && !check_table(&PACKED[1..]));
     assert!(check_records(TABLE) && !check_records(Records { count: 3, ..TABLE }));
+    assert!(!check_records(Records { summary: &[SPARE; 2], ..TABLE }));
     assert!(check_namespaces(b"") && !check_namespaces(b"\x03\0/"));
     assert!(matches(b"C%/*", b"Customers/ABC") && !matches(b"C%", b"Customers/ABC"));
     assert_eq!(match_steps(b"Customers", b"Customers"), 11);
     assert!((1..=5 * 14).contains(&match_steps(b"C%/*", b"Customers/ABC")));
 }
 
-/// A table that is lent to be changed.
-struct Lent {
-    records: [Record; 2],
-    count: usize,
-    area: [u8; 16],
+fn lent() -> Lent {
+    Lent::new(&RECORDS, 1, &AREA)
 }
 
-impl Lent {
-    fn new() -> Lent {
-        Lent { records: RECORDS, count: 1, area: AREA }
-    }
-
-    /// The answer, and the count given back.
-    fn answer(&mut self, line: &[u8], room: usize) -> Result<Vec<u8>, Refusal> {
-        let mut out = vec![b'.'; room];
-        let Lent { records, count, area } = self;
-        let answered = answer(Reader::EDITOR, records, *count, area, b"", line, &mut out);
-        match answered {
-            Ok(Answered { length, count: given }) => {
-                *count = given;
-                assert!(out[length..].iter().all(|&byte| byte == b'.'));
-                out.truncate(length);
-                Ok(out)
-            }
-            Err(refusal) => {
-                assert!(out.iter().all(|&byte| byte == b'.'));
-                Err(refusal)
-            }
+/// The answer to a command of reader 0, and whether it changed a row.
+fn answer(table: &mut Lent, line: &[u8], room: usize) -> Result<(Vec<u8>, bool), Refusal> {
+    let mut out = vec![b'.'; room];
+    match table.answer(0, line, &mut out) {
+        Ok(Answered { length, changed, .. }) => {
+            assert!(out[length..].iter().all(|&byte| byte == b'.'));
+            out.truncate(length);
+            Ok((out, changed))
         }
-    }
-
-    fn is_as_lent(&self) -> bool {
-        (self.records, self.count, self.area) == (RECORDS, 1, AREA)
+        Err(refusal) => {
+            assert!(out.iter().all(|&byte| byte == b'.'));
+            Err(refusal)
+        }
     }
 }
 
@@ -72,52 +61,59 @@ impl Lent {
 fn an_answer_and_refusals() {
     let command = b"a LIST (SUBSCRIBED RECURSIVEMATCH) \"\" \"%\"\r\n";
     let expected = [LINE, OK].concat();
-    let mut lent = Lent::new();
-    assert_eq!(lent.answer(command, 200).expect("an answer"), expected);
+    let mut table = lent();
+    assert_eq!(answer(&mut table, command, 200), Ok((expected.clone(), false)));
     for (line, refusal) in [
         ("a LIST (RECURSIVEMATCH) \"\" %\r\n", Refusal::RecursiveMatchAlone),
         ("a NOOP\r\n", Refusal::Word),
         ("", Refusal::LineShape),
     ] {
-        assert_eq!(lent.answer(line.as_bytes(), 200), Err(refusal), "{line}");
+        assert_eq!(answer(&mut table, line.as_bytes(), 200), Err(refusal), "{line}");
     }
-    let refusal = lent.answer(command, expected.len() - 1).expect_err("a short buffer");
+    let refusal = answer(&mut table, command, expected.len() - 1).expect_err("a short buffer");
     assert_eq!(refusal.to_string(), "9: the answer, or the line, is longer than its buffer");
-    assert!(lent.is_as_lent());
-    let mut records = RECORDS;
-    let (mut area, mut out) = ([b'C'; 9], [0; 200]);
-    let past_the_area = answer(Reader::EDITOR, &mut records, 1, &mut area, b"", command, &mut out);
-    assert_eq!(past_the_area, Err(Refusal::Table));
-    assert_eq!(records, RECORDS);
+    assert_eq!(table, lent());
+    let wrong = Lent { summary: vec![SPARE; 2], ..lent() };
+    let short = Lent { summary: vec![], ..lent() };
+    let past_the_area = Lent::new(&RECORDS, 1, &[b'C'; 9]);
+    for before in [wrong, short, past_the_area] {
+        let mut table = before.clone();
+        assert_eq!(answer(&mut table, command, 200), Err(Refusal::Table));
+        assert_eq!(table, before);
+    }
 }
 
 /// Names subscribed and unsubscribed: flags, an insertion, a removal, and every byte of them.
 #[test]
 fn edits() {
-    let mut lent = Lent::new();
+    let mut table = lent();
     for (line, refusal) in [
         ("a SUBSCRIBE \"\"\r\n", Refusal::UnlawfulName),
         ("a SUBSCRIBE abc\r\n", Refusal::NoRoom),
         ("a SUBSCRIBE ab%\r\n", Refusal::Grammar),
         ("a SUBSCRIBED ab\r\n", Refusal::Word),
     ] {
-        assert_eq!(lent.answer(line.as_bytes(), 200), Err(refusal), "{line}");
+        assert_eq!(answer(&mut table, line.as_bytes(), 200), Err(refusal), "{line}");
     }
-    let short = lent.answer(b"a SUBSCRIBE ab\r\n", OK.len() - 1);
+    let short = answer(&mut table, b"a SUBSCRIBE ab\r\n", OK.len() - 1);
     assert_eq!(short, Err(Refusal::ShortBuffer));
-    assert!(lent.is_as_lent());
+    assert_eq!(table, lent());
 
-    assert_eq!(lent.answer(b"a SUBSCRIBE ab\r\n", 200), Ok(OK.to_vec()));
-    assert_eq!((lent.count, &lent.area), (2, b"abCustomers/ABC%"));
-    assert_eq!(lent.records, [RECORDS[0], INSERTED]);
-    assert_eq!(lent.answer(b"a UNSUBSCRIBE Customers/ABC\r\n", 200), Ok(OK.to_vec()));
+    let (changed, kept) = (Ok((OK.to_vec(), true)), Ok((OK.to_vec(), false)));
+    assert_eq!(answer(&mut table, b"a SUBSCRIBE ab\r\n", 200), changed);
+    assert_eq!((table.count, &table.area[..]), (2, b"abCustomers/ABC%".as_slice()));
+    assert_eq!(table.records, [RECORDS[0], INSERTED]);
+    assert_eq!(answer(&mut table, b"a SUBSCRIBE ab\r\n", 200), kept);
+    assert_eq!(answer(&mut table, b"a UNSUBSCRIBE Customers/ABC\r\n", 200), changed);
     let row = Record { flags: 1, ..RECORDS[0] };
-    assert_eq!(lent.records, [row, INSERTED]);
-    let listed = lent.answer(b"a LSUB \"\" *\r\n", 200).expect("an answer");
+    assert_eq!(table.records, [row, INSERTED]);
+    assert_eq!(answer(&mut table, b"a UNSUBSCRIBE Customers/ABC\r\n", 200), kept);
+    let (listed, _) = answer(&mut table, b"a LSUB \"\" *\r\n", 200).expect("an answer");
     assert_eq!(listed, [b"* LSUB () \"/\" \"ab\"\r\n", OK].concat());
-    assert_eq!(lent.answer(b"a UNSUBSCRIBE ab\r\n", 200), Ok(OK.to_vec()));
-    assert_eq!((lent.count, &lent.area), (1, b"\0\0Customers/ABC%"));
-    assert_eq!(lent.records, [row, Record::default()]);
+    assert_eq!(answer(&mut table, b"a UNSUBSCRIBE ab\r\n", 200), changed);
+    assert_eq!((table.count, &table.area[..]), (1, b"\0\0Customers/ABC%".as_slice()));
+    assert_eq!(table.records, [row, Record::default()]);
+    assert_eq!(table.summary, [Summary(0); 2]);
 }
 
 #[test]

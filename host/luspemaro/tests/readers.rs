@@ -1,8 +1,11 @@
 //! Who may see which mailbox, called from Rust.
 
+mod common;
+
+use common::Lent;
 use luspemaro::{
-    answer_from, check_records, check_table, collect_from, collect_packed_from, Answered, Reader,
-    Record, Records, Refusal, WalkRefusal, Walked, READERS_ALL,
+    check_records, check_table, collect_from, collect_packed_from, Answered, Reader, Record,
+    Records, Refusal, Summary, WalkRefusal, Walked, READERS_ALL,
 };
 
 const OK: &[u8] = b"a OK done\r\n";
@@ -13,17 +16,20 @@ const RECORDS: [Record; 3] = [
     Record { flags: 3, start: 0, len: 13, readers: 0b1001 },
     Record { flags: 0, start: 0, len: 0, readers: 0 },
 ];
-const TABLE: Records = Records { records: &RECORDS, count: 2, area: &AREA };
+/// Below Customers one row exists, which is subscribed.
+const SUMMARY: [Summary; 3] = [Summary(1 << 32 | 1), Summary(0), Summary(7)];
+const TABLE: Records = Records { records: &RECORDS, count: 2, area: &AREA, summary: &SUMMARY };
 const PACKED: &[u8] = b"\0\x03\x01\x09Customers\0\x03\x09\x0DCustomers/ABC";
 
 /// The answer of a command, which leaves the rows as they are.
 fn answer_of(reader: u8, line: &[u8]) -> Result<Vec<u8>, Refusal> {
-    let (mut records, mut area, mut out) = (RECORDS, AREA, [b'.'; 200]);
-    let answered = answer_from(reader, &mut records, 2, &mut area, b"", line, &mut out);
-    assert_eq!((records, area), (RECORDS, AREA));
+    let before = Lent::new(&RECORDS, 2, &AREA);
+    let (mut table, mut out) = (before.clone(), [b'.'; 200]);
+    let answered = table.answer(reader, line, &mut out);
+    assert_eq!(table, before);
     match answered {
-        Ok(Answered { length, count }) => {
-            assert!(count == 2 && out[length..].iter().all(|&byte| byte == b'.'));
+        Ok(Answered { length, changed, .. }) => {
+            assert!(!changed && out[length..].iter().all(|&byte| byte == b'.'));
             Ok(out[..length].to_vec())
         }
         Err(refusal) => {
@@ -75,7 +81,7 @@ fn no_such_reader() {
         for line in [b"".as_slice(), b"a NAMESPACE\r\n", b"a SUBSCRIBE x\r\n"] {
             assert_eq!(answer_of(reader, line), Err(Refusal::Reader));
         }
-        let refused = answer_from(reader, &mut [], 1, &mut [], b"\x09", b"", &mut []);
+        let refused = Lent::new(&[], 1, &[]).answer(reader, b"", &mut []);
         assert_eq!(refused, Err(Refusal::Reader));
         let (mut scratch, mut found, mut pending) = ([1; 9], [1; 9], [1; 9]);
         let table = Records { count: 9, ..TABLE };
@@ -105,11 +111,10 @@ fn edits() {
     }
     // Reader 0 edits what it does not see, and the set stays.
     for readers in [0, 0b1000, READERS_ALL] {
-        let mut records = [Record { flags: 1, start: 0, len: 1, readers }];
-        let line = b"a SUBSCRIBE x\r\n";
-        let answered = answer_from(0, &mut records, 1, &mut [b'x'], b"", line, &mut [0; 20]);
-        assert_eq!(answered, Ok(Answered { length: OK.len(), count: 1 }));
-        assert_eq!(records, [Record { flags: 3, start: 0, len: 1, readers }]);
+        let mut table = Lent::new(&[Record { flags: 1, start: 0, len: 1, readers }], 1, b"x");
+        let answered = table.answer(0, b"a SUBSCRIBE x\r\n", &mut [0; 20]);
+        assert_eq!(answered, Ok(Answered { length: OK.len(), count: 1, changed: true }));
+        assert_eq!(table.records, [Record { flags: 3, start: 0, len: 1, readers }]);
     }
 }
 
@@ -119,6 +124,6 @@ fn every_set() {
     for readers in 0..=u8::MAX {
         assert!(check_table(&[0, 1, readers, 1, b'x']));
         let records = [Record { flags: 1, start: 0, len: 1, readers }];
-        assert!(check_records(Records { records: &records, count: 1, area: b"x" }));
+        assert!(check_records(Lent::new(&records, 1, b"x").as_records()));
     }
 }

@@ -2,7 +2,9 @@
 
 use std::collections::BTreeSet;
 
-use luspemaro::{collect_from, collect_packed_from, Record, Records, Refusal, WalkRefusal};
+use luspemaro::{
+    collect_from, collect_packed_from, Record, Records, Refusal, Summary, WalkRefusal,
+};
 
 const HEADER: &str = include_str!("../../../include/luspemaro.h");
 /// The program's alone.
@@ -53,7 +55,7 @@ fn walk_refusals() {
 #[test]
 fn every_walk_refusal_from_a_call() {
     let records = [Record { flags: 3, start: 0, len: 3, readers: 0xFF }];
-    let packed = b"\0\x03\xFF\x03a/b";
+    let (packed, summary) = (b"\0\x03\xFF\x03a/b", &[Summary::default()]);
     let mut given = BTreeSet::new();
     for reader in [0, 7, 8, 255] {
         for option in 0..=u8::MAX {
@@ -63,7 +65,7 @@ fn every_walk_refusal_from_a_call() {
                 {
                     let lent = || [scratch, found, pending].map(|room| vec![1; room]);
                     let ([mut one, mut two, mut three], rows) =
-                        (lent(), Records { records: &records, count, area: b"a/b" });
+                        (lent(), Records { records: &records, count, area: b"a/b", summary });
                     let walked = collect_from(reader, rows, option, &mut one, &mut two, &mut three);
                     let [mut one, mut two, mut three] = lent();
                     let again =

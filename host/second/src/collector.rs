@@ -111,6 +111,7 @@ fn walk(
     pending: &mut Names,
 ) -> Result<usize, Refusal> {
     let options = checked(reader, table, option).map_err(Fault::refusal)?;
+    let table = table.counted();
     let mut reference = Vec::new();
     let mut asked = 0;
     let mut count = 0;

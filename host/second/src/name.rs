@@ -52,6 +52,11 @@ pub fn ancestors(name: &[u8]) -> impl Iterator<Item = &[u8]> {
     (0..name.len()).filter(|&at| name[at] == DELIMITER).map(|at| &name[..at])
 }
 
+/// Whether a name lies strictly below another: it goes on with "/" where the other ends.
+pub fn is_below(name: &[u8], above: &[u8]) -> bool {
+    name.get(above.len()) == Some(&DELIMITER) && name.starts_with(above)
+}
+
 /// What every descendant of `name` starts with. Foo-x does not start with Foo's.
 pub fn descendant_prefix(name: &[u8]) -> Vec<u8> {
     [name, &[DELIMITER]].concat()

@@ -1,10 +1,11 @@
-//! Mailboxes as records beside their names (document 02, W4 and W9).
+//! Mailboxes as records beside their names (document 02, W4 and W9), with their summary (W13).
 
 use std::ops::Range;
 
 use crate::fault::ListFault;
 use crate::readers::Readers;
 use crate::rows::{check_rows, Flags, Row};
+use crate::summary::{counted_afresh, Summary};
 
 /// "the area (at most 32,768 bytes)"
 pub const MAX_AREA: usize = 32_768;
@@ -27,6 +28,8 @@ pub struct Records<'t> {
     /// How many of the records are rows. Those after them are spare and not looked at.
     pub count: usize,
     pub area: &'t [u8],
+    /// One for each record. Those of spare records are not looked at.
+    pub summary: &'t [Summary],
 }
 
 /// Records and their area, lent to be changed: by edits (W6), or by names moved together (W7).
@@ -36,11 +39,13 @@ pub struct RecordsMut<'t> {
     /// "a row count is passed and given back"
     pub count: usize,
     pub area: &'t mut [u8],
+    pub summary: &'t mut [Summary],
 }
 
 impl RecordsMut<'_> {
     pub fn as_records(&self) -> Records<'_> {
-        Records { records: self.records, count: self.count, area: self.area }
+        let RecordsMut { records, count, area, summary } = self;
+        Records { records, count: *count, area, summary }
     }
 }
 
@@ -50,13 +55,37 @@ impl Record {
         let start = usize::from(self.start);
         start..start + usize::from(self.len)
     }
+
+    /// The row over an area; one whose name does not lie in it has no name.
+    pub(crate) fn row_in(self, area: &[u8]) -> Row<'_> {
+        let name = area.get(self.place()).unwrap_or_default();
+        let readers = Readers::from_bits(self.readers);
+        Row { flags: Flags::from_bits(self.flags), readers, name }
+    }
 }
 
 impl<'t> Records<'t> {
-    /// The rows of records that pass check 1, or the first record that breaks a rule, by its number.
+    /// How many records are lent: "A record is lent only if the run has a number for it".
+    pub fn lent(self) -> usize {
+        self.records.len().min(self.summary.len())
+    }
+
+    /// The rows of records that pass check 1, or the first record that breaks a rule, by its number. "The table's
+    /// check grows by the summary: one that disagrees is refusal 1".
+    pub(crate) fn checked_rows(self) -> Result<Vec<Row<'t>>, ListFault> {
+        let rows = self.rows_without_summary()?;
+        let counted = counted_afresh(&rows);
+        let rule = "the summary of a record is what counting afresh gives";
+        match counted.iter().zip(self.summary).position(|(counted, kept)| counted != kept) {
+            None => Ok(rows),
+            Some(at) => Err(ListFault { at, rule, other: None }),
+        }
+    }
+
+    /// The rows of records that pass the rest of check 1.
     ///
     /// The names are compared by their places last, when there are at most 512.
-    pub(crate) fn checked_rows(self) -> Result<Vec<Row<'t>>, ListFault> {
+    pub(crate) fn rows_without_summary(self) -> Result<Vec<Row<'t>>, ListFault> {
         let rows = self.rows()?;
         check_rows(&rows, |number| number)?;
         match self.first_overlap() {
@@ -73,14 +102,20 @@ impl<'t> Records<'t> {
         let fault = |at, rule| ListFault { at, rule, other: None };
         let too_few = fault(self.records.len(), "there are as many records as the count says");
         let held = self.records.get(..self.count).ok_or(too_few)?;
+        if self.count > self.summary.len() {
+            return Err(fault(
+                self.summary.len(),
+                "a record is lent if the summary has a number for it",
+            ));
+        }
         if self.area.len() > MAX_AREA {
             return Err(fault(self.count, "an area has at most 32,768 bytes"));
         }
         let row = |(at, record): (usize, &Record)| {
-            let name = self.area.get(record.place());
-            let name = name.ok_or(fault(at, "names lie inside the area"))?;
-            let readers = Readers::from_bits(record.readers);
-            Ok(Row { flags: Flags::from_bits(record.flags), readers, name })
+            let is_inside = self.area.get(record.place()).is_some();
+            is_inside
+                .then(|| record.row_in(self.area))
+                .ok_or(fault(at, "names lie inside the area"))
         };
         held.iter().enumerate().map(row).collect()
     }

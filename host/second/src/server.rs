@@ -21,6 +21,8 @@ pub struct Answered {
     pub length: usize,
     /// Whether it was an edit, be it one that changed no row.
     pub is_edit: bool,
+    /// Whether a row changed, came or went.
+    pub changed: bool,
 }
 
 /// Answers one command line that comes from a reader. An edit that is accepted changes the table and
@@ -81,7 +83,9 @@ fn decide(
     text.extend_from_slice(checked.command.tag);
     text.extend_from_slice(b" OK done\r\n");
     let length = put_answer(&text, out)?;
-    Ok((Answered { length, is_edit: checked.edited.is_some() }, checked.edited))
+    let edited = checked.edited;
+    let changed = edited.as_ref().is_some_and(|edited| edited.changed);
+    Ok((Answered { length, is_edit: edited.is_some(), changed }, edited))
 }
 
 /// What a command is answered from.

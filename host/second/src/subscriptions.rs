@@ -6,11 +6,12 @@ use std::collections::BTreeMap;
 use crate::command::{Edit, EditRequest};
 use crate::fault::{EditFault, LineFault};
 use crate::name;
-use crate::packed::packed_records;
 use crate::readers::Readers;
 use crate::records::{Record, Records, RecordsMut};
 use crate::refusal::Refusal;
-use crate::rows::{Flags, MAX_ROWS};
+use crate::rows::{Flags, Row, MAX_ROWS};
+use crate::store::Store;
+use crate::summary::counted_afresh;
 use crate::table::Table;
 
 /// What an accepted edit leaves, decided before anything is changed.
@@ -20,6 +21,8 @@ pub struct Edited {
     /// The bytes of the area that change, and the place of the first of them.
     bytes: Vec<u8>,
     place: usize,
+    /// Whether a row changes, comes or goes.
+    pub changed: bool,
 }
 
 /// Judges an edit of a table that passes, on its records. Of a packed table they are those of its
@@ -27,11 +30,12 @@ pub struct Edited {
 pub fn edited(table: Table, request: &EditRequest) -> Result<Edited, EditFault> {
     let name = name::spelled(&request.name);
     let result = match table {
-        Table::Records(records) => edited_rows(records, request.edit, &name),
-        Table::Packed(area) => {
-            let records = packed_records(area).unwrap_or_default();
-            let records = Records { records: &records, count: records.len(), area };
+        Table::Records(records) | Table::Counted(records) => {
             edited_rows(records, request.edit, &name)
+        }
+        Table::Packed(area) => {
+            let store = Store::of_packed(area).unwrap_or_else(|| Store::of_rows(&[]));
+            edited_rows(store.as_records(), request.edit, &name)
         }
     };
     result.map_err(|denied| denied.at(request.name_at))
@@ -39,16 +43,23 @@ pub fn edited(table: Table, request: &EditRequest) -> Result<Edited, EditFault> 
 
 impl Edited {
     /// "A freed record and freed name bytes become zero; other spare records and unused bytes
-    /// stay."
+    /// stay." The summary then is what counting afresh gives (W13); a freed number becomes zero, and the others stay.
     pub fn store(self, table: &mut RecordsMut) {
-        let Edited { rows, bytes, place } = self;
-        let freed = table.count.saturating_sub(rows.len());
-        let (held, behind) = table.records.split_at_mut(rows.len());
-        held.copy_from_slice(&rows);
-        behind[..freed].fill(Record::default());
+        let Edited { rows, bytes, place, .. } = self;
         table.area[place..place + bytes.len()].copy_from_slice(&bytes);
+        let named: Vec<Row> = rows.iter().map(|record| record.row_in(table.area)).collect();
+        put_over(table.summary, table.count, &counted_afresh(&named));
+        put_over(table.records, table.count, &rows);
         table.count = rows.len();
     }
+}
+
+/// Puts the values of the rows that are left over those of so many rows; what is freed becomes zero.
+fn put_over<T: Copy + Default>(values: &mut [T], count: usize, left: &[T]) {
+    let freed = count.saturating_sub(left.len());
+    let (held, after) = values.split_at_mut(left.len());
+    held.copy_from_slice(left);
+    after[..freed].fill(T::default());
 }
 
 /// The rows of a table, by name.
@@ -92,7 +103,9 @@ fn edited_rows(table: Records, edit: Edit, name: &[u8]) -> Result<Edited, Denied
         // "is OK for a name with no subscription"
         (Edit::Unsubscribe, None) => {}
     }
-    Ok(Edited { rows: rows.into_values().collect(), bytes, place })
+    let rows: Vec<Record> = rows.into_values().collect();
+    let changed = rows != table.records[..table.count];
+    Ok(Edited { rows, bytes, place, changed })
 }
 
 /// "below a row with no inferiors, or with an unlawful name, it is refused with 14"
@@ -118,7 +131,7 @@ fn place_for(table: Records, length: usize) -> Result<usize, &'static str> {
     if table.count >= MAX_ROWS {
         return Err("a row is inserted where there are under 512");
     }
-    if table.count >= table.records.len() {
+    if table.count >= table.lent() {
         return Err("a row is inserted where a record is spare");
     }
     let mut names: Vec<_> = table.records[..table.count].iter().map(|row| row.place()).collect();

@@ -12,11 +12,21 @@ pub enum Table<'t> {
     Packed(&'t [u8]),
     /// Records beside their names.
     Records(Records<'t>),
+    /// Records that passed, within one walk, whose summary is not counted again: "no edit falls within a walk".
+    Counted(Records<'t>),
 }
 
-impl Table<'_> {
+impl<'t> Table<'t> {
     /// "An empty table passes."
     pub const EMPTY: Table<'static> = Table::Packed(&[]);
+
+    /// The table for the rest of a walk, once it has passed.
+    pub(crate) fn counted(self) -> Table<'t> {
+        match self {
+            Table::Records(records) => Table::Counted(records),
+            other => other,
+        }
+    }
 }
 
 /// Check 1.
@@ -29,5 +39,6 @@ pub fn checked_rows(table: Table<'_>) -> Result<Vec<Row<'_>>, ListFault> {
     match table {
         Table::Packed(bytes) => packed::checked_rows(bytes),
         Table::Records(records) => records.checked_rows(),
+        Table::Counted(records) => records.rows_without_summary(),
     }
 }

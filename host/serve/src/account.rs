@@ -3,18 +3,17 @@
 
 use std::fmt::{self, Display};
 use std::io::{self, Write};
-use std::mem;
 use std::sync::{Mutex, MutexGuard};
 use std::time::Duration;
 
-use luspemaro::{Reader, Refusal};
+use luspemaro::{Answered, Reader, Refusal};
 
 use crate::log::{word_text, Log, Peer};
 use crate::record::Record;
 use crate::review::Review;
 use crate::rooms::Rooms;
 use crate::table::Table;
-use crate::words::{is_edit, own_answer, Own};
+use crate::words::{own_answer, Own};
 
 /// What a command comes to.
 #[derive(Debug, PartialEq, Eq)]
@@ -55,8 +54,9 @@ pub struct Account {
 }
 
 struct State {
-    table: Table,
     /// Where a command is decided.
+    table: Table,
+    /// The same between two commands. It is what the table was before an edit that cannot be written.
     copy: Table,
     keeping: Keeping,
     /// All is written, and nothing is decided any more.
@@ -81,8 +81,8 @@ impl Account {
         vec![0; self.rooms.answer]
     }
 
-    /// Decides one command. It is decided on a copy of the table, then written where it has to be, and
-    /// only then is an edit kept.
+    /// Decides one command. It is decided on the table, then written where it has to be, and only then is an edit
+    /// kept; one that cannot be written is undone. Nothing is copied for a command that changes no row.
     pub fn decide(&self, client: &Client, line: &[u8], out: &mut [u8]) -> Decided {
         match self.lock() {
             Some(state) if state.has_ended => Decided::NotKept(ENDED),
@@ -124,16 +124,18 @@ impl Account {
 
 impl State {
     fn decide(&mut self, client: &Client, line: &[u8], out: &mut [u8]) -> Decided {
-        self.copy.clone_from(&self.table);
-        let answered = self.copy.answer(client.reader, line, out);
+        let answered = self.table.answer(client.reader, line, out);
         let decided = match answered {
-            Ok(length) => Decided::Answered(length),
+            Ok(Answered { length, .. }) => Decided::Answered(length),
             Err(Refusal::Word) => own_answer(line, client.accepts_login)
                 .map_or(Decided::Refused(Refusal::Word), Decided::Own),
             Err(refusal) => Decided::Refused(refusal),
         };
-        let answer = answered.map(|length| &out[..length]);
-        match self.write(client, line, answer, &decided) {
+        let answer = answered.map(|given| &out[..given.length]);
+        let changed = answered.is_ok_and(|given| given.changed);
+        let written = self.write(client, line, answer, &decided, changed);
+        self.settle(answered, written.is_ok());
+        match written {
             Ok(()) => decided,
             Err(why) => {
                 let decided = Decided::NotKept(why);
@@ -147,14 +149,27 @@ impl State {
         }
     }
 
-    /// Writes a command to the record, to the log and, where it is an edit that was made in the copy, to the
-    /// review file; or to none of them.
+    /// Makes table and copy the same again after a command: an edit that is written is made in the copy too, and one
+    /// that is not is undone. For what is refused with 15, names may have been moved together.
+    fn settle(&mut self, answered: Result<Answered, Refusal>, is_written: bool) {
+        match answered {
+            Ok(Answered { changed: true, .. }) if is_written => self.copy.clone_from(&self.table),
+            Ok(Answered { changed: true, .. }) | Err(Refusal::NoRoom) => {
+                self.table.clone_from(&self.copy)
+            }
+            _ => {}
+        }
+    }
+
+    /// Writes a command to the record, to the log and, where it changed a row, to the review file; or to none of
+    /// them.
     fn write(
         &mut self,
         client: &Client,
         line: &[u8],
         answer: Result<&[u8], Refusal>,
         decided: &Decided,
+        changed: bool,
     ) -> Result<(), &'static str> {
         let mut frame = None;
         if let Some(record) = &mut self.keeping.record {
@@ -166,8 +181,8 @@ impl State {
             self.keeping.record.iter_mut().for_each(Record::take_back);
             return Err(NOT_LOGGED);
         }
-        if answer.is_ok() && is_edit(line) {
-            self.keep(line).inspect_err(|_| {
+        if changed {
+            self.review(line).inspect_err(|_| {
                 self.keeping.record.iter_mut().for_each(Record::take_back);
                 self.keeping.log.iter_mut().for_each(Log::take_back);
             })?;
@@ -175,14 +190,13 @@ impl State {
         Ok(())
     }
 
-    /// Keeps the edit that was made in the copy.
-    fn keep(&mut self, line: &[u8]) -> Result<(), &'static str> {
-        if let Some(review) = &mut self.keeping.review {
-            let kept = review.keep(line);
-            kept.map_err(|error| not_written("the review file", &error, NOT_REVIEWED))?;
-        }
-        mem::swap(&mut self.table, &mut self.copy);
-        Ok(())
+    /// Writes an edit to the review file, if there is one.
+    fn review(&mut self, line: &[u8]) -> Result<(), &'static str> {
+        let Some(review) = &mut self.keeping.review else {
+            return Ok(());
+        };
+        let kept = review.keep(line);
+        kept.map_err(|error| not_written("the review file", &error, NOT_REVIEWED))
     }
 
     fn note(
@@ -283,6 +297,99 @@ mod tests {
             review.fail(Fails::default());
             assert_eq!(decide(&account, SUBSCRIBE).is_ok(), fails.add);
         }
+    }
+
+    /// The table, and its copy.
+    fn both(account: &Account) -> [Table; 2] {
+        let state = account.state.lock().expect("a lock");
+        [state.table.clone(), state.copy.clone()]
+    }
+
+    /// A copy that is another table stays so through commands that change no row.
+    #[test]
+    fn a_command_that_changes_no_row_copies_nothing() {
+        let Kept { account, .. } = kept();
+        let other = Table::new(b"\0\x02\xFF\x05Other", b"", Rooms::PROGRAM).expect("a table");
+        let [table, _] = both(&account);
+        account.state.lock().expect("a lock").copy = other.clone();
+        let all = "* LIST () \"/\" \"Foo\"\r\na OK done\r\n";
+        for (line, expected) in [
+            ("a LIST \"\" *\r\n", Ok(all)),
+            ("a LSUB \"\" *\r\n", Ok("a OK done\r\n")),
+            ("a NAMESPACE\r\n", Ok("* NAMESPACE NIL NIL NIL\r\na OK done\r\n")),
+            ("a UNSUBSCRIBE Foo\r\n", Ok("a OK done\r\n")),
+            ("a SUBSCRIBE \"*\"\r\n", Err(())),
+            ("a NOOP\r\n", Err(())),
+        ] {
+            let given = decide(&account, line.as_bytes());
+            assert_eq!(given.as_deref().map_err(drop), expected, "{line}");
+            assert_eq!(both(&account), [table.clone(), other.clone()], "{line}");
+        }
+        assert!(decide(&account, SUBSCRIBE).is_ok());
+        let [table, copy] = both(&account);
+        assert_eq!(table, copy);
+    }
+
+    /// Only what changed a row is written to the review file, by what the library says of it.
+    #[test]
+    fn an_edit_that_changes_no_row_is_not_written() {
+        let Kept { account, review, record, .. } = kept();
+        let mut lines = 0;
+        for (line, changed) in [
+            ("a UNSUBSCRIBE Foo\r\n", false),
+            ("a UNSUBSCRIBE nothing\r\n", false),
+            ("a SUBSCRIBE Foo\r\n", true),
+            ("a SUBSCRIBE Foo\r\n", false),
+            ("a sUbScRiBe {3}\r\nNew\r\n", true),
+            ("a LIST \"\" SUBSCRIBE\r\n", false),
+            ("a UNSUBSCRIBE New\r\n", true),
+        ] {
+            // An edit that changes nothing needs no disk.
+            review.fail(Fails { add: !changed, sync: !changed, ..Fails::default() });
+            assert!(decide(&account, line.as_bytes()).is_ok(), "{line}");
+            lines += usize::from(changed);
+            assert_eq!(review.text().lines().count(), lines, "{line}");
+        }
+        assert_eq!(record.text().lines().count(), 2 * 7);
+    }
+
+    /// A table of which names have to be moved together before a name of 200 bytes finds room: two holes of 100
+    /// bytes, and fewer than 200 free bytes at the end.
+    fn with_holes() -> Table {
+        let name = |row: usize| format!("{row:03}{}", "n".repeat(97));
+        let row = |at: usize| [b"\0\x02\xFF\x64", name(at).as_bytes()].concat();
+        let rows: Vec<u8> = (0..300).flat_map(row).collect();
+        let mut table = Table::new(&rows, b"", Rooms::WIDE).expect("a table");
+        let mut edit = |word: &str, name: &str| {
+            let line = format!("a {word} {name}\r\n");
+            let answered = table.answer(Reader::EDITOR, line.as_bytes(), &mut [0; 20]);
+            assert!(answered.is_ok_and(|given| given.changed), "{name}");
+        };
+        (0..13).for_each(|at| edit("SUBSCRIBE", &format!("{at:02}{}", "e".repeat(198))));
+        [10, 20].iter().for_each(|&at| edit("UNSUBSCRIBE", &name(at)));
+        table
+    }
+
+    /// What was moved and inserted for an edit that cannot be written, or that is refused even so, is put back, to the
+    /// last byte.
+    #[test]
+    fn names_that_were_moved_are_put_back() {
+        let review = Fake::default();
+        let file = FrameFile::new(review.clone(), 0);
+        let keeping = Keeping { review: Some(Review::of_file(file)), ..Keeping::default() };
+        let account = Account::new(with_holes(), keeping);
+        let line = |byte: &str| format!("a SUBSCRIBE {}\r\n", byte.repeat(200)).into_bytes();
+        let before = account.table();
+        review.fail(Fails { add: true, ..Fails::default() });
+        assert_eq!(decide(&account, &line("z")), Err(Decided::NotKept(NOT_REVIEWED)));
+        assert_eq!(account.table(), before);
+        review.fail(Fails::default());
+        assert!(decide(&account, &line("z")).is_ok());
+        let before = account.table();
+        assert_eq!(decide(&account, &line("y")), Err(Decided::Refused(Refusal::NoRoom)));
+        assert_eq!((account.table(), review.text().lines().count()), (before, 1));
+        let [table, copy] = both(&account);
+        assert_eq!(table, copy);
     }
 
     #[test]

@@ -48,7 +48,7 @@ pub use clock::dated;
 pub use connection::{converse, Ending};
 pub use listen::{listen, Limits};
 pub use load::{load, LoadError, Loaded};
-pub use log::{Log, Peer};
+pub use log::{word_text, Log, Peer};
 pub use record::Record;
 pub use review::{Review, ReviewError};
 pub use rooms::{Rooms, THREAD_STACK};

@@ -1,7 +1,7 @@
 //! The review file: the edits that were accepted, so that a later start goes on from them.
 //!
 //! It is a file of frames: a 4D for each row and a 4E for each entry of the table that it belongs to,
-//! then a 43 from reader 0 for each edit, one line each. A line is on the disk before its edit is
+//! then a 43 from reader 0 for each edit that changed a row, one line each. A line is on the disk before its edit is
 //! answered, so bytes after the last LF belong to no edit that was.
 
 use std::error::Error;
@@ -10,7 +10,7 @@ use std::fs::{File, OpenOptions};
 use std::io::{self, BufRead, BufReader, Read};
 use std::path::Path;
 
-use luspemaro::{Reader, Refusal};
+use luspemaro::{Answered, Reader, Refusal};
 use second::frames::{Frame, MAX_DIGITS};
 
 use crate::frame_file::{lock, FrameFile};
@@ -25,7 +25,7 @@ pub struct Review {
 /// What a review file held when it was opened.
 #[derive(Clone, Copy, Debug, Default, PartialEq, Eq)]
 pub struct Replayed {
-    /// How many edits were made again.
+    /// How many edits were made again, each of which changed a row.
     pub edits: u64,
     /// Bytes after the last LF, which are cut off.
     pub cut: u64,
@@ -95,7 +95,7 @@ impl Review {
 fn read_edits(
     file: &File,
     heading: &[u8],
-    mut make: impl FnMut(&[u8]) -> Result<usize, Refusal>,
+    mut make: impl FnMut(&[u8]) -> Result<Answered, Refusal>,
 ) -> Result<Reading, ReviewError> {
     let mut input = BufReader::new(file);
     let mut read =
@@ -111,8 +111,13 @@ fn read_edits(
         };
         if expected.is_empty() {
             let edit = edit_of(text).ok_or(ReviewError::BadLine(number))?;
-            make(&edit).map_err(|refusal| ReviewError::Refused(number, refusal))?;
-            read.replayed.edits += 1;
+            match make(&edit) {
+                Ok(Answered { changed: true, .. }) => read.replayed.edits += 1,
+                _ if !is_edit(&edit) => return Err(ReviewError::BadLine(number)),
+                // Earlier servers wrote an edit that changed no row too.
+                Ok(_) => {}
+                Err(refusal) => return Err(ReviewError::Refused(number, refusal)),
+            }
         } else if expected.starts_with(&line) {
             read.heading_left -= line.len();
         } else {
@@ -123,12 +128,10 @@ fn read_edits(
     }
 }
 
-/// The command of an edit of reader 0.
+/// The command of a frame of reader 0.
 fn edit_of(text: &[u8]) -> Option<Vec<u8>> {
     match Frame::decode(text) {
-        Ok(Frame::Command { reader, line }) if reader == Reader::EDITOR.number() => {
-            is_edit(&line).then_some(line)
-        }
+        Ok(Frame::Command { reader, line }) if reader == Reader::EDITOR.number() => Some(line),
         _ => None,
     }
 }

@@ -66,7 +66,7 @@ mod tests {
         assert_eq!(COMMAND_ROOM, defined("LUSPEMARO_ROOM_COMMAND"));
         assert_eq!(LIST_LINE, defined("LUSPEMARO_ROOM_LIST_LINE"));
         assert_eq!(STACK_ANSWER, defined("LUSPEMARO_STACK_ANSWER"));
-        for entry in ["FEED", "PUT_GO_ON", "COMPACT", "CHECK_RECORDS", "CHECK_TABLE"] {
+        for entry in ["FEED", "PUT_GO_ON", "COMPACT", "SUMMARIZE", "CHECK_RECORDS", "CHECK_TABLE"] {
             assert!(defined(&format!("LUSPEMARO_STACK_{entry}")) <= STACK_ANSWER, "{entry}");
         }
     }

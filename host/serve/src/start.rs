@@ -1,6 +1,6 @@
 //! What is said at the start: the table as it is served, and what an answer may have.
 
-use luspemaro::{Reader, COMMAND_ROOM};
+use luspemaro::{Answered, Reader, COMMAND_ROOM};
 use session::sum_of_bytes;
 
 use crate::rooms::{Rooms, LIST_LINE};
@@ -36,7 +36,7 @@ fn recorded_text(table: &Table, reader: Reader, most: usize) -> String {
     let all = table.clone().answer(reader, ALL, &mut out);
     let all = all.map_or_else(
         |refusal| format!("is refused with {}", refusal.number()),
-        |length| match length {
+        |Answered { length, .. }| match length {
             _ if length > most => format!("has {length} bytes now, and is refused"),
             _ => format!("has {length} bytes now, and is answered"),
         },

@@ -4,8 +4,8 @@ use std::error::Error;
 use std::fmt;
 
 use luspemaro::{
-    answer, check_namespaces, check_records, check_table, compact, Answered, Reader, Record,
-    Records, Refusal,
+    answer, check_namespaces, check_records, check_table, compact, summarize, Answered, Reader,
+    Record, Records, RecordsMut, Refusal, Summary,
 };
 use second::frames::{Frame, TABLE_ROOM};
 use second::namespaces::{checked_entries, entry_at, split_entries};
@@ -24,6 +24,8 @@ pub struct Table {
     records: Vec<Record>,
     count: usize,
     area: Vec<u8>,
+    /// A number for each record, counted at first and kept up to date by the library.
+    summary: Vec<Summary>,
     namespaces: Vec<u8>,
     rooms: Rooms,
 }
@@ -60,10 +62,12 @@ impl Table {
         }
         records.resize(MAX_ROWS, Record::default());
         area.resize(rooms.area, 0);
-        let table =
-            Table { records, count: held.len(), area, namespaces: namespaces.to_vec(), rooms };
-        // Rows that pass in one form pass in the other.
-        if !check_records(table.records()) {
+        let (count, summary) = (held.len(), vec![Summary::default(); MAX_ROWS]);
+        let namespaces = namespaces.to_vec();
+        let mut table = Table { records, count, area, summary, namespaces, rooms };
+        let counted = summarize(&table.records, count, &table.area, &mut table.summary);
+        // Rows that pass in one form pass in the other, with the summary that is counted of them.
+        if counted.is_err() || !check_records(table.records()) {
             return Err(TableError::Refused(Refusal::Table, "as records".to_string()));
         }
         Ok(table)
@@ -86,7 +90,8 @@ impl Table {
 
     /// The records, as the library's walk takes them.
     pub fn records(&self) -> Records<'_> {
-        Records { records: &self.records, count: self.count, area: &self.area }
+        let Table { records, count, area, summary, .. } = self;
+        Records { records, count: *count, area, summary }
     }
 
     /// The rows in their packed form.
@@ -102,23 +107,23 @@ impl Table {
         rows.chain(entries).flat_map(|frame| [frame.encode(), b"\n".to_vec()].concat()).collect()
     }
 
-    /// One command of a reader, answered at the front of `out`; the length of the answer. An edit that
-    /// is accepted changes the rows. A refusal changes none.
+    /// One command of a reader, answered at the front of `out`. Rows change exactly if the answer says so. What is
+    /// refused with 15 may leave the names moved together, and nothing else changes memory.
     pub fn answer(
         &mut self,
         reader: Reader,
         line: &[u8],
         out: &mut [u8],
-    ) -> Result<usize, Refusal> {
+    ) -> Result<Answered, Refusal> {
         let given = match self.answer_once(reader, line, out) {
             Err(Refusal::NoRoom) if self.rooms.compacts => {
-                compact(&mut self.records, self.count, &mut self.area)?;
+                compact(&mut self.records, self.count, &mut self.area, &self.summary)?;
                 self.answer_once(reader, line, out)?
             }
             given => given?,
         };
         self.count = given.count;
-        Ok(given.length)
+        Ok(given)
     }
 
     fn answer_once(
@@ -127,8 +132,9 @@ impl Table {
         line: &[u8],
         out: &mut [u8],
     ) -> Result<Answered, Refusal> {
-        let Table { records, count, area, namespaces, .. } = self;
-        answer(reader, records, *count, area, namespaces, line, out)
+        let Table { records, count, area, summary, namespaces, .. } = self;
+        let table = RecordsMut { records, count: *count, area, summary };
+        answer(reader, table, namespaces, line, out)
     }
 
     fn rows(&self) -> impl Iterator<Item = Row<'_>> {

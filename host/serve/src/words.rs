@@ -54,7 +54,8 @@ pub fn bare_lf_hint() -> Vec<u8> {
     ])
 }
 
-/// Whether the word of a line that the library has accepted is that of an edit.
+/// Whether the word of a line is that of an edit. What an edit changed is the library's to say; this tells what a line
+/// of a review file is that changed no row.
 pub fn is_edit(line: &[u8]) -> bool {
     Start::of(line).is_some_and(|start| start.is_word("SUBSCRIBE") || start.is_word("UNSUBSCRIBE"))
 }

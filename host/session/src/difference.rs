@@ -55,6 +55,25 @@ impl Difference {
     }
 }
 
+/// The lines of an answer that was given and of the one that is due, where they differ, as text.
+#[derive(Clone, Debug, Default, PartialEq, Eq)]
+pub struct Apart {
+    /// Those that are due and were not given.
+    pub missing: Vec<String>,
+    /// Those that were given and are not due.
+    pub added: Vec<String>,
+}
+
+impl Apart {
+    pub fn between(given: &[u8], due: &[u8]) -> Apart {
+        let (given, due) = (lines_of(given), lines_of(due));
+        let shown = |lines: Vec<&[u8]>| lines.into_iter().map(line_and_text).collect();
+        let [missing, added] =
+            [those_only_in(&due, &given), those_only_in(&given, &due)].map(shown);
+        Apart { missing, added }
+    }
+}
+
 /// What the second program gives where the program gives a refusal.
 fn lost_lines(second: &Reply) -> Vec<String> {
     match second {

@@ -47,6 +47,11 @@ pub struct Stored {
 type Origins = Vec<(usize, u64)>;
 
 impl Stored {
+    /// What a program has stored; of which lines it is, is not known.
+    pub fn of_program(program: Program) -> Stored {
+        Stored { program, ..Stored::default() }
+    }
+
     /// The second program, with what it has stored.
     pub fn program(&self) -> &Program {
         &self.program

@@ -57,6 +57,7 @@ mod reply;
 mod report;
 mod rooms;
 mod run;
+mod says;
 mod session;
 mod sha256;
 mod show;
@@ -68,7 +69,9 @@ mod verdict;
 mod words;
 
 pub use data::{name_members, row_members};
+pub use difference::Apart;
 pub use error::{BadLine, SessionError};
+pub use explain::UNPROVED;
 pub use faults::{list_fault_text, table_fault};
 pub use form::Form;
 pub use item::{Content, Item, Origin, Sent};
@@ -76,16 +79,18 @@ pub use json::Json;
 pub use large::{make_ready, BUILD};
 pub use new_file::{is_same_file, NewFile};
 pub use ran::{sum_of_file, Library, Programs};
-pub use report::{date_text, now, Facts, Matter, Report, Versions};
+pub use report::html;
+pub use report::{date_text, now, page_of, Facts, Matter, Report, Versions};
 pub use rooms::{ROOM_ANSWER, ROOM_FOUND, ROOM_PENDING, ROOM_SCRATCH};
 pub use run::{run_reported, run_session, RunError};
+pub use says::second_says;
 pub use session::Session;
-pub use sha256::{sum_of, sum_of_bytes, Sum};
+pub use sha256::{sum_of, sum_of_bytes, Sum, Summing};
 pub use show::{
     beside, counted, row_text, said_text, show_answer, show_frame, show_namespaces, show_table,
     Shown,
 };
-pub use source::Source;
+pub use source::{next_line, Line, Source};
 pub use summary::Summary;
 pub use text::{comment_text, line_text, name_text, path_text, quoted_text, shortened};
 pub use utf7::decoded;

@@ -36,7 +36,7 @@ const ROUNDS: [u32; 64] = [
 
 /// The sum of all that can be read.
 pub fn sum_of(mut input: impl Read) -> io::Result<Sum> {
-    let mut state = State { hash: START, partial: Vec::new(), length: 0 };
+    let mut state = Summing::default();
     let mut bytes = vec![0; READ_AT_ONCE];
     loop {
         match input.read(&mut bytes) {
@@ -50,12 +50,13 @@ pub fn sum_of(mut input: impl Read) -> io::Result<Sum> {
 
 /// The sum of bytes.
 pub fn sum_of_bytes(bytes: &[u8]) -> Sum {
-    let mut state = State { hash: START, partial: Vec::new(), length: 0 };
+    let mut state = Summing::default();
     state.add(bytes);
     state.finished()
 }
 
-struct State {
+/// A sum under way, of what comes in pieces.
+pub struct Summing {
     hash: [u32; 8],
     /// What is no whole block yet.
     partial: Vec<u8>,
@@ -63,8 +64,14 @@ struct State {
     length: u64,
 }
 
-impl State {
-    fn add(&mut self, bytes: &[u8]) {
+impl Default for Summing {
+    fn default() -> Summing {
+        Summing { hash: START, partial: Vec::new(), length: 0 }
+    }
+}
+
+impl Summing {
+    pub fn add(&mut self, bytes: &[u8]) {
         self.length += bytes.len() as u64;
         self.partial.extend_from_slice(bytes);
         let whole = self.partial.len() / BLOCK * BLOCK;
@@ -75,7 +82,7 @@ impl State {
     }
 
     /// A bit 1, bits 0, and the length in bits fill the last block.
-    fn finished(mut self) -> Sum {
+    pub fn finished(mut self) -> Sum {
         let bits = self.length.wrapping_mul(8);
         let used = self.partial.len() + 1 + LENGTH;
         let mut end = vec![0x80];

@@ -1,87 +1,98 @@
--- `collect_words` meets its contract: what `run` left, and zeros where it was refused; demand 3 follows from the equations (`WholeLaws`).
-use Rattle.listing_rules.proofs.Prelude.{_∙_, _≡_, refl, subst, sym, map, needs}
-use Rattle.listing_rules.specs.Walk.{WalkReply, collectedBy}
-use Rattle.listing_rules.proofs.ReaderLaws.{records-seen-passes}
-use Rattle.collector.specs.Ends.{Comes}
-use Rattle.collector.specs.declared.Collected.{Collected}
-use Rattle.records.specs.Words.{recordOf}
-use Rattle.records.specs.Lent.{wordTable, wordSeen}
-use Rattle.collector.proofs.PackLaws.{cleared}
-use Rattle.collector.proofs.WholeLaws.{collected-by-long, Promise, promise-refused, promise-done}
+-- `collect_words` meets its contract: refusals 16 and 1, and the walk over the index of the table that passes with its summary (`collect_index`). By
+-- HeldLaws; the index by HeldLaws of mailbox_table; demand 3 by WholeLaws.
+use Rattle.listing_rules.proofs.Prelude.{_∙_, _≡_, ap, arith, length, take, le-leb, needs}
+use Rattle.listing_rules.specs.Table.{passes}
+use Rattle.listing_rules.specs.Readers.{isReader}
+use Rattle.listing_rules.proofs.SummaryAlike.{summed-seen-passes}
+use Rattle.records.specs.Lent.{wordsSummed, wordsTable, wordsSeen}
+use Rattle.mailbox_table.specs.Seen.{seenWords}
+use Rattle.mailbox_table.proofs.HeldLaws.{Held, index-held, index-refused}
+use Rattle.collector.specs.Held.{heldTable}
+use Rattle.collector.proofs.HeldLaws.{summed-held}
+use Rattle.collector.proofs.WholeLaws.{promised, promised-same, collects-refused, refuses-reader, refuses-table}
 use Rattle.collector.proofs.collect_words.Statement.{statement}
 use Rattle.collector.proofs.collect_words.Tie as tie
 
-run-requires : tie.Need-run-requires
-run-requires c κs =
-    let pending = c .before .before .before .before .before in
-    let found = pending .before .before .before .before in
-    let args = found .before .before .before .before .before .before .before .args in
-    (cleared (args .found .now) (sym (found .clear .kept .0)) (found .clear .ensures), cleared (args .pending .now) (sym (pending .clear2 .kept .0)) (pending .clear2 .ensures))
-
--- what the walk gives, by the buffers as they were lent
-same-reply : (c : tie.After-run) →
-    let pending = c .before .before .before .before .before .before in
-    let found = pending .before .before .before .before in
-    let args = found .before .before .before .before .before .before .before .args in
-    let seen = wordSeen (args .reader) (args .area .now) (args .words .now) (args .count) in
-    collectedBy (args .reader) seen (args .option) (args .scratch .now) (found .clear .last .0) (pending .clear2 .last .0) ≡
-    collectedBy (args .reader) seen (args .option) (args .scratch .now) (args .found .now) (args .pending .now)
-same-reply c =
-    let pending = c .before .before .before .before .before .before in
-    let found = pending .before .before .before .before in
-    let args = found .before .before .before .before .before .before .before .args in
-    collected-by-long (args .reader) (wordSeen (args .reader) (args .area .now) (args .words .now) (args .count)) (args .option) (args .scratch .now)
-    (args .found .now) (args .pending .now) (args .scratch .now) (found .clear .last .0) (pending .clear2 .last .0) refl (found .clear .kept .0)
-    (pending .clear2 .kept .0)
-
 returns : tie.Need-returns
 returns c =
-    let after-clear4 = c .before .before .before .before .before .before in
-    let told = after-clear4 .before .before .before in
-    let scratch = told .before .before .before .before in
-    let ran = scratch .before .before .before .before .before .before .before .before in
-    let args =
-    ran .before .before .before .before .before .before .before .before .before .before .before .before .before .before .before .before .before .args in
-    let last = ran .run .last .1 .1 .1 .1 .1 in
-    let kept = ran .run .kept .1 .1 .1 .1 .1 in
-    promise-refused (args .reader) (wordTable (args .area .now) (args .words .now) (args .count))
-    (wordSeen (args .reader) (args .area .now) (args .words .now) (args .count)) (args .option) (args .scratch .now) (args .found .now)
-    (args .pending .now)
-    (records-seen-passes (args .reader) (args .area .now) (map recordOf (args .words .now)) (args .count))
-    (cleared (last .0) (kept .0) (scratch .clear3 .ensures))
-    refl
-    (sym (same-reply ran) ∙ (rw (told .result .given .1) at (ran .run .ensures)))
-    (cleared (last .1 .0) (kept .1 .0 ∙ ran .before .before .before .before .before .before .before .before .before .before .clear .kept .0)
-    (after-clear4 .clear4 .ensures))
-    (cleared (last .1 .1 .0) (kept .1 .1 .0 ∙ ran .before .before .before .before .before .before .clear2 .kept .0)
-    (c .before .before .clear5 .ensures))
+    let refused = c .before .before .before .before .before .before in
+    let above = refused .before .before .before .before in
+    let start = above .before .before .before .before .before .before .before in
+    let a = start .args in
+    let ends = refused .refuse .ensures in
+    let t = wordsSeen (a .reader) (a .words .now) (a .count) (a .area .now) (a .sums .now) in
+    promised (a .reader) (wordsTable (a .words .now) (a .count) (a .area .now) (a .sums .now)) t (a .option) (a .scratch .now) (a .found .now)
+    (a .pending .now) (summed-seen-passes (a .reader) (wordsSummed (a .words .now) (a .count) (a .area .now) (a .sums .now))) _ _ _ _
+    (collects-refused (a .reader) t (a .option) (a .scratch .now) (a .found .now) (a .pending .now) (ends .1) (ends .0)
+    (refuses-reader (a .reader) t (a .option) (a .scratch .now) (a .found .now) (a .pending .now) (omega (arith, above .if1 .taken)))
+    (ends .2) (ends .3))
 
 returns-2 : tie.Need-returns-2
 returns-2 c =
-    let scratch = c .before .before .before .before in
-    let told = c .enum-told .given in
-    let ran = scratch .before .before .before .before .before .before .before .before in
-    let args =
-    ran .before .before .before .before .before .before .before .before .before .before .before .before .before .before .before .before .before .args in
-    let last = ran .run .last .1 .1 .1 .1 .1 in
-    let kept = ran .run .kept .1 .1 .1 .1 .1 in
-    subst
-    (λ (r : Collected). Promise (args .reader) (wordTable (args .area .now) (args .words .now) (args .count))
-    (wordSeen (args .reader) (args .area .now) (args .words .now) (args .count)) (args .option) (args .scratch .now) (args .found .now)
-    (args .pending .now) r (scratch .clear3 .last .0) (last .1 .0) (last .1 .1 .0))
-    (sym (told .1))
-    (promise-done (args .reader) (wordTable (args .area .now) (args .words .now) (args .count))
-    (wordSeen (args .reader) (args .area .now) (args .words .now) (args .count)) (args .option) (args .scratch .now) (args .found .now)
-    (args .pending .now)
-    (records-seen-passes (args .reader) (args .area .now) (map recordOf (args .words .now)) (args .count))
-    (cleared (last .0) (kept .0) (scratch .clear3 .ensures))
-    (subst (λ (w : WalkReply). Comes w (last .1 .0) (last .1 .1 .0) (told .0 .0) (told .0 .1 .0)) (same-reply ran)
-    (rw (told .1) at (ran .run .ensures)))
-    (kept .1 .0 ∙ ran .before .before .before .before .before .before .before .before .before .before .clear .kept .0)
-    (kept .1 .1 .0 ∙ ran .before .before .before .before .before .before .clear2 .kept .0))
+    let refused = c .before .before .before .before .before .before in
+    let told = refused .before .before .before .before in
+    let indexed = told .before .before .before in
+    let made = indexed .before .before in
+    let reader = made .before in
+    let start = reader .before .before .before .before .before .before .before in
+    let a = start .args in
+    let ends = refused .refuse2 .ensures in
+    let t = wordsSeen (a .reader) (a .words .now) (a .count) (a .area .now) (a .sums .now) in
+    let alike = summed-seen-passes (a .reader) (wordsSummed (a .words .now) (a .count) (a .area .now) (a .sums .now)) in
+    let fails = index-refused (indexed .index-summed .ensures) (ap length (made .no-words .ensures)) (told .enum-told .given .1) in
+    promised (a .reader) (wordsTable (a .words .now) (a .count) (a .area .now) (a .sums .now)) t (a .option) (a .scratch .now) (a .found .now)
+    (a .pending .now) alike _ _ _ _
+    (collects-refused (a .reader) t (a .option) (a .scratch .now) (a .found .now) (a .pending .now) (ends .1) (ends .0)
+    (refuses-table (a .reader) t (a .option) (a .scratch .now) (a .found .now) (a .pending .now) (omega (arith, reader .if1 .left)) (alike ∙ fails))
+    (ends .2) (ends .3))
+
+-- the rows, where they are found
+known : (c : tie.After-n) → Held (c .before .before .before .index-summed .ensures) (c .n .given .0 .0)
+known c = index-held (c .before .before .before .index-summed .ensures) (c .n .given .0 .0) (c .n .given .1)
+
+-- those of them that the reader sees are the table that it sees
+seen : (c : tie.After-n) →
+    let start = c .before .before .before .before .before .before .before .before .before .before .before .before .before in
+    let a = start .args in
+    heldTable (a .area .now) (seenWords (a .reader) (take (c .n .given .0 .0) (c .before .before .before .index-summed .last .1 .1 .1 .1 .0)))
+    ≡ wordsSeen (a .reader) (a .words .now) (a .count) (a .area .now) (a .sums .now)
+seen c =
+    let start = c .before .before .before .before .before .before .before .before .before .before .before .before .before in
+    let a = start .args in
+    summed-held (a .reader) (a .words .now) (a .count) (a .area .now) (a .sums .now)
+    (take (c .n .given .0 .0) (c .before .before .before .index-summed .last .1 .1 .1 .1 .0)) (known c .table-passes) (known c .told)
+
+array-borrow-prefix-rows : tie.Need-array-borrow-prefix-rows
+array-borrow-prefix-rows c = known (c .before) .inside
+
+slice-aggregate-collect-index : tie.Need-slice-aggregate-collect-index
+slice-aggregate-collect-index c = known (c .before .before) .size
+
+collect-index-requires : tie.Need-collect-index-requires
+unfolding isReader
+collect-index-requires c κs =
+    let found = c .before .before .before .before .before in
+    let at-if1 = found .before .before .before .before .before .before in
+    let start = at-if1 .before .before .before .before .before .before .before in
+    let a = start .args in
+    let alike = summed-seen-passes (a .reader) (wordsSummed (a .words .now) (a .count) (a .area .now) (a .sums .now)) in
+    (le-leb (a .reader) 7 (at-if1 .if1 .left), ap passes (seen found) ∙ alike ∙ known found .table-passes)
+
+returns-3 : tie.Need-returns-3
+returns-3 c =
+    let walked = c .before .before .before .before .before .before .before in
+    let found = walked .before .before .before .before .before .before in
+    let start = found .before .before .before .before .before .before .before .before .before .before .before .before .before in
+    let a = start .args in
+    let last = walked .collect-index .last .1 .1 .1 .1 in
+    promised-same (a .reader) (wordsTable (a .words .now) (a .count) (a .area .now) (a .sums .now))
+    (wordsSeen (a .reader) (a .words .now) (a .count) (a .area .now) (a .sums .now)) (a .option) (a .scratch .now) (a .found .now) (a .pending .now)
+    (summed-seen-passes (a .reader) (wordsSummed (a .words .now) (a .count) (a .area .now) (a .sums .now))) (walked .collect-index .result) (last .0)
+    (last .1 .0) (last .1 .1 .0) (seen found) (walked .collect-index .ensures)
 
 pub collect-words-spec : {M : Type 1} → statement M
 collect-words-spec =
-    tie.close (tie.spec (λ c κs. search needs) (λ c κs. search needs) run-requires (λ c κs. search needs) (λ c. search needs) (λ c κs. search needs)
-    (λ c κs. search needs) (λ c. search needs) (λ c. search needs) (λ c. search needs) returns (λ c. search needs) (λ c. search needs)
-    (λ c. search needs) (λ c. search needs) returns-2)
+    tie.close (tie.spec (λ c κs. search needs) (λ c. search needs) (λ c. search needs) (λ c. search needs) returns (λ c κs. search needs)
+    (λ c. search needs) (λ c κs. search needs) (λ c. search needs) (λ c. search needs) (λ c κs. search needs) (λ c. search needs) (λ c. search needs)
+    (λ c. search needs) returns-2 array-borrow-prefix-rows slice-aggregate-collect-index collect-index-requires (λ c. search needs)
+    (λ c. search needs) (λ c. search needs) returns-3)

@@ -1,7 +1,8 @@
 -- `exports::luspemaro_answer` meets its contract: a walk of its MIR, by hand. The records are lent as `&` to `copy_in`, and come back; the local array is lent to each callee
 -- for a lifetime of the call, and comes back; `answer_words` has the bytes for good, and `copy_back` the records. All that the proof knows of the callees is that they
 -- meet their contracts; that these give what is promised is `answers` of StoreLaws.
-use Rattle.listing_rules.proofs.Prelude.{_≡_, refl, sym, ap, subst, _∙_, ℕ, _<_, _^_, List, [], _∷_, map, length, take, replicate, T as Holds, lit<}
+use Rattle.listing_rules.proofs.Prelude.{_≡_, refl, sym, ap, subst, _∙_, ℕ, _<_, _^_, min, List, [], _∷_, map, length, take, replicate, T as Holds}
+use Rattle.listing_rules.proofs.Prelude.{lit<, arith}
 use Rattle.records.proofs.Logic.{URA, fullShare, named, w8, w64, tyInt, tyUnit, tyArray, Val, WT, hasTy, vint, vunit, SProp, ent, emp, via, fst∗, id⊢}
 use Rattle.records.proofs.Logic.{flent, Lft, GName, Share, ftrue, fat, flft, Memory, Routine, Heap, Calls, Loops, WpFn, Tables, Atoms, Fun, fact}
 use Rattle.records.proofs.Logic.{givenOf, tables, tablesOf, FmC, fmOf, WpFn-mono, Given, ‵, raw, some, later, use0, _⊛_, ⋆, _$_, _∵_, !, qed, by}
@@ -17,10 +18,11 @@ use denote.Struct.Laws as LL
 use Rattle.records.proofs.Local.{lends-local, local-back, shares-local, shared-back}
 use Rattle.records.proofs.Record as T
 use denote.Plain.{Nothing}
-use Rattle.listing_rules.specs.Server.{Commanded, bufferAfter}
 use Rattle.records.specs.declared.Record.{Record}
 use Rattle.records.specs.Words.{recordOf, meant}
-use Rattle.records.specs.Stores.{lentCommand, wordCommand, Between}
+use Rattle.records.specs.Numbers.{summaryOf}
+use Rattle.records.specs.Lent.{lentOf}
+use Rattle.records.specs.Stores.{Handed, lentCommand, wordCommand, Between}
 use Rattle.records.proofs.Relend.{SharedAgain, shares-again, again-back}
 use Rattle.records.proofs.StoreLaws.{Copied, CopiedBack, Answers, answers}
 use Rattle.records.proofs.Clauses.{says-each}
@@ -30,6 +32,7 @@ use Rattle.exports.proofs.outcomes.Done.Laws as D′
 use Rattle.exports.specs.declared.outcomes.Outcome.{Outcome}
 use Rattle.exports.proofs.outcomes.Outcome as R
 use Rattle.exports.proofs.outcomes.Outcome.Laws as R′
+use Rattle.listing_rules.specs.Server.{bufferAfter}
 use Rattle.exports.specs.Outcomes.{outcomeOf}
 use Rattle.records.proofs.no_words as no-words
 use Rattle.records.proofs.no_words.Symbol as no-words-def
@@ -61,7 +64,13 @@ stayed = (
       stay-none (λ _. u8) yes,
       (
         gave-slice (1 ∷ []) tt (plain (λ _. u8)),
-        (stay-none-slice (2 ∷ []) tt (plain (λ _. u8)) yes, (stay-none-slice (3 ∷ []) tt (plain (λ _. u8)) yes, (gave-slice (4 ∷ []) tt (plain (λ _. u8)), tt))),
+        (
+          gave-slice (2 ∷ []) tt (plain (λ _. u64)),
+          (
+            stay-none-slice (3 ∷ []) tt (plain (λ _. u8)) yes,
+            (stay-none-slice (4 ∷ []) tt (plain (λ _. u8)) yes, (gave-slice (5 ∷ []) tt (plain (λ _. u8)), tt)),
+          ),
+        ),
       ),
     ),
   ),
@@ -106,13 +115,15 @@ field-from r v is = LL.owed D.the-type D′.the-laws r (v ∷ []) is .1 .0 .1
 field-to : (r : Done) (v : Val) → Is D.the-row r (v ∷ []) → r .to < 2 ^ 64
 field-to r v is = LL.owed D.the-type D′.the-laws r (v ∷ []) is .1 .1 .0 .1
 
-module _ {M : Type 1} (𝓤 : URA M) (H : Heap 𝓤) (A : Atoms 𝓤) (W : Given 𝓤 H A) (mem : Memory → SProp 𝓤) (run : Routine → Fun 𝓤) (κ₀ κ₁ κ₂ κ₃ κ₄ : Lft)
-    (q₀ q₁ q₂ q₃ q₄ : Share) (b₀ o₀ : ℕ) (γ₀ : GName) (records : List Record) (count : ℕ) (reader : ℕ) (b₁ o₁ : ℕ) (γ₁ : GName) (area : List ℕ)
-    (b₂ o₂ : ℕ) (γ₂ : GName) (namespaces : List ℕ) (b₃ o₃ : ℕ) (γ₃ : GName) (line : List ℕ) (b₄ o₄ : ℕ) (γ₄ : GName) (out : List ℕ)
+module _ {M : Type 1} (𝓤 : URA M) (H : Heap 𝓤) (A : Atoms 𝓤) (W : Given 𝓤 H A) (mem : Memory → SProp 𝓤) (run : Routine → Fun 𝓤)
+    (κ₀ κ₁ κ₂ κ₃ κ₄ κ₅ : Lft) (q₀ q₁ q₂ q₃ q₄ q₅ : Share) (b₀ o₀ : ℕ) (γ₀ : GName) (records : List Record) (count : ℕ) (reader : ℕ) (b₁ o₁ : ℕ)
+    (γ₁ : GName) (area : List ℕ) (b₂ o₂ : ℕ) (γ₂ : GName) (summary : List ℕ) (b₃ o₃ : ℕ) (γ₃ : GName) (namespaces : List ℕ) (b₄ o₄ : ℕ) (γ₄ : GName)
+    (line : List ℕ) (b₅ o₅ : ℕ) (γ₅ : GName) (out : List ℕ)
     (good-records : Room T.the-row (length records)) (good-count : count < 2 ^ 64) (good-reader : reader < 2 ^ 8) (good-area : Room u8 (length area))
-    (good-namespaces : Room u8 (length namespaces)) (good-line : Room u8 (length line)) (good-out : Room u8 (length out)) where
+    (good-summary : Room u64 (length summary)) (good-namespaces : Room u8 (length namespaces)) (good-line : Room u8 (length line))
+    (good-out : Room u8 (length out)) where
   abbrev Arg : Type 0
-  Arg = RefT (List Record) × (ℕ × (ℕ × (RefT (List ℕ) × (RefT (List ℕ) × (RefT (List ℕ) × (RefT (List ℕ) × (Unit {0})))))))
+  Arg = RefT (List Record) × (ℕ × (ℕ × (RefT (List ℕ) × (RefT (List ℕ) × (RefT (List ℕ) × (RefT (List ℕ) × (RefT (List ℕ) × (Unit {0}))))))))
 
   abbrev x : Arg
   x = (
@@ -123,80 +134,108 @@ module _ {M : Type 1} (𝓤 : URA M) (H : Heap 𝓤) (A : Atoms 𝓤) (W : Given
         reader,
         (
           record { ptr = (b₁, o₁); name = γ₁; now = area },
-          (record { ptr = (b₂, o₂); name = γ₂; now = namespaces }, (record { ptr = (b₃, o₃); name = γ₃; now = line }, (record { ptr = (b₄, o₄); name = γ₄; now = out }, tt))),
+          (
+            record { ptr = (b₂, o₂); name = γ₂; now = summary },
+            (
+              record { ptr = (b₃, o₃); name = γ₃; now = namespaces },
+              (record { ptr = (b₄, o₄); name = γ₄; now = line }, (record { ptr = (b₅, o₅); name = γ₅; now = out }, tt)),
+            ),
+          ),
         ),
       ),
     ),
   )
 
-  abbrev at : Vals luspemaro-answer.signature (κ₀, (κ₁, (κ₂, (κ₃, (κ₄, tt)))))
+  abbrev at : Vals luspemaro-answer.signature (κ₀, (κ₁, (κ₂, (κ₃, (κ₄, (κ₅, tt))))))
   at = (
     sliceVal (b₀, o₀) (length records) ∷ [],
     (
       vint w64 count ∷ [],
-      (vint w8 reader ∷ [], (sliceVal (b₁, o₁) (length area) ∷ [], (sliceVal (b₂, o₂) (length namespaces) ∷ [], (sliceVal (b₃, o₃) (length line) ∷ [], (sliceVal (b₄, o₄) (length out) ∷ [], tt))))),
+      (
+        vint w8 reader ∷ [],
+        (
+          sliceVal (b₁, o₁) (length area) ∷ [],
+          (sliceVal (b₂, o₂) (length summary) ∷ [], (sliceVal (b₃, o₃) (length namespaces) ∷ [], (sliceVal (b₄, o₄) (length line) ∷ [], (sliceVal (b₅, o₅) (length out) ∷ [], tt)))),
+        ),
+      ),
     ),
   )
 
   abbrev Post : Val → SProp 𝓤
   Post =
       walkOf 𝓤 H A luspemaro-answer.ended stayed (luspemaro-answer.clauses 𝓤 H A mem run) .post
-      (((κ₀, (κ₁, (κ₂, (κ₃, (κ₄, tt))))), (q₀, (q₁, (q₂, (q₃, (q₄, tt))))), tt, x, at), tt)
+      (((κ₀, (κ₁, (κ₂, (κ₃, (κ₄, (κ₅, tt)))))), (q₀, (q₁, (q₂, (q₃, (q₄, (q₅, tt)))))), tt, x, at), tt)
 
   -- the records under another ghost name
   abbrev shown : GName → RefT (List Record)
   shown δ = record { ptr = (b₀, o₀); name = δ; now = records }
 
   -- what is promised of what comes of it, and that it is so of what is the same
-  abbrev Says-result : Commanded → Outcome → List ℕ → List ℕ → Type 0
-  Says-result c r area′ out′ = r ≡ outcomeOf (c .reply) (c .store .count)
+  abbrev Says-result : Handed → Outcome → List ℕ → List ℕ → List ℕ → Type 0
+  Says-result c r area′ summary′ out′ = r ≡ outcomeOf (c .reply) (c .changed) (c .count)
 
-  abbrev Says-bytes : Commanded → Outcome → List ℕ → List ℕ → Type 0
-  Says-bytes c r area′ out′ = out′ ≡ bufferAfter out (c .reply)
+  abbrev Says-bytes : Handed → Outcome → List ℕ → List ℕ → List ℕ → Type 0
+  Says-bytes c r area′ summary′ out′ = out′ ≡ bufferAfter out (c .reply)
 
-  abbrev Says-area : Commanded → Outcome → List ℕ → List ℕ → Type 0
-  Says-area c r area′ out′ = area′ ≡ c .store .area
+  abbrev Says-area : Handed → Outcome → List ℕ → List ℕ → List ℕ → Type 0
+  Says-area c r area′ summary′ out′ = area′ ≡ c .area
 
-  module _ (c d : Commanded) (records′ : List Record) (a : Answers c d records′) (r : Outcome) (area′ : List ℕ) (out′ : List ℕ) where
-    moved-result : Says-result c r area′ out′ → Says-result d r area′ out′
-    moved-result e = e ∙ (λ i. outcomeOf (a .reply i) (a .count i))
+  abbrev Says-summary : Handed → Outcome → List ℕ → List ℕ → List ℕ → Type 0
+  Says-summary c r area′ summary′ out′ = map summaryOf summary′ ≡ c .summary
 
-    moved-bytes : Says-bytes c r area′ out′ → Says-bytes d r area′ out′
+  -- all that `copy_in` copied are lent
+  all-lent : (xs us : List ℕ) (n : ℕ) → length xs ≡ 512 → length us ≡ 512 → Copied (length summary) records xs us n → lentOf us n summary ≡ n
+  all-lent xs us n l k c = let e : n ≡ min (length summary) (min (length records) (length xs)) = c .0 in omega (arith, l, k, e)
+
+  module _ (c d : Handed) (records′ : List Record) (a : Answers c d records′) (r : Outcome) (area′ : List ℕ) (summary′ : List ℕ) (out′ : List ℕ) where
+    moved-result : Says-result c r area′ summary′ out′ → Says-result d r area′ summary′ out′
+    moved-result e = e ∙ (λ i. outcomeOf (a .reply i) (a .changed i) (a .count i))
+
+    moved-bytes : Says-bytes c r area′ summary′ out′ → Says-bytes d r area′ summary′ out′
     moved-bytes e = e ∙ ap (bufferAfter out) (a .reply)
 
-    moved-area : Says-area c r area′ out′ → Says-area d r area′ out′
+    moved-area : Says-area c r area′ summary′ out′ → Says-area d r area′ summary′ out′
     moved-area e = e ∙ a .area
 
-  exits : (r : Outcome) (v : Val) (records′ : List Record) (area′ : List ℕ) (out′ : List ℕ) (c : Commanded) →
-      Answers c (lentCommand records count reader area namespaces line out) records′ → Says-result c r area′ out′ → Says-bytes c r area′ out′ →
-      Says-area c r area′ out′ → length records′ ≡ length records → length area′ ≡ length area → length out′ ≡ length out →
-      ent 𝓤 (⋆ 𝓤 H A (‵ (flft κ₀ q₀) ∷ ‵ (flft κ₁ q₁) ∷ ‵ (flft κ₂ q₂) ∷ ‵ (flft κ₃ q₃) ∷ ‵ (flft κ₄ q₄) ∷ ‵ (finally T.the-row γ₀ records′) ∷
+    moved-summary : Says-summary c r area′ summary′ out′ → Says-summary d r area′ summary′ out′
+    moved-summary e = e ∙ a .summary
+
+  exits : (r : Outcome) (v : Val) (records′ : List Record) (area′ : List ℕ) (summary′ : List ℕ) (out′ : List ℕ) (c : Handed) →
+      Answers c (lentCommand records count reader area summary namespaces line out) records′ → Says-result c r area′ summary′ out′ →
+      Says-bytes c r area′ summary′ out′ → Says-area c r area′ summary′ out′ → Says-summary c r area′ summary′ out′ →
+      length records′ ≡ length records → length area′ ≡ length area → length summary′ ≡ length summary → length out′ ≡ length out →
+      ent 𝓤 (⋆ 𝓤 H A (‵ (flft κ₀ q₀) ∷ ‵ (flft κ₁ q₁) ∷ ‵ (flft κ₂ q₂) ∷ ‵ (flft κ₃ q₃) ∷ ‵ (flft κ₄ q₄) ∷ ‵ (flft κ₅ q₅) ∷
+      ‵ (finally T.the-row γ₀ records′) ∷ ‵ (usize .own count (vint w64 count ∷ [])) ∷ ‵ (u8 .own reader (vint w8 reader ∷ [])) ∷
+      ‵ (finally u8 γ₁ area′) ∷ ‵ (finally u64 γ₂ summary′) ∷ ‵ (ShrSlice (named 3) κ₃ u8 .own (x .1 .1 .1 .1 .1 .0) (at .1 .1 .1 .1 .1 .0)) ∷
+      ‵ (ShrSlice (named 4) κ₄ u8 .own (x .1 .1 .1 .1 .1 .1 .0) (at .1 .1 .1 .1 .1 .1 .0)) ∷ ‵ (finally u8 γ₅ out′) ∷ ‵ (R.the-row .own r (v ∷ [])) ∷
+      [])) (Post v)
+  exits r v records′ area′ summary′ out′ c a s-result s-bytes s-area s-summary l-records l-area l-summary l-out =
+      qed W (‵ (flft κ₀ q₀) ∷ ‵ (flft κ₁ q₁) ∷ ‵ (flft κ₂ q₂) ∷ ‵ (flft κ₃ q₃) ∷ ‵ (flft κ₄ q₄) ∷ ‵ (flft κ₅ q₅) ∷ ‵ (finally T.the-row γ₀ records′) ∷
       ‵ (usize .own count (vint w64 count ∷ [])) ∷ ‵ (u8 .own reader (vint w8 reader ∷ [])) ∷ ‵ (finally u8 γ₁ area′) ∷
-      ‵ (ShrSlice (named 2) κ₂ u8 .own (x .1 .1 .1 .1 .0) (at .1 .1 .1 .1 .0)) ∷
-      ‵ (ShrSlice (named 3) κ₃ u8 .own (x .1 .1 .1 .1 .1 .0) (at .1 .1 .1 .1 .1 .0)) ∷ ‵ (finally u8 γ₄ out′) ∷ ‵ (R.the-row .own r (v ∷ [])) ∷ []))
-      (Post v)
-  exits r v records′ area′ out′ c a s-result s-bytes s-area l-records l-area l-out =
-      qed W (‵ (flft κ₀ q₀) ∷ ‵ (flft κ₁ q₁) ∷ ‵ (flft κ₂ q₂) ∷ ‵ (flft κ₃ q₃) ∷ ‵ (flft κ₄ q₄) ∷ ‵ (finally T.the-row γ₀ records′) ∷
-      ‵ (usize .own count (vint w64 count ∷ [])) ∷ ‵ (u8 .own reader (vint w8 reader ∷ [])) ∷ ‵ (finally u8 γ₁ area′) ∷
-      ‵ (ShrSlice (named 2) κ₂ u8 .own (x .1 .1 .1 .1 .0) (at .1 .1 .1 .1 .0)) ∷
-      ‵ (ShrSlice (named 3) κ₃ u8 .own (x .1 .1 .1 .1 .1 .0) (at .1 .1 .1 .1 .1 .0)) ∷ ‵ (finally u8 γ₄ out′) ∷ ‵ (R.the-row .own r (v ∷ [])) ∷
-      []) ∵
+      ‵ (finally u64 γ₂ summary′) ∷ ‵ (ShrSlice (named 3) κ₃ u8 .own (x .1 .1 .1 .1 .1 .0) (at .1 .1 .1 .1 .1 .0)) ∷
+      ‵ (ShrSlice (named 4) κ₄ u8 .own (x .1 .1 .1 .1 .1 .1 .0) (at .1 .1 .1 .1 .1 .1 .0)) ∷ ‵ (finally u8 γ₅ out′) ∷
+      ‵ (R.the-row .own r (v ∷ [])) ∷ []) ∵
       suffices ! _ (ends-at 𝓤 H A luspemaro-answer.ended stayed (luspemaro-answer.clauses 𝓤 H A mem run) W
-      (((κ₀, (κ₁, (κ₂, (κ₃, (κ₄, tt))))), (q₀, (q₁, (q₂, (q₃, (q₄, tt))))), tt, x, at), tt) v r
-      (records′, (tt, (tt, (area′, (tt, (tt, (out′, tt))))))) (l-records, (tt, (tt, (l-area, (tt, (tt, (l-out, tt)))))))) $
-      says-each ! (Says-result (lentCommand records count reader area namespaces line out) r area′ out′)
-      ((Says-bytes (lentCommand records count reader area namespaces line out) r area′ out′) ∷
-      (Says-area (lentCommand records count reader area namespaces line out) r area′ out′) ∷
-      (map meant records′ ≡ lentCommand records count reader area namespaces line out .store .records) ∷ []) (
-        moved-result c (lentCommand records count reader area namespaces line out) records′ a r area′ out′ s-result,
+      (((κ₀, (κ₁, (κ₂, (κ₃, (κ₄, (κ₅, tt)))))), (q₀, (q₁, (q₂, (q₃, (q₄, (q₅, tt)))))), tt, x, at), tt) v r
+      (records′, (tt, (tt, (area′, (summary′, (tt, (tt, (out′, tt)))))))) (l-records, (tt, (tt, (l-area, (l-summary, (tt, (tt, (l-out, tt))))))))) $
+      says-each ! (Says-result (lentCommand records count reader area summary namespaces line out) r area′ summary′ out′)
+      ((Says-bytes (lentCommand records count reader area summary namespaces line out) r area′ summary′ out′) ∷
+      (Says-area (lentCommand records count reader area summary namespaces line out) r area′ summary′ out′) ∷
+      (Says-summary (lentCommand records count reader area summary namespaces line out) r area′ summary′ out′) ∷
+      (map meant records′ ≡ lentCommand records count reader area summary namespaces line out .records) ∷ []) (
+        moved-result c (lentCommand records count reader area summary namespaces line out) records′ a r area′ summary′ out′ s-result,
         (
-          moved-bytes c (lentCommand records count reader area namespaces line out) records′ a r area′ out′ s-bytes,
-          (moved-area c (lentCommand records count reader area namespaces line out) records′ a r area′ out′ s-area, (a .records)),
+          moved-bytes c (lentCommand records count reader area summary namespaces line out) records′ a r area′ summary′ out′ s-bytes,
+          (
+            moved-area c (lentCommand records count reader area summary namespaces line out) records′ a r area′ summary′ out′ s-area,
+            (moved-summary c (lentCommand records count reader area summary namespaces line out) records′ a r area′ summary′ out′ s-summary, (a .records)),
+          ),
         ),
       ) $
-      nothing ! $ move ! (5 ∷ 0 ∷ []) $ join ! $ move ! (4 ∷ 0 ∷ []) $ join ! $ move ! (3 ∷ 0 ∷ []) $ join ! $ move ! (2 ∷ 0 ∷ []) $ join ! $
-      move ! (1 ∷ 0 ∷ []) $ join ! $ frame ! $ nothing ! $ move ! (7 ∷ 0 ∷ []) $ fjoin ! $ move ! (6 ∷ 0 ∷ []) $ fjoin ! $ move ! (5 ∷ 0 ∷ []) $
-      fjoin ! $ move ! (4 ∷ 0 ∷ []) $ fjoin ! $ move ! (3 ∷ 0 ∷ []) $ fjoin ! $ move ! (2 ∷ 0 ∷ []) $ fjoin ! $ move ! (1 ∷ 0 ∷ []) $ fjoin ! $ done !
+      nothing ! $ move ! (6 ∷ 0 ∷ []) $ join ! $ move ! (5 ∷ 0 ∷ []) $ join ! $ move ! (4 ∷ 0 ∷ []) $ join ! $ move ! (3 ∷ 0 ∷ []) $ join ! $
+      move ! (2 ∷ 0 ∷ []) $ join ! $ move ! (1 ∷ 0 ∷ []) $ join ! $ frame ! $ nothing ! $ move ! (8 ∷ 0 ∷ []) $ fjoin ! $ move ! (7 ∷ 0 ∷ []) $
+      fjoin ! $ move ! (6 ∷ 0 ∷ []) $ fjoin ! $ move ! (5 ∷ 0 ∷ []) $ fjoin ! $ move ! (4 ∷ 0 ∷ []) $ fjoin ! $ move ! (3 ∷ 0 ∷ []) $ fjoin ! $
+      move ! (2 ∷ 0 ∷ []) $ fjoin ! $ move ! (1 ∷ 0 ∷ []) $ fjoin ! $ done !
 
   -- of each callee: `to-`, the values at which its contract is taken, and `goes-`, that what it asks is there
   abbrev to-words : NoWords 𝓤 H A mem run .Ghost
@@ -207,16 +246,40 @@ module _ {M : Type 1} (𝓤 : URA M) (H : Heap 𝓤) (A : Atoms 𝓤) (W : Given
 
   abbrev to-copy : ℕ → ℕ → ℕ → GName → GName → List ℕ → CopyIn 𝓤 H A mem run .Ghost
   to-copy l ν μ δ₀ δ₁ xs =
-      (((ν ∷ [], (μ ∷ [], tt)), (fullShare, (fullShare, tt)), tt, (shown δ₀, (length records, (words l δ₁ xs, tt))), (at .0, (vint w64 (length records) ∷ [], (sliceVal (l, 0) 512 ∷ [], tt)))), tt)
+      (((ν ∷ [], (μ ∷ [], tt)), (fullShare, (fullShare, tt)), tt, (shown δ₀, (length summary, (words l δ₁ xs, tt))), (at .0, (vint w64 (length summary) ∷ [], (sliceVal (l, 0) 512 ∷ [], tt)))), tt)
 
   abbrev to-core : ℕ → ℕ → GName → List ℕ → ℕ → AnswerWords 𝓤 H A mem run .Ghost
   to-core l ξ δ us n = (
     (
-      (ξ ∷ [], (κ₁, (κ₂, (κ₃, (κ₄, tt))))),
-      (fullShare, (q₁, (q₂, (q₃, (q₄, tt))))),
+      (ξ ∷ [], (κ₁, (κ₂, (κ₃, (κ₄, (κ₅, tt)))))),
+      (fullShare, (q₁, (q₂, (q₃, (q₄, (q₅, tt)))))),
       tt,
-      (words l δ us, (n, (x .1 .0, (x .1 .1 .0, (x .1 .1 .1 .0, (x .1 .1 .1 .1 .0, (x .1 .1 .1 .1 .1 .0, (x .1 .1 .1 .1 .1 .1 .0, tt)))))))),
-      (sliceVal (l, 0) 512 ∷ [], (vint w64 n ∷ [], (at .1 .0, (at .1 .1 .0, (at .1 .1 .1 .0, (at .1 .1 .1 .1 .0, (at .1 .1 .1 .1 .1 .0, (at .1 .1 .1 .1 .1 .1 .0, tt)))))))),
+      (
+        words l δ us,
+        (
+          n,
+          (
+            x .1 .0,
+            (
+              x .1 .1 .0,
+              (
+                x .1 .1 .1 .0,
+                (x .1 .1 .1 .1 .0, (x .1 .1 .1 .1 .1 .0, (x .1 .1 .1 .1 .1 .1 .0, (x .1 .1 .1 .1 .1 .1 .1 .0, tt)))),
+              ),
+            ),
+          ),
+        ),
+      ),
+      (
+        sliceVal (l, 0) 512 ∷ [],
+        (
+          vint w64 n ∷ [],
+          (
+            at .1 .0,
+            (at .1 .1 .0, (at .1 .1 .1 .0, (at .1 .1 .1 .1 .0, (at .1 .1 .1 .1 .1 .0, (at .1 .1 .1 .1 .1 .1 .0, (at .1 .1 .1 .1 .1 .1 .1 .0, tt)))))),
+          ),
+        ),
+      ),
     ),
     tt,
   )
@@ -238,27 +301,31 @@ module _ {M : Type 1} (𝓤 : URA M) (H : Heap 𝓤) (A : Atoms 𝓤) (W : Given
     fm : FmC 𝓤 H (W .laws) C
     fm = fmOf 𝓤 H (W .laws) 𝓣
 
-    walk : ent 𝓤 (onEntry 𝓤 H A luspemaro-answer.signature (κ₀, (κ₁, (κ₂, (κ₃, (κ₄, tt))))) (q₀, (q₁, (q₂, (q₃, (q₄, tt))))) x at)
+    walk : ent 𝓤 (onEntry 𝓤 H A luspemaro-answer.signature (κ₀, (κ₁, (κ₂, (κ₃, (κ₄, (κ₅, tt)))))) (q₀, (q₁, (q₂, (q₃, (q₄, (q₅, tt)))))) x at)
         (WpFn 𝓤 H C Λ code.function (sliceVal (b₀, o₀) (length records) ∷ vint w64 count ∷ vint w8 reader ∷ sliceVal (b₁, o₁) (length area) ∷
-        sliceVal (b₂, o₂) (length namespaces) ∷ sliceVal (b₃, o₃) (length line) ∷ sliceVal (b₄, o₄) (length out) ∷ []) Post)
+        sliceVal (b₂, o₂) (length summary) ∷ sliceVal (b₃, o₃) (length namespaces) ∷ sliceVal (b₄, o₄) (length line) ∷
+        sliceVal (b₅, o₅) (length out) ∷ []) Post)
     walk =
-        qed W ((‵ (flft κ₀ q₀) ⊛ ‵ (flft κ₁ q₁) ⊛ ‵ (flft κ₂ q₂) ⊛ ‵ (flft κ₃ q₃) ⊛ ‵ (flft κ₄ q₄) ⊛ ‵ ftrue) ∷
-        ‵ (owns (MutSlice (named 0) κ₀ T.the-row ∷ usize ∷ u8 ∷ MutSlice (named 1) κ₁ u8 ∷ ShrSlice (named 2) κ₂ u8 ∷ ShrSlice (named 3) κ₃ u8 ∷
-        MutSlice (named 4) κ₄ u8 ∷ []) x at) ∷ []) ∵
+        qed W ((‵ (flft κ₀ q₀) ⊛ ‵ (flft κ₁ q₁) ⊛ ‵ (flft κ₂ q₂) ⊛ ‵ (flft κ₃ q₃) ⊛ ‵ (flft κ₄ q₄) ⊛ ‵ (flft κ₅ q₅) ⊛ ‵ ftrue) ∷
+        ‵ (owns (MutSlice (named 0) κ₀ T.the-row ∷ usize ∷ u8 ∷ MutSlice (named 1) κ₁ u8 ∷ MutSlice (named 2) κ₂ u64 ∷ ShrSlice (named 3) κ₃ u8 ∷
+        ShrSlice (named 4) κ₄ u8 ∷ MutSlice (named 5) κ₅ u8 ∷ []) x at) ∷ []) ∵
         enter ! C Λ code.function (sliceVal (b₀, o₀) (length records) ∷ vint w64 count ∷ vint w8 reader ∷ sliceVal (b₁, o₁) (length area) ∷
-        sliceVal (b₂, o₂) (length namespaces) ∷ sliceVal (b₃, o₃) (length line) ∷ sliceVal (b₄, o₄) (length out) ∷ []) _ $
+        sliceVal (b₂, o₂) (length summary) ∷ sliceVal (b₃, o₃) (length namespaces) ∷ sliceVal (b₄, o₄) (length line) ∷
+        sliceVal (b₅, o₅) (length out) ∷ []) _ $
         alloc1 ! (λ l0. alloc1 ! (λ l1. alloc1 ! (λ l2. alloc1 ! (λ l3.
         alloc1 ! (λ l4. alloc1 ! (λ l5. alloc1 ! (λ l6. alloc1 ! (λ l7.
         alloc1 ! (λ l8. alloc1 ! (λ l9. alloc1 ! (λ l10. alloc1 ! (λ l11.
         alloc1 ! (λ l12. alloc1 ! (λ l13. alloc1 ! (λ l14. alloc1 ! (λ l15.
         alloc1 ! (λ l16. alloc1 ! (λ l17. alloc1 ! (λ l18. alloc1 ! (λ l19.
         alloc1 ! (λ l20. alloc1 ! (λ l21. alloc1 ! (λ l22. alloc1 ! (λ l23.
-        alloc1 ! (λ l24. alloc1 ! (λ l25. alloc1 ! (λ l26. alloc1 ! (λ l27. alloc0 ! $ params1 ! $
-        pass1 ! (init ! 52 refl (tt, (tt, (record { fits = good-records .0 }, tt)))) $ pass1 ! (init ! 50 refl (tt, record { fits = good-count })) $
-        pass1 ! (init ! 48 refl (tt, record { fits = good-reader })) $ pass1 ! (init ! 46 refl (tt, (tt, (record { fits = good-area .0 }, tt)))) $
-        pass1 ! (init ! 44 refl (tt, (tt, (record { fits = good-namespaces .0 }, tt)))) $
-        pass1 ! (init ! 42 refl (tt, (tt, (record { fits = good-line .0 }, tt)))) $
-        pass1 ! (init ! 40 refl (tt, (tt, (record { fits = good-out .0 }, tt)))) $ pass0 ! $
+        alloc1 ! (λ l24. alloc1 ! (λ l25. alloc1 ! (λ l26. alloc1 ! (λ l27.
+        alloc1 ! (λ l28. alloc1 ! (λ l29. alloc1 ! (λ l30. alloc0 ! $ params1 ! $
+        pass1 ! (init ! 58 refl (tt, (tt, (record { fits = good-records .0 }, tt)))) $ pass1 ! (init ! 56 refl (tt, record { fits = good-count })) $
+        pass1 ! (init ! 54 refl (tt, record { fits = good-reader })) $ pass1 ! (init ! 52 refl (tt, (tt, (record { fits = good-area .0 }, tt)))) $
+        pass1 ! (init ! 50 refl (tt, (tt, (record { fits = good-summary .0 }, tt)))) $
+        pass1 ! (init ! 48 refl (tt, (tt, (record { fits = good-namespaces .0 }, tt)))) $
+        pass1 ! (init ! 46 refl (tt, (tt, (record { fits = good-line .0 }, tt)))) $
+        pass1 ! (init ! 44 refl (tt, (tt, (record { fits = good-out .0 }, tt)))) $ pass0 ! $
         -- the words are made
         use0 W (raw (NoWords 𝓤 H A mem run .pre to-words)) goes-words $
         calls-at ! fm (NoWords 𝓤 H A mem run) known-no-words to-words (no-more !) (λ v0.
@@ -269,196 +336,213 @@ module _ {M : Type 1} (𝓤 : URA M) (H : Heap 𝓤) (A : Atoms 𝓤) (W : Given
         pick ! (λ z0. split ! $
         move ! (1 ∷ []) $ heard ! (xs ≡ replicate 512 0) (λ e0. move ! (1 ∷ []) $ split ! $ move ! (1 ∷ []) $
         peeks ! (Array u64 512) (Is (Array u64 512)) (shows 𝓤 H A (Array u64 512)) xs (v0 ∷ []) (λ is0.
-        land ! (from ! (stop !)) (init ! 35 refl (array-lawful 𝓤 H A W u64 (uint-lawful 𝓤 H A W w64) 512 .typed xs _ is0 .0)) $
-        assigns ! (of-opd ! (load ! (from ! (stop !)) (look ! 35 refl))) (from ! (stop !))
-        (init ! 41 refl (array-lawful 𝓤 H A W u64 (uint-lawful 𝓤 H A W w64) 512 .typed xs _ is0 .0)) $
-        assigns ! (addr ! (from ! (fld ! refl (hop ! (look-in ! 55 (sub ! 0 refl (whole !))) (stop !))))) (from ! (stop !))
-        (init ! 33 refl (tt, tt)) $
-        assigns ! (agg ! (and-then ! (load ! (from ! (stop !)) (look ! 33 refl))
-        (and-then ! (load ! (from ! (fld ! refl (stop !))) (look-in ! 55 (sub ! 1 refl (whole !)))) (no-more !)))) (from ! (stop !))
-        (init ! 31 refl (tt, (tt, (record { fits = good-records .0 }, tt)))) $
-        assigns ! (of-opd ! (load ! (from ! (fld ! refl (stop !))) (look-in ! 55 (sub ! 1 refl (whole !))))) (from ! (stop !))
-        (init ! 29 refl (tt, record { fits = good-records .0 })) $
-        assigns ! (addr ! (from ! (stop !))) (from ! (stop !)) (init ! 27 refl (tt, tt)) $
-        assigns ! (agg ! (and-then ! (load ! (from ! (stop !)) (look ! 27 refl)) (and-then ! (lit ! tt) (no-more !)))) (from ! (stop !))
-        (init ! 25 refl (tt, (tt, (record { fits = lit< tt }, tt)))) $
+        land ! (from ! (stop !)) (init ! 39 refl (array-lawful 𝓤 H A W u64 (uint-lawful 𝓤 H A W w64) 512 .typed xs _ is0 .0)) $
+        assigns ! (of-opd ! (load ! (from ! (stop !)) (look ! 39 refl))) (from ! (stop !))
+        (init ! 45 refl (array-lawful 𝓤 H A W u64 (uint-lawful 𝓤 H A W w64) 512 .typed xs _ is0 .0)) $
+        assigns ! (addr ! (from ! (fld ! refl (hop ! (look-in ! 61 (sub ! 0 refl (whole !))) (stop !))))) (from ! (stop !))
+        (init ! 37 refl (tt, tt)) $
+        assigns ! (agg ! (and-then ! (load ! (from ! (stop !)) (look ! 37 refl))
+        (and-then ! (load ! (from ! (fld ! refl (stop !))) (look-in ! 61 (sub ! 1 refl (whole !)))) (no-more !)))) (from ! (stop !))
+        (init ! 35 refl (tt, (tt, (record { fits = good-records .0 }, tt)))) $
+        assigns ! (of-opd ! (load ! (from ! (fld ! refl (stop !))) (look-in ! 53 (sub ! 1 refl (whole !))))) (from ! (stop !))
+        (init ! 33 refl (tt, record { fits = good-summary .0 })) $
+        assigns ! (addr ! (from ! (stop !))) (from ! (stop !)) (init ! 31 refl (tt, tt)) $
+        assigns ! (agg ! (and-then ! (load ! (from ! (stop !)) (look ! 31 refl)) (and-then ! (lit ! tt) (no-more !)))) (from ! (stop !))
+        (init ! 29 refl (tt, (tt, (record { fits = lit< tt }, tt)))) $
         -- copy_in has the records lent as `&` and the words as `&mut`, for two lifetimes of the call
-        move ! (60 ∷ []) $ fsplit ! $ move ! (1 ∷ []) $ fsplit ! $ move ! (1 ∷ []) $ fsplit ! $ move ! (1 ∷ []) $ fsplit ! $ move ! (1 ∷ []) $
-        fsplit ! $ move ! (1 ∷ []) $ fsplit ! $ move ! (1 ∷ []) $ fsplit ! $ move ! (67 ∷ []) $ split ! $ move ! (1 ∷ []) $ split ! $
-        move ! (1 ∷ []) $ split ! $ move ! (1 ∷ []) $ split ! $ move ! (1 ∷ []) $ split ! $ lft-new ! tt (λ ν. lft-new ! tt (λ μ.
-        move ! (15 ∷ 7 ∷ []) $
+        move ! (66 ∷ []) $ fsplit ! $ move ! (1 ∷ []) $ fsplit ! $ move ! (1 ∷ []) $ fsplit ! $ move ! (1 ∷ []) $ fsplit ! $ move ! (1 ∷ []) $
+        fsplit ! $ move ! (1 ∷ []) $ fsplit ! $ move ! (1 ∷ []) $ fsplit ! $ move ! (1 ∷ []) $ fsplit ! $ move ! (74 ∷ []) $ split ! $
+        move ! (1 ∷ []) $ split ! $ move ! (1 ∷ []) $ split ! $ move ! (1 ∷ []) $ split ! $ move ! (1 ∷ []) $ split ! $ move ! (1 ∷ []) $ split ! $
+        lft-new ! tt (λ ν. lft-new ! tt (λ μ. move ! (17 ∷ 8 ∷ []) $
         use2 W (later (some (λ (δ : GName). ‵ (ShrSlice (named 0) (ν ∷ []) T.the-row .own (shown δ) (at .0)) ⊛
         ‵ (SharedAgain T.the-row b₀ o₀ κ₀ q₀ γ₀ (ν ∷ []) records))))
         (shares-again T.the-row b₀ o₀ κ₀ q₀ γ₀ 𝓤 H A W (named 0) records (ν ∷ []) (named 0)) $ await ! tt $ pick ! (λ δ₀. split ! $
-        move ! (57 ∷ 16 ∷ []) $
-        use2 W (later (some (λ (δ : GName). ‵ (MutSlice (named 1) (μ ∷ []) u64 .own (words l8 δ xs) (sliceVal (l8, 0) 512 ∷ [])) ⊛
-        ‵ (flent (μ ∷ []) (Held u64 512 l8 0 δ))))) (lends-local 𝓤 H A W u64 tt 512 l8 (named 1) (μ ∷ []) xs v0 room-512) $ await ! tt $
+        move ! (63 ∷ 18 ∷ []) $
+        use2 W (later (some (λ (δ : GName). ‵ (MutSlice (named 1) (μ ∷ []) u64 .own (words l9 δ xs) (sliceVal (l9, 0) 512 ∷ [])) ⊛
+        ‵ (flent (μ ∷ []) (Held u64 512 l9 0 δ))))) (lends-local 𝓤 H A W u64 tt 512 l9 (named 1) (μ ∷ []) xs v0 room-512) $ await ! tt $
         pick ! (λ δ₁. split ! $
-        owned ! usize (Is usize) (uint-makes 𝓤 H A W w64) (length records) _ (refl, good-records .0) $ nothing ! $ move ! (2 ∷ 0 ∷ []) $ fjoin ! $
+        owned ! usize (Is usize) (uint-makes 𝓤 H A W w64) (length summary) _ (refl, good-summary .0) $ nothing ! $ move ! (2 ∷ 0 ∷ []) $ fjoin ! $
         move ! (1 ∷ 0 ∷ []) $ fjoin ! $ move ! (2 ∷ 0 ∷ []) $ fjoin ! $ nothing ! $ move ! (4 ∷ 0 ∷ []) $ join ! $ move ! (4 ∷ 0 ∷ []) $ join ! $
-        move ! (0 ∷ 1 ∷ []) $ join ! $ use1 W (raw (CopyIn 𝓤 H A mem run .pre (to-copy l8 ν μ δ₀ δ₁ xs))) (∗emp 𝓤 _) $
-        calls-at ! fm (CopyIn 𝓤 H A mem run) known-copy-in (to-copy l8 ν μ δ₀ δ₁ xs)
-        (and-then ! (load ! (from ! (stop !)) (look ! 45 refl))
-        (and-then ! (load ! (from ! (stop !)) (look ! 43 refl)) (and-then ! (load ! (from ! (stop !)) (look ! 39 refl)) (no-more !)))) (λ v1.
+        move ! (0 ∷ 1 ∷ []) $ join ! $ use1 W (raw (CopyIn 𝓤 H A mem run .pre (to-copy l9 ν μ δ₀ δ₁ xs))) (∗emp 𝓤 _) $
+        calls-at ! fm (CopyIn 𝓤 H A mem run) known-copy-in (to-copy l9 ν μ δ₀ δ₁ xs)
+        (and-then ! (load ! (from ! (stop !)) (look ! 51 refl))
+        (and-then ! (load ! (from ! (stop !)) (look ! 49 refl)) (and-then ! (load ! (from ! (stop !)) (look ! 45 refl)) (no-more !)))) (λ v1.
         use1 W (later (some (λ (k : ℕ). ((‵ (flft (ν ∷ []) fullShare) ⊛ ‵ (flft (μ ∷ []) fullShare) ⊛ ‵ ftrue) ⊛ ‵ (usize .own k (v1 ∷ []))) ⊛
-        raw (ensured 𝓤 H A copy-in.ended (copy-in.clauses 𝓤 H A mem run) (ν ∷ [], (μ ∷ [], tt)) (shown δ₀, (length records, (words l8 δ₁ xs, tt)))
+        raw (ensured 𝓤 H A copy-in.ended (copy-in.clauses 𝓤 H A mem run) (ν ∷ [], (μ ∷ [], tt)) (shown δ₀, (length summary, (words l9 δ₁ xs, tt)))
         tt k)))) (id⊢ 𝓤 _) $ await ! tt $ pick ! (λ n. split ! $
         move ! (1 ∷ []) $
-        use1 W (some (λ (z1 : Lasts copy-in.ended (ν ∷ [], (μ ∷ [], tt)) (shown δ₀, (length records, (words l8 δ₁ xs, tt)))).
-        ‵ (lasts copy-in.ended (ν ∷ [], (μ ∷ [], tt)) (shown δ₀, (length records, (words l8 δ₁ xs, tt))) z1) ⊛
-        raw (fact 𝓤 (Copied records xs (z1 .1 .1 .0) n)))) (id⊢ 𝓤 _) $ pick ! (λ z1. split ! $
-        move ! (1 ∷ []) $ heard ! (Copied records xs (z1 .1 .1 .0) n) (λ e1. move ! (1 ∷ []) $ split ! $ move ! (1 ∷ []) $
+        use1 W (some (λ (z1 : Lasts copy-in.ended (ν ∷ [], (μ ∷ [], tt)) (shown δ₀, (length summary, (words l9 δ₁ xs, tt)))).
+        ‵ (lasts copy-in.ended (ν ∷ [], (μ ∷ [], tt)) (shown δ₀, (length summary, (words l9 δ₁ xs, tt))) z1) ⊛
+        raw (fact 𝓤 (Copied (length summary) records xs (z1 .1 .1 .0) n)))) (id⊢ 𝓤 _) $ pick ! (λ z1. split ! $
+        move ! (1 ∷ []) $ heard ! (Copied (length summary) records xs (z1 .1 .1 .0) n) (λ e1. move ! (1 ∷ []) $ split ! $ move ! (1 ∷ []) $
         peeks ! usize (Is usize) (shows 𝓤 H A usize) n (v1 ∷ []) (λ is1.
-        land ! (from ! (stop !)) (init ! 55 refl (uint-lawful 𝓤 H A W w64 .typed n _ is1 .0)) $
-        rewrite ! 55 (λ (u : Val). ‵ (fat fullShare (tyInt w64) l9 0 u)) (ap only (is1 .0)) refl $ move ! (2 ∷ []) $ fsplit ! $ move ! (1 ∷ []) $
+        land ! (from ! (stop !)) (init ! 61 refl (uint-lawful 𝓤 H A W w64 .typed n _ is1 .0)) $
+        rewrite ! 61 (λ (u : Val). ‵ (fat fullShare (tyInt w64) l10 0 u)) (ap only (is1 .0)) refl $ move ! (2 ∷ []) $ fsplit ! $ move ! (1 ∷ []) $
         fsplit ! $ move ! (1 ∷ []) $ fsplit ! $ move ! (0 ∷ []) $ fsplit ! $ move ! (6 ∷ []) $ split ! $ move ! (1 ∷ []) $ split ! $
         -- and both come back
         move ! (0 ∷ []) $ lft-end ! tt $ move ! (0 ∷ 9 ∷ 3 ∷ []) $
-        use3 W (later (some (λ (v : Val). ‵ (fat fullShare (tyArray (tyInt w64) 512) l8 0 v) ⊛ ‵ ((Array u64 512) .own (z1 .1 .1 .0) (v ∷ [])))))
-        (local-back 𝓤 H A W u64 tt 512 l8 (μ ∷ []) δ₁ (z1 .1 .1 .0)) $ await ! tt $ pick ! (λ v2. split ! $
+        use3 W (later (some (λ (v : Val). ‵ (fat fullShare (tyArray (tyInt w64) 512) l9 0 v) ⊛ ‵ ((Array u64 512) .own (z1 .1 .1 .0) (v ∷ [])))))
+        (local-back 𝓤 H A W u64 tt 512 l9 (μ ∷ []) δ₁ (z1 .1 .1 .0)) $ await ! tt $ pick ! (λ v2. split ! $
         move ! (1 ∷ []) $ peeks ! (Array u64 512) (Is (Array u64 512)) (shows 𝓤 H A (Array u64 512)) (z1 .1 .1 .0) (v2 ∷ []) (λ is2. move ! (3 ∷ []) $
         lft-end ! tt $ move ! (0 ∷ 9 ∷ []) $
         use2 W (later (‵ (MutSlice (named 0) κ₀ T.the-row .own (x .0) (at .0)) ⊛ ‵ (flft κ₀ q₀)))
         (again-back T.the-row b₀ o₀ κ₀ q₀ γ₀ 𝓤 H A W (named 0) records (ν ∷ [])) $ await ! tt $ split ! $
-        assigns ! (addr ! (from ! (stop !))) (from ! (stop !)) (init ! 44 refl (tt, tt)) $
-        assigns ! (agg ! (and-then ! (load ! (from ! (stop !)) (look ! 44 refl)) (and-then ! (lit ! tt) (no-more !)))) (from ! (stop !))
-        (init ! 42 refl (tt, (tt, (record { fits = lit< tt }, tt)))) $
+        assigns ! (addr ! (from ! (stop !))) (from ! (stop !)) (init ! 50 refl (tt, tt)) $
+        assigns ! (agg ! (and-then ! (load ! (from ! (stop !)) (look ! 50 refl)) (and-then ! (lit ! tt) (no-more !)))) (from ! (stop !))
+        (init ! 48 refl (tt, (tt, (record { fits = lit< tt }, tt)))) $
+        assigns ! (addr ! (from ! (fld ! refl (hop ! (look-in ! 77 (sub ! 0 refl (whole !))) (stop !))))) (from ! (stop !))
+        (init ! 46 refl (tt, tt)) $
+        assigns ! (agg ! (and-then ! (load ! (from ! (stop !)) (look ! 46 refl))
+        (and-then ! (load ! (from ! (fld ! refl (stop !))) (look-in ! 77 (sub ! 1 refl (whole !)))) (no-more !)))) (from ! (stop !))
+        (init ! 44 refl (tt, (tt, (record { fits = good-area .0 }, tt)))) $
+        assigns ! (addr ! (from ! (fld ! refl (hop ! (look-in ! 75 (sub ! 0 refl (whole !))) (stop !))))) (from ! (stop !))
+        (init ! 42 refl (tt, tt)) $
+        assigns ! (agg ! (and-then ! (load ! (from ! (stop !)) (look ! 42 refl))
+        (and-then ! (load ! (from ! (fld ! refl (stop !))) (look-in ! 75 (sub ! 1 refl (whole !)))) (no-more !)))) (from ! (stop !))
+        (init ! 40 refl (tt, (tt, (record { fits = good-summary .0 }, tt)))) $
         assigns ! (addr ! (from ! (fld ! refl (hop ! (look-in ! 69 (sub ! 0 refl (whole !))) (stop !))))) (from ! (stop !))
-        (init ! 40 refl (tt, tt)) $
-        assigns ! (agg ! (and-then ! (load ! (from ! (stop !)) (look ! 40 refl))
+        (init ! 38 refl (tt, tt)) $
+        assigns ! (agg ! (and-then ! (load ! (from ! (stop !)) (look ! 38 refl))
         (and-then ! (load ! (from ! (fld ! refl (stop !))) (look-in ! 69 (sub ! 1 refl (whole !)))) (no-more !)))) (from ! (stop !))
-        (init ! 38 refl (tt, (tt, (record { fits = good-area .0 }, tt)))) $
-        assigns ! (addr ! (from ! (fld ! refl (hop ! (look-in ! 63 (sub ! 0 refl (whole !))) (stop !))))) (from ! (stop !))
-        (init ! 36 refl (tt, tt)) $
-        assigns ! (agg ! (and-then ! (load ! (from ! (stop !)) (look ! 36 refl))
-        (and-then ! (load ! (from ! (fld ! refl (stop !))) (look-in ! 63 (sub ! 1 refl (whole !)))) (no-more !)))) (from ! (stop !))
-        (init ! 34 refl (tt, (tt, (record { fits = good-out .0 }, tt)))) $
+        (init ! 36 refl (tt, (tt, (record { fits = good-out .0 }, tt)))) $
         -- the core has the words lent as `&mut` for a lifetime of the call, and the bytes that are lent as `&mut` for good
         lft-new ! tt (λ ξ. move ! (4 ∷ 3 ∷ []) $
-        use2 W (later (some (λ (δ : GName). ‵ (MutSlice (named 1) (ξ ∷ []) u64 .own (words l8 δ (z1 .1 .1 .0)) (sliceVal (l8, 0) 512 ∷ [])) ⊛
-        ‵ (flent (ξ ∷ []) (Held u64 512 l8 0 δ))))) (lends-local 𝓤 H A W u64 tt 512 l8 (named 1) (ξ ∷ []) (z1 .1 .1 .0) v2 room-512) $ await ! tt $
+        use2 W (later (some (λ (δ : GName). ‵ (MutSlice (named 1) (ξ ∷ []) u64 .own (words l9 δ (z1 .1 .1 .0)) (sliceVal (l9, 0) 512 ∷ [])) ⊛
+        ‵ (flent (ξ ∷ []) (Held u64 512 l9 0 δ))))) (lends-local 𝓤 H A W u64 tt 512 l9 (named 1) (ξ ∷ []) (z1 .1 .1 .0) v2 room-512) $ await ! tt $
         pick ! (λ δ₂. split ! $
         owned ! usize (Is usize) (uint-makes 𝓤 H A W w64) n _ (refl, is1 .1) $
         owned ! usize (Is usize) (uint-makes 𝓤 H A W w64) count _ (refl, good-count) $
-        owned ! u8 (Is u8) (uint-makes 𝓤 H A W w8) reader _ (refl, good-reader) $ move ! (22 ∷ []) $
-        use1 W (‵ (ShrSlice (named 2) κ₂ u8 .own (x .1 .1 .1 .1 .0) (at .1 .1 .1 .1 .0)) ⊛
-        ‵ (ShrSlice (named 2) κ₂ u8 .own (x .1 .1 .1 .1 .0) (at .1 .1 .1 .1 .0)))
-        (shr-slice-copy 𝓤 H A W (named 2) κ₂ u8 .twice (x .1 .1 .1 .1 .0) (at .1 .1 .1 .1 .0)) $ split ! $
-        move ! (23 ∷ []) $
+        owned ! u8 (Is u8) (uint-makes 𝓤 H A W w8) reader _ (refl, good-reader) $ move ! (23 ∷ []) $
         use1 W (‵ (ShrSlice (named 3) κ₃ u8 .own (x .1 .1 .1 .1 .1 .0) (at .1 .1 .1 .1 .1 .0)) ⊛
         ‵ (ShrSlice (named 3) κ₃ u8 .own (x .1 .1 .1 .1 .1 .0) (at .1 .1 .1 .1 .1 .0)))
         (shr-slice-copy 𝓤 H A W (named 3) κ₃ u8 .twice (x .1 .1 .1 .1 .1 .0) (at .1 .1 .1 .1 .1 .0)) $ split ! $
-        nothing ! $ move ! (24 ∷ 0 ∷ []) $ fjoin ! $ move ! (2 ∷ 0 ∷ []) $ fjoin ! $ move ! (3 ∷ 0 ∷ []) $ fjoin ! $ move ! (23 ∷ 0 ∷ []) $ fjoin ! $
-        move ! (3 ∷ 0 ∷ []) $ fjoin ! $ move ! (3 ∷ 0 ∷ []) $ fjoin ! $ move ! (3 ∷ 0 ∷ []) $ fjoin ! $ move ! (3 ∷ 0 ∷ []) $ fjoin ! $ nothing ! $
-        move ! (14 ∷ 0 ∷ []) $ join ! $ move ! (15 ∷ 0 ∷ []) $ join ! $ move ! (15 ∷ 0 ∷ []) $ join ! $ move ! (15 ∷ 0 ∷ []) $ join ! $
-        move ! (5 ∷ 0 ∷ []) $ join ! $ move ! (0 ∷ 1 ∷ []) $ join ! $
-        use1 W (raw (AnswerWords 𝓤 H A mem run .pre (to-core l8 ξ δ₂ (z1 .1 .1 .0) n))) (∗emp 𝓤 _) $
-        calls-at ! fm (AnswerWords 𝓤 H A mem run) known-answer-words (to-core l8 ξ δ₂ (z1 .1 .1 .0) n)
+        move ! (24 ∷ []) $
+        use1 W (‵ (ShrSlice (named 4) κ₄ u8 .own (x .1 .1 .1 .1 .1 .1 .0) (at .1 .1 .1 .1 .1 .1 .0)) ⊛
+        ‵ (ShrSlice (named 4) κ₄ u8 .own (x .1 .1 .1 .1 .1 .1 .0) (at .1 .1 .1 .1 .1 .1 .0)))
+        (shr-slice-copy 𝓤 H A W (named 4) κ₄ u8 .twice (x .1 .1 .1 .1 .1 .1 .0) (at .1 .1 .1 .1 .1 .1 .0)) $ split ! $
+        nothing ! $ move ! (25 ∷ 0 ∷ []) $ fjoin ! $ move ! (2 ∷ 0 ∷ []) $ fjoin ! $ move ! (3 ∷ 0 ∷ []) $ fjoin ! $ move ! (24 ∷ 0 ∷ []) $ fjoin ! $
+        move ! (24 ∷ 0 ∷ []) $ fjoin ! $ move ! (3 ∷ 0 ∷ []) $ fjoin ! $ move ! (3 ∷ 0 ∷ []) $ fjoin ! $ move ! (3 ∷ 0 ∷ []) $ fjoin ! $
+        move ! (3 ∷ 0 ∷ []) $ fjoin ! $ nothing ! $ move ! (14 ∷ 0 ∷ []) $ join ! $ move ! (15 ∷ 0 ∷ []) $ join ! $ move ! (15 ∷ 0 ∷ []) $ join ! $
+        move ! (15 ∷ 0 ∷ []) $ join ! $ move ! (15 ∷ 0 ∷ []) $ join ! $ move ! (5 ∷ 0 ∷ []) $ join ! $ move ! (0 ∷ 1 ∷ []) $ join ! $
+        use1 W (raw (AnswerWords 𝓤 H A mem run .pre (to-core l9 ξ δ₂ (z1 .1 .1 .0) n))) (∗emp 𝓤 _) $
+        calls-at ! fm (AnswerWords 𝓤 H A mem run) known-answer-words (to-core l9 ξ δ₂ (z1 .1 .1 .0) n)
+        (and-then ! (load ! (from ! (stop !)) (look ! 40 refl))
+        (and-then ! (load ! (from ! (stop !)) (look ! 58 refl))
+        (and-then ! (load ! (from ! (stop !)) (look ! 73 refl))
+        (and-then ! (load ! (from ! (stop !)) (look ! 71 refl))
         (and-then ! (load ! (from ! (stop !)) (look ! 36 refl))
-        (and-then ! (load ! (from ! (stop !)) (look ! 54 refl))
-        (and-then ! (load ! (from ! (stop !)) (look ! 67 refl))
-        (and-then ! (load ! (from ! (stop !)) (look ! 65 refl))
         (and-then ! (load ! (from ! (stop !)) (look ! 32 refl))
-        (and-then ! (load ! (from ! (stop !)) (look ! 61 refl))
-        (and-then ! (load ! (from ! (stop !)) (look ! 59 refl)) (and-then ! (load ! (from ! (stop !)) (look ! 28 refl)) (no-more !))))))))) (λ v3.
+        (and-then ! (load ! (from ! (stop !)) (look ! 65 refl))
+        (and-then ! (load ! (from ! (stop !)) (look ! 63 refl)) (and-then ! (load ! (from ! (stop !)) (look ! 28 refl)) (no-more !)))))))))) (λ v3.
         use1 W (later (some (λ (k : Done). ((‵ (flft (ξ ∷ []) fullShare) ⊛ ‵ (flft κ₁ q₁) ⊛ ‵ (flft κ₂ q₂) ⊛ ‵ (flft κ₃ q₃) ⊛ ‵ (flft κ₄ q₄) ⊛
-        ‵ ftrue) ⊛ ‵ (D.the-row .own k (v3 ∷ []))) ⊛
-        raw (ensured 𝓤 H A answer-words.ended (answer-words.clauses 𝓤 H A mem run) (ξ ∷ [], (κ₁, (κ₂, (κ₃, (κ₄, tt)))))
-        (words l8 δ₂ (z1 .1 .1 .0), (n, (x .1 .0, (x .1 .1 .0, (x .1 .1 .1 .0, (x .1 .1 .1 .1 .0, (x .1 .1 .1 .1 .1 .0, (x .1 .1 .1 .1 .1 .1 .0, tt))))))))
+        ‵ (flft κ₅ q₅) ⊛ ‵ ftrue) ⊛ ‵ (D.the-row .own k (v3 ∷ []))) ⊛
+        raw (ensured 𝓤 H A answer-words.ended (answer-words.clauses 𝓤 H A mem run) (ξ ∷ [], (κ₁, (κ₂, (κ₃, (κ₄, (κ₅, tt))))))
+        (words l9 δ₂ (z1 .1 .1 .0), (n, (x .1 .0, (x .1 .1 .0, (x .1 .1 .1 .0, (x .1 .1 .1 .1 .0, (x .1 .1 .1 .1 .1 .0, (x .1 .1 .1 .1 .1 .1 .0, (x .1 .1 .1 .1 .1 .1 .1 .0, tt)))))))))
         tt k)))) (id⊢ 𝓤 _) $ await ! tt $ pick ! (λ r. split ! $
         move ! (1 ∷ []) $
         use1 W (some
-        (λ (z3 : Lasts answer-words.ended (ξ ∷ [], (κ₁, (κ₂, (κ₃, (κ₄, tt))))) (words l8 δ₂ (z1 .1 .1 .0), (n, (x .1 .0, (x .1 .1 .0, (x .1 .1 .1 .0, (x .1 .1 .1 .1 .0, (x .1 .1 .1 .1 .1 .0, (x .1 .1 .1 .1 .1 .1 .0, tt))))))))).
-        ‵ (lasts answer-words.ended (ξ ∷ [], (κ₁, (κ₂, (κ₃, (κ₄, tt)))))
-        (words l8 δ₂ (z1 .1 .1 .0), (n, (x .1 .0, (x .1 .1 .0, (x .1 .1 .1 .0, (x .1 .1 .1 .1 .0, (x .1 .1 .1 .1 .1 .0, (x .1 .1 .1 .1 .1 .1 .0, tt))))))))
-        z3) ⊛ raw (fact 𝓤 (Says-result (wordCommand (z1 .1 .1 .0) n count reader area namespaces line out) (given r) (z3 .1 .1 .1 .1 .0)
-        (z3 .1 .1 .1 .1 .1 .1 .1 .0))) ⊛
-        raw (fact 𝓤 (Says-bytes (wordCommand (z1 .1 .1 .0) n count reader area namespaces line out) (given r) (z3 .1 .1 .1 .1 .0)
-        (z3 .1 .1 .1 .1 .1 .1 .1 .0))) ⊛
-        raw (fact 𝓤 (Says-area (wordCommand (z1 .1 .1 .0) n count reader area namespaces line out) (given r) (z3 .1 .1 .1 .1 .0)
-        (z3 .1 .1 .1 .1 .1 .1 .1 .0))) ⊛
-        raw (fact 𝓤 ((map recordOf (take n (z3 .0)) ≡ wordCommand (z1 .1 .1 .0) n count reader area namespaces line out .store .records) × Between
-        (z1 .1 .1 .0) (z3 .0) n (r .from) (r .to))))) (id⊢ 𝓤 _) $ pick ! (λ z3. split ! $
+        (λ (z3 : Lasts answer-words.ended (ξ ∷ [], (κ₁, (κ₂, (κ₃, (κ₄, (κ₅, tt)))))) (words l9 δ₂ (z1 .1 .1 .0), (n, (x .1 .0, (x .1 .1 .0, (x .1 .1 .1 .0, (x .1 .1 .1 .1 .0, (x .1 .1 .1 .1 .1 .0, (x .1 .1 .1 .1 .1 .1 .0, (x .1 .1 .1 .1 .1 .1 .1 .0, tt)))))))))).
+        ‵ (lasts answer-words.ended (ξ ∷ [], (κ₁, (κ₂, (κ₃, (κ₄, (κ₅, tt))))))
+        (words l9 δ₂ (z1 .1 .1 .0), (n, (x .1 .0, (x .1 .1 .0, (x .1 .1 .1 .0, (x .1 .1 .1 .1 .0, (x .1 .1 .1 .1 .1 .0, (x .1 .1 .1 .1 .1 .1 .0, (x .1 .1 .1 .1 .1 .1 .1 .0, tt)))))))))
+        z3) ⊛ raw (fact 𝓤 (Says-result (wordCommand (z1 .1 .1 .0) n count reader area summary namespaces line out) (given r) (z3 .1 .1 .1 .1 .0)
+        (z3 .1 .1 .1 .1 .1 .0) (z3 .1 .1 .1 .1 .1 .1 .1 .1 .0))) ⊛
+        raw (fact 𝓤 (Says-bytes (wordCommand (z1 .1 .1 .0) n count reader area summary namespaces line out) (given r) (z3 .1 .1 .1 .1 .0)
+        (z3 .1 .1 .1 .1 .1 .0) (z3 .1 .1 .1 .1 .1 .1 .1 .1 .0))) ⊛
+        raw (fact 𝓤 (Says-area (wordCommand (z1 .1 .1 .0) n count reader area summary namespaces line out) (given r) (z3 .1 .1 .1 .1 .0)
+        (z3 .1 .1 .1 .1 .1 .0) (z3 .1 .1 .1 .1 .1 .1 .1 .1 .0))) ⊛
+        raw (fact 𝓤 (Says-summary (wordCommand (z1 .1 .1 .0) n count reader area summary namespaces line out) (given r) (z3 .1 .1 .1 .1 .0)
+        (z3 .1 .1 .1 .1 .1 .0) (z3 .1 .1 .1 .1 .1 .1 .1 .1 .0))) ⊛
+        raw (fact 𝓤 ((map recordOf (take (lentOf (z1 .1 .1 .0) n summary) (z3 .0)) ≡ wordCommand (z1 .1 .1 .0) n count reader area summary
+        namespaces line out .records) × Between (z1 .1 .1 .0) (z3 .0) (lentOf (z1 .1 .1 .0) n summary) (r .from) (r .to))))) (id⊢ 𝓤 _) $
+        pick ! (λ z3. split ! $
         move ! (1 ∷ []) $ split ! $ move ! (0 ∷ []) $
-        heard ! (Says-result (wordCommand (z1 .1 .1 .0) n count reader area namespaces line out) (given r) (z3 .1 .1 .1 .1 .0)
-        (z3 .1 .1 .1 .1 .1 .1 .1 .0)) (λ s-result.
+        heard ! (Says-result (wordCommand (z1 .1 .1 .0) n count reader area summary namespaces line out) (given r) (z3 .1 .1 .1 .1 .0)
+        (z3 .1 .1 .1 .1 .1 .0) (z3 .1 .1 .1 .1 .1 .1 .1 .1 .0)) (λ s-result.
         move ! (0 ∷ []) $ split ! $ move ! (0 ∷ []) $
-        heard ! (Says-bytes (wordCommand (z1 .1 .1 .0) n count reader area namespaces line out) (given r) (z3 .1 .1 .1 .1 .0)
-        (z3 .1 .1 .1 .1 .1 .1 .1 .0)) (λ s-bytes.
+        heard ! (Says-bytes (wordCommand (z1 .1 .1 .0) n count reader area summary namespaces line out) (given r) (z3 .1 .1 .1 .1 .0)
+        (z3 .1 .1 .1 .1 .1 .0) (z3 .1 .1 .1 .1 .1 .1 .1 .1 .0)) (λ s-bytes.
         move ! (0 ∷ []) $ split ! $ move ! (0 ∷ []) $
-        heard ! (Says-area (wordCommand (z1 .1 .1 .0) n count reader area namespaces line out) (given r) (z3 .1 .1 .1 .1 .0)
-        (z3 .1 .1 .1 .1 .1 .1 .1 .0)) (λ s-area.
+        heard ! (Says-area (wordCommand (z1 .1 .1 .0) n count reader area summary namespaces line out) (given r) (z3 .1 .1 .1 .1 .0)
+        (z3 .1 .1 .1 .1 .1 .0) (z3 .1 .1 .1 .1 .1 .1 .1 .1 .0)) (λ s-area.
+        move ! (0 ∷ []) $ split ! $ move ! (0 ∷ []) $
+        heard ! (Says-summary (wordCommand (z1 .1 .1 .0) n count reader area summary namespaces line out) (given r) (z3 .1 .1 .1 .1 .0)
+        (z3 .1 .1 .1 .1 .1 .0) (z3 .1 .1 .1 .1 .1 .1 .1 .1 .0)) (λ s-summary.
         move ! (0 ∷ []) $
-        heard ! ((map recordOf (take n (z3 .0)) ≡ wordCommand (z1 .1 .1 .0) n count reader area namespaces line out .store .records) × Between
-        (z1 .1 .1 .0) (z3 .0) n (r .from) (r .to)) (λ s-words.
+        heard ! ((map recordOf (take (lentOf (z1 .1 .1 .0) n summary) (z3 .0)) ≡ wordCommand (z1 .1 .1 .0) n count reader area summary namespaces line
+        out .records) × Between (z1 .1 .1 .0) (z3 .0) (lentOf (z1 .1 .1 .0) n summary) (r .from) (r .to)) (λ s-words.
         move ! (1 ∷ []) $ split ! $ move ! (1 ∷ []) $ peeks ! D.the-row (Is D.the-row) (shows 𝓤 H A D.the-row) r (v3 ∷ []) (λ is3.
-        land ! (from ! (stop !)) (init ! 54 refl (LL.lawful D.the-type D′.the-laws 𝓤 H A W .typed r _ is3 .0)) $
-        rewrite ! 54 (λ (u : Val). ‵ (fat fullShare D′.mir l10 0 u)) (ap only (D′.lowers .val-is r _ is3)) refl $ move ! (2 ∷ []) $ fsplit ! $
+        land ! (from ! (stop !)) (init ! 58 refl (LL.lawful D.the-type D′.the-laws 𝓤 H A W .typed r _ is3 .0)) $
+        rewrite ! 58 (λ (u : Val). ‵ (fat fullShare D′.mir l11 0 u)) (ap only (D′.lowers .val-is r _ is3)) refl $ move ! (2 ∷ []) $ fsplit ! $
         move ! (1 ∷ []) $ fsplit ! $ move ! (1 ∷ []) $ fsplit ! $ move ! (1 ∷ []) $ fsplit ! $ move ! (1 ∷ []) $ fsplit ! $ move ! (1 ∷ []) $
-        fsplit ! $ move ! (1 ∷ []) $ fsplit ! $ move ! (1 ∷ []) $ fsplit ! $ move ! (8 ∷ []) $ fsplit ! $ move ! (6 ∷ []) $ fsplit ! $
-        move ! (1 ∷ []) $ feqL ! (λ l-area. move ! (3 ∷ []) $ fsplit ! $ move ! (1 ∷ []) $ feqL ! (λ l-out. move ! (11 ∷ []) $ split ! $
-        move ! (1 ∷ []) $ split ! $ move ! (1 ∷ []) $ split ! $ move ! (1 ∷ []) $ split ! $ move ! (1 ∷ []) $ split ! $ move ! (5 ∷ []) $
-        lft-end ! tt $ move ! (0 ∷ 19 ∷ 8 ∷ []) $
-        use3 W (later (some (λ (v : Val). ‵ (fat fullShare (tyArray (tyInt w64) 512) l8 0 v) ⊛ ‵ ((Array u64 512) .own (z3 .0) (v ∷ [])))))
-        (local-back 𝓤 H A W u64 tt 512 l8 (ξ ∷ []) δ₂ (z3 .0)) $ await ! tt $ pick ! (λ v4. split ! $
+        fsplit ! $ move ! (1 ∷ []) $ fsplit ! $ move ! (1 ∷ []) $ fsplit ! $ move ! (1 ∷ []) $ fsplit ! $ move ! (9 ∷ []) $ fsplit ! $
+        move ! (7 ∷ []) $ fsplit ! $ move ! (1 ∷ []) $ feqL ! (λ l-area. move ! (7 ∷ []) $ fsplit ! $ move ! (1 ∷ []) $ feqL ! (λ l-summary.
+        move ! (4 ∷ []) $ fsplit ! $ move ! (1 ∷ []) $ feqL ! (λ l-out. move ! (12 ∷ []) $ split ! $ move ! (1 ∷ []) $ split ! $ move ! (1 ∷ []) $
+        split ! $ move ! (1 ∷ []) $ split ! $ move ! (1 ∷ []) $ split ! $ move ! (1 ∷ []) $ split ! $ move ! (6 ∷ []) $ lft-end ! tt $
+        move ! (0 ∷ 21 ∷ 10 ∷ []) $
+        use3 W (later (some (λ (v : Val). ‵ (fat fullShare (tyArray (tyInt w64) 512) l9 0 v) ⊛ ‵ ((Array u64 512) .own (z3 .0) (v ∷ [])))))
+        (local-back 𝓤 H A W u64 tt 512 l9 (ξ ∷ []) δ₂ (z3 .0)) $ await ! tt $ pick ! (λ v4. split ! $
         move ! (1 ∷ []) $ peeks ! (Array u64 512) (Is (Array u64 512)) (shows 𝓤 H A (Array u64 512)) (z3 .0) (v4 ∷ []) (λ is4.
-        assigns ! (addr ! (from ! (fld ! refl (hop ! (look-in ! 84 (sub ! 0 refl (whole !))) (stop !))))) (from ! (stop !))
-        (init ! 39 refl (tt, tt)) $
-        assigns ! (agg ! (and-then ! (load ! (from ! (stop !)) (look ! 39 refl))
-        (and-then ! (load ! (from ! (fld ! refl (stop !))) (look-in ! 84 (sub ! 1 refl (whole !)))) (no-more !)))) (from ! (stop !))
-        (init ! 37 refl (tt, (tt, (record { fits = good-records .0 }, tt)))) $
-        assigns ! (addr ! (from ! (stop !))) (from ! (stop !)) (init ! 35 refl (tt, tt)) $
-        assigns ! (agg ! (and-then ! (load ! (from ! (stop !)) (look ! 35 refl)) (and-then ! (lit ! tt) (no-more !)))) (from ! (stop !))
-        (init ! 33 refl (tt, (tt, (record { fits = lit< tt }, tt)))) $
+        assigns ! (addr ! (from ! (fld ! refl (hop ! (look-in ! 92 (sub ! 0 refl (whole !))) (stop !))))) (from ! (stop !))
+        (init ! 41 refl (tt, tt)) $
+        assigns ! (agg ! (and-then ! (load ! (from ! (stop !)) (look ! 41 refl))
+        (and-then ! (load ! (from ! (fld ! refl (stop !))) (look-in ! 92 (sub ! 1 refl (whole !)))) (no-more !)))) (from ! (stop !))
+        (init ! 39 refl (tt, (tt, (record { fits = good-records .0 }, tt)))) $
+        assigns ! (addr ! (from ! (stop !))) (from ! (stop !)) (init ! 37 refl (tt, tt)) $
+        assigns ! (agg ! (and-then ! (load ! (from ! (stop !)) (look ! 37 refl)) (and-then ! (lit ! tt) (no-more !)))) (from ! (stop !))
+        (init ! 35 refl (tt, (tt, (record { fits = lit< tt }, tt)))) $
         -- copy_back has the words lent as `&` for a lifetime of the call, and the records for good
         lft-new ! tt (λ ρ. move ! (2 ∷ 1 ∷ []) $
-        use2 W (later (some (λ (δ : GName). ‵ (ShrSlice (named 1) (ρ ∷ []) u64 .own (words l8 δ (z3 .0)) (sliceVal (l8, 0) 512 ∷ [])) ⊛
-        ‵ (flent (ρ ∷ []) (arr-parts (shares u64) 512 .part fullShare (z3 .0) l8 0)))))
-        (shares-local 𝓤 H A W u64 tt 512 l8 (named 1) (ρ ∷ []) (z3 .0) v4 room-512) $ await ! tt $ pick ! (λ δ₃. split ! $
+        use2 W (later (some (λ (δ : GName). ‵ (ShrSlice (named 1) (ρ ∷ []) u64 .own (words l9 δ (z3 .0)) (sliceVal (l9, 0) 512 ∷ [])) ⊛
+        ‵ (flent (ρ ∷ []) (arr-parts (shares u64) 512 .part fullShare (z3 .0) l9 0)))))
+        (shares-local 𝓤 H A W u64 tt 512 l9 (named 1) (ρ ∷ []) (z3 .0) v4 room-512) $ await ! tt $ pick ! (λ δ₃. split ! $
         owned ! usize (Is usize) (uint-makes 𝓤 H A W w64) (r .from) _ (refl, field-from r v3 is3) $
         owned ! usize (Is usize) (uint-makes 𝓤 H A W w64) (r .to) _ (refl, field-to r v3 is3) $ nothing ! $ move ! (3 ∷ 0 ∷ []) $ fjoin ! $
-        move ! (1 ∷ 0 ∷ []) $ fjoin ! $ move ! (1 ∷ 0 ∷ []) $ fjoin ! $ move ! (20 ∷ 0 ∷ []) $ fjoin ! $ nothing ! $ move ! (3 ∷ 0 ∷ []) $ join ! $
-        move ! (20 ∷ 0 ∷ []) $ join ! $ move ! (0 ∷ 1 ∷ []) $ join ! $
-        use1 W (raw (CopyBack 𝓤 H A mem run .pre (to-back l8 ρ δ₃ (z3 .0) (r .from) (r .to)))) (∗emp 𝓤 _) $
-        calls-at ! fm (CopyBack 𝓤 H A mem run) known-copy-back (to-back l8 ρ δ₃ (z3 .0) (r .from) (r .to))
-        (and-then ! (load ! (from ! (stop !)) (look ! 35 refl))
-        (and-then ! (load ! (from ! (fld ! refl (stop !))) (look-in ! 65 (sub ! 1 refl (whole !))))
-        (and-then ! (load ! (from ! (fld ! refl (stop !))) (look-in ! 65 (sub ! 2 refl (whole !))))
-        (and-then ! (load ! (from ! (stop !)) (look ! 31 refl)) (no-more !))))) (λ v5.
+        move ! (1 ∷ 0 ∷ []) $ fjoin ! $ move ! (1 ∷ 0 ∷ []) $ fjoin ! $ move ! (22 ∷ 0 ∷ []) $ fjoin ! $ nothing ! $ move ! (3 ∷ 0 ∷ []) $ join ! $
+        move ! (22 ∷ 0 ∷ []) $ join ! $ move ! (0 ∷ 1 ∷ []) $ join ! $
+        use1 W (raw (CopyBack 𝓤 H A mem run .pre (to-back l9 ρ δ₃ (z3 .0) (r .from) (r .to)))) (∗emp 𝓤 _) $
+        calls-at ! fm (CopyBack 𝓤 H A mem run) known-copy-back (to-back l9 ρ δ₃ (z3 .0) (r .from) (r .to))
+        (and-then ! (load ! (from ! (stop !)) (look ! 37 refl))
+        (and-then ! (load ! (from ! (fld ! refl (stop !))) (look-in ! 71 (sub ! 1 refl (whole !))))
+        (and-then ! (load ! (from ! (fld ! refl (stop !))) (look-in ! 71 (sub ! 2 refl (whole !))))
+        (and-then ! (load ! (from ! (stop !)) (look ! 33 refl)) (no-more !))))) (λ v5.
         use1 W (later (some (λ (k : Unit {0}). ((‵ (flft κ₀ q₀) ⊛ ‵ (flft (ρ ∷ []) fullShare) ⊛ ‵ ftrue) ⊛ ‵ (Nothing .own k (v5 ∷ []))) ⊛
         raw (ensured 𝓤 H A copy-back.ended (copy-back.clauses 𝓤 H A mem run) (κ₀, (ρ ∷ [], tt))
-        (x .0, (r .from, (r .to, (words l8 δ₃ (z3 .0), tt)))) tt k)))) (id⊢ 𝓤 _) $ await ! tt $ pick ! (λ u. split ! $
+        (x .0, (r .from, (r .to, (words l9 δ₃ (z3 .0), tt)))) tt k)))) (id⊢ 𝓤 _) $ await ! tt $ pick ! (λ u. split ! $
         move ! (1 ∷ []) $
-        use1 W (some (λ (z5 : Lasts copy-back.ended (κ₀, (ρ ∷ [], tt)) (x .0, (r .from, (r .to, (words l8 δ₃ (z3 .0), tt))))).
-        ‵ (lasts copy-back.ended (κ₀, (ρ ∷ [], tt)) (x .0, (r .from, (r .to, (words l8 δ₃ (z3 .0), tt)))) z5) ⊛
+        use1 W (some (λ (z5 : Lasts copy-back.ended (κ₀, (ρ ∷ [], tt)) (x .0, (r .from, (r .to, (words l9 δ₃ (z3 .0), tt))))).
+        ‵ (lasts copy-back.ended (κ₀, (ρ ∷ [], tt)) (x .0, (r .from, (r .to, (words l9 δ₃ (z3 .0), tt)))) z5) ⊛
         raw (fact 𝓤 (CopiedBack records (z3 .0) (r .from) (r .to) (z5 .0))))) (id⊢ 𝓤 _) $ pick ! (λ z5. split ! $
         move ! (1 ∷ []) $ heard ! (CopiedBack records (z3 .0) (r .from) (r .to) (z5 .0)) (λ e5. move ! (1 ∷ []) $ split ! $ move ! (1 ∷ []) $
         peeks ! Nothing (Is Nothing) (shows 𝓤 H A Nothing) u (v5 ∷ []) (λ is5.
-        land ! (from ! (stop !)) (init ! 41 refl (unit-typed v5 (ap only is5))) $ move ! (2 ∷ []) $ fsplit ! $ move ! (0 ∷ []) $ fsplit ! $
+        land ! (from ! (stop !)) (init ! 43 refl (unit-typed v5 (ap only is5))) $ move ! (2 ∷ []) $ fsplit ! $ move ! (0 ∷ []) $ fsplit ! $
         move ! (1 ∷ []) $ feqL ! (λ l-records. move ! (3 ∷ []) $ split ! $ move ! (1 ∷ []) $ split ! $ move ! (0 ∷ []) $ lft-end ! tt $
         move ! (0 ∷ 6 ∷ []) $
-        use2 W (later (some (λ (v : Val). ‵ (fat fullShare (tyArray (tyInt w64) 512) l8 0 v) ⊛ ‵ ((Array u64 512) .own (z3 .0) (v ∷ [])))))
-        (shared-back 𝓤 H A W u64 tt 512 l8 (ρ ∷ []) (z3 .0)) $ await ! tt $ pick ! (λ v6. split ! $
-        assigns ! (of-opd ! (load ! (from ! (fld ! refl (stop !))) (look-in ! 70 (sub ! 0 refl (whole !))))) (from ! (stop !))
-        (init ! 89 refl (LL.lawful R.the-type R′.the-laws 𝓤 H A W .typed (given r) _ (given-is r v3 is3) .0)) $
-        owned ! R.the-row (Is R.the-row) (LL.makes R.the-type R′.the-plain 𝓤 H A) (given r) _ (given-is r v3 is3) $ returns ! (look ! 90 refl) $
-        forget ! 37 refl $ forget ! 39 refl $ forget ! 41 refl $ forget ! 43 refl $ forget ! 45 refl $ forget ! 47 refl $ forget ! 49 refl $
-        forget ! 51 refl $ forget ! 53 refl $ forget ! 55 refl $ forget ! 57 refl $ forget ! 59 refl $ forget ! 61 refl $ forget ! 63 refl $
-        forget ! 65 refl $ forget ! 67 refl $ forget ! 69 refl $ forget ! 71 refl $ forget ! 73 refl $ forget ! 1 refl $ forget ! 76 refl $
-        forget ! 78 refl $ forget ! 80 refl $ forget ! 82 refl $ forget ! 84 refl $ forget ! 86 refl $ forget ! 88 refl $ forget ! 90 refl $
-        move ! (90 ∷ 91 ∷ []) $ free1 ! $ move ! (88 ∷ 89 ∷ []) $ free1 ! $ move ! (86 ∷ 87 ∷ []) $ free1 ! $ move ! (84 ∷ 85 ∷ []) $ free1 ! $
-        move ! (82 ∷ 83 ∷ []) $ free1 ! $ move ! (80 ∷ 81 ∷ []) $ free1 ! $ move ! (78 ∷ 79 ∷ []) $ free1 ! $ move ! (76 ∷ 77 ∷ []) $ free1 ! $
-        move ! (1 ∷ 75 ∷ []) $ free1 ! $ move ! (72 ∷ 73 ∷ []) $ free1 ! $ move ! (70 ∷ 71 ∷ []) $ free1 ! $ move ! (68 ∷ 69 ∷ []) $ free1 ! $
-        move ! (66 ∷ 67 ∷ []) $ free1 ! $ move ! (64 ∷ 65 ∷ []) $ free1 ! $ move ! (62 ∷ 63 ∷ []) $ free1 ! $ move ! (60 ∷ 61 ∷ []) $ free1 ! $
-        move ! (58 ∷ 59 ∷ []) $ free1 ! $ move ! (56 ∷ 57 ∷ []) $ free1 ! $ move ! (54 ∷ 55 ∷ []) $ free1 ! $ move ! (52 ∷ 53 ∷ []) $ free1 ! $
-        move ! (50 ∷ 51 ∷ []) $ free1 ! $ move ! (48 ∷ 49 ∷ []) $ free1 ! $ move ! (46 ∷ 47 ∷ []) $ free1 ! $ move ! (44 ∷ 45 ∷ []) $ free1 ! $
-        move ! (42 ∷ 43 ∷ []) $ free1 ! $ move ! (40 ∷ 41 ∷ []) $ free1 ! $ move ! (38 ∷ 39 ∷ []) $ free1 ! $ move ! (36 ∷ 37 ∷ []) $ free1 ! $
-        free0 ! $ keep ! (3 ∷ 11 ∷ 10 ∷ 9 ∷ 7 ∷ 4 ∷ 33 ∷ 32 ∷ 13 ∷ 23 ∷ 22 ∷ 12 ∷ 0 ∷ []) $
-        by ! (exits (given r) (R′.lowered (given r)) (z5 .0) (z3 .1 .1 .1 .1 .0) (z3 .1 .1 .1 .1 .1 .1 .1 .0)
-        (wordCommand (z1 .1 .1 .0) n count reader area namespaces line out)
-        (answers records xs (z1 .1 .1 .0) (z3 .0) n (r .from) (r .to) (is0 .1 .0 .1) (is2 .1 .0 .1) (is4 .1 .0 .1) e1 count reader area namespaces
-        line out (s-words .0) (s-words .1) (z5 .0) e5) s-result s-bytes s-area l-records l-area
-        l-out))))))))))))))))))))))))))))))))))))))))))))))))))))))))))))))))))))
+        use2 W (later (some (λ (v : Val). ‵ (fat fullShare (tyArray (tyInt w64) 512) l9 0 v) ⊛ ‵ ((Array u64 512) .own (z3 .0) (v ∷ [])))))
+        (shared-back 𝓤 H A W u64 tt 512 l9 (ρ ∷ []) (z3 .0)) $ await ! tt $ pick ! (λ v6. split ! $
+        assigns ! (of-opd ! (load ! (from ! (fld ! refl (stop !))) (look-in ! 76 (sub ! 0 refl (whole !))))) (from ! (stop !))
+        (init ! 97 refl (LL.lawful R.the-type R′.the-laws 𝓤 H A W .typed (given r) _ (given-is r v3 is3) .0)) $
+        owned ! R.the-row (Is R.the-row) (LL.makes R.the-type R′.the-plain 𝓤 H A) (given r) _ (given-is r v3 is3) $ returns ! (look ! 98 refl) $
+        forget ! 39 refl $ forget ! 41 refl $ forget ! 43 refl $ forget ! 45 refl $ forget ! 47 refl $ forget ! 49 refl $ forget ! 51 refl $
+        forget ! 53 refl $ forget ! 55 refl $ forget ! 57 refl $ forget ! 59 refl $ forget ! 61 refl $ forget ! 63 refl $ forget ! 65 refl $
+        forget ! 67 refl $ forget ! 69 refl $ forget ! 71 refl $ forget ! 73 refl $ forget ! 75 refl $ forget ! 77 refl $ forget ! 79 refl $
+        forget ! 1 refl $ forget ! 82 refl $ forget ! 84 refl $ forget ! 86 refl $ forget ! 88 refl $ forget ! 90 refl $ forget ! 92 refl $
+        forget ! 94 refl $ forget ! 96 refl $ forget ! 98 refl $ move ! (98 ∷ 99 ∷ []) $ free1 ! $ move ! (96 ∷ 97 ∷ []) $ free1 ! $
+        move ! (94 ∷ 95 ∷ []) $ free1 ! $ move ! (92 ∷ 93 ∷ []) $ free1 ! $ move ! (90 ∷ 91 ∷ []) $ free1 ! $ move ! (88 ∷ 89 ∷ []) $ free1 ! $
+        move ! (86 ∷ 87 ∷ []) $ free1 ! $ move ! (84 ∷ 85 ∷ []) $ free1 ! $ move ! (82 ∷ 83 ∷ []) $ free1 ! $ move ! (1 ∷ 81 ∷ []) $ free1 ! $
+        move ! (78 ∷ 79 ∷ []) $ free1 ! $ move ! (76 ∷ 77 ∷ []) $ free1 ! $ move ! (74 ∷ 75 ∷ []) $ free1 ! $ move ! (72 ∷ 73 ∷ []) $ free1 ! $
+        move ! (70 ∷ 71 ∷ []) $ free1 ! $ move ! (68 ∷ 69 ∷ []) $ free1 ! $ move ! (66 ∷ 67 ∷ []) $ free1 ! $ move ! (64 ∷ 65 ∷ []) $ free1 ! $
+        move ! (62 ∷ 63 ∷ []) $ free1 ! $ move ! (60 ∷ 61 ∷ []) $ free1 ! $ move ! (58 ∷ 59 ∷ []) $ free1 ! $ move ! (56 ∷ 57 ∷ []) $ free1 ! $
+        move ! (54 ∷ 55 ∷ []) $ free1 ! $ move ! (52 ∷ 53 ∷ []) $ free1 ! $ move ! (50 ∷ 51 ∷ []) $ free1 ! $ move ! (48 ∷ 49 ∷ []) $ free1 ! $
+        move ! (46 ∷ 47 ∷ []) $ free1 ! $ move ! (44 ∷ 45 ∷ []) $ free1 ! $ move ! (42 ∷ 43 ∷ []) $ free1 ! $ move ! (40 ∷ 41 ∷ []) $ free1 ! $
+        move ! (38 ∷ 39 ∷ []) $ free1 ! $ free0 ! $ keep ! (3 ∷ 12 ∷ 11 ∷ 10 ∷ 9 ∷ 7 ∷ 4 ∷ 35 ∷ 34 ∷ 15 ∷ 14 ∷ 25 ∷ 24 ∷ 13 ∷ 0 ∷ []) $
+        by ! (exits (given r) (R′.lowered (given r)) (z5 .0) (z3 .1 .1 .1 .1 .0) (z3 .1 .1 .1 .1 .1 .0) (z3 .1 .1 .1 .1 .1 .1 .1 .1 .0)
+        (wordCommand (z1 .1 .1 .0) n count reader area summary namespaces line out)
+        (answers records xs (z1 .1 .1 .0) (z3 .0) summary n (r .from) (r .to) (is0 .1 .0 .1) (is2 .1 .0 .1) (is4 .1 .0 .1) e1 count area reader
+        namespaces line out (subst (λ (k : ℕ). map recordOf (take k (z3 .0)) ≡ wordCommand (z1 .1 .1 .0) n count reader area summary namespaces line
+        out .records) (all-lent xs (z1 .1 .1 .0) n (is0 .1 .0 .1) (is2 .1 .0 .1) e1) (s-words .0))
+        (subst (λ (k : ℕ). Between (z1 .1 .1 .0) (z3 .0) k (r .from) (r .to)) (all-lent xs (z1 .1 .1 .0) n (is0 .1 .0 .1) (is2 .1 .0 .1) e1)
+        (s-words .1)) (z5 .0) e5) s-result s-bytes s-area s-summary l-records l-area l-summary
+        l-out)))))))))))))))))))))))))))))))))))))))))))))))))))))))))))))))))))))))))
 
 module _ {M : Type 1} (𝓤 : URA M) (H : Heap 𝓤) (A : Atoms 𝓤) (W : Given 𝓤 H A) (mem : Memory → SProp 𝓤) (run : Routine → Fun 𝓤) (𝓣 : Tables 𝓤 H)
     (known-no-words : Triple 𝓤 (𝓣 .C #records·no-words) (tripleOf 𝓤 H A no-words.signature (no-words.spec 𝓤 H A mem run)))
@@ -468,7 +552,7 @@ module _ {M : Type 1} (𝓤 : URA M) (H : Heap 𝓤) (A : Atoms 𝓤) (W : Given
   luspemaro-answer-walks : Walks 𝓤 H A luspemaro-answer.ended stayed (WpFn 𝓤 H (𝓣 .C) (𝓣 .Λ) code.function) (luspemaro-answer.clauses 𝓤 H A mem run)
   luspemaro-answer-walks =
       walked 𝓤 H A luspemaro-answer.ended stayed (luspemaro-answer.clauses 𝓤 H A mem run) (WpFn 𝓤 H (𝓣 .C) (𝓣 .Λ) code.function)
-      (λ κs. (slice-vals, (uint-vals w64, (uint-vals w8, (slice-vals, (slice-vals, (slice-vals, (slice-vals, tt))))))))
+      (λ κs. (slice-vals, (uint-vals w64, (uint-vals w8, (slice-vals, (slice-vals, (slice-vals, (slice-vals, (slice-vals, tt)))))))))
       (λ κs. (
         mut-slice-tells (named 0) (κs .0) T.the-row,
         (
@@ -477,31 +561,44 @@ module _ {M : Type 1} (𝓤 : URA M) (H : Heap 𝓤) (A : Atoms 𝓤) (W : Given
             uint-tells w8,
             (
               mut-slice-tells (named 1) (κs .1 .0) u8,
-              (shr-slice-tells (named 2) (κs .1 .1 .0) u8, (shr-slice-tells (named 3) (κs .1 .1 .1 .0) u8, (mut-slice-tells (named 4) (κs .1 .1 .1 .1 .0) u8, tt))),
+              (
+                mut-slice-tells (named 2) (κs .1 .1 .0) u64,
+                (
+                  shr-slice-tells (named 3) (κs .1 .1 .1 .0) u8,
+                  (shr-slice-tells (named 4) (κs .1 .1 .1 .1 .0) u8, (mut-slice-tells (named 5) (κs .1 .1 .1 .1 .1 .0) u8, tt)),
+                ),
+              ),
             ),
           ),
         ),
       ))
       (λ κs qs bounds a g are. via 𝓤 _ (fst∗ 𝓤 _ (emp 𝓤)) (walk 𝓤 H A W mem run (κs .0) (κs .1 .0) (κs .1 .1 .0) (κs .1 .1 .1 .0) (κs .1 .1 .1 .1 .0)
-      (qs .0) (qs .1 .0) (qs .1 .1 .0) (qs .1 .1 .1 .0) (qs .1 .1 .1 .1 .0) (a .0 .ptr .0) (a .0 .ptr .1) (a .0 .name) (a .0 .now) (a .1 .0)
-      (a .1 .1 .0) (a .1 .1 .1 .0 .ptr .0) (a .1 .1 .1 .0 .ptr .1) (a .1 .1 .1 .0 .name) (a .1 .1 .1 .0 .now) (a .1 .1 .1 .1 .0 .ptr .0)
-      (a .1 .1 .1 .1 .0 .ptr .1) (a .1 .1 .1 .1 .0 .name) (a .1 .1 .1 .1 .0 .now) (a .1 .1 .1 .1 .1 .0 .ptr .0) (a .1 .1 .1 .1 .1 .0 .ptr .1)
-      (a .1 .1 .1 .1 .1 .0 .name) (a .1 .1 .1 .1 .1 .0 .now) (a .1 .1 .1 .1 .1 .1 .0 .ptr .0) (a .1 .1 .1 .1 .1 .1 .0 .ptr .1)
-      (a .1 .1 .1 .1 .1 .1 .0 .name) (a .1 .1 .1 .1 .1 .1 .0 .now) (are .0 .0 .1) (are .1 .0 .1) (are .1 .1 .0 .1) (are .1 .1 .1 .0 .0 .1)
-      (are .1 .1 .1 .1 .0 .0 .1) (are .1 .1 .1 .1 .1 .0 .0 .1) (are .1 .1 .1 .1 .1 .1 .0 .0 .1) 𝓣 known-no-words known-copy-in known-answer-words
-      known-copy-back))
+      (κs .1 .1 .1 .1 .1 .0) (qs .0) (qs .1 .0) (qs .1 .1 .0) (qs .1 .1 .1 .0) (qs .1 .1 .1 .1 .0) (qs .1 .1 .1 .1 .1 .0) (a .0 .ptr .0)
+      (a .0 .ptr .1) (a .0 .name) (a .0 .now) (a .1 .0) (a .1 .1 .0) (a .1 .1 .1 .0 .ptr .0) (a .1 .1 .1 .0 .ptr .1) (a .1 .1 .1 .0 .name)
+      (a .1 .1 .1 .0 .now) (a .1 .1 .1 .1 .0 .ptr .0) (a .1 .1 .1 .1 .0 .ptr .1) (a .1 .1 .1 .1 .0 .name) (a .1 .1 .1 .1 .0 .now)
+      (a .1 .1 .1 .1 .1 .0 .ptr .0) (a .1 .1 .1 .1 .1 .0 .ptr .1) (a .1 .1 .1 .1 .1 .0 .name) (a .1 .1 .1 .1 .1 .0 .now)
+      (a .1 .1 .1 .1 .1 .1 .0 .ptr .0) (a .1 .1 .1 .1 .1 .1 .0 .ptr .1) (a .1 .1 .1 .1 .1 .1 .0 .name) (a .1 .1 .1 .1 .1 .1 .0 .now)
+      (a .1 .1 .1 .1 .1 .1 .1 .0 .ptr .0) (a .1 .1 .1 .1 .1 .1 .1 .0 .ptr .1) (a .1 .1 .1 .1 .1 .1 .1 .0 .name) (a .1 .1 .1 .1 .1 .1 .1 .0 .now)
+      (are .0 .0 .1) (are .1 .0 .1) (are .1 .1 .0 .1) (are .1 .1 .1 .0 .0 .1) (are .1 .1 .1 .1 .0 .0 .1) (are .1 .1 .1 .1 .1 .0 .0 .1)
+      (are .1 .1 .1 .1 .1 .1 .0 .0 .1) (are .1 .1 .1 .1 .1 .1 .1 .0 .0 .1) 𝓣 known-no-words known-copy-in known-answer-words known-copy-back))
 
   luspemaro-answer-meets : Meets 𝓤 H A luspemaro-answer.signature (WpFn 𝓤 H (𝓣 .C) (𝓣 .Λ) code.function) (luspemaro-answer.spec 𝓤 H A mem run)
   luspemaro-answer-meets =
       walk-meets 𝓤 H A luspemaro-answer.ended stayed W (
-        goes-gave-slice 𝓤 H A W 5 0 tt (plain (λ _. T.the-row)),
+        goes-gave-slice 𝓤 H A W 6 0 tt (plain (λ _. T.the-row)),
         (
-          goes-none 𝓤 H A W 5 (λ _. usize) yes (λ κs x f. refl),
+          goes-none 𝓤 H A W 6 (λ _. usize) yes (λ κs x f. refl),
           (
-            goes-none 𝓤 H A W 5 (λ _. u8) yes (λ κs x f. refl),
+            goes-none 𝓤 H A W 6 (λ _. u8) yes (λ κs x f. refl),
             (
-              goes-gave-slice 𝓤 H A W 5 1 tt (plain (λ _. u8)),
-              (goes-none-slice 𝓤 H A W 5 (2 ∷ []) tt (plain (λ _. u8)) yes, (goes-none-slice 𝓤 H A W 5 (3 ∷ []) tt (plain (λ _. u8)) yes, (goes-gave-slice 𝓤 H A W 5 4 tt (plain (λ _. u8)), tt))),
+              goes-gave-slice 𝓤 H A W 6 1 tt (plain (λ _. u8)),
+              (
+                goes-gave-slice 𝓤 H A W 6 2 tt (plain (λ _. u64)),
+                (
+                  goes-none-slice 𝓤 H A W 6 (3 ∷ []) tt (plain (λ _. u8)) yes,
+                  (goes-none-slice 𝓤 H A W 6 (4 ∷ []) tt (plain (λ _. u8)) yes, (goes-gave-slice 𝓤 H A W 6 5 tt (plain (λ _. u8)), tt)),
+                ),
+              ),
             ),
           ),
         ),

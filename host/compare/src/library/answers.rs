@@ -78,7 +78,7 @@ pub fn answer_over(tally: &mut Tally, table: &mut Compared, asked: Asked, room: 
             let (table, Asked { reader, list, line }) = (Table::Packed(table), asked);
             let second = answer_reading(reader, table, list, line, &mut out[SECOND]);
             let second = second.map_err(Refusal::number);
-            let results = [proved.map(|(length, _)| length), second];
+            let results = [proved.map(|answered| answered.length), second];
             let [proved_out, second_out] = out.map(Text);
             let given = [
                 (results[PROVED], proved_out, records.difference()),
@@ -90,15 +90,15 @@ pub fn answer_over(tally: &mut Tally, table: &mut Compared, asked: Asked, room: 
     }
 }
 
-/// Answers by both libraries, each over its own records, which an edit changes. Result, count, buffer,
-/// every record and every byte of the area are compared.
+/// Answers by both libraries, each over its own records, which an edit changes. Result, count, whether a row
+/// changed, buffer, every record, every number of the summary and every byte of the area are compared.
 pub fn answer_both(tally: &mut Tally, table: &mut Mailboxes, asked: Asked, room: usize) -> usize {
     let given = [PROVED, SECOND].map(|who| {
         let mut out = vec![FILL; room];
         let result = ANSWER[who](table, asked, &mut out);
         (result, Text(out))
     });
-    let length = given[SECOND].0.map_or(0, |(length, _)| length);
+    let length = given[SECOND].0.map_or(0, |answered| answered.length);
     let [(proved, proved_out), (second, second_out)] = given;
     let given = [(proved, proved_out, table.difference()), (second, second_out, None)];
     tally.same(|| call_text(table, asked, room), given);

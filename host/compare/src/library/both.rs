@@ -3,11 +3,11 @@
 
 use std::fmt;
 
-use luspemaro::{ListOptions, WalkRefusal};
+use luspemaro::{Answered, ListOptions, RecordsMut, WalkRefusal};
 use second::{Refusal, Table};
 use session::show_table;
 
-use crate::records::Layout;
+use crate::records::{set_count, Layout};
 use crate::report::show_layout;
 
 pub const PROVED: usize = 0;
@@ -47,14 +47,16 @@ struct ProvedTable {
     records: Vec<luspemaro::Record>,
     count: usize,
     area: Vec<u8>,
+    summary: Vec<luspemaro::Summary>,
 }
 
 pub type Check = fn(Lent) -> bool;
 pub type CheckList = fn(&[u8]) -> bool;
 pub type Matches = fn(&[u8], &[u8]) -> bool;
-/// Of a command, the answer's length and the count that is given back.
-pub type Answer = fn(&mut Mailboxes, Asked, &mut [u8]) -> Result<(usize, usize), u8>;
-pub type Compact = fn(&mut Mailboxes) -> Result<(), u8>;
+/// Of a command, the answer's length, the count that is given back, and whether a row changed.
+pub type Answer = fn(&mut Mailboxes, Asked, &mut [u8]) -> Result<Answered, u8>;
+/// A compaction, or a summary counted afresh.
+pub type Change = fn(&mut Mailboxes) -> Result<(), u8>;
 /// Of a walk of a reader, with an option byte.
 pub type Collect = fn(u8, Lent, u8, &mut [u8], &mut [u8], &mut [u8]) -> Result<(usize, usize), u8>;
 pub type WriteLine = fn(u16, &[u8], u8, &mut [u8]) -> Result<usize, u8>;
@@ -76,25 +78,34 @@ pub const MATCHES: [Matches; 2] = [luspemaro::matches, second::matches];
 
 pub const ANSWER: [Answer; 2] = [
     |table, Asked { reader, list, line }, out| {
-        let ProvedTable { records, count, area } = &mut table.proved;
-        let answered = luspemaro::answer_from(reader, records, *count, area, list, line, out)
+        let ProvedTable { records, count, area, summary } = &mut table.proved;
+        let lent = RecordsMut { records, count: *count, area, summary };
+        let answered = luspemaro::answer_from(reader, lent, list, line, out)
             .map_err(luspemaro::Refusal::number)?;
         *count = answered.count;
-        Ok((answered.length, answered.count))
+        Ok(answered)
     },
     |table, Asked { reader, list, line }, out| {
         let answered = table.second.lend(|lent| second::answer(reader, lent, list, line, out));
-        let answered = answered.map_err(Refusal::number)?;
-        Ok((answered.length, table.second.count))
+        let second::Answered { length, changed, .. } = answered.map_err(Refusal::number)?;
+        Ok(Answered { length, count: table.second.count, changed })
     },
 ];
 
-pub const COMPACT: [Compact; 2] = [
+pub const COMPACT: [Change; 2] = [
     |table| {
-        let ProvedTable { records, count, area } = &mut table.proved;
-        luspemaro::compact(records, *count, area).map_err(luspemaro::Refusal::number)
+        let ProvedTable { records, count, area, summary } = &mut table.proved;
+        luspemaro::compact(records, *count, area, summary).map_err(luspemaro::Refusal::number)
     },
     |table| table.second.lend(second::compact).map_err(Refusal::number),
+];
+
+pub const SUMMARIZE: [Change; 2] = [
+    |table| {
+        let ProvedTable { records, count, area, summary } = &mut table.proved;
+        luspemaro::summarize(records, *count, area, summary).map_err(luspemaro::Refusal::number)
+    },
+    |table| table.second.lend(second::summarize).map_err(Refusal::number),
 ];
 
 pub const COLLECT: [Collect; 2] = [
@@ -156,7 +167,8 @@ impl Lent<'_> {
 impl Mailboxes {
     pub fn new(second: Layout) -> Mailboxes {
         let records = second.records.iter().map(proved_record).collect();
-        let proved = ProvedTable { records, count: second.count, area: second.area.clone() };
+        let (count, area) = (second.count, second.area.clone());
+        let proved = ProvedTable { records, count, area, summary: proved_numbers(&second) };
         Mailboxes { proved, second }
     }
 
@@ -165,17 +177,25 @@ impl Mailboxes {
         &self.second
     }
 
-    /// Sets how many of the records are rows.
+    /// Makes so many of the records rows, with the summary of these.
     pub fn set_count(&mut self, count: usize) {
-        self.proved.count = count;
-        self.second.count = count;
+        if self.second.count != count {
+            set_count(&mut self.second, count);
+            self.proved.count = count;
+            self.proved.summary = proved_numbers(&self.second);
+        }
     }
 
-    /// The first place in which the two tables differ: count, record or byte of the area.
+    /// The first place in which the two tables differ: count, number of the summary, record or byte of the area.
     pub fn difference(&self) -> Option<String> {
         let (proved, second) = (&self.proved, &self.second);
         if proved.count != second.count {
             return Some(format!("count {}, and {} by the second", proved.count, second.count));
+        }
+        let mut numbers = proved.summary.iter().zip(&second.summary).enumerate();
+        let is_other = |number: u64, other: &second::Summary| number != other.number();
+        if let Some((at, pair)) = numbers.find(|(_, (one, other))| is_other(one.0, other)) {
+            return Some(format!("number {at} of the summary: {pair:?}"));
         }
         let mut records = proved.records.iter().zip(&second.records).enumerate();
         if let Some((at, pair)) = records.find(|(_, (one, other))| **one != proved_record(other)) {
@@ -188,26 +208,32 @@ impl Mailboxes {
 
     /// Flags, readers and names of the rows that the proved library has, of a table that passes.
     pub fn proved_rows(&self) -> Vec<(u16, u8, &[u8])> {
-        let ProvedTable { records, count, area } = &self.proved;
+        let ProvedTable { records, count, area, .. } = &self.proved;
         let name = |row: &luspemaro::Record| &area[usize::from(row.start)..][..row.len.into()];
         records[..*count].iter().map(|row| (row.flags, row.readers, name(row))).collect()
     }
 
-    /// Makes one of the two tables what it is in another of as many records and bytes.
+    /// Makes one of the two tables what it is in another of as many records, bytes and numbers.
     pub fn restore(&mut self, who: usize, other: &Mailboxes) {
         if who == SECOND {
             self.second.records.copy_from_slice(&other.second.records);
             self.second.area.copy_from_slice(&other.second.area);
+            self.second.summary.copy_from_slice(&other.second.summary);
         } else {
             self.proved.records.copy_from_slice(&other.proved.records);
             self.proved.area.copy_from_slice(&other.proved.area);
+            self.proved.summary.copy_from_slice(&other.proved.summary);
         }
     }
 
     fn proved(&self) -> luspemaro::Records<'_> {
-        let ProvedTable { records, count, area } = &self.proved;
-        luspemaro::Records { records, count: *count, area }
+        let ProvedTable { records, count, area, summary } = &self.proved;
+        luspemaro::Records { records, count: *count, area, summary }
     }
+}
+
+fn proved_numbers(second: &Layout) -> Vec<luspemaro::Summary> {
+    second.summary.iter().map(|summary| luspemaro::Summary(summary.number())).collect()
 }
 
 fn proved_record(record: &second::Record) -> luspemaro::Record {

@@ -3,7 +3,7 @@
 use second::rows::MAX_ROWS;
 
 use super::answers::{answer_both, call_text};
-use super::both::{Asked, Lent, Mailboxes, ANSWER, COMPACT, PROVED, SECOND};
+use super::both::{Asked, Change, Lent, Mailboxes, ANSWER, COMPACT, PROVED, SECOND};
 use super::records::{each_limit, each_small_area};
 use super::tally::{Tally, Text};
 use super::walks::{collect_both, Rooms, OPTIONS};
@@ -75,12 +75,21 @@ fn compact_layout(tally: &mut Tally, layout: Layout) {
     compact_both(tally, &mut Mailboxes::new(layout));
 }
 
-/// By both libraries, each over its own records: result, every record and every byte of the area are
-/// compared. Gives whether it was done.
 fn compact_both(tally: &mut Tally, table: &mut Mailboxes) -> bool {
+    change_both(tally, "compact", COMPACT, table)
+}
+
+/// By both libraries, each over its own records: result, every record, every number of the summary and every byte
+/// of the area are compared. Gives whether it was done.
+pub fn change_both(
+    tally: &mut Tally,
+    name: &str,
+    change: [Change; 2],
+    table: &mut Mailboxes,
+) -> bool {
     let before = table.layout().clone();
-    let [proved, second] = [PROVED, SECOND].map(|who| COMPACT[who](table));
-    let call = || format!("compact: table before\n{}", Lent::Records(&Mailboxes::new(before)));
+    let [proved, second] = [PROVED, SECOND].map(|who| change[who](table));
+    let call = || format!("{name}: table before\n{}", Lent::Records(&Mailboxes::new(before)));
     tally.same(call, [(proved, table.difference()), (second, None)]);
     second.is_ok()
 }

@@ -4,7 +4,7 @@ use super::both::{Lent, Mailboxes};
 use super::tables::check_both;
 use super::tally::Tally;
 use super::walks::{collect_both, Rooms};
-use crate::records::{in_place, Layout};
+use crate::records::Layout;
 
 pub enum Compared {
     /// Each library has its own, which are the same.
@@ -20,7 +20,7 @@ impl Compared {
     }
 
     pub fn packed(table: Vec<u8>) -> Compared {
-        let records = in_place(&table).map(Mailboxes::new);
+        let records = Layout::of_packed(&table).map(Mailboxes::new);
         Compared::Packed { table, records }
     }
 

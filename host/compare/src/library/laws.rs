@@ -2,7 +2,7 @@
 //! own (W12), by the proved library, its line reader included.
 
 use luspemaro::ListOptions;
-use second::{Criteria, Line, Record};
+use second::{Criteria, Line};
 
 use super::both::{Asked, Mailboxes, ANSWER, JOIN, PROVED};
 use super::tally::Tally;
@@ -11,7 +11,7 @@ use crate::joins;
 use crate::more_patterns;
 use crate::own_commands;
 use crate::random::Random;
-use crate::records::{laid_out, Layout};
+use crate::records::{extend, laid_out};
 use crate::tables::NewRow;
 use crate::trials::{Given, Law, Trial};
 
@@ -110,21 +110,16 @@ fn given_in(
     asked: &[(u8, Vec<u8>)],
     room: usize,
 ) -> Vec<Given> {
-    let mut table = Mailboxes::new(with_room(laid_out(random, rows)));
+    let mut layout = laid_out(random, rows);
+    extend(&mut layout, SPARE_RECORDS, SPARE_BYTES, b'/');
+    let mut table = Mailboxes::new(layout);
     let mut out = vec![0; room];
     let mut answer = |(reader, line): &(u8, Vec<u8>)| {
         let asked = Asked { reader: *reader, ..Asked::by_0(line) };
-        let (length, _) = ANSWER[PROVED](&mut table, asked, &mut out)?;
-        Ok(out[..length].to_vec())
+        let answered = ANSWER[PROVED](&mut table, asked, &mut out)?;
+        Ok(out[..answered.length].to_vec())
     };
     asked.iter().map(&mut answer).collect()
-}
-
-fn with_room(mut layout: Layout) -> Layout {
-    let (records, bytes) = (layout.records.len(), layout.area.len());
-    layout.records.resize(records + SPARE_RECORDS, Record::default());
-    layout.area.resize(bytes + SPARE_BYTES, b'/');
-    layout
 }
 
 /// The proved line reader.

@@ -18,6 +18,7 @@ mod matching;
 mod readers;
 mod reading;
 mod records;
+mod summaries;
 mod tables;
 mod tally;
 mod walks;
@@ -27,7 +28,7 @@ pub use tally::Tally;
 /// A name, and what compares.
 pub type Group = (&'static str, fn(&mut Tally));
 
-pub const GROUPS: [Group; 39] = [
+pub const GROUPS: [Group; 44] = [
     ("every set of attributes, written and read back", lines::every_set),
     ("every number of a set of criteria", lines::every_criteria_byte),
     ("names at the limits, buffers on both sides of the line's length", lines::names_and_rooms),
@@ -55,6 +56,11 @@ pub const GROUPS: [Group; 39] = [
     ("compactions of areas full of holes, with commands and walks", compactions::of_holes),
     ("compactions at every place of small areas", compactions::small_areas),
     ("compactions at the limits", compactions::limits),
+    ("summaries kept up to date by series of edits", summaries::series),
+    ("summaries after edits in every order", summaries::every_order),
+    ("summaries that are wrong, too short or too long", summaries::damaged),
+    ("summaries counted afresh, of records in every layout", summaries::counted),
+    ("summaries at the limits", summaries::limits),
     ("streams for the feeder, chunk by chunk", feeding::streams),
     ("memory and states that the feeder does not take", feeding::not_taken),
     ("the continuation line at any place of a buffer", feeding::continuation),

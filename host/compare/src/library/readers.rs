@@ -112,7 +112,7 @@ fn answer_alike(tally: &mut Tally, tables: &[Mailboxes; 2], asked: Asked) {
             answer_both(tally, &mut table.clone(), asked, room);
             let mut out = vec![FILL; room];
             let result = ANSWER[PROVED](&mut table.clone(), asked, &mut out);
-            (result.map(|(length, _)| length), Text(out))
+            (result.map(|answered| answered.length), Text(out))
         });
         let call = || {
             let [one, other] = tables.each_ref().map(|table| call_text(table, asked, room));

@@ -15,7 +15,7 @@ use crate::commands::{command, damaged};
 use crate::damage::{damaged_bytes, damaged_table, namespace_list};
 use crate::lsub::{lsub_command, subscriptions};
 use crate::random::Random;
-use crate::records::{laid_out, some_layout, Layout};
+use crate::records::{laid_out, some_layout, summarized, Layout};
 use crate::tables::{good_table, names_of, table_bytes, NewRow};
 
 /// The most rows of a table that is not at a limit.
@@ -130,7 +130,7 @@ fn each_choice(
 ) {
     if more == 0 {
         let (records, count) = (chosen.clone(), chosen.len());
-        return compare(Layout { records, count, area: area.to_vec() });
+        return compare(summarized(records, count, area.to_vec()));
     }
     for &record in places {
         chosen.push(record);
@@ -166,7 +166,7 @@ pub fn each_limit(compare: &mut dyn FnMut(Layout)) {
         let high = (0..64).map(|bit| 1 << bit);
         for count in (0..=4).chain(high.clone()).chain(high.map(|bit| bit + records)) {
             let records = layout.records[..records].to_vec();
-            compare(Layout { records, count, area: layout.area.clone() });
+            compare(summarized(records, count, layout.area.clone()));
         }
     }
 }
@@ -185,7 +185,7 @@ fn side_by_side(rows: &[NewRow], turned: bool, size: usize) -> Layout {
         area.extend_from_slice(&rows[at].name);
     }
     area.resize(area.len().max(size), b'/');
-    Layout { count: records.len(), records, area }
+    summarized(records, rows.len(), area)
 }
 
 /// Rows with ascending names of one length, of at least 4.

@@ -5,6 +5,7 @@ use compare::edit_series::{
 };
 use compare::edits::free_runs;
 use compare::random::Random;
+use compare::records::set_count;
 use second::records::MAX_AREA;
 use second::rows::MAX_ROWS;
 use second::{answer, Refusal, Store};
@@ -17,13 +18,14 @@ const CALLS: usize = 40;
 /// What a call comes to.
 fn outcome(table: &mut Store, command: &Command) -> String {
     let (before, mut out) = (table.clone(), vec![0; command.room]);
-    table.count = command.count;
+    set_count(table, command.count);
+    let called = table.clone();
     let Command { reader, namespaces, line, .. } = command;
     let result = table.lend(|lent| answer(*reader, lent, namespaces, line, &mut out));
     match result.map_err(Refusal::number) {
         Err(number) => {
-            table.count = before.count;
-            assert_eq!(*table, before);
+            assert_eq!(*table, called);
+            *table = before;
             format!("refused with {number}")
         }
         Ok(answered) if !answered.is_edit => "read".to_string(),

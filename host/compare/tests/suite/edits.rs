@@ -98,10 +98,8 @@ fn what_the_sessions_reach() {
 #[test]
 fn free_runs_of_areas() {
     let record = |start, len| Record { flags: 1, start, len, readers: 0 };
-    let store = |records: &[Record], area: &[u8]| Store {
-        records: records.to_vec(),
-        count: records.len(),
-        area: area.to_vec(),
+    let store = |records: &[Record], area: &[u8]| {
+        Store::counted(records.to_vec(), records.len(), area.to_vec())
     };
     assert_eq!(free_runs(&store(&[], b"")), []);
     assert_eq!(free_runs(&store(&[], b"ab")).first(), Some(&(0..2)));

@@ -12,5 +12,7 @@ mod lsub;
 mod reached;
 mod readers;
 mod records;
+mod replays;
 mod streams;
+mod summaries;
 mod walks;

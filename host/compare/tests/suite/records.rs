@@ -2,7 +2,7 @@
 //! alone.
 
 use compare::random::Random;
-use compare::records::{in_place, laid_out, overlapping, some_layout, Layout};
+use compare::records::{laid_out, overlapping, some_layout, Layout};
 use compare::tables::{good_table, table_bytes, NewRow};
 use second::table::checked_rows;
 use second::{check_table, Table};
@@ -40,7 +40,7 @@ fn lawful_layouts_pass() {
         in_order += usize::from(held.is_sorted_by_key(|record| record.start));
         let used: usize = held.iter().map(|record| usize::from(record.len)).sum();
         with_gaps += usize::from(used < layout.area.len());
-        let in_place = in_place(&table_bytes(&rows)).expect("rows that fill it");
+        let in_place = Layout::of_packed(&table_bytes(&rows)).expect("rows that fill it");
         assert!(check_table(Table::Records(in_place.as_records())), "seed {seed}");
     }
     let total = SEEDS.end as usize;

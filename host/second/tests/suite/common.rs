@@ -1,17 +1,23 @@
 //! Set-ups, exchanges and walks as data, and the checks of them.
 
 use second::namespaces::Entry;
-use second::packed::packed_records;
 use second::rows::{Flags, Row};
 use second::{
-    answer, answer_reading, check_table, collect, frames, Reader, Readers, Record, Records,
-    Refusal, Store, Table,
+    answer, answer_reading, check_table, collect, frames, Reader, Readers, Record, Refusal, Store,
+    Summary, Table,
 };
 
 /// What a lent buffer holds before a call.
 pub const FILL: u8 = 0xA5;
 /// The set of all readers.
 pub const ALL: u8 = 0xFF;
+/// What the numbers of spare records hold, which nothing looks at.
+pub const SPARE_SUMMARY: Summary = Summary {
+    subscribed_local: 0xFFFF,
+    subscribed_remote: 1,
+    existing_local: 2,
+    existing_remote: 3,
+};
 
 /// Rows, each as a name and its flags in words or in four digits. All readers see a row, or those whose
 /// digits stand after `to:` as a last word.
@@ -49,10 +55,9 @@ pub fn table_of(rows: &Rows) -> Vec<u8> {
 pub struct Forms {
     packed: Vec<u8>,
     /// The records of the packed table, over its bytes.
-    in_place: Vec<Record>,
-    /// Records over an area where the names lie in the other order.
-    turned: Vec<Record>,
-    area: Vec<u8>,
+    in_place: Store,
+    /// Records over an area where the names lie in the other order, and one that is spare.
+    turned: Store,
 }
 
 /// What lies before each name of the turned form.
@@ -61,32 +66,28 @@ const UNUSED: &[u8] = b"%\0";
 impl Forms {
     pub fn of(rows: &Rows) -> Forms {
         let packed = table_of(rows);
-        let in_place = packed_records(&packed).expect("a table of at most 32,768 bytes");
-        let (mut turned, mut area) = (in_place.clone(), Vec::new());
+        let in_place = Store::of_packed(&packed).expect("a table of at most 32,768 bytes");
+        let (mut turned, mut area) = (in_place.records.clone(), Vec::new());
         for (record, (name, _)) in turned.iter_mut().zip(rows).rev() {
             area.extend_from_slice(UNUSED);
             record.start = u16::try_from(area.len()).expect("a small area");
             area.extend_from_slice(name.as_bytes());
         }
         turned.push(Record { flags: 0xFFFF, start: 0, len: 0xFF, readers: ALL });
-        Forms { packed, in_place, turned, area }
+        let mut turned = Store::counted(turned, in_place.count, area);
+        turned.summary[in_place.count] = SPARE_SUMMARY;
+        Forms { packed, in_place, turned }
     }
 
     /// The forms of records, to be lent to be changed.
     pub fn stores(&self) -> [Store; 2] {
-        let count = self.in_place.len();
-        [(&self.in_place, &self.packed), (&self.turned, &self.area)].map(|(records, area)| Store {
-            records: records.clone(),
-            count,
-            area: area.clone(),
-        })
+        [self.in_place.clone(), self.turned.clone()]
     }
 
     pub fn tables(&self) -> [Table<'_>; 3] {
-        let count = self.in_place.len();
-        let records = |records, area| Table::Records(Records { records, count, area });
-        let turned = records(&self.turned, &self.area);
-        [Table::Packed(&self.packed), records(&self.in_place, &self.packed), turned]
+        let [in_place, turned] =
+            [&self.in_place, &self.turned].map(|store| Table::Records(store.as_records()));
+        [Table::Packed(&self.packed), in_place, turned]
     }
 }
 
@@ -137,7 +138,7 @@ pub fn check_from(reader: u8, rows: &Rows, entries: &Entries, exchanges: &[Excha
         let before = store.clone();
         check_answers(exchanges, |line, out| {
             let answered = store.lend(|lent| answer(reader, lent, &namespaces, line, out))?;
-            assert!(!answered.is_edit);
+            assert!(!answered.is_edit && !answered.changed);
             Ok(answered.length)
         });
         assert_eq!(store, before);

@@ -5,7 +5,7 @@ use second::frames::{hex_of, Program, COMMAND, ROW, TABLE_ROOM, WALK};
 use second::namespaces::checked_entries;
 use second::packed::row_at;
 use second::table::checked_rows;
-use second::{Record, Records, Refusal, Store, Table};
+use second::{Record, Refusal, Store, Summary, Table};
 
 use crate::common::{table_of, Rows, ALL};
 
@@ -65,9 +65,32 @@ fn records() {
         (&[record(1, 1), record(0, 1)], 2, b"ab", ListFault { other: Some(0), ..fault(1, ASCEND) }),
     ];
     for (records, count, area, expected) in lists {
-        let told = checked_rows(Table::Records(Records { records, count, area }));
+        let store = Store::counted(records.to_vec(), count, area.to_vec());
+        let told = checked_rows(Table::Records(store.as_records()));
         assert_eq!(told.expect_err("a fault"), expected, "{records:?}");
     }
+}
+
+/// Of a summary, the first number that is wrong, after all other rules; and how many there are.
+#[test]
+fn summaries() {
+    let record = |start, len| Record { flags: 1, start, len, readers: ALL };
+    let store = Store::counted(vec![record(0, 1), record(1, 3)], 2, b"aa/b".to_vec());
+    let told = |store: &Store| checked_rows(Table::Records(store.as_records())).map(drop);
+    let disagrees = |at| Err(fault(at, "the summary of a record is what counting afresh gives"));
+    assert_eq!(told(&store), Ok(()));
+    for at in 0..2 {
+        let mut wrong = store.clone();
+        wrong.summary[at].existing_remote ^= 1;
+        assert_eq!(told(&wrong), disagrees(at));
+        wrong.summary.truncate(at);
+        let rule = "a record is lent if the summary has a number for it";
+        assert_eq!(told(&wrong), Err(fault(at, rule)));
+    }
+    let zero = Store { summary: vec![Summary::default(); 2], ..store.clone() };
+    assert_eq!(told(&zero), disagrees(0));
+    let descending = Store { area: b"ba/b".to_vec(), ..zero };
+    assert_eq!(told(&descending).map_err(|fault| fault.rule), Err(ASCEND));
 }
 
 fn fault(at: usize, rule: &'static str) -> ListFault {
@@ -197,10 +220,13 @@ fn names_of_edits() {
     let run = "a row is inserted where a free run of name bytes is long enough";
     assert_eq!(fault(&program, "a SUBSCRIBE xy"), no_room(run));
     assert_eq!(fault(&program, "a SUBSCRIBE x"), None);
-    store.records.truncate(3);
-    program.store = Some(store);
     let spare = "a row is inserted where a record is spare";
-    assert_eq!(fault(&program, "a SUBSCRIBE x"), no_room(spare));
+    let no_number = Store { summary: store.summary[..3].to_vec(), ..store.clone() };
+    store.records.truncate(3);
+    for store in [store, no_number] {
+        program.store = Some(store);
+        assert_eq!(fault(&program, "a SUBSCRIBE x"), no_room(spare));
+    }
     let rows: Vec<u8> =
         (0..512).flat_map(|n| [b"\0\x01\xFF\x03", row_name(n).as_bytes()].concat()).collect();
     let program = Program { table: rows, ..Program::default() };

@@ -176,7 +176,7 @@ fn store(rows: &[Record], names: &[u8]) -> Store {
     let (mut records, mut area) = (rows.to_vec(), names.to_vec());
     records.resize(512, Record::default());
     area.resize(16_384, 0);
-    Store { records, count: rows.len(), area }
+    Store::counted(records, rows.len(), area)
 }
 
 fn done() -> Option<Answer> {

@@ -3,7 +3,7 @@
 use second::packed::packed_records;
 use second::records::MAX_AREA;
 use second::rows::MAX_ROWS;
-use second::{answer_reading, check_table, collect, Record, Records, Table};
+use second::{answer_reading, check_table, collect, Record, Store, Table};
 
 use crate::common::ALL;
 
@@ -13,7 +13,11 @@ const fn at(start: u16, len: u8) -> Record {
 }
 
 fn passes(area: &[u8], records: &[Record], count: usize) -> bool {
-    check_table(Table::Records(Records { records, count, area }))
+    check_table(Table::Records(counted(area, records, count).as_records()))
+}
+
+fn counted(area: &[u8], records: &[Record], count: usize) -> Store {
+    Store::counted(records.to_vec(), count, area.to_vec())
 }
 
 /// Each area, its records, and whether they pass. All are rows.
@@ -191,10 +195,15 @@ fn records_of_packed_tables() {
 /// 1 comes before every other refusal, in commands and walks.
 #[test]
 fn refusals_of_records_first() {
-    let two_for_one = Records { records: &[at(0, 1)], count: 2, area: b"a" };
-    let past_the_area = Records { records: &[at(1, 1)], count: 1, area: b"a" };
-    let overlapping = Records { records: &[at(0, 1), at(0, 2)], count: 2, area: b"ab" };
-    for table in [two_for_one, past_the_area, overlapping].map(Table::Records) {
+    let mut no_number = counted(b"a", &[at(0, 1)], 1);
+    no_number.summary.clear();
+    let mut wrong = counted(b"a", &[at(0, 1)], 1);
+    wrong.summary[0].subscribed_remote = 1;
+    let two_for_one = counted(b"a", &[at(0, 1)], 2);
+    let past_the_area = counted(b"a", &[at(1, 1)], 1);
+    let overlapping = counted(b"ab", &[at(0, 1), at(0, 2)], 2);
+    for store in [two_for_one, past_the_area, overlapping, no_number, wrong] {
+        let table = Table::Records(store.as_records());
         for line in ["", "a NAMESPACE\r\n", "a LIST \"\" *\r\n"] {
             let mut out = [b'.'; 9];
             let result = answer_reading(0, table, b"\x09", line.as_bytes(), &mut out);

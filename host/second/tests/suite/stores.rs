@@ -1,9 +1,9 @@
 //! Stores, the edits of them (document 02, W6), and what an edit leaves.
 
 use second::table::checked_rows;
-use second::{answer, Record, Refusal, Store, Table};
+use second::{answer, check_table, Record, Refusal, Store, Table};
 
-use crate::common::{ALL, FILL};
+use crate::common::{ALL, FILL, SPARE_SUMMARY};
 
 /// The answer to each edit here that is accepted.
 pub const OK: &[u8] = b"a OK done\r\n";
@@ -15,9 +15,12 @@ pub const fn row(flags: u16, start: u16, len: u8) -> Record {
     Record { flags, start, len, readers: ALL }
 }
 
+/// Rows over an area, their summary counted, and spare records after them.
 pub fn store(area: &[u8], rows: &[Record], spare: usize) -> Store {
     let records = [rows, &vec![SPARE; spare]].concat();
-    Store { records, count: rows.len(), area: area.to_vec() }
+    let mut store = Store::counted(records, rows.len(), area.to_vec());
+    store.summary[rows.len()..].fill(SPARE_SUMMARY);
+    store
 }
 
 /// Runs a command of reader 0, its CR LF added, in a buffer of this length.
@@ -38,8 +41,8 @@ pub fn run_from(
     (result.map(|answered| answered.length).map_err(Refusal::number), out)
 }
 
-/// An edit of reader 0 in a buffer with room for the answer; checks the buffer, and that a refusal
-/// changes nothing.
+/// An edit of reader 0 in a buffer with room for the answer; checks the buffer, that a refusal changes nothing,
+/// and that what is left passes with its summary.
 pub fn run(store: &mut Store, command: &str) -> Result<(), u8> {
     edit_from(0, store, command)
 }
@@ -51,7 +54,10 @@ pub fn edit_from(reader: u8, store: &mut Store, command: &str) -> Result<(), u8>
     let (text, behind) = out.split_at(result.unwrap_or(0));
     assert!(behind.iter().all(|&byte| byte == FILL), "{command}");
     match result {
-        Ok(_) => assert_eq!(text, OK, "{command}"),
+        Ok(_) => {
+            assert_eq!(text, OK, "{command}");
+            assert!(check_table(Table::Records(store.as_records())), "{command}");
+        }
         Err(_) => assert_eq!(*store, before, "{command}"),
     }
     result.map(drop)

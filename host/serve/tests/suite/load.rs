@@ -24,7 +24,7 @@ const LONG: Duration = Duration::from_secs(60);
 pub fn expected(table: &Path, line: &[u8]) -> Vec<u8> {
     let mut table = table_of(table, Rooms::WIDE);
     let mut out = vec![0; Rooms::WIDE.answer];
-    let length = table.answer(Reader::EDITOR, line, &mut out).expect("an answer");
+    let length = table.answer(Reader::EDITOR, line, &mut out).expect("an answer").length;
     out.truncate(length);
     out
 }

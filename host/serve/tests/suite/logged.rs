@@ -163,7 +163,8 @@ fn a_full_disk() {
     let kept = fs::read_to_string(&review).expect("a file");
     let edits = kept.lines().filter(|line| line.starts_with("4300")).count();
     assert_eq!((answered, edits), (accepted, accepted));
-    // All is answered, but the log is not whole.
-    assert_eq!(output.status.code(), Some(1));
+    // All is answered. Whether the last line, the shortest of all, still fits hangs on the length of the table's path.
+    let is_whole = fs::read_to_string(&log).expect("a file").ends_with(" the server ends\n");
+    assert_eq!(output.status.code(), Some(i32::from(!is_whole)));
     assert!(text(&output.stderr).contains("serve: the log: File too large"));
 }

@@ -5,6 +5,9 @@ use std::path::Path;
 use std::process::Command;
 use std::thread;
 
+use second::frames::Program;
+use second::replay::Verdict;
+
 use crate::common::{
     answers, file, large_session, path, run, session_file, text, tunnel, word, Server, SERVE,
 };
@@ -26,8 +29,23 @@ fn check(record: &Path) -> (usize, usize) {
         .skip_while(|line| line.starts_with("4D") || line.starts_with("4E"))
         .collect();
     assert!(turns.chunks(2).all(|turn| turn[0].starts_with("43") && is_answer(&turn[1])));
+    assert!(replays(&frames), "{frames}");
     let refused = recorded.iter().filter(|line| line.starts_with("52")).count();
     (recorded.len() - refused, refused)
+}
+
+/// Whether the second program's replay agrees with the frames after the rows and entries (document 02, W14).
+fn replays(frames: &str) -> bool {
+    let mut program = Program::default();
+    let mut log = frames;
+    while let Some((frame, rest)) =
+        log.split_once('\n').filter(|(frame, _)| frame.starts_with("4D") || frame.starts_with("4E"))
+    {
+        assert!(program.answer(frame.as_bytes()).is_none(), "{frame}");
+        log = rest;
+    }
+    let mut store = program.records().expect("a table that passes").into_owned();
+    store.lend(|lent| second::replay(lent, &program.namespaces, log.as_bytes())) == Verdict::Agree
 }
 
 #[test]

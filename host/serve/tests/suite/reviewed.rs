@@ -32,14 +32,31 @@ fn edits_are_made_again() {
     expected.extend(["\"Moo\"", "\"x \\\"y\""].map(String::from));
     expected.sort();
     assert_eq!(subscribed(&table, &review), expected);
-    // Rows and entries, then a line for each edit that was accepted, also for one that changed nothing.
+    // Rows and entries, then a line for each edit that changed a row.
     let frames = fs::read_to_string(&review).expect("a file");
     let count = |start: &str| frames.lines().filter(|line| line.starts_with(start)).count();
-    assert_eq!((count("4D"), count("4E"), count("4300")), (11, 2, 6), "{frames}");
+    assert_eq!((count("4D"), count("4E"), count("4300")), (11, 2, 3), "{frames}");
     // The second program reads it as it is, and accepts each edit.
     let mut answered = Vec::new();
     second::frames::run(frames.as_bytes(), &mut answered).expect("a run");
-    assert_eq!(text(&answered).lines().filter(|line| line.starts_with("41")).count(), 6);
+    assert_eq!(text(&answered).lines().filter(|line| line.starts_with("41")).count(), 3);
+}
+
+/// A file of an earlier server, which wrote every accepted edit, also one that changed no row.
+#[test]
+fn edits_that_changed_no_row() {
+    let (table, review) = (session_file(), path("review"));
+    let before = subscribed(&table, &review);
+    let mut frames = fs::read_to_string(&review).expect("a file");
+    for line in ["a UNSUBSCRIBE Nothing", "a SUBSCRIBE New", "a SUBSCRIBE New"] {
+        let frame = [b"\x43\0", line.as_bytes(), b"\r\n"].concat();
+        frames += &format!("{}\n", text(&second::frames::hex_of(&frame)));
+    }
+    fs::write(&review, &frames).expect("a file");
+    assert_eq!(subscribed(&table, &review).len(), before.len() + 1);
+    let told = text(&tunnel(&["--review", word(&review), word(&table)], LSUB).stderr);
+    assert!(told.contains(": 1 edits are made again"), "{told}");
+    assert_eq!(fs::read_to_string(&review).expect("a file"), frames);
 }
 
 /// A server that is killed at any moment keeps every edit that it has answered.
@@ -94,14 +111,17 @@ fn a_file_that_was_cut() {
 fn other_files() {
     let table = file("table.session", "mailbox INBOX exists\n");
     let heading = "4D0001FF05494E424F58\n";
-    let unlawful = second::frames::hex_of(b"\x43\0a SUBSCRIBE \"*\"\r\n");
-    let cases: [(String, i32, &str); 8] = [
+    let [unlawful, listing] =
+        [b"\x43\0a SUBSCRIBE \"*\"\r\n".as_slice(), b"\x43\0a LIST \"\" *\r\n"]
+            .map(second::frames::hex_of);
+    let cases: [(String, i32, &str); 9] = [
         ("4D0001FF03466F6F\n".to_string(), 2, "line 1: it belongs to another table"),
         ("Notes".to_string(), 2, "line 1: it belongs to another table"),
         (format!("{heading}Notes"), 2, "line 2: no edit of reader 0"),
         (format!("{heading}4D0001FF03466F6F\n"), 2, "line 2: no edit of reader 0"),
         (format!("{heading}4303\n"), 2, "line 2: no edit of reader 0"),
         (format!("{heading}430061204E4F4F500D0A\n"), 2, "line 2: no edit of reader 0"),
+        (format!("{heading}{}\n", text(&listing)), 2, "line 2: no edit of reader 0"),
         (format!("{heading}{}\n", text(&unlawful)), 3, "line 2: the edit is refused with 14"),
         (format!("{heading}4300{}", "0".repeat(5_000)), 2, "line 2: no edit of reader 0"),
     ];

@@ -9,11 +9,11 @@ mod date;
 mod exchange;
 mod facts;
 mod glossary;
-mod html;
+pub mod html;
 mod tree;
 mod verdict;
 mod walk;
-mod why;
+pub(crate) mod why;
 
 pub use date::{date_text, now};
 pub use exchange::Came;
@@ -122,13 +122,6 @@ impl Report {
     /// The page. `stopped` says why the session was not run to its end, if it was not.
     pub fn page(self, facts: &Facts, summary: &Summary, stopped: Option<&str>) -> String {
         let title = "Report of a session";
-        let head = [
-            Html::empty("meta", &[("charset", "utf-8")]),
-            Html::empty("meta", &[("http-equiv", "Content-Security-Policy"), ("content", POLICY)]),
-            Html::title(format!("{title}: {}", facts.session)),
-            Html::style(STYLE),
-        ];
-        let head = Html::element("head", &[], Html::joined(head.map(Html::and_line)));
         let body = [
             Html::of_text("h1", &[], title),
             verdict_html(&Conclusion::of(summary, stopped)),
@@ -142,9 +135,7 @@ impl Report {
             glossary_html(),
             Html::of_text("p", &[("class", "small")], ABOUT),
         ];
-        let body = Html::element("body", &[], Html::joined(body.map(Html::and_line)));
-        let page = [head.and_line(), body.and_line()];
-        Html::element("html", &[("lang", "en")], Html::joined(page)).into_page()
+        page_of(&format!("{title}: {}", facts.session), body)
     }
 
     fn facts(&self, facts: &Facts, summary: &Summary) -> Html {
@@ -216,6 +207,20 @@ impl Report {
         section.push(self.differing.more_html("difference", "differences"));
         section
     }
+}
+
+/// A whole page of these parts, which loads nothing and runs nothing.
+pub fn page_of(title: &str, parts: impl IntoIterator<Item = Html>) -> String {
+    let head = [
+        Html::empty("meta", &[("charset", "utf-8")]),
+        Html::empty("meta", &[("http-equiv", "Content-Security-Policy"), ("content", POLICY)]),
+        Html::title(title),
+        Html::style(STYLE),
+    ];
+    let head = Html::element("head", &[], Html::joined(head.map(Html::and_line)));
+    let body = Html::joined(parts.into_iter().map(Html::and_line));
+    let page = [head.and_line(), Html::element("body", &[], body).and_line()];
+    Html::element("html", &[("lang", "en")], Html::joined(page)).into_page()
 }
 
 const ABOUT: &str = "The answers, counts and finds are the program's, those of a large walk the \

@@ -14,13 +14,13 @@ slice-aggregate-words c =
 
 slice-aggregate-collect-words : tie.Need-slice-aggregate-collect-words
 slice-aggregate-collect-words c =
-    let start = c .before .before .before .before .before .before .before .before in
+    let start = c .before .before .before .before .before .before .before .before .before in
     whole-area (start .pre)
 
 returns : tie.Need-returns
 returns c =
     let after-collect-words = c .before .before .before .before .before .before in
-    let at-if1 = after-collect-words .before .before .before .before .before .before in
+    let at-if1 = after-collect-words .before .before .before .before .before .before .before in
     let start = at-if1 .before .before .before .before .before .before in
     let walked = after-collect-words .collect-words .ensures in
     let same = walks-records _ (start .args .stored) _ _
@@ -51,6 +51,6 @@ returns-2 c =
 
 pub collect-kept-spec : {M : Type 1} → statement M
 collect-kept-spec =
-    tie.close (tie.spec slice-aggregate-words slice-aggregate-collect-words (λ c κs. search needs) (λ c. search needs) (λ c. search needs)
-    (λ c. search needs) returns slice-aggregate-collect-packed (λ c κs. search needs) (λ c. search needs) (λ c. search needs) (λ c. search needs)
-    returns-2)
+    tie.close (tie.spec slice-aggregate-words (λ c. search needs) (λ c. search needs) (λ c. search needs) slice-aggregate-collect-words
+    (λ c κs. search needs) (λ c. search needs) (λ c. search needs) (λ c. search needs) returns slice-aggregate-collect-packed (λ c κs. search needs)
+    (λ c. search needs) (λ c. search needs) (λ c. search needs) returns-2)

@@ -8,7 +8,7 @@ use Rattle.server.proofs.edit.edit.Tie as tie
 
 put-spelled-requires : tie.Need-put-spelled-requires
 put-spelled-requires c κs =
-    let start = c .before .before .before .before .before .before in
+    let start = c .before .before .before .before .before .before .before in
     let a = start .args in
     let reads = start .pre .1 in
     omega
@@ -16,10 +16,10 @@ put-spelled-requires c κs =
 
 edit-named-requires : tie.Need-edit-named-requires
 edit-named-requires c κs =
-    let start = c .before .before .before .before .before .before .before .before .before .before .before .before in
-    (start .pre .0, (start .pre .1 .0 .inside, c .before .before .before .before .before .put-spelled .ensures .bytes))
+    let start = c .before .before .before .before .before .before .before .before .before .before .before .before .before .before in
+    (start .pre .0, (start .pre .1 .0 .inside, c .before .before .before .before .before .before .put-spelled .ensures .bytes))
 
 pub edit-spec : {M : Type 1} → statement M
 edit-spec =
-    tie.close (tie.spec (λ c κs. search needs) (λ c. search needs) put-spelled-requires (λ c. search needs) (λ c. search needs) edit-named-requires
-    (λ c. search needs) (λ c. search needs) (λ c. search needs) (λ c. search needs))
+    tie.close (tie.spec (λ c κs. search needs) (λ c. search needs) put-spelled-requires (λ c. search needs) (λ c. search needs)
+    edit-named-requires (λ c. search needs) (λ c. search needs) (λ c. search needs) (λ c. search needs) (λ c. search needs))

@@ -110,6 +110,7 @@ fn the_largest_area() {
 fn the_flag_is_cleared() {
     let mut after = tree();
     after.records[1].flags = 1;
+    after.recount();
     check_edit(&tree(), "a UNSUBSCRIBE Foo/Bar", &after);
     check_edit(&after, "a UNSUBSCRIBE Foo/Bar", &after);
     for flags in (0..=u16::MAX).filter(|flags| flags & 0x8083 == 3 && flags & 0x60 != 0x60) {

@@ -1,0 +1,4 @@
+-- Laws of the summary.
+pub mod CountLaws
+pub mod AgreeLaws
+pub mod GrownLaws

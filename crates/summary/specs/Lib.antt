@@ -1,0 +1,2 @@
+-- A summary as numbers, one for each row.
+pub mod Counts

@@ -116,7 +116,7 @@ unfolding frameOf behindKind
 frame-small [] = omega arith
 frame-small (k ∷ bs) = ⊎-elim (λ z. omega (arith, ap (λ (f : Meant). length (behindKind f)) z)) (λ z. omega (arith, ap length z)) (kind-holds k bs)
 
-behind-small : (line : List ℕ) → length (behindKind (readFrame line)) ≤ 2050
+pub behind-small : (line : List ℕ) → length (behindKind (readFrame line)) ≤ 2050
 unfolding readFrame frameOf behindKind isSome
 behind-small line = go (leb (length line) 4102) refl (bytesOf line) refl
   where

@@ -4,3 +4,4 @@ pub mod Pieces
 pub mod FrameLaws
 pub mod GatherLaws
 pub mod StoreLaws
+pub mod LogLaws

@@ -3,3 +3,4 @@ pub mod Hexadecimal
 pub mod Reading
 pub mod Gathering
 pub mod Storing
+pub mod Logged

@@ -16,7 +16,7 @@ use Rattle.listing_rules.proofs.LawfulNames.{name-range}
 abbrev pub notLF : ℕ → Bool
 notLF b = not (eqb b 10)
 
-line-split : (y t : List ℕ) → all notLF y ≡ true → linesOf (y ++ (10 ∷ t)) ≡ (y ++ (10 ∷ [])) ∷ linesOf t
+pub line-split : (y t : List ℕ) → all notLF y ≡ true → linesOf (y ++ (10 ∷ t)) ≡ (y ++ (10 ∷ [])) ∷ linesOf t
 unfolding linesOf onFirst all
 line-split [] t h = refl
 line-split (b ∷ y) t h = rw (not-true (eqb b 10) (and-l (notLF b) (all notLF y) h), line-split y t (and-r (notLF b) (all notLF y) h))

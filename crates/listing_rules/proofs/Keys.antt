@@ -57,6 +57,10 @@ use Rattle.listing_rules.specs.Frames.{digit, bytesOf, commandFrame, wal
 use Rattle.listing_rules.specs.Frames.{replyLine, walkLine, answering, addRow, addEntry, framed, step, start, fed, behind, fedAll, atEnd}
 use Rattle.listing_rules.specs.Frames.{programOutput, recordsFrom, programStore, programSummed, keptSeen, keptSummed, addRowTo, commandOver}
 use Rattle.listing_rules.specs.Frames.{accepted, commandStep}
+use Rattle.listing_rules.specs.Replay.{askedIn, numberIn, loggedOf, logLimit, readLogged, loggedLine, loggedFrames, reporting, firstOf, sameReply}
+use Rattle.listing_rules.specs.Replay.{noted, rerun, replayFrom, replay, replayNumber, replayFrame, replayStart, waiting, stoppedAt, frameEnded}
+use Rattle.listing_rules.specs.Replay.{withCharacter, replayOn, replayByte, replayAll, replayPieces, dueAtEnd, verdictAtEnd, replayEnd, isCommand}
+use Rattle.listing_rules.specs.Replay.{logging, sessionLog}
 
 unfoldable pub openBytes : Unit {0}
 unfolding text slash quote backslash crlf bit within oneOf all isEmpty same raise raised spells
@@ -192,10 +196,16 @@ unfolding isSubscribedLocal isSubscribedRemote isExistingLocal isExistingRemote 
     summedCompaction countedFirst summarized
 openSummary = tt
 
+unfoldable pub openReplay : Unit {0}
+unfolding askedIn numberIn loggedOf logLimit readLogged loggedLine loggedFrames reporting firstOf sameReply noted rerun replayFrom replay replayNumber
+    replayFrame replayStart waiting stoppedAt frameEnded withCharacter replayOn replayByte replayAll replayPieces dueAtEnd verdictAtEnd replayEnd
+    isCommand logging sessionLog
+openReplay = tt
+
 -- opens every definition that the cases of the computed tables compute
 unfoldable pub openAll : Unit {0}
 unfolding openBytes openLists openOrders openNames openFlags openTable openRecords openReaders openSubscriptions openNamespaces openTokens openFeeder
     openOptions
     openCommand openMatch openListing openLines openLsub openServer openSeries openCompaction openReader openWalk openDemand3
-    openSending openEvidence openJoining openSummary openFrames
+    openSending openEvidence openJoining openSummary openFrames openReplay
 openAll = tt

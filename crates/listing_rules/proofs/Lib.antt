@@ -80,3 +80,10 @@ pub mod SummaryLengths
 pub mod SummaryAlike
 pub mod SummarySpare
 pub mod ProgramSums
+pub mod AnswerBytes
+pub mod ProgramUnsound
+pub mod ReplayFrames
+pub mod ReplayPieces
+pub mod ReplayLaws
+pub mod ReplayTables
+pub mod ReplaySpare

@@ -153,8 +153,15 @@ program-counted t =
     let laid = recordsFrom 0 (packedRecords t) in
     omega (arith, length-append laid (replicate (512 - length laid) zeroRecord), count-from 0 (packedRecords t))
 
--- The program's store is the packed table, and a reader sees the same of both.
-module _ (t : List ℕ) (h : length t ≤ 16384) (p : passes (packedTable t) ≡ true) where
+-- its rows are the records without gaps
+pub laid-holds : (t : List ℕ) → take (programStore t .count) (programStore t .records) ≡ recordsFrom 0 (packedRecords t)
+unfolding programStore filledTo
+laid-holds t =
+    let laid = recordsFrom 0 (packedRecords t) in
+    take-at laid (replicate (512 - length laid) zeroRecord) (length (packedRecords t)) (count-from 0 (packedRecords t))
+
+-- Where the rows fill the bytes, the program's store is the packed table, and a reader sees the same of both.
+module _ (t : List ℕ) (h : length t ≤ 16384) (f : rowsFill 0 t ≡ true) where
   abbrev laidRecords : List Record
   laidRecords = recordsFrom 0 (packedRecords t)
 
@@ -162,11 +169,7 @@ module _ (t : List ℕ) (h : length t ≤ 16384) (p : passes (packedTable t) ≡
   fits = omega (arith, h, packed-rows-fit t)
 
   inside : every (liesInside t) (packedRecords t) ≡ true
-  inside = packed-inside t (packed-parts t p .fills)
-
-  pub program-holds : take (programStore t .count) (programStore t .records) ≡ laidRecords
-  unfolding programStore filledTo
-  program-holds = take-at laidRecords (replicate (512 - length laidRecords) zeroRecord) (length (packedRecords t)) (count-from 0 (packedRecords t))
+  inside = packed-inside t f
 
   -- the names lie in the area, one after the other
   area-is : drop 0 (programStore t .area) ≡ joined (names (recordRows t (packedRecords t))) ++ replicate (16384 - namesLength (packedRows t)) 0
@@ -178,14 +181,14 @@ module _ (t : List ℕ) (h : length t ≤ 16384) (p : passes (packedTable t) ≡
       (keep (λ r. q (r .readers)) (packedRecords t))
   rows-from q = rows-at q t (programStore t .area) (packedRecords t) 0 (replicate (16384 - namesLength (packedRows t)) 0) inside area-is
 
-  pub program-store-table : storeTable (programStore t) ≡ packedTable t
+  pub filled-store-table : storeTable (programStore t) ≡ packedTable t
   unfolding storeTable recordTable
-  program-store-table =
+  filled-store-table =
       rw (
-        program-holds,
+        laid-holds t,
         le-leb (programStore t .count) (length (programStore t .records)) (program-counted t),
         parts-laid (programStore t .area) laidRecords laid,
-      ) (ap some (rows-same ∙ packed-rows-are t) ∙ sym (packed-some t (packed-parts t p .size) (packed-parts t p .fills)))
+      ) (ap some (rows-same ∙ packed-rows-are t) ∙ sym (packed-some t (omega (arith, h)) f))
     where
       laid : LaidParts (programStore t .area) laidRecords
       laid =
@@ -208,16 +211,27 @@ module _ (t : List ℕ) (h : length t ≤ 16384) (p : passes (packedTable t) ≡
           ∙ rows-from (λ n. true)
           ∙ ap (recordRows t) (keep-all any (packedRecords t) (every-any (packedRecords t)))
 
+  filled-store-seen : (reader : ℕ) → storeSeen reader (programStore t) ≡ packedSeen reader t
+  unfolding storeSeen recordsSeen packedSeen storeTable
+  filled-store-seen reader =
+      let visible-same : visible reader (programStore t .area) (take (programStore t .count) (programStore t .records)) ≡ visible reader t
+      (packedRecords t)
+      = ap (visible reader (programStore t .area)) (laid-holds t) ∙ (unfold visible sees in rows-from (bit reader)) in
+      λ i. seen (filled-store-table i) (visible-same i)
+
+-- and so of a table that passes
+module _ (t : List ℕ) (h : length t ≤ 16384) (p : passes (packedTable t) ≡ true) where
+  pub program-holds : take (programStore t .count) (programStore t .records) ≡ recordsFrom 0 (packedRecords t)
+  program-holds = laid-holds t
+
+  pub program-store-table : storeTable (programStore t) ≡ packedTable t
+  program-store-table = filled-store-table t h (packed-parts t p .fills)
+
   pub program-store-passes : passes (storeTable (programStore t)) ≡ true
   program-store-passes = ap passes program-store-table ∙ p
 
   pub program-store-seen : (reader : ℕ) → storeSeen reader (programStore t) ≡ packedSeen reader t
-  unfolding storeSeen recordsSeen packedSeen storeTable
-  program-store-seen reader =
-      let visible-same : visible reader (programStore t .area) (take (programStore t .count) (programStore t .records)) ≡ visible reader t
-      (packedRecords t)
-      = ap (visible reader (programStore t .area)) program-holds ∙ (unfold visible sees in rows-from (bit reader)) in
-      λ i. seen (program-store-table i) (visible-same i)
+  program-store-seen = filled-store-seen t h (packed-parts t p .fills)
 
 -- its summary was counted first, and so agrees
 pub program-agrees : (t : List ℕ) → agrees (programSummed t) ≡ true

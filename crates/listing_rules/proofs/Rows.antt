@@ -3,7 +3,7 @@ use Rattle.listing_rules.proofs.Prelude.{_∙_, _≡_, ap, refl, false,
 use Rattle.listing_rules.proofs.Prelude.{drop-of-length-le, getD, length, length-drop, drop-drop, getD-drop}
 use Rattle.listing_rules.specs.Table.{rowsAfter, rowsFill}
 
-fills-drop : (k : ℕ) (t : List ℕ) → k ≤ length t → rowsFill k t ≡ rowsFill 0 (drop k t)
+pub fills-drop : (k : ℕ) (t : List ℕ) → k ≤ length t → rowsFill k t ≡ rowsFill 0 (drop k t)
 unfolding rowsFill
 fills-drop zero t h = refl
 fills-drop (suc k) [] h = absurd (omega arith)

@@ -28,6 +28,7 @@ pub mod Evidence
 pub mod Joining
 pub mod Summary
 pub mod Frames
+pub mod Replay
 pub mod Cases
 pub mod ExpertSheet
 pub mod Limits
@@ -35,3 +36,4 @@ pub mod SessionCases
 pub mod EvidenceCases
 pub mod JoiningCases
 pub mod SummaryCases
+pub mod ReplayCases

@@ -10,7 +10,7 @@ use std::fs;
 use std::path::PathBuf;
 use std::process::ExitCode;
 
-use bench::inputs::{Beside, Call, Case, CASES, SIZES, WORST};
+use bench::inputs::{Beside, Call, Case, Table, CASES, SIZES, WORST};
 use bench::measure::{measure, Measured};
 use bench::page::{with_measures, Measures};
 use bench::plot::plot;
@@ -18,7 +18,7 @@ use bench::plot::plot;
 /// What a call over the most rows may take, by the second program's time.
 const MOST_BY_SECOND: f64 = 1.0;
 /// What the check of the most records may take, by that of the packed form of the same rows; and an
-/// edit of the most rows, by a LIST that lists nothing.
+/// edit of the most rows, by a LIST that lists nothing: over the tree. Other tables are shown alone.
 const MOST_BY_BESIDE: f64 = 1.5;
 
 fn main() -> ExitCode {
@@ -82,7 +82,9 @@ fn check_beside(measures: &Measures) -> Result<(), String> {
     let mut too_long = Vec::new();
     for (case, measured) in CASES.iter().zip(measures) {
         let ratio = measured[SIZES.len() - 1].by_beside;
-        let Some(ratio) = ratio.filter(|_| matches!(case.call, Call::Check | Call::Edit(_))) else {
+        let bounded =
+            matches!((&case.table, &case.call), (Table::Tree, Call::Check | Call::Edit(_)));
+        let Some(ratio) = ratio.filter(|_| bounded) else {
             continue;
         };
         let text = format!("{}: {ratio:.2}{}", case.title, beside_text(case));

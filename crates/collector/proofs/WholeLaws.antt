@@ -51,7 +51,7 @@ module _ (reader : ℕ) (table : Table) (o : ℕ) (scratch found pending : List 
   refuses-reader h = rw (lt-leb reader 7 h)
 
   -- a reader up to 7 is walked for
-  pub reader-walks : isReader reader ≡ true → collectedBy reader table o scratch found pending ≡ collected table o scratch found pending
+  reader-walks : isReader reader ≡ true → collectedBy reader table o scratch found pending ≡ collected table o scratch found pending
   unfolding collectedBy walkBy collected
   reader-walks h = rw h
 

@@ -220,7 +220,7 @@ pub laid-few : (t ws a : List ℕ) (count : ℕ) → Lays t ws a (Rows count) �
 unfolding programStore
 laid-few t ws a count x = omega (arith, ap (λ (s : Store). s .count) (x .1), packed-count t, packed-parts t (x .0) .parts .few)
 
--- no summary for each zero
+-- zeros stand for summaries of four zeros
 zero-sums : (n : ℕ) → map summaryOf (zeros n) ≡ replicate n noSummary
 unfolding summaryOf noSummary
 zero-sums zero = refl

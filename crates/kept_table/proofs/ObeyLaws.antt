@@ -56,7 +56,7 @@ reply-line r b a e m = ap (λ (w : Written). writtenLine w a) e ∙ go r m
     go (refusal k) m = refl
     go (answered x) m = ap (λ (l : List ℕ). answerLine (0x41 ∷ l)) (ap (take (length x)) m ∙ take-at x (drop (length x) b) (length x) refl)
 
-pub reply-says : (r : Reply) {w : Written} (b a : List ℕ) {o p : List ℕ} {k : ℕ} → w ≡ writtenIs r → a ≡ bufferAfter b r →
+reply-says : (r : Reply) {w : Written} (b a : List ℕ) {o p : List ℕ} {k : ℕ} → w ≡ writtenIs r → a ≡ bufferAfter b r →
     Says (writtenLine w a) o p k → Says (replyLine r) o p k
 reply-says r b a {o} {p} {k} e m x = subst (λ (line : List ℕ). Says line o p k) (reply-line r b a e m) x
 
@@ -69,12 +69,12 @@ reply-fits r b a e m size = record { inside = rw e (go r m); small = omega (arit
     go (answered x) m = omega (arith, ap length m, length-append x (drop (length x) b))
 
 -- it is a refusal, or it is none
-pub reply-refused : (r : Reply) (k : ℕ) → Refused k ≡ writtenIs r → r ≡ refusal k
+reply-refused : (r : Reply) (k : ℕ) → Refused k ≡ writtenIs r → r ≡ refusal k
 unfolding writtenIs
 reply-refused (refusal j) k e = cc
 reply-refused (answered a) k e = cc
 
-pub reply-answered : (r : Reply) (n : ℕ) → Done n ≡ writtenIs r → isAnswered r ≡ true
+reply-answered : (r : Reply) (n : ℕ) → Done n ≡ writtenIs r → isAnswered r ≡ true
 unfolding writtenIs isAnswered
 reply-answered (refusal j) n e = cc
 reply-answered (answered a) n e = refl

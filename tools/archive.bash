@@ -1,4 +1,4 @@
-# For ./serve, ./replay, ./verify, ./install and tools/walker, which read it: the proved library's archive. Nothing here is run by itself. They set
+# For ./serve, ./install and tools/walker, which read it: the proved library's archive. Nothing here is run by itself. They set
 # `root`, the repository's folder, and `own`, their name, first.
 # shellcheck disable=SC2154
 trouble=1

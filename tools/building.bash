@@ -1,4 +1,4 @@
-# For ./run, ./import, ./compare, ./serve, ./replay, ./verify, ./install and tools/walker, which read it: what they report, and what is built
+# For ./run, ./import, ./compare, ./serve, ./install and tools/walker, which read it: what they report, and what is built
 # and current. Nothing here is run by itself. They set `root`, the repository's folder, `own`, their name, and `trouble`, their status where
 # something is not proved, not built or not there, first.
 # shellcheck disable=SC2154

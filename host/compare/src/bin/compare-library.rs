@@ -1,12 +1,11 @@
 //! `compare-library [--group TEXT] [--least N]`
 //!
 //! Compares the proved library with the second program's: lines written and read, patterns, the two
-//! checks, commands, walks, records, edits, readers, compactions, summaries, replays, joined commands and the feeder; and
+//! checks, commands, walks, records, edits, readers, compactions, summaries, joined commands and the feeder; and
 //! judges the proved library's answers to several commands by the laws about them. With `--group` only the groups
 //! whose name has TEXT in it. Groups that go on seed by seed compare, or judge, at least N times; without N,
 //! 100,000 times, and those of laws 20,000 times. `--group 'kept up to date' --least 1300000` makes over a million
-//! edits with their summaries; a group of replays counts frames, so `--group 'replays of nights' --least 1000000`
-//! replays a million of them, each whole and in pieces.
+//! edits with their summaries.
 //!
 //! Each difference is printed, and each claim that does not hold; of a law, what its claims reached, too; the last line is `N passed, M failed`, by groups of comparisons.
 //! Status 1 is a difference; status 2 a wrong call.

@@ -21,14 +21,21 @@ RUN = '(r .from) (r .to)'  # those of them that became others, by its result
 
 class Act:
     """What is done over a store: the type of what is handed back, its names over records and over words, and the law that the one hands back
-    what the other does, with what that takes after count and area, and the record that says so."""
+    what the other does, with what that takes after count and area, and the record that says so; and the crate and the files that have them."""
 
-    def __init__(self, type_, lent, word, law, more, alike):
+    def __init__(self, type_, lent, word, law, more, alike, crate='records', specs='Stores', laws='StoreLaws'):
         self.type, self.lent, self.word, self.law, self.more, self.alike = type_, lent, word, law, more, alike
+        self.crate, self.specs, self.laws = crate, specs, laws
+
+    def uses(self, own):
+        return (f'use {specs_of(self.crate, own)}.{self.specs}.{{{self.type}, {self.lent}, {self.word}}}\n'
+                f'use {proofs_of(self.crate, own)}.{self.laws}.{{{self.alike}, {self.law}}}\n')
 
 
 COMMAND = Act('Handed', 'lentCommand', 'wordCommand', 'answers', ' reader namespaces line out', 'Answers')
 COMPACTION = Act('Moved', 'lentCompaction', 'wordCompaction', 'compacts', '', 'Compacts')
+REPLAY = Act('HandedReplay', 'lentReplay', 'wordReplay', 'replays', ' namespaces log', 'ReplaysAlike', 'exports', 'Replays', 'LentLaws')
+PIECE = Act('HandedPiece', 'lentPiece', 'wordPiece', 'feeds', ' state namespaces pending line piece', 'PiecesAlike', 'exports', 'Replays', 'LentLaws')
 
 
 class Done:
@@ -239,17 +246,17 @@ given-is : (r : {core}) (v : Val) → Is D.the-row r (v ∷ []) → Is {self.res
     def text(self):
         doc = f'''-- `{self.crate}::{self.fn.replace('.', '::')}` meets its contract: a walk of its MIR, by hand. The records are lent as `&` to `copy_in`, and come back; the local array is lent to each callee
 -- for a lifetime of the call, and comes back; `{self.core[1].split('.')[-1]}` has the bytes for good, and `copy_back` the records. All that the proof knows of the callees is that they
--- meet their contracts; that these give what is promised is `{self.act.law}` of StoreLaws.'''
+-- meet their contracts; that these give what is promised is `{self.act.law}` of {self.act.laws}.'''
         specs, proofs = specs_of('records', self.crate), proofs_of('records', self.crate)
         return self.file(doc, f'''use denote.Plain.{{Nothing}}
 use {specs}.declared.Record.{{Record}}
 use {specs}.Words.{{recordOf, meant}}
 use {specs}.Numbers.{{summaryOf}}
 use {specs}.Lent.{{lentOf}}
-use {specs}.Stores.{{{self.act.type}, {self.act.lent}, {self.act.word}, Between}}
+use {specs}.Stores.{{Between}}
 use {proofs}.Relend.{{SharedAgain, shares-again, again-back}}
-use {proofs}.StoreLaws.{{Copied, CopiedBack, {self.act.alike}, {self.act.law}}}
-use {proofs}.Clauses.{{says-each}}
+use {proofs}.StoreLaws.{{Copied, CopiedBack}}
+{self.act.uses(self.crate)}use {proofs}.Clauses.{{says-each}}
 {self.result_of_core.result.uses}''')
 
 

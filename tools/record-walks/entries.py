@@ -1,11 +1,14 @@
 """Writes the walk of each entry that takes records: what it is called, its core, its parameters, and what it promises."""
-from edit_entry import COMMAND, COMPACTION, Done, edit_entry
+from edit_entry import COMMAND, COMPACTION, PIECE, REPLAY, Done, edit_entry
 from entry import PLAIN, ROWS, SEEN, Clause, declared, entry, number, truth
 from head import specs_of
 
 TABLE = [('area', 'shr'), ('summary', 'shr64')]
 COUNTING = [('area', 'shr'), ('summary', 'mut64')]
 MOVING = [('area', 'mut'), ('summary', 'shr64')]
+STATE = declared('exports', 'replaying.ReplayState', 'exports', short='S')
+LOG = [('area', 'mut'), ('summary', 'mut64'), ('namespaces', 'shr'), ('log', 'shr')]
+FEEDING = [('state', STATE), ('area', 'mut'), ('summary', 'mut64'), ('namespaces', 'shr'), ('pending', 'mut'), ('line', 'mut'), ('piece', 'shr')]
 EDIT = [('reader', 'u8'), ('area', 'mut'), ('summary', 'mut64'), ('namespaces', 'shr'), ('line', 'shr'), ('out', 'mut')]
 WALK = [('reader', 'u8'), ('area', 'shr'), ('summary', 'shr64'), ('option', 'u8'), ('scratch', 'mut'), ('found', 'mut'), ('pending', 'mut')]
 
@@ -54,6 +57,23 @@ edit_entry('exports', 'luspemaro_answer', ('exports', 'answer_words'), EDIT, COM
 edit_entry('exports', 'luspemaro_compact', ('compaction', 'compact_words'), MOVING, COMPACTION,
            Done('compaction', 'Compacted', 'exports', ['number', 'from', 'to'], 'number'), number('u8'),
            [Clause('result', 'r ≡ c .number', 'e ∙ a .number'), Clause('area', 'area′ ≡ c .area', 'e ∙ a .area')], '')
+
+KEPT = [Clause('area', 'area′ ≡ c .area', 'e ∙ a .area'), Clause('summary', 'map summaryOf summary′ ≡ c .summary', 'e ∙ a .summary')]
+REPLAYS = 'use ' + specs_of('exports', 'exports') + '.Replays.'
+
+edit_entry('exports', 'replaying.luspemaro_replay', ('exports', 'replaying.replay_words'), LOG, REPLAY,
+           Done('exports', 'replaying.ReportDone', 'exports', ['report', 'from', 'to'], 'report'), declared('exports', 'replaying.Report', 'exports'),
+           [Clause('result', 'r ≡ replayReport c',
+                   'e ∙ (unfold replayReport in λ i. record { number = replayNumber (a .verdict i); frame = replayFrame (a .verdict i); count = a .count i })')] + KEPT,
+           'use Rattle.listing_rules.specs.Replay.{replayNumber, replayFrame}\n' + REPLAYS + '{replayReport}\n')
+
+edit_entry('exports', 'replaying.luspemaro_replay_feed', ('exports', 'replaying.feed_words'), FEEDING, PIECE,
+           Done('exports', 'replaying.PieceDone', 'exports', ['fed', 'from', 'to'], 'fed'), declared('exports', 'replaying.FedPiece', 'exports'),
+           [Clause('result', 'r ≡ pieceReport c',
+                   'e ∙ (unfold pieceReport in λ i. record { taken = asNumber (a .taken i); number = replayNumber (a .verdict i); '
+                   'frame = replayFrame (a .verdict i); count = a .count i; state = stateBack (a .state i) })')] + KEPT
+           + [Clause('pending', 'pending′ ≡ c .pending', 'e ∙ a .pending'), Clause('line', 'line′ ≡ c .line', 'e ∙ a .line')],
+           'use Rattle.listing_rules.specs.Replay.{replayNumber, replayFrame}\n' + OUTCOMES + '{asNumber}\n' + REPLAYS + '{pieceReport, stateBack}\n')
 
 entry('exports', 'luspemaro_collect', ('exports', 'collect_words'), WALK, OUTCOME,
       collected(f'r ≡ walkOutcome (collectedBy reader t {LENT})', f'e ∙ ap walkOutcome ({COLLECTED_ALIKE})', f'(collectedOf reader t {LENT})')

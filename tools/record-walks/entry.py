@@ -40,10 +40,13 @@ def number_made(kind, number, fits):
 
 
 class Param:
-    """A parameter: 'records', 'mut records', 'shr' and 'mut' are slices, of records or of bytes; the others are numbers."""
+    """A parameter: 'records', 'mut records', 'shr' and 'mut' are slices, of records or of bytes; a `Result` is a struct by value; the others are
+    numbers."""
 
     def __init__(self, place, name, kind, lifetime):
-        self.place, self.name, self.kind = place, name, kind
+        self.struct = kind if isinstance(kind, Result) else None
+        self.place, self.name, self.kind = place, name, 'struct' if self.struct else kind
+        kind = self.kind
         self.path = path(place)
         self.slice = kind in ('records', 'mut records', 'shr', 'mut', 'shr64', 'mut64')
         self.mut = kind in ('mut records', 'mut', 'mut64')
@@ -58,63 +61,78 @@ class Param:
             self.ref = f'record {{ ptr = ({self.block}, {self.offset}); name = {self.ghost}; now = {name} }}'
             self.type = f'{"Mut" if self.mut else "Shr"}Slice (named {lifetime}) {self.kappa} {self.row}'
             self.typed = f'(tt, (tt, (record {{ fits = {self.good} .0 }}, tt)))'
+            self.denot = f'RefT (List {self.element})'
+        elif self.struct:
+            self.row, self.denot = self.struct.row, self.struct.denot
+            self.value, self.ref, self.type = self.struct.lowered(name), name, self.row
+            self.typed = f'({self.struct.lawful} .typed {name} _ {self.good} .0)'
         else:
+            self.denot = 'ℕ'
             self.value, self.ref, self.type = f'vint {WIDTHS[kind]} {name}', name, kind
             self.typed = f'(tt, record {{ fits = {self.good} }})'
 
     def binders(self):
-        return f'({self.block} {self.offset} : ℕ) ({self.ghost} : GName) ({self.name} : List {self.element})' if self.slice else f'({self.name} : ℕ)'
+        return f'({self.block} {self.offset} : ℕ) ({self.ghost} : GName) ({self.name} : List {self.element})' if self.slice else f'({self.name} : {self.denot})'
 
     def goodness(self):
+        if self.struct:
+            return f'({self.good} : Is {self.row} {self.name} ({self.value} ∷ []))'
         return f'({self.good} : Room {self.row} (length {self.name}))' if self.slice else f'({self.good} : {self.name} < 2 ^ {WIDTHS[self.kind][1:]})'
 
     def made(self):
+        if self.struct:
+            return f'owned ! {self.row} (Is {self.row}) ({self.struct.makes}) {self.name} _ {self.good} $'
         return number_made(self.kind, self.name, self.good)
 
     def stays(self):
         if self.mut:
             return f'gave-slice ({self.lifetime} ∷ []) tt (plain (λ _. {self.row}))'
-        return f'stay-none-slice ({self.lifetime} ∷ []) tt (plain (λ _. {self.row})) yes' if self.slice else f'stay-none (λ _. {self.kind}) yes'
+        return f'stay-none-slice ({self.lifetime} ∷ []) tt (plain (λ _. {self.row})) yes' if self.slice else f'stay-none (λ _. {self.row}) yes'
 
     def goes(self, lifetimes):
         if self.mut:
             return f'goes-gave-slice 𝓤 H A W {lifetimes} {self.lifetime} tt (plain (λ _. {self.row}))'
         if self.slice:
             return f'goes-none-slice 𝓤 H A W {lifetimes} ({self.lifetime} ∷ []) tt (plain (λ _. {self.row})) yes'
-        return f'goes-none 𝓤 H A W {lifetimes} (λ _. {self.kind}) yes (λ κs x f. refl)'
+        return f'goes-none 𝓤 H A W {lifetimes} (λ _. {self.row}) yes (λ κs x f. refl)'
 
     def vals(self):
+        if self.struct:
+            return f'LL.vals {self.struct.laws}'
         return 'slice-vals' if self.slice else f'uint-vals {WIDTHS[self.kind]}'
 
     def tells(self):
         if self.slice:
             return f'{"mut" if self.mut else "shr"}-slice-tells (named {self.lifetime}) (κs {path(self.lifetime)}) {self.row}'
-        return f'uint-tells {WIDTHS[self.kind]}'
+        return f'LL.tells {self.struct.laws}' if self.struct else f'uint-tells {WIDTHS[self.kind]}'
 
     def applied(self):
         a = f'a {self.path}'
         return f'({a} .ptr .0) ({a} .ptr .1) ({a} .name) ({a} .now)' if self.slice else f'({a})'
 
     def proof(self):
+        if self.struct:
+            return f'(lowered-is (a {self.path}) (are {self.path}))'
         return f'(are {self.path} .0 .1)' if self.slice else f'(are {self.path} .1)'
 
     def left(self):
         """What is had of it at exit."""
         if self.mut:
             return f'finally {self.row} {self.ghost} {self.name}′'
-        return f'{self.type} .own (x {self.path}) (at {self.path})' if self.slice else f'{self.kind} .own {self.name} ({self.value} ∷ [])'
+        return f'{self.type} .own (x {self.path}) (at {self.path})' if self.slice else f'{self.row} .own {self.name} ({self.value} ∷ [])'
 
 
 class Result:
     """What a function returns: the type in the definitions, its row, that a value of it has the type of the machine, how one is had out of
     nothing; and, of a number, its width."""
 
-    def __init__(self, denot, row, lawful, uses='', makes='', width=''):
-        self.denot, self.row, self.lawful, self.uses, self.makes, self.width = denot, row, lawful, uses, makes, width
+    def __init__(self, denot, row, lawful, uses='', makes='', width='', short='R'):
+        self.denot, self.row, self.lawful, self.uses, self.makes, self.width, self.short = denot, row, lawful, uses, makes, width, short
+        self.laws = f'{short}.the-type {short}′.the-laws'
 
     def lowered(self, x):
         """The machine value of x."""
-        return f'vint {self.width} {x}' if self.width else f'R′.lowered {x}'
+        return f'vint {self.width} {x}' if self.width else f'{self.short}′.lowered {x}'
 
 
 def truth():
@@ -131,7 +149,8 @@ def declared(crate, name, own, short='R'):
     last = name.split('.')[-1]
     uses = (f'use {specs_of(crate, own)}.declared.{name}.{{{last}}}\n'
             f'use {proofs_of(crate, own)}.{name} as {short}\nuse {proofs_of(crate, own)}.{name}.Laws as {short}′\n')
-    return Result(last, f'{short}.the-row', f'LL.lawful {short}.the-type {short}′.the-laws 𝓤 H A W', uses, f'LL.makes {short}.the-type {short}′.the-plain 𝓤 H A')
+    return Result(last, f'{short}.the-row', f'LL.lawful {short}.the-type {short}′.the-laws 𝓤 H A W', uses,
+                  f'LL.makes {short}.the-type {short}′.the-plain 𝓤 H A', short=short)
 
 
 class Tables:
@@ -332,11 +351,11 @@ words l δ xs = record {{ ptr = (l, 0); name = δ; now = xs }}
 
 room-512 : Room u64 512
 room-512 = (lit< tt, lit< tt)
-{self.results()}
+{self.results()}{self.structs()}
 module _ {{M : Type 1}} (𝓤 : URA M) (H : Heap 𝓤) (A : Atoms 𝓤) (W : Given 𝓤 H A) (mem : Memory → SProp 𝓤) (run : Routine → Fun 𝓤) ({' '.join(p.kappa for p in self.slices)} : Lft) ({' '.join(p.share for p in self.slices)} : Share) {' '.join(p.binders() for p in params)}
     {' '.join(p.goodness() for p in params)} where
   abbrev Arg : Type 0
-  Arg = {' × ('.join([f'RefT (List {p.element})' if p.slice else 'ℕ' for p in params] + ['Unit {0}'])}{')' * self.p}
+  Arg = {' × ('.join([p.denot for p in params] + ['Unit {0}'])}{')' * self.p}
 
   abbrev x : Arg
   x = {nested([p.ref for p in params])}
@@ -371,6 +390,13 @@ module _ {{M : Type 1}} (𝓤 : URA M) (H : Heap 𝓤) (A : Atoms 𝓤) (W : Giv
 {self.walk()}
 '''
 
+    def structs(self):
+        """That a struct that is passed has its machine value."""
+        return ''.join(f'''
+lowered-is : (s : {p.denot}) → Is {p.row} s (LL.vals {p.struct.laws} s) → Is {p.row} s ({p.struct.short}′.lowered s ∷ [])
+lowered-is s is = subst (λ (vs : List Val). Is {p.row} s vs) ({p.struct.short}′.lowers .val-is s _ is) is
+''' for p in self.params if p.struct)
+
     def each_stated(self, said, shown):
         """The step that states these facts at exit."""
         each = f'({shown[-1]})'
@@ -380,7 +406,8 @@ module _ {{M : Type 1}} (𝓤 : URA M) (H : Heap 𝓤) (A : Atoms 𝓤) (W : Giv
 
     def file(self, doc, uses):
         each, n = self.params, len(self.slices)
-        return head(self.crate, self.fn, doc, uses + self.result.uses + self.uses, self.callees) + self.body() + foot(
+        passed = ''.join(p.struct.uses for p in each if p.struct)
+        return head(self.crate, self.fn, doc, uses + self.result.uses + passed + self.uses, self.callees) + self.body() + foot(
             self.crate, self.fn, self.callees, nested([p.vals() for p in each]), nested([p.tells() for p in each]), nested([p.goes(n) for p in each]),
             ' '.join([f'(κs {path(k)})' for k in range(n)] + [f'(qs {path(k)})' for k in range(n)] + [p.applied() for p in each] + [p.proof() for p in each]))
 

@@ -9,7 +9,8 @@ use Rattle.feeder.specs.declared.Fed.{Fed}
 use Rattle.feeder.specs.Feed.{Feeds}
 use Rattle.exports.specs.declared.feeding.FeederState.{FeederState}
 use Rattle.exports.specs.declared.feeding.FedChunk.{FedChunk}
-use Rattle.exports.specs.Feeding.{placeOf, machineOf, crOf, crNumber, placeNumbers, stateOf, chunkOf, FeedsChunk}
+use Rattle.exports.specs.Outcomes.{asNumber}
+use Rattle.exports.specs.Feeding.{placeOf, machineOf, crOf, placeNumbers, stateOf, chunkOf, FeedsChunk}
 
 pub place-back : (p : Place) → placeOf (placeNumbers p .place) (placeNumbers p .value) ≡ p
 unfolding placeOf
@@ -22,7 +23,8 @@ place-back (Line (Ending n)) = refl
 place-back (Literal n) = refl
 place-back Dropping = refl
 
-cr-back : (b : Bool) → crOf (crNumber b) ≡ b
+cr-back : (b : Bool) → crOf (asNumber b) ≡ b
+unfolding asNumber
 cr-back true = refl
 cr-back false = refl
 
@@ -36,7 +38,8 @@ pub first-zero : machineOf (record { place = 0; cr = 0; value = 0; size = 0 }) �
 unfolding machineOf placeOf
 first-zero = refl
 
-pub feeds-chunk : (s : FeederState) {m : Machine} (d e chunk : List ℕ) {fed : Fed} (r : FedChunk) → m ≡ machineOf s → Feeds m d e chunk fed → r ≡ chunkOf fed → FeedsChunk s d e chunk r
+pub feeds-chunk : (s : FeederState) {m : Machine} (d e chunk : List ℕ) {fed : Fed} (r : FedChunk) → m ≡ machineOf s → Feeds m d e chunk fed →
+    r ≡ chunkOf fed → FeedsChunk s d e chunk r
 feeds-chunk s d e chunk {fed = fed} r same promise form =
     record {
       fed = fed;

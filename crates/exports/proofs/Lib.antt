@@ -3,3 +3,6 @@ mod OutcomeLaws
 mod FeedingLaws
 mod NumberedLaws
 mod WordLaws
+mod LeftLaws
+mod ReplayLaws
+mod LentLaws

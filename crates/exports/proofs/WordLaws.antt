@@ -22,10 +22,10 @@ module _ (ws : List ℕ) (lent count reader : ℕ) (area sums spaces l out : Lis
   size = sym (length-take-le n ws inside)
 
   -- as many are lent
-  lent-same : lentOf (take n ws) (length (take n ws)) sums ≡ lentOf ws lent sums
+  pub lent-same : lentOf (take n ws) (length (take n ws)) sums ≡ lentOf ws lent sums
   lent-same = omega (arith, n-is, size)
 
-  summed-same : wordSummed (take n ws) (length (take n ws)) count area sums ≡ wordSummed ws lent count area sums
+  pub summed-same : wordSummed (take n ws) (length (take n ws)) count area sums ≡ wordSummed ws lent count area sums
   summed-same =
       (λ i. record { store = wordStore (take n ws) (lent-same i) count area; summary = map summaryOf (take (lent-same i) sums) })
       ∙ (λ i. record {

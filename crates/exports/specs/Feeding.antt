@@ -13,6 +13,7 @@ use Rattle.feeder.specs.declared.Event.{Event}
 use Rattle.feeder.specs.declared.Event.the-variants.{Quiet, Command, GoOn, Refused, TooSmall}
 use Rattle.feeder.specs.declared.Fed.{Fed}
 use Rattle.feeder.specs.Feed.{Feeds}
+use Rattle.exports.specs.Outcomes.{asNumber}
 use Rattle.exports.specs.declared.feeding.FeederState.{FeederState}
 use Rattle.exports.specs.declared.feeding.FedChunk.{FedChunk}
 use Rattle.exports.specs.declared.feeding.PlaceNumbers.{PlaceNumbers}
@@ -32,9 +33,6 @@ placeOf k n =
 -- whether the last byte is CR: 0 is no, and every other number is yes; it is given back as 0 or 1
 abbrev pub crOf : ℕ → Bool
 crOf k = not (eqb k 0)
-
-abbrev pub crNumber : Bool → ℕ
-crNumber b = cond b 1 0
 
 -- the state that C's stands for
 unfoldable pub machineOf : FeederState → Machine
@@ -56,7 +54,7 @@ placeNumbers Dropping = record { place = 7; value = 0 }
 
 -- C's state of a state
 abbrev pub stateOf : Machine → FeederState
-stateOf m = record { place = placeNumbers (m .place) .place; cr = crNumber (m .cr); value = placeNumbers (m .place) .value; size = m .size }
+stateOf m = record { place = placeNumbers (m .place) .place; cr = asNumber (m .cr); value = placeNumbers (m .place) .value; size = m .size }
 
 -- ---- the answer
 

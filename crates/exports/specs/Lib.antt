@@ -1,3 +1,4 @@
 -- What the C forms of the answers mean.
 pub mod Outcomes
 pub mod Feeding
+pub mod Replays

@@ -1,6 +1,7 @@
 // The feeder as C takes it: its state and its answer as structs of numbers, where the crates below have enums.
 //
 // Both structs have more than 16 bytes, so that they pass in memory. Any numbers in a state are taken: see `place_of`.
+use crate::outcomes::as_number;
 use command_shape::Machine;
 use command_shape::Place;
 use command_shape::Tail;
@@ -9,7 +10,7 @@ use feeder::Fed;
 ghost use mathlib.Core.Path.{_≡_};
 ghost use Rattle.octets.specs.Put.{Put};
 ghost use Rattle.listing_rules.specs.Feeder.{goOnLine};
-ghost use Rattle.exports.specs.Feeding.{placeOf, machineOf, tailNumbers, placeNumbers, stateOf, crNumber, eventNumbers, chunkOf, FeedsChunk};
+ghost use Rattle.exports.specs.Feeding.{placeOf, machineOf, tailNumbers, placeNumbers, stateOf, eventNumbers, chunkOf, FeedsChunk};
 
 // The state between two chunks: the number of its place, and the value beside it, 0 where the place has none (`placeNumbers` of
 // specs/); whether the last byte is CR, 0 for no and any other number for yes; the number of the command's bytes so far, at the front of
@@ -109,20 +110,10 @@ fn state_of(machine: Machine) -> FeederState
     let numbers = place_numbers(place);
     FeederState {
         place: numbers.place,
-        cr: cr_number(machine.cr),
+        cr: as_number(machine.cr),
         value: numbers.value,
         size: machine.size,
     }
-}
-
-// Whether the last byte is CR, as it is given back: 1 for yes.
-fn cr_number(cr: bool) -> u8
-    ensures { λ r. ⌜ r ≡ crNumber cr ⌝ }
-{
-    if cr {
-        return 1;
-    }
-    0
 }
 
 fn place_numbers(place: Place) -> PlaceNumbers

@@ -1,10 +1,12 @@
-// The library for programs in C and Rust: the entries of document 01 under plain names; and document 02's feeder (`feeding`).
+// The library for programs in C and Rust: the entries of document 01 under plain names; and document 02's feeder (`feeding`)
+// and replay (`replaying`).
 //
-// The entries over lent records, with the summary beside them, stand here and nowhere else: each copies the records in as numbers, hands these and the
+// The entries over lent records, with the summary beside them, stand here and in `replaying`: each copies the records in as numbers, hands these and the
 // summary to the entry of the crate below that works on them, and copies back the records that it changed. Every other function calls the entry that it is named after and repeats its
 // promise. A slice passes as a pointer and a length, an answer as a struct of numbers (`outcomes`).
 pub mod feeding;
 pub mod outcomes;
+pub mod replaying;
 
 use compaction::compact_words;
 use list_line::Attributes;

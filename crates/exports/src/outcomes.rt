@@ -7,7 +7,6 @@ use line_reader::Read;
 use octets::Written;
 use server::Stored;
 ghost use mathlib.Core.Path.{_≡_};
-ghost use lib.Dec.{ltb};
 ghost use Rattle.exports.specs.Outcomes.{asNumber, doneCase, writtenCase, collectedCase, lineCase};
 
 // What a call that writes into lent memory answers: 0 and the length of what it wrote, for a walk with the number of commands
@@ -44,7 +43,7 @@ pub(crate) fn command_done(stored: Stored) -> Done
     ensures { λ r. ⌜ r ≡ doneCase stored ⌝ }
 {
     let written = stored.written;
-    let outcome = written_outcome(written, change_number(stored.from, stored.to), stored.count);
+    let outcome = written_outcome(written, as_number(stored.from < stored.to), stored.count);
     Done {
         outcome,
         from: stored.from,
@@ -52,11 +51,11 @@ pub(crate) fn command_done(stored: Stored) -> Done
     }
 }
 
-// 1 where words changed, `from` up to `to`, else 0.
-fn change_number(from: usize, to: usize) -> u8
-    ensures { λ r. ⌜ r ≡ asNumber (ltb from to) ⌝ }
+// 1 for yes.
+pub(crate) fn as_number(yes: bool) -> u8
+    ensures { λ r. ⌜ r ≡ asNumber yes ⌝ }
 {
-    if from < to {
+    if yes {
         return 1;
     }
     0

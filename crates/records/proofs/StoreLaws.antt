@@ -98,7 +98,7 @@ module _ (rs : List Record) (xs us vs sums : List ℕ) (lent start to : ℕ) (lx
   front-is : take lent (map meant rs) ≡ take lent (map recordOf us)
   front-is = sym (map-take meant lent rs) ∙ sym (c .2) ∙ map-take recordOf lent us
 
-  back-are : Between us vs lent start to → (rs′ : List Record) → CopiedBack rs vs start to rs′ →
+  pub back-are : Between us vs lent start to → (rs′ : List Record) → CopiedBack rs vs start to rs′ →
       map meant rs′ ≡ map recordOf (take lent vs) ++ drop lent (map meant rs)
   back-are b rs′ e = records-are ∙ go (decLe start to)
     where
@@ -138,13 +138,13 @@ module _ (rs : List Record) (xs us vs sums : List ℕ) (lent start to : ℕ) (lx
           ∙ sym (rw (map-take recordOf lent vs, same, sym front-is) (take-append-drop lent (map meant rs)))
 
   -- the records and numbers that are lent, as many of both
-  abbrev RS : List Meant
+  abbrev pub RS : List Meant
   RS = map meant (take (length sums) rs)
 
-  abbrev MS : List Summary
+  abbrev pub MS : List Summary
   MS = map summaryOf (take (length rs) sums)
 
-  both : length RS ≡ length MS
+  pub both : length RS ≡ length MS
   both =
       omega (
         arith,
@@ -154,7 +154,7 @@ module _ (rs : List Record) (xs us vs sums : List ℕ) (lent start to : ℕ) (lx
         length-take (length rs) sums,
       )
 
-  lent-is : lent ≡ min (length RS) 512
+  pub lent-is : lent ≡ min (length RS) 512
   lent-is = omega (arith, short, length-map (take (length sums) rs) meant, length-take (length sums) rs)
 
   -- the words are the first of them
@@ -168,23 +168,23 @@ module _ (rs : List Record) (xs us vs sums : List ℕ) (lent start to : ℕ) (lx
   numbers-are =
       ap (map summaryOf) (sym (take-take lent (length rs) sums (omega (arith, short)))) ∙ map-take summaryOf lent (take (length rs) sums)
 
-  whole : lentOf us lent sums ≡ lent
+  pub whole : lentOf us lent sums ≡ lent
   whole = omega (arith, short, lu)
 
   module _ (count : ℕ) (area : List ℕ) where
     -- the store of the words is the first part of what is lent
-    word-is : wordSummed us lent count area sums ≡ record
+    pub word-is : wordSummed us lent count area sums ≡ record
         { store = record { records = take lent RS; count = count; area = area }; summary = take lent MS }
     word-is =
         (λ i. record { store = wordStore us (whole i) count area; summary = map summaryOf (take (whole i) sums) })
         ∙ (λ i. record { store = record { records = words-are i; count = count; area = area }; summary = numbers-are i })
 
-    records-rest : drop lent RS ++ drop (length sums) (map meant rs) ≡ drop lent (map meant rs)
+    pub records-rest : drop lent RS ++ drop (length sums) (map meant rs) ≡ drop lent (map meant rs)
     records-rest =
         ap (λ (l : List Meant). drop lent l ++ drop (length sums) (map meant rs)) (map-take meant (length sums) rs)
         ∙ in-parts lent (length sums) (map meant rs) (omega (arith, short)) (omega (arith, short, length-map rs meant))
 
-    numbers-rest : drop lent MS ++ drop (length rs) (map summaryOf sums) ≡ drop lent (map summaryOf sums)
+    pub numbers-rest : drop lent MS ++ drop (length rs) (map summaryOf sums) ≡ drop lent (map summaryOf sums)
     numbers-rest =
         ap (λ (l : List Summary). drop lent l ++ drop (length rs) (map summaryOf sums)) (map-take summaryOf (length rs) sums)
         ∙ in-parts lent (length rs) (map summaryOf sums) (omega (arith, short)) (omega (arith, short, length-map sums summaryOf))

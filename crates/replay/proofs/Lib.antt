@@ -8,3 +8,4 @@ pub mod FeedLaws
 pub mod WholeLaws
 pub mod Cut
 pub mod ResumeLaws
+pub mod PieceSpare

@@ -22,7 +22,7 @@ use Rattle.records.specs.declared.Record.{Record}
 use Rattle.records.specs.Words.{recordOf, meant}
 use Rattle.records.specs.Numbers.{summaryOf}
 use Rattle.records.specs.Lent.{lentOf}
-use Rattle.records.specs.Stores.{Handed, lentCommand, wordCommand, Between}
+use Rattle.records.specs.Stores.{Between, Handed, lentCommand, wordCommand}
 use Rattle.records.proofs.Relend.{SharedAgain, shares-again, again-back}
 use Rattle.records.proofs.StoreLaws.{Copied, CopiedBack, Answers, answers}
 use Rattle.records.proofs.Clauses.{says-each}

@@ -21,7 +21,7 @@ use denote.Plain.{Nothing}
 use Rattle.records.specs.declared.Record.{Record}
 use Rattle.records.specs.Words.{recordOf, meant}
 use Rattle.records.specs.Lent.{lentOf}
-use Rattle.records.specs.Stores.{Moved, lentCompaction, wordCompaction, Between}
+use Rattle.records.specs.Stores.{Between, Moved, lentCompaction, wordCompaction}
 use Rattle.records.proofs.Relend.{SharedAgain, shares-again, again-back}
 use Rattle.records.proofs.StoreLaws.{Copied, CopiedBack, Compacts, compacts}
 use Rattle.records.proofs.Clauses.{says-each}

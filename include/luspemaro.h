@@ -172,7 +172,7 @@ struct luspemaro_record {
 #define LUSPEMARO_REFUSAL_FOUND_FULL 10          /* a find does not fit */
 #define LUSPEMARO_REFUSAL_PENDING_FULL 11        /* a pending name does not fit */
 #define LUSPEMARO_REFUSAL_NOT_SUCH_LINE 12       /* not a LIST line, or not the parts of one */
-#define LUSPEMARO_REFUSAL_BAD_FRAME 13           /* the program of frames alone: no entry gives it */
+#define LUSPEMARO_REFUSAL_BAD_FRAME 13           /* of a replay: a frame that is unreadable or out of turn, or no answer at the end */
 #define LUSPEMARO_REFUSAL_UNLAWFUL_NAME 14       /* SUBSCRIBE: an unlawful name, or one below a row with no inferiors */
 #define LUSPEMARO_REFUSAL_NO_ROOM 15             /* SUBSCRIBE would insert a row: 512 rows, no spare record, or no free run long enough */
 #define LUSPEMARO_REFUSAL_READER 16              /* the reader is above 7, or an edit comes from another reader than 0 */
@@ -189,6 +189,10 @@ struct luspemaro_record {
 #define LUSPEMARO_ROOM_LIST_LINE 612 /* the longest LIST line */
 #define LUSPEMARO_ROOM_COMMAND 2048  /* the feeder asks for this much, and refuses less; a joined command has at most so much */
 #define LUSPEMARO_ROOM_GO_ON 6       /* the continuation line */
+
+/* Of luspemaro_replay_feed, which does nothing with less. */
+#define LUSPEMARO_ROOM_REPLAY_PENDING 2050 /* the longest command of a log, its reader first */
+#define LUSPEMARO_ROOM_REPLAY_LINE 32771   /* one character more than the longest frame of a log */
 
 /* ---- Stacks: bytes below the call that each entry needs at most, with a margin. They are computed from the archive's machine code and
  * measured (host/c/test), not proved. An answer needs so much since values of options nest as deep as the line allows: a line of 2,048
@@ -209,6 +213,8 @@ struct luspemaro_record {
 #define LUSPEMARO_STACK_JOIN 12288
 #define LUSPEMARO_STACK_FEED 12288
 #define LUSPEMARO_STACK_PUT_GO_ON 12288
+#define LUSPEMARO_STACK_REPLAY 442368
+#define LUSPEMARO_STACK_REPLAY_FEED 442368
 
 /* ---- What the entries answer. */
 
@@ -261,6 +267,39 @@ struct luspemaro_fed {
     size_t length;
     size_t used;
     struct luspemaro_feeder state;
+};
+
+/* The report of a replay. number: LUSPEMARO_DONE, or LUSPEMARO_REFUSAL_BAD_FRAME where the log was stopped. frame: with DONE the number
+ * of the first frame of 43 whose recorded answer differs, 0 where all agree; with BAD_FRAME the number of the frame that stopped it, or of
+ * the 43 after which the log ends. All frames count, from 1. count: how many of the records are rows at the end; at a stop as the commands
+ * that were run before it left them. */
+struct luspemaro_replayed {
+    uint8_t number;
+    size_t frame;
+    size_t count;
+};
+
+/* A replay between two pieces of its log. All zero is the start. frames: the frames that have ended. first: the first frame of 43 that
+ * differs, 0 for none. due: the bytes at the front of pending that are the command whose answer is due, its reader first, 0 for none.
+ * gathered: the characters of the frame so far, at the front of line. Both have to be found there again at the next call. stopped: 0 no,
+ * any other number yes; given back as 0 or 1. */
+struct luspemaro_replay {
+    size_t frames;
+    size_t first;
+    size_t due;
+    size_t gathered;
+    uint8_t stopped;
+};
+
+/* What comes of a piece. taken: 1; or 0 where nothing is done, since pending or line is too short or the state is invalid. Then number and
+ * frame are 0, count is the count passed and state the state passed, stopped as 0 or 1. Else number, frame and count are the report if the
+ * log ends with this piece, as in struct luspemaro_replayed, and state is for the next call, to which count is passed on too. */
+struct luspemaro_replay_fed {
+    uint8_t taken;
+    uint8_t number;
+    size_t frame;
+    size_t count;
+    struct luspemaro_replay state;
 };
 
 /* ---- The entries. */
@@ -371,6 +410,36 @@ struct luspemaro_fed luspemaro_feed(struct luspemaro_feeder state, uint8_t *comm
 /* "+ go" CR LF from out[at] on, and the place after it: at + 6, but at most SIZE_MAX. Nothing is stored past the end of out, where
  * the place counts on: an answer above out_length says that the line is not there, or not whole. */
 size_t luspemaro_put_go_on(uint8_t *out, size_t out_length, size_t at);
+
+/* Runs a log again: its commands, edits included, over the table that it started with, each with an answer buffer of 16,384 bytes, and
+ * compares what is answered now with what was answered then. A log is frames, each hexadecimal digits of either case and LF:
+ *
+ *     43, the reader's byte, a command line     a command, at most 4,102 digits
+ *     41, an answer                             what was answered to the command before it, at most 32,770 digits
+ *     52, a number                              or that it was refused, with exactly one byte
+ *
+ * A command is run once its answer is read. A table or a list that does not pass is no refusal of the replay: its commands are answered 1
+ * or 2, those of a reader above 7 with 16, and that is compared. After a difference the replay goes on. A frame that is unreadable or out
+ * of turn, a last frame without LF, or an end after 43 stops it with 13, whatever differed before; nothing after it is run, nor a command
+ * whose answer is due then. The empty log agrees.
+ *
+ * Records, area and summary are afterwards as the commands that were run left them: what luspemaro_answer says of each holds here. */
+struct luspemaro_replayed luspemaro_replay(struct luspemaro_record *records, size_t records_length, size_t count, uint8_t *area,
+                                           size_t area_length, uint64_t *summary, size_t summary_length, const uint8_t *namespaces,
+                                           size_t namespaces_length, const uint8_t *log, size_t log_length);
+
+/* The same log in pieces of any length, each of which is taken whole: however it is cut, the report after the last piece and the table are
+ * those of luspemaro_replay. After a stop bytes are ignored. What is lent as table, pending and line passes from call to call as the call
+ * before left it.
+ *
+ * Nothing is done, no byte of lent memory changes, and taken is 0: where pending has under LUSPEMARO_ROOM_REPLAY_PENDING bytes or line
+ * under LUSPEMARO_ROOM_REPLAY_LINE; for a state with due over 2,050, with due but no frame, or with gathered over 32,771; and where frames
+ * and piece_length together are SIZE_MAX or more, since each byte may end a frame. */
+struct luspemaro_replay_fed luspemaro_replay_feed(struct luspemaro_record *records, size_t records_length, size_t count,
+                                                  struct luspemaro_replay state, uint8_t *area, size_t area_length,
+                                                  uint64_t *summary, size_t summary_length, const uint8_t *namespaces,
+                                                  size_t namespaces_length, uint8_t *pending, size_t pending_length, uint8_t *line,
+                                                  size_t line_length, const uint8_t *piece, size_t piece_length);
 
 #ifdef __cplusplus
 }

@@ -12,6 +12,9 @@
 //! Beside the records lies their summary, a number for each: how many rows lie below its name. `summarize`
 //! counts the first one, `answer` keeps it up to date, and check 1 refuses one that is wrong.
 //!
+//! [`replay`] runs a log of commands and answers again from the table that it started with, whole, and a [`Replay`] in
+//! pieces of any length: whether every answer is the recorded one, or which is the first that differs.
+//!
 //! Each command and each walk comes from a [`Reader`]. A record has the set of readers who see its row,
 //! and a row that is hidden from the reader counts as absent. Edits are allowed to reader 0 alone; they
 //! look at all rows, and so does check 1.
@@ -56,6 +59,7 @@ mod list_options;
 mod raw;
 mod reader;
 mod refusal;
+mod replay;
 mod summary;
 mod walk_refusal;
 
@@ -66,6 +70,7 @@ pub use list_options::ListOptions;
 pub use raw::{Answered, FeederState, Record, Records, RecordsMut, Walked, NAME_ROOM, READERS_ALL};
 pub use reader::Reader;
 pub use refusal::Refusal;
+pub use replay::{replay, Replay, Replayed, Verdict};
 pub use summary::Summary;
 pub use walk_refusal::WalkRefusal;
 

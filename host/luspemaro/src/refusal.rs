@@ -6,8 +6,9 @@ use std::fmt;
 /// Each refusal once: its name, its number and its meaning, in the words of `include/luspemaro.h`.
 macro_rules! refusals {
     ($($name:ident = $number:literal, $meaning:literal;)*) => {
-        /// Why a call is refused, by the papers' numbers. 13, a bad frame, is the program's alone: no
-        /// entry gives it. Of several causes the first in the entry's order is told.
+        /// Why a call is refused, by the papers' numbers. 13, a bad frame, stops a replay and is no refusal of a
+        /// call: [`Verdict::Refused`](crate::Verdict::Refused). Of several causes the first in the entry's order is
+        /// told.
         #[derive(Clone, Copy, Debug, PartialEq, Eq, PartialOrd, Ord, Hash)]
         #[repr(u8)]
         pub enum Refusal {
@@ -60,7 +61,7 @@ impl Refusal {
         self as u8
     }
 
-    /// The refusal of a number, or none where no entry gives it.
+    /// The refusal of a number, or none where no call is refused with it.
     ///
     /// ```
     /// use luspemaro::Refusal;

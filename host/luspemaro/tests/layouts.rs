@@ -20,7 +20,7 @@ mod walk_refusal;
 
 use std::mem::{align_of, offset_of, size_of};
 
-use raw::{FedChunk, FeederState, LineParts, Outcome, Record};
+use raw::{FedChunk, FedPiece, FeederState, LineParts, Outcome, Record, ReplayReport, ReplayState};
 use summary::Summary;
 
 const LAYOUTS: &str = include_str!("../../c/layouts.def");
@@ -68,6 +68,22 @@ fn layouts_are_those_of_the_header() {
         ("luspemaro_fed", Some("used"), offset_of!(FedChunk, used)),
         ("luspemaro_fed", Some("state"), offset_of!(FedChunk, state)),
         ("luspemaro_fed", None, size_of::<FedChunk>()),
+        ("luspemaro_replayed", Some("number"), offset_of!(ReplayReport, number)),
+        ("luspemaro_replayed", Some("frame"), offset_of!(ReplayReport, frame)),
+        ("luspemaro_replayed", Some("count"), offset_of!(ReplayReport, count)),
+        ("luspemaro_replayed", None, size_of::<ReplayReport>()),
+        ("luspemaro_replay", Some("frames"), offset_of!(ReplayState, frames)),
+        ("luspemaro_replay", Some("first"), offset_of!(ReplayState, first)),
+        ("luspemaro_replay", Some("due"), offset_of!(ReplayState, due)),
+        ("luspemaro_replay", Some("gathered"), offset_of!(ReplayState, gathered)),
+        ("luspemaro_replay", Some("stopped"), offset_of!(ReplayState, stopped)),
+        ("luspemaro_replay", None, size_of::<ReplayState>()),
+        ("luspemaro_replay_fed", Some("taken"), offset_of!(FedPiece, taken)),
+        ("luspemaro_replay_fed", Some("number"), offset_of!(FedPiece, number)),
+        ("luspemaro_replay_fed", Some("frame"), offset_of!(FedPiece, frame)),
+        ("luspemaro_replay_fed", Some("count"), offset_of!(FedPiece, count)),
+        ("luspemaro_replay_fed", Some("state"), offset_of!(FedPiece, state)),
+        ("luspemaro_replay_fed", None, size_of::<FedPiece>()),
     ];
     assert_eq!(
         (size_of::<Summary>(), align_of::<Summary>()),

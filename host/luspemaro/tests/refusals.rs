@@ -7,7 +7,7 @@ use luspemaro::{
 };
 
 const HEADER: &str = include_str!("../../../include/luspemaro.h");
-/// The program's alone.
+/// A stop of a replay, and no refusal of a call.
 const BAD_FRAME: u8 = 13;
 
 /// A line of the header: `#define LUSPEMARO_REFUSAL_NAME number /* meaning */`.

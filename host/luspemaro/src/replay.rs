@@ -4,6 +4,9 @@
 //! A log is frames, each hexadecimal digits of either case and LF: 43, the reader's byte and a command
 //! line; then 41 and its answer, or 52 and the number of its refusal.
 
+#[cfg(test)]
+mod tests;
+
 use crate::raw::{self, RecordsMut, ReplayState};
 
 /// The longest command of a log, its reader first.

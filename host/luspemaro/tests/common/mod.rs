@@ -34,11 +34,14 @@ impl Lent {
         Records { records, count: *count, area, summary }
     }
 
+    pub fn lend(&mut self) -> RecordsMut<'_> {
+        let Lent { records, count, area, summary } = self;
+        RecordsMut { records, count: *count, area, summary }
+    }
+
     /// Answers a command; the count is the one that is given back.
     pub fn answer(&mut self, reader: u8, line: &[u8], out: &mut [u8]) -> Result<Answered, Refusal> {
-        let Lent { records, count, area, summary } = self;
-        let table = RecordsMut { records, count: *count, area, summary };
-        let answered = answer_from(reader, table, b"", line, out);
+        let answered = answer_from(reader, self.lend(), b"", line, out);
         self.count = answered.map_or(self.count, |answered| answered.count);
         answered
     }

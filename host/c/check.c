@@ -318,7 +318,7 @@ enum { KEPT = 3 };
 static const enum area kept[KEPT] = {RECORD, NAMES, SUMMARY};
 static uint8_t before[KEPT][AREA_ROOM];
 
-static void keep_rows(void)
+void keep_rows(void)
 {
     for (size_t i = 0; i < KEPT; i++)
         memcpy(before[i], lent(kept[i]), lent_length(kept[i]));
@@ -420,8 +420,8 @@ static void run(const struct test *test, const char *note)
 int main(void)
 {
     static const struct test *const of_tables[] = {table_tests, walk_tests};
-    static const struct test *const others[] = {answer_tests,  record_tests, edit_tests, compaction_tests, reader_tests,
-                                                summary_tests, check_tests,  line_tests, join_tests,       feeder_tests};
+    static const struct test *const others[] = {answer_tests, record_tests, edit_tests, compaction_tests, reader_tests, summary_tests,
+                                                check_tests,  line_tests,   join_tests, feeder_tests,     replay_tests, replay_piece_tests};
     for (size_t group = 0; group < sizeof of_tables / sizeof of_tables[0]; group++) {
         form = PACKED;
         run(of_tables[group], ", packed");

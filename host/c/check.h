@@ -17,7 +17,7 @@ struct test {
 
 /* The tests of one topic, up to a row without a name. Those of tables and walks run once for each form of a table. */
 extern const struct test table_tests[], answer_tests[], walk_tests[], record_tests[], edit_tests[], compaction_tests[], reader_tests[],
-    summary_tests[], check_tests[], line_tests[], join_tests[], feeder_tests[];
+    summary_tests[], check_tests[], line_tests[], join_tests[], feeder_tests[], replay_tests[], replay_piece_tests[];
 
 /* The form in which `struct rows` are lent. */
 enum form { PACKED, RECORDS };
@@ -29,7 +29,7 @@ extern uint8_t reader;
 /* Memory to lend, filled with FILLER. An access past its end stops the program: a page that no one may touch begins there. One area
  * lends one run at a time, of at most AREA_ROOM bytes. */
 enum { FILLER = 0xA5, AREA_ROOM = 1 << 21 };
-enum area { TABLE, RECORD, NAMES, SUMMARY, NAMESPACES, LINE, OUT, SCRATCH, FOUND, PENDING, TAG, REFERENCE, PATTERNS, AREAS };
+enum area { TABLE, RECORD, NAMES, SUMMARY, NAMESPACES, LINE, OUT, SCRATCH, FOUND, PENDING, TAG, REFERENCE, PATTERNS, LOG, AREAS };
 uint8_t *lend(enum area area, size_t length);
 
 /* Lent memory with these bytes. */
@@ -108,6 +108,9 @@ bool is_store(const struct store *store);
  * whether it left every record, every byte of the names, every number and what stands before them as they were. */
 struct luspemaro_outcome answer_lent(size_t count, const void *line, size_t line_length, size_t room);
 bool rows_untouched(void);
+
+/* For another call over them: what rows_untouched compares with is what they are now. */
+void keep_rows(void);
 
 /* The names of the first count of the lent records moved together, in the lent names; rows_untouched says of it too. */
 unsigned compact_lent(size_t count);

@@ -6,7 +6,7 @@
 #include <stdlib.h>
 #include <string.h>
 
-#include "luspemaro.h"
+#include "stack_inputs.h"
 #include "stack_run.h"
 
 static unsigned passed, failed;
@@ -21,145 +21,18 @@ static void claim(bool holds, const char *entry, const char *input)
     }
 }
 
-/* ---- the inputs */
-
-static uint8_t table[LUSPEMARO_MAX_TABLE], area[LUSPEMARO_MAX_AREA], namespaces[LUSPEMARO_MAX_NAMESPACES], line[LUSPEMARO_MAX_COMMAND];
-static struct luspemaro_record records[LUSPEMARO_MAX_ROWS];
-static uint64_t summary[LUSPEMARO_MAX_ROWS];
-static size_t table_length, count, namespaces_length, line_length, tag_length, reference_length;
-static uint8_t out[LUSPEMARO_ROOM_ANSWER], scratch[LUSPEMARO_ROOM_SCRATCH], found[LUSPEMARO_ROOM_FOUND],
-    pending[LUSPEMARO_ROOM_PENDING], command[LUSPEMARO_ROOM_COMMAND];
-
-/* Tables in both forms that are as full as may be: 512 rows in 16 levels, all existing, subscribed and with a use, for all readers but one.
- * The names have all the bytes there are: 60 each in the packed form, 64 each in the area, where they lie in the other order. */
-enum { FLAGS = 0x0100 | LUSPEMARO_FLAG_EXISTS | LUSPEMARO_FLAG_SUBSCRIBED, PACKED_NAME = 60, NAME = 64, NOT_FOR = 6 };
-
-static void fill_name(uint8_t *at, unsigned row, unsigned length)
-{
-    memset(at, '"', length);
-    for (unsigned level = 1; level < LUSPEMARO_MAX_LEVELS; level++)
-        at[length - 2 * level] = '/';
-    for (unsigned bit = 0; bit < 9; bit++)
-        at[bit] = (row >> (8 - bit) & 1) != 0 ? '\\' : '"';
-}
-
-static void fill_tables(void)
-{
-    for (unsigned row = 0; row < LUSPEMARO_MAX_ROWS; row++) {
-        uint8_t *at = table + 64 * row;
-        at[0] = FLAGS >> 8;
-        at[1] = FLAGS & 0xFF;
-        at[2] = (uint8_t)~(1u << NOT_FOR);
-        at[3] = PACKED_NAME;
-        fill_name(at + 4, row, PACKED_NAME);
-        unsigned start = NAME * (LUSPEMARO_MAX_ROWS - 1 - row);
-        records[row].flags = FLAGS;
-        records[row].start = (uint16_t)start;
-        records[row].len = NAME;
-        records[row].readers = (uint8_t)~(1u << NOT_FOR);
-        fill_name(area + start, row, NAME);
-    }
-    table_length = sizeof table;
-    count = LUSPEMARO_MAX_ROWS;
-    /* No row lies below another. */
-    memset(summary, 0, sizeof summary);
-}
-
-/* 32 names of 16 levels, each with a row for every level: as many rows below rows as may be, and free bytes after them. */
-static void fill_nested(void)
-{
-    size_t start = 0;
-    memset(area, 0, sizeof area);
-    for (unsigned row = 0; row < LUSPEMARO_MAX_ROWS; row++) {
-        unsigned name = row / LUSPEMARO_MAX_LEVELS, level = row % LUSPEMARO_MAX_LEVELS;
-        records[row].flags = FLAGS;
-        records[row].start = (uint16_t)start;
-        records[row].len = (uint8_t)(2 + 2 * level);
-        records[row].readers = LUSPEMARO_READERS_ALL;
-        area[start++] = (uint8_t)('a' + name / 8);
-        area[start++] = (uint8_t)('a' + name % 8);
-        for (; level > 0; level--) {
-            area[start++] = '/';
-            area[start++] = 'x';
-        }
-    }
-    count = LUSPEMARO_MAX_ROWS;
-}
-
-static void fill_namespaces(void)
-{
-    for (unsigned entry = 0; entry < 12; entry++) {
-        uint8_t *at = namespaces + 67 * entry;
-        at[0] = (uint8_t)(entry / 4);
-        at[1] = LUSPEMARO_MAX_PREFIX;
-        memset(at + 2, '"', 65);
-    }
-    namespaces_length = sizeof namespaces;
-}
-
-static void set_line(const char *text)
-{
-    line_length = strlen(text);
-    memcpy(line, text, line_length);
-}
-
-/* A line of 2,048 bytes: the first text, then this byte as often as it fits, then the last text. */
-static void set_long_line(const char *first, char byte, const char *last)
-{
-    size_t end = sizeof line - strlen(last);
-    memset(line, byte, end);
-    memcpy(line, first, strlen(first));
-    memcpy(line + end, last, strlen(last));
-    line_length = sizeof line;
-}
-
-/* A line of at most 2,048 bytes: a value with so many parentheses around one item, all closed. */
-static void set_closed_line(size_t depth)
-{
-    memcpy(line, "a LIST (X ", 10);
-    memset(line + 10, '(', depth);
-    line[10 + depth] = 'a';
-    memset(line + 11 + depth, ')', depth);
-    memcpy(line + 11 + 2 * depth, ") \"\" *\r\n", 8);
-    line_length = 19 + 2 * depth;
-}
-
-/* An edit, by its word, of the name of a row, or of a name that no row has: both have NAME bytes. */
-static void set_edit_line(const char *word, const struct luspemaro_record *row)
-{
-    line_length = (size_t)snprintf((char *)line, sizeof line, "a %s {%d}\r\n", word, NAME);
-    if (row != NULL)
-        memcpy(line + line_length, area + row->start, NAME);
-    else
-        memset(line + line_length, 'z', NAME);
-    memcpy(line + line_length + NAME, "\r\n", 2);
-    line_length += NAME + 2;
-}
-
-/* The parts of a joined command, in the place of a line: so many times each byte, as a tag, as a reference and as each of eight packed
- * patterns. */
-static void set_parts(char tag, size_t tags, char reference, size_t references, char pattern, size_t patterns)
-{
-    tag_length = tags;
-    reference_length = references;
-    memset(line, tag, tags);
-    memset(line + tags, reference, references);
-    line_length = tags + references;
-    for (unsigned i = 0; i < LUSPEMARO_MAX_PATTERNS; i++) {
-        line[line_length++] = (uint8_t)patterns;
-        memset(line + line_length, pattern, patterns);
-        line_length += patterns;
-    }
-}
-
 /* ---- the calls, and what they answered */
 
+static uint8_t scratch[LUSPEMARO_ROOM_SCRATCH], found[LUSPEMARO_ROOM_FOUND], pending[LUSPEMARO_ROOM_PENDING],
+    command[LUSPEMARO_ROOM_COMMAND], gathered[LUSPEMARO_ROOM_REPLAY_LINE];
 static struct luspemaro_outcome outcome;
 static struct luspemaro_line parts;
 static struct luspemaro_fed fed;
+static struct luspemaro_replayed replayed;
+static struct luspemaro_replay_fed piece;
 static bool truth;
 static size_t place;
-static uint8_t reader, option, number;
+static uint8_t option, number;
 
 static void call_check_records(void)
 {
@@ -239,6 +112,19 @@ static void call_feed(void)
 static void call_put_go_on(void)
 {
     place = luspemaro_put_go_on(out, sizeof out, 3);
+}
+
+static void call_replay(void)
+{
+    replayed = luspemaro_replay(records, LUSPEMARO_MAX_ROWS, count, area, sizeof area, summary, LUSPEMARO_MAX_ROWS, namespaces,
+                                namespaces_length, log_text, log_length);
+}
+
+static void call_replay_feed(void)
+{
+    const struct luspemaro_replay start = {0, 0, 0, 0, 0};
+    piece = luspemaro_replay_feed(records, LUSPEMARO_MAX_ROWS, count, start, area, sizeof area, summary, LUSPEMARO_MAX_ROWS, namespaces,
+                                  namespaces_length, pending, sizeof pending, gathered, sizeof gathered, log_text, log_length);
 }
 
 static void call_nothing(void)
@@ -454,6 +340,42 @@ static void measure_joins(void)
     measure_join("RECURSIVEMATCH alone", LUSPEMARO_REFUSAL_RECURSIVEMATCH_ALONE);
 }
 
+/* Both entries with the log of a command, from the table that it was answered over. */
+static void measure_replay(const char *input)
+{
+    log_answer();
+    fill_tables();
+    measure("replay", input, LUSPEMARO_STACK_REPLAY, call_replay);
+    claim(replayed.number == LUSPEMARO_DONE && replayed.frame == 0, "replay", input);
+    fill_tables();
+    measure("replay_feed", input, LUSPEMARO_STACK_REPLAY_FEED, call_replay_feed);
+    claim(piece.taken == 1 && piece.number == LUSPEMARO_DONE && piece.frame == 0, "replay_feed", input);
+    fill_tables();
+}
+
+static void measure_replays(void)
+{
+    set_long_line("a LIST (X (", '(', "\r\n");
+    measure_replay("the deepest value, never closed");
+    claim(dies_on(LUSPEMARO_STACK_REPLAY / 2 / PAGE * PAGE, call_replay), "replay", "half of the stated stack, which must not do");
+    claim(dies_on(LUSPEMARO_STACK_REPLAY_FEED / 2 / PAGE * PAGE, call_replay_feed), "replay_feed", "half of the stated stack");
+    set_closed_line(1014);
+    measure_replay("the deepest value, closed");
+    set_line("a LIST (SUBSCRIBED RECURSIVEMATCH SPECIAL-USE REMOTE) \"\" (% %/% *%*%*%x a b c d *) RETURN (CHILDREN SUBSCRIBED)\r\n");
+    measure_replay("eight patterns over a full table");
+    set_line("a NAMESPACE\r\n");
+    measure_replay("a full namespace list");
+    set_edit_line("UNSUBSCRIBE", &records[0]);
+    measure_replay("a flag cleared");
+    set_edit_line("SUBSCRIBE", NULL);
+    measure_replay("no room for a row");
+    log_length -= 2;
+    call_replay();
+    call_replay_feed();
+    claim(replayed.number == LUSPEMARO_REFUSAL_BAD_FRAME && replayed.frame == 2, "replay", "a last frame that is cut");
+    claim(piece.number == LUSPEMARO_REFUSAL_BAD_FRAME && piece.frame == 2, "replay_feed", "a last frame that is cut");
+}
+
 static void measure_others(void)
 {
     measure("check_records", "full records", LUSPEMARO_STACK_CHECK_RECORDS, call_check_records);
@@ -495,6 +417,7 @@ int main(void)
         measure_walks(&walks[form]);
     measure_lines();
     measure_joins();
+    measure_replays();
     measure_others();
     printf("%u passed, %u failed\n", passed, failed);
     return failed == 0 ? EXIT_SUCCESS : EXIT_FAILURE;

@@ -154,10 +154,10 @@ pub fn some_room(random: &mut Random, line: &[u8]) -> usize {
 }
 
 /// A count that makes rows spare, spare records rows, or that no records have.
-fn odd_count(random: &mut Random, layout: &Layout) -> usize {
+pub fn odd_count(random: &mut Random, layout: &Layout) -> usize {
     let records = layout.records.len();
     match random.below(4) {
-        0 => random.below(layout.count + 1),
+        0 => random.below(layout.count.min(records) + 1),
         1 => records,
         2 => records + 1 + random.below(3),
         _ => usize::MAX - random.below(3),

@@ -19,6 +19,7 @@ mod levels;
 pub mod library;
 mod limits;
 mod literals;
+pub mod log_frames;
 pub mod lsub;
 pub mod more_patterns;
 pub mod own_commands;

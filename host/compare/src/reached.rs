@@ -8,7 +8,12 @@ pub struct Reached(BTreeMap<String, usize>);
 
 impl Reached {
     pub fn add(&mut self, what: impl Into<String>) {
-        *self.0.entry(what.into()).or_default() += 1;
+        self.add_times(what, 1);
+    }
+
+    /// Adds what came so many times.
+    pub fn add_times(&mut self, what: impl Into<String>, times: usize) {
+        *self.0.entry(what.into()).or_default() += times;
     }
 
     /// Adds those that hold.
@@ -21,7 +26,7 @@ impl Reached {
     /// Adds all that came elsewhere.
     pub fn add_all(&mut self, other: &Reached) {
         for (what, times) in &other.0 {
-            *self.0.entry(what.clone()).or_default() += times;
+            self.add_times(what, *times);
         }
     }
 

@@ -1,21 +1,24 @@
 //! Nights to be replayed (document 02, W14): a table, a namespace list and a log of commands with what was answered,
-//! as it was or with something changed; and frames that stop a log.
+//! as it was or with something changed.
 
-use second::frames::{hex_of, ANSWER, ANSWER_ROOM, COMMAND, ENTRY, MAX_DIGITS, REFUSAL, ROW, WALK};
+use second::frames::{ANSWER_ROOM, MAX_DIGITS};
 use second::replay::{Exchange, Recorded, MAX_ANSWER_DIGITS};
 use second::rows::{Flags, Row, MAX_ROWS};
 use second::store::STORE_AREA;
 use second::{answer, Store};
 
 use crate::damage::{damaged_rows, namespace_list};
-use crate::edit_series::{some_call_of_a_reader, some_veiled_table, Call, Command};
+use crate::edit_series::{odd_count, some_call_of_a_reader, some_veiled_table, Call, Command};
+use crate::log_frames::{bad_frames, frames_of, with_lf};
 use crate::lsub::subscriptions;
 use crate::random::Random;
 use crate::readers::veil;
 use crate::records::Layout;
+use crate::summaries::Damage;
 use crate::tables::{names_of, NewRow};
 
 /// What is replayed.
+#[derive(Clone)]
 pub struct Night {
     pub table: Layout,
     pub namespaces: Vec<u8>,
@@ -32,7 +35,12 @@ const ROWS_AT_THE_BUFFER: usize = 230;
 
 /// A night: mostly as the program would log it, else with answers, frames or its end changed.
 pub fn some_night(random: &mut Random) -> Night {
-    let (table, mut names) = some_start(random);
+    let (mut table, mut names) = some_start(random);
+    match random.below(40) {
+        0 | 1 => Damage::ALL[random.below(Damage::ALL.len())].apply(random, &mut table),
+        2 => table.count = odd_count(random, &table),
+        _ => {}
+    }
     let namespaces = match random.below(12) {
         0 => namespace_list(random),
         1 => b"\x03\0/".to_vec(),
@@ -43,6 +51,9 @@ pub fn some_night(random: &mut Random) -> Night {
     let (mut store, mut frames) = (table.clone(), Vec::new());
     for _ in 0..random.within(1..=EXCHANGES) {
         let Command { reader, mut line, .. } = some_command(random, &store, &mut names);
+        if random.percent(1) {
+            line.resize(LONGEST_LINE - random.below(2), b'x');
+        }
         line.truncate(LONGEST_LINE);
         let mut exchange = answered(&mut store, &namespaces, reader, line);
         if changed && random.percent(20) {
@@ -54,73 +65,6 @@ pub fn some_night(random: &mut Random) -> Night {
         stop_somewhere(random, &mut frames);
     }
     Night { table, namespaces, log: log_of(random, &frames) }
-}
-
-/// The two frames of an exchange, without their LF.
-pub fn frames_of(exchange: &Exchange) -> [Vec<u8>; 2] {
-    let command = [&[COMMAND, exchange.reader], exchange.line.as_slice()].concat();
-    [hex_of(&command), answer_frame(&exchange.recorded)]
-}
-
-pub fn answer_frame(recorded: &Recorded) -> Vec<u8> {
-    match recorded {
-        Recorded::Lines(lines) => hex_of(&[&[ANSWER], lines.as_slice()].concat()),
-        Recorded::Refused(number) => hex_of(&[REFUSAL, *number]),
-    }
-}
-
-/// Frames that stop a log wherever they stand, and what is wrong with each.
-pub fn bad_frames() -> Vec<(&'static str, Vec<u8>)> {
-    let texts: [(&str, &[u8]); 20] = [
-        ("empty", b""),
-        ("one digit", b"4"),
-        ("43 without a reader", b"43"),
-        ("52 without a byte", b"52"),
-        ("52 with two bytes", b"520102"),
-        ("43 with an odd digit", b"4300610"),
-        ("41 with an odd digit", b"410"),
-        ("52 with an odd digit", b"52010"),
-        ("no digit", b"4300G1"),
-        ("no digit in 41", b"41g0"),
-        ("a space", b"43 00"),
-        ("a space at the front", b" 41"),
-        ("a CR", b"4300\r"),
-        ("a CR after an answer", b"5203\r"),
-        ("0x", b"0x4300"),
-        ("another first byte", b"42"),
-        ("a first byte in other bits", b"C100"),
-        ("a NUL", b"\x00"),
-        ("bytes above 7F", b"\xFF\xC3\xA9"),
-        ("half of a digit pair of 41", b"4"),
-    ];
-    let made = [
-        ("4D", hex_of(&[ROW, 0, 1, 0xFF, 1, b'a'])),
-        ("4E", hex_of(&[ENTRY, 0, 0, b'/'])),
-        ("57", hex_of(&[WALK, 0, 0])),
-        ("43 of 4,104 digits", digits(COMMAND, MAX_DIGITS + 2)),
-        ("43 of 4,103 digits", digits(COMMAND, MAX_DIGITS + 2)[..MAX_DIGITS + 1].to_vec()),
-        ("52 of 4,102 digits", digits(REFUSAL, MAX_DIGITS)),
-        ("57 of 32,770 digits", digits(WALK, MAX_ANSWER_DIGITS)),
-        ("41 of 32,772 digits", digits(ANSWER, MAX_ANSWER_DIGITS + 2)),
-        ("41 of 32,771 digits", digits(ANSWER, MAX_ANSWER_DIGITS + 2)[1..].to_vec()),
-    ];
-    texts.map(|(name, text)| (name, text.to_vec())).into_iter().chain(made).collect()
-}
-
-/// Frames at their longest, with what they are: each is readable where it is due.
-pub fn longest_frames() -> [(&'static str, Vec<u8>); 3] {
-    [
-        ("43 of 4,102 digits", digits(COMMAND, MAX_DIGITS)),
-        ("41 of 4,104 digits", digits(ANSWER, MAX_DIGITS + 2)),
-        ("41 of 32,770 digits", digits(ANSWER, MAX_ANSWER_DIGITS)),
-    ]
-}
-
-/// A frame of a first byte and zeros, of an even number of digits.
-fn digits(first: u8, length: usize) -> Vec<u8> {
-    let mut bytes = vec![0; length / 2];
-    bytes[0] = first;
-    hex_of(&bytes)
 }
 
 /// A small night that agrees, and the frames of it, for logs that are tried at every place: edits that insert and
@@ -171,26 +115,6 @@ fn answered(store: &mut Layout, namespaces: &[u8], reader: u8, line: Vec<u8>) ->
     let mut exchange = Exchange { frame: 0, reader, line, recorded: Recorded::Refused(0) };
     exchange.recorded = store.lend(|lent| exchange.answered_now(lent, namespaces));
     exchange
-}
-
-/// Frames as a log.
-pub fn with_lf(frames: &[Vec<u8>]) -> Vec<u8> {
-    frames.iter().flat_map(|frame| [frame.as_slice(), b"\n"].concat()).collect()
-}
-
-/// A log in pieces, cut at random: into two, into a few, or into very many.
-pub fn some_pieces<'l>(random: &mut Random, log: &'l [u8]) -> Vec<&'l [u8]> {
-    let most = [log.len() + 1, 3_000, 40, 3][random.below(4)];
-    let (mut pieces, mut rest) = (Vec::new(), log);
-    while !rest.is_empty() {
-        let (piece, after) = rest.split_at(random.below(most).min(rest.len()));
-        pieces.push(piece);
-        rest = after;
-    }
-    if random.percent(30) {
-        pieces.push(b"");
-    }
-    pieces
 }
 
 /// The rows as the program keeps them.
@@ -284,11 +208,13 @@ fn stop_somewhere(random: &mut Random, frames: &mut Vec<Vec<u8>>) {
     }
 }
 
-/// The log of frames, some of them in lower case; now and then its end is missing.
+/// The log of frames, with digits of either case; now and then its end is missing.
 fn log_of(random: &mut Random, frames: &[Vec<u8>]) -> Vec<u8> {
     let mut log = with_lf(frames);
-    if random.percent(20) {
-        log.make_ascii_lowercase();
+    match random.below(10) {
+        0 | 1 => log.make_ascii_lowercase(),
+        2 => log.iter_mut().filter(|_| random.percent(50)).for_each(u8::make_ascii_lowercase),
+        _ => {}
     }
     match random.below(12) {
         0 => log.truncate(random.below(log.len() + 1)),

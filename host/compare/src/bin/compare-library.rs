@@ -1,14 +1,4 @@
-//! `compare-library [--group TEXT] [--least N]`
-//!
-//! Compares the proved library with the second program's: lines written and read, patterns, the two
-//! checks, commands, walks, records, edits, readers, compactions, summaries, joined commands and the feeder; and
-//! judges the proved library's answers to several commands by the laws about them. With `--group` only the groups
-//! whose name has TEXT in it. Groups that go on seed by seed compare, or judge, at least N times; without N,
-//! 100,000 times, and those of laws 20,000 times. `--group 'kept up to date' --least 1300000` makes over a million
-//! edits with their summaries.
-//!
-//! Each difference is printed, and each claim that does not hold; of a law, what its claims reached, too; the last line is `N passed, M failed`, by groups of comparisons.
-//! Status 1 is a difference; status 2 a wrong call.
+//! `compare-library [--group TEXT] [--least N]`: the proved library against the second program's; see `HELP`.
 
 use std::env;
 use std::process::ExitCode;
@@ -19,7 +9,25 @@ use compare::trials::reached_text;
 use compare::wrong_call;
 
 const USAGE: &str = "usage: compare-library [--group TEXT] [--least N]";
-/// Comparisons of a group that goes on seed by seed, and claims of a law, whose groups begin with a word.
+const HELP: &str = "\
+Compares the proved library with the second program's: lines written and read, patterns, the two checks, commands,
+walks, records, edits, readers, compactions, summaries, replays, joined commands and the feeder; and judges the proved
+library's answers to several commands by the laws about them.
+
+  --group TEXT  only the groups whose name has TEXT in it
+  --least N     groups that go on seed by seed compare, or judge, at least N times, and that of replays of nights reads
+                at least N frames; without N, 100,000, and those of laws 20,000
+  --help        this text
+
+Over a million edits with their summaries, and a million frames of logs that are replayed:
+
+  compare-library --group 'kept up to date' --least 1300000
+  compare-library --group 'replays of nights' --least 1000000
+
+Of each group a line says how many comparisons were made and how many of them differed, and another what was reached, if
+that is counted. Each difference is printed, and each claim that does not hold; the last line is 'N passed, M failed', by
+groups. Status 1: something differed. Status 2: a wrong call.";
+/// Comparisons of a group that goes on seed by seed, or frames, and claims of a law, whose groups begin with a word.
 const LEAST: u64 = 100_000;
 const LEAST_OF_LAWS: u64 = 20_000;
 const LAWS: &str = "laws: ";
@@ -31,7 +39,11 @@ struct Call {
 
 fn main() -> ExitCode {
     let call = match read_call() {
-        Ok(call) => call,
+        Ok(Some(call)) => call,
+        Ok(None) => {
+            println!("{USAGE}\n\n{HELP}");
+            return ExitCode::SUCCESS;
+        }
         Err(message) => return wrong_call(&message),
     };
     let (mut passed, mut failed) = (0, 0);
@@ -53,10 +65,14 @@ fn main() -> ExitCode {
     ExitCode::from(u8::from(failed > 0))
 }
 
-fn read_call() -> Result<Call, String> {
+/// The call, or none where help is asked for.
+fn read_call() -> Result<Option<Call>, String> {
     let (mut text, mut least) = (String::new(), None);
     let mut arguments = env::args().skip(1);
     while let Some(argument) = arguments.next() {
+        if argument == "--help" {
+            return Ok(None);
+        }
         let value = arguments.next().ok_or(USAGE)?;
         match argument.as_str() {
             "--group" => text = value,
@@ -69,5 +85,5 @@ fn read_call() -> Result<Call, String> {
         let names: Vec<&str> = GROUPS.iter().map(|(name, _)| *name).collect();
         return Err(format!("there is no such group; the groups are\n{}", names.join("\n")));
     }
-    Ok(Call { groups, least })
+    Ok(Some(Call { groups, least }))
 }

@@ -3,7 +3,8 @@
 
 use std::fmt;
 
-use luspemaro::{Answered, ListOptions, RecordsMut, WalkRefusal};
+use luspemaro::{Answered, ListOptions, RecordsMut, Replay, Replayed, Verdict, WalkRefusal};
+use second::replay::Stop;
 use second::{Refusal, Table};
 use session::show_table;
 
@@ -57,6 +58,8 @@ pub type Matches = fn(&[u8], &[u8]) -> bool;
 pub type Answer = fn(&mut Mailboxes, Asked, &mut [u8]) -> Result<Answered, u8>;
 /// A compaction, or a summary counted afresh.
 pub type Change = fn(&mut Mailboxes) -> Result<(), u8>;
+/// Of a namespace list and a log: the first frame of 43 that differs, 0 where all agree, or the frame that stopped it.
+pub type Replays = fn(&mut Mailboxes, &[u8], &[u8]) -> Result<u64, u64>;
 /// Of a walk of a reader, with an option byte.
 pub type Collect = fn(u8, Lent, u8, &mut [u8], &mut [u8], &mut [u8]) -> Result<(usize, usize), u8>;
 pub type WriteLine = fn(u16, &[u8], u8, &mut [u8]) -> Result<usize, u8>;
@@ -78,11 +81,9 @@ pub const MATCHES: [Matches; 2] = [luspemaro::matches, second::matches];
 
 pub const ANSWER: [Answer; 2] = [
     |table, Asked { reader, list, line }, out| {
-        let ProvedTable { records, count, area, summary } = &mut table.proved;
-        let lent = RecordsMut { records, count: *count, area, summary };
-        let answered = luspemaro::answer_from(reader, lent, list, line, out)
+        let answered = luspemaro::answer_from(reader, table.proved.lend(), list, line, out)
             .map_err(luspemaro::Refusal::number)?;
-        *count = answered.count;
+        table.proved.count = answered.count;
         Ok(answered)
     },
     |table, Asked { reader, list, line }, out| {
@@ -107,6 +108,32 @@ pub const SUMMARIZE: [Change; 2] = [
     },
     |table| table.second.lend(second::summarize).map_err(Refusal::number),
 ];
+
+pub const REPLAY: [Replays; 2] = [
+    |table, list, log| {
+        let report = luspemaro::replay(table.proved.lend(), list, log);
+        table.proved.reported(report)
+    },
+    |table, list, log| {
+        let verdict = table.second.lend(|lent| second::replay(lent, list, log));
+        match verdict {
+            second::replay::Verdict::Agree => Ok(0),
+            second::replay::Verdict::Differs(frame) => Ok(frame),
+            second::replay::Verdict::Stopped(Stop { frame, .. }) => Err(frame),
+        }
+    },
+];
+
+/// A piece of a log by the proved library, and what it reports; none where the piece is not taken.
+pub fn feed_replay(
+    table: &mut Mailboxes,
+    replay: &mut Replay,
+    list: &[u8],
+    piece: &[u8],
+) -> Option<Result<u64, u64>> {
+    let report = replay.feed(table.proved.lend(), list, piece)?;
+    Some(table.proved.reported(report))
+}
 
 pub const COLLECT: [Collect; 2] = [
     |reader, table, option, scratch, found, pending| {
@@ -154,6 +181,23 @@ pub const JOIN: [Join; 2] = [
         second::join(tag, options.bits(), reference, patterns, out).map_err(Refusal::number)
     },
 ];
+
+impl ProvedTable {
+    fn lend(&mut self) -> RecordsMut<'_> {
+        let ProvedTable { records, count, area, summary } = self;
+        RecordsMut { records, count: *count, area, summary }
+    }
+
+    /// Takes the count of a report, and gives the rest of it.
+    fn reported(&mut self, Replayed { verdict, count }: Replayed) -> Result<u64, u64> {
+        self.count = count;
+        match verdict {
+            Verdict::Agree => Ok(0),
+            Verdict::Differs(frame) => Ok(frame as u64),
+            Verdict::Refused(frame) => Err(frame as u64),
+        }
+    }
+}
 
 impl Lent<'_> {
     fn second(&self) -> Table<'_> {
@@ -204,6 +248,11 @@ impl Mailboxes {
         let mut bytes = proved.area.iter().zip(&second.area).enumerate();
         let (at, pair) = bytes.find(|(_, (one, other))| one != other)?;
         Some(format!("byte {at} of the area: {pair:?}"))
+    }
+
+    /// The proved library's table of this one beside the second program's of another.
+    pub fn beside(&self, other: &Mailboxes) -> Mailboxes {
+        Mailboxes { proved: self.proved.clone(), second: other.second.clone() }
     }
 
     /// Flags, readers and names of the rows that the proved library has, of a table that passes.

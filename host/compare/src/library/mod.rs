@@ -18,6 +18,7 @@ mod matching;
 mod readers;
 mod reading;
 mod records;
+mod replays;
 mod summaries;
 mod tables;
 mod tally;
@@ -28,7 +29,7 @@ pub use tally::Tally;
 /// A name, and what compares.
 pub type Group = (&'static str, fn(&mut Tally));
 
-pub const GROUPS: [Group; 44] = [
+pub const GROUPS: [Group; 48] = [
     ("every set of attributes, written and read back", lines::every_set),
     ("every number of a set of criteria", lines::every_criteria_byte),
     ("names at the limits, buffers on both sides of the line's length", lines::names_and_rooms),
@@ -64,6 +65,10 @@ pub const GROUPS: [Group; 44] = [
     ("streams for the feeder, chunk by chunk", feeding::streams),
     ("memory and states that the feeder does not take", feeding::not_taken),
     ("the continuation line at any place of a buffer", feeding::continuation),
+    ("replays of nights, whole and in pieces", replays::nights),
+    ("logs stopped at every place", replays::stops),
+    ("logs cut at every place", replays::cuts),
+    ("logs with frames and answers at the limits", replays::limits),
     ("joined commands of random parts, lawful and damaged, and their answers", joining::parts),
     ("joined commands at the limits, with several faults at a time", join_limits::limits),
     ("laws: more patterns", laws::more_patterns),

@@ -18,7 +18,7 @@ pub struct Tally {
     pub different: u64,
     /// What the claims of laws reached.
     pub reached: Reached,
-    /// A group that goes on seed by seed ends when it has compared so many times.
+    /// A group that goes on seed by seed ends when it has compared so many times, or come to so many of what it counts.
     least: u64,
 }
 
@@ -32,9 +32,18 @@ impl Tally {
     }
 
     /// The seeds of a group, until it has compared often enough.
-    pub fn for_each_seed(&mut self, mut compare: impl FnMut(&mut Tally, u64)) {
+    pub fn for_each_seed(&mut self, compare: impl FnMut(&mut Tally, u64)) {
+        self.seeds(|tally| tally.compared, compare);
+    }
+
+    /// The seeds of a group, until it has reached this often enough.
+    pub fn for_each_seed_until(&mut self, what: &str, compare: impl FnMut(&mut Tally, u64)) {
+        self.seeds(|tally| tally.reached.times(what) as u64, compare);
+    }
+
+    fn seeds(&mut self, counted: impl Fn(&Tally) -> u64, mut compare: impl FnMut(&mut Tally, u64)) {
         for seed in SEED.. {
-            if self.compared >= self.least {
+            if counted(self) >= self.least {
                 return;
             }
             compare(self, seed);
@@ -82,6 +91,12 @@ impl Tally {
     /// After this number of claims, all of this must have been reached.
     pub fn need_after(&mut self, enough: usize, needed: fn() -> Vec<String>) {
         self.report_unreached(&unreached_after(enough, needed, &self.reached));
+    }
+
+    /// All of this must have been reached.
+    pub fn need_all(&mut self, needed: &[&str]) {
+        let unreached = needed.iter().filter(|what| self.reached.times(what) == 0);
+        self.report_unreached(&unreached.map(|what| what.to_string()).collect::<Vec<_>>());
     }
 
     fn report_unreached(&mut self, unreached: &[String]) {

@@ -1,11 +1,12 @@
 //! What the generator of nights reaches (document 02, W14).
 
-use compare::random::Random;
-use compare::replays::{
-    bad_frames, longest_frames, nights_at_the_buffer, small_night, some_night, some_pieces,
-    with_lf, Night,
+use compare::log_frames::{
+    bad_frames, frames_of_many_lengths, longest_frames, some_pieces, with_lf,
 };
-use second::frames::ANSWER_ROOM;
+use compare::random::Random;
+use compare::records::Layout;
+use compare::replays::{nights_at_the_buffer, small_night, some_night, Night};
+use second::frames::{ANSWER_ROOM, MAX_DIGITS};
 use second::replay::{replay, Exchange, LogFrame, Recorded, Stop, Turns, Verdict};
 use second::rows::MAX_ROWS;
 use second::{answer, check_table, Table};
@@ -59,10 +60,26 @@ fn reach(night: &Night, reached: &mut Reached) {
         ("several differences", stop.is_none() && differing > 1),
         ("a difference before a stop", stop.is_some() && differing > 0),
         ("41 without bytes", exchanges.iter().any(is_empty)),
+        ("a count above the records", night.table.count > night.table.records.len()),
+        ("a table whose summary alone is wrong", !passes && recounted_passes(&night.table)),
+        ("43 of 4,102 digits", exchanges.iter().any(|one| one.line.len() == MAX_DIGITS / 2 - 2)),
+        ("digits of both cases", is_mixed(&night.log)),
     ]);
 }
 
-const LEAST: [(&str, usize); 23] = [
+/// Whether a table passes once its summary is counted afresh.
+fn recounted_passes(table: &Layout) -> bool {
+    let mut counted = table.clone();
+    counted.recount();
+    check_table(Table::Records(counted.as_records()))
+}
+
+fn is_mixed(log: &[u8]) -> bool {
+    let has = |case: fn(&u8) -> bool| log.iter().any(case);
+    has(u8::is_ascii_uppercase) && has(u8::is_ascii_lowercase)
+}
+
+const LEAST: [(&str, usize); 27] = [
     ("agrees", 700),
     ("differs at the first command", 100),
     ("differs later", 250),
@@ -86,6 +103,10 @@ const LEAST: [(&str, usize); 23] = [
     ("several differences", 200),
     ("a difference before a stop", 300),
     ("41 without bytes", 50),
+    ("a count above the records", 40),
+    ("a table whose summary alone is wrong", 60),
+    ("43 of 4,102 digits", 100),
+    ("digits of both cases", 200),
 ];
 
 #[test]
@@ -108,6 +129,15 @@ fn bad_frames_are_bad() {
     names.dedup();
     assert_eq!(names.len(), bad_frames().len());
     assert!(longest_frames().iter().all(|(_, frame)| LogFrame::decode(frame).is_ok()));
+    let (bad, good): (Vec<_>, Vec<_>) =
+        frames_of_many_lengths().into_iter().partition(|frame| LogFrame::decode(frame).is_err());
+    let longest =
+        |first: &[u8]| good.iter().filter(|one| one.starts_with(first)).map(Vec::len).max();
+    assert_eq!(
+        [longest(b"43"), longest(b"41"), longest(b"52")],
+        [Some(4_102), Some(32_770), Some(4)]
+    );
+    assert!(bad.iter().any(|frame| frame.len() == 32_771 && frame.starts_with(b"41")));
 }
 
 #[test]

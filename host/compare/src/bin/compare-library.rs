@@ -16,7 +16,7 @@ library's answers to several commands by the laws about them.
 
   --group TEXT  only the groups whose name has TEXT in it
   --least N     groups that go on seed by seed compare, or judge, at least N times, and that of replays of nights reads
-                at least N frames; without N, 100,000, and those of laws 20,000
+                at least N frames; without N, 100,000 times, those of laws 20,000 times, and 50,000 frames
   --help        this text
 
 Over a million edits with their summaries, and a million frames of logs that are replayed:
@@ -27,10 +27,10 @@ Over a million edits with their summaries, and a million frames of logs that are
 Of each group a line says how many comparisons were made and how many of them differed, and another what was reached, if
 that is counted. Each difference is printed, and each claim that does not hold; the last line is 'N passed, M failed', by
 groups. Status 1: something differed. Status 2: a wrong call.";
-/// Comparisons of a group that goes on seed by seed, or frames, and claims of a law, whose groups begin with a word.
+/// Comparisons of a group that goes on seed by seed; claims of a law, and frames of logs, by what the group's name begins
+/// with.
 const LEAST: u64 = 100_000;
-const LEAST_OF_LAWS: u64 = 20_000;
-const LAWS: &str = "laws: ";
+const LEAST_OF: [(&str, u64); 2] = [("laws: ", 20_000), ("replays of nights", 50_000)];
 
 struct Call {
     groups: Vec<Group>,
@@ -48,8 +48,7 @@ fn main() -> ExitCode {
     };
     let (mut passed, mut failed) = (0, 0);
     for (name, compare) in call.groups {
-        let usual = if name.starts_with(LAWS) { LEAST_OF_LAWS } else { LEAST };
-        let mut tally = Tally::new(call.least.unwrap_or(usual));
+        let mut tally = Tally::new(call.least.unwrap_or(usual_least(name)));
         compare(&mut tally);
         println!("{name}: {} compared, {} different", tally.compared, tally.different);
         if tally.reached != Reached::default() {
@@ -63,6 +62,11 @@ fn main() -> ExitCode {
     }
     println!("{passed} passed, {failed} failed");
     ExitCode::from(u8::from(failed > 0))
+}
+
+fn usual_least(group: &str) -> u64 {
+    let mut others = LEAST_OF.iter().filter(|(start, _)| group.starts_with(start));
+    others.next().map_or(LEAST, |(_, least)| *least)
 }
 
 /// The call, or none where help is asked for.

@@ -41,8 +41,9 @@ extern "C" {
  * Records: a struct for each row, over one area of name bytes. The names lie inside the area, in any order and without overlap; bytes
  * that are no name's are free and may hold anything. The first count records are the rows; those after them are spare and not looked at.
  * luspemaro_answer may change the rows: SUBSCRIBE may insert one, which takes the first spare record and the lowest run of free bytes
- * that is long enough, and UNSUBSCRIBE may remove one, whose bytes become zero and free, and the last record zero and spare.
- * luspemaro_compact moves the names together, so that the free bytes are one run.
+ * that is long enough, and UNSUBSCRIBE may remove one, whose bytes become zero and free, and the last record zero and spare. So may the
+ * two entries of a replay, which answer the commands of a log. luspemaro_compact moves the names together, so that the free bytes are one
+ * run.
  *
  * Summary: beside the records lies a run of numbers of 64 bits, one for each record, in the order of the records. The number of a row
  * holds four counts of 16 bits: how many rows lie strictly below its name, at any depth and whoever sees them, that are subscribed and
@@ -50,7 +51,7 @@ extern "C" {
  * counts twice; a row that does not exist is subscribed and local. A record counts as lent only if the run has a number for it, so the
  * records lent are as many as the shorter of the two runs. Check 1 includes it: a number of a row that is not what counting afresh
  * gives does not pass. The numbers of spare records are not looked at. luspemaro_summarize counts a caller's first summary;
- * luspemaro_answer keeps it up to date, and no other entry changes it.
+ * luspemaro_answer and the two entries of a replay keep it up to date, and no other entry changes it.
  *
  * Packed, for the entries that say so: rows without a gap, for reading, without a summary. A row is its flags (2 bytes, high byte first),
  * the set of its readers (1 byte), the name's length (1 to 200), the name. */
@@ -196,7 +197,8 @@ struct luspemaro_record {
 
 /* ---- Stacks: bytes below the call that each entry needs at most, with a margin. They are computed from the archive's machine code and
  * measured (host/c/test), not proved. An answer needs so much since values of options nest as deep as the line allows: a line of 2,048
- * bytes may open some 2,000 parentheses. Records take 36 KiB more than a packed table: a mark for each byte of the area. */
+ * bytes may open some 2,000 parentheses; a replay needs that, and a buffer for the answer. Records take 36 KiB more than a packed table: a
+ * mark for each byte of the area. */
 
 #define LUSPEMARO_STACK_CHECK_RECORDS 53248
 #define LUSPEMARO_STACK_CHECK_TABLE 16384
@@ -428,9 +430,9 @@ struct luspemaro_replayed luspemaro_replay(struct luspemaro_record *records, siz
                                            size_t area_length, uint64_t *summary, size_t summary_length, const uint8_t *namespaces,
                                            size_t namespaces_length, const uint8_t *log, size_t log_length);
 
-/* The same log in pieces of any length, each of which is taken whole: however it is cut, the report after the last piece and the table are
- * those of luspemaro_replay. After a stop bytes are ignored. What is lent as table, pending and line passes from call to call as the call
- * before left it.
+/* Runs a log that comes in pieces of any length, each of which is taken whole: however it is cut, the report after the last piece and the
+ * table are those of luspemaro_replay. After a stop bytes are ignored. What is lent as table, pending and line is lent to the next call
+ * as this one leaves it.
  *
  * Nothing is done, no byte of lent memory changes, and taken is 0: where pending has under LUSPEMARO_ROOM_REPLAY_PENDING bytes or line
  * under LUSPEMARO_ROOM_REPLAY_LINE; for a state with due over 2,050, with due but no frame, or with gathered over 32,771; and where frames

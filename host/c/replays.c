@@ -132,6 +132,7 @@ static void limits(void)
         EXPECT(reports(DONE, 3, BEFORE_NIGHT));
         log_length = 0;
         add_long("4300", COMMAND_DIGITS + 1 + i);
+        add_frame("5203");
         EXPECT(reports(STOPPED, 1, BEFORE_NIGHT));
     }
     for (size_t i = 0; i < sizeof longer / sizeof longer[0]; i++) {

@@ -57,6 +57,7 @@ mod join;
 mod line;
 mod list_options;
 mod raw;
+mod raw_replay;
 mod reader;
 mod refusal;
 mod replay;

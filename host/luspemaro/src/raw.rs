@@ -117,36 +117,6 @@ pub struct FedChunk {
     pub state: FeederState,
 }
 
-/// `luspemaro_replayed` of the header: what a whole log comes to.
-#[repr(C)]
-pub struct ReplayReport {
-    pub number: u8,
-    pub frame: usize,
-    pub count: usize,
-}
-
-/// `luspemaro_replay` of the header: a replay between two pieces of its log. The default is its start.
-#[repr(C)]
-#[derive(Clone, Copy, Debug, Default, PartialEq, Eq)]
-pub struct ReplayState {
-    pub frames: usize,
-    pub first: usize,
-    pub due: usize,
-    pub gathered: usize,
-    pub stopped: u8,
-}
-
-/// `luspemaro_replay_fed` of the header: what comes of a piece of a log.
-#[repr(C)]
-#[derive(Debug, PartialEq, Eq)]
-pub struct FedPiece {
-    pub taken: u8,
-    pub number: u8,
-    pub frame: usize,
-    pub count: usize,
-    pub state: ReplayState,
-}
-
 extern "C" {
     fn luspemaro_check_table(table: *const u8, table_len: usize) -> bool;
     fn luspemaro_check_records(
@@ -262,37 +232,6 @@ extern "C" {
         chunk_len: usize,
     ) -> FedChunk;
     fn luspemaro_put_go_on(out: *mut u8, out_len: usize, at: usize) -> usize;
-    fn luspemaro_replay(
-        records: *mut Record,
-        records_len: usize,
-        count: usize,
-        area: *mut u8,
-        area_len: usize,
-        summary: *mut Summary,
-        summary_len: usize,
-        namespaces: *const u8,
-        namespaces_len: usize,
-        log: *const u8,
-        log_len: usize,
-    ) -> ReplayReport;
-    fn luspemaro_replay_feed(
-        records: *mut Record,
-        records_len: usize,
-        count: usize,
-        state: ReplayState,
-        area: *mut u8,
-        area_len: usize,
-        summary: *mut Summary,
-        summary_len: usize,
-        namespaces: *const u8,
-        namespaces_len: usize,
-        pending: *mut u8,
-        pending_len: usize,
-        line: *mut u8,
-        line_len: usize,
-        piece: *const u8,
-        piece_len: usize,
-    ) -> FedPiece;
 }
 
 // Every call below is sound for any slices: the archive's functions are proved to stay inside of
@@ -477,56 +416,6 @@ pub fn put_go_on(out: &mut [u8], at: usize) -> usize {
     unsafe { luspemaro_put_go_on(out.as_mut_ptr(), out.len(), at) }
 }
 
-pub fn replay(table: RecordsMut, namespaces: &[u8], log: &[u8]) -> ReplayReport {
-    let RecordsMut { records, count, area, summary } = table;
-    unsafe {
-        luspemaro_replay(
-            records.as_mut_ptr(),
-            records.len(),
-            count,
-            area.as_mut_ptr(),
-            area.len(),
-            summary.as_mut_ptr(),
-            summary.len(),
-            namespaces.as_ptr(),
-            namespaces.len(),
-            log.as_ptr(),
-            log.len(),
-        )
-    }
-}
-
-pub fn replay_feed(
-    table: RecordsMut,
-    state: ReplayState,
-    namespaces: &[u8],
-    pending: &mut [u8],
-    line: &mut [u8],
-    piece: &[u8],
-) -> FedPiece {
-    let RecordsMut { records, count, area, summary } = table;
-    unsafe {
-        luspemaro_replay_feed(
-            records.as_mut_ptr(),
-            records.len(),
-            count,
-            state,
-            area.as_mut_ptr(),
-            area.len(),
-            summary.as_mut_ptr(),
-            summary.len(),
-            namespaces.as_ptr(),
-            namespaces.len(),
-            pending.as_mut_ptr(),
-            pending.len(),
-            line.as_mut_ptr(),
-            line.len(),
-            piece.as_ptr(),
-            piece.len(),
-        )
-    }
-}
-
 impl Outcome {
     /// A refusal has length 0 and this count, and changed nothing.
     fn result(&self, refused_count: usize) -> Result<(), Refusal> {
@@ -565,19 +454,5 @@ impl Outcome {
     /// The length of what was written.
     pub fn written(&self) -> Result<usize, Refusal> {
         self.unchanged().map(|()| self.length)
-    }
-}
-
-impl FedPiece {
-    /// Whether the piece was taken. One that was not changes neither the rows nor the state.
-    pub fn taken(&self, rows: usize, before: ReplayState) -> bool {
-        let FedPiece { taken, number, frame, count, state } = *self;
-        assert!(taken <= 1 && state.stopped <= 1, "taken {taken}, stopped {}", state.stopped);
-        let same = ReplayState { stopped: (before.stopped != 0).into(), ..before };
-        assert!(
-            taken == 1 || (number, frame, count, state) == (0, 0, rows, same),
-            "not taken: number {number}, frame {frame}, count {count} for {rows}, {state:?} for {before:?}"
-        );
-        taken == 1
     }
 }

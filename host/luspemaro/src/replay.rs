@@ -7,7 +7,8 @@
 #[cfg(test)]
 mod tests;
 
-use crate::raw::{self, RecordsMut, ReplayState};
+use crate::raw::RecordsMut;
+use crate::raw_replay::{self, ReplayState};
 
 /// The longest command of a log, its reader first.
 const PENDING_ROOM: usize = 2_050;
@@ -72,7 +73,7 @@ pub struct Replay {
 /// assert_eq!(&area, b"Foo");
 /// ```
 pub fn replay(table: RecordsMut, namespaces: &[u8], log: &[u8]) -> Replayed {
-    let report = raw::replay(table, namespaces, log);
+    let report = raw_replay::replay(table, namespaces, log);
     Replayed { verdict: Verdict::of(report.number, report.frame), count: report.count }
 }
 
@@ -130,7 +131,7 @@ impl Replay {
     pub fn feed(&mut self, table: RecordsMut, namespaces: &[u8], piece: &[u8]) -> Option<Replayed> {
         let (count, before) = (table.count, self.state);
         let (pending, line) = (&mut self.pending[..], &mut self.line[..]);
-        let fed = raw::replay_feed(table, before, namespaces, pending, line, piece);
+        let fed = raw_replay::replay_feed(table, before, namespaces, pending, line, piece);
         let taken = fed.taken(count, before);
         self.state = fed.state;
         taken.then(|| Replayed { verdict: Verdict::of(fed.number, fed.frame), count: fed.count })

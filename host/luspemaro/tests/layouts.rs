@@ -9,6 +9,9 @@ use luspemaro as _;
 #[path = "../src/raw.rs"]
 mod raw;
 #[allow(dead_code)]
+#[path = "../src/raw_replay.rs"]
+mod raw_replay;
+#[allow(dead_code)]
 #[path = "../src/refusal.rs"]
 mod refusal;
 #[allow(dead_code)]
@@ -20,7 +23,8 @@ mod walk_refusal;
 
 use std::mem::{align_of, offset_of, size_of};
 
-use raw::{FedChunk, FedPiece, FeederState, LineParts, Outcome, Record, ReplayReport, ReplayState};
+use raw::{FedChunk, FeederState, LineParts, Outcome, Record};
+use raw_replay::{FedPiece, ReplayReport, ReplayState};
 use summary::Summary;
 
 const LAYOUTS: &str = include_str!("../../c/layouts.def");

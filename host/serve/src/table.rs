@@ -52,14 +52,8 @@ impl Table {
         if rooms == Rooms::PROGRAM && rows.len() > TABLE_ROOM {
             return Err(TableError::NoRoom("a table that is recorded has at most 16,384 bytes"));
         }
-        let (mut records, mut area) =
-            (Vec::with_capacity(MAX_ROWS), Vec::with_capacity(rooms.area));
         let held = split_rows(rows).0;
-        for Row { flags, readers, name } in &held {
-            let (start, len) = (area.len() as u16, name.len() as u8);
-            records.push(Record { flags: flags.bits(), start, len, readers: readers.bits() });
-            area.extend_from_slice(name);
-        }
+        let (mut records, mut area) = records_of(&held);
         records.resize(MAX_ROWS, Record::default());
         area.resize(rooms.area, 0);
         let (count, summary) = (held.len(), vec![Summary::default(); MAX_ROWS]);
@@ -147,13 +141,25 @@ impl Table {
     }
 }
 
+/// The records of rows, their names in row order without gaps, and these names. The rows are those of a packed table of at
+/// most `MAX_TABLE` bytes.
+pub fn records_of(rows: &[Row]) -> (Vec<Record>, Vec<u8>) {
+    let (mut records, mut area) = (Vec::new(), Vec::new());
+    for Row { flags, readers, name } in rows {
+        let (start, len) = (area.len() as u16, name.len() as u8);
+        records.push(Record { flags: flags.bits(), start, len, readers: readers.bits() });
+        area.extend_from_slice(name);
+    }
+    (records, area)
+}
+
 /// Which row is wrong, and which rule it breaks.
-fn table_fault(rows: &[u8]) -> String {
+pub fn table_fault(rows: &[u8]) -> String {
     session::table_fault(rows).unwrap_or_else(|| NOT_REFUSED.to_string())
 }
 
 /// Which entry is wrong, and which rule it breaks.
-fn namespaces_fault(list: &[u8]) -> String {
+pub fn namespaces_fault(list: &[u8]) -> String {
     let prefix = |at| entry_at(list, at).map(|entry| name_text(entry.prefix));
     let fault = checked_entries(list).err().map(|fault| list_fault_text(fault, prefix));
     fault.unwrap_or_else(|| NOT_REFUSED.to_string())

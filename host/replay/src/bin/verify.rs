@@ -1,0 +1,106 @@
+//! `verify --page FILE [[--table TABLE] LOG]..`, behind `./verify`, which hands over what is proved on standard input.
+//!
+//! Replays each night and writes one page about all of it. Where something is not proved, nothing is replayed. The status
+//! is the worst of what was found, in this order: 4 something is not proved, or trouble with the machine; 2 a wrong call or
+//! file; 3 a log is refused with 13; 1 an answer differs; 0 all is verified.
+
+use std::env;
+use std::ffi::OsString;
+use std::fmt::Display;
+use std::io::{self, Read, Write};
+use std::path::PathBuf;
+use std::process::ExitCode;
+
+use replay::{
+    in_stack, kit_page, kit_text, replay_night, Failure, Night, Progress, Proof, Verified,
+};
+use session::{is_same_file, now, path_text, NewFile};
+
+const USAGE: &str = "usage: verify --page FILE [[--table TABLE] LOG].. <PROOF";
+const NOT_RUN: u8 = 2;
+const TROUBLE: u8 = 4;
+
+fn main() -> ExitCode {
+    let failed = |status: u8| {
+        move |message: String| {
+            tell(message);
+            status
+        }
+    };
+    let status = read_call(env::args_os().skip(1))
+        .map_err(failed(NOT_RUN))
+        .and_then(|(page, nights)| run(&page, nights).map_err(failed(TROUBLE)));
+    ExitCode::from(status.unwrap_or_else(|status| status))
+}
+
+fn run(page: &PathBuf, nights: Vec<Night>) -> Result<u8, String> {
+    let mut text = String::new();
+    io::stdin()
+        .lock()
+        .read_to_string(&mut text)
+        .map_err(|error| format!("what is proved cannot be read: {error}"))?;
+    let proof = Proof::read(&text)?;
+    let file = NewFile::create(page, false)?;
+    let is_proved = proof.against().is_empty();
+    let replayed = |night: Night| {
+        let account = match is_proved {
+            true => {
+                in_stack(|| replay_night(&night, &mut |progress| tell_progress(&night, progress)))
+            }
+            false => Err(Failure::Trouble(
+                "not everything is proved, so nothing is replayed".to_string(),
+            )),
+        };
+        (night, account)
+    };
+    let nights = nights.into_iter().map(replayed).collect();
+    let verified = Verified { proof, nights, clock: now(), tool: env!("CARGO_PKG_VERSION") };
+    file.write(&kit_page(&verified))?;
+    let mut output = io::stdout().lock();
+    let written = output.write_all(kit_text(&verified).as_bytes()).and_then(|()| output.flush());
+    written.map_err(|error| format!("cannot write the output: {error}"))?;
+    Ok(verified.status())
+}
+
+/// The page, and the nights.
+fn read_call(words: impl IntoIterator<Item = OsString>) -> Result<(PathBuf, Vec<Night>), String> {
+    let mut words = words.into_iter();
+    let (mut page, mut table, mut nights) = (None, None, Vec::new());
+    while let Some(word) = words.next() {
+        match word.to_str() {
+            Some("--page") => page = Some(PathBuf::from(words.next().ok_or(USAGE)?)),
+            Some("--table") if table.is_none() => {
+                table = Some(PathBuf::from(words.next().ok_or(USAGE)?))
+            }
+            Some(option) if option.starts_with("--") => return Err(USAGE.to_string()),
+            _ => {
+                let log = PathBuf::from(word);
+                nights.push(Night {
+                    table: table.take(),
+                    log,
+                    served: None,
+                    finds_all: true,
+                    sums: true,
+                });
+            }
+        }
+    }
+    let page: PathBuf = page.filter(|_| table.is_none() && !nights.is_empty()).ok_or(USAGE)?;
+    let is_page = |file: &PathBuf| is_same_file(file, &page);
+    if nights.iter().any(|night| is_page(&night.log) || night.table.as_ref().is_some_and(is_page)) {
+        return Err(format!("{} is read here, so no page is written there", path_text(&page)));
+    }
+    Ok((page, nights))
+}
+
+fn tell_progress(night: &Night, Progress { bytes, of, commands }: Progress) {
+    let of = of.map_or(String::new(), |of| format!(" of {of}"));
+    tell(format!("{}: {bytes}{of} bytes, {commands} commands run again", path_text(&night.log)));
+}
+
+/// Where standard error cannot be written to, the status alone tells.
+fn tell(message: impl Display) {
+    for line in message.to_string().lines() {
+        let _ = writeln!(io::stderr(), "verify: {line}");
+    }
+}

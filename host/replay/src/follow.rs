@@ -1,0 +1,263 @@
+//! The log fed to the library, exchange by exchange. The verdict is the library's; the second program's turns say only where
+//! an exchange ends and what it is.
+
+use luspemaro::{Replay, Verdict};
+use second::replay::{Exchange, Recorded, Stop, Turns, MAX_ANSWER_DIGITS};
+use serve::word_text;
+
+use crate::difference::Difference;
+use crate::served::{Cursor, Logged};
+use crate::start::Start;
+use crate::table::KeptTable;
+
+/// Two frames that can be read have fewer bytes together, their LF with them.
+const MOST_HELD: usize = 40_000;
+/// No more differences than these are kept one by one, and no more than these bytes of them. All are counted.
+const MOST_LISTED: usize = 1_000;
+const MOST_BYTES: usize = 8 << 20;
+
+/// How many there were of what.
+#[derive(Clone, Copy, Debug, Default, PartialEq, Eq)]
+pub struct Counts {
+    /// Frames that have ended, through the one that stopped the log.
+    pub frames: u64,
+    /// Commands that were run again, by what was recorded.
+    pub answered: u64,
+    pub refused: u64,
+    /// Those that changed a row.
+    pub changed: u64,
+    /// Those whose recorded answer differs; without `all` the first alone is looked for.
+    pub differing: u64,
+}
+
+impl Counts {
+    pub fn commands(&self) -> u64 {
+        self.answered + self.refused
+    }
+}
+
+/// A command of the night, for a page.
+#[derive(Clone, Debug, PartialEq, Eq)]
+pub struct Sent {
+    pub frame: u64,
+    pub line: u64,
+    pub reader: u8,
+    pub word: String,
+    /// What was recorded, in a few words.
+    pub recorded: String,
+    pub differs: bool,
+    pub logged: Option<Logged>,
+}
+
+/// What a log came to.
+#[derive(Debug)]
+pub struct Followed {
+    pub verdict: Verdict,
+    pub counts: Counts,
+    /// The first, or the first ones of all.
+    pub differences: Vec<Difference>,
+    /// Why the log was stopped, in the second program's words, and the frame that did it.
+    pub stop: Option<(Stop, Vec<u8>)>,
+    /// The first commands, as many as are kept.
+    pub sent: Vec<Sent>,
+    /// The table at the end.
+    pub table: KeptTable,
+    /// Of the server's log: commands that it has and the record has not. Not known of a log that was stopped.
+    pub unrecorded: u64,
+}
+
+/// A log under way.
+pub struct Following<'n> {
+    replay: Replay,
+    start: &'n Start,
+    table: KeptTable,
+    /// The table before the last exchange.
+    before: KeptTable,
+    turns: Turns,
+    /// The frame so far, or the start of an overlong one.
+    line: Vec<u8>,
+    /// What was taken and is not fed yet.
+    held: Vec<u8>,
+    verdict: Verdict,
+    is_stopped: bool,
+    finds_all: bool,
+    kept_bytes: usize,
+    served: Option<Cursor>,
+    followed: Followed,
+}
+
+/// The library did not take a piece, or this tool cuts the log otherwise than the library.
+#[derive(Debug, PartialEq, Eq)]
+pub struct Lost(pub String);
+
+impl<'n> Following<'n> {
+    /// At the beginning of a log. With `finds_all` every difference is looked for.
+    pub fn new(
+        start: &'n Start,
+        table: KeptTable,
+        finds_all: bool,
+        served: Option<Cursor>,
+    ) -> Following<'n> {
+        let followed = Followed {
+            verdict: Verdict::Agree,
+            counts: Counts::default(),
+            differences: Vec::new(),
+            stop: None,
+            sent: Vec::new(),
+            table: table.clone(),
+            unrecorded: 0,
+        };
+        Following {
+            replay: Replay::new(),
+            start,
+            before: table.clone(),
+            table,
+            turns: Turns::default(),
+            line: Vec::new(),
+            held: Vec::new(),
+            verdict: Verdict::Agree,
+            is_stopped: false,
+            finds_all,
+            kept_bytes: 0,
+            served,
+            followed,
+        }
+    }
+
+    /// How many commands were run so far.
+    pub fn commands(&self) -> u64 {
+        self.followed.counts.commands()
+    }
+
+    /// Takes the next bytes of the log, however they are cut. What comes after a stop is ignored.
+    pub fn take(&mut self, piece: &[u8]) -> Result<(), Lost> {
+        for part in piece.split_inclusive(|&byte| byte == b'\n') {
+            if self.is_stopped {
+                return Ok(());
+            }
+            let text = part.strip_suffix(b"\n").unwrap_or(part);
+            let room = MAX_ANSWER_DIGITS + 1 - self.line.len();
+            self.line.extend_from_slice(&text[..text.len().min(room)]);
+            self.held.extend_from_slice(part);
+            if text.len() < part.len() {
+                self.frame_ended()?;
+                self.line.clear();
+            } else if self.held.len() > MOST_HELD {
+                self.feed()?;
+            }
+        }
+        Ok(())
+    }
+
+    /// The end of the log.
+    pub fn end(mut self) -> Result<Followed, Lost> {
+        self.feed()?;
+        self.followed.counts.frames = self.replay.frames() as u64;
+        if !self.is_stopped {
+            let cut = (!self.line.is_empty()).then(|| self.turns.cut());
+            let stop = cut.or(self.turns.end().err());
+            self.followed.counts.frames += u64::from(cut.is_some());
+            self.followed.stop = stop.map(|stop| (stop, self.line.clone()));
+        }
+        let stopped = self.followed.stop.as_ref().map(|(stop, _)| stop.frame);
+        let (told, first) = (self.verdict, self.followed.differences.first().map(|one| one.frame));
+        let expected = match (stopped, first) {
+            (Some(frame), _) => Verdict::Refused(frame as usize),
+            (None, Some(frame)) => Verdict::Differs(frame as usize),
+            (None, None) => Verdict::Agree,
+        };
+        if told != expected {
+            return Err(Lost(format!(
+                "the library reports {told:?}, and this tool saw {expected:?}"
+            )));
+        }
+        self.followed.verdict = told;
+        self.followed.table = self.table;
+        let is_whole = !matches!(told, Verdict::Refused(_));
+        self.followed.unrecorded = self.served.filter(|_| is_whole).map_or(0, Cursor::left);
+        Ok(self.followed)
+    }
+
+    /// Feeds what is held.
+    fn feed(&mut self) -> Result<(), Lost> {
+        let report = self.table.feed(&mut self.replay, &self.start.entries, &self.held);
+        let report = report.ok_or_else(|| Lost("the library does not take the log".to_string()))?;
+        self.held.clear();
+        self.verdict = report.verdict;
+        Ok(())
+    }
+
+    fn frame_ended(&mut self) -> Result<(), Lost> {
+        match self.turns.take(&self.line) {
+            Ok(None) => Ok(()),
+            Ok(Some(exchange)) => self.exchange_ended(exchange),
+            Err(stop) => {
+                self.feed()?;
+                self.is_stopped = true;
+                self.followed.stop = Some((stop, self.line.clone()));
+                Ok(())
+            }
+        }
+    }
+
+    /// A command was read with its answer, so the library runs it.
+    fn exchange_ended(&mut self, exchange: Exchange) -> Result<(), Lost> {
+        self.before.clone_from(&self.table);
+        let is_first = self.followed.differences.is_empty();
+        let is_other = !is_first && self.finds_all && {
+            let mut alone = self.before.clone();
+            alone.replay(&self.start.entries, &self.held).verdict != Verdict::Agree
+        };
+        self.feed()?;
+        let differs =
+            is_other || is_first && self.verdict == Verdict::Differs(exchange.frame as usize);
+        let counts = &mut self.followed.counts;
+        match exchange.recorded {
+            Recorded::Lines(_) => counts.answered += 1,
+            Recorded::Refused(_) => counts.refused += 1,
+        }
+        counts.changed += u64::from(self.before != self.table);
+        counts.differing += u64::from(differs);
+        let line = exchange.frame + self.start.lines();
+        let logged = self.served.as_mut().and_then(|served| served.next_of(line));
+        if self.followed.sent.len() < MOST_LISTED {
+            self.followed.sent.push(Sent::of(&exchange, line, differs, logged.clone()));
+        }
+        if differs {
+            self.keep_difference(&exchange, line, logged)?;
+        }
+        Ok(())
+    }
+
+    fn keep_difference(
+        &mut self,
+        exchange: &Exchange,
+        line: u64,
+        logged: Option<Logged>,
+    ) -> Result<(), Lost> {
+        let kept = &mut self.followed.differences;
+        if kept.len() == MOST_LISTED || self.kept_bytes > MOST_BYTES {
+            return Ok(());
+        }
+        let Start { rows, entries, .. } = self.start;
+        let difference = Difference::of(exchange, self.before.clone(), rows, entries);
+        let difference = difference.ok_or_else(|| {
+            let frame = exchange.frame;
+            Lost(format!("frame {frame} differs in the replay, and the command entry answers what was recorded"))
+        })?;
+        self.kept_bytes += difference.size();
+        kept.push(Difference { line, logged, ..difference });
+        Ok(())
+    }
+}
+
+impl Sent {
+    fn of(exchange: &Exchange, line: u64, differs: bool, logged: Option<Logged>) -> Sent {
+        let recorded = match &exchange.recorded {
+            Recorded::Lines(lines) => format!("answered {} bytes", lines.len()),
+            Recorded::Refused(number) => format!("refused {number}"),
+        };
+        let (frame, reader) = (exchange.frame, exchange.reader);
+        Sent { frame, line, reader, word: word_text(&exchange.line), recorded, differs, logged }
+    }
+}

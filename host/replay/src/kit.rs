@@ -9,7 +9,7 @@ use crate::account::verdict_text;
 use crate::judge::{against, what_agrees};
 use crate::night::{Account, Failure, Night};
 use crate::page::{differences_html, facts_table, night_rows, verdict_html};
-use crate::proof::{Proof, State, TRUSTED};
+use crate::proof::{CrateProof, FileSum, Proof, State, TRUSTED};
 
 const VERIFIED: &str = "Verified: everything is proved, and every recorded answer is what the proved library answers now.";
 const NOT_VERIFIED: &str = "Not verified.";
@@ -110,7 +110,7 @@ pub fn kit_text(verified: &Verified) -> String {
     let mut text =
         format!("Proved     {crates}: {now} in this run, {before} before and unchanged since\n");
     text += &format!("Kit        {}\n", proof.kit);
-    for (name, sum) in &proof.sums {
+    for FileSum { name, sum, .. } in &proof.sums {
         text += &format!("SHA-256    {sum}  {name}\n");
     }
     for (what, why) in TRUSTED {
@@ -157,14 +157,13 @@ fn proved_html(verified: &Verified) -> Html {
         fact("commit", "Version of the repository", &commit),
         fact("tool", "This tool", &format!("version {}, not proved", verified.tool)),
     ];
-    rows.extend(
-        sums.iter().map(|(name, sum)| {
-            fact(&format!("{name}-sum"), &format!("SHA-256 of the {name}"), sum)
-        }),
-    );
+    let sum_row = |one: &FileSum| {
+        fact(&format!("{}-sum", one.id), &format!("SHA-256 of {}", one.name), &one.sum)
+    };
+    rows.extend(sums.iter().map(sum_row));
     let mut section = Html::of_text("h2", &[], "What is proved");
     section.push(facts_table(rows));
-    let row = |one: &crate::proof::CrateProof| {
+    let row = |one: &CrateProof| {
         let class = if one.state == State::NotProved { "wrong" } else { "well" };
         let state = Html::of_text("span", &[("class", class)], one.state.text());
         let cells = [cell(&one.name), Html::element("td", &[], state), code_cell(&one.sum)];

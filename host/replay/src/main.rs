@@ -5,6 +5,7 @@
 //! 4: trouble with the machine.
 
 mod call;
+mod kit_call;
 
 use std::env;
 use std::fmt::Display;
@@ -17,6 +18,10 @@ use replay::{in_stack, page, replay_night, text, Account, Failure, PageFacts, Pr
 use session::{is_same_file, now, path_text, sum_of_file, NewFile};
 
 use crate::call::{Call, Report};
+use crate::kit_call::verify;
+
+/// The first word of a call of `./verify`.
+const KIT: &str = "--kit";
 
 const DIFFERS: u8 = 1;
 const NOT_RUN: u8 = 2;
@@ -41,7 +46,11 @@ fn main() -> ExitCode {
 }
 
 fn run() -> Result<u8, Failure> {
-    let call = Call::read(env::args_os().skip(1)).map_err(Failure::NotRun)?;
+    let mut words = env::args_os().skip(1).peekable();
+    if words.next_if(|word| word == KIT).is_some() {
+        return verify(words);
+    }
+    let call = Call::read(words).map_err(Failure::NotRun)?;
     let report = call.report.as_ref().map(|report| open_report(&call, report)).transpose();
     let report = report.map_err(Failure::NotRun)?;
     let account = in_stack(|| replay_night(&call.night, &mut tell_progress))?;

@@ -5,7 +5,7 @@
 //! | `kit ID` | the identity of the kit that proved |
 //! | `commit TEXT` | the commit of the repository, and whether files differ from it |
 //! | `crate NAME SUM STATE` | a crate, the sum of its sources, and `proved`, `unchanged` or `not-proved` |
-//! | `sum NAME SUM` | the sum of another file that counts: the archive, the program, the header, the tool |
+//! | `sum ID NAME SUM` | the sum of another file that counts, with a word for it: the library, the program, the header, the tool |
 //! | `trouble TEXT` | what is not as it must be |
 //! | `end` | the last line: all was handed over |
 
@@ -27,13 +27,22 @@ pub struct CrateProof {
     pub state: State,
 }
 
+/// Another file that counts.
+#[derive(Clone, Debug, PartialEq, Eq)]
+pub struct FileSum {
+    /// A word for the page's own markup.
+    pub id: String,
+    pub name: String,
+    pub sum: String,
+}
+
 /// All of it.
 #[derive(Clone, Debug, Default, PartialEq, Eq)]
 pub struct Proof {
     pub kit: String,
     pub commit: Option<String>,
     pub crates: Vec<CrateProof>,
-    pub sums: Vec<(String, String)>,
+    pub sums: Vec<FileSum>,
     pub troubles: Vec<String>,
 }
 
@@ -76,7 +85,10 @@ impl Proof {
                         state,
                     });
                 }
-                ["sum", name, sum] => proof.sums.push((name.to_string(), sum.to_string())),
+                ["sum", id, name, sum] => {
+                    let [id, name, sum] = [id, name, sum].map(|word| word.to_string());
+                    proof.sums.push(FileSum { id, name, sum });
+                }
                 ["trouble", trouble] => proof.troubles.push(trouble.to_string()),
                 ["end"] => has_ended = true,
                 _ => return Err(bad()),
@@ -107,7 +119,7 @@ impl Proof {
             reasons.push(format!("not proved: {}", not_proved.join(", ")));
         }
         let without_sum = self.crates.iter().map(|one| (&one.name, &one.sum));
-        let without_sum = without_sum.chain(self.sums.iter().map(|(name, sum)| (name, sum)));
+        let without_sum = without_sum.chain(self.sums.iter().map(|one| (&one.name, &one.sum)));
         let is_sum =
             |sum: &str| sum.len() == 64 && sum.bytes().all(|byte| byte.is_ascii_hexdigit());
         reasons.extend(
@@ -134,7 +146,7 @@ mod tests {
     use crate::proof::*;
 
     fn text(crates: &str) -> String {
-        format!("kit\tk 1\ncommit\tc\n{crates}sum\tlibrary\t{}\nend\n", "0".repeat(64))
+        format!("kit\tk 1\ncommit\tc\n{crates}sum\tlibrary\tthe library\t{}\nend\n", "0".repeat(64))
     }
 
     #[test]

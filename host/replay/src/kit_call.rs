@@ -1,39 +1,29 @@
-//! `verify --page FILE [[--table TABLE] LOG]..`, behind `./verify`, which hands over what is proved on standard input.
+//! `replay --kit --page FILE [[--table TABLE] LOG].. <PROOF`, behind `./verify`, which hands over what is proved on standard input.
 //!
 //! Replays each night and writes one page about all of it. Where something is not proved, nothing is replayed. The status
 //! is the worst of what was found, in this order: 4 something is not proved, or trouble with the machine; 2 a wrong call or
 //! file; 3 a log is refused with 13; 1 an answer differs; 0 all is verified.
 
-use std::env;
 use std::ffi::OsString;
-use std::fmt::Display;
 use std::io::{self, Read, Write};
-use std::path::PathBuf;
-use std::process::ExitCode;
+use std::path::{Path, PathBuf};
 
 use replay::{
     in_stack, kit_page, kit_text, replay_night, Failure, Night, Progress, Proof, Verified,
 };
 use session::{is_same_file, now, path_text, NewFile};
 
-const USAGE: &str = "usage: verify --page FILE [[--table TABLE] LOG].. <PROOF";
-const NOT_RUN: u8 = 2;
-const TROUBLE: u8 = 4;
+use crate::tell;
 
-fn main() -> ExitCode {
-    let failed = |status: u8| {
-        move |message: String| {
-            tell(message);
-            status
-        }
-    };
-    let status = read_call(env::args_os().skip(1))
-        .map_err(failed(NOT_RUN))
-        .and_then(|(page, nights)| run(&page, nights).map_err(failed(TROUBLE)));
-    ExitCode::from(status.unwrap_or_else(|status| status))
+const USAGE: &str = "usage: replay --kit --page FILE [[--table TABLE] LOG].. <PROOF";
+
+/// Does what the words after `--kit` ask for.
+pub fn verify(words: impl IntoIterator<Item = OsString>) -> Result<u8, Failure> {
+    let (page, nights) = read_call(words).map_err(Failure::NotRun)?;
+    run(&page, nights).map_err(Failure::Trouble)
 }
 
-fn run(page: &PathBuf, nights: Vec<Night>) -> Result<u8, String> {
+fn run(page: &Path, nights: Vec<Night>) -> Result<u8, String> {
     let mut text = String::new();
     io::stdin()
         .lock()
@@ -96,11 +86,4 @@ fn read_call(words: impl IntoIterator<Item = OsString>) -> Result<(PathBuf, Vec<
 fn tell_progress(night: &Night, Progress { bytes, of, commands }: Progress) {
     let of = of.map_or(String::new(), |of| format!(" of {of}"));
     tell(format!("{}: {bytes}{of} bytes, {commands} commands run again", path_text(&night.log)));
-}
-
-/// Where standard error cannot be written to, the status alone tells.
-fn tell(message: impl Display) {
-    for line in message.to_string().lines() {
-        let _ = writeln!(io::stderr(), "verify: {line}");
-    }
 }

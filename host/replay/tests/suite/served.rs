@@ -1,0 +1,102 @@
+//! The server's own log beside a record: which start it is, and what it has of each command.
+
+use std::fs;
+
+use luspemaro::Verdict;
+use replay::{in_stack, replay_night, Account, Night};
+
+use crate::common::*;
+
+/// A record with the log of its server, which may have been there before.
+fn night(log: &std::path::Path, commands: &[u8]) -> std::path::PathBuf {
+    let record = path("night.frames");
+    let account = account_of(SESSION, &record, Some(log));
+    converse_with(&account, 0, commands);
+    account.end().expect("a record");
+    record
+}
+
+fn with_log(record: &std::path::Path, log: &std::path::Path) -> Account {
+    let served = Some(log.to_path_buf());
+    let night = Night { log: record.to_path_buf(), served, finds_all: true, ..Night::default() };
+    in_stack(|| replay_night(&night, &mut |_| {})).expect("an account")
+}
+
+/// Of three starts in one log the one of the record is found.
+#[test]
+fn the_start_of_a_record() {
+    let log = path("server.log");
+    let nights = [&b"a LIST \"\" *\r\nb NOOP\r\n"[..], COMMANDS, b"a LSUB \"\" *\r\n"];
+    let records = nights.map(|commands| night(&log, commands));
+    for (record, count) in records.iter().zip([2, 15, 1]) {
+        let account = with_log(record, &log);
+        assert_eq!(account.served, Some((log.clone(), None)));
+        let sent = &account.followed.sent;
+        assert_eq!((sent.len(), account.followed.unrecorded), (count, 0));
+        for one in sent {
+            let logged = one.logged.as_ref().expect("a line");
+            assert!(logged.time.ends_with('Z') && logged.peer == "test", "{logged:?}");
+            assert!(logged.what.starts_with(&format!("{} ", one.word)), "{logged:?} {one:?}");
+            assert!(logged.what.contains(&one.recorded), "{logged:?} {one:?}");
+        }
+    }
+}
+
+/// Two nights that are alike cannot be told apart by their log, and then no time is shown.
+#[test]
+fn starts_that_are_alike() {
+    let log = path("server.log");
+    let records = [COMMANDS, COMMANDS].map(|commands| night(&log, commands));
+    for record in records {
+        let account = with_log(&record, &log);
+        let (_, why) = account.served.expect("a log");
+        assert_eq!(
+            why.as_deref(),
+            Some("2 starts in it have the table and the commands of this log")
+        );
+        assert!(account.followed.sent.iter().all(|sent| sent.logged.is_none()));
+    }
+}
+
+/// A log beside the record is found by its name; commands that it has and the record has not are told.
+#[test]
+fn beside_the_record() {
+    let log = path("server.log");
+    let record = night(&log, COMMANDS);
+    fs::copy(&log, record.with_extension("log")).expect("a file");
+    let (status, _, all) = came(&run(&[word(&record)]));
+    assert_eq!(status, Some(0));
+    assert!(all.contains(".log has the time of each command\n"), "{all}");
+    let lines = read(&record);
+    let kept: Vec<&str> = lines.lines().collect();
+    fs::write(&record, kept[..kept.len() - 4].join("\n") + "\n").expect("a file");
+    let (status, first, all) = came(&run(&[word(&record)]));
+    assert_eq!((status, first.as_str()), (Some(0), "agree"));
+    assert!(all.contains("it has 2 commands more, which this log has not"), "{all}");
+    // A file that is none of a server's is left out.
+    fs::write(record.with_extension("log"), "something else\n").expect("a file");
+    let (status, _, all) = came(&run(&[word(&record)]));
+    assert_eq!(status, Some(0));
+    assert!(all.contains("is left out: it has no line of a server's start"), "{all}");
+}
+
+/// A recorded answer that was changed stands beside what the server's log says of it.
+#[test]
+fn what_the_server_said() {
+    let log = path("server.log");
+    let record = night(&log, COMMANDS);
+    let (heading, mut frames) = split_record(&read(&record));
+    frames[1] = "5205".to_string();
+    fs::write(&record, heading + &frames.join("\n") + "\n").expect("a file");
+    let account = with_log(&record, &log);
+    assert_eq!(account.followed.verdict, Verdict::Differs(1));
+    let all = replay::text(&account, false);
+    assert!(all.contains(", connection 1, test: LIST answered "), "{all}");
+    // A command that was changed is in no start.
+    frames[0] = frames[2].clone();
+    let heading = split_record(&read(&record)).0;
+    fs::write(&record, heading + &frames.join("\n") + "\n").expect("a file");
+    let account = with_log(&record, &log);
+    let (_, why) = account.served.expect("a log");
+    assert_eq!(why.as_deref(), Some("no start in it has the table and the commands of this log"));
+}

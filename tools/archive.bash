@@ -1,9 +1,9 @@
-# For ./serve, ./install and tools/walker, which read it: the proved library's archive. Nothing here is run by itself. They set
+# For ./serve, ./replay, ./verify, ./install and tools/walker, which read it: the proved library's archive. Nothing here is run by itself. They set
 # `root`, the repository's folder, and `own`, their name, first.
 # shellcheck disable=SC2154
-trouble=1
+trouble=${trouble:-1}
 # shellcheck source=tools/building.bash
-. "$root/tools/building.bash" || exit 1
+. "$root/tools/building.bash" || exit "$trouble"
 
 archives=$(readlink -m -- "${LUSPEMARO_ARCHIVE_DIR:-$root/target/staticlib}")
 archive=$archives/libexports.a

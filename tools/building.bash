@@ -1,4 +1,4 @@
-# For ./run, ./import, ./compare, ./serve, ./install and tools/walker, which read it: what they report, and what is built
+# For ./run, ./import, ./compare, ./serve, ./replay, ./verify, ./install and tools/walker, which read it: what they report, and what is built
 # and current. Nothing here is run by itself. They set `root`, the repository's folder, `own`, their name, and `trouble`, their status where
 # something is not proved, not built or not there, first.
 # shellcheck disable=SC2154
@@ -85,6 +85,12 @@ set_stamp() { # FILE FILES-SUM
 # The sums that a stamp notes: of the files, and of the file that was built from them. Nothing where there is no stamp.
 stamped_files_sum() { sed -n '1s/ .*//p' -- "$(stamp_of "$1")" 2>/dev/null; }
 stamped_sum() { sed -n '2s/ .*//p' -- "$(stamp_of "$1")" 2>/dev/null; }
+
+# Whether a file is one that a command reads: of the repository, of what is built from it, or one of these.
+is_own_file() { # FILE PATH..
+    [ -n "$(find -H "$root/crates" "$root/crates.txt" "$root/host" "$root/tools" "$root/target/run" "$proved" "${@:2}" \
+        -samefile "$1" -print -quit 2>/dev/null)" ]
+}
 
 # Where a program of the workspace host/ lies once it is built.
 host_program() { # PACKAGE

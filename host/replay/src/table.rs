@@ -1,7 +1,8 @@
 //! The table as the program of frames lays it out, lent to the library, passing or not.
 
 use luspemaro::{
-    answer_from, check_table, replay, summarize, Record, RecordsMut, Replay, Replayed, Summary,
+    answer_from, check_table, replay, summarize, Record, RecordsMut, Refusal, Replay, Replayed,
+    Summary,
 };
 use second::frames::{ANSWER_ROOM, TABLE_ROOM};
 use second::packed::split_rows;
@@ -91,14 +92,26 @@ impl KeptTable {
     /// What the library answers to one command. The table is changed by it.
     pub fn answer(&mut self, reader: u8, namespaces: &[u8], line: &[u8]) -> Recorded {
         let mut out = vec![0; ANSWER_ROOM];
-        match answer_from(reader, self.lend(), namespaces, line, &mut out) {
-            Ok(answered) => {
-                self.count = answered.count;
-                out.truncate(answered.length);
+        match self.answer_into(reader, namespaces, line, &mut out) {
+            Ok(length) => {
+                out.truncate(length);
                 Recorded::Lines(out)
             }
             Err(refusal) => Recorded::Refused(refusal.number()),
         }
+    }
+
+    /// The same at the front of a buffer; the length of the answer.
+    pub fn answer_into(
+        &mut self,
+        reader: u8,
+        namespaces: &[u8],
+        line: &[u8],
+        out: &mut [u8],
+    ) -> Result<usize, Refusal> {
+        let answered = answer_from(reader, self.lend(), namespaces, line, out)?;
+        self.count = answered.count;
+        Ok(answered.length)
     }
 
     /// The rows in their packed form, one by one; of rows that do not pass also the bytes at the end that are no row.

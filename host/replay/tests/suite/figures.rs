@@ -1,10 +1,10 @@
 //! The figures of docs/PERFORMANCE.md, as ratios: `cargo test --release -p replay figures -- --ignored --nocapture`.
 
-use std::time::{Duration, Instant};
+use std::time::Instant;
 
 use luspemaro::{Replay, Verdict};
 use replay::{in_stack, Following, Pieces, Start};
-use second::frames::{Frame, COMMAND};
+use second::frames::{Frame, ANSWER_ROOM};
 
 use crate::common::*;
 
@@ -12,6 +12,7 @@ use crate::common::*;
 const FRAMES: usize = 1_000_000;
 /// As `./replay` reads a log.
 const PIECE: usize = 1 << 16;
+const ROUNDS: usize = 25;
 
 /// Rows, and a block of commands with their answers.
 fn night(rows: usize) -> (Start, Vec<u8>) {
@@ -40,14 +41,14 @@ fn commands_of(block: &[u8]) -> Vec<(u8, Vec<u8>)> {
         _ => None,
     };
     let commands: Vec<_> = frames.filter_map(command).collect();
-    assert_eq!((commands.len(), COMMAND), (200, 0x43));
+    assert_eq!(commands.len(), 200);
     commands
 }
 
-fn timed(call: impl FnOnce()) -> Duration {
+fn timed(call: impl FnOnce()) -> f64 {
     let begin = Instant::now();
     call();
-    begin.elapsed()
+    begin.elapsed().as_secs_f64()
 }
 
 #[test]
@@ -62,39 +63,36 @@ fn figures() {
     .expect("a run");
 }
 
+/// The three in turn, round by round, so that what else the machine does falls on all of them.
 fn measure(rows: usize) {
     let (start, block) = night(rows);
-    let (commands, turns) = (commands_of(&block), FRAMES / 400);
-    let fed = timed(|| {
-        let (mut replay, mut table) = (Replay::new(), start.table().expect("a table"));
-        let mut last = None;
-        for _ in 0..turns {
-            for piece in block.chunks(PIECE) {
-                last = table.feed(&mut replay, &start.entries, piece);
+    let (commands, turns) = (commands_of(&block), FRAMES / 400 / ROUNDS);
+    let table = || start.table().expect("a table");
+    let (mut replay, mut fed_table) = (Replay::new(), table());
+    let mut following = Following::new(&start, table(), false, None);
+    let (mut alone, mut out) = (table(), vec![0; ANSWER_ROOM]);
+    let mut times = [0.0; 3];
+    for _ in 0..ROUNDS {
+        times[0] += timed(|| {
+            for piece in (0..turns).flat_map(|_| block.chunks(PIECE)) {
+                fed_table.feed(&mut replay, &start.entries, piece);
             }
-        }
-        assert_eq!(last.map(|report| report.verdict), Some(Verdict::Agree));
-        assert_eq!(replay.frames(), FRAMES);
-    });
-    let told = timed(|| {
-        let mut following = Following::new(&start, start.table().expect("a table"), false, None);
-        (0..turns).for_each(|_| following.take(&block).expect("a log"));
-        assert_eq!(following.end().map(|followed| followed.verdict), Ok(Verdict::Agree));
-    });
-    let answered = timed(|| {
-        let mut table = start.table().expect("a table");
-        for _ in 0..turns {
-            for (reader, line) in &commands {
-                table.answer(*reader, &start.entries, line);
+        });
+        times[1] += timed(|| (0..turns).for_each(|_| following.take(&block).expect("a log")));
+        times[2] += timed(|| {
+            for (reader, line) in (0..turns).flat_map(|_| &commands) {
+                let _ = alone.answer_into(*reader, &start.entries, line, &mut out);
             }
-        }
-    });
-    let bytes = block.len() * turns;
-    let seconds = answered.as_secs_f64();
-    println!("{rows} rows, {FRAMES} frames, {bytes} bytes; the commands answered alone take {seconds:.1} s");
-    println!("{rows} rows: replayed in pieces / answered alone {:.2}", fed.as_secs_f64() / seconds);
-    println!(
-        "{rows} rows: replayed with an account / answered alone {:.2}",
-        told.as_secs_f64() / seconds
-    );
+        });
+    }
+    let last = fed_table.feed(&mut replay, &start.entries, b"").expect("a log");
+    assert_eq!((last.verdict, replay.frames()), (Verdict::Agree, FRAMES));
+    let followed = following.end().expect("a log");
+    assert_eq!((followed.verdict, followed.counts.frames), (Verdict::Agree, FRAMES as u64));
+    assert!(fed_table == table() && alone == table());
+    let [fed, told, answered] = times;
+    let bytes = block.len() * turns * ROUNDS;
+    println!("{rows} rows, {FRAMES} frames, {bytes} bytes: replayed in pieces in {fed:.1} s, the commands answered alone {answered:.1} s");
+    println!("{rows} rows: replayed in pieces / answered alone {:.2}", fed / answered);
+    println!("{rows} rows: replayed with an account / answered alone {:.2}", told / answered);
 }

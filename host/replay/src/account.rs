@@ -5,8 +5,9 @@ use second::frames::Frame;
 use session::{counted, line_text, path_text, shortened, Shown, UNPROVED};
 
 use crate::difference::Difference;
-use crate::follow::{Counts, Followed};
+use crate::follow::{Contradicted, Counts, Followed};
 use crate::night::Account;
+use crate::served::LeftOut;
 use crate::start::LogStart;
 
 /// Of the frame that stopped a log no more is shown.
@@ -58,8 +59,7 @@ type Labelled = (&'static str, Vec<String>);
 fn facts(account: &Account) -> Vec<Labelled> {
     let Account { night, start, faults, followed, served, .. } = account;
     let counts = &followed.counts;
-    let mut facts =
-        vec![("Log", vec![format!("{}: {}", path_text(&night.log), counts_text(counts))])];
+    let mut facts = vec![("Log", vec![format!("{}: {}", night.log_text(), counts_text(counts))])];
     if counts.commands() == 0 {
         facts.push((
             "Nothing",
@@ -77,21 +77,26 @@ fn facts(account: &Account) -> Vec<Labelled> {
     if let Some((path, why)) = served {
         let path = path_text(path);
         let mut lines = vec![match why {
-            Some(why) => format!("{path} is left out: {why}"),
+            Some(LeftOut { why, .. }) => format!("{path} is left out: {why}"),
             None => format!("{path} has the time of each command"),
         }];
-        lines.extend(unrecorded_text(followed));
+        lines.extend(served_doubts(followed));
         facts.push(("Served", lines));
     }
     facts
 }
 
-/// What the server's log has and the record has not, if anything.
-pub fn unrecorded_text(followed: &Followed) -> Option<String> {
-    let count = followed.unrecorded as usize;
-    (count > 0).then(|| {
-        format!("it has {} more, which this log has not", counted(count, "command", "commands"))
-    })
+/// What the server's log has otherwise than the record, if anything.
+pub fn served_doubts(followed: &Followed) -> Vec<String> {
+    let commands = |count: u64| counted(count as usize, "command", "commands");
+    let Followed { unrecorded, contradicted: Contradicted { count, first }, .. } = followed;
+    let more = (*unrecorded > 0)
+        .then(|| format!("it has {} more, which this log has not", commands(*unrecorded)));
+    let otherwise = first.as_ref().map(|(frame, recorded, logged)| {
+        let commands = commands(*count);
+        format!("it says otherwise of {commands}, first of frame {frame}: {logged}, where {recorded} is recorded")
+    });
+    more.into_iter().chain(otherwise).collect()
 }
 
 /// How many frames and commands.
@@ -119,8 +124,9 @@ fn table_lines(account: &Account) -> Vec<String> {
     };
     let mut lines =
         vec![format!("{rows}, {entries}: {from}"), format!("SHA-256 of the packed rows {sum}")];
-    if let LogStart::File { left_out: 1.., .. } = start.from {
-        lines.push("items that are no rows and no entries are left out".to_string());
+    if let LogStart::File { left_out: count @ 1.., .. } = start.from {
+        let items = counted(count as usize, "item", "items");
+        lines.push(format!("{items} of it, no rows and no entries, left out"));
     }
     lines
 }

@@ -64,6 +64,16 @@ pub struct Followed {
     pub table: KeptTable,
     /// Of the server's log: commands that it has and the record has not. Not known of a log that was stopped.
     pub unrecorded: u64,
+    /// Commands of which the server's log says otherwise than the record.
+    pub contradicted: Contradicted,
+}
+
+/// Where the server's log and the record do not say the same.
+#[derive(Clone, Debug, Default, PartialEq, Eq)]
+pub struct Contradicted {
+    pub count: u64,
+    /// The first: its frame, what is recorded and what the log has.
+    pub first: Option<(u64, String, String)>,
 }
 
 /// A log under way.
@@ -106,6 +116,7 @@ impl<'n> Following<'n> {
             sent: Vec::new(),
             table: table.clone(),
             unrecorded: 0,
+            contradicted: Contradicted::default(),
         };
         Following {
             replay: Replay::new(),
@@ -122,6 +133,11 @@ impl<'n> Following<'n> {
             served,
             followed,
         }
+    }
+
+    /// Whether the log was stopped, so that what comes after it is ignored.
+    pub fn is_stopped(&self) -> bool {
+        self.is_stopped
     }
 
     /// How many commands were run so far.
@@ -220,8 +236,10 @@ impl<'n> Following<'n> {
         counts.differing += u64::from(differs);
         let line = exchange.frame + self.start.lines();
         let logged = self.served.as_mut().and_then(|served| served.next_of(line));
+        let sent = Sent::of(&exchange, line, differs, logged.clone());
+        self.followed.contradicted.note(&sent);
         if self.followed.sent.len() < MOST_LISTED {
-            self.followed.sent.push(Sent::of(&exchange, line, differs, logged.clone()));
+            self.followed.sent.push(sent);
         }
         if differs {
             self.keep_difference(&exchange, line, logged)?;
@@ -248,6 +266,22 @@ impl<'n> Following<'n> {
         self.kept_bytes += difference.size();
         kept.push(Difference { line, logged, ..difference });
         Ok(())
+    }
+}
+
+impl Contradicted {
+    /// What the log has of a command is its word and what was recorded, and then perhaps what the server answered by itself.
+    fn note(&mut self, sent: &Sent) {
+        let Some(logged) = &sent.logged else {
+            return;
+        };
+        let recorded = format!("{} {}", sent.word, sent.recorded);
+        let rest = logged.what.strip_prefix(&recorded);
+        if rest.is_some_and(|rest| rest.is_empty() || rest.starts_with(',')) {
+            return;
+        }
+        self.count += 1;
+        self.first.get_or_insert((sent.frame, recorded, logged.what.clone()));
     }
 }
 

@@ -3,7 +3,7 @@
 use luspemaro::Verdict;
 use session::counted;
 
-use crate::account::{unrecorded_text, verdict_text};
+use crate::account::{served_doubts, verdict_text};
 use crate::night::Account;
 
 /// What stands against a green verdict on a night, beside who built the library.
@@ -28,8 +28,10 @@ pub fn against(account: &Account) -> Vec<String> {
         reasons.push("No command was run again, so nothing was compared.".to_string());
     }
     reasons.extend(account.faults.iter().map(|fault| format!("At the start {fault}.")));
-    let unrecorded = unrecorded_text(followed);
-    reasons.extend(unrecorded.map(|text| format!("Of the server's own log: {text}.")));
+    let left_out = account.served.iter().filter_map(|(_, left_out)| left_out.as_ref());
+    let doubts = left_out.filter(|one| one.is_doubt).map(|one| one.why.clone());
+    let doubts = doubts.chain(served_doubts(followed));
+    reasons.extend(doubts.map(|text| format!("Of the server's own log: {text}.")));
     reasons
 }
 

@@ -3,7 +3,7 @@
 
 use luspemaro::Verdict;
 use session::html::{cell, code_cell, fact, table, Html};
-use session::{counted, page_of, path_text};
+use session::{counted, page_of};
 
 use crate::account::verdict_text;
 use crate::judge::{against, what_agrees};
@@ -53,7 +53,7 @@ impl Verified {
             reasons.push("no night was replayed".to_string());
         }
         for (night, replayed) in &self.nights {
-            let path = path_text(&night.log);
+            let path = night.log_text();
             match replayed {
                 Ok(account) => reasons
                     .extend(against(account).iter().map(|reason| format!("{path}: {reason}"))),
@@ -117,8 +117,7 @@ pub fn kit_text(verified: &Verified) -> String {
         text += &format!("Trusted    {what}: {why}\n");
     }
     for (night, replayed) in nights {
-        text +=
-            &format!("Night      {}: {}\n", path_text(&night.log), verified.word_of(replayed).1);
+        text += &format!("Night      {}: {}\n", night.log_text(), verified.word_of(replayed).1);
     }
     let reasons = verified.against();
     text += if reasons.is_empty() { VERIFIED } else { NOT_VERIFIED };
@@ -142,9 +141,8 @@ pub fn kit_page(verified: &Verified) -> String {
     };
     let mut parts = vec![Html::of_text("h1", &[], title), verdict];
     parts.extend([proved_html(verified), trusted_html()]);
-    parts.extend(
-        verified.nights.iter().map(|(night, replayed)| night_html(verified, night, replayed)),
-    );
+    let numbered = (1..).zip(&verified.nights);
+    parts.extend(numbered.map(|(number, night)| night_html(verified, number, night)));
     page_of(title, parts)
 }
 
@@ -186,14 +184,14 @@ fn trusted_html() -> Html {
     section
 }
 
-fn night_html(verified: &Verified, night: &Night, replayed: &Result<Account, Failure>) -> Html {
-    let path = path_text(&night.log);
+fn night_html(verified: &Verified, number: usize, (night, replayed): &Replayed) -> Html {
+    let path = night.log_text();
     let mut section = Html::of_text("h2", &[], format!("The night {path}"));
     let (is_well, word) = verified.word_of(replayed);
     let class = if is_well { "well" } else { "wrong" };
     section.push(Html::of_text("p", &[("class", class), ("data-night", &path)], word));
     if let Ok(account) = replayed {
-        section.push(facts_table(night_rows(account)));
+        section.push(facts_table(night_rows(account, &format!("night-{number}-"))));
         section.push(differences_html(account));
     }
     section

@@ -85,5 +85,5 @@ fn read_call(words: impl IntoIterator<Item = OsString>) -> Result<(PathBuf, Vec<
 
 fn tell_progress(night: &Night, Progress { bytes, of, commands }: Progress) {
     let of = of.map_or(String::new(), |of| format!(" of {of}"));
-    tell(format!("{}: {bytes}{of} bytes, {commands} commands run again", path_text(&night.log)));
+    tell(format!("{}: {bytes}{of} bytes, {commands} commands run again", night.log_text()));
 }

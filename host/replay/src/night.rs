@@ -11,7 +11,7 @@ use session::{is_same_file, path_text, Sum};
 use crate::follow::{Followed, Following, Lost};
 use crate::pieces::Pieces;
 use crate::rooms::THREAD_STACK;
-use crate::served::{Cursor, ServedLog};
+use crate::served::{Cursor, LeftOut, ServedLog};
 use crate::start::Start;
 
 /// The extension of a server's log that stands beside a record.
@@ -36,6 +36,21 @@ pub struct Night {
     pub sums: bool,
 }
 
+impl Night {
+    fn is_input(&self) -> bool {
+        self.log.as_os_str() == STANDARD_INPUT
+    }
+
+    /// The log as it is named to people.
+    pub fn log_text(&self) -> String {
+        if self.is_input() {
+            "standard input".to_string()
+        } else {
+            path_text(&self.log)
+        }
+    }
+}
+
 /// What came of it.
 #[derive(Debug)]
 pub struct Account {
@@ -47,7 +62,7 @@ pub struct Account {
     /// Of the log, all bytes that were read; none where it was not wanted.
     pub log_sum: Option<Sum>,
     /// The server's log that was found, and why it is of no use, if so.
-    pub served: Option<(PathBuf, Option<String>)>,
+    pub served: Found,
 }
 
 /// Why there is no account.
@@ -90,9 +105,9 @@ pub fn replay_night(night: &Night, tell: &mut dyn FnMut(Progress)) -> Result<Acc
     let following = Following::new(&start, table, night.finds_all, cursor);
     let followed = follow(following, &mut pieces, length, tell).map_err(|error| match error {
         Broken::Read(error) => {
-            Failure::Trouble(format!("{}: {}", path_text(&night.log), unreadable(&error)))
+            Failure::Trouble(format!("{}: {}", night.log_text(), unreadable(&error)))
         }
-        Broken::Lost(Lost(why)) => Failure::Trouble(format!("{}: {why}", path_text(&night.log))),
+        Broken::Lost(Lost(why)) => Failure::Trouble(format!("{}: {why}", night.log_text())),
     })?;
     Ok(Account { night: night.clone(), faults, followed, log_sum: pieces.sum(), served, start })
 }
@@ -111,7 +126,7 @@ enum Broken {
     Lost(Lost),
 }
 
-/// The whole log. All of it is read, so that its sum is that of the file.
+/// The whole log. Where its sum is wanted, all of it is read.
 fn follow<R: Read>(
     mut following: Following,
     pieces: &mut Pieces<R>,
@@ -127,6 +142,9 @@ fn follow<R: Read>(
         }
         following.take(piece).map_err(Broken::Lost)?;
         pieces.take(count);
+        if following.is_stopped() && !pieces.has_sum() {
+            return following.end().map_err(Broken::Lost);
+        }
         if told.elapsed() >= PROGRESS_EVERY {
             told = Instant::now();
             tell(Progress { bytes: pieces.taken(), of: length, commands: following.commands() });
@@ -149,29 +167,28 @@ fn open(path: &Path) -> io::Result<(Box<dyn Read>, Option<u64>)> {
 }
 
 /// A server's log that was found, and why it is of no use, if so.
-type Found = Option<(PathBuf, Option<String>)>;
+pub type Found = Option<(PathBuf, Option<LeftOut>)>;
 
 /// The server's log: the one that is named, or the one beside the log. One that is named has to be there.
 fn served_of(night: &Night, start: &Start) -> Result<(Found, Option<Cursor>), Failure> {
     let beside = night.log.with_extension(LOG_EXTENSION);
-    let is_beside = beside.is_file() && !is_same_file(&beside, &night.log);
+    let is_input = night.is_input();
+    let is_beside = !is_input && beside.is_file() && !is_same_file(&beside, &night.log);
     let Some(path) = night.served.clone().or(is_beside.then_some(beside)) else {
         return Ok((None, None));
     };
-    if night.log.as_os_str() == STANDARD_INPUT {
-        return Ok((
-            Some((path, Some("the log is standard input, which is read once".to_string()))),
-            None,
-        ));
+    if is_input {
+        let why = "the log is standard input, which is read once".to_string();
+        return Ok((Some((path, Some(why.into()))), None));
     }
     let opened = ServedLog::open(&path);
     if let (Err(why), true) = (&opened, night.served.is_some()) {
         return Err(Failure::NotRun(format!("{}: {why}", path_text(&path))));
     }
-    let cursor = opened.and_then(|log| log.of_record(&night.log, start.lines(), start.rows_sum()));
-    Ok(match cursor {
+    let fitting = |log: ServedLog| log.of_record(&night.log, start.lines(), start.rows_sum());
+    Ok(match opened.map_err(LeftOut::from).and_then(fitting) {
         Ok(cursor) => (Some((path, None)), Some(cursor)),
-        Err(why) => (Some((path, Some(why))), None),
+        Err(left_out) => (Some((path, Some(left_out))), None),
     })
 }
 

@@ -62,7 +62,7 @@ pub fn page(account: &Account, facts: &PageFacts) -> String {
         end_html(account),
         Html::of_text("p", &[("class", "small")], ABOUT),
     ];
-    page_of(&format!("{title}: {}", path_text(&account.night.log)), parts)
+    page_of(&format!("{title}: {}", account.night.log_text()), parts)
 }
 
 /// A verdict with its reasons.
@@ -93,7 +93,7 @@ fn facts_html(account: &Account, facts: &PageFacts) -> Html {
     ];
     rows.extend(date.as_ref().map(|date| fact("date", "Date as given by the examiner", date)));
     rows.push(fact("clock", "Date by this machine's clock", clock));
-    rows.extend(night_rows(account));
+    rows.extend(night_rows(account, ""));
     let built = if origin.is_built_by_proof { "this repository's proof" } else { NOT_KNOWN };
     let sum = tool_sum.map(|sum| sum.to_string());
     rows.extend([
@@ -107,13 +107,14 @@ fn facts_html(account: &Account, facts: &PageFacts) -> Html {
     facts_table(rows)
 }
 
-/// What a night is: log, table, counts.
-pub fn night_rows(account: &Account) -> Vec<Html> {
+/// What a night is: log, table, counts. The prefix keeps the rows of several nights of a page apart.
+pub fn night_rows(account: &Account, prefix: &str) -> Vec<Html> {
     let Account { night, start, followed, log_sum, served, .. } = account;
+    let fact = |id: &str, head: &str, text: &str| fact(&format!("{prefix}{id}"), head, text);
     let or_not_known = |sum: Option<Sum>| sum.map_or(NOT_KNOWN.to_string(), |sum| sum.to_string());
     let mut rows = vec![
         fact("replayed", "Verdict of the replay", &verdict_text(followed.verdict)),
-        fact("log", "Log", &path_text(&night.log)),
+        fact("log", "Log", &night.log_text()),
         fact("log-sum", "SHA-256 of the log", &or_not_known(*log_sum)),
         fact("counts", "What it has", &counts_text(&followed.counts)),
         fact("numbers", "Numbers of frames", &numbers_text(start.lines())),
@@ -126,8 +127,9 @@ pub fn night_rows(account: &Account) -> Vec<Html> {
         _ => rows.push(fact("table", "Table", "the first lines of the log")),
     }
     rows.push(fact("rows-sum", "SHA-256 of its packed rows", &start.rows_sum().to_string()));
-    if let Some((path, why)) = served {
-        let text = why.as_ref().map_or("read".to_string(), |why| format!("left out: {why}"));
+    if let Some((path, left_out)) = served {
+        let text =
+            left_out.as_ref().map_or("read".to_string(), |one| format!("left out: {}", one.why));
         rows.push(fact("served", "The server's own log", &format!("{}: {text}", path_text(path))));
     }
     rows.extend(followed.stop.as_ref().map(|(stop, _)| {

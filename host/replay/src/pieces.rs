@@ -54,6 +54,11 @@ impl<R: Read> Pieces<R> {
         self.taken += count as u64;
     }
 
+    /// Whether a sum is wanted, which is one of all bytes.
+    pub fn has_sum(&self) -> bool {
+        self.sum.is_some()
+    }
+
     /// How many bytes were taken.
     pub fn taken(&self) -> u64 {
         self.taken

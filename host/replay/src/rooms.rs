@@ -1,7 +1,7 @@
 //! The stack that the library needs for a replay.
 
-/// `LUSPEMARO_STACK_REPLAY_FEED`, the most that any entry needs which is called here.
-const STACK_LIBRARY: usize = 442_368;
+/// `LUSPEMARO_STACK_REPLAY`, the most that any entry needs which is called here.
+const STACK_LIBRARY: usize = 372_736;
 /// What this crate and the second program need above it, with a margin.
 const STACK_OWN: usize = 4 << 20;
 
@@ -23,9 +23,11 @@ mod tests {
     }
 
     #[test]
-    fn the_stack_is_enough() {
-        for entry in ["REPLAY", "REPLAY_FEED", "ANSWER", "SUMMARIZE", "CHECK_TABLE"] {
-            assert!(defined(&format!("LUSPEMARO_STACK_{entry}")) <= STACK_LIBRARY, "{entry}");
-        }
+    fn the_stack_is_the_headers() {
+        let entries =
+            ["REPLAY", "REPLAY_FEED", "ANSWER", "SUMMARIZE", "CHECK_TABLE", "CHECK_NAMESPACES"];
+        let most =
+            entries.map(|entry| defined(&format!("LUSPEMARO_STACK_{entry}"))).into_iter().max();
+        assert_eq!(most, Some(STACK_LIBRARY));
     }
 }

@@ -38,6 +38,20 @@ pub struct ServedLog {
     starts: Vec<(u64, String)>,
 }
 
+/// Why a server's log is of no use for a record.
+#[derive(Clone, Debug, PartialEq, Eq)]
+pub struct LeftOut {
+    pub why: String,
+    /// Whether it speaks against the record.
+    pub is_doubt: bool,
+}
+
+impl From<String> for LeftOut {
+    fn from(why: String) -> LeftOut {
+        LeftOut { why, is_doubt: false }
+    }
+}
+
 /// The commands of one start, read as they are wanted.
 #[derive(Debug)]
 pub struct Cursor {
@@ -57,8 +71,9 @@ impl ServedLog {
         }
     }
 
-    /// The commands of the start that a record belongs to, or why they are not known.
-    pub fn of_record(&self, record: &Path, heading: u64, rows: Sum) -> Result<Cursor, String> {
+    /// The commands of the start that a record belongs to, or why they are not known. A log in which no start fits speaks
+    /// against the record.
+    pub fn of_record(&self, record: &Path, heading: u64, rows: Sum) -> Result<Cursor, LeftOut> {
         let sum = format!("SHA-256 of the packed rows {rows}");
         let mut fitting = Vec::new();
         for (place, _) in self.starts.iter().filter(|(_, start)| start.contains(&sum)) {
@@ -69,12 +84,16 @@ impl ServedLog {
             }
         }
         match fitting.as_slice() {
-            [place] => Cursor::at(&self.path, *place).map_err(|error| error.to_string()),
-            [] => Err("no start in it has the table and the commands of this log".to_string()),
-            several => Err(format!(
-                "{} starts in it have the table and the commands of this log",
-                several.len()
-            )),
+            [place] => Ok(Cursor::at(&self.path, *place).map_err(|error| error.to_string())?),
+            [] => {
+                let why = "no start in it has the table and the commands of this log".to_string();
+                Err(LeftOut { why, is_doubt: true })
+            }
+            several => {
+                let count = several.len();
+                Err(format!("{count} starts in it have the table and the commands of this log")
+                    .into())
+            }
         }
     }
 }

@@ -162,6 +162,21 @@ fn wrong_calls() {
     }
 }
 
+/// The command that needs most of the stack, and the longest, by the library and in the explanation.
+#[test]
+fn deep_commands() {
+    for middle in ["(", "(x (", "\"\\\\"] {
+        let line = format!("a LIST {}", middle.repeat(2_000 / middle.len()));
+        for ending in ["\r\n", ""] {
+            let command = [&[0x43, 0], line.as_bytes(), ending.as_bytes()].concat();
+            let log = [second::frames::hex_of(&command), b"\n4161\n".to_vec()].concat();
+            let (status, first, all) = came(&run(&["--all", word(&file("log", log))]));
+            assert_eq!((status, first.as_str()), (Some(1), "differs 1"), "{all}");
+            assert!(all.contains("\nExplained  "), "{all}");
+        }
+    }
+}
+
 /// Output that fails is trouble, and a verdict that nobody saw is none.
 #[test]
 fn output_that_fails() {

@@ -89,9 +89,15 @@ fn what_is_not_proved() {
 /// Names and sums of all that counts, and what is trusted.
 #[test]
 fn the_page_of_the_kit() {
-    let (_, differs, _) = nights();
-    let (_, page) = verify(&proof("unchanged", ""), &[word(&differs)]);
+    let (agrees, differs, _) = nights();
+    let (_, page) = verify(&proof("unchanged", ""), &[word(&differs), word(&agrees)]);
     let page = read(&page);
+    let mut ids: Vec<&str> =
+        page.split(" id=\"").skip(1).filter_map(|rest| rest.split('"').next()).collect();
+    let count = ids.len();
+    ids.sort_unstable();
+    ids.dedup();
+    assert_eq!((ids.len(), count > 10), (count, true), "{ids:?}");
     for part in [
         "k 1",
         "commit c",

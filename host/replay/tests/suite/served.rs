@@ -49,11 +49,9 @@ fn starts_that_are_alike() {
     let records = [COMMANDS, COMMANDS].map(|commands| night(&log, commands));
     for record in records {
         let account = with_log(&record, &log);
-        let (_, why) = account.served.expect("a log");
-        assert_eq!(
-            why.as_deref(),
-            Some("2 starts in it have the table and the commands of this log")
-        );
+        let left_out = account.served.expect("a log").1.expect("a reason");
+        assert_eq!(left_out.why, "2 starts in it have the table and the commands of this log");
+        assert!(!left_out.is_doubt);
         assert!(account.followed.sent.iter().all(|sent| sent.logged.is_none()));
     }
 }
@@ -86,17 +84,42 @@ fn what_the_server_said() {
     let log = path("server.log");
     let record = night(&log, COMMANDS);
     let (heading, mut frames) = split_record(&read(&record));
-    frames[1] = "5205".to_string();
-    fs::write(&record, heading + &frames.join("\n") + "\n").expect("a file");
-    let account = with_log(&record, &log);
+    let mut write = |at: usize, frame: String| {
+        frames[at] = frame;
+        fs::write(&record, format!("{heading}{}\n", frames.join("\n"))).expect("a file");
+        with_log(&record, &log)
+    };
+    let account = write(1, "5205".to_string());
     assert_eq!(account.followed.verdict, Verdict::Differs(1));
     let all = replay::text(&account, false);
     assert!(all.contains(", connection 1, test: LIST answered "), "{all}");
+    assert_eq!(account.followed.contradicted.count, 1);
     // A command that was changed is in no start.
-    frames[0] = frames[2].clone();
-    let heading = split_record(&read(&record)).0;
-    fs::write(&record, heading + &frames.join("\n") + "\n").expect("a file");
-    let account = with_log(&record, &log);
-    let (_, why) = account.served.expect("a log");
-    assert_eq!(why.as_deref(), Some("no start in it has the table and the commands of this log"));
+    let account = write(0, "4300612046\n".trim().to_string());
+    let left_out = account.served.expect("a log").1.expect("a reason");
+    assert_eq!(left_out.why, "no start in it has the table and the commands of this log");
+    assert!(left_out.is_doubt);
+}
+
+/// A command and its answer that were changed together agree, and the server's log says otherwise.
+#[test]
+fn a_command_and_its_answer_changed_together() {
+    let log = path("server.log");
+    let record = night(&log, b"a LIST \"\" *\r\n");
+    let (heading, _) = split_record(&read(&record));
+    let other = split_record(&read(&recorded(SESSION, b"a LIST \"\" I*\r\n"))).1;
+    fs::write(&record, format!("{heading}{}\n{}\n", other[0], other[1])).expect("a file");
+    let page = path("page.html");
+    let words = ["--built-by-proof", "--report", word(&page), "--log", word(&log), word(&record)];
+    let (status, first, all) = came(&run(&words));
+    assert_eq!((status, first.as_str()), (Some(0), "agree"), "{all}");
+    assert!(
+        all.contains("it says otherwise of 1 command, first of frame 1: LIST answered "),
+        "{all}"
+    );
+    let page = read(&page);
+    assert!(
+        page.contains("Not everything was checked or agreed.")
+            && page.contains("it says otherwise")
+    );
 }

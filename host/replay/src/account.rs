@@ -5,7 +5,7 @@ use second::frames::Frame;
 use session::{counted, line_text, path_text, shortened, Shown, UNPROVED};
 
 use crate::difference::Difference;
-use crate::follow::{Contradicted, Counts, Followed};
+use crate::followed::{Contradicted, Counts, Followed};
 use crate::night::Account;
 use crate::served::LeftOut;
 use crate::start::LogStart;
@@ -38,7 +38,7 @@ pub fn text(account: &Account, has_table: bool) -> String {
             text += &Shown::new(label, lines).to_string();
         }
     }
-    text += &more_text(&account.followed);
+    text += &more_text(account);
     if has_table {
         text += "\n";
         text.extend(
@@ -198,10 +198,15 @@ pub fn shown_difference(difference: &Difference) -> Vec<Labelled> {
     shown
 }
 
-fn more_text(followed: &Followed) -> String {
-    let listed = followed.differences.len() as u64;
-    match followed.counts.differing - listed {
-        0 => String::new(),
-        more => format!("\nand {more} more that differ, counted and not shown\n"),
+/// What is not shown of the differences.
+fn more_text(account: &Account) -> String {
+    let Followed { differences, counts, .. } = &account.followed;
+    let more = counts.differing - differences.len() as u64;
+    if more > 0 {
+        format!("\nand {more} more that differ, counted and not shown\n")
+    } else if !differences.is_empty() && !account.night.finds_all {
+        "\nthe first difference alone was looked for; --all finds every one\n".to_string()
+    } else {
+        String::new()
     }
 }

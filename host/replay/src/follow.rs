@@ -2,10 +2,10 @@
 //! an exchange ends and what it is.
 
 use luspemaro::{Replay, Verdict};
-use second::replay::{Exchange, Recorded, Stop, Turns, MAX_ANSWER_DIGITS};
-use serve::word_text;
+use second::replay::{Exchange, Recorded, Turns, MAX_ANSWER_DIGITS};
 
 use crate::difference::Difference;
+use crate::followed::{Followed, Now, Sent};
 use crate::served::{Cursor, Logged};
 use crate::start::Start;
 use crate::table::KeptTable;
@@ -15,66 +15,6 @@ const MOST_HELD: usize = 40_000;
 /// No more differences than these are kept one by one, and no more than these bytes of them. All are counted.
 const MOST_LISTED: usize = 1_000;
 const MOST_BYTES: usize = 8 << 20;
-
-/// How many there were of what.
-#[derive(Clone, Copy, Debug, Default, PartialEq, Eq)]
-pub struct Counts {
-    /// Frames that have ended, through the one that stopped the log.
-    pub frames: u64,
-    /// Commands that were run again, by what was recorded.
-    pub answered: u64,
-    pub refused: u64,
-    /// Those that changed a row.
-    pub changed: u64,
-    /// Those whose recorded answer differs; without `all` the first alone is looked for.
-    pub differing: u64,
-}
-
-impl Counts {
-    pub fn commands(&self) -> u64 {
-        self.answered + self.refused
-    }
-}
-
-/// A command of the night, for a page.
-#[derive(Clone, Debug, PartialEq, Eq)]
-pub struct Sent {
-    pub frame: u64,
-    pub line: u64,
-    pub reader: u8,
-    pub word: String,
-    /// What was recorded, in a few words.
-    pub recorded: String,
-    pub differs: bool,
-    pub logged: Option<Logged>,
-}
-
-/// What a log came to.
-#[derive(Debug)]
-pub struct Followed {
-    pub verdict: Verdict,
-    pub counts: Counts,
-    /// The first, or the first ones of all.
-    pub differences: Vec<Difference>,
-    /// Why the log was stopped, in the second program's words, and the frame that did it.
-    pub stop: Option<(Stop, Vec<u8>)>,
-    /// The first commands, as many as are kept.
-    pub sent: Vec<Sent>,
-    /// The table at the end.
-    pub table: KeptTable,
-    /// Of the server's log: commands that it has and the record has not. Not known of a log that was stopped.
-    pub unrecorded: u64,
-    /// Commands of which the server's log says otherwise than the record.
-    pub contradicted: Contradicted,
-}
-
-/// Where the server's log and the record do not say the same.
-#[derive(Clone, Debug, Default, PartialEq, Eq)]
-pub struct Contradicted {
-    pub count: u64,
-    /// The first: its frame, what is recorded and what the log has.
-    pub first: Option<(u64, String, String)>,
-}
 
 /// A log under way.
 pub struct Following<'n> {
@@ -108,16 +48,7 @@ impl<'n> Following<'n> {
         finds_all: bool,
         served: Option<Cursor>,
     ) -> Following<'n> {
-        let followed = Followed {
-            verdict: Verdict::Agree,
-            counts: Counts::default(),
-            differences: Vec::new(),
-            stop: None,
-            sent: Vec::new(),
-            table: table.clone(),
-            unrecorded: 0,
-            contradicted: Contradicted::default(),
-        };
+        let followed = Followed::at_start(table.clone());
         Following {
             replay: Replay::new(),
             start,
@@ -236,7 +167,12 @@ impl<'n> Following<'n> {
         counts.differing += u64::from(differs);
         let line = exchange.frame + self.start.lines();
         let logged = self.served.as_mut().and_then(|served| served.next_of(line));
-        let sent = Sent::of(&exchange, line, differs, logged.clone());
+        let now = match differs {
+            true => Now::Differs,
+            false if is_first || self.finds_all => Now::Same,
+            false => Now::NotLookedAt,
+        };
+        let sent = Sent::of(&exchange, line, now, logged.clone());
         self.followed.contradicted.note(&sent);
         if self.followed.sent.len() < MOST_LISTED {
             self.followed.sent.push(sent);
@@ -266,32 +202,5 @@ impl<'n> Following<'n> {
         self.kept_bytes += difference.size();
         kept.push(Difference { line, logged, ..difference });
         Ok(())
-    }
-}
-
-impl Contradicted {
-    /// What the log has of a command is its word and what was recorded, and then perhaps what the server answered by itself.
-    fn note(&mut self, sent: &Sent) {
-        let Some(logged) = &sent.logged else {
-            return;
-        };
-        let recorded = format!("{} {}", sent.word, sent.recorded);
-        let rest = logged.what.strip_prefix(&recorded);
-        if rest.is_some_and(|rest| rest.is_empty() || rest.starts_with(',')) {
-            return;
-        }
-        self.count += 1;
-        self.first.get_or_insert((sent.frame, recorded, logged.what.clone()));
-    }
-}
-
-impl Sent {
-    fn of(exchange: &Exchange, line: u64, differs: bool, logged: Option<Logged>) -> Sent {
-        let recorded = match &exchange.recorded {
-            Recorded::Lines(lines) => format!("answered {} bytes", lines.len()),
-            Recorded::Refused(number) => format!("refused {number}"),
-        };
-        let (frame, reader) = (exchange.frame, exchange.reader);
-        Sent { frame, line, reader, word: word_text(&exchange.line), recorded, differs, logged }
     }
 }

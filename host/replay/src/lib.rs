@@ -11,7 +11,8 @@
 //! | `table` | the table as the program lays it out, lent to the library |
 //! | `pieces` | a log in pieces of a fixed size, with its sum |
 //! | `start` | the table and the list that a log starts from: of a file, or of the log's own first lines |
-//! | `follow` | the log fed to the library, exchange by exchange, and what is kept of it |
+//! | `follow` | the log fed to the library, exchange by exchange |
+//! | `followed` | what is kept of it |
 //! | `difference` | a command whose recorded answer differs: what is missing, what is too much, and why |
 //! | `served` | the server's own log of the night: the time and the connection of each command |
 //! | `night` | one night: files in, an account out |
@@ -27,6 +28,7 @@
 mod account;
 mod difference;
 mod follow;
+mod followed;
 mod judge;
 mod kit;
 mod night;
@@ -40,7 +42,8 @@ mod table;
 
 pub use account::{text, verdict_text};
 pub use difference::Difference;
-pub use follow::{Counts, Followed, Following};
+pub use follow::Following;
+pub use followed::{Contradicted, Counts, Followed, Now, Sent};
 pub use kit::{kit_page, kit_text, Verified};
 pub use night::{in_stack, replay_night, Account, Failure, Night, Progress};
 pub use page::{page, Origin, PageFacts};

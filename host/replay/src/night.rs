@@ -8,7 +8,8 @@ use std::time::{Duration, Instant};
 
 use session::{is_same_file, path_text, Sum};
 
-use crate::follow::{Followed, Following, Lost};
+use crate::follow::{Following, Lost};
+use crate::followed::Followed;
 use crate::pieces::Pieces;
 use crate::rooms::THREAD_STACK;
 use crate::served::{Cursor, LeftOut, ServedLog};

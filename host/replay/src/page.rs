@@ -5,7 +5,7 @@ use session::{counted, page_of, path_text, show_table, Matter, Sum, UNPROVED};
 
 use crate::account::{counts_text, numbers_text, shown_difference, verdict_text};
 use crate::difference::Difference;
-use crate::follow::Sent;
+use crate::followed::{Now, Sent};
 use crate::judge::{against, what_agrees};
 use crate::night::Account;
 use crate::start::LogStart;
@@ -199,12 +199,16 @@ fn sent_html(account: &Account) -> Html {
 }
 
 fn sent_row(sent: &Sent) -> Html {
-    let Sent { frame, line, reader, word, recorded, differs, logged } = sent;
+    let Sent { frame, line, reader, word, recorded, now, logged } = sent;
     let (time, from) = match logged {
         Some(logged) => (logged.time.clone(), format!("{}, reader {reader}", logged.peer)),
         None => (String::new(), format!("reader {reader}")),
     };
-    let (class, now) = if *differs { ("wrong", "differs") } else { ("well", "the same") };
+    let (class, now) = match now {
+        Now::Same => ("well", "the same"),
+        Now::Differs => ("wrong", "differs"),
+        Now::NotLookedAt => ("small", "not looked at"),
+    };
     let cells = [
         cell(frame.to_string()),
         cell(line.to_string()),

@@ -72,6 +72,10 @@ fn an_account_that_differs() {
         assert!(all.contains(part), "{part}\n{all}");
     }
     assert_eq!(all.matches("Differs  ").count(), 1, "{all}");
+    assert!(
+        all.ends_with("\nthe first difference alone was looked for; --all finds every one\n"),
+        "{all}"
+    );
     let (status, first, all) = came(&run(&["--all", word(&log)]));
     assert_eq!((status, first.as_str()), (Some(1), "differs 1"));
     assert_eq!(all.matches("\nDiffers  ").count(), 2, "{all}");

@@ -1,6 +1,7 @@
 //! The page of a replay: its verdict is never greener than what was checked, and no file is written over.
 
 use std::fs;
+use std::path::PathBuf;
 
 use crate::common::*;
 
@@ -48,11 +49,9 @@ fn what_green_needs() {
     }
 }
 
-/// Sums, fields, differences, the commands of the night and the table at the end.
-#[test]
-fn what_a_page_has() {
-    let server = path("server.log");
-    let record = path("night.frames");
+/// A record with two answers changed, and the server's log of it.
+fn changed_night() -> (PathBuf, PathBuf) {
+    let (server, record) = (path("server.log"), path("night.frames"));
     let account = account_of(SESSION, &record, Some(&server));
     converse_with(&account, 0, COMMANDS);
     account.end().expect("a record");
@@ -60,26 +59,18 @@ fn what_a_page_has() {
     frames[7] = "520E".to_string();
     frames[1] = "5201".to_string();
     fs::write(&record, heading + &frames.join("\n") + "\n").expect("a file");
-    let table = [
-        "--case",
-        "A <b> \"c\"",
-        "--examiner",
-        "E",
-        "--exhibit",
-        "X",
-        "--date",
-        "D",
-        "--commit",
-        "commit c",
-    ];
-    let words =
-        [&table[..], &["--all", "--sources-sum", "beef", "--log", word(&server), word(&record)]]
-            .concat();
-    let page = page_of(&words);
-    let sums = [
-        session::sum_of_file(&record).expect("a sum").to_string(),
-        replayed(&record).start.rows_sum().to_string(),
-    ];
+    (record, server)
+}
+
+/// Sums and fields.
+#[test]
+fn what_a_page_rests_on() {
+    let (record, _) = changed_night();
+    let fields = ["--case", "A <b> \"c\"", "--examiner", "E", "--exhibit", "X", "--date", "D"];
+    let origin = ["--commit", "commit c", "--sources-sum", "beef", word(&record)];
+    let page = page_of(&[&fields[..], &origin].concat());
+    let sum = session::sum_of_file(&record).expect("a sum").to_string();
+    let rows = replayed(&record).start.rows_sum().to_string();
     let parts = [
         "A &lt;b&gt; &quot;c&quot;",
         "commit c",
@@ -87,13 +78,23 @@ fn what_a_page_has() {
         "It is not known what built the library",
         "differs 1",
     ];
-    for part in parts.into_iter().chain(sums.iter().map(String::as_str)) {
+    for part in parts.into_iter().chain([sum.as_str(), &rows]) {
         assert!(page.contains(part), "{part}");
     }
+}
+
+/// Differences, the commands of the night and the table at the end.
+#[test]
+fn what_a_page_has() {
+    let (record, server) = changed_night();
+    let page = page_of(&["--all", "--log", word(&server), word(&record)]);
     assert_eq!(page.matches("class=\"exchange refused\"").count(), 2);
     assert!(page.contains("data-frame=\"1\"") && page.contains("data-frame=\"7\""));
     assert_eq!(page.matches("data-sent=").count(), 15);
-    assert_eq!(page.matches(">differs<").count(), 2);
+    assert_eq!(
+        ["the same", "differs"].map(|word| page.matches(&format!(">{word}<")).count()),
+        [13, 2]
+    );
     let year = &session::now()[..4];
     assert!(page.contains(&format!("<td>{year}-")) && page.contains(">SUBSCRIBE<"), "{page}");
     let end = page.split("id=\"end\">").nth(1).expect("a table");
@@ -102,6 +103,9 @@ fn what_a_page_has() {
     let page = page_of(&[word(&record)]);
     assert!(page.contains("No time is known") && page.contains("The first alone was looked for."));
     assert_eq!(page.matches("class=\"exchange refused\"").count(), 1);
+    // Nothing is called the same that was not looked at.
+    let words = ["the same", "differs", "not looked at"];
+    assert_eq!(words.map(|word| page.matches(&format!(">{word}<")).count()), [0, 1, 14]);
 }
 
 #[test]

@@ -21,7 +21,7 @@ pub struct Following<'n> {
     replay: Replay,
     start: &'n Start,
     table: KeptTable,
-    /// The table before the last exchange.
+    /// The same between two exchanges, and during one as it was before it.
     before: KeptTable,
     turns: Turns,
     /// The frame so far, or the start of an overlong one.
@@ -149,38 +149,52 @@ impl<'n> Following<'n> {
 
     /// A command was read with its answer, so the library runs it.
     fn exchange_ended(&mut self, exchange: Exchange) -> Result<(), Lost> {
-        self.before.clone_from(&self.table);
-        let is_first = self.followed.differences.is_empty();
-        let is_other = !is_first && self.finds_all && {
-            let mut alone = self.before.clone();
-            alone.replay(&self.start.entries, &self.held).verdict != Verdict::Agree
-        };
-        self.feed()?;
-        let differs =
-            is_other || is_first && self.verdict == Verdict::Differs(exchange.frame as usize);
+        let now = self.run(&exchange)?;
+        let has_changed = self.before != self.table;
         let counts = &mut self.followed.counts;
         match exchange.recorded {
             Recorded::Lines(_) => counts.answered += 1,
             Recorded::Refused(_) => counts.refused += 1,
         }
-        counts.changed += u64::from(self.before != self.table);
-        counts.differing += u64::from(differs);
+        counts.changed += u64::from(has_changed);
+        counts.differing += u64::from(now == Now::Differs);
         let line = exchange.frame + self.start.lines();
         let logged = self.served.as_mut().and_then(|served| served.next_of(line));
-        let now = match differs {
-            true => Now::Differs,
-            false if is_first || self.finds_all => Now::Same,
-            false => Now::NotLookedAt,
-        };
-        let sent = Sent::of(&exchange, line, now, logged.clone());
-        self.followed.contradicted.note(&sent);
-        if self.followed.sent.len() < MOST_LISTED {
-            self.followed.sent.push(sent);
+        if now == Now::Differs {
+            self.keep_difference(&exchange, line, logged.clone())?;
         }
-        if differs {
-            self.keep_difference(&exchange, line, logged)?;
+        let has_room = self.followed.sent.len() < MOST_LISTED;
+        if has_room || logged.is_some() {
+            let sent = Sent::of(&exchange, line, now, logged);
+            self.followed.contradicted.note(&sent);
+            self.followed.sent.extend(Some(sent).filter(|_| has_room));
+        }
+        if has_changed {
+            self.before.clone_from(&self.table);
         }
         Ok(())
+    }
+
+    /// Feeds the exchange that is held. The library reports the first difference; a later one is seen by a replay of the
+    /// exchange alone, over the table as it is before it.
+    fn run(&mut self, exchange: &Exchange) -> Result<Now, Lost> {
+        if self.followed.differences.is_empty() {
+            self.feed()?;
+            let differs = self.verdict == Verdict::Differs(exchange.frame as usize);
+            return Ok(if differs { Now::Differs } else { Now::Same });
+        }
+        let now = match self.finds_all {
+            true => {
+                let alone = self.before.clone().replay(&self.start.entries, &self.held);
+                if alone.verdict == Verdict::Agree {
+                    Now::Same
+                } else {
+                    Now::Differs
+                }
+            }
+            false => Now::NotLookedAt,
+        };
+        self.feed().map(|()| now)
     }
 
     fn keep_difference(

@@ -3,7 +3,7 @@
 
 use luspemaro::Verdict;
 use session::html::{cell, code_cell, fact, table, Html};
-use session::{counted, page_of};
+use session::page_of;
 
 use crate::account::verdict_text;
 use crate::judge::{against, what_agrees};
@@ -105,10 +105,15 @@ fn status_of(replayed: &Result<Account, Failure>) -> u8 {
 pub fn kit_text(verified: &Verified) -> String {
     let Verified { proof, nights, .. } = verified;
     let count = |state| proof.crates.iter().filter(|one| one.state == state).count();
-    let [now, before] = [State::Proved, State::Unchanged].map(count);
-    let crates = counted(proof.crates.len(), "crate", "crates");
-    let mut text =
-        format!("Proved     {crates}: {now} in this run, {before} before and unchanged since\n");
+    let [now, before, not] = [State::Proved, State::Unchanged, State::NotProved].map(count);
+    let all = proof.crates.len();
+    let mut text = format!(
+        "Crates     {all}: {now} proved in this run, {before} proved before and unchanged since, {not} not proved\n"
+    );
+    for CrateProof { name, sum, state } in &proof.crates {
+        let label = if *state == State::NotProved { "Not proved" } else { "Proved" };
+        text += &format!("{label:11}{sum}  {name}\n");
+    }
     text += &format!("Kit        {}\n", proof.kit);
     for FileSum { name, sum, .. } in &proof.sums {
         text += &format!("SHA-256    {sum}  {name}\n");

@@ -91,7 +91,7 @@ fn everything_is_verified() {
     let (told, page) = (text(&output.stdout), tree.page());
     assert_eq!(output.status.code(), Some(0), "{told}{}", text(&output.stderr));
     assert!(
-        told.contains("Proved     3 crates: 2 in this run, 1 before and unchanged since\n"),
+        told.contains("Crates     3: 2 proved in this run, 1 proved before and unchanged since, 0 not proved\n"),
         "{told}"
     );
     assert!(
@@ -107,7 +107,7 @@ fn everything_is_verified() {
     let lib = sum_of_bytes(b"fn f() {}\n");
     let sources = sum_of_bytes(format!("{lib}  crates/alpha/src/lib.rt\n").as_bytes()).to_string();
     for part in [archive, program, tool, header, sources] {
-        assert!(page.contains(&part), "{part}");
+        assert!(page.contains(&part) && told.contains(&part), "{part}");
     }
     // The page that is there is not written over, and nothing is proved for that.
     let output = tree.call("verify", &[]);

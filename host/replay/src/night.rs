@@ -173,13 +173,14 @@ pub type Found = Option<(PathBuf, Option<LeftOut>)>;
 /// The server's log: the one that is named, or the one beside the log. One that is named has to be there.
 fn served_of(night: &Night, start: &Start) -> Result<(Found, Option<Cursor>), Failure> {
     let beside = night.log.with_extension(LOG_EXTENSION);
-    let is_input = night.is_input();
-    let is_beside = !is_input && beside.is_file() && !is_same_file(&beside, &night.log);
+    let is_plain = !night.is_input() && night.log.is_file();
+    let is_beside = is_plain && beside.is_file() && !is_same_file(&beside, &night.log);
     let Some(path) = night.served.clone().or(is_beside.then_some(beside)) else {
         return Ok((None, None));
     };
-    if is_input {
-        let why = "the log is standard input, which is read once".to_string();
+    // What is no plain file can be read once, and a second reader would take its bytes away.
+    if !is_plain {
+        let why = "this log is no plain file, and is read once".to_string();
         return Ok((Some((path, Some(why.into()))), None));
     }
     let opened = ServedLog::open(&path);

@@ -1,6 +1,7 @@
 //! The server's own log beside a record: which start it is, and what it has of each command.
 
 use std::fs;
+use std::process::Command;
 
 use luspemaro::Verdict;
 use replay::{in_stack, replay_night, Account, Night};
@@ -122,4 +123,17 @@ fn a_command_and_its_answer_changed_together() {
         page.contains("Not everything was checked or agreed.")
             && page.contains("it says otherwise")
     );
+}
+
+/// A log that is a pipe is read once, by the replay alone.
+#[test]
+fn a_log_that_is_a_pipe() {
+    let log = path("server.log");
+    let record = night(&log, &COMMANDS.repeat(40));
+    let mut command = Command::new("/bin/bash");
+    command.args(["-c", "\"$0\" --log \"$1\" <(cat \"$2\")", REPLAY, word(&log), word(&record)]);
+    let (status, first, all) = came(&command.output().expect("an end"));
+    assert_eq!((status, first.as_str()), (Some(0), "agree"), "{all}");
+    assert!(all.contains(" 600 commands run again"), "{all}");
+    assert!(all.contains("is left out: this log is no plain file, and is read once\n"), "{all}");
 }

@@ -152,12 +152,14 @@ pub fn kit_page(verified: &Verified) -> String {
 }
 
 fn proved_html(verified: &Verified) -> Html {
-    let Proof { kit, commit, crates, sums, .. } = &verified.proof;
-    let commit = commit.clone().unwrap_or_else(|| "not known".to_string());
+    let Proof { kit, rust, commit, crates, sums, .. } = &verified.proof;
+    let or_not_known =
+        |text: &Option<String>| text.clone().unwrap_or_else(|| "not known".to_string());
     let mut rows = vec![
         fact("clock", "Date by this machine's clock", &verified.clock),
         fact("kit", "The kit that proved", kit),
-        fact("commit", "Version of the repository", &commit),
+        fact("rust", "The Rust that built the tool", &or_not_known(rust)),
+        fact("commit", "Version of the repository", &or_not_known(commit)),
         fact("tool", "This tool", &format!("version {}, not proved", verified.tool)),
     ];
     let sum_row = |one: &FileSum| {

@@ -3,6 +3,7 @@
 //! | Line | What it says |
 //! |---|---|
 //! | `kit ID` | the identity of the kit that proved |
+//! | `rust TEXT` | the Rust that built the tools |
 //! | `commit TEXT` | the commit of the repository, and whether files differ from it |
 //! | `crate NAME SUM STATE` | a crate, the sum of its sources, and `proved`, `unchanged` or `not-proved` |
 //! | `sum ID NAME SUM` | the sum of another file that counts, with a word for it: the library, the program, the header, the tool |
@@ -40,6 +41,7 @@ pub struct FileSum {
 #[derive(Clone, Debug, Default, PartialEq, Eq)]
 pub struct Proof {
     pub kit: String,
+    pub rust: Option<String>,
     pub commit: Option<String>,
     pub crates: Vec<CrateProof>,
     pub sums: Vec<FileSum>,
@@ -76,6 +78,7 @@ impl Proof {
             match words.as_slice() {
                 _ if has_ended => return Err(bad()),
                 ["kit", kit] => proof.kit = kit.to_string(),
+                ["rust", rust] => proof.rust = Some(rust.to_string()),
                 ["commit", commit] => proof.commit = Some(commit.to_string()),
                 ["crate", name, sum, state] => {
                     let state = State::of_word(state).ok_or_else(bad)?;

@@ -8,7 +8,7 @@ use crate::common::*;
 /// What is handed over, with these lines in place of others.
 pub fn proof(state: &str, more: &str) -> String {
     let sum = "a".repeat(64);
-    format!("kit\tk 1\ncommit\tcommit c\ncrate\tone\t{sum}\tproved\ncrate\ttwo\t{sum}\t{state}\nsum\tlibrary\tthe library\t{sum}\n{more}end\n")
+    format!("kit\tk 1\nrust\tcargo 9\ncommit\tcommit c\ncrate\tone\t{sum}\tproved\ncrate\ttwo\t{sum}\t{state}\nsum\tlibrary\tthe library\t{sum}\n{more}end\n")
 }
 
 fn verify(proof: &str, words: &[&str]) -> (Output, PathBuf) {
@@ -101,6 +101,7 @@ fn the_page_of_the_kit() {
     for part in [
         "k 1",
         "commit c",
+        "cargo 9",
         "data-crate=\"one\"",
         "proved in this run",
         "proved before on this machine, unchanged since",

@@ -1,6 +1,8 @@
 //! The log fed to the library, exchange by exchange. The verdict is the library's; the second program's turns say only where
 //! an exchange ends and what it is.
 
+use std::io;
+
 use luspemaro::{Replay, Verdict};
 use second::replay::{Exchange, Recorded, Turns, MAX_ANSWER_DIGITS};
 
@@ -36,9 +38,16 @@ pub struct Following<'n> {
     followed: Followed,
 }
 
-/// The library did not take a piece, or this tool cuts the log otherwise than the library.
+/// The library did not take a piece, this tool cuts the log otherwise than the library, or the server's log fails.
 #[derive(Debug, PartialEq, Eq)]
 pub struct Lost(pub String);
+
+/// The server's log cannot be read any more.
+impl From<io::Error> for Lost {
+    fn from(error: io::Error) -> Lost {
+        Lost(format!("the server's log cannot be read: {error}"))
+    }
+}
 
 impl<'n> Following<'n> {
     /// At the beginning of a log. With `finds_all` every difference is looked for.
@@ -121,7 +130,7 @@ impl<'n> Following<'n> {
         self.followed.verdict = told;
         self.followed.table = self.table;
         let is_whole = !matches!(told, Verdict::Refused(_));
-        self.followed.unrecorded = self.served.filter(|_| is_whole).map_or(0, Cursor::left);
+        self.followed.unrecorded = self.served.filter(|_| is_whole).map_or(Ok(0), Cursor::left)?;
         Ok(self.followed)
     }
 
@@ -159,7 +168,7 @@ impl<'n> Following<'n> {
         counts.changed += u64::from(has_changed);
         counts.differing += u64::from(now == Now::Differs);
         let line = exchange.frame + self.start.lines();
-        let logged = self.served.as_mut().and_then(|served| served.next_of(line));
+        let logged = self.served.as_mut().map_or(Ok(None), |served| served.next_of(line))?;
         if now == Now::Differs {
             self.keep_difference(&exchange, line, logged.clone())?;
         }

@@ -157,20 +157,22 @@ impl Cursor {
     }
 
     /// What the log has of the command at a line of the record.
-    pub fn next_of(&mut self, line: u64) -> Option<Logged> {
-        let (_, entry) = self.ahead.take_if(|(number, _)| *number == line)?;
-        // A log that fails now was read to its end before; what is missing is not shown.
-        let _ = self.step();
-        Some(entry)
+    pub fn next_of(&mut self, line: u64) -> io::Result<Option<Logged>> {
+        let Some((_, entry)) = self.ahead.take_if(|(number, _)| *number == line) else {
+            return Ok(None);
+        };
+        self.step()?;
+        Ok(Some(entry))
     }
 
     /// How many commands are left.
-    pub fn left(mut self) -> u64 {
+    pub fn left(mut self) -> io::Result<u64> {
         let mut count = 0;
-        while self.ahead.is_some() && self.step().is_ok() {
+        while self.ahead.is_some() {
             count += 1;
+            self.step()?;
         }
-        count
+        Ok(count)
     }
 
     /// Whether every command of a record stands here, in its order, with its word and its line.
@@ -186,7 +188,7 @@ impl Cursor {
                 continue;
             }
             let word = word_text(&line) + " ";
-            match self.next_of(number) {
+            match self.next_of(number)? {
                 Some(entry) if entry.what.starts_with(&word) => {}
                 _ => return Ok(false),
             }

@@ -8,6 +8,6 @@ pub mod Standing
 pub mod Costs
 pub mod Stepping
 pub mod Running
-pub mod Front
 pub mod OneStep
+pub mod Fronts
 pub mod Chosen

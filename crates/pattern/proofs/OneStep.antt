@@ -1,15 +1,21 @@
 -- One step as the code has it, and the first, at the ends: what the definitions of a step come to under the code's own tests. Rests on Folded.
-use Rattle.listing_rules.proofs.Prelude.{_∙_, _≡_, ap, refl, sym, Bool, cond, false, List, [], _∷_, _+_, _-_, _<_, _≤_, suc, ℕ, arith, eqb, drop}
-use Rattle.listing_rules.proofs.Prelude.{drop-of-length-le, getD, length, length-drop, drop-cons, eq-eqb, ne-eqb}
+use Rattle.listing_rules.proofs.Prelude.{_∙_, _≡_, ap, refl, sym, Bool, cond, false, true, List, [], _∷_, _+_, _-_, _<_, _≤_, suc, ℕ, arith, eqb}
+use Rattle.listing_rules.proofs.Prelude.{drop, drop-of-length-le, getD, length, length-drop, drop-cons, eq-eqb, ne-eqb}
 use Rattle.listing_rules.specs.Bytes.{isEmpty, slash}
 use Rattle.pattern.specs.declared.steps.Kind.{Kind}
 use Rattle.pattern.specs.declared.steps.Kind.the-variants.{Plain, Level, Any}
 use Rattle.pattern.specs.declared.steps.Going.the-variants.{Matched, Missed}
 use Rattle.pattern.specs.declared.steps.At.{At}
+use Rattle.pattern.specs.declared.front.Next.the-variants.{Front as Next·Front, Missed as Next·Missed}
+use Rattle.pattern.specs.declared.front.Front.{Front}
 use Rattle.pattern.specs.Folded.{folded}
 use Rattle.pattern.specs.Steps.{BackedAs, wentIs, endedIs, resumedIs, retriedIs, givenUpAs, givenUpIs, starIs, levelIs, slashIs, byteIs, nameIs}
-use Rattle.pattern.specs.Steps.{lookedAt, stepIs, oneMore, lastByte, apart, endsIs}
+use Rattle.pattern.specs.Steps.{lookedAt, stepIs, lastByte, apart, ledIs, endsLooked, unlooked, endsIs, cappedAt, cappedFront}
 use Rattle.pattern.proofs.Folded.{letterAt, folded-at}
+
+-- a step by what its definition comes to
+pub as-capped : {a t u : At} → a ≡ cappedAt t → u ≡ t → a ≡ cappedAt u
+as-capped e f = e ∙ ap (λ (v : At). cappedAt v) (sym f)
 
 -- ---- no match here
 
@@ -121,12 +127,12 @@ last-at c (b ∷ l) =
     rw w (rw v at (last-at b l))
 
 module _ (fold : Bool) where
-  pub ends-blank : (pattern name : List ℕ) → length pattern ≡ 0 → endsIs fold pattern name ≡ record { apart = false; steps = 0 }
+  pub ends-blank : (pattern name : List ℕ) → length pattern ≡ 0 → endsIs fold pattern name ≡ unlooked
   unfolding endsIs
   ends-blank [] name e = refl
   ends-blank (c ∷ ps) name e = absurd (omega arith)
 
-  pub ends-nameless : (pattern name : List ℕ) → length name ≡ 0 → endsIs fold pattern name ≡ record { apart = false; steps = 0 }
+  pub ends-nameless : (pattern name : List ℕ) → length name ≡ 0 → endsIs fold pattern name ≡ unlooked
   unfolding endsIs
   ends-nameless [] name e = refl
   ends-nameless (c ∷ ps) [] e = refl
@@ -134,8 +140,16 @@ module _ (fold : Bool) where
 
   -- by the bytes at the last places
   pub ends-by : (pattern name : List ℕ) → (length pattern ≡ 0 → ⊥) → (length name ≡ 0 → ⊥)
-      → endsIs fold pattern name ≡ record { apart = apart (letterAt fold pattern (length pattern - 1)) (getD name (length name - 1) 0); steps = oneMore 0 }
+      → endsIs fold pattern name ≡ endsLooked (letterAt fold pattern (length pattern - 1)) (getD name (length name - 1) 0) unlooked
   unfolding endsIs
   ends-by [] name p n = absurd (p refl)
   ends-by (c ∷ ps) [] p n = absurd (n refl)
   ends-by (c ∷ ps) (d ∷ m) p n = rw (← last-at c ps, ← last-at d m)
+
+-- the step itself, by whether its bytes are apart
+module _ (b c d : ℕ) (f r : Front) (e : b ≡ c) where
+  pub looked-apart : apart b d ≡ true → r ≡ cappedFront (ledIs f (f .i) Next·Missed) → r ≡ cappedFront (endsLooked c d f)
+  looked-apart a l = rw (← e, a) l
+
+  pub looked-alike : apart b d ≡ false → r ≡ cappedFront (ledIs f (f .i) Next·Front) → r ≡ cappedFront (endsLooked c d f)
+  looked-alike a l = rw (← e, a) l

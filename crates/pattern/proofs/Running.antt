@@ -2,8 +2,8 @@
 -- Tails.
 --
 -- The look at the ends is a step more than those that Costs counts. It has room, as place 0 of the pattern is looked at only once.
-use Rattle.listing_rules.proofs.Prelude.{_∙_, _≡_, ap, refl, sym, Bool, cond, false, false≢true, or-false, true, List, [], _∷_, _*_, _+_, _-_, _<_}
-use Rattle.listing_rules.proofs.Prelude.{_≤_, suc, ℕ, suc-mul, arith, eqb, drop, length, le-leb, lt-leb}
+use Rattle.listing_rules.proofs.Prelude.{_∙_, _≡_, ap, refl, sym, Bool, cond, false, or-false, true, List, [], _∷_, _*_, _+_, _-_, _<_, _≤_, suc, ℕ}
+use Rattle.listing_rules.proofs.Prelude.{suc-mul, arith, eqb, drop, length, le-leb, lt-leb}
 use Rattle.listing_rules.specs.Bytes.{slash, isEmpty, same}
 use Rattle.listing_rules.specs.Names.{inbox}
 use Rattle.listing_rules.specs.Match.{wildMatch}
@@ -14,12 +14,12 @@ use Rattle.pattern.specs.declared.steps.Known.the-variants.{Gone, Pendin
 use Rattle.pattern.specs.declared.steps.Going.{Going}
 use Rattle.pattern.specs.declared.steps.Going.the-variants.{On, Matched, Missed}
 use Rattle.pattern.specs.declared.steps.At.{At}
-use Rattle.pattern.specs.declared.steps.Ends.{Ends}
 use Rattle.pattern.specs.declared.steps.Counted.{Counted}
+use Rattle.pattern.specs.declared.front.Next.the-variants.{Front as Next·Front, Missed as Next·Missed}
 use Rattle.pattern.specs.Folded.{letterOf, folded}
-use Rattle.pattern.specs.Steps.{BackedAs, Inside, oneMore, wentIs, resumedAs, givenUpAs, retriedIs, resumedIs, starIs, levelIs, slashIs, byteIs}
-use Rattle.pattern.specs.Steps.{nameIs, lookedAt, stepIs, firstIs, answered, ranFrom, ranAll, mostSteps, Ran, givenUpIs, countedIs, plainRun}
-use Rattle.pattern.specs.Steps.{noStar, settledAs, pendingAs, endsIs, lastByte}
+use Rattle.pattern.specs.Steps.{BackedAs, Inside, wentIs, resumedAs, givenUpAs, retriedIs, resumedIs, starIs, levelIs, slashIs, byteIs, nameIs}
+use Rattle.pattern.specs.Steps.{lookedAt, stepIs, frontAt, frontIs, answered, ranFrom, ranAll, mostSteps, Ran, givenUpIs, countedIs, plainRun}
+use Rattle.pattern.specs.Steps.{noStar, settledAs, pendingAs, apart, ledIs, unlooked, endsIs, lastByte, capped, cappedAt}
 use Rattle.pattern.proofs.Tails.{here-any, last-misses}
 use Rattle.pattern.proofs.Places.{left-none, end-most}
 use Rattle.pattern.proofs.Spans.{span-none, folded-length, rest-next}
@@ -27,63 +27,92 @@ use Rattle.pattern.proofs.Standing.{Begun, begun-here}
 use Rattle.pattern.proofs.Costs.{due, due-some}
 use Rattle.pattern.proofs.Stepping.{baseOf, baseAt, Good, Outcome, dueAt, due-is, stepped}
 
--- ---- every step is counted, once
+-- ---- every step adds one to the count, and does not go by it
 
-module _ (t : At) where
-  resumed-count : (h : Known) → resumedAs h t .steps ≡ oneMore (t .steps)
+-- the same state with another count
+abbrev counting : At → ℕ → At
+counting t k = record { i = t .i; j = t .j; steps = k; run = t .run; star = t .star; going = t .going }
+
+module _ (t : At) (k : ℕ) where
+  resumed-count : (h : Known) → resumedAs h (counting t k) ≡ counting (resumedAs h t) (k + 1)
   unfolding resumedAs
   resumed-count Gone = refl
   resumed-count Pending = refl
   resumed-count Settled = refl
 
-  given-count : (k : Kind) (d : ℕ) → givenUpAs k t d .steps ≡ oneMore (t .steps)
+  given-count : (r : Kind) (d : ℕ) → givenUpAs r (counting t k) d ≡ counting (givenUpAs r t d) (k + 1)
   unfolding givenUpAs
   given-count Plain d = resumed-count (t .star .known)
   given-count Level d = go (eqb d slash) (eqb (t .i) (t .run .back))
     where
-      go : (u v : Bool) → cond u (cond v (resumedIs t) (retriedIs t)) (retriedIs t) .steps ≡ oneMore (t .steps)
+      go : (u v : Bool) → cond u (cond v (resumedIs (counting t k)) (retriedIs (counting t k))) (retriedIs (counting t k))
+          ≡ counting (cond u (cond v (resumedIs t) (retriedIs t)) (retriedIs t)) (k + 1)
       go true true = resumed-count (t .star .known)
       go true false = refl
       go false v = refl
   given-count Any d = refl
 
-  byte-count : (c d : ℕ) → byteIs c d t .steps ≡ oneMore (t .steps)
+  pending-count : (r : Kind) → pendingAs r (counting t k) ≡ pendingAs r t
+  unfolding pendingAs
+  pending-count Plain = refl
+  pending-count Level = refl
+  pending-count Any = refl
+
+  settled-count : (r : Kind) → settledAs r (counting t k) ≡ settledAs r t
+  unfolding settledAs
+  settled-count Plain = refl
+  settled-count Level = refl
+  settled-count Any = refl
+
+  level-count : levelIs (counting t k) ≡ counting (levelIs t) (k + 1)
+  level-count = rw (pending-count (t .run .kind))
+
+  slash-count : slashIs (counting t k) ≡ counting (slashIs t) (k + 1)
+  slash-count = rw (settled-count (t .run .kind))
+
+  abbrev onward : At → At
+  onward u = wentIs u (u .i + 1) (u .j + 1) (u .run) (u .star)
+
+  byte-count : (c d : ℕ) → byteIs c d (counting t k) ≡ counting (byteIs c d t) (k + 1)
   unfolding byteIs
   byte-count c d = go (eqb c d) (eqb c slash)
     where
-      go : (u v : Bool) → cond u (cond v (slashIs t) (wentIs t (t .i + 1) (t .j + 1) (t .run) (t .star))) (givenUpIs t d) .steps ≡ oneMore (t .steps)
-      go true true = refl
+      go : (u v : Bool) → cond u (cond v (slashIs (counting t k)) (onward (counting t k))) (givenUpIs (counting t k) d)
+          ≡ counting (cond u (cond v (slashIs t) (onward t)) (givenUpIs t d)) (k + 1)
+      go true true = slash-count
       go true false = refl
       go false v = given-count (t .run .kind) d
 
-  star-count : (last : Bool) → starIs last t .steps ≡ oneMore (t .steps)
+  star-count : (last : Bool) → starIs last (counting t k) ≡ counting (starIs last t) (k + 1)
   unfolding starIs
   star-count true = refl
   star-count false = refl
 
-  name-count : (c : ℕ) (m : List ℕ) → nameIs c m t .steps ≡ oneMore (t .steps)
+  name-count : (c : ℕ) (m : List ℕ) → nameIs c m (counting t k) ≡ counting (nameIs c m t) (k + 1)
   unfolding nameIs
   name-count c [] = refl
   name-count c (d ∷ m) = byte-count c d
 
-  looked-count : (ps m : List ℕ) → lookedAt ps m t .steps ≡ oneMore (t .steps)
+  looked-count : (ps m : List ℕ) → lookedAt ps m (counting t k) ≡ counting (lookedAt ps m t) (k + 1)
   unfolding lookedAt
   looked-count [] [] = refl
   looked-count [] (d ∷ m) = given-count (t .run .kind) d
   looked-count (c ∷ ps) m = go (eqb c 42) (eqb c 37)
     where
-      go : (u v : Bool) → cond u (starIs (isEmpty ps) t) (cond v (levelIs t) (nameIs c m t)) .steps ≡ oneMore (t .steps)
+      go : (u v : Bool) → cond u (starIs (isEmpty ps) (counting t k)) (cond v (levelIs (counting t k)) (nameIs c m (counting t k)))
+          ≡ counting (cond u (starIs (isEmpty ps) t) (cond v (levelIs t) (nameIs c m t))) (k + 1)
       go true v = star-count (isEmpty ps)
-      go false true = refl
+      go false true = level-count
       go false false = name-count c m
 
-  pub step-count : (fold : Bool) (pattern name : List ℕ) → stepIs fold pattern name t .steps ≡ oneMore (t .steps)
+  pub step-count : (fold : Bool) (pattern name : List ℕ) → stepIs fold pattern name (counting t k) ≡ counting (stepIs fold pattern name t) (k + 1)
   unfolding stepIs
   step-count fold pattern name = looked-count (folded fold (drop (t .i) pattern)) (drop (t .j) name)
 
-one-more : (k : ℕ) → oneMore k ≤ k + 1
-unfolding oneMore
-one-more k = omega arith
+-- the machine's count of one step more
+capped-more : (m k : ℕ) → m ≡ capped k → capped (m + 1) ≡ capped (k + 1)
+unfolding capped
+capped-more m k e = omega (arith, e)
 
 -- ---- between two steps
 
@@ -99,13 +128,16 @@ left-on g k e = rw e
 abbrev leftAt : Bool → List ℕ → List ℕ → At → ℕ
 leftAt fold pattern name t = leftAs (t .going) (dueAt fold pattern name t)
 
--- the match stands, the steps through the next and those left after it are not too many, and what is left gives what the whole does
+-- the match stands after `count` steps, those through the next and left after it are not too many, and what is left gives what the
+-- whole does
 pub record Turn (fold : Bool) (pattern name : List ℕ) (t : At) : Type 0 where
   pub good : Good fold pattern name t
-  pub most : stepIs fold pattern name t .steps + leftAt fold pattern name (stepIs fold pattern name t) ≤ mostSteps pattern name
+  pub count : ℕ
+  pub held : t .steps ≡ capped count
+  pub most : count + 1 + leftAt fold pattern name (stepIs fold pattern name t) ≤ mostSteps pattern name
   pub turns : ℕ
   pub enough : dueAt fold pattern name t ≤ turns
-  pub same : ranFrom turns fold pattern name t ≡ ranAll fold pattern name
+  pub same : ranFrom turns fold pattern name (counting t count) ≡ ranAll fold pattern name
 
 -- after a step: the match stands, or the answer is found
 abbrev pub Told : Bool → List ℕ → List ℕ → At → Going → Type 0
@@ -123,7 +155,8 @@ module _ (fold : Bool) (pattern name : List ℕ) where
   module _ (t : At) (b : Good fold pattern name t) where
     some-due : 1 ≤ dueAt fold pattern name t
     some-due =
-        rw (due-is fold pattern name t b) (due-some fold pattern name (baseAt t) (b .start) (t .i) (t .j) (b .stands .begun) (t .star .known) (t .star .place) (t .star .from))
+        rw (due-is fold pattern name t b) (due-some fold pattern name (baseAt t) (b .start) (t .i) (t .j) (b .stands .begun) (t .star .known)
+        (t .star .place) (t .star .from))
 
     outcome : (g : Going) → next t .going ≡ g → Outcome fold pattern name (dueAt fold pattern name t) (next t) g
     outcome g e = rw (← e) (stepped fold pattern name t b)
@@ -134,11 +167,13 @@ module _ (fold : Bool) (pattern name : List ℕ) where
     left-less Missed e = some-due
 
     -- the steps so far and those left are not too many
-    turn-from : (turns : ℕ) → t .steps + dueAt fold pattern name t ≤ mostSteps pattern name
-        → dueAt fold pattern name t ≤ turns → ranFrom turns fold pattern name t ≡ ranAll fold pattern name → Turn fold pattern name t
-    turn-from turns m l e = record {
+    turn-from : (count turns : ℕ) → t .steps ≡ capped count → count + dueAt fold pattern name t ≤ mostSteps pattern name
+        → dueAt fold pattern name t ≤ turns → ranFrom turns fold pattern name (counting t count) ≡ ranAll fold pattern name → Turn fold pattern name t
+    turn-from count turns h m l e = record {
       good = b;
-      most = omega (arith, m, left-less (next t .going) refl, step-count t fold pattern name, one-more (t .steps));
+      count = count;
+      held = h;
+      most = omega (arith, m, left-less (next t .going) refl);
       turns = turns;
       enough = l;
       same = e;
@@ -156,27 +191,51 @@ module _ (fold : Bool) (pattern name : List ℕ) where
         record { pattern = b .inside; name = b .within; run = backed (t .run .kind) (t .run .back) (n .good .start) (t .i) (t .j) b }
 
     -- one turn of the definition
-    ran-turn : (g : Going) → next t .going ≡ g → ranAll fold pattern name ≡ answered g (ranFrom (n .turns - 1) fold pattern name (next t)) (next t .steps)
+    ran-turn : (g : Going) → next t .going ≡ g
+        → ranAll fold pattern name ≡ answered g (ranFrom (n .turns - 1) fold pattern name (counting (next t) (n .count + 1))) (n .count + 1)
     unfolding ranFrom
     ran-turn g e =
         let w : suc (n .turns - 1) ≡ n .turns = omega (arith, n .enough, some-due t (n .good)) in
-        sym (n .same) ∙ ap (λ (m : ℕ). ranFrom m fold pattern name t) (sym w)
-        ∙ ap (λ (z : Going). answered z (ranFrom (n .turns - 1) fold pattern name (next t)) (next t .steps)) e
+        let after : At → Counted = λ u. answered (u .going) (ranFrom (n .turns - 1) fold pattern name u) (u .steps) in
+        sym (n .same) ∙ ap (λ (m : ℕ). ranFrom m fold pattern name (counting t (n .count))) (sym w)
+        ∙ ap after (step-count t (n .count) fold pattern name)
+        ∙ ap (λ (z : Going). answered z (ranFrom (n .turns - 1) fold pattern name (counting (next t) (n .count + 1))) (n .count + 1)) e
 
-    turn-goes : (g : Going) → next t .going ≡ g → Told fold pattern name (next t) g
+    -- the state as the machine holds it
+    machine-good : Good fold pattern name (next t) → Good fold pattern name (cappedAt (next t))
+    machine-good g = record { start = g .start; stands = g .stands }
+
+    machine-due : dueAt fold pattern name (cappedAt (next t)) ≡ dueAt fold pattern name (next t)
+    unfolding dueAt
+    machine-due = refl
+
+    machine-count : cappedAt (next t) .steps ≡ capped (n .count + 1)
+    machine-count =
+        let one : next t .steps ≡ t .steps + 1 = ap (λ (u : At). u .steps) (step-count t (t .steps) fold pattern name) in
+        rw one (capped-more (t .steps) (n .count) (n .held))
+
+    -- the answer, where the step is the last
+    ran-last : (b : Bool) (g : Going) → next t .going ≡ g → b ≡ wildMatch (folded fold pattern) name
+        → ranAll fold pattern name ≡ record { matched = b; steps = n .count + 1 }
+        → Ran fold pattern name (record { matched = b; steps = cappedAt (next t) .steps })
+    ran-last b g e r q = record { right = r; bounded = rw q (omega (arith, n .most)); stepped = rw (q, machine-count) }
+
+    turn-goes : (g : Going) → next t .going ≡ g → Told fold pattern name (cappedAt (next t)) g
     turn-goes On e =
         let o = outcome t (n .good) On e in
-        turn-from (next t) (o .good) (n .turns - 1) (omega (arith, n .most, left-on (next t .going) (dueAt fold pattern name (next t)) e)) (omega (arith, o .fewer, n .enough)) (sym (ran-turn On e))
-    turn-goes Matched e = record { right = sym (outcome t (n .good) Matched e); bounded = omega (arith, n .most); stepped = sym (ran-turn Matched e) }
-    turn-goes Missed e = record { right = sym (outcome t (n .good) Missed e); bounded = omega (arith, n .most); stepped = sym (ran-turn Missed e) }
+        let most = rw (left-on (next t .going) (dueAt fold pattern name (next t)) e) at (n .most) in
+        turn-from (cappedAt (next t)) (machine-good (o .good)) (n .count + 1) (n .turns - 1) machine-count (rw machine-due most)
+        (omega (arith, o .fewer, n .enough, machine-due)) (sym (ran-turn On e))
+    turn-goes Matched e = ran-last true Matched e (sym (outcome t (n .good) Matched e)) (ran-turn Matched e)
+    turn-goes Missed e = ran-last false Missed e (sym (outcome t (n .good) Missed e)) (ran-turn Missed e)
 
     -- what the step gave
-    module _ (r : At) (e : r ≡ next t) where
+    module _ (r : At) (e : r ≡ cappedAt (next t)) where
       pub turn-next : (g : Going) → r .going ≡ g → Told fold pattern name r g
       turn-next g f = rw e (turn-goes g (sym (ap (λ (v : At). v .going) e) ∙ f))
 
       pub turn-less : r .going ≡ On → dueAt fold pattern name r < dueAt fold pattern name t
-      turn-less f = rw e (left-less t (n .good) On (sym (ap (λ (v : At). v .going) e) ∙ f))
+      turn-less f = rw (e, machine-due) (left-less t (n .good) On (sym (ap (λ (v : At). v .going) e) ∙ f))
 
   -- ---- the first
 
@@ -192,7 +251,7 @@ module _ (fold : Bool) (pattern name : List ℕ) where
 
   module _ (k : ℕ) where
     abbrev first : At
-    first = firstIs k
+    first = frontAt 0 k
 
     first-good : Good fold pattern name first
     first-good = record {
@@ -243,20 +302,23 @@ module _ (fold : Bool) (pattern name : List ℕ) where
       let w : length pattern + 1 ≡ suc (length pattern) = omega arith in
       rw (w, suc-mul (length pattern) (length name + 1)) (omega arith)
 
-  turn-start : 0 < length pattern → 0 < length name → ranFrom (mostSteps pattern name) fold pattern name (firstIs (oneMore 0)) ≡ ranAll fold pattern name
-      → Turn fold pattern name (firstIs (oneMore 0))
-  unfolding stepIs
+  turn-start : 0 < length pattern → 0 < length name → ranFrom (mostSteps pattern name) fold pattern name (frontAt 0 1) ≡ ranAll fold pattern name
+      → Turn fold pattern name (frontAt 0 1)
+  unfolding stepIs capped
   turn-start h g e = record {
-    good = first-good (oneMore 0);
-    most = omega (arith, ends-room h g, second-most (oneMore 0) (folded fold pattern) name refl, step-count (firstIs (oneMore 0)) fold pattern name, one-more 0, one-more (oneMore 0));
+    good = first-good 1;
+    count = 1;
+    held = refl;
+    most = omega (arith, ends-room h g, second-most 1 (folded fold pattern) name refl);
     turns = mostSteps pattern name;
-    enough = first-due (oneMore 0);
+    enough = first-due 1;
     same = e;
   }
 
   -- where one is empty, there is no look at the ends
-  turn-blank : ranFrom (mostSteps pattern name) fold pattern name (firstIs 0) ≡ ranAll fold pattern name → Turn fold pattern name (firstIs 0)
-  turn-blank e = turn-from (firstIs 0) (first-good 0) (mostSteps pattern name) (omega (arith, first-due 0)) (first-due 0) e
+  turn-blank : ranFrom (mostSteps pattern name) fold pattern name (frontAt 0 0) ≡ ranAll fold pattern name → Turn fold pattern name (frontAt 0 0)
+  unfolding capped
+  turn-blank e = turn-from (frontAt 0 0) (first-good 0) 0 (mostSteps pattern name) refl (omega (arith, first-due 0)) (first-due 0) e
 
 -- ---- the look at the ends
 
@@ -265,30 +327,22 @@ unfolding lastByte folded
 folded-last fold c [] = refl
 folded-last fold c (b ∷ ps) = folded-last fold b ps
 
+-- after the first step, where there is one
 module _ (fold : Bool) where
-  ends-on : (pattern name : List ℕ) → endsIs fold pattern name .apart ≡ false → Turn fold pattern name (firstIs (endsIs fold pattern name .steps))
-  unfolding endsIs ranAll
-  ends-on [] name e = turn-blank fold [] name refl
-  ends-on (c ∷ ps) [] e = turn-blank fold (c ∷ ps) [] refl
-  ends-on (c ∷ ps) (d ∷ m) e = turn-start fold (c ∷ ps) (d ∷ m) (omega arith) (omega arith) (rw e)
-
-  ends-over : (pattern name : List ℕ) → endsIs fold pattern name .apart ≡ true → Ran fold pattern name (record { matched = false; steps = endsIs fold pattern name .steps })
-  unfolding endsIs ranAll folded
-  ends-over [] name e = absurd (false≢true e)
-  ends-over (c ∷ ps) [] e = absurd (false≢true e)
-  ends-over (c ∷ ps) (d ∷ m) e = record {
-    right = sym (last-misses (letterOf fold c) (folded fold ps) d m (rw (folded-last fold c ps) e));
-    bounded = omega (arith, one-more 0, ends-room fold (c ∷ ps) (d ∷ m) (omega arith) (omega arith));
-    stepped = rw e;
-  }
-
-  -- by what it gave
-  module _ (pattern name : List ℕ) (r : Ends) (e : r ≡ endsIs fold pattern name) where
-    pub turn-first : r .apart ≡ false → Turn fold pattern name (firstIs (r .steps))
-    turn-first f = rw e (ends-on pattern name (rw e at f))
-
-    pub turn-apart : r .apart ≡ true → Ran fold pattern name (record { matched = false; steps = r .steps })
-    turn-apart f = rw e (ends-over pattern name (rw e at f))
+  pub ends-told : (pattern name : List ℕ) → let f = frontIs (endsIs fold pattern name) in Told fold pattern name f (f .going)
+  unfolding endsIs ranAll capped folded
+  ends-told [] name = turn-blank fold [] name refl
+  ends-told (c ∷ ps) [] = turn-blank fold (c ∷ ps) [] refl
+  ends-told (c ∷ ps) (d ∷ m) = go (apart (letterOf fold (lastByte c ps)) (lastByte d m)) refl
+    where
+      go : (b : Bool) → apart (letterOf fold (lastByte c ps)) (lastByte d m) ≡ b
+          → let f = frontIs (ledIs unlooked 0 (cond b Next·Missed Next·Front)) in Told fold (c ∷ ps) (d ∷ m) f (f .going)
+      go false e = turn-start fold (c ∷ ps) (d ∷ m) (omega arith) (omega arith) (rw e)
+      go true e = record {
+        right = sym (last-misses (letterOf fold c) (folded fold ps) d m (rw (folded-last fold c ps) e));
+        bounded = rw e (omega (arith, ends-room fold (c ∷ ps) (d ∷ m) (omega arith) (omega arith)));
+        stepped = rw e;
+      }
 
 -- ---- the whole
 
@@ -296,6 +350,11 @@ module _ (pattern name : List ℕ) where
   pub counted-long : 255 < length name → countedIs pattern name ≡ record { matched = false; steps = 0 }
   unfolding countedIs
   counted-long h = rw (lt-leb (length name) 255 h)
+
+  -- the bound holds of the machine's count too
+  pub counted-most : (fold : Bool) (r : Counted) → Ran fold pattern name r → r .steps ≤ mostSteps pattern name
+  unfolding capped
+  counted-most fold r n = omega (arith, n .bounded, ap (λ (v : Counted). v .steps) (n .stepped))
 
   pub counted-short : (fold : Bool) (r : Counted) → length name ≤ 255 → fold ≡ same name inbox → Ran fold pattern name r → r ≡ countedIs pattern name
   unfolding countedIs

@@ -1,7 +1,7 @@
 -- The match of a name against a pattern, step by step: where it stands, and what one step makes of that.
 use mathlib.Core.Path.{_≡_}
 use mathlib.Core.List.{List, [], _∷_}
-use mathlib.Core.Bool.{Bool, true, false, cond, not, _&&_, _||_}
+use mathlib.Core.Bool.{Bool, true, false, cond, not, _&&_}
 use lib.Dec.{eqb, leb}
 use lib.ListN.{length, drop}
 use Prim.Native.Nat.{ℕ, zero, suc, _+_, _-_, _*_, _≤_, min}
@@ -17,8 +17,11 @@ use Rattle.pattern.specs.declared.steps.Known.the-variants.{Gone, Pendin
 use Rattle.pattern.specs.declared.steps.Star.{Star}
 use Rattle.pattern.specs.declared.steps.Going.{Going}
 use Rattle.pattern.specs.declared.steps.Going.the-variants.{On, Matched, Missed}
+use Rattle.pattern.specs.declared.front.Next.{Next}
+use Rattle.pattern.specs.declared.front.Next.the-variants.{Front as Next·Front, Level as Next·Level, Any as Next·Any, Matched as Next·Matched}
+use Rattle.pattern.specs.declared.front.Next.the-variants.{Missed as Next·Missed}
+use Rattle.pattern.specs.declared.front.Front.{Front}
 use Rattle.pattern.specs.declared.steps.At.{At}
-use Rattle.pattern.specs.declared.steps.Ends.{Ends}
 use Rattle.pattern.specs.declared.steps.Counted.{Counted}
 
 -- ---- what a step needs
@@ -40,23 +43,19 @@ pub record Inside (p n : ℕ) (t : At) : Type 0 where
 
 -- ---- the ways of a step
 
--- the count with one step more, up to the largest number of 64 bits
-unfoldable pub oneMore : ℕ → ℕ
-oneMore k = min (k + 1) 18446744073709551615
-
 abbrev pub plainRun : Run
 plainRun = record { kind = Plain; back = 0 }
 
 abbrev pub noStar : Star
 noStar = record { known = Gone; place = 0; from = 0 }
 
--- on to these places
+-- on to these places, with one step more
 abbrev pub wentIs : At → ℕ → ℕ → Run → Star → At
-wentIs t i j r s = record { i = i; j = j; steps = oneMore (t .steps); run = r; star = s; going = On }
+wentIs t i j r s = record { i = i; j = j; steps = t .steps + 1; run = r; star = s; going = On }
 
--- the last step
+-- to the end, with one step more
 abbrev pub endedIs : At → Going → At
-endedIs t g = record { i = t .i; j = t .j; steps = oneMore (t .steps); run = plainRun; star = noStar; going = g }
+endedIs t g = record { i = t .i; j = t .j; steps = t .steps + 1; run = plainRun; star = noStar; going = g }
 
 -- what is after a "*" begins at these places
 abbrev pub begunIs : At → ℕ → ℕ → At
@@ -136,11 +135,66 @@ lookedAt (c ∷ ps) m t = cond (eqb c star) (starIs (isEmpty ps) t) (cond (eqb c
 unfoldable pub stepIs : Bool → List ℕ → List ℕ → At → At
 stepIs fold pattern name t = lookedAt (folded fold (drop (t .i) pattern)) (drop (t .j) name) t
 
--- ---- all steps
+-- ---- steps with nothing to go back to
 
--- the first places, after so many steps
-abbrev pub firstIs : ℕ → At
-firstIs k = record { i = 0; j = 0; steps = k; run = plainRun; star = noStar; going = On }
+-- at the same place of both, after k steps
+abbrev pub frontAt : ℕ → ℕ → At
+frontAt i k = record { i = i; j = i; steps = k; run = plainRun; star = noStar; going = On }
+
+-- after a wildcard that stands at that place
+abbrev pub wildAt : Kind → ℕ → ℕ → At
+wildAt kind i k = record { i = i + 1; j = i; steps = k; run = record { kind = kind; back = i + 1 }; star = noStar; going = On }
+
+-- at the end
+abbrev pub overAt : Going → ℕ → ℕ → At
+overAt g i k = record { i = i; j = i; steps = k; run = plainRun; star = noStar; going = g }
+
+-- where the last step led, in full
+abbrev pub frontedAt : Next → ℕ → ℕ → At
+frontedAt Next·Front i k = frontAt i k
+frontedAt Next·Level i k = wildAt Level i k
+frontedAt Next·Any i k = wildAt Any i k
+frontedAt Next·Matched i k = overAt Matched i k
+frontedAt Next·Missed i k = overAt Missed i k
+
+abbrev pub frontIs : Front → At
+frontIs f = frontedAt (f .next) (f .i) (f .steps)
+
+-- the next step is none of these
+unfoldable pub frontEnds : Next → Bool
+frontEnds Next·Front = false
+frontEnds Next·Level = true
+frontEnds Next·Any = true
+frontEnds Next·Matched = true
+frontEnds Next·Missed = true
+
+-- there is no next step
+unfoldable pub isOver : Next → Bool
+isOver Next·Front = false
+isOver Next·Level = false
+isOver Next·Any = false
+isOver Next·Matched = true
+isOver Next·Missed = true
+
+unfoldable pub isMatch : Next → Bool
+isMatch Next·Front = false
+isMatch Next·Level = false
+isMatch Next·Any = false
+isMatch Next·Matched = true
+isMatch Next·Missed = false
+
+unfoldable pub wildcardOf : Next → Kind
+wildcardOf Next·Front = Plain
+wildcardOf Next·Level = Level
+wildcardOf Next·Any = Any
+wildcardOf Next·Matched = Plain
+wildcardOf Next·Missed = Plain
+
+-- on to this place, or to the end, with one step more
+abbrev pub ledIs : Front → ℕ → Next → Front
+ledIs f i x = record { i = i; steps = f .steps + 1; next = x }
+
+-- ---- all steps
 
 -- the last byte of c and those after it
 unfoldable pub lastByte : ℕ → List ℕ → ℕ
@@ -151,19 +205,19 @@ lastByte c (b ∷ l) = lastByte b l
 unfoldable pub apart : ℕ → ℕ → Bool
 apart c d = not (eqb c d) && not (isWildcard c)
 
--- the first step looks at the last places, where both have one
-unfoldable pub endsIs : Bool → List ℕ → List ℕ → Ends
-endsIs fold [] m = record { apart = false; steps = 0 }
-endsIs fold (c ∷ ps) [] = record { apart = false; steps = 0 }
-endsIs fold (c ∷ ps) (d ∷ m) = record { apart = apart (letterOf fold (lastByte c ps)) (lastByte d m); steps = oneMore 0 }
+-- before any step
+abbrev pub unlooked : Front
+unlooked = record { i = 0; steps = 0; next = Next·Front }
 
--- how many bytes at the front of the pattern stand for themselves and are the name's
-unfoldable pub frontIs : Bool → List ℕ → List ℕ → ℕ
-frontIs fold [] m = 0
-frontIs fold (c ∷ ps) [] = 0
-frontIs fold (c ∷ ps) (d ∷ m) =
-    let b = letterOf fold c in
-    cond (not (eqb b d) || isWildcard b) 0 (suc (frontIs fold ps m))
+-- a step that looks at the last places, where the pattern has the byte c and the name d
+abbrev pub endsLooked : ℕ → ℕ → Front → Front
+endsLooked c d f = ledIs f (f .i) (cond (apart c d) Next·Missed Next·Front)
+
+-- the first step, where both have a last place
+unfoldable pub endsIs : Bool → List ℕ → List ℕ → Front
+endsIs fold [] m = unlooked
+endsIs fold (c ∷ ps) [] = unlooked
+endsIs fold (c ∷ ps) (d ∷ m) = endsLooked (letterOf fold (lastByte c ps)) (lastByte d m) unlooked
 
 -- the answer where it is found, or else what `more` gives
 abbrev pub answered : Going → Counted → ℕ → Counted
@@ -182,26 +236,42 @@ ranFrom (suc m) fold pattern name t =
 abbrev pub mostSteps : List ℕ → List ℕ → ℕ
 mostSteps pattern name = (length pattern + 1) * (length name + 1)
 
--- all steps from the first; if the bytes at the last places are apart, it is the only one
+-- all steps; if the bytes at the last places are apart, the first is the only one
 unfoldable pub ranAll : Bool → List ℕ → List ℕ → Counted
 ranAll fold pattern name =
-    let e = endsIs fold pattern name in
-    let more = ranFrom (mostSteps pattern name) fold pattern name (firstIs (e .steps)) in
-    cond (e .apart) (record { matched = false; steps = e .steps }) more
+    let first = endsIs fold pattern name in
+    let more = ranFrom (mostSteps pattern name) fold pattern name (frontIs first) in
+    answered (frontIs first .going) more (first .steps)
 
--- the answer, the count, and how they came about
+-- ---- the count as a number of the machine
+
+-- up to the largest number of 64 bits, which only a pattern of over 2^55 bytes could come to
+unfoldable pub capped : ℕ → ℕ
+capped k = min k 18446744073709551615
+
+abbrev pub cappedAt : At → At
+cappedAt t = record { i = t .i; j = t .j; steps = capped (t .steps); run = t .run; star = t .star; going = t .going }
+
+abbrev pub cappedFront : Front → Front
+cappedFront f = record { i = f .i; steps = capped (f .steps); next = f .next }
+
+abbrev pub cappedCount : Counted → Counted
+cappedCount r = record { matched = r .matched; steps = capped (r .steps) }
+
+-- the answer, the bound, and how answer and count came about
 pub record Ran (fold : Bool) (pattern name : List ℕ) (r : Counted) : Type 0 where
   pub right : r .matched ≡ wildMatch (folded fold pattern) name
-  pub bounded : r .steps ≤ mostSteps pattern name
-  pub stepped : r ≡ ranAll fold pattern name
+  pub bounded : ranAll fold pattern name .steps ≤ mostSteps pattern name
+  pub stepped : r ≡ cappedCount (ranAll fold pattern name)
 
 -- all steps of a match; for a name of over 255 bytes there is none
 unfoldable pub countedIs : List ℕ → List ℕ → Counted
 countedIs pattern name =
     let all = ranAll (same name inbox) pattern name in
-    cond (leb (length name) 255) all (record { matched = false; steps = 0 })
+    cond (leb (length name) 255) (cappedCount all) (record { matched = false; steps = 0 })
 
 -- opens every definition of this file, for a proof by computation
 unfoldable pub openSteps : Unit {0}
-unfolding oneMore resumedAs givenUpAs starIs pendingAs fixedAs settledAs byteIs nameIs lookedAt stepIs lastByte apart endsIs frontIs ranFrom ranAll countedIs
+unfolding resumedAs givenUpAs starIs pendingAs fixedAs settledAs byteIs nameIs lookedAt stepIs frontEnds isOver isMatch wildcardOf lastByte apart
+    endsIs ranFrom ranAll capped countedIs
 openSteps = tt

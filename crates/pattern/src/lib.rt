@@ -1,14 +1,16 @@
 // Whether a mailbox name matches a canonical pattern, in at most (p + 1) times (n + 1) steps for a pattern of p bytes and a name of n.
 //
-// The steps are in `steps`.
+// The steps are in `front` and `steps`, what calls them in `run`.
+mod front;
+mod run;
 mod steps;
 
 use octets::least;
 use octets::raised_byte;
 use octets::same_bytes;
 use octets::wide;
+use run::run_steps;
 pub use steps::Counted;
-use steps::run_steps;
 ghost use mathlib.Core.Path.{_≡_};
 ghost use mathlib.Core.Bool.{_&&_, _||_, not};
 ghost use Prim.Native.Nat.{_+_, _*_, _≤_, _<_, min};

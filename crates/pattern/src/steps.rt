@@ -1,25 +1,19 @@
-// The match of a name against a pattern, step by step. A step looks at one place of the pattern and one of the name; it has no loop and
-// calls itself nowhere.
-//
-// The first step looks at the last place of both: a byte of the pattern that stands for itself must be the name's. The others begin at
-// place 0 of both. As long as the pattern's bytes stand for themselves and are the name's, each leads to the next place of both: these
-// steps are taken in a loop of their own, and counted together.
+// One step of the match of a name against a pattern, where there may be something to go back to. It looks at one place of the pattern and
+// one of the name, takes the state by value and adds one to its count; it has no loop and calls itself nowhere.
 //
 // A run of bytes that stand for themselves is compared from where a wildcard lets it begin. Where it differs it begins again, one byte
 // of the name later. A "%" that has met its "/" is given up for the "*" before it. A "*" is never given up: what a "*" before it could
-// take, it takes as well. So after the first step a place of the pattern meets the places of the name in ascending order, each at most
-// once; place 0 meets one only, which leaves room for the first step in the bound.
+// take, it takes as well. So a place of the pattern meets the places of the name in ascending order, each at most once; place 0 meets one
+// only, which leaves room in the bound for the look at the last places (`front`).
 //
 // What is decided by cases is an enum without data, with its numbers beside it, so that the state stays in registers.
 ghost use mathlib.Core.Path.{_≡_};
 ghost use Prim.Native.Nat.{_+_, _-_, _^_, _≤_, _<_};
 ghost use lib.ListN.{length};
-ghost use Rattle.pattern.specs.Steps.{oneMore, Inside, Backed, wentIs, endedIs, begunIs, resumedIs, retriedIs, givenUpIs, starIs};
-ghost use Rattle.pattern.specs.Steps.{levelIs, fixedIs, slashIs, byteIs, stepIs, endsIs, frontIs, Ran};
+ghost use Rattle.pattern.specs.Steps.{Inside, Backed, wentIs, endedIs, begunIs, resumedIs, retriedIs, givenUpIs, starIs, levelIs, fixedIs};
+ghost use Rattle.pattern.specs.Steps.{slashIs, byteIs, stepIs, capped, cappedAt};
 use crate::letter;
 use octets::SLASH;
-use octets::advance;
-use octets::least;
 
 // What the bytes that are compared began after: nothing that moves; a "%"; a "*".
 pub(crate) enum Kind {
@@ -64,12 +58,6 @@ pub(crate) struct At {
     pub going: Going,
 }
 
-// The last places of both: whether the pattern has a byte there that stands for itself and is not the name's, and the steps so far.
-pub(crate) struct Ends {
-    pub apart: bool,
-    pub steps: usize,
-}
-
 // Whether the name matches, and the steps that it took.
 pub struct Counted {
     pub matched: bool,
@@ -91,95 +79,10 @@ impl Star {
     };
 }
 
-impl Ends {
-    pub(crate) const NONE: Ends = Ends {
-        apart: false,
-        steps: 0,
-    };
-}
-
-// The steps one after the other, up to the last. The state after the front is written out here: what a function gives would be copied
-// through memory.
-pub(crate) fn run_steps(pattern: &[u8], name: &[u8], fold: bool) -> Counted
-    ensures { λ r. ⌜ Ran fold (now (pattern .entry)) (now (name .entry)) r ⌝ }
-{
-    let ends = look_at_ends(pattern, name, fold);
-    if ends.apart {
-        return Counted {
-            matched: false,
-            steps: ends.steps,
-        };
-    }
-    let front = same_front(pattern, name, fold);
-    let mut at = At {
-        i: front,
-        j: front,
-        steps: advance(ends.steps, front),
-        run: Run::PLAIN,
-        star: Star::GONE,
-        going: Going::On,
-    };
-    loop {
-        at = step(pattern, name, fold, at);
-        let going = at.going;
-        match going {
-            Going::On => {}
-            Going::Matched => {
-                return Counted {
-                    matched: true,
-                    steps: at.steps,
-                };
-            }
-            Going::Missed => {
-                return Counted {
-                    matched: false,
-                    steps: at.steps,
-                };
-            }
-        }
-    }
-}
-
-// The first step, at the last places. Where one of both is empty there is no such step.
-fn look_at_ends(pattern: &[u8], name: &[u8], fold: bool) -> Ends
-    ensures { λ r. ⌜ r ≡ endsIs fold (now (pattern .entry)) (now (name .entry)) ⌝ }
-{
-    let p = pattern.len();
-    if p == 0 {
-        return Ends::NONE;
-    }
-    let n = name.len();
-    if n == 0 {
-        return Ends::NONE;
-    }
-    let c = letter(pattern[p - 1], fold);
-    let wildcard = (c == b'*') | (c == b'%');
-    Ends {
-        apart: (c != name[n - 1]) & !wildcard,
-        steps: one_more(0),
-    }
-}
-
-// How many bytes at the front of the pattern stand for themselves and are the name's.
-fn same_front(pattern: &[u8], name: &[u8], fold: bool) -> usize
-    ensures { λ r. ⌜ r ≡ frontIs fold (now (pattern .entry)) (now (name .entry)) ⌝ }
-{
-    let n = least(pattern.len(), name.len());
-    let mut i = 0;
-    while i < n {
-        let c = letter(pattern[i], fold);
-        if (c != name[i]) | ((c == b'*') | (c == b'%')) {
-            return i;
-        }
-        i += 1;
-    }
-    i
-}
-
 // One step.
-fn step(pattern: &[u8], name: &[u8], fold: bool, at: At) -> At
+pub(crate) fn step(pattern: &[u8], name: &[u8], fold: bool, at: At) -> At
     requires { ⌜ Inside (length (now pattern)) (length (now name)) at ⌝ }
-    ensures { λ r. ⌜ r ≡ stepIs fold (now (pattern .entry)) (now (name .entry)) at ⌝ }
+    ensures { λ r. ⌜ r ≡ cappedAt (stepIs fold (now (pattern .entry)) (now (name .entry)) at) ⌝ }
 {
     let i = at.i;
     let j = at.j;
@@ -205,8 +108,8 @@ fn step(pattern: &[u8], name: &[u8], fold: bool, at: At) -> At
 }
 
 // The count with one step more. It stays at the largest number, which only a pattern of over 2^55 bytes could come to.
-fn one_more(steps: usize) -> usize
-    ensures { λ r. ⌜ r ≡ oneMore steps ⌝ }
+pub(crate) fn one_more(steps: usize) -> usize
+    ensures { λ r. ⌜ r ≡ capped (steps + 1) ⌝ }
 {
     if steps == usize::MAX {
         return steps;
@@ -217,7 +120,7 @@ fn one_more(steps: usize) -> usize
 impl At {
     // A step that leads to these places, and one that is the last.
     fn goes(self, i: usize, j: usize, run: Run, star: Star) -> At
-        ensures { λ r. ⌜ r ≡ wentIs self i j run star ⌝ }
+        ensures { λ r. ⌜ r ≡ cappedAt (wentIs self i j run star) ⌝ }
     {
         At {
             i,
@@ -230,7 +133,7 @@ impl At {
     }
 
     fn ends(self, going: Going) -> At
-        ensures { λ r. ⌜ r ≡ endedIs self going ⌝ }
+        ensures { λ r. ⌜ r ≡ cappedAt (endedIs self going) ⌝ }
     {
         At {
             i: self.i,
@@ -242,9 +145,19 @@ impl At {
         }
     }
 
+    // The answer, with the steps so far.
+    pub(crate) fn answer(self, matched: bool) -> Counted
+        ensures { λ r. ⌜ r ≡ record { matched = matched; steps = self .steps } ⌝ }
+    {
+        Counted {
+            matched,
+            steps: self.steps,
+        }
+    }
+
     // What is after a "*" begins at these places.
     fn begins(self, i: usize, j: usize) -> At
-        ensures { λ r. ⌜ r ≡ begunIs self i j ⌝ }
+        ensures { λ r. ⌜ r ≡ cappedAt (begunIs self i j) ⌝ }
     {
         self.goes(
             i,
@@ -260,7 +173,7 @@ impl At {
     // At "*": what is after it begins here, or anywhere later. A last one takes all that is left.
     fn star_step(self, last: bool) -> At
         requires { ⌜ self .i < 2 ^ 64 - 1 ⌝ }
-        ensures { λ r. ⌜ r ≡ starIs last self ⌝ }
+        ensures { λ r. ⌜ r ≡ cappedAt (starIs last self) ⌝ }
     {
         if last {
             return self.ends(Going::Matched);
@@ -272,7 +185,7 @@ impl At {
     // the one before that.
     fn level_step(self) -> At
         requires { ⌜ self .i < 2 ^ 64 - 1 ⌝ }
-        ensures { λ r. ⌜ r ≡ levelIs self ⌝ }
+        ensures { λ r. ⌜ r ≡ cappedAt (levelIs self) ⌝ }
     {
         let i = self.i + 1;
         let run = self.run;
@@ -303,7 +216,7 @@ impl At {
         requires { ⌜ self .i < 2 ^ 64 - 1 ⌝ }
         requires { ⌜ self .j < 2 ^ 64 - 1 ⌝ }
         requires { ⌜ Backed self ⌝ }
-        ensures { λ r. ⌜ r ≡ byteIs c d self ⌝ }
+        ensures { λ r. ⌜ r ≡ cappedAt (byteIs c d self) ⌝ }
     {
         if c != d {
             return self.give_up(d);
@@ -320,7 +233,7 @@ impl At {
     fn slash_step(self) -> At
         requires { ⌜ self .i < 2 ^ 64 - 1 ⌝ }
         requires { ⌜ self .j < 2 ^ 64 - 1 ⌝ }
-        ensures { λ r. ⌜ r ≡ slashIs self ⌝ }
+        ensures { λ r. ⌜ r ≡ cappedAt (slashIs self) ⌝ }
     {
         let i = self.i + 1;
         let j = self.j + 1;
@@ -347,7 +260,7 @@ impl At {
     fn give_up(self, d: u8) -> At
         requires { ⌜ self .j < 2 ^ 64 - 1 ⌝ }
         requires { ⌜ Backed self ⌝ }
-        ensures { λ r. ⌜ r ≡ givenUpIs self d ⌝ }
+        ensures { λ r. ⌜ r ≡ cappedAt (givenUpIs self d) ⌝ }
     {
         let run = self.run;
         let kind = run.kind;
@@ -371,7 +284,7 @@ impl At {
         requires { ⌜ self .j < 2 ^ 64 - 1 ⌝ }
         requires { ⌜ self .run .back ≤ self .i ⌝ }
         requires { ⌜ self .i ≤ self .j + self .run .back ⌝ }
-        ensures { λ r. ⌜ r ≡ retriedIs self ⌝ }
+        ensures { λ r. ⌜ r ≡ cappedAt (retriedIs self) ⌝ }
     {
         let run = self.run;
         let star = self.star;
@@ -381,7 +294,7 @@ impl At {
     // No match in this level: the "*" before it goes on.
     fn resume(self) -> At
         requires { ⌜ self .j < 2 ^ 64 - 1 ⌝ }
-        ensures { λ r. ⌜ r ≡ resumedIs self ⌝ }
+        ensures { λ r. ⌜ r ≡ cappedAt (resumedIs self) ⌝ }
     {
         let star = self.star;
         let known = star.known;

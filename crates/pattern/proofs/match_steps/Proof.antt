@@ -1,7 +1,7 @@
 -- `match_steps` meets its contract: a name in reach is matched as `matches` does, step by step. Rests on Running.
 use Rattle.listing_rules.proofs.Prelude.{_∙_, sym, arith, needs}
 use Rattle.pattern.proofs.Folded.{long-name, short-name, matches-folded}
-use Rattle.pattern.proofs.Running.{counted-long, counted-short}
+use Rattle.pattern.proofs.Running.{counted-long, counted-most, counted-short}
 use Rattle.pattern.proofs.match_steps.Statement.{statement}
 use Rattle.pattern.proofs.match_steps.Tie as tie
 
@@ -15,7 +15,7 @@ returns-2 c =
     let short = c .before .before .if1 .left in
     let folds = c .before .is-inbox .ensures in (
       short-name (args .name .now) _ _ short (ran .right ∙ matches-folded _ _ _ folds),
-      (ran .bounded, counted-short _ _ _ _ short folds ran),
+      (counted-most _ _ _ _ ran, counted-short _ _ _ _ short folds ran),
     )
 
 pub match-steps-spec : {M : Type 1} → statement M

@@ -47,8 +47,25 @@ pub fn hostile(tally: &mut Tally) {
 fn match_both(tally: &mut Tally, pattern: &[u8], name: &[u8]) {
     let call = || format!("matches: pattern {}, name {}", shown(pattern), shown(name));
     tally.same(call, MATCHES.map(|matches| matches(pattern, name)));
-    let (most, steps) = (most_steps(pattern, name), luspemaro::match_steps(pattern, name));
-    tally.same_of(call, ["steps", "at most"], [steps, steps.min(most)]);
+    let steps = luspemaro::match_steps(pattern, name);
+    let most = most_steps(pattern, name);
+    tally.same_of(
+        call,
+        ["steps", "from the least to the most"],
+        [steps, steps.clamp(least_steps(pattern, name), most)],
+    );
+}
+
+/// The look that decides is a step. A pattern without a wildcard that is the name takes one for the last places, one for each byte
+/// and one for the end.
+fn least_steps(pattern: &[u8], name: &[u8]) -> usize {
+    let plain = !pattern.iter().any(|byte| b"*%".contains(byte));
+    match name.len() {
+        0 => 1,
+        1..=MAX_NAME if plain && pattern == name => name.len() + 2,
+        1..=MAX_NAME => 1,
+        _ => 0,
+    }
 }
 
 /// "at most (p + 1) times (n + 1) steps"; no step for a name that is not looked at.

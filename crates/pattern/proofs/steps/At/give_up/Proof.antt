@@ -1,6 +1,6 @@
 -- `At::give_up` is the table of `givenUpAs`, row by row. Rests on OneStep.
-use Rattle.listing_rules.proofs.Prelude.{_∙_, sym, needs}
-use Rattle.pattern.proofs.OneStep.{backed-level, backed-any, given-plain, given-any, given-byte, given-run, given-level}
+use Rattle.listing_rules.proofs.Prelude.{needs}
+use Rattle.pattern.proofs.OneStep.{as-capped, backed-level, backed-any, given-plain, given-any, given-byte, given-run, given-level}
 use Rattle.pattern.proofs.steps.At.give_up.Statement.{statement}
 use Rattle.pattern.proofs.steps.At.give_up.Tie as tie
 
@@ -21,26 +21,26 @@ retry-requires-3 c κs =
     (start .pre .0, backed-any _ _ _ _ (c .enum-told3 .given .1) (start .pre .1))
 
 returns : tie.Need-returns
-returns c = c .retry .ensures ∙ sym (given-byte _ _ (c .before .before .enum-told2 .given .1) (c .before .if1 .taken))
+returns c = as-capped (c .retry .ensures) (given-byte _ _ (c .before .before .enum-told2 .given .1) (c .before .if1 .taken))
 
 returns-2 : tie.Need-returns-2
 returns-2 c =
     let at-if1 = c .before .before .before .before in
-    c .retry2 .ensures ∙ sym (given-run _ _ (at-if1 .before .enum-told2 .given .1) (at-if1 .if1 .left) (c .before .if2 .taken))
+    as-capped (c .retry2 .ensures) (given-run _ _ (at-if1 .before .enum-told2 .given .1) (at-if1 .if1 .left) (c .before .if2 .taken))
 
 returns-3 : tie.Need-returns-3
 returns-3 c =
-    let start = c .before .before .before .before in c .resume .ensures ∙ sym (given-plain _ _ (c .before .enum-told .given .1))
+    let start = c .before .before .before .before in as-capped (c .resume .ensures) (given-plain _ _ (c .before .enum-told .given .1))
 
 returns-4 : tie.Need-returns-4
 returns-4 c =
     let at-if1 = c .before .before .before .before in
-    c .resume2 .ensures ∙ sym (given-level _ _ (at-if1 .before .enum-told2 .given .1)
-    (at-if1 .if1 .left) (c .before .if2 .left))
+    as-capped (c .resume2 .ensures) ((given-level _ _ (at-if1 .before .enum-told2 .given .1)
+    (at-if1 .if1 .left) (c .before .if2 .left)))
 
 returns-5 : tie.Need-returns-5
 returns-5 c =
-    let start = c .before .before .before .before in c .retry3 .ensures ∙ sym (given-any _ _ (c .before .enum-told3 .given .1))
+    let start = c .before .before .before .before in as-capped (c .retry3 .ensures) (given-any _ _ (c .before .enum-told3 .given .1))
 
 pub give-up-spec : {M : Type 1} → statement M
 give-up-spec =

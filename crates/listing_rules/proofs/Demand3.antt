@@ -5,14 +5,14 @@ use Rattle.listing_rules.specs.Bytes.{slash, oneOf}
 use Rattle.listing_rules.specs.Lists.{anyOf}
 use Rattle.listing_rules.specs.Table.{Table, rows, passes}
 use Rattle.listing_rules.specs.Walk.{lawfulByte, walk, walkRefused, packed}
-use Rattle.listing_rules.specs.Demand3.{Demand3, declaredWalk, meetingNames, meetingAncestors, walkAnswer, scratchTooSmall, foundTooSmall}
-use Rattle.listing_rules.specs.Demand3.{pendingTooSmall, tooSmall}
+use Rattle.listing_rules.specs.Demand3.{Demand3, meetingNames, meetingAncestors, walkAnswer, scratchTooSmall, foundTooSmall, pendingTooSmall}
+use Rattle.listing_rules.specs.Demand3.{tooSmall}
 use Rattle.listing_rules.proofs.Bools.{or-cases, or-none-l, or-none-r}
 use Rattle.listing_rules.proofs.ListLaws.{some-mem, none-mem}
 use Rattle.listing_rules.proofs.Levels.{Name}
 use Rattle.listing_rules.proofs.Outcome.{Short, scratch-short, found-short, pending-short}
 use Rattle.listing_rules.proofs.WalkSets.{Walks}
-use Rattle.listing_rules.proofs.WalkWhole.{Room, demand-3-whole}
+use Rattle.listing_rules.proofs.WalkWhole.{Room, declared, demand-3-whole}
 
 short-number : (k : ℕ) → Short k → oneOf (9 ∷ 10 ∷ 11 ∷ []) k ≡ true
 unfolding oneOf
@@ -42,7 +42,9 @@ module _ (t : Table) (o scratch found pending : ℕ) (wk : Walks t o) where
 
   room-fits : Room t o wk scratch found pending → tooSmall (rows t) o scratch found pending ≡ true → ⊥
   unfolding tooSmall scratchTooSmall foundTooSmall pendingTooSmall
-  room-fits R e = ⊎-elim buffers (λ g. omega (arith, ltb-true pending pendingSize g, R .pending-fits)) (or-cases ((firstShort || nextShort) || foundShort) (ltb pending pendingSize) e)
+  room-fits R e =
+      ⊎-elim buffers (λ g. omega (arith, ltb-true pending pendingSize g, R .pending-fits))
+      (or-cases ((firstShort || nextShort) || foundShort) (ltb pending pendingSize) e)
     where
       next : nextShort ≡ true → ⊥
       next g =
@@ -68,15 +70,17 @@ module _ (t : Table) (o scratch found pending : ℕ) (wk : Walks t o) where
         pending-fits = ltb-false pending pendingSize (or-none-r ((firstShort || nextShort) || foundShort) (ltb pending pendingSize) e);
       }
 
-pub demand-3-holds : (t : Table) (o scratch found pending : ℕ) → passes t ≡ true → lawfulByte o ≡ true → Demand3 t o scratch found pending (walk t o scratch found pending)
-unfolding Demand3 declaredWalk
-demand-3-holds t o scratch found pending ok lw = pick (tooSmall (rows t) o scratch found pending) refl (demand-3-whole t o (ok, lw) scratch found pending)
+pub demand-3-holds : (t : Table) (o scratch found pending : ℕ) → passes t ≡ true → lawfulByte o ≡ true →
+    Demand3 t o scratch found pending (walk t o scratch found pending)
+unfolding Demand3
+demand-3-holds t o scratch found pending ok lw =
+    pick (tooSmall (rows t) o scratch found pending) refl (demand-3-whole t o (ok, lw) scratch found pending)
   where
     R : Type 0
     R = Room t o (ok, lw) scratch found pending
 
     pick : (b : Bool) → tooSmall (rows t) o scratch found pending ≡ b
-        → (R × (walk t o scratch found pending ≡ declaredWalk t o))
+        → (R × (walk t o scratch found pending ≡ declared t o (ok, lw) scratch found pending))
         ⊎ ((R → ⊥) × ((k : ℕ) × Short k × (walk t o scratch found pending ≡ walkRefused k)))
         → Demand3 t o scratch found pending (walk t o scratch found pending)
     pick true e (inl w) = absurd (room-fits t o scratch found pending (ok, lw) (w .0) e)

@@ -12,7 +12,7 @@ use Rattle.listing_rules.specs.Readers.{isReader, sees, visible, seen, r
 use Rattle.listing_rules.specs.Subscriptions.{storeTable, storeSeen, held, storeRows, spelledAs, spelled, rowsBefore, belowNoInferiors}
 use Rattle.listing_rules.specs.Subscriptions.{uses as usesByte, freeFrom, freeFront, lowestRun, freeRun, overwritten, withSubscribed}
 use Rattle.listing_rules.specs.Subscriptions.{withoutSubscribed, zeroRecord, nth, flagged, inserted, removed, insertion, subscribing}
-use Rattle.listing_rules.specs.Subscriptions.{unsubscribing, edited, storeAfter, isIn, subscribedNames, setEdited, setAfter, editedAll, setAll}
+use Rattle.listing_rules.specs.Subscriptions.{unsubscribing, edited, isIn, subscribedNames, setEdited}
 use Rattle.listing_rules.specs.Namespaces.{entryAt, entriesAfter, entries, entriesFill, lawfulEntry, classesRise, ofClass, namespacesPass}
 use Rattle.listing_rules.specs.Tokens.{got, _>>=_, at, after, withFirst, atomByte, tagByte, astringByte, patternByte, run, unlessEmpty, run₁}
 use Rattle.listing_rules.specs.Tokens.{atom, unquoted, lineByte, quotedText, digitByte, decimal, number, literal, stringOr, astring, pattern}
@@ -46,7 +46,7 @@ use Rattle.listing_rules.specs.Walk.{wantsRemote, wantsSpecial, dropsSub
 use Rattle.listing_rules.specs.Walk.{useAttr, isFind, withName, fits, takenIn, takenAll, replied, asked, walkFrom, walkAll, ended, walk}
 use Rattle.listing_rules.specs.Walk.{walkNumber, walkCount, foundLength, zeroBehind, foundAfter, pendingAfter, scratchAfter, collected, walkBy}
 use Rattle.listing_rules.specs.Walk.{collectedBy}
-use Rattle.listing_rules.specs.Demand3.{walkOptions, meetingNames, meetingAncestors, declaredWalk, walkAnswer, scratchTooSmall, foundTooSmall}
+use Rattle.listing_rules.specs.Demand3.{walkOptions, meetingNames, meetingAncestors, walkAnswer, scratchTooSmall, foundTooSmall}
 use Rattle.listing_rules.specs.Demand3.{pendingTooSmall, tooSmall, Demand3}
 use Rattle.listing_rules.specs.Sending.{goingOn, referencesFrom, references, commandsSent, walkNumbers, allowedWalk}
 use Rattle.listing_rules.specs.Evidence.{listCommand, listLines, lineName, linesFor, listedIn, childInfoIn, meetingBelow, takesAway}
@@ -57,10 +57,10 @@ use Rattle.listing_rules.specs.Frames.{digit, bytesOf, commandFrame, wal
 use Rattle.listing_rules.specs.Frames.{replyLine, walkLine, answering, addRow, addEntry, framed, step, start, fed, behind, fedAll, atEnd}
 use Rattle.listing_rules.specs.Frames.{programOutput, recordsFrom, programStore, programSummed, keptSeen, keptSummed, addRowTo, commandOver}
 use Rattle.listing_rules.specs.Frames.{accepted, commandStep}
-use Rattle.listing_rules.specs.Replay.{askedIn, numberIn, loggedOf, logLimit, readLogged, loggedLine, loggedFrames, reporting, firstOf, sameReply}
-use Rattle.listing_rules.specs.Replay.{noted, rerun, replayFrom, replay, replayNumber, replayFrame, replayStart, waiting, stoppedAt, frameEnded}
-use Rattle.listing_rules.specs.Replay.{withCharacter, replayOn, replayByte, replayAll, replayPieces, dueAtEnd, verdictAtEnd, replayEnd, isCommand}
-use Rattle.listing_rules.specs.Replay.{logging, sessionLog}
+use Rattle.listing_rules.specs.Replay.{askedIn, numberIn, loggedOf, logLimit, readLogged, loggedLine, loggedFrames, reporting, firstOf}
+use Rattle.listing_rules.specs.Replay.{sameReply, noted, rerun, replayFrom, replay, replayNumber, replayFrame, replayStart, waiting, stoppedAt}
+use Rattle.listing_rules.specs.Replay.{frameEnded, withCharacter, replayOn, replayByte, replayAll, replayPieces, dueAtEnd, verdictAtEnd}
+use Rattle.listing_rules.specs.Replay.{replayEnd, isCommand, logging, sessionLog}
 
 unfoldable pub openBytes : Unit {0}
 unfolding text slash quote backslash crlf bit within oneOf all isEmpty same raise raised spells
@@ -96,8 +96,8 @@ openReaders = tt
 
 unfoldable pub openSubscriptions : Unit {0}
 unfolding storeTable storeSeen held storeRows spelledAs spelled rowsBefore belowNoInferiors usesByte freeFrom freeFront lowestRun freeRun overwritten
-    withSubscribed withoutSubscribed zeroRecord nth flagged inserted removed insertion subscribing unsubscribing edited storeAfter isIn
-    subscribedNames setEdited setAfter editedAll setAll
+    withSubscribed withoutSubscribed zeroRecord nth flagged inserted removed insertion subscribing unsubscribing edited isIn
+    subscribedNames setEdited
 openSubscriptions = tt
 
 unfoldable pub openNamespaces : Unit {0}
@@ -165,7 +165,7 @@ unfolding wantsRemote wantsSpecial dropsSubscribed lawfulByte when commandLine l
 openWalk = tt
 
 unfoldable pub openDemand3 : Unit {0}
-unfolding walkOptions meetingNames meetingAncestors declaredWalk walkAnswer scratchTooSmall foundTooSmall pendingTooSmall tooSmall Demand3
+unfolding walkOptions meetingNames meetingAncestors walkAnswer scratchTooSmall foundTooSmall pendingTooSmall tooSmall Demand3
 openDemand3 = tt
 
 unfoldable pub openSending : Unit {0}

@@ -54,7 +54,9 @@ pub mod SeenAlike
 pub mod SpareLaws
 pub mod UsedBytes
 pub mod CompactionLaws
+pub mod EditsAlike
 pub mod CompactionCommands
+pub mod RowsDecide
 pub mod EditReaders
 pub mod CompactionSpare
 pub mod WalkReads

@@ -1,6 +1,6 @@
 -- W6: 15 exactly where a row to be put in has no room; an accepted edit of a store that passes keeps its sizes and check 1, leaves the other rows
--- as they are, leaves rows that the rows before it decide, and does to the subscribed names what it does to a plain set; so does a series. Rests on
--- EditPasses and EditFlags.
+-- as they are, leaves rows that the rows before it decide, and does to the subscribed names what it does to a plain set. Rests on EditPasses and
+-- EditFlags.
 use Rattle.listing_rules.proofs.Prelude.{_∙_, _≡_, ap, refl, subst, sym, Bool, _&&_, _||_, and-false, cond, false, false≢true, not, or-false}
 use Rattle.listing_rules.proofs.Prelude.{true, Option, none, some, List, [], _∷_, _<_, _≤_, ℕ, eqb, ltb, length, le-ltb, lt-ltb, ltb-true}
 use Rattle.listing_rules.proofs.Prelude.{not-true}
@@ -13,8 +13,7 @@ use Rattle.listing_rules.specs.Records.{Record, rowOf}
 use Rattle.listing_rules.specs.Command.{Edit, subscribe, unsubscribe}
 use Rattle.listing_rules.specs.Subscriptions.{Store, storeTable, held, storeRows, spelled, rowsBefore, belowNoInferiors, freeRun}
 use Rattle.listing_rules.specs.Subscriptions.{withSubscribed, withoutSubscribed, nth, flagged, inserted, removed, Edited, denied, stored}
-use Rattle.listing_rules.specs.Subscriptions.{insertion, subscribing, unsubscribing, edited, storeAfter, isIn, subscribedNames, setEdited}
-use Rattle.listing_rules.specs.Subscriptions.{setAfter, editedAll, setAll}
+use Rattle.listing_rules.specs.Subscriptions.{insertion, subscribing, unsubscribing, edited, isIn, subscribedNames, setEdited}
 use Rattle.listing_rules.proofs.Bools.{and-l, and-r}
 use Rattle.listing_rules.proofs.Keys.{openBytes, openFlags}
 use Rattle.listing_rules.proofs.ListLaws.{every-mem}
@@ -67,9 +66,13 @@ isStored (stored t) = true
 pub refused-not : (k : ℕ) (t : Store) → denied k ≡ stored t → ⊥
 refused-not k t e = false≢true (ap isStored e)
 
+-- the store that is left, or else s
+abbrev storeOr : Store → Edited → Store
+storeOr s (denied k) = s
+storeOr s (stored t) = t
+
 pub stored-is : (s t : Store) → stored s ≡ stored t → s ≡ t
-unfolding storeAfter
-stored-is s t e = ap (storeAfter s) e
+stored-is s t e = ap (λ (x : Edited). storeOr s x) e
 
 module _ (s t : Store) (n : List ℕ) (sp : StoreParts s) where
   its-record : hasRow (storeRows s) n ≡ true → Found (s .area) (held s) n
@@ -83,18 +86,23 @@ module _ (s t : Store) (n : List ℕ) (sp : StoreParts s) where
   -- the flags at the place of the name
   its-flags : (w : Found (s .area) (held s) n) → nth (s .records) (rowsBefore (storeRows s) n) .flags ≡ w .it .flags
   unfolding storeRows
-  its-flags w = ap (λ (k : ℕ). nth (s .records) k .flags) (w .place) ∙ ap (λ (r : Record). r .flags) (parts-nth s (w .front) (w .it) (w .back) _ (own-parts s n sp w))
+  its-flags w =
+      ap (λ (k : ℕ). nth (s .records) k .flags) (w .place) ∙ ap (λ (r : Record). r .flags)
+      (parts-nth s (w .front) (w .it) (w .back) _ (own-parts s n sp w))
 
   its-lawful : (w : Found (s .area) (held s) n) → lawfulFlags (w .it .flags) ≡ true
   unfolding rowOf
-  its-lawful w = every-mem (λ (r : Row). lawfulFlags (r .flags)) (storeRows s) (sp .parts .lawful-flags) (rowOf (s .area) (w .it)) (own-member s n sp w)
+  its-lawful w =
+      every-mem (λ (r : Row). lawfulFlags (r .flags)) (storeRows s) (sp .parts .lawful-flags) (rowOf (s .area) (w .it)) (own-member s n sp w)
 
   own-flags : (w : Found (s .area) (held s) n) → w .it .flags ≡ flagsOf (storeRows s) n
   unfolding rowOf
-  own-flags w = sym (row-flags (storeRows s) (sp .parts .ascend) (rowOf (s .area) (w .it)) (own-member s n sp w)) ∙ ap (flagsOf (storeRows s)) (w .named)
+  own-flags w =
+      sym (row-flags (storeRows s) (sp .parts .ascend) (rowOf (s .area) (w .it)) (own-member s n sp w)) ∙ ap (flagsOf (storeRows s)) (w .named)
 
   -- an insertion that is accepted
-  insertion-done : hasRow (storeRows s) n ≡ false → lawfulName n ≡ true → belowNoInferiors (storeRows s) n ≡ false → insertion s n ≡ stored t → Done s t n (rowSet (storeRows s) n)
+  insertion-done : hasRow (storeRows s) n ≡ false → lawfulName n ≡ true → belowNoInferiors (storeRows s) n ≡ false → insertion s n ≡ stored t →
+      Done s t n (rowSet (storeRows s) n)
   unfolding insertion storeRows
   insertion-done h l b e = run (freeRun s (length n)) refl e
     where
@@ -106,7 +114,8 @@ module _ (s t : Store) (n : List ℕ) (sp : StoreParts s) where
       go start f true c k =
           let w = its-gap h in
           subst (Done s t n) fresh
-          (subst (λ (x : Store). Done s x n (record { flags = 0x0002; name = n } ∷ [])) (ap (λ (j : ℕ). inserted s j start n) (sym (w .place)) ∙ stored-is _ t k)
+          (subst (λ (x : Store). Done s x n (record { flags = 0x0002; name = n } ∷ []))
+          (ap (λ (j : ℕ). inserted s j start n) (sym (w .place)) ∙ stored-is _ t k)
           (inserted-done s n sp w start l b (run-free s (length n) start f)
           (ltb-true (s .count) 512 (and-l (ltb (s .count) 512) (ltb (s .count) (length (s .records))) c))
           (ltb-true (s .count) (length (s .records)) (and-r (ltb (s .count) 512) (ltb (s .count) (length (s .records))) c))))
@@ -139,7 +148,8 @@ module _ (s t : Store) (n : List ℕ) (sp : StoreParts s) where
           let f = w .it .flags in
           let row : withSubscribed f ≡ cond (hasRow (storeRows s) n) (withSubscribed (flagsOf (storeRows s) n)) 0x0002 =
           ap withSubscribed (own-flags w) ∙ ap (λ (o : Bool). cond o (withSubscribed (flagsOf (storeRows s) n)) 0x0002) (sym h) in
-          subst (λ (x : Store). Done s x n (rowSet (storeRows s) n)) (sym (λ i. flagged s (w .place i) (withSubscribed (its-flags w i))) ∙ stored-is _ t q)
+          subst (λ (x : Store). Done s x n (rowSet (storeRows s) n))
+          (sym (λ i. flagged s (w .place i) (withSubscribed (its-flags w i))) ∙ stored-is _ t q)
           (subst (λ (g : ℕ). Done s (flagged s (length (w .front)) (withSubscribed f)) n (record { flags = g; name = n } ∷ [])) row
           (flagged-done s n sp w (withSubscribed f) (set-lawful f (its-lawful w)) (set-inferiors f)))
       go false h q = fresh (lawfulName n && not (belowNoInferiors (storeRows s) n)) refl h q
@@ -223,17 +233,20 @@ cleared-row : (rs : List Row) (n : List ℕ) → anyOf (λ (r : Row). subscribed
 unfolding anyOf
 cleared-row rs n = go (hasRow rs n) (eqb (flagsOf rs n) 0x0002)
   where
-    go : (o b : Bool) → anyOf (λ (r : Row). subscribed (r .flags)) (cond o (cond b [] (record { flags = withoutSubscribed (flagsOf rs n); name = n } ∷ [])) []) ≡ false
+    go : (o b : Bool) → anyOf (λ (r : Row). subscribed (r .flags))
+        (cond o (cond b [] (record { flags = withoutSubscribed (flagsOf rs n); name = n } ∷ [])) []) ≡ false
     go true true = refl
     go true false = or-false (subscribed (withoutSubscribed (flagsOf rs n))) ∙ clear-subscribed (flagsOf rs n)
     go false b = refl
 
 -- what it does to the set of subscribed names
-done-set : (s t : Store) (e : Edit) → Done s t (nameOf e) (rowAfter (storeRows s) e) → (m : List ℕ) → isIn (subscribedNames t) m ≡ setEdited (isIn (subscribedNames s)) e m
+done-set : (s t : Store) (e : Edit) → Done s t (nameOf e) (rowAfter (storeRows s) e) → (m : List ℕ) →
+    isIn (subscribedNames t) m ≡ setEdited (isIn (subscribedNames s)) e m
 unfolding setEdited subscribedNames subscribedIn
 done-set s t (subscribe n) d m =
     set-changed (storeRows s) (storeRows t) (spelled n) (d .change) m
-    ∙ ap (λ (b : Bool). cond (same (spelled n) m) b (isIn (subscribedNames s) m)) (ap (anyOf (λ (r : Row). subscribed (r .flags))) (d .row-after) ∙ set-row (storeRows s) (spelled n))
+    ∙ ap (λ (b : Bool). cond (same (spelled n) m) b (isIn (subscribedNames s) m))
+    (ap (anyOf (λ (r : Row). subscribed (r .flags))) (d .row-after) ∙ set-row (storeRows s) (spelled n))
     ∙ put (same (spelled n) m)
   where
     put : (b : Bool) → cond b true (isIn (subscribedNames s) m) ≡ (b || isIn (subscribedNames s) m)
@@ -241,7 +254,8 @@ done-set s t (subscribe n) d m =
     put false = refl
 done-set s t (unsubscribe n) d m =
     set-changed (storeRows s) (storeRows t) (spelled n) (d .change) m
-    ∙ ap (λ (b : Bool). cond (same (spelled n) m) b (isIn (subscribedNames s) m)) (ap (anyOf (λ (r : Row). subscribed (r .flags))) (d .row-after) ∙ cleared-row (storeRows s) (spelled n))
+    ∙ ap (λ (b : Bool). cond (same (spelled n) m) b (isIn (subscribedNames s) m))
+    (ap (anyOf (λ (r : Row). subscribed (r .flags))) (d .row-after) ∙ cleared-row (storeRows s) (spelled n))
     ∙ cut (same (spelled n) m)
   where
     cut : (b : Bool) → cond b false (isIn (subscribedNames s) m) ≡ (not b && isIn (subscribedNames s) m)
@@ -258,48 +272,22 @@ module _ (s t : Store) (e : Edit) (h : passes (storeTable s) ≡ true) (q : edit
   edited-passes = parts-store t (edited-done s t e h q .after)
 
   -- "a success changes only the named row, the other rows keeping name, flags and order"
-  pub others-stay : keep (λ (r : Row). not (same (r .name) (nameOf e))) (storeRows t) ≡ keep (λ (r : Row). not (same (r .name) (nameOf e))) (storeRows s)
+  pub others-stay : keep (λ (r : Row). not (same (r .name) (nameOf e))) (storeRows t) ≡ keep (λ (r : Row). not (same (r .name) (nameOf e)))
+      (storeRows s)
   others-stay = others-kept (storeRows s) (storeRows t) (nameOf e) (edited-done s t e h q .change)
 
   -- and the rows before it decide the rows after it
   pub edited-rows : storeRows t ≡ rowsWith (storeRows s) (nameOf e) (rowAfter (storeRows s) e)
-  edited-rows = let d = edited-done s t e h q in changed-rows (storeRows s) (storeRows t) (nameOf e) (d .change) ∙ ap (rowsWith (storeRows s) (nameOf e)) (d .row-after)
+  edited-rows =
+      let d = edited-done s t e h q in changed-rows (storeRows s) (storeRows t) (nameOf e) (d .change) ∙ ap (rowsWith (storeRows s) (nameOf e))
+      (d .row-after)
 
   -- the subscribed names are those of a plain set that is given the edit
   pub edited-set : (m : List ℕ) → isIn (subscribedNames t) m ≡ setEdited (isIn (subscribedNames s)) e m
   edited-set m = done-set s t e (edited-done s t e h q) m
 
--- a refusal, and a success, of a store that passes
-after-passes : (s : Store) (e : Edit) → passes (storeTable s) ≡ true → (x : Edited) → edited s e ≡ x → passes (storeTable (storeAfter s x)) ≡ true
-unfolding storeAfter
-after-passes s e h (denied k) q = h
-after-passes s e h (stored t) q = edited-passes s t e h q
-
+-- sets that agree on a name agree on it after an edit
 pub set-alike : (has like : List ℕ → Bool) (e : Edit) (m : List ℕ) → has m ≡ like m → setEdited has e m ≡ setEdited like e m
 unfolding setEdited
 set-alike has like (subscribe n) m h = ap (λ (b : Bool). same (spelled n) m || b) h
 set-alike has like (unsubscribe n) m h = ap (λ (b : Bool). not (same (spelled n) m) && b) h
-
-after-set : (s : Store) (e : Edit) → passes (storeTable s) ≡ true → (has : List ℕ → Bool) → ((m : List ℕ) → isIn (subscribedNames s) m ≡ has m)
-    → (x : Edited) → edited s e ≡ x → (m : List ℕ) → isIn (subscribedNames (storeAfter s x)) m ≡ setAfter has e x m
-unfolding storeAfter setAfter
-after-set s e h has like (denied k) q m = like m
-after-set s e h has like (stored t) q m = edited-set s t e h q m ∙ set-alike (isIn (subscribedNames s)) has e m (like m)
-
--- after any series of edits check 1 passes
-pub series-passes : (s : Store) (es : List Edit) → passes (storeTable s) ≡ true → passes (storeTable (editedAll s es)) ≡ true
-unfolding editedAll
-series-passes s [] h = h
-series-passes s (e ∷ es) h = series-passes (storeAfter s (edited s e)) es (after-passes s e h (edited s e) refl)
-
-series-set : (s : Store) (has : List ℕ → Bool) (es : List Edit) → passes (storeTable s) ≡ true → ((m : List ℕ) → isIn (subscribedNames s) m ≡ has m)
-    → (m : List ℕ) → isIn (subscribedNames (editedAll s es)) m ≡ setAll s has es m
-unfolding editedAll setAll
-series-set s has [] h like m = like m
-series-set s has (e ∷ es) h like m =
-    series-set (storeAfter s (edited s e)) (setAfter has e (edited s e)) es (after-passes s e h (edited s e) refl) (after-set s e h has like (edited s e) refl) m
-
--- "After any series of edits the subscribed names are those that a plain set, starting with the table's and given the same accepted edits,
---  names so spelled, would hold."
-pub plain-set : (s : Store) (es : List Edit) → passes (storeTable s) ≡ true → (m : List ℕ) → isIn (subscribedNames (editedAll s es)) m ≡ setAll s (isIn (subscribedNames s)) es m
-plain-set s es h m = series-set s (isIn (subscribedNames s)) es h (λ k. refl) m

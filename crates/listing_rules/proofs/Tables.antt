@@ -5,8 +5,8 @@ use Rattle.listing_rules.specs.Cases.{failures}
 use Rattle.listing_rules.specs.ExpertSheet.{sheet}
 use Rattle.listing_rules.specs.Limits.{flags-of-a-row, names-of-rows, order-of-rows, size-of-a-table, namespace-entries, lsub-lines}
 use Rattle.listing_rules.specs.Limits.{lsub-grammar, records-layout, records-size, records-answered, edits-made, edits-inbox, edits-refused}
-use Rattle.listing_rules.specs.Limits.{edits-layout, edits-commanded, edits-in-order, edits-in-series, program-edits, compactions}
-use Rattle.listing_rules.specs.Limits.{compactions-size, compactions-make-room, readers-answered, readers-walked, readers-refused}
+use Rattle.listing_rules.specs.Limits.{edits-layout, insertion-at-512-rows, edits-commanded, edits-in-order, edits-in-series, program-edits}
+use Rattle.listing_rules.specs.Limits.{compactions, compactions-size, compactions-make-room, readers-answered, readers-walked, readers-refused}
 use Rattle.listing_rules.specs.Limits.{readers-edits, program-readers, namespace-classes, uses-by-name, flags-by-name, attributes-together}
 use Rattle.listing_rules.specs.Limits.{children-and-empty-patterns, special-use-selected, quotes-and-wildcards, childinfo-and-uses-shown}
 use Rattle.listing_rules.specs.Limits.{levels-listed, levels-not-listed, levels-counted, inbox-alone, namespace-line, table-then-list-then-line}
@@ -65,6 +65,10 @@ edits-refused-hold = refl
 edits-layout-hold : failures 1 edits-layout ≡ []
 unfolding openAll
 edits-layout-hold = refl
+
+insertion-at-512-rows-hold : failures 1 insertion-at-512-rows ≡ []
+unfolding openAll
+insertion-at-512-rows-hold = refl
 
 edits-commanded-hold : failures 1 edits-commanded ≡ []
 unfolding openAll
@@ -295,6 +299,7 @@ pub record Limits-hold : Type 0 where
   pub edits-inbox-stand : failures 1 edits-inbox ≡ []
   pub edits-refused-stand : failures 1 edits-refused ≡ []
   pub edits-layout-stand : failures 1 edits-layout ≡ []
+  pub insertion-at-512-rows-stand : failures 1 insertion-at-512-rows ≡ []
   pub edits-commanded-stand : failures 1 edits-commanded ≡ []
   pub edits-in-order-stand : failures 1 edits-in-order ≡ []
   pub edits-in-series-stand : failures 1 edits-in-series ≡ []
@@ -364,6 +369,7 @@ limits-hold =
       edits-inbox-stand = edits-inbox-hold;
       edits-refused-stand = edits-refused-hold;
       edits-layout-stand = edits-layout-hold;
+      insertion-at-512-rows-stand = insertion-at-512-rows-hold;
       edits-commanded-stand = edits-commanded-hold;
       edits-in-order-stand = edits-in-order-hold;
       edits-in-series-stand = edits-in-series-hold;

@@ -8,8 +8,8 @@ use Rattle.listing_rules.specs.Lists.{joined}
 use Rattle.listing_rules.specs.Names.{nameByte, lawfulName}
 use Rattle.listing_rules.specs.Table.{Table, rows, passes}
 use Rattle.listing_rules.specs.Tokens.{lineByte}
-use Rattle.listing_rules.specs.Walk.{walked, packed, stop, Walked, asked, walkFrom, walkAll, walkRefused, ended, walk}
-use Rattle.listing_rules.specs.Demand3.{declaredWalk, meetingNames, meetingAncestors, walkAnswer}
+use Rattle.listing_rules.specs.Walk.{WalkReply, walked, packed, stop, Walked, asked, walkFrom, walkAll, walkRefused, ended, walk}
+use Rattle.listing_rules.specs.Demand3.{meetingNames, meetingAncestors, walkAnswer}
 use Rattle.listing_rules.proofs.ListLaws.{all-imp, all-append}
 use Rattle.listing_rules.proofs.Levels.{Name}
 use Rattle.listing_rules.proofs.LawfulNames.{good-parts}
@@ -54,7 +54,9 @@ module _ (t : Table) (o : ℕ) (wk : Walks t o) (scratch found pending : ℕ) wh
   step-cases : (a : Name) → List·Memᴰ a (P t o wk) → (f w : List Name) → Fit f w
       → Outcome (asked t o scratch found pending (listsOf f w) (a ++ (slash ∷ []))) (listsOf (f ++ G a) (w ++ K a))
       (Fits (a ++ (slash ∷ [])) × Fit (f ++ G a) (w ++ K a))
-  step-cases a m f w h = rw bytes (asked-cases t o (a ++ (slash ∷ [])) scratch found pending (wk .1) ok line-ok (omega (arith, length-append a (slash ∷ []), good-parts a good .most)) f w h)
+  step-cases a m f w h =
+      rw bytes (asked-cases t o (a ++ (slash ∷ [])) scratch found pending (wk .1) ok line-ok
+      (omega (arith, length-append a (slash ∷ []), good-parts a good .most)) f w h)
     where
       good : lawfulName a ≡ true
       good = candidate-good t ok a (low-cand t o wk a (P-low t o wk a m))
@@ -72,7 +74,8 @@ module _ (t : Table) (o : ℕ) (wk : Walks t o) (scratch found pending : ℕ) wh
   none-left : (k : ℕ) (f done : List Name) → Fit f (done ++ []) → Ends k (length done) f (done ++ []) [] (f ++ []) (done ++ [])
   unfolding walkFrom
   none-left k f done h =
-      went (rw (drop-at done [] (length done) refl, walkFrom, append-nil f, append-nil done)) (λ a m. absurd (List·Memᴰ·not-nil m), (rw (append-nil f) (h .0), h .1))
+      went (rw (drop-at done [] (length done) refl, walkFrom, append-nil f, append-nil done))
+      (λ a m. absurd (List·Memᴰ·not-nil m), (rw (append-nil f) (h .0), h .1))
 
   run-cases : (k : ℕ) (done q f : List Name) → left K k q ≡ [] → ((a : Name) → List·Memᴰ a (S k q) → List·Memᴰ a (P t o wk)) → Fit f (done ++ q)
       → Ends k (length done) f (done ++ q) (S k q) (f ++ joined (map G (S k q))) (done ++ S k q)
@@ -82,7 +85,8 @@ module _ (t : Table) (o : ℕ) (wk : Walks t o) (scratch found pending : ℕ) wh
   run-cases (suc k) done [] f e m h = none-left (suc k) f done h
   run-cases (suc k) done (a ∷ q) f e m h =
       rw (drop-at done (a ∷ q) (length done) refl, walkFrom)
-      (then-step (λ u. walkFrom t o scratch found pending (suc k) (suc (length done)) u) (step-cases a (m a (List·Memᴰ·head refl)) f (done ++ (a ∷ q)) h)
+      (then-step (λ u. walkFrom t o scratch found pending (suc k) (suc (length done)) u)
+      (step-cases a (m a (List·Memᴰ·head refl)) f (done ++ (a ∷ q)) h)
       (next (run-cases k (done ++ (a ∷ [])) (q ++ K a) (f ++ G a) e (λ z n. m z (List·Memᴰ·tail n))))
       back)
     where
@@ -106,21 +110,26 @@ module _ (t : Table) (o : ℕ) (wk : Walks t o) (scratch found pending : ℕ) wh
 
       Later : Type 0
       Later = Fit (f ++ G a) ((done ++ (a ∷ [])) ++ (q ++ K a))
-          → Ends k (length (done ++ (a ∷ []))) (f ++ G a) ((done ++ (a ∷ [])) ++ (q ++ K a)) T ((f ++ G a) ++ joined (map G T)) ((done ++ (a ∷ [])) ++ T)
+          → Ends k (length (done ++ (a ∷ []))) (f ++ G a) ((done ++ (a ∷ [])) ++ (q ++ K a)) T ((f ++ G a) ++ joined (map G T))
+          ((done ++ (a ∷ [])) ++ T)
 
       next : Later → Fits (a ++ (slash ∷ [])) × Fit (f ++ G a) ((done ++ (a ∷ q)) ++ K a)
           → Ends k (suc (length done)) (f ++ G a) ((done ++ (a ∷ q)) ++ K a) (a ∷ T) (f ++ (G a ++ joined (map G T))) (done ++ (a ∷ T))
       next ih w =
-          rw (e₂, e₁, ← e₃, ← e₄) (with-fact (λ v. (both-fit (w .0) (v .0), v .1)) (λ v. (λ b n. v .0 b (List·Memᴰ·tail n), v .1)) (ih (subst (λ (x : List Name). Fit (f ++ G a) x) e₁ (w .1))))
+          rw (e₂, e₁, ← e₃, ← e₄) (with-fact (λ v. (both-fit (w .0) (v .0), v .1)) (λ v. (λ b n. v .0 b (List·Memᴰ·tail n), v .1))
+          (ih (subst (λ (x : List Name). Fit (f ++ G a) x) e₁ (w .1))))
 
       -- what this command needs is part of what the whole needs
       w : (r : List Name) × (T ≡ (q ++ K a) ++ r)
       w = front K k (q ++ K a) e
 
       e₅ : done ++ (a ∷ T) ≡ ((done ++ (a ∷ q)) ++ K a) ++ w .0
-      e₅ = ap (λ (x : List Name). done ++ (a ∷ x)) (w .1 ∙ append-assoc q (K a) (w .0)) ∙ sym (append-assoc (done ++ (a ∷ q)) (K a) (w .0) ∙ append-assoc done (a ∷ q) (K a ++ w .0))
+      e₅ =
+          ap (λ (x : List Name). done ++ (a ∷ x)) (w .1 ∙ append-assoc q (K a) (w .0)) ∙ sym
+          (append-assoc (done ++ (a ∷ q)) (K a) (w .0) ∙ append-assoc done (a ∷ q) (K a ++ w .0))
 
-      back : All-fit (a ∷ T) × Fit (f ++ (G a ++ joined (map G T))) (done ++ (a ∷ T)) → Fits (a ++ (slash ∷ [])) × Fit (f ++ G a) ((done ++ (a ∷ q)) ++ K a)
+      back : All-fit (a ∷ T) × Fit (f ++ (G a ++ joined (map G T))) (done ++ (a ∷ T)) →
+          Fits (a ++ (slash ∷ [])) × Fit (f ++ G a) ((done ++ (a ∷ q)) ++ K a)
       back v = (
         v .0 a (List·Memᴰ·head refl),
         (
@@ -130,10 +139,12 @@ module _ (t : Table) (o : ℕ) (wk : Walks t o) (scratch found pending : ℕ) wh
       )
 
   -- the whole walk
-  walk-cases : Outcome (walkAll t o scratch found pending (suc (fuel t o wk))) (result (F t o wk) (P t o wk)) (Fits [] × (All-fit (P t o wk) × Fit (F t o wk) (P t o wk)))
+  walk-cases : Outcome (walkAll t o scratch found pending (suc (fuel t o wk))) (result (F t o wk) (P t o wk))
+      (Fits [] × (All-fit (P t o wk) × Fit (F t o wk) (P t o wk)))
   unfolding walkAll
   walk-cases =
-      then-step _ (asked-cases t o [] scratch found pending (wk .1) ok (unfold all in refl) (omega arith) [] [] (unfold packed joined in (omega arith, omega arith)))
+      then-step _ (asked-cases t o [] scratch found pending (wk .1) ok (unfold all in refl) (omega arith) [] []
+      (unfold packed joined in (omega arith, omega arith)))
       (λ h. with-fact (λ v. (h .0, v)) (λ v. v .1) (run-cases (fuel t o wk) [] (asks t o []) (finds t o []) (P-ends t o wk) (λ a m. m) (h .1)))
       (λ v. (
         v .0,
@@ -176,16 +187,22 @@ module _ (t : Table) (o : ℕ) (wk : Walks t o) (scratch found pending : ℕ) wh
       from : Room → Fits [] × (All-fit (meetingAncestors (rows t) o) × Fit (meetingNames (rows t) o) (meetingAncestors (rows t) o))
       from R = (R .first, (R .next, (R .found-fits, R .pending-fits)))
 
+  -- what the table says of the walk
+  abbrev pub declared : WalkReply
+  declared = walked (1 + length (meetingAncestors (rows t) o)) (packed (meetingNames (rows t) o)) (packed (meetingAncestors (rows t) o))
+
   -- with room the walk comes to what the paper says, and it is refused exactly if there is none, by 9, 10 or 11
-  pub demand-3-whole : (Room × (walk t o scratch found pending ≡ declaredWalk t o)) ⊎ ((Room → ⊥) × ((k : ℕ) × Short k × (walk t o scratch found pending ≡ walkRefused k)))
-  unfolding walk ended declaredWalk
+  pub demand-3-whole : (Room × (walk t o scratch found pending ≡ declared)) ⊎
+      ((Room → ⊥) × ((k : ℕ) × Short k × (walk t o scratch found pending ≡ walkRefused k)))
+  unfolding walk ended
   demand-3-whole = pick room-cases
     where
       e : suc (length (meetingAncestors (rows t) o)) ≡ 1 + length (meetingAncestors (rows t) o)
       e = omega arith
 
       pick : Outcome (walkAll t o scratch found pending (suc (fuel t o wk))) (result (meetingNames (rows t) o) (meetingAncestors (rows t) o)) Room
-          → (Room × (walk t o scratch found pending ≡ declaredWalk t o))
+          → (Room × (walk t o scratch found pending ≡ declared))
           ⊎ ((Room → ⊥) × ((k : ℕ) × Short k × (walk t o scratch found pending ≡ walkRefused k)))
-      pick (went d R) = inl (R, rw (ok, wk .1, d) (ap (λ (n : ℕ). walked n (packed (meetingNames (rows t) o)) (packed (meetingAncestors (rows t) o))) e))
+      pick (went d R) = inl
+          (R, rw (ok, wk .1, d) (ap (λ (n : ℕ). walked n (packed (meetingNames (rows t) o)) (packed (meetingAncestors (rows t) o))) e))
       pick (stopped k s d n) = inr (n, (k, s, rw (ok, wk .1, d)))

@@ -11,18 +11,19 @@ use Rattle.listing_rules.specs.Table.{Table, rows, passes, packedTable}
 use Rattle.listing_rules.specs.Records.{Record, recordTable}
 use Rattle.listing_rules.specs.Readers.{isReader, recordsSeen, packedSeen}
 use Rattle.listing_rules.specs.Command.{Edit}
-use Rattle.listing_rules.specs.Subscriptions.{Store, Edited, denied as refusedEdit, stored, edited, isIn, subscribedNames}
+use Rattle.listing_rules.specs.Subscriptions.{Store, Edited, denied as refusedEdit, stored, edited, insertion, isIn, subscribedNames}
 use Rattle.listing_rules.specs.Namespaces.{namespacesPass}
 use Rattle.listing_rules.specs.Feeder.{Event, handed, goOn, denied, quiet, goOnLine, Feeder, reading, inLiteral, dropping, first, feedChunks}
 use Rattle.listing_rules.specs.Options.{criteriaNumber}
-use Rattle.listing_rules.specs.Server.{Reply, refusal, answered, answer, limited, fromReader, servedTo, numberOf, lengthOf, bufferAfter, commanded}
+use Rattle.listing_rules.specs.Server.{Reply, refusal, answered, answer, limited, fromReader, servedTo, numberOf, lengthOf, bufferAfter}
+use Rattle.listing_rules.specs.Server.{commanded}
 use Rattle.listing_rules.specs.Series.{Sent, commandedAll, setSent}
 use Rattle.listing_rules.specs.Compaction.{compaction}
 use Rattle.listing_rules.specs.Reader.{Read, line, root, bad, readLine, readNumber, attributesRead, childInfoOf, nameBytes, sameBools, lineFrom}
 use Rattle.listing_rules.specs.Reader.{written}
 use Rattle.listing_rules.specs.Walk.{lawfulByte, WalkReply, walkRefused, walked, walkBy, collectedBy, walkNumber, walkCount, foundLength}
-use Rattle.listing_rules.specs.Walk.{scratchAfter, foundAfter, pendingAfter}
-use Rattle.listing_rules.specs.Demand3.{declaredWalk, tooSmall}
+use Rattle.listing_rules.specs.Walk.{scratchAfter, foundAfter, pendingAfter, packed}
+use Rattle.listing_rules.specs.Demand3.{meetingNames, meetingAncestors, tooSmall}
 use Rattle.listing_rules.specs.Frames.{Kept, bytes, records, programStore, programOutput, step, walkLine}
 
 -- a row of these readers, one that all eight see, and an entry, in bytes
@@ -97,6 +98,8 @@ pub data Case : Type 0 where
   -- records and command lines, one after the other, each with an empty namespace list and a buffer of 64 bytes: the names subscribed then, in
   -- the order of the rows
   series : Lent → List (List ℕ) → List (List ℕ) → Case
+  -- a row of this name put into records, whatever their names are: a number, or what is left
+  inserts : Lent → List ℕ → Edited → Case
   -- names moved together: the number, and what is left
   compacts : Lent → ℕ → Lent → Case
   -- all of these namespace lists pass, and none of those
@@ -147,7 +150,8 @@ abbrev pub sameRecords : List Record → List Record → Bool
 sameRecords [] [] = true
 sameRecords [] (q ∷ qs) = false
 sameRecords (r ∷ rs) [] = false
-sameRecords (r ∷ rs) (q ∷ qs) = eqb (r .flags) (q .flags) && eqb (r .start) (q .start) && eqb (r .len) (q .len) && eqb (r .readers) (q .readers) && sameRecords rs qs
+sameRecords (r ∷ rs) (q ∷ qs) = eqb (r .flags) (q .flags) && eqb (r .start) (q .start) && eqb (r .len) (q .len) && eqb (r .readers) (q .readers) &&
+    sameRecords rs qs
 
 abbrev pub sameStore : Store → Store → Bool
 sameStore s t = sameRecords (s .records) (t .records) && eqb (s .count) (t .count) && same (s .area) (t .area)
@@ -184,7 +188,8 @@ abbrev pub sameFlag : Bool → Bool → Bool
 sameFlag a b = cond a b (not b)
 
 abbrev pub sameRead : Read → Read → Bool
-sameRead (line bs n c) (line bs′ n′ c′) = sameBools bs bs′ && same n n′ && sameFlag (c .subscribed) (c′ .subscribed) && sameFlag (c .special) (c′ .special)
+sameRead (line bs n c) (line bs′ n′ c′) = sameBools bs bs′ && same n n′ && sameFlag (c .subscribed) (c′ .subscribed) && sameFlag (c .special)
+    (c′ .special)
 sameRead (line bs n c) root = false
 sameRead (line bs n c) bad = false
 sameRead root (line bs n c) = false
@@ -210,7 +215,9 @@ isFirst (dropping cr) = false
 -- what demand 3 says of a walk with this result, over the table that the reader sees
 abbrev pub asDeclared : Table → ℕ → ℕ → ℕ → ℕ → WalkReply → Bool
 asDeclared t o s f p (walkRefused k) = not (passes t) || not (lawfulByte o) || tooSmall (rows t) o s f p
-asDeclared t o s f p (walked c fs ps) = not (tooSmall (rows t) o s f p) && sameWalk (declaredWalk t o) (walked c fs ps)
+asDeclared t o s f p (walked c fs ps) =
+    let ancestors = meetingAncestors (rows t) o in
+    not (tooSmall (rows t) o s f p) && eqb c (1 + length ancestors) && same fs (packed (meetingNames (rows t) o)) && same ps (packed ancestors)
 
 -- a reader's walk comes to this, and so demand 3 declares it
 abbrev pub walksSo : ℕ → Table → ℕ → ℕ → ℕ → ℕ → WalkReply → Bool
@@ -237,6 +244,7 @@ holds (edits t es r) = passes (lentTable t) && every (λ e. sameEdited (edited (
 holds (commands t room ns ls r u) =
     every (λ l. let c = commanded 0 (lentStore t) ns l (times room 0) in sameReply (c .reply) r && sameStore (c .store) (lentStore u)) ls
 holds (series t ls ns) = sameNames (subscribedNames (commandedAll (lentStore t) (map sentLine ls))) ns
+holds (inserts t n r) = sameEdited (insertion (lentStore t) n) r
 holds (compacts t k u) = let c = compaction (lentStore t) in eqb (c .number) k && sameStore (c .store) (lentStore u)
 holds (spaces good poor) = every namespacesPass good && not (anyOf namespacesPass poor)
 holds (answersInto d t ns l k n e) =

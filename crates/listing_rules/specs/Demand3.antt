@@ -36,11 +36,6 @@ meetingNames rs o = sorted walkOrder (keep (candidateMeets rs (walkOptions o)) (
 unfoldable pub meetingAncestors : List Row → ℕ → List (List ℕ)
 meetingAncestors rs o = sorted walkOrder (joined (map properAncestors (meetingNames rs o)))
 
--- "the count is one more than there are ancestors"
-unfoldable pub declaredWalk : Table → ℕ → WalkReply
-declaredWalk table o =
-    walked (1 + length (meetingAncestors (rows table) o)) (packed (meetingNames (rows table) o)) (packed (meetingAncestors (rows table) o))
-
 -- the server's answer to the walk's command with this reference
 unfoldable pub walkAnswer : List Row → ℕ → List ℕ → List ℕ
 walkAnswer rs o reference = listAnswer rs (text "w") (walkOptions o) ((reference ++ text "%") ∷ [])
@@ -63,7 +58,7 @@ unfoldable pub tooSmall : List Row → ℕ → ℕ → ℕ → ℕ → Bool
 tooSmall rs o scratch found pending = scratchTooSmall rs o scratch || foundTooSmall rs o found || pendingTooSmall rs o pending
 
 -- What the walk's result owes: refused exactly when a buffer is too small (by 9, 10 or 11; which one, the walk's own order
--- decides), and else what the table says.
+-- decides), and else what the table says: "the count is one more than there are ancestors".
 unfoldable pub Demand3 : Table → ℕ → ℕ → ℕ → ℕ → WalkReply → Type 0
 Demand3 table o scratch found pending (walkRefused k) =
     (tooSmall (rows table) o scratch found pending ≡ true) × (oneOf (9 ∷ 10 ∷ 11 ∷ []) k ≡ true)

@@ -16,9 +16,9 @@ use Rattle.listing_rules.specs.Server.{refusal, answered}
 use Rattle.listing_rules.specs.Reader.{line, root}
 use Rattle.listing_rules.specs.Walk.{walkRefused, walked, packed}
 use Rattle.listing_rules.specs.Cases.{row, mailbox, entry, times, sends, lines, Case, replies, refuses, walks, tables, spaces, answersInto}
-use Rattle.listing_rules.specs.Cases.{commands, walksInto, writes, writesInto, gives, reads, program, steps, answersFrame, counts, feeds, continues}
-use Rattle.listing_rules.specs.Cases.{Lent, layouts, repliesOver, walksOver, edits, leaves, series, compacts}
-use Rattle.listing_rules.specs.Cases.{mailboxFor, repliesTo, walksFor, commandsOf}
+use Rattle.listing_rules.specs.Cases.{commands, walksInto, writes, writesInto, gives, reads, program, steps, answersFrame, counts, feeds}
+use Rattle.listing_rules.specs.Cases.{continues, Lent, layouts, repliesOver, walksOver, edits, inserts, leaves, series, compacts, mailboxFor}
+use Rattle.listing_rules.specs.Cases.{repliesTo, walksFor, commandsOf}
 use Rattle.listing_rules.specs.ExpertSheet.{tableE}
 
 abbrev named : List ℕ → List ℕ
@@ -136,6 +136,10 @@ pair-names (suc n) k = (65 + k / 32) ∷ (65 + k % 32) ∷ pair-names n (suc k)
 abbrev pairs : ℕ → ℕ → Lent
 pairs n bad = record { area = pair-names n 0; records = pair-records (n - 1) 0 bad; count = n }
 
+-- 513 records, of which so many are rows, and one free byte
+abbrev one-byte-free : ℕ → Lent
+one-byte-free n = record { area = 63 ∷ []; records = replicate 513 blank; count = n }
+
 -- Moo before Foo/Bar in the area, rubbish between them, and a spare record
 abbrev moo-and-foo : Lent
 moo-and-foo = lent "Moo%%Foo/Bar" (at 0x0003 5 7 ∷ at 0x0001 0 3 ∷ at 0xFFFF 0 255 ∷ []) 2
@@ -202,7 +206,8 @@ abbrev pub order-of-rows : List Case
 order-of-rows =
     tables (all-named ("Foo" ∷ "Foo x" ∷ "Foo-x" ∷ "Foo.x" ∷ "Foo/Bar" ∷ []) ∷ (mailbox 0x0011 "a" ++ mailbox 0x0001 "a-b/c") ∷ [])
     (all-named ("b" ∷ "a" ∷ []) ∷ all-named ("a" ∷ "a" ∷ []) ∷ all-named ("ab" ∷ "a" ∷ []) ∷ (mailbox 0x0011 "a" ++ mailbox 0x0001 "a/b")
-    ∷ (mailbox 0x0011 "a" ++ (mailbox 0x0001 "a-b" ++ mailbox 0x0002 "a/b/c")) ∷ (0 ∷ 1 ∷ 255 ∷ []) ∷ (0 ∷ 1 ∷ 255 ∷ 2 ∷ 97 ∷ []) ∷ (mailbox 0x0001 "a" ++ (0
+    ∷ (mailbox 0x0011 "a" ++ (mailbox 0x0001 "a-b" ++ mailbox 0x0002 "a/b/c")) ∷ (0 ∷ 1 ∷ 255 ∷ []) ∷ (0 ∷ 1 ∷ 255 ∷ 2 ∷ 97 ∷ []) ∷
+    (mailbox 0x0001 "a" ++ (0
     ∷ [])) ∷ [])
     ∷ []
 
@@ -265,12 +270,14 @@ edits-made =
     ∷ edits b-and-d (sub "c" ∷ []) (leaves (lent "bdc??" (at 0x0001 0 1 ∷ at 0x0002 2 1 ∷ at 0x0001 1 1 ∷ at 0xFFFF 0 5 ∷ []) 3))
     ∷ edits b-and-d (sub "b/c" ∷ []) (leaves (lent "bdb/c" (at 0x0001 0 1 ∷ at 0x0002 2 3 ∷ at 0x0001 1 1 ∷ at 0xFFFF 0 5 ∷ []) 3))
     ∷ edits b-and-d (sub "da" ∷ []) (leaves (lent "bdda?" (at 0x0001 0 1 ∷ at 0x0001 1 1 ∷ at 0x0002 2 2 ∷ at 0xFFFF 0 5 ∷ []) 3))
-    ∷ edits (lent "Foo/Bar%%%" (at 0x0001 0 7 ∷ at 0x0001 0 1 ∷ []) 1) (sub "Foo" ∷ []) (leaves (lent "Foo/BarFoo" (at 0x0002 7 3 ∷ at 0x0001 0 7 ∷ []) 2))
+    ∷ edits (lent "Foo/Bar%%%" (at 0x0001 0 7 ∷ at 0x0001 0 1 ∷ []) 1) (sub "Foo" ∷ [])
+    (leaves (lent "Foo/BarFoo" (at 0x0002 7 3 ∷ at 0x0001 0 7 ∷ []) 2))
     ∷ edits (lent "??" (at 0x0001 0 1 ∷ []) 0) (sub "a" ∷ []) (leaves (lent "a?" (at 0x0002 0 1 ∷ []) 1))
     ∷ edits b-alone (unsub "bb" ∷ [])
     (leaves (record { area = text "%ad%" ++ (0 ∷ 0 ∷ text "%"); records = at 0x0013 1 1 ∷ at 0x0003 2 1 ∷ blank ∷ at 0xFFFF 3 9 ∷ []; count = 2 }))
     ∷ edits b-alone (unsub "d" ∷ []) (leaves (lent "%ad%bb%" (at 0x0013 1 1 ∷ at 0x0002 4 2 ∷ at 0x0001 2 1 ∷ at 0xFFFF 3 9 ∷ []) 3))
-    ∷ edits b-alone (unsub "b" ∷ unsub "bbb" ∷ unsub "" ∷ unsub "%" ∷ unsub "a/x" ∷ unsub "inbox/" ∷ unsubscribe (times 201 97) ∷ sub "bb" ∷ []) (leaves b-alone)
+    ∷ edits b-alone (unsub "b" ∷ unsub "bbb" ∷ unsub "" ∷ unsub "%" ∷ unsub "a/x" ∷ unsub "inbox/" ∷ unsubscribe (times 201 97) ∷ sub "bb" ∷ [])
+    (leaves b-alone)
     ∷ edits (lent "a" (at 0x0002 0 1 ∷ []) 1) (unsub "a" ∷ []) (leaves (record { area = 0 ∷ []; records = blank ∷ []; count = 0 }))
     ∷ []
 
@@ -307,9 +314,12 @@ edits-refused =
 -- the lowest free run that is long enough, the name at its start; bytes free on either side of a freed name, or under spare records, are one run
 abbrev pub edits-layout : List Case
 edits-layout =
-    edits (gaps (at 0xFFFF 0 2 ∷ at 0xFFFF 5 4 ∷ []) 3 "??a?b????c??") (sub "d" ∷ []) (leaves (gaps (at 0x0002 0 1 ∷ at 0xFFFF 5 4 ∷ []) 4 "d?a?b????c??"))
-    ∷ edits (gaps (at 0xFFFF 0 2 ∷ at 0xFFFF 5 4 ∷ []) 3 "??a?b????c??") (sub "dd" ∷ []) (leaves (gaps (at 0x0002 0 2 ∷ at 0xFFFF 5 4 ∷ []) 4 "dda?b????c??"))
-    ∷ edits (gaps (at 0xFFFF 0 2 ∷ at 0xFFFF 5 4 ∷ []) 3 "??a?b????c??") (sub "ddd" ∷ []) (leaves (gaps (at 0x0002 5 3 ∷ at 0xFFFF 5 4 ∷ []) 4 "??a?bddd?c??"))
+    edits (gaps (at 0xFFFF 0 2 ∷ at 0xFFFF 5 4 ∷ []) 3 "??a?b????c??") (sub "d" ∷ [])
+    (leaves (gaps (at 0x0002 0 1 ∷ at 0xFFFF 5 4 ∷ []) 4 "d?a?b????c??"))
+    ∷ edits (gaps (at 0xFFFF 0 2 ∷ at 0xFFFF 5 4 ∷ []) 3 "??a?b????c??") (sub "dd" ∷ [])
+    (leaves (gaps (at 0x0002 0 2 ∷ at 0xFFFF 5 4 ∷ []) 4 "dda?b????c??"))
+    ∷ edits (gaps (at 0xFFFF 0 2 ∷ at 0xFFFF 5 4 ∷ []) 3 "??a?b????c??") (sub "ddd" ∷ [])
+    (leaves (gaps (at 0x0002 5 3 ∷ at 0xFFFF 5 4 ∷ []) 4 "??a?bddd?c??"))
     ∷ edits (gaps (at 0xFFFF 0 2 ∷ []) 3 "??a?b????c?????") (sub "ddddd" ∷ []) (leaves (gaps (at 0x0002 10 5 ∷ []) 4 "??a?b????cddddd"))
     ∷ edits (gaps (at 0xFFFF 0 2 ∷ []) 3 "??a?b????c????") (sub "ddddd" ∷ []) (refusedEdit 15)
     ∷ edits (record { area = text "a?" ++ (0 ∷ 0 ∷ text "?c"); records = at 0x0001 0 1 ∷ at 0x0001 5 1 ∷ blank ∷ []; count = 2 }) (sub "bbbb" ∷ [])
@@ -317,17 +327,29 @@ edits-layout =
     ∷ edits (lent "???" (blank ∷ []) 0) (sub "abc" ∷ []) (leaves (lent "abc" (at 0x0002 0 3 ∷ []) 1))
     ∷ []
 
+-- a row is put in where there are 511, and none where there are 512, though a record is spare and a byte is free: breaks a limit of 511 or 513
+abbrev pub insertion-at-512-rows : List Case
+insertion-at-512-rows =
+    inserts (one-byte-free 511) (text "a") (leaves (record
+    { area = text "a"; records = replicate 511 blank ++ (at 0x0002 0 1 ∷ blank ∷ []); count = 512 }))
+    ∷ inserts (one-byte-free 512) (text "a") (refusedEdit 15)
+    ∷ []
+
 -- W6 as commands: the word in any case, the name bare, quoted or a literal; the OK line alone; other commands leave everything as it is
 abbrev pub edits-commanded : List Case
 edits-commanded =
-    commands b-and-d 11 [] (lines ("a SUBSCRIBE {1}" ∷ "b" ∷ []) ∷ map sends ("a SUBSCRIBE b" ∷ "a subscribe \"b\"" ∷ [])) (answered (sends "a OK done"))
+    commands b-and-d 11 [] (lines ("a SUBSCRIBE {1}" ∷ "b" ∷ []) ∷ map sends ("a SUBSCRIBE b" ∷ "a subscribe \"b\"" ∷ []))
+    (answered (sends "a OK done"))
     (lent "bd???" (at 0x0003 0 1 ∷ at 0x0001 1 1 ∷ at 0xFFFF 9 9 ∷ at 0xFFFF 0 5 ∷ []) 2)
     ∷ commands b-alone 16384 [] (lines ("+ UNSUBSCRIBE {1}" ∷ "d" ∷ []) ∷ []) (refusal 4) b-alone
-    ∷ commands b-alone 16384 [] (lines ("z UNSUBSCRIBE {1}" ∷ "d" ∷ []) ∷ map sends ("z Unsubscribe d" ∷ "z UNSUBSCRIBE \"d\"" ∷ [])) (answered (sends "z OK done"))
+    ∷ commands b-alone 16384 [] (lines ("z UNSUBSCRIBE {1}" ∷ "d" ∷ []) ∷ map sends ("z Unsubscribe d" ∷ "z UNSUBSCRIBE \"d\"" ∷ []))
+    (answered (sends "z OK done"))
     (lent "%ad%bb%" (at 0x0013 1 1 ∷ at 0x0002 4 2 ∷ at 0x0001 2 1 ∷ at 0xFFFF 3 9 ∷ []) 3)
-    ∷ commands b-alone 16384 [] (map sends ("a LIST \"\" x" ∷ "a LSUB \"\" x" ∷ "a UNSUBSCRIBE x" ∷ "a UNSUBSCRIBE \"a%\"" ∷ "a UNSUBSCRIBE \"\"" ∷ "a SUBSCRIBE bb" ∷ []))
+    ∷ commands b-alone 16384 [] (map sends ("a LIST \"\" x" ∷ "a LSUB \"\" x" ∷ "a UNSUBSCRIBE x" ∷ "a UNSUBSCRIBE \"a%\"" ∷ "a UNSUBSCRIBE \"\"" ∷
+    "a SUBSCRIBE bb" ∷ []))
     (answered (sends "a OK done")) b-alone
-    ∷ refuses 4 (map sends ("a SUBSCRIBE" ∷ "a SUBSCRIBE " ∷ "a SUBSCRIBE  b" ∷ "a SUBSCRIBE a%" ∷ "a SUBSCRIBE b " ∷ "a SUBSCRIBE b c" ∷ "a SUBSCRIBE (b)"
+    ∷ refuses 4 (map sends ("a SUBSCRIBE" ∷ "a SUBSCRIBE " ∷ "a SUBSCRIBE  b" ∷ "a SUBSCRIBE a%" ∷ "a SUBSCRIBE b " ∷ "a SUBSCRIBE b c" ∷
+    "a SUBSCRIBE (b)"
     ∷ "a SUBSCRIBE \"\" b" ∷ "a UNSUBSCRIBE" ∷ "a UNSUBSCRIBE a*" ∷ "a UNSUBSCRIBE \"a" ∷ "a UNSUBSCRIBE a RETURN ()" ∷ []))
     ∷ refuses 5 (map sends ("a SUBSCRIBED b" ∷ "a SUBSCRIB b" ∷ "a UNSUBSCRIBES b" ∷ "a UN b" ∷ []))
     ∷ []
@@ -339,7 +361,8 @@ edits-in-order =
     ∷ commands b-and-d 0 (9 ∷ []) (sends "a SUBSCRIBE b" ∷ sends "a SUBSCRIBE \"\"" ∷ text "a SUBSCRIBE b" ∷ []) (refusal 2) b-and-d
     ∷ commands b-and-d 0 [] (text "a SUBSCRIBE \"\"" ∷ []) (refusal 3) b-and-d
     ∷ commands b-and-d 0 [] (sends "a SUBSCRIBE a%" ∷ []) (refusal 4) b-and-d
-    ∷ commands (lent "b" (at 0x0011 0 1 ∷ []) 1) 0 [] (map sends ("a SUBSCRIBE \"a%\"" ∷ "a SUBSCRIBE \"\"" ∷ "a SUBSCRIBE b/c" ∷ [])) (refusal 14) (lent "b" (at 0x0011 0 1 ∷ []) 1)
+    ∷ commands (lent "b" (at 0x0011 0 1 ∷ []) 1) 0 [] (map sends ("a SUBSCRIBE \"a%\"" ∷ "a SUBSCRIBE \"\"" ∷ "a SUBSCRIBE b/c" ∷ [])) (refusal 14)
+    (lent "b" (at 0x0011 0 1 ∷ []) 1)
     ∷ commands (lent "b?" (at 0x0001 0 1 ∷ []) 1) 0 [] (sends "a SUBSCRIBE a" ∷ []) (refusal 15) (lent "b?" (at 0x0001 0 1 ∷ []) 1)
     ∷ commands b-and-d 10 [] (map sends ("a SUBSCRIBE b" ∷ "a SUBSCRIBE c" ∷ "a UNSUBSCRIBE b" ∷ "a UNSUBSCRIBE x" ∷ [])) (refusal 9) b-and-d
     ∷ []
@@ -348,12 +371,15 @@ edits-in-order =
 -- them: the names of a plain set that is given the accepted ones
 abbrev pub edits-in-series : List Case
 edits-in-series =
-    series (inbox-lent 0x0001) (map sends ("a SUBSCRIBE inbox/x" ∷ "b LIST \"\" *" ∷ "c SUBSCRIBE Inbox" ∷ "d SUBSCRIBE INBOX/y" ∷ "e UNSUBSCRIBE inbox/y" ∷ []))
+    series (inbox-lent 0x0001) (map sends ("a SUBSCRIBE inbox/x" ∷ "b LIST \"\" *" ∷ "c SUBSCRIBE Inbox" ∷ "d SUBSCRIBE INBOX/y" ∷
+    "e UNSUBSCRIBE inbox/y" ∷ []))
     (text "INBOX" ∷ text "INBOX/x" ∷ [])
-    ∷ series b-alone (map sends ("a UNSUBSCRIBE bb" ∷ "b SUBSCRIBE a/x" ∷ "c SUBSCRIBE \"c%\"" ∷ "d SUBSCRIBE zzzzz" ∷ "e SUBSCRIBE cccc" ∷ "f UNSUBSCRIBE d" ∷ []))
+    ∷ series b-alone (map sends ("a UNSUBSCRIBE bb" ∷ "b SUBSCRIBE a/x" ∷ "c SUBSCRIBE \"c%\"" ∷ "d SUBSCRIBE zzzzz" ∷ "e SUBSCRIBE cccc" ∷
+    "f UNSUBSCRIBE d" ∷ []))
     (text "a" ∷ text "cccc" ∷ [])
     ∷ series b-and-d
-    ((times 55 116 ++ sends " SUBSCRIBE b") ∷ (times 54 116 ++ sends " SUBSCRIBE d") ∷ sends "a SUBSCRIBE c" ∷ sends "b SUBSCRIBE a" ∷ sends "c SUBSCRIBE e"
+    ((times 55 116 ++ sends " SUBSCRIBE b") ∷ (times 54 116 ++ sends " SUBSCRIBE d") ∷ sends "a SUBSCRIBE c" ∷ sends "b SUBSCRIBE a" ∷
+    sends "c SUBSCRIBE e"
     ∷ sends "d UNSUBSCRIBE a" ∷ sends "e SUBSCRIBE f" ∷ (times 55 116 ++ sends " UNSUBSCRIBE c") ∷ [])
     (text "c" ∷ text "d" ∷ text "f" ∷ [])
     ∷ []
@@ -365,7 +391,8 @@ compactions =
     compacts (lent "??a?b??" (at 0x0003 2 1 ∷ at 0x0002 4 1 ∷ []) 2) 0 (together "ab" 5 (at 0x0003 0 1 ∷ at 0x0002 1 1 ∷ []) 2)
     ∷ compacts (lent "ab?ab" (at 0x0001 3 1 ∷ at 0x0001 1 1 ∷ []) 2) 0 (together "ba" 3 (at 0x0001 1 1 ∷ at 0x0001 0 1 ∷ []) 2)
     ∷ compacts moo-and-foo 0 (together "MooFoo/Bar" 2 (at 0x0003 3 7 ∷ at 0x0001 0 3 ∷ at 0xFFFF 0 255 ∷ []) 2)
-    ∷ compacts (lent "c?INBOX?bb" (at 0x7F3D 2 5 ∷ at 0x0001 8 2 ∷ at 0x0002 0 1 ∷ []) 3) 0 (together "cINBOXbb" 2 (at 0x7F3D 1 5 ∷ at 0x0001 6 2 ∷ at 0x0002 0 1 ∷ []) 3)
+    ∷ compacts (lent "c?INBOX?bb" (at 0x7F3D 2 5 ∷ at 0x0001 8 2 ∷ at 0x0002 0 1 ∷ []) 3) 0
+    (together "cINBOXbb" 2 (at 0x7F3D 1 5 ∷ at 0x0001 6 2 ∷ at 0x0002 0 1 ∷ []) 3)
     ∷ compacts b-alone 0 (together "adbb" 3 (at 0x0013 0 1 ∷ at 0x0002 2 2 ∷ at 0x0003 1 1 ∷ at 0xFFFF 3 9 ∷ []) 3)
     ∷ compacts b-and-d 0 (together "bd" 3 (at 0x0001 0 1 ∷ at 0x0001 1 1 ∷ at 0xFFFF 9 9 ∷ at 0xFFFF 0 5 ∷ []) 2)
     ∷ compacts (lent "???" (at 0xFFFF 1 1 ∷ []) 0) 0 (together "" 3 (at 0xFFFF 1 1 ∷ []) 0)
@@ -381,7 +408,8 @@ compactions =
 -- a long name far behind; an area of one byte too many
 abbrev pub compactions-size : List Case
 compactions-size =
-    compacts (over-area 2000 (at 0x0001 1800 200 ∷ []) 1) 0 (record { area = times 200 97 ++ times 1800 0; records = at 0x0001 0 200 ∷ []; count = 1 })
+    compacts (over-area 2000 (at 0x0001 1800 200 ∷ []) 1) 0 (record
+    { area = times 200 97 ++ times 1800 0; records = at 0x0001 0 200 ∷ []; count = 1 })
     ∷ compacts (over-area 32769 [] 0) 1 (over-area 32769 [] 0)
     ∷ []
 
@@ -390,7 +418,8 @@ abbrev pub compactions-make-room : List Case
 compactions-make-room =
     edits (lent "?b??d?" (at 0x0001 1 1 ∷ at 0x0001 4 1 ∷ blank ∷ []) 2) (subs ("aaa" ∷ "aaaa" ∷ "aaaaa" ∷ [])) (refusedEdit 15)
     ∷ compacts (lent "?b??d?" (at 0x0001 1 1 ∷ at 0x0001 4 1 ∷ blank ∷ []) 2) 0 (together "bd" 4 (at 0x0001 0 1 ∷ at 0x0001 1 1 ∷ blank ∷ []) 2)
-    ∷ edits (together "bd" 4 (at 0x0001 0 1 ∷ at 0x0001 1 1 ∷ blank ∷ []) 2) (sub "aaaa" ∷ []) (leaves (lent "bdaaaa" (at 0x0002 2 4 ∷ at 0x0001 0 1 ∷ at 0x0001 1 1 ∷ []) 3))
+    ∷ edits (together "bd" 4 (at 0x0001 0 1 ∷ at 0x0001 1 1 ∷ blank ∷ []) 2) (sub "aaaa" ∷ [])
+    (leaves (lent "bdaaaa" (at 0x0002 2 4 ∷ at 0x0001 0 1 ∷ at 0x0001 1 1 ∷ []) 3))
     ∷ edits (together "bd" 4 (at 0x0001 0 1 ∷ at 0x0001 1 1 ∷ blank ∷ []) 2) (sub "aaaaa" ∷ []) (refusedEdit 15)
     ∷ []
 
@@ -408,7 +437,8 @@ readers-answered =
     (answered (lines ("* LIST (\\HasNoChildren) \"/\" \"A\"" ∷ "* LIST (\\HasNoChildren) \"/\" \"C\"" ∷ "* LIST (\\All \\HasNoChildren) \"/\" \"S\""
     ∷ "a OK done" ∷ [])))
     ∷ repliesTo 3 readers-table 16384 (sends "a LIST \"\" % RETURN (CHILDREN)" ∷ [])
-    (answered (lines ("* LIST (\\NonExistent \\HasChildren) \"/\" \"A\"" ∷ "* LIST (\\HasNoChildren) \"/\" \"C\"" ∷ "* LIST (\\HasNoChildren) \"/\" \"S\""
+    (answered (lines ("* LIST (\\NonExistent \\HasChildren) \"/\" \"A\"" ∷ "* LIST (\\HasNoChildren) \"/\" \"C\"" ∷
+    "* LIST (\\HasNoChildren) \"/\" \"S\""
     ∷ "a OK done" ∷ [])))
     ∷ repliesTo 7 readers-table 16384 (sends "a LIST \"\" * RETURN (CHILDREN)" ∷ [])
     (answered (lines ("* LIST (\\HasChildren) \"/\" \"C\"" ∷ "* LIST (\\HasNoChildren) \"/\" \"C/d\"" ∷ "a OK done" ∷ [])))
@@ -416,7 +446,8 @@ readers-answered =
     (answered (lines ("* LIST (\\NonExistent) \"/\" \"A\" (\"CHILDINFO\" (\"SUBSCRIBED\"))" ∷ "a OK done" ∷ [])))
     ∷ repliesTo 7 readers-table 16384 (sends "a LIST (SUBSCRIBED RECURSIVEMATCH) \"\" %" ∷ [])
     (answered (lines ("* LIST () \"/\" \"C\" (\"CHILDINFO\" (\"SUBSCRIBED\"))" ∷ "a OK done" ∷ [])))
-    ∷ repliesTo 0 readers-table 11 (map sends ("a LIST (SUBSCRIBED RECURSIVEMATCH) \"\" %" ∷ "a LSUB \"\" %" ∷ "a LIST \"\" E" ∷ "a LIST \"\" A/b" ∷ []))
+    ∷ repliesTo 0 readers-table 11 (map sends ("a LIST (SUBSCRIBED RECURSIVEMATCH) \"\" %" ∷ "a LSUB \"\" %" ∷ "a LIST \"\" E" ∷ "a LIST \"\" A/b" ∷
+    []))
     (answered (sends "a OK done"))
     ∷ repliesTo 1 readers-table 16384 (sends "a LIST \"\" *" ∷ []) (answered (lines ("* LIST () \"/\" \"C\"" ∷ "a OK done" ∷ [])))
     ∷ repliesTo 3 readers-table 16384 (sends "a LSUB \"\" %" ∷ []) (answered (lines ("* LSUB (\\Noselect) \"/\" \"A\"" ∷ "a OK done" ∷ [])))
@@ -458,7 +489,8 @@ a-for readers f = lent "a??" (atFor readers f 0 1 ∷ blank ∷ []) 1
 -- rows: the flag of a row that reader 0 does not see is set and its readers stay; what is inserted all eight see, what is freed is zero.
 abbrev pub readers-edits : List Case
 readers-edits =
-    commandsOf 3 (a-for 0x08 0x0001) 0 [] (map sends ("a SUBSCRIBE a" ∷ "a UNSUBSCRIBE a" ∷ "a UNSUBSCRIBE x" ∷ "a SUBSCRIBE \"\"" ∷ "a SUBSCRIBE aaaa" ∷ "a SUBSCRIBE b" ∷ []))
+    commandsOf 3 (a-for 0x08 0x0001) 0 [] (map sends ("a SUBSCRIBE a" ∷ "a UNSUBSCRIBE a" ∷ "a UNSUBSCRIBE x" ∷ "a SUBSCRIBE \"\"" ∷
+    "a SUBSCRIBE aaaa" ∷ "a SUBSCRIBE b" ∷ []))
     (refusal 16) (a-for 0x08 0x0001)
     ∷ commandsOf 7 (a-for 0x08 0x0001) 16384 [] (map sends ("a SUBSCRIBE a" ∷ "a UNSUBSCRIBE x" ∷ [])) (refusal 16) (a-for 0x08 0x0001)
     ∷ commandsOf 3 (a-for 0x08 0x0001) 0 [] (map sends ("a SUBSCRIBE a%" ∷ "a SUBSCRIBE" ∷ [])) (refusal 4) (a-for 0x08 0x0001)
@@ -469,10 +501,13 @@ readers-edits =
     ∷ commandsOf 0 (a-for 0x08 0x0001) 11 [] (sends "a SUBSCRIBE a" ∷ []) (answered (sends "a OK done")) (a-for 0x08 0x0003)
     ∷ commandsOf 0 (a-for 0x00 0x0003) 11 [] (sends "a UNSUBSCRIBE a" ∷ []) (answered (sends "a OK done")) (a-for 0x00 0x0001)
     ∷ commandsOf 0 (a-for 0x00 0x0011) 11 [] (map sends ("a SUBSCRIBE a/b" ∷ [])) (refusal 14) (a-for 0x00 0x0011)
-    ∷ commandsOf 0 (a-for 0x08 0x0001) 11 [] (sends "a SUBSCRIBE bb" ∷ []) (answered (sends "a OK done")) (lent "abb" (atFor 0x08 0x0001 0 1 ∷ atFor 0xFF 0x0002 1 2 ∷ []) 2)
-    ∷ commandsOf 0 (lent "ab" (atFor 0x08 0x0002 0 1 ∷ atFor 0x10 0x0001 1 1 ∷ atFor 0x20 0x0003 9 9 ∷ []) 2) 11 [] (sends "a UNSUBSCRIBE a" ∷ []) (answered (sends "a OK done"))
+    ∷ commandsOf 0 (a-for 0x08 0x0001) 11 [] (sends "a SUBSCRIBE bb" ∷ []) (answered (sends "a OK done"))
+    (lent "abb" (atFor 0x08 0x0001 0 1 ∷ atFor 0xFF 0x0002 1 2 ∷ []) 2)
+    ∷ commandsOf 0 (lent "ab" (atFor 0x08 0x0002 0 1 ∷ atFor 0x10 0x0001 1 1 ∷ atFor 0x20 0x0003 9 9 ∷ []) 2) 11 [] (sends "a UNSUBSCRIBE a" ∷ [])
+    (answered (sends "a OK done"))
     (record { area = 0 ∷ text "b"; records = atFor 0x10 0x0001 1 1 ∷ blank ∷ atFor 0x20 0x0003 9 9 ∷ []; count = 1 })
-    ∷ commandsOf 3 (a-for 0x08 0x0003) 30 [] (sends "a LSUB \"\" *" ∷ []) (answered (lines ("* LSUB () \"/\" \"a\"" ∷ "a OK done" ∷ []))) (a-for 0x08 0x0003)
+    ∷ commandsOf 3 (a-for 0x08 0x0003) 30 [] (sends "a LSUB \"\" *" ∷ []) (answered (lines ("* LSUB () \"/\" \"a\"" ∷ "a OK done" ∷ [])))
+    (a-for 0x08 0x0003)
     ∷ compacts (lent "?b?a" (atFor 0x05 0x0001 3 1 ∷ atFor 0x00 0x0002 1 1 ∷ atFor 0x07 0x0001 0 9 ∷ []) 2) 0
     (together "ba" 2 (atFor 0x05 0x0001 1 1 ∷ atFor 0x00 0x0002 0 1 ∷ atFor 0x07 0x0001 0 9 ∷ []) 2)
     ∷ []
@@ -636,7 +671,8 @@ lsub-lines =
     -- INBOX in any case of letters; a subscribed INBOX above a subscribed name is given once
     ∷ replies 16384 subscriptions-table [] (sends "a LSUB \"\" in%") (answered (lines ("* LSUB () \"/\" \"INBOX\"" ∷ "a OK done" ∷ [])))
     -- an implied INBOX
-    ∷ replies 16384 (mailbox 0x0003 "INBOX/x") [] (sends "a LSUB i \"N%\"") (answered (lines ("* LSUB (\\Noselect) \"/\" \"INBOX\"" ∷ "a OK done" ∷ [])))
+    ∷ replies 16384 (mailbox 0x0003 "INBOX/x") [] (sends "a LSUB i \"N%\"")
+    (answered (lines ("* LSUB (\\Noselect) \"/\" \"INBOX\"" ∷ "a OK done" ∷ [])))
     ∷ []
 
 -- LSUB takes a reference and a single pattern: 4 for a selection, parentheses, RETURN or a second pattern; 8 for a canonical pattern of 256
@@ -655,7 +691,8 @@ lsub-grammar =
     ∷ replies 36 tableE [] (sends "a LSUB \"\" *") (answered (lines ("* LSUB () \"/\" \"Foo/Baz\"" ∷ "a OK done" ∷ [])))
     ∷ replies 35 tableE [] (sends "a LSUB \"\" *") (refusal 9)
     -- an LSUB line is none that the reader takes
-    ∷ reads (sends "* LIST () \"/\" \"a\"") (line plain (text "a") none-named) (map sends ("* LSUB () \"/\" \"a\"" ∷ "* LSUB (\\Noselect) \"/\" \"a\"" ∷ []))
+    ∷ reads (sends "* LIST () \"/\" \"a\"") (line plain (text "a") none-named)
+    (map sends ("* LSUB () \"/\" \"a\"" ∷ "* LSUB (\\Noselect) \"/\" \"a\"" ∷ []))
     ∷ []
 
 -- NAMESPACE
@@ -774,7 +811,8 @@ line-writer =
 -- the reader's parts: a name in 200 bytes, zero after it; a refusal gives no attributes and an empty name
 abbrev pub reader-parts : List Case
 reader-parts =
-    gives (sends "* LIST (\\Marked \\Unmarked) \"/\" \"ab\" (\"CHILDINFO\" (\"SUBSCRIBED\" \"SPECIAL-USE\"))") 0 both-marked 3 (text "ab" ++ times 198 0)
+    gives (sends "* LIST (\\Marked \\Unmarked) \"/\" \"ab\" (\"CHILDINFO\" (\"SUBSCRIBED\" \"SPECIAL-USE\"))") 0 both-marked 3
+    (text "ab" ++ times 198 0)
     ∷ gives (sends "* LIST (\\Noselect) \"/\" \"\"") 0 noselect 0 (times 200 0)
     ∷ gives (sends "* LIST (\\Marked) \"/\" \"a/\" (\"CHILDINFO\" (\"SUBSCRIBED\"))") 12 plain 0 (times 200 0)
     ∷ []
@@ -801,12 +839,15 @@ reader-lines =
 -- the program: document 01's whole session; then a table in two frames, each cause of 13, walks, and a last frame without LF
 abbrev pub program-frames : List Case
 program-frames =
-    program (text "430061204E414D4553504143450D0A\n4D0003\n4dFf0161\n\n4D0\n43 61\n43\n4300\n57\n5700\n57000000\n58\n570000\n570004\n570800\n4308\n4D00\n570000\n5700")
-    (text "412A204E414D455350414345204E494C204E494C204E494C0D0A61204F4B20646F6E650D0A\n520D\n520D\n520D\n520D\n5203\n520D\n520D\n520D\n520D\n5700010161\n5206\n5210\n5210\n5201\n520D\n")
+    program (text
+    "430061204E414D4553504143450D0A\n4D0003\n4dFf0161\n\n4D0\n43 61\n43\n4300\n57\n5700\n57000000\n58\n570000\n570004\n570800\n4308\n4D00\n570000\n5700")
+    (text
+    "412A204E414D455350414345204E494C204E494C204E494C0D0A61204F4B20646F6E650D0A\n520D\n520D\n520D\n520D\n5203\n520D\n520D\n520D\n520D\n5700010161\n5206\n5210\n5210\n5201\n520D\n")
     ∷ program (0x34 ∷ 0x44 ∷ times 4100 0x30 ++ (10 ∷ (0x34 ∷ 0x44 ∷ times 4102 0x30 ++ (10 ∷ [])))) (text "520D\n")
     ∷ []
 
--- digits of either case and their neighbours; stored bytes at both sides of their room; the count's two bytes
+-- digits of either case and their neighbours; stored bytes at both sides of their room, where a 4D without room leaves the list and a 4E without
+-- room the table; the count's two bytes
 abbrev pub program-digits-and-room : List Case
 program-digits-and-room =
     steps 0 0 (text "4D09AFaf") 3 0 []

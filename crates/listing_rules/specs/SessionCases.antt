@@ -16,23 +16,28 @@ program-keeps-the-list =
     program (text "4E00002F\n4D0001FF0161\n430061204E414D4553504143450D0A\n4E020000\n570000\n58\n430061204C535542202222202A0D0A\n4D0001FF0162\n"
     ++ text "4300612053554253435249424520620D0A\n4D\n430061204E414D4553504143450D0A\n570000\n")
     (text "412A204E414D455350414345202828222220222F222929204E494C204E494C0D0A61204F4B20646F6E650D0A\n570001\n520D\n4161204F4B20646F6E650D0A\n"
-    ++ text "4161204F4B20646F6E650D0A\n520D\n412A204E414D455350414345202828222220222F222929204E494C2028282222204E494C29290D0A61204F4B20646F6E650D0A\n5700010162\n")
+    ++ text
+    "4161204F4B20646F6E650D0A\n520D\n412A204E414D455350414345202828222220222F222929204E494C2028282222204E494C29290D0A61204F4B20646F6E650D0A\n5700010162\n")
     ∷ []
 
 -- LSUB, LIST, the root line and NAMESPACE are no edits: a 4D after each is a row. The last LIST has all four, and the walk finds d.
 abbrev pub program-rows-after-commands : List Case
 program-rows-after-commands =
-    program (text "430061204C535542202222202A0D0A\n4D0001FF0161\n430061204C495354202222202A0D0A\n4D0001FF0162\n430061204C4953542022222022220D0A\n4D0001FF0163\n"
+    program (text
+    "430061204C535542202222202A0D0A\n4D0001FF0161\n430061204C495354202222202A0D0A\n4D0001FF0162\n430061204C4953542022222022220D0A\n4D0001FF0163\n"
     ++ text "430061204E414D4553504143450D0A\n4D0003FF0164\n430061204C495354202222202A0D0A\n570000\n")
-    (text "4161204F4B20646F6E650D0A\n412A204C49535420282920222F22202261220D0A61204F4B20646F6E650D0A\n412A204C49535420285C4E6F73656C6563742920222F222022220D0A61204F4B20646F6E650D0A\n"
-    ++ (text "412A204E414D455350414345204E494C204E494C204E494C0D0A61204F4B20646F6E650D0A\n412A204C49535420282920222F22202261220D0A2A204C49535420282920222F22202262220D0A"
+    (text
+    "4161204F4B20646F6E650D0A\n412A204C49535420282920222F22202261220D0A61204F4B20646F6E650D0A\n412A204C49535420285C4E6F73656C6563742920222F222022220D0A61204F4B20646F6E650D0A\n"
+    ++ (text
+    "412A204E414D455350414345204E494C204E494C204E494C0D0A61204F4B20646F6E650D0A\n412A204C49535420282920222F22202261220D0A2A204C49535420282920222F22202262220D0A"
     ++ text "2A204C49535420282920222F22202263220D0A2A204C49535420282920222F22202264220D0A61204F4B20646F6E650D0A\n5700010164\n"))
     ∷ []
 
 -- Reader 0 sees a and reader 3 sees b, by commands too, before an edit and after it; NAMESPACE is answered to reader 3; reader 8 is 16.
 abbrev pub program-answers-readers : List Case
 program-answers-readers =
-    program (text "4D0003010161\n4D0003080162\n430061204C495354202222202A0D0A\n430361204C495354202222202A0D0A\n430361204E414D4553504143450D0A\n430861204E414D4553504143450D0A\n"
+    program (text
+    "4D0003010161\n4D0003080162\n430061204C495354202222202A0D0A\n430361204C495354202222202A0D0A\n430361204E414D4553504143450D0A\n430861204E414D4553504143450D0A\n"
     ++ text "570300\n570800\n4300612053554253435249424520610D0A\n430361204C495354202222202A0D0A\n")
     (text "412A204C49535420282920222F22202261220D0A61204F4B20646F6E650D0A\n412A204C49535420282920222F22202262220D0A61204F4B20646F6E650D0A\n"
     ++ (text "412A204E414D455350414345204E494C204E494C204E494C0D0A61204F4B20646F6E650D0A\n5210\n5700010162\n5210\n4161204F4B20646F6E650D0A\n"
@@ -60,7 +65,8 @@ abbrev pub program-lays-out : List Case
 program-lays-out =
     laysOut [] [] []
     ∷ laysOut (mailboxFor 0x08 0x0021 "Foo/x" ++ mailboxFor 0xFF 0x0002 "Moo")
-    (record { flags = 0x0021; start = 0; len = 5; readers = 0x08 } ∷ record { flags = 0x0002; start = 5; len = 3; readers = 0xFF } ∷ []) (text "Foo/xMoo")
+    (record { flags = 0x0021; start = 0; len = 5; readers = 0x08 } ∷ record { flags = 0x0002; start = 5; len = 3; readers = 0xFF } ∷ [])
+    (text "Foo/xMoo")
     ∷ []
 
 -- a row b, subscribed; three spare records and room for three names
@@ -78,11 +84,14 @@ b-subscribed =
 abbrev sending : ℕ → List ℕ → ℕ → String → Sent
 sending reader spaces room l = record { reader = reader; namespaces = spaces; line = sends l; buffer = times room 0 }
 
--- what another reader sends, what is sent under a list that does not pass, and what has no room for its answer is accepted by no set
+-- what another reader sends, what is sent under a list that does not pass, and what has no room for its answer is accepted by no set; nor is what
+-- finds no bytes after the command before it
 abbrev pub series-as-sent : List Case
 series-as-sent =
     sentSeries b-subscribed (sending 3 [] 64 "a SUBSCRIBE c" ∷ sending 0 (9 ∷ []) 64 "a SUBSCRIBE d" ∷ sending 0 [] 10 "a SUBSCRIBE e"
     ∷ sending 0 [] 11 "a SUBSCRIBE f" ∷ sending 3 [] 64 "a UNSUBSCRIBE b" ∷ []) (text "b" ∷ text "f" ∷ []) (text "c" ∷ text "d" ∷ text "e" ∷ [])
     ∷ sentSeries b-subscribed (sending 0 [] 64 "a UNSUBSCRIBE b" ∷ sending 0 [] 64 "a SUBSCRIBE inbox" ∷ sending 0 [] 64 "a LIST \"\" *" ∷ [])
     (text "INBOX" ∷ []) (text "b" ∷ text "inbox" ∷ [])
+    ∷ sentSeries b-subscribed (sending 0 [] 64 "a SUBSCRIBE cccc" ∷ sending 0 [] 64 "a SUBSCRIBE dd" ∷ []) (text "b" ∷ text "cccc" ∷ [])
+    (text "dd" ∷ [])
     ∷ []

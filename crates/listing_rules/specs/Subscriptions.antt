@@ -132,7 +132,8 @@ unfoldable pub insertion : Store → List ℕ → Edited
 insertion s n =
     elim (freeRun s (length n)) [
       | none ↦ denied 15
-      | some start ↦ cond (ltb (s .count) 512 && ltb (s .count) (length (s .records))) (stored (inserted s (rowsBefore (storeRows s) n) start n)) (denied 15)
+      | some start ↦ cond (ltb (s .count) 512 && ltb (s .count) (length (s .records))) (stored (inserted s (rowsBefore (storeRows s) n) start n))
+          (denied 15)
     ]
 
 -- "SUBSCRIBE sets the flag, or inserts a row 0002 if the name is lawful and has no row; below a row with no inferiors, or with an
@@ -157,13 +158,8 @@ unfoldable pub edited : Store → Edit → Edited
 edited s (subscribe n) = subscribing s (spelled n)
 edited s (unsubscribe n) = unsubscribing s (spelled n)
 
--- "A refusal changes nothing."
-unfoldable pub storeAfter : Store → Edited → Store
-storeAfter s (denied k) = s
-storeAfter s (stored t) = t
-
--- The names that are subscribed, and a plain set of names given the same edits: "After any series of edits the subscribed names are those
--- that a plain set, starting with the table's and given the same accepted edits, names so spelled, would hold."
+-- The names that are subscribed, and what an edit does to a plain set of names: "After any series of edits the subscribed names are those
+-- that a plain set, starting with the table's and given the same accepted edits, names so spelled, would hold." (`Series`)
 unfoldable pub isIn : List (List ℕ) → List ℕ → Bool
 isIn ns n = anyOf (same n) ns
 
@@ -174,17 +170,3 @@ subscribedNames s = map (λ r. r .name) (keep (λ r. subscribed (r .flags)) (sto
 unfoldable pub setEdited : (List ℕ → Bool) → Edit → List ℕ → Bool
 setEdited has (subscribe n) m = same (spelled n) m || has m
 setEdited has (unsubscribe n) m = not (same (spelled n) m) && has m
-
--- an edit that is refused leaves the set as it is
-unfoldable pub setAfter : (List ℕ → Bool) → Edit → Edited → List ℕ → Bool
-setAfter has e (denied k) m = has m
-setAfter has e (stored t) m = setEdited has e m
-
--- a series of edits, each over what the one before left
-unfoldable pub editedAll : Store → List Edit → Store
-editedAll s [] = s
-editedAll s (e ∷ es) = editedAll (storeAfter s (edited s e)) es
-
-unfoldable pub setAll : Store → (List ℕ → Bool) → List Edit → List ℕ → Bool
-setAll s has [] m = has m
-setAll s has (e ∷ es) m = setAll (storeAfter s (edited s e)) (setAfter has e (edited s e)) es m

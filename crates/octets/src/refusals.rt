@@ -36,7 +36,7 @@ pub const PENDING_FULL: u8 = 11;
 // The reader: not such a line. The line writer: not such parts.
 pub const NOT_SUCH_LINE: u8 = 12;
 
-// The program: a bad frame.
+// The program: a bad frame. The replay: a frame out of turn or unreadable, or an end after a command.
 pub const BAD_FRAME: u8 = 13;
 
 // SUBSCRIBE: an unlawful name, or one below a row with no inferiors.

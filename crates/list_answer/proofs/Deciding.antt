@@ -65,7 +65,7 @@ module _ (area words : List ℕ) (x : Indexed area words) (b : Beginning) (a : A
   abbrev whole : Bool
   whole = eqb (nthRow words (b .row) .len) (b .len)
 
-  begins-here : Begins area words (b .row) (b .len)
+  pub begins-here : Begins area words (b .row) (b .len)
   begins-here = record { indexed = x; row = a .row; within = a .within }
 
   asc : Asc byteOrder (names table)
@@ -80,20 +80,20 @@ module _ (area words : List ℕ) (x : Indexed area words) (b : Beginning) (a : A
   begun-length : length (begun area words b) ≡ b .len
   begun-length = length-take-le (b .len) (row .name) (omega (arith, size, a .within))
 
-  -- as it is taken from the row's name, where that was looked up
-  pub looked-size : (l : List ℕ) → l ≡ nthName area words (b .row) → b .len ≡ length (take (b .len) l)
-  looked-size l e = sym (ap (λ (k : List ℕ). length (take (b .len) k)) e ∙ begun-length)
-
   -- it is short enough for the match
   pub begun-short : leb (length (begun area words b)) 255 ≡ true
-  begun-short = le-leb (length n) 255 (omega (arith, length-take (b .len) (row .name), leb-true (length (row .name)) 255 (name-short area (getD words (b .row) 0))))
+  begun-short =
+      le-leb (length n) 255 (omega
+      (arith, length-take (b .len) (row .name), leb-true (length (row .name)) 255 (name-short area (getD words (b .row) 0))))
 
   row-at : (k : ℕ) → k < length words → getD table k noRow ≡ rowAtWord area (getD words k 0)
   row-at k h = map-at (rowAtWord area) words k noRow h
 
   -- it is longer than what the row shares with the one before
   among : (k : ℕ) → k < b .len → List·Memᴰ n (longer k (row .name))
-  among k h = subst (λ (l : List ℕ). List·Memᴰ n (longer k l)) (take-append-drop (b .len) (row .name)) (longer-has k n (drop (b .len) (row .name)) (omega (arith, begun-length)))
+  among k h =
+      subst (λ (l : List ℕ). List·Memᴰ n (longer k l)) (take-append-drop (b .len) (row .name))
+      (longer-has k n (drop (b .len) (row .name)) (omega (arith, begun-length)))
 
   -- so it comes after all rows before
   earlier : (q : Row) → List·Memᴰ q (take (b .row) table) → Less (q .name) n
@@ -111,7 +111,8 @@ module _ (area words : List ℕ) (x : Indexed area words) (b : Beginning) (a : A
           (among (sharedLen (nthName area words j) (row .name)) (omega (arith, s, a .beyond))) .0)
 
   rest : drop (b .row) table ≡ row ∷ drop (suc (b .row)) table
-  rest = drop-cons table (b .row) noRow (omega (arith, rows-length, a .row)) ∙ ap (λ (r : Row). r ∷ drop (suc (b .row)) table) (row-at (b .row) (a .row))
+  rest =
+      drop-cons table (b .row) noRow (omega (arith, rows-length, a .row)) ∙ ap (λ (r : Row). r ∷ drop (suc (b .row)) table) (row-at (b .row) (a .row))
 
   -- its flags: those of the row where it is the row's whole name, else none
   flags-whole : whole ≡ true → flagsOf table n ≡ row .flags
@@ -136,10 +137,12 @@ module _ (area words : List ℕ) (x : Indexed area words) (b : Beginning) (a : A
 
       later : (r : Row) → List·Memᴰ r (drop (b .row) table) → Less n (r .name)
       later r m =
-          ⊎-elim (λ f. rw f own) (λ k. bytes-total .trans n (row .name) (r .name) own (later-less table asc (b .row) row (drop (suc (b .row)) table) rest r k))
+          ⊎-elim (λ f. rw f own) (λ k. bytes-total .trans n (row .name) (r .name) own
+          (later-less table asc (b .row) row (drop (suc (b .row)) table) rest r k))
           (List·Memᴰ·cases-cons (subst (λ (l : List Row). List·Memᴰ r l) rest m))
 
-  pub flags-here : flagsOf (rowsAt area words) (begun area words b) ≡ cond (eqb (nthRow words (b .row) .len) (b .len)) (nthRow words (b .row) .flags .bits) 0
+  pub flags-here : flagsOf (rowsAt area words) (begun area words b) ≡ cond (eqb (nthRow words (b .row) .len) (b .len))
+      (nthRow words (b .row) .flags .bits) 0
   flags-here = go whole refl
     where
       go : (c : Bool) → whole ≡ c → flagsOf table n ≡ cond c (row .flags) 0
@@ -173,8 +176,10 @@ module _ (area words : List ℕ) (x : Indexed area words) (b : Beginning) (a : A
         go : (c : Bool) → o .selRecursive ≡ c → (c && meetsUnmatchedBelow table o ps n) ≡ (c && foundBelow area words 2 b)
         go true e =
             meetsUnmatchedBelow-rows table (x .ascend) o ps n
-            ∙ any-cong (λ r. below n (r .name) && meetsCriteria o (r .flags) && not (matchesAny ps (r .name))) (λ r. below n (r .name) && unmatchedMark o ps r)
-            (λ r. and-assoc (below n (r .name)) (meetsCriteria o (r .flags)) (not (matchesAny ps (r .name))) ∙ ap (λ (c : Bool). below n (r .name) && (c && test r)) (sym e)) table
+            ∙ any-cong (λ r. below n (r .name) && meetsCriteria o (r .flags) && not (matchesAny ps (r .name)))
+            (λ r. below n (r .name) && unmatchedMark o ps r)
+            (λ r. and-assoc (below n (r .name)) (meetsCriteria o (r .flags)) (not (matchesAny ps (r .name))) ∙ ap
+            (λ (c : Bool). below n (r .name) && (c && test r)) (sym e)) table
             ∙ scan-here (unmatchedMark o ps) 2 (has-unmatched area words o ps marked)
         go false e = refl
 
@@ -218,10 +223,13 @@ module _ (area words : List ℕ) (x : Indexed area words) (b : Beginning) (a : A
 
         asked : ((meetsCriteria o (row .flags) || o .selRecursive) || levelOnly o ps (row .flags)) ≡ true
         asked =
-            go (meetsCriteria o (row .flags)) (o .selRecursive) (meetsUnmatchedBelow table o ps n) (levelOnly o ps (row .flags)) (meetsBelow table o n)
-            (subst (λ (f : ℕ). ((meetsCriteria o f || (o .selRecursive && meetsUnmatchedBelow table o ps n)) || (levelOnly o ps f && meetsBelow table o n)) ≡ true) (flags-whole e) h)
+            go (meetsCriteria o (row .flags)) (o .selRecursive) (meetsUnmatchedBelow table o ps n) (levelOnly o ps (row .flags))
+            (meetsBelow table o n)
+            (subst (λ (f : ℕ). ((meetsCriteria o f || (o .selRecursive && meetsUnmatchedBelow table o ps n)) ||
+            (levelOnly o ps f && meetsBelow table o n)) ≡ true) (flags-whole e) h)
 
     -- a shorter one by its bytes
-    pub matched-proper : eqb (nthRow words (b .row) .len) (b .len) ≡ false → matchesAny (chosen (levelsAsked o ps) ps) (begun area words b) ≡ matchesFor (rowsAt area words) o ps (begun area words b)
+    pub matched-proper : eqb (nthRow words (b .row) .len) (b .len) ≡ false →
+        matchesAny (chosen (levelsAsked o ps) ps) (begun area words b) ≡ matchesFor (rowsAt area words) o ps (begun area words b)
     unfolding exists bit
     matched-proper e = rw (flags-proper e, and-true (levelsAsked o ps))

@@ -1,6 +1,6 @@
 -- What is shown of a name, by the tests of `decide`; and its text. Rests on Levels.
 use Rattle.listing_rules.proofs.Prelude.{_∙_, _≡_, ap, refl, sym, Bool, _&&_, _||_, and-false, cond, false, not, true, List, [], ℕ, drop, length}
-use Rattle.listing_rules.proofs.Prelude.{take}
+use Rattle.listing_rules.proofs.Prelude.{take, length-take-le, take-all, min, decLe, arith}
 use Rattle.listing_rules.specs.Flags.{exists, subscribed}
 use Rattle.listing_rules.specs.Table.{Row, flagsOf}
 use Rattle.listing_rules.specs.Options.{Options, Criteria, noCriteria, criteria, criteriaOf, criteriaNumber}
@@ -29,6 +29,22 @@ use Rattle.list_answer.proofs.Levels.{listed-for, level-matched}
 pub named : (area : List ℕ) (w : ℕ) (r : Place) → r ≡ rowOfWord w → (n : List ℕ) → n ≡ take (r .len) (drop (r .start) area) → n ≡ nameAt area w
 unfolding nameAt
 named area w r e n f = f ∙ ap (λ (q : Place). take (q .len) (drop (q .start) area)) e
+
+-- its first k bytes, or all of them where it has fewer
+pub fronted : (area : List ℕ) (w : ℕ) (r : Place) → r ≡ rowOfWord w → (k : ℕ) (n : List ℕ) → n ≡ take k (take (r .len) (drop (r .start) area)) →
+    n ≡ take k (nameAt area w)
+fronted area w r e k n f = f ∙ ap (λ (l : List ℕ). take k l) (named area w r e (take (r .len) (drop (r .start) area)) refl)
+
+module _ (k : ℕ) (l : List ℕ) (e : ℕ) (h : e ≡ min k (length l)) where
+  pub front-size : e ≡ length (take e l)
+  front-size = sym (length-take-le e l (omega arith))
+
+  pub front-is : take e l ≡ take k l
+  front-is =
+      elim (decLe k (length l)) [
+        | yes g ↦ let same : e ≡ k = omega arith in ap (λ (j : ℕ). take j l) same
+        | no g ↦ take-all e l (omega arith) ∙ sym (take-all k l (omega arith))
+      ]
 
 -- the last two of the sixteen are shown with CHILDREN alone, but for a level, so children need not be looked for without it
 children-asked : (f : ℕ) (o : Options) (h v : Bool) → attributesFor f o (o .retChildren && h) v ≡ attributesFor f o h v
@@ -86,7 +102,8 @@ module _ (w : LineWord) (rs : List Row) (o : Options) (ps : List (List ℕ)) (n 
       unfolding shownIs
       line f bits eb named en =
           sym
-          (ap (λ (b : Bool). cond b (Line (record { bits = setOf (attributesOn w rs o ps n) }) (record { bits = criteriaNumber (criteriaOn w rs o n) })) Nothing) shows
+          (ap (λ (b : Bool). cond b (Line (record { bits = setOf (attributesOn w rs o ps n) })
+          (record { bits = criteriaNumber (criteriaOn w rs o n) })) Nothing) shows
           ∙ (λ j. Line (record { bits = eb j }) (record { bits = en j })))
         where
           shows : listed rs o ps n ≡ true
@@ -103,7 +120,8 @@ module _ (w : LineWord) (rs : List Row) (o : Options) (ps : List (List ℕ)) (n 
 
           shown-bits : setOf (attributesOn w rs o ps n) ≡ bits .bits
           shown-bits =
-              ap setOf (list-attributes ew ∙ sym (children-asked (flagsOf rs n) o (hasChildren rs o n) (levelAbove rs o ps n)) ∙ (λ i. attributesFor (sym ef i) o (sym ek i) (above i)))
+              ap setOf (list-attributes ew ∙ sym (children-asked (flagsOf rs n) o (hasChildren rs o n) (levelAbove rs o ps n)) ∙
+              (λ i. attributesFor (sym ef i) o (sym ek i) (above i)))
               ∙ sym eb
 
           shown-info : criteriaNumber (criteriaOn w rs o n) ≡ named .bits
@@ -149,7 +167,8 @@ module _ (w : LineWord) (rs : List Row) (o : Options) (ps : List (List ℕ)) (n 
       go OfList = unfold attributesOn attributes attributesFor inOrder in refl
       go OfLsub = unfold attributesOn lsubAttributes inOrder in refl
 
-  pub text-line : (a : Attributes) (c : CriteriaBits) → shownIs w rs o ps n ≡ Line a c → shownText w rs o ps n ≡ wordLine (startOf w) (members (a .bits)) n (criteriaOf (c .bits))
+  pub text-line : (a : Attributes) (c : CriteriaBits) → shownIs w rs o ps n ≡ Line a c →
+      shownText w rs o ps n ≡ wordLine (startOf w) (members (a .bits)) n (criteriaOf (c .bits))
   unfolding shownIs shownText lineOn
   text-line a c e = go (listed rs o ps n) e
     where
@@ -159,6 +178,8 @@ module _ (w : LineWord) (rs : List Row) (o : Options) (ps : List (List ℕ)) (n 
       go true f =
           let g : record { bits = setOf (attributesOn w rs o ps n) } ≡ a = cc in
           let h : record { bits = criteriaNumber (criteriaOn w rs o n) } ≡ c = cc in
-          ap (λ (k : Criteria). wordLine (startOf w) (attributesOn w rs o ps n) n k) (sym (criteria-number (criteriaOn w rs o n)) ∙ ap (λ (x : CriteriaBits). criteriaOf (x .bits)) h)
-          ∙ ap (λ (l : List Bool). wordLine (startOf w) l n (criteriaOf (c .bits))) (sym (members-setOf (attributesOn w rs o ps n) sixteen) ∙ ap (λ (x : Attributes). members (x .bits)) g)
+          ap (λ (k : Criteria). wordLine (startOf w) (attributesOn w rs o ps n) n k)
+          (sym (criteria-number (criteriaOn w rs o n)) ∙ ap (λ (x : CriteriaBits). criteriaOf (x .bits)) h)
+          ∙ ap (λ (l : List Bool). wordLine (startOf w) l n (criteriaOf (c .bits)))
+          (sym (members-setOf (attributesOn w rs o ps n) sixteen) ∙ ap (λ (x : Attributes). members (x .bits)) g)
       go false f = cc

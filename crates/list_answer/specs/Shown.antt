@@ -3,6 +3,8 @@ use mathlib.Core.Path.{_≡_}
 use mathlib.Core.Bool.{Bool, true, cond, _&&_, _||_, not}
 use mathlib.Core.List.{List, [], _++_, map}
 use Prim.Native.Nat.{ℕ}
+use lib.Dec.{leb}
+use lib.ListN.{length}
 use Rattle.listing_rules.specs.Lists.{joined}
 use Rattle.listing_rules.specs.Table.{Row, flagsOf}
 use Rattle.listing_rules.specs.Options.{Options, Criteria, noCriteria, criteriaNumber}
@@ -10,7 +12,7 @@ use Rattle.listing_rules.specs.Match.{matchesAny}
 use Rattle.listing_rules.specs.Listing.{candidateMeets, meetsBelow, meetsUnmatchedBelow, listed, attributes, childInfo, listedNames}
 use Rattle.listing_rules.specs.Lines.{wordLine, okLine}
 use Rattle.listing_rules.specs.Lsub.{isSubscribed, lsubAttributes}
-use Rattle.listing_rules.specs.Server.{Reply, answered, listAnswer, lsubAnswer}
+use Rattle.listing_rules.specs.Server.{Reply, refusal, answered, listAnswer, lsubAnswer}
 use Rattle.list_line.specs.declared.words.LineWord.{LineWord}
 use Rattle.list_line.specs.declared.words.LineWord.the-variants.{List as OfList, Lsub as OfLsub}
 use Rattle.list_line.specs.Members.{setOf}
@@ -28,7 +30,7 @@ use Rattle.list_answer.specs.declared.decide.Shown.{Shown}
 use Rattle.list_answer.specs.declared.decide.Shown.the-variants.{Line, Nothing}
 use Rattle.list_answer.specs.Prefixes.{longer, prefixes}
 use Rattle.list_answer.specs.Marks.{levelOnly}
-use Rattle.list_answer.specs.Ready.{Ready}
+use Rattle.list_answer.specs.Ready.{Ready, At}
 
 -- A name that matches is listed by its own right, or as a level
 
@@ -83,6 +85,12 @@ foundBelow area words m b = belowFrom area words m (begun area words b) (b .row)
 abbrev pub shownAt : List ℕ → List ℕ → List ℕ → Question → Beginning → Shown
 shownAt area words patterns q b = shownIs (q .word) (rowsAt area words) (optionsIs (q .options)) (unpacked patterns) (begun area words b)
 
+-- What the code promises of a name, where the rows are ready for the question and the patterns and the name is one to look at
+
+-- what `decide` promises
+abbrev pub Decided : List ℕ → List ℕ → List ℕ → Question → Beginning → Shown → Type 0
+Decided area words patterns q b r = Ready area words patterns q → At words b → r ≡ shownAt area words patterns q b
+
 -- what the rows say of a name
 pub record Stands (area words patterns : List ℕ) (q : Question) (b : Beginning) (s : Standing) : Type 0 where
   pub flags : s .flags .bits ≡ flagsOf (rowsAt area words) (begun area words b)
@@ -91,7 +99,7 @@ pub record Stands (area words patterns : List ℕ) (q : Question) (b : Beginning
 
 -- what `look_at` promises: for whatever patterns the rows are marked
 abbrev pub StandsFor : List ℕ → List ℕ → Question → Beginning → Standing → Type 0
-StandsFor area words q b s = (patterns : List ℕ) → Ready area words patterns q → Stands area words patterns q b s
+StandsFor area words q b s = (patterns : List ℕ) → Ready area words patterns q → At words b → Stands area words patterns q b s
 
 -- what `is_matched` promises: where the name is listed if it matches, whether it does
 abbrev pub Matched : List ℕ → List ℕ → List ℕ → Question → Beginning → Bool → Type 0
@@ -100,7 +108,7 @@ Matched area words patterns q b r =
     let o = optionsIs (q .options) in
     let ps = unpacked patterns in
     let n = begun area words b in
-    (byRight rs o ps n || asLevel rs o ps n) ≡ true → r ≡ matchesFor rs o ps n
+    Ready area words patterns q → At words b → (byRight rs o ps n || asLevel rs o ps n) ≡ true → r ≡ matchesFor rs o ps n
 
 -- the texts of a name, of the names that begin at row i, and of all rows
 abbrev pub textOf : List ℕ → List ℕ → List ℕ → Question → List ℕ → List ℕ
@@ -130,5 +138,7 @@ replyTo area words patterns q tag = answered (answerText area words patterns q t
 abbrev pub listReply : List ℕ → List ℕ → List ℕ → OptionSet → List ℕ → Reply
 listReply area words patterns o tag = answered (listAnswer (rowsAt area words) tag (optionsIs o) (unpacked patterns))
 
+-- LSUB has "a single pattern": a second one is 4, as on its line
 abbrev pub lsubReply : List ℕ → List ℕ → List ℕ → List ℕ → Reply
-lsubReply area words patterns tag = answered (lsubAnswer (rowsAt area words) tag (unpacked patterns))
+lsubReply area words patterns tag =
+    cond (leb (length (unpacked patterns)) 1) (answered (lsubAnswer (rowsAt area words) tag (unpacked patterns))) (refusal 4)

@@ -2,29 +2,33 @@
 use super::decide::Beginning;
 use super::decide::Shown;
 use super::decide::decide;
+use super::decide::front_of;
 use super::marks::mark_rows;
 use super::question::Question;
+use super::question::is_one_at_most;
 use command_line::Options;
 use list_line::put_line;
 use list_line::put_ok_line;
+use mailbox_table::MAX_ROWS;
 use mailbox_table::no_words;
 use mailbox_table::rows::Row;
-use mailbox_table::rows::name_of;
 use octets::Written;
+use octets::refusals::GRAMMAR;
 use octets::refusals::SHORT_BUFFER;
+use octets::refusals::TABLE;
 ghost use mathlib.Core.Path.{_≡_};
 ghost use mathlib.Core.Bool.{cond};
-ghost use Prim.Native.Nat.{_<_, _≤_, _-_};
+ghost use Prim.Native.Nat.{_<_, _-_};
 ghost use lib.ListN.{length};
 ghost use Rattle.octets.specs.Put.{Put};
 ghost use Rattle.octets.specs.Written.{Gives};
-ghost use Rattle.pattern.specs.Packed.{unpacked};
 ghost use Rattle.mailbox_table.specs.Index.{Index};
 ghost use Rattle.list_answer.specs.Ready.{Knows, Ready, At};
 ghost use Rattle.list_answer.specs.Shown.{textAt, rowText, rowsText, answerText, replyTo, listReply, lsubReply};
 
-// The LIST answer over the index of a table that passes: the rows are marked for the command, and the answer is written or refused.
-// Only the crate `server` calls it, with the index that `mailbox_table::index` made.
+// The LIST answer: the rows are marked for the command, and the answer is written or refused. The promise is for the index of a table
+// that passes, which `mailbox_table::index` makes, or what `see_rows` leaves of it. Over other words it answers something, inside the
+// lent memory; more words than a table has rows are refused with 1.
 pub fn write_list(
     area: &[u8],
     words: &[u64],
@@ -33,16 +37,15 @@ pub fn write_list(
     tag: &[u8],
     out: &mut [u8],
 ) -> Written
-    requires { ⌜ Index (now area) (now words) ⌝ }
-    ensures { λ r. ⌜ Gives
+    ensures { λ r. ⌜ (Index (now (area .entry)) (now (words .entry)) → Gives
         (listReply (now (area .entry)) (now (words .entry)) (now (patterns .entry)) options (now (tag .entry)))
-        (now (out .entry)) (now (out .exit)) r ⌝ }
+        (now (out .entry)) (now (out .exit)) r) ⌝ }
 {
     let question = Question::of(options, patterns);
     write_answer(area, words, patterns, question, tag, out)
 }
 
-// The LSUB answer, in the same way. An LSUB command has one pattern at most.
+// The LSUB answer, under the same condition. A second pattern is refused with 4.
 pub fn write_lsub(
     area: &[u8],
     words: &[u64],
@@ -50,12 +53,13 @@ pub fn write_lsub(
     tag: &[u8],
     out: &mut [u8],
 ) -> Written
-    requires { ⌜ Index (now area) (now words) ⌝ }
-    requires { ⌜ length (unpacked (now patterns)) ≤ 1 ⌝ }
-    ensures { λ r. ⌜ Gives
+    ensures { λ r. ⌜ (Index (now (area .entry)) (now (words .entry)) → Gives
         (lsubReply (now (area .entry)) (now (words .entry)) (now (patterns .entry)) (now (tag .entry)))
-        (now (out .entry)) (now (out .exit)) r ⌝ }
+        (now (out .entry)) (now (out .exit)) r) ⌝ }
 {
+    if !is_one_at_most(patterns) {
+        return Written::Refused(GRAMMAR);
+    }
     let question = Question::lsub(patterns);
     write_answer(area, words, patterns, question, tag, out)
 }
@@ -69,13 +73,15 @@ fn write_answer(
     tag: &[u8],
     out: &mut [u8],
 ) -> Written
-    requires { ⌜ Index (now area) (now words) ⌝ }
     requires { ⌜ Knows (now patterns) question ⌝ }
-    ensures { λ r. ⌜ Gives
+    ensures { λ r. ⌜ (Index (now (area .entry)) (now (words .entry)) → Gives
         (replyTo (now (area .entry)) (now (words .entry)) (now (patterns .entry)) question (now (tag .entry)))
-        (now (out .entry)) (now (out .exit)) r ⌝ }
+        (now (out .entry)) (now (out .exit)) r) ⌝ }
 {
     let n = words.len();
+    if MAX_ROWS < n {
+        return Written::Refused(TABLE);
+    }
     let mut marked = no_words();
     mark_rows(area, words, patterns, question, &mut marked);
     write_marked(area, &marked[..n], patterns, question, tag, out)
@@ -90,10 +96,9 @@ fn write_marked(
     tag: &[u8],
     out: &mut [u8],
 ) -> Written
-    requires { ⌜ Ready (now area) (now words) (now patterns) question ⌝ }
-    ensures { λ r. ⌜ Gives
+    ensures { λ r. ⌜ (Ready (now (area .entry)) (now (words .entry)) (now (patterns .entry)) question → Gives
         (replyTo (now (area .entry)) (now (words .entry)) (now (patterns .entry)) question (now (tag .entry)))
-        (now (out .entry)) (now (out .exit)) r ⌝ }
+        (now (out .entry)) (now (out .exit)) r) ⌝ }
 {
     let mut none = [0u8; 0];
     let need = put_answer(&mut none, area, words, patterns, question, tag);
@@ -113,9 +118,9 @@ fn put_answer(
     question: Question,
     tag: &[u8],
 ) -> usize
-    requires { ⌜ Ready (now area) (now words) (now patterns) question ⌝ }
-    ensures { λ r. ⌜ Put (now (buf .entry)) (now (buf .exit)) 0
-        (answerText (now (area .entry)) (now (words .entry)) (now (patterns .entry)) question (now (tag .entry))) r ⌝ }
+    ensures { λ r. ⌜ (Ready (now (area .entry)) (now (words .entry)) (now (patterns .entry)) question →
+        Put (now (buf .entry)) (now (buf .exit)) 0
+        (answerText (now (area .entry)) (now (words .entry)) (now (patterns .entry)) question (now (tag .entry))) r) ⌝ }
 {
     let to = put_rows(buf, 0, area, words, patterns, question);
     put_ok_line(buf, to, tag)
@@ -130,9 +135,9 @@ fn put_rows(
     patterns: &[u8],
     question: Question,
 ) -> usize
-    requires { ⌜ Ready (now area) (now words) (now patterns) question ⌝ }
-    ensures { λ r. ⌜ Put (now (buf .entry)) (now (buf .exit)) at
-        (rowsText (now (area .entry)) (now (words .entry)) (now (patterns .entry)) question) r ⌝ }
+    ensures { λ r. ⌜ (Ready (now (area .entry)) (now (words .entry)) (now (patterns .entry)) question →
+        Put (now (buf .entry)) (now (buf .exit)) at
+        (rowsText (now (area .entry)) (now (words .entry)) (now (patterns .entry)) question) r) ⌝ }
 {
     let mut to = at;
     let mut i = 0;
@@ -153,10 +158,10 @@ fn put_row(
     question: Question,
     i: usize,
 ) -> usize
-    requires { ⌜ Ready (now area) (now words) (now patterns) question ⌝ }
     requires { ⌜ i < length (now words) ⌝ }
-    ensures { λ r. ⌜ Put (now (buf .entry)) (now (buf .exit)) at
-        (rowText (now (area .entry)) (now (words .entry)) (now (patterns .entry)) question i) r ⌝ }
+    ensures { λ r. ⌜ (Ready (now (area .entry)) (now (words .entry)) (now (patterns .entry)) question →
+        Put (now (buf .entry)) (now (buf .exit)) at
+        (rowText (now (area .entry)) (now (words .entry)) (now (patterns .entry)) question i) r) ⌝ }
 {
     let row = Row::of_word(words[i]);
     let n = row.len;
@@ -201,10 +206,10 @@ fn put_name(
     question: Question,
     name: Beginning,
 ) -> usize
-    requires { ⌜ Ready (now area) (now words) (now patterns) question ⌝ }
-    requires { ⌜ At (now words) name ⌝ }
-    ensures { λ r. ⌜ Put (now (buf .entry)) (now (buf .exit)) at
-        (textAt (now (area .entry)) (now (words .entry)) (now (patterns .entry)) question name) r ⌝ }
+    requires { ⌜ name .row < length (now words) ⌝ }
+    ensures { λ r. ⌜ (Ready (now (area .entry)) (now (words .entry)) (now (patterns .entry)) question → At (now (words .entry)) name →
+        Put (now (buf .entry)) (now (buf .exit)) at
+        (textAt (now (area .entry)) (now (words .entry)) (now (patterns .entry)) question name) r) ⌝ }
 {
     let Shown::Line(attributes, criteria) = decide(area, words, patterns, question, name) else {
         return at;
@@ -212,6 +217,6 @@ fn put_name(
     let i = name.row;
     let len = name.len;
     let word = question.word;
-    let whole = name_of(area, Row::of_word(words[i]));
-    put_line(buf, at, word, attributes, &whole[..len], criteria)
+    let bytes = front_of(area, Row::of_word(words[i]), len);
+    put_line(buf, at, word, attributes, bytes, criteria)
 }

@@ -11,15 +11,16 @@ use mailbox_table::flags::Flags;
 use mailbox_table::rows::Row;
 use mailbox_table::rows::name_of;
 use mailbox_table::scan::some_below;
+use octets::least;
 use pattern::matches_any;
 ghost use mathlib.Core.Path.{_≡_};
 ghost use mathlib.Core.Bool.{cond, _&&_};
+ghost use Prim.Native.Nat.{_<_};
+ghost use lib.ListN.{length, take, drop};
 ghost use Rattle.listing_rules.specs.Options.{criteria, noCriteria, criteriaNumber};
 ghost use Rattle.command_line.specs.OptionSets.{optionsIs};
-ghost use Rattle.mailbox_table.specs.Index.{Indexed};
 ghost use Rattle.mailbox_table.specs.Below.{Begins};
-ghost use Rattle.list_answer.specs.Shown.{foundBelow, shownAt, StandsFor, Matched};
-ghost use Rattle.list_answer.specs.Ready.{Ready, At};
+ghost use Rattle.list_answer.specs.Shown.{foundBelow, Decided, StandsFor, Matched};
 
 // A name to look at: the first `len` bytes of a row's name.
 pub(crate) struct Beginning {
@@ -48,9 +49,8 @@ pub(crate) fn decide(
     question: Question,
     name: Beginning,
 ) -> Shown
-    requires { ⌜ Ready (now area) (now words) (now patterns) question ⌝ }
-    requires { ⌜ At (now words) name ⌝ }
-    ensures { λ r. ⌜ r ≡ shownAt (now (area .entry)) (now (words .entry)) (now (patterns .entry)) question name ⌝ }
+    requires { ⌜ name .row < length (now words) ⌝ }
+    ensures { λ r. ⌜ Decided (now (area .entry)) (now (words .entry)) (now (patterns .entry)) question name r ⌝ }
 {
     let standing = look_at(area, words, question, name);
     if !standing.counts {
@@ -75,8 +75,7 @@ pub(crate) fn decide(
 
 // What the rows say of the name. The patterns for which they were marked are not looked at again.
 fn look_at(area: &[u8], words: &[u64], question: Question, name: Beginning) -> Standing
-    requires { ⌜ Indexed (now area) (now words) ⌝ }
-    requires { ⌜ At (now words) name ⌝ }
+    requires { ⌜ name .row < length (now words) ⌝ }
     ensures { λ r. ⌜ StandsFor (now (area .entry)) (now (words .entry)) question name r ⌝ }
 {
     let i = name.row;
@@ -104,8 +103,7 @@ fn is_matched(
     question: Question,
     name: Beginning,
 ) -> bool
-    requires { ⌜ Ready (now area) (now words) (now patterns) question ⌝ }
-    requires { ⌜ At (now words) name ⌝ }
+    requires { ⌜ name .row < length (now words) ⌝ }
     ensures { λ r. ⌜ Matched (now (area .entry)) (now (words .entry)) (now (patterns .entry)) question name r ⌝ }
 {
     let i = name.row;
@@ -115,13 +113,22 @@ fn is_matched(
     if row.len == len {
         return Marks::of_word(word).has(Marks::MATCHED);
     }
-    matches_any(patterns, question.levels, &name_of(area, row)[..len])
+    matches_any(patterns, question.levels, front_of(area, row, len))
+}
+
+// The first `len` bytes of a row's name, or all of them where it has fewer.
+pub(crate) fn front_of(area: &[u8], row: Row, len: usize) -> &[u8]
+    ensures { λ r. ⌜ now r ≡ take len (take (row .len) (drop (row .start) (now (area .entry)))) ⌝ }
+{
+    let whole = name_of(area, row);
+    let end = least(len, whole.len());
+    &whole[..end]
 }
 
 // Whether it is asked, and some row below the name has these marks.
 fn asked_below(asked: bool, area: &[u8], words: &[u64], marks: Marks, name: Beginning) -> bool
-    requires { ⌜ Begins (now area) (now words) (name .row) (name .len) ⌝ }
-    ensures { λ r. ⌜ r ≡ (asked && foundBelow (now (area .entry)) (now (words .entry)) (marks .bits) name) ⌝ }
+    ensures { λ r. ⌜ (Begins (now (area .entry)) (now (words .entry)) (name .row) (name .len) →
+        r ≡ (asked && foundBelow (now (area .entry)) (now (words .entry)) (marks .bits) name)) ⌝ }
 {
     if !asked {
         return false;

@@ -2,12 +2,17 @@
 use command_line::Options;
 use list_line::LineWord;
 use mailbox_table::flags::Flags;
+use octets::byte_at;
+use octets::wide;
 use pattern::some_level;
 ghost use mathlib.Core.Path.{_≡_};
 ghost use mathlib.Core.Bool.{_&&_, _||_, not};
+ghost use lib.Dec.{leb};
+ghost use lib.ListN.{length};
 ghost use Rattle.listing_rules.specs.Flags.{exists, remote};
 ghost use Rattle.listing_rules.specs.Listing.{meetsCriteria, unselective};
 ghost use Rattle.command_line.specs.OptionSets.{optionsIs};
+ghost use Rattle.pattern.specs.Packed.{unpacked};
 ghost use Rattle.list_answer.specs.Ready.{Asks, AsksLsub, lsubSet};
 
 // The options; whether the command lists levels, names that do not exist above those that meet the criteria; and the word of its lines.
@@ -114,4 +119,11 @@ fn is_unselective(options: Options) -> bool
     !options.has(Options::RECURSIVEMATCH)
         & !options.has(Options::SUBSCRIBED)
         & !options.has(Options::SPECIAL_USE)
+}
+
+// Whether the packed patterns are one at most: what comes after the bytes of the first begins a second.
+pub(crate) fn is_one_at_most(patterns: &[u8]) -> bool
+    ensures { λ r. ⌜ r ≡ leb (length (unpacked (now (patterns .entry)))) 1 ⌝ }
+{
+    patterns.len() <= 1 + wide(byte_at(patterns, 0))
 }

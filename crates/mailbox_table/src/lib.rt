@@ -22,6 +22,7 @@ pub use readers::MAX_READER;
 pub use readers::Readers;
 pub use readers::readers_of;
 pub use readers::see_rows;
+pub use records::MAX_ROWS;
 pub use records::no_words;
 ghost use mathlib.Core.Path.{_≡_};
 ghost use mathlib.Core.List.{map};

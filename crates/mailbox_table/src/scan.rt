@@ -7,7 +7,8 @@ use super::rows::name_of;
 use octets::SLASH;
 use octets::byte_at;
 ghost use mathlib.Core.Path.{_≡_};
-ghost use Prim.Native.Nat.{_+_};
+ghost use Prim.Native.Nat.{_+_, _<_};
+ghost use lib.ListN.{length};
 ghost use Rattle.octets.specs.Sets.{contains};
 ghost use Rattle.mailbox_table.specs.Below.{marksOf, withMarks, prefixOf, belowFrom, Begins};
 
@@ -36,13 +37,15 @@ fn is_marked(word: u64, marks: u16) -> bool
     marks_of(word) & marks == marks
 }
 
-// Whether some row from row i on lies below the first `len` bytes of row i's name and has all of these marks. Called by this crate's
-// check and by `list_answer` alone, over words that `index` made, whose promise is the requirement.
+// Whether some row from row i on lies below the first `len` bytes of row i's name and has all of these marks. The promise is for the
+// words that `index` made, or what `see_rows` leaves of them; over other words it answers something, inside the lent memory.
 pub fn some_below(area: &[u8], words: &[u64], marks: u16, i: usize, len: usize) -> bool
-    requires { ⌜ Begins (now area) (now words) i len ⌝ }
-    ensures { λ r. ⌜ r ≡ belowFrom (now (area .entry)) (now (words .entry)) marks
-        (prefixOf (now (area .entry)) (now (words .entry)) i len) i ⌝ }
+    ensures { λ r. ⌜ (Begins (now (area .entry)) (now (words .entry)) i len →
+        r ≡ belowFrom (now (area .entry)) (now (words .entry)) marks (prefixOf (now (area .entry)) (now (words .entry)) i len) i) ⌝ }
 {
+    if words.len() <= i {
+        return false;
+    }
     let own = byte_at(name_of(area, Row::of_word(words[i])), len);
     if SLASH < own {
         return false;
@@ -53,11 +56,11 @@ pub fn some_below(area: &[u8], words: &[u64], marks: u16, i: usize, len: usize) 
     some_after(area, words, marks, i, len)
 }
 
-// The same for the rows after row i.
+// Whether some row after row i lies below those bytes and has all of these marks.
 fn some_after(area: &[u8], words: &[u64], marks: u16, i: usize, len: usize) -> bool
-    requires { ⌜ Begins (now area) (now words) i len ⌝ }
-    ensures { λ r. ⌜ r ≡ belowFrom (now (area .entry)) (now (words .entry)) marks
-        (prefixOf (now (area .entry)) (now (words .entry)) i len) (i + 1) ⌝ }
+    requires { ⌜ i < length (now words) ⌝ }
+    ensures { λ r. ⌜ (Begins (now (area .entry)) (now (words .entry)) i len →
+        r ≡ belowFrom (now (area .entry)) (now (words .entry)) marks (prefixOf (now (area .entry)) (now (words .entry)) i len) (i + 1)) ⌝ }
 {
     let mut k = i + 1;
     while k < words.len() {

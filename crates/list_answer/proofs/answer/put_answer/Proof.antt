@@ -12,10 +12,10 @@ unfolding answerFor
 returns c =
     let after-put-rows = c .before .before .before .before .before .before in
     let start = after-put-rows .before .before .before .before .before .before .before in
-    let index = start .pre .index in
     let table = rowsAt _ (start .args .words .now) in
-    rw (← answer-text _ table _ _ (index .lawful) (index .indexed .ascend))
-    (put-then (after-put-rows .put-rows .ensures) (c .before .before .put-ok-line .ensures))
+    λ ready.
+    rw (← answer-text _ table _ _ (ready .index .lawful) (ready .index .indexed .ascend))
+    (put-then (after-put-rows .put-rows .ensures ready) (c .before .before .put-ok-line .ensures))
 
 pub put-answer-spec : {M : Type 1} → statement M
 put-answer-spec = tie.close (tie.spec (λ c κs. search needs) (λ c κs. search needs) (λ c. search needs) returns)

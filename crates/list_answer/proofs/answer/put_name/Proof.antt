@@ -2,8 +2,7 @@
 use Rattle.listing_rules.proofs.Prelude.{_∙_, sym, needs}
 use Rattle.octets.proofs.Puts.{put-none}
 use Rattle.mailbox_table.specs.Index.{rowsAt}
-use Rattle.list_answer.proofs.Deciding.{looked-size}
-use Rattle.list_answer.proofs.Showing.{named, text-none, text-line}
+use Rattle.list_answer.proofs.Showing.{fronted, text-none, text-line}
 use Rattle.list_answer.proofs.answer.put_name.Statement.{statement}
 use Rattle.list_answer.proofs.answer.put_name.Tie as tie
 
@@ -11,30 +10,26 @@ returns : tie.Need-returns
 returns c =
     let start = c .before .before .before .before .before .before .before in
     let table = rowsAt _ (start .args .words .now) in
-    rw (text-none _ table _ _ _ (sym (c .before .before .decide .ensures) ∙ c .enum-told .given .1))
+    λ ready at.
+    rw (text-none _ table _ _ _ (sym (c .before .before .decide .ensures ready at) ∙ c .enum-told .given .1))
     (put-none _ _ (search needs) (search needs))
-
-slice-aggregate-put-line : tie.Need-slice-aggregate-put-line
-slice-aggregate-put-line c =
-    let start = c .before .before .before .before .before .before .before .before .before .before .before .before .before in
-    let area = start .args .area .now in
-    looked-size area (start .args .words .now) (start .pre .0 .index .indexed) (start .args .name) (start .pre .1) _
-    (named area _ _ (c .before .before .before .of-word .ensures) _ (c .before .before .name-of .ensures))
 
 returns-2 : tie.Need-returns-2
 returns-2 c =
-    let after-name-of = c .before .before .before .before .before in
-    let after-of-word = after-name-of .before in
+    let after-front-of = c .before .before .before .before in
+    let after-of-word = after-front-of .before in
     let after-attributes = after-of-word .before .before .before in
     let after-decide = after-attributes .before .before in
     let start = after-decide .before .before .before .before .before in
     let a = start .args in
     let area = a .area .now in
-    let bytes = named area _ _ (after-of-word .of-word .ensures) _ (after-name-of .name-of .ensures) in
-    let text = text-line _ (rowsAt area (a .words .now)) _ _ _ _ _ (sym (after-decide .decide .ensures) ∙ after-attributes .attributes .given .1) in
+    let bytes = fronted area _ _ (after-of-word .of-word .ensures) (a .name .len) _ (after-front-of .front-of .ensures) in
+    λ ready at.
+    let text = text-line _ (rowsAt area (a .words .now)) _ _ _ _ _
+    (sym (after-decide .decide .ensures ready at) ∙ after-attributes .attributes .given .1) in
     rw (text, ← bytes) (c .before .before .put-line .ensures)
 
 pub put-name-spec : {M : Type 1} → statement M
 put-name-spec =
     tie.close (tie.spec (λ c κs. search needs) (λ c. search needs) (λ c. search needs) returns (λ c. search needs) (λ c. search needs)
-    (λ c κs. search needs) (λ c κs. search needs) slice-aggregate-put-line (λ c κs. search needs) (λ c. search needs) returns-2)
+    (λ c κs. search needs) (λ c κs. search needs) (λ c κs. search needs) (λ c. search needs) returns-2)

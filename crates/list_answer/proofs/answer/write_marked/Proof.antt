@@ -9,15 +9,19 @@ returns : tie.Need-returns
 returns c =
     let start = c .before .before .before .before .before .before .before .before .before in
     let a = start .args in
-    written-short (a .out .now) (answerText (a .area .now) (a .words .now) (a .patterns .now) (a .question) (a .tag .now)) (omega (arith, c .before .before .put-answer .ensures .place))
+    λ ready.
+    written-short (a .out .now) (answerText (a .area .now) (a .words .now) (a .patterns .now) (a .question) (a .tag .now))
+    (omega (arith, c .before .before .put-answer .ensures ready .place))
 
 returns-2 : tie.Need-returns-2
 returns-2 c =
     let after-put-answer = c .before .before .before .before .before .before in
     let start = after-put-answer .before .before .before .before .before .before .before in
     let a = start .args in
-    written-fits (a .out .now) (answerText (a .area .now) (a .words .now) (a .patterns .now) (a .question) (a .tag .now)) (c .before .before .put-answer2 .ensures)
-    (omega (arith, after-put-answer .put-answer .ensures .place, c .before .before .put-answer2 .ensures .fits))
+    λ ready.
+    let put = c .before .before .put-answer2 .ensures ready in
+    written-fits (a .out .now) (answerText (a .area .now) (a .words .now) (a .patterns .now) (a .question) (a .tag .now)) put
+    (omega (arith, after-put-answer .put-answer .ensures ready .place, put .fits))
 
 pub write-marked-spec : {M : Type 1} → statement M
 write-marked-spec =

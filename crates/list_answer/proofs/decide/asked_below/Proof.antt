@@ -4,12 +4,12 @@ use Rattle.list_answer.proofs.decide.asked_below.Statement.{statement}
 use Rattle.list_answer.proofs.decide.asked_below.Tie as tie
 
 returns : tie.Need-returns
-returns c = rw (not-true (c .before .before .before .args .asked) (c .if1 .taken))
+returns c = λ from-row. rw (not-true (c .before .before .before .args .asked) (c .if1 .taken))
 
 returns-2 : tie.Need-returns-2
 returns-2 c =
     let start = c .before .before .before .before in
-    rw (not-false (start .args .asked) (c .before .if1 .left)) (c .some-below .ensures)
+    λ from-row. rw (not-false (start .args .asked) (c .before .if1 .left)) (c .some-below .ensures from-row)
 
 pub asked-below-spec : {M : Type 1} → statement M
 asked-below-spec = tie.close (tie.spec returns (λ c κs. search needs) returns-2)

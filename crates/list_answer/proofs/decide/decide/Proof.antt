@@ -5,7 +5,7 @@ use Rattle.command_line.specs.OptionSets.{optionsIs}
 use Rattle.mailbox_table.specs.Index.{rowsAt}
 use Rattle.pattern.specs.Packed.{unpacked}
 use Rattle.list_answer.specs.Shown.{begun}
-use Rattle.list_answer.proofs.Deciding.{meets-below, children-below}
+use Rattle.list_answer.proofs.Deciding.{begins-here, meets-below, children-below}
 use Rattle.list_answer.proofs.Showing.{shown-not, shown-unmatched, shown-list, shown-lsub}
 use Rattle.list_answer.proofs.decide.decide.Statement.{statement}
 use Rattle.list_answer.proofs.decide.decide.Tie as tie
@@ -14,11 +14,12 @@ returns : tie.Need-returns
 returns c =
     let start = c .before .before .before .before .before .before in
     let a = start .args in
-    let stands = c .before .before .look-at .ensures _ (start .pre .0) in
     let table = rowsAt _ (a .words .now) in
     let o = optionsIs _ in
     let ps = unpacked _ in
     let n = begun _ (a .words .now) (a .name) in
+    λ ready at.
+    let stands = c .before .before .look-at .ensures _ ready at in
     shown-not _ table o ps n _ _ (stands .level) (stands .counts) (not-true _ (c .if1 .taken))
 
 returns-2 : tie.Need-returns-2
@@ -26,13 +27,14 @@ returns-2 c =
     let after-look-at = c .before .before .before .before in
     let start = after-look-at .before .before .before .before in
     let a = start .args in
-    let stands = after-look-at .look-at .ensures _ (start .pre .0) in
     let table = rowsAt _ (a .words .now) in
     let o = optionsIs _ in
     let ps = unpacked _ in
     let n = begun _ (a .words .now) (a .name) in
+    λ ready at.
+    let stands = after-look-at .look-at .ensures _ ready at in
     shown-unmatched _ table o ps n _ _ (stands .level) (stands .counts) (not-false _ (c .before .before .if1 .left))
-    (c .before .is-matched .result) (c .before .is-matched .ensures) (not-true _ (c .if2 .taken))
+    (c .before .is-matched .result) (c .before .is-matched .ensures ready at) (not-true _ (c .if2 .taken))
 
 returns-3 : tie.Need-returns-3
 returns-3 c =
@@ -42,9 +44,10 @@ returns-3 c =
     let after-look-at = at-if1 .before .before in
     let start = after-look-at .before .before .before .before in
     let standing = after-look-at .look-at in
-    let stands = standing .ensures _ (start .pre .0) in
     let n = begun _ (start .args .words .now) (start .args .name) in
-    shown-lsub _ _ _ _ n _ _ (stands .level) (stands .counts) (not-false _ (at-if1 .if1 .left)) _ (after-is-matched .is-matched .ensures)
+    λ ready at.
+    let stands = standing .ensures _ ready at in
+    shown-lsub _ _ _ _ n _ _ (stands .level) (stands .counts) (not-false _ (at-if1 .if1 .left)) _ (after-is-matched .is-matched .ensures ready at)
     (c .before .enum-told .given .1) (not-false _ (at-if2 .if2 .left))
     (standing .result .flags .bits) (stands .flags)
     (c .lsub-attributes .result) (c .lsub-attributes .ensures)
@@ -60,7 +63,6 @@ returns-4 c =
     let at-if1 = after-is-matched .before in
     let after-look-at = at-if1 .before .before in
     let start = after-look-at .before .before .before .before in
-    let stands = after-look-at .look-at .ensures _ (start .pre .0) in
     let below = after-asked-below .asked-below in
     let asked = c .before .before .before .shows-children in
     let parent = c .before .before .asked-below2 in
@@ -68,18 +70,19 @@ returns-4 c =
     let area = start .args .area .now in
     let words = start .args .words .now in
     let name = start .args .name in
-    let ready = start .pre .0 in
-    let x = ready .index .indexed in
-    let at = start .pre .1 in
     let o = optionsIs _ in
     let ps = unpacked _ in
     let n = begun area words name in
+    λ ready at.
+    let x = ready .index .indexed in
+    let here = begins-here area words x name at in
+    let stands = after-look-at .look-at .ensures _ ready at in
     let children : parent .result ≡ (o .retChildren && hasChildren (rowsAt area words) o n)
-    = parent .ensures ∙ (λ i. asked .ensures i && sym (children-below area words x name at o ps (ready .marked)) i) in
+    = parent .ensures here ∙ (λ i. asked .ensures i && sym (children-below area words x name at o ps (ready .marked)) i) in
     let info : below .result ≡ (o .selRecursive && meetsBelow (rowsAt area words) o n)
-    = below .ensures ∙ (λ i. after-is-recursive .is-recursive .ensures i && sym (meets-below area words x name at o ps (ready .marked)) i) in
+    = below .ensures here ∙ (λ i. after-is-recursive .is-recursive .ensures i && sym (meets-below area words x name at o ps (ready .marked)) i) in
     shown-list _ (rowsAt area words) o ps n _ _ (stands .level) (stands .counts) (not-false _ (at-if1 .if1 .left))
-    _ (after-is-matched .is-matched .ensures)
+    _ (after-is-matched .is-matched .ensures ready at)
     (after-word .enum-told2 .given .1) (not-false _ (at-if2 .if2 .left)) _ (stands .flags) (parent .result) children
     (attributes .result) (attributes .ensures)
     (below .result) info

@@ -10,7 +10,7 @@ use Rattle.mailbox_table.specs.Below.{marksOf}
 use Rattle.pattern.specs.Packed.{unpacked}
 use Rattle.list_answer.specs.Marks.{levelOnly}
 use Rattle.list_answer.specs.Shown.{begun, foundBelow}
-use Rattle.list_answer.proofs.Deciding.{flags-here, meets-below, right-here}
+use Rattle.list_answer.proofs.Deciding.{begins-here, flags-here, meets-below, right-here}
 use Rattle.list_answer.proofs.decide.look_at.Statement.{statement}
 use Rattle.list_answer.proofs.decide.look_at.Tie as tie
 
@@ -21,7 +21,7 @@ returns c =
     let after-flags-of = after-of-word2 .before in
     let after-of-word = after-flags-of .before .before .before in
     let stage = after-of-word .before .before .before .before in
-    λ patterns ready.
+    λ patterns ready at.
     let start = stage in
     let row = after-of-word .of-word in
     let flagged = after-flags-of .flags-of in
@@ -34,23 +34,26 @@ returns c =
     let area = start .args .area .now in
     let words = start .args .words .now in
     let name = start .args .name in
-    let x = start .pre .0 in
-    let at = start .pre .1 in
+    let x = ready .index .indexed in
+    let here = begins-here area words x name at in
     let o = optionsIs _ in
     let ps = unpacked patterns in
     let n = begun area words name in
     let whole = eqb _ (name .len) in
     let flags : flagged .result .bits ≡ flagsOf (rowsAt area words) n
-    = flagged .ensures ∙ ap (λ (r : Place). cond (eqb (r .len) (name .len)) (r .flags .bits) 0) (row .ensures) ∙ sym (flags-here area words x name at) in
+    = flagged .ensures ∙ ap (λ (r : Place). cond (eqb (r .len) (name .len)) (r .flags .bits) 0) (row .ensures) ∙ sym
+    (flags-here area words x name at) in
     let own : _ ≡ (whole && contains (marksOf _) 1)
-    = ap (λ (r : Place). eqb (r .len) (name .len) && met .result) (row .ensures) ∙ ap (λ (b : Bool). whole && b) (met .ensures ∙ ap (λ (m : ℕ). contains m 1) (marks .ensures)) in
+    = ap (λ (r : Place). eqb (r .len) (name .len) && met .result) (row .ensures) ∙ ap (λ (b : Bool). whole && b)
+    (met .ensures ∙ ap (λ (m : ℕ). contains m 1) (marks .ensures)) in
     let asked : deep .result ≡ ((o .selRecursive && not (eqb (row .result .len) (name .len) && met .result)) && foundBelow area words 2 name)
-    = deep .ensures ∙ ap (λ (b : Bool). (b && not (eqb (row .result .len) (name .len) && met .result)) && foundBelow area words 2 name) (recursive .ensures) in
+    = deep .ensures here ∙ ap (λ (b : Bool). (b && not (eqb (row .result .len) (name .len) && met .result)) && foundBelow area words 2 name)
+    (recursive .ensures) in
     let only : absent .result ≡ levelOnly o ps (flagsOf (rowsAt area words) n)
     = absent .ensures ∙ ap (λ (b : Bool). b && not (exists (flagged .result .bits))) (ready .knows) ∙ ap (levelOnly o ps) flags in
     record {
       flags = flags;
-      level = level .ensures ∙ (λ i. only i && sym (meets-below area words x name at o ps (ready .marked)) i);
+      level = level .ensures here ∙ (λ i. only i && sym (meets-below area words x name at o ps (ready .marked)) i);
       counts = ap (λ (b : Bool). b || level .result) (right-here area words x name at o ps (ready .marked) _ _ own asked);
     }
 

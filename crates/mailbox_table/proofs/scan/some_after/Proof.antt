@@ -4,7 +4,7 @@ use Rattle.listing_rules.proofs.Prelude.{_∙_, _≡_, refl, subst, sym, _&&_, 
 use Rattle.octets.specs.Sets.{contains}
 use Rattle.mailbox_table.specs.declared.rows.Row.{Row}
 use Rattle.mailbox_table.specs.Index.{nameAt, nthName}
-use Rattle.mailbox_table.specs.Below.{marksOf, prefixOf, belowFrom}
+use Rattle.mailbox_table.specs.Below.{marksOf, prefixOf, belowFrom, Begins}
 use Rattle.mailbox_table.proofs.BelowLaws.{starts, starts-take}
 use Rattle.mailbox_table.proofs.ScanLaws.{starts-next, scan-shared, scan-byte, scan-found, scan-on, scan-end}
 use Rattle.mailbox_table.proofs.scan.some_after.Statement.{statement}
@@ -12,9 +12,9 @@ use Rattle.mailbox_table.proofs.scan.some_after.Tie as tie
 
 abbrev Inv-loop : tie.InvT-loop
 Inv-loop area words marks i len k₀ k =
-    (i < k)
-    × (starts (prefixOf area words i len) (nthName area words (k - 1)) ≡ true)
-    × (belowFrom area words marks (prefixOf area words i len) k ≡ belowFrom area words marks (prefixOf area words i len) (i + 1))
+    (i < k) × (Begins area words i len →
+    (starts (prefixOf area words i len) (nthName area words (k - 1)) ≡ true)
+    × (belowFrom area words marks (prefixOf area words i len) k ≡ belowFrom area words marks (prefixOf area words i len) (i + 1)))
 
 abbrev μ-loop : tie.MeasureT-loop
 μ-loop area words marks i len k₀ k = length words - k
@@ -23,12 +23,14 @@ abbrev μ-loop : tie.MeasureT-loop
 begins : (c : tie.Else1 Inv-loop μ-loop) →
     let turn = c .before .before .before .before .before in
     let start = turn .before .before .before in
-    starts (prefixOf (start .args .area .now) (start .args .words .now) (start .args .i) (start .args .len)) (nthName (start .args .area .now) (start .args .words .now) (turn .loop .k)) ≡ true
-begins c =
+    Begins (start .args .area .now) (start .args .words .now) (start .args .i) (start .args .len) →
+    starts (prefixOf (start .args .area .now) (start .args .words .now) (start .args .i) (start .args .len))
+    (nthName (start .args .area .now) (start .args .words .now) (turn .loop .k)) ≡ true
+begins c from-i =
     let at-loop-test = c .before .before .before .before in
     let turn-2 = at-loop-test .before in
     let start = turn-2 .before .before .before in
-    starts-next (start .pre) (start .args .marks) _ (at-loop-test .loop-test .taken) (omega arith) (turn-2 .loop .inv .1)
+    starts-next from-i (start .args .marks) _ (at-loop-test .loop-test .taken) (omega arith) (turn-2 .loop .inv .1 from-i .0)
     (subst (λ (r : Row). start .args .len ≤ r .shared) (c .before .before .of-word .ensures) (c .if1 .left))
 
 -- the byte after them
@@ -55,7 +57,7 @@ loop-holds : tie.Need-loop-holds Inv-loop μ-loop
 loop-holds c =
     let a = c .before .before .args in
     let e : a .i + 1 - 1 ≡ a .i = omega arith in
-    (omega arith, rw e (starts-take (a .len) _), refl)
+    (omega arith, λ from-i. (rw e (starts-take (a .len) _), refl))
 
 returns : tie.Need-returns Inv-loop μ-loop
 returns c =
@@ -63,44 +65,44 @@ returns c =
     let turn-2 = at-loop-test .before in
     let start = turn-2 .before .before .before in
     let turn = turn-2 .loop in
+    λ from-i.
     sym
-    (scan-shared (start .pre) _ _ (at-loop-test .loop-test .taken) (omega arith) (turn .inv .1)
+    (scan-shared from-i _ _ (at-loop-test .loop-test .taken) (omega arith) (turn .inv .1 from-i .0)
     (subst (λ (r : Row). r .shared < start .args .len) (c .before .before .of-word .ensures) (c .if1 .taken)))
-    ∙ turn .inv .2
+    ∙ turn .inv .1 from-i .1
 
 returns-2 : tie.Need-returns-2 Inv-loop μ-loop
 returns-2 c =
     let at-loop-test = c .before .before .before .before .before .before .before in
-    let turn-2 = at-loop-test .before in
-    let start = turn-2 .before .before .before in
-    let turn = turn-2 .loop in
-    sym (scan-byte (start .pre) _ _ (at-loop-test .loop-test .taken) (begins (c .before .before .before)) (omega (arith, byte (c .before)))) ∙ turn .inv .2
+    λ from-i.
+    sym (scan-byte from-i _ _ (at-loop-test .loop-test .taken) (begins (c .before .before .before) from-i) (omega (arith, byte (c .before))))
+    ∙ at-loop-test .before .loop .inv .1 from-i .1
 
 returns-3 : tie.Need-returns-3 Inv-loop μ-loop
 returns-3 c =
     let stage = c .before .before .before .before .before .before in
     let at-loop-test = stage .before .before .before .before in
-    let turn-2 = at-loop-test .before in
-    let start = turn-2 .before .before .before in
-    sym (scan-found (start .pre) _ _ (at-loop-test .loop-test .taken) (begins stage) (sym (test (c .before)) ∙ c .if3 .taken))
-    ∙ turn-2 .loop .inv .2
+    λ from-i.
+    sym (scan-found from-i _ _ (at-loop-test .loop-test .taken) (begins stage from-i) (sym (test (c .before)) ∙ c .if3 .taken))
+    ∙ at-loop-test .before .loop .inv .1 from-i .1
 
 loop-again : tie.Need-loop-again Inv-loop μ-loop
 loop-again c =
     let stage = c .before .before .before .before .before .before in
     let at-loop-test = stage .before .before .before .before in
-    let turn-2 = at-loop-test .before in
-    let start = turn-2 .before .before .before in
-    let turn = turn-2 .loop in
+    let turn = at-loop-test .before .loop in
     let e : turn .k + 1 - 1 ≡ turn .k = omega arith in (
       omega arith,
-      rw e (begins stage),
-      sym (scan-on (start .pre) _ _ (at-loop-test .loop-test .taken) (begins stage) (sym (test (c .before)) ∙ c .if3 .left)) ∙ turn .inv .2,
+      λ from-i. (
+        rw e (begins stage from-i),
+        sym (scan-on from-i _ _ (at-loop-test .loop-test .taken) (begins stage from-i) (sym (test (c .before)) ∙ c .if3 .left))
+            ∙ turn .inv .1 from-i .1,
+      ),
     )
 
 returns-4 : tie.Need-returns-4 Inv-loop μ-loop
 returns-4 c =
-    let start = c .before .before .before .before in sym (scan-end (start .pre) _ _ (c .loop-test .left)) ∙ c .before .loop .inv .2
+    λ from-i. sym (scan-end from-i _ _ (c .loop-test .left)) ∙ c .before .loop .inv .1 from-i .1
 
 pub some-after-spec : {M : Type 1} → statement M
 some-after-spec =

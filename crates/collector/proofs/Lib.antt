@@ -11,4 +11,3 @@ mod QueueLaws
 mod HeldLaws
 mod WalkLaws
 pub mod WholeLaws
-pub mod SeenAlike

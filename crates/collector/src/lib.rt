@@ -1,7 +1,7 @@
 // The collector: walks a mailbox table as a client does, by sending commands to the server side and reading its lines back.
 //
-// The table serves check 1, the choice of the rows that the reader sees, and the calls of the server side's command entry, and nothing
-// else. A command is made from the option byte and a pending name, finds and pending names come from the answer and the option byte.
+// The table serves check 1 and the calls of the server side's entry for commands that read, and nothing else: which rows the reader sees is that entry's
+// to say. A command is made from the option byte and a pending name, finds and pending names come from the answer and the option byte.
 // Who lends the records themselves calls `exports::luspemaro_collect`.
 mod command;
 mod indexed;
@@ -66,15 +66,7 @@ pub fn collect_words(
     let Indexing::Rows(n) = index_summed(area, words, count, sums, &mut rows) else {
         return refuse(refusals::TABLE, scratch, found, pending);
     };
-    collect_index(
-        &mut rows[..n],
-        area,
-        reader,
-        option,
-        scratch,
-        found,
-        pending,
-    )
+    collect_index(&rows[..n], area, reader, option, scratch, found, pending)
 }
 
 // A refusal, which zeroes the three buffers.

@@ -41,13 +41,5 @@ pub fn collect_packed(
     let Indexing::Rows(n) = index(table, &mut rows) else {
         return refuse(refusals::TABLE, scratch, found, pending);
     };
-    collect_index(
-        &mut rows[..n],
-        table,
-        reader,
-        option,
-        scratch,
-        found,
-        pending,
-    )
+    collect_index(&rows[..n], table, reader, option, scratch, found, pending)
 }

@@ -19,8 +19,9 @@ ghost use Prim.Native.Nat.{_≤_};
 ghost use lib.ListN.{length, replicate};
 ghost use Rattle.listing_rules.specs.Bytes.{slash};
 ghost use Rattle.listing_rules.specs.Table.{passes};
+ghost use Rattle.listing_rules.specs.Readers.{isReader};
 ghost use Rattle.listing_rules.specs.Walk.{collected};
-ghost use Rattle.collector.specs.Held.{heldTable};
+ghost use Rattle.collector.specs.Held.{heldSeen};
 ghost use Rattle.collector.specs.Names.{Lies, nameAt};
 ghost use Rattle.collector.specs.Options.{byteOf};
 ghost use Rattle.collector.specs.Rooms.{referenceRoom};
@@ -34,35 +35,45 @@ pub(crate) struct NamePlace {
     pub end: usize,
 }
 
-// What a command is made for: the options of the walk, and how far it is before the command.
+// What a command is made for: the reader and the options of the walk, and how far it is before the command.
 pub(crate) struct Asking {
+    pub reader: u8,
     pub options: WalkOptions,
     pub start: Progress,
 }
 
-// Walks a table that passes, given as a word for each record over the area of names. Found and pending are zero.
+// Walks, for a reader, a table that passes, given as a word for each record over the area of names. Found and pending are zero.
 pub(crate) fn walk_table(
     words: &[u64],
     area: &[u8],
+    reader: u8,
     options: WalkOptions,
     scratch: &mut [u8],
     found: &mut [u8],
     pending: &mut [u8],
 ) -> Collected
-    requires { ⌜ passes (heldTable (now area) (now words)) ≡ true ⌝ }
+    requires { ⌜ (isReader reader ≡ true) × (passes (heldSeen reader (now area) (now words)) ≡ true) ⌝ }
     requires { ⌜ now found ≡ replicate (length (now found)) 0 ⌝ }
     requires { ⌜ now pending ≡ replicate (length (now pending)) 0 ⌝ }
     ensures { λ r. ⌜ Ends
-        (collected (heldTable (now (area .entry)) (now (words .entry))) (byteOf options) (now (scratch .entry)) (now (found .entry)) (now (pending .entry)))
+        (collected (heldSeen reader (now (area .entry)) (now (words .entry))) (byteOf options) (now (scratch .entry)) (now (found .entry)) (now (pending .entry)))
         (now (found .exit)) (now (pending .exit)) r ⌝ }
 {
     let none = [0u8; 0];
     let asking = Asking {
+        reader,
         options,
         start: Progress::NONE,
     };
     match ask(words, area, asking, &none, scratch, found, pending) {
-        Taken::All(first) => ask_pending(words, area, options, scratch, found, pending, first),
+        Taken::All(first) => {
+            let next = Asking {
+                reader,
+                options,
+                start: first,
+            };
+            ask_pending(words, area, next, scratch, found, pending)
+        }
         Taken::Refused(number) => Collected::Refused(number),
     }
 }
@@ -71,31 +82,35 @@ pub(crate) fn walk_table(
 fn ask_pending(
     words: &[u64],
     area: &[u8],
-    options: WalkOptions,
+    asking: Asking,
     scratch: &mut [u8],
     found: &mut [u8],
     pending: &mut [u8],
-    first: Progress,
 ) -> Collected
-    requires { ⌜ Walking (heldTable (now area) (now words)) options (length (now scratch)) (length (now found)) (length (now pending))
-        (now scratch) (now found) (now pending) first 0 ⌝ }
+    requires { ⌜ isReader (asking .reader) ≡ true ⌝ }
+    requires { ⌜ Walking (heldSeen (asking .reader) (now area) (now words)) (asking .options) (length (now scratch)) (length (now found)) (length (now pending))
+        (now scratch) (now found) (now pending) (asking .start) 0 ⌝ }
     ensures { λ r. ⌜ Ends
-        (collected (heldTable (now (area .entry)) (now (words .entry))) (byteOf options) (now (scratch .entry)) (now (found .entry)) (now (pending .entry)))
+        (collected (heldSeen (asking .reader) (now (area .entry)) (now (words .entry))) (byteOf (asking .options))
+        (now (scratch .entry)) (now (found .entry)) (now (pending .entry)))
         (now (found .exit)) (now (pending .exit)) r ⌝ }
 {
-    let mut progress = first;
+    let reader = asking.reader;
+    let options = asking.options;
+    let mut progress = asking.start;
     let mut at = 0;
     while at < progress.pending {
         let from = at + 1;
         let end = from + wide(pending[at]);
         let name = NamePlace { from, end };
-        let asking = Asking {
+        let next = Asking {
+            reader,
             options,
             start: progress,
         };
-        match ask_below(words, area, asking, name, scratch, found, pending) {
-            Taken::All(next) => {
-                progress = next;
+        match ask_below(words, area, next, name, scratch, found, pending) {
+            Taken::All(further) => {
+                progress = further;
                 at = end;
             }
             Taken::Refused(number) => {
@@ -116,10 +131,11 @@ fn ask_below(
     found: &mut [u8],
     pending: &mut [u8],
 ) -> Taken
+    requires { ⌜ isReader (asking .reader) ≡ true ⌝ }
     requires { ⌜ Lies name (now pending) ⌝ }
     requires { ⌜ Inside (now found) (now pending) (asking .start) ⌝ }
     requires { ⌜ asking .start .count ≤ length (now pending) ⌝ }
-    ensures { λ r. ⌜ TakesCommand (heldTable (now (area .entry)) (now (words .entry))) (asking .options)
+    ensures { λ r. ⌜ TakesCommand (heldSeen (asking .reader) (now (area .entry)) (now (words .entry))) (asking .options)
         (nameAt name (now (pending .entry)) ++ (slash ∷ [])) (now (scratch .entry)) (asking .start)
         (now (found .entry)) (now (pending .entry)) (now (found .exit)) (now (pending .exit)) r ⌝ }
 {
@@ -149,10 +165,11 @@ fn ask(
     found: &mut [u8],
     pending: &mut [u8],
 ) -> Taken
+    requires { ⌜ isReader (asking .reader) ≡ true ⌝ }
     requires { ⌜ length (now reference) ≤ referenceRoom ⌝ }
     requires { ⌜ Inside (now found) (now pending) (asking .start) ⌝ }
     requires { ⌜ asking .start .count ≤ length (now pending) ⌝ }
-    ensures { λ r. ⌜ TakesCommand (heldTable (now (area .entry)) (now (words .entry))) (asking .options)
+    ensures { λ r. ⌜ TakesCommand (heldSeen (asking .reader) (now (area .entry)) (now (words .entry))) (asking .options)
         (now (reference .entry)) (now (scratch .entry)) (asking .start)
         (now (found .entry)) (now (pending .entry)) (now (found .exit)) (now (pending .exit)) r ⌝ }
 {
@@ -161,7 +178,15 @@ fn ask(
     let mut line = no_command();
     let n = put_command(&mut line, options, reference);
     let namespaces = [0u8; 0];
-    match read_words(words, words.len(), area, &namespaces, &line[..n], scratch) {
+    match read_words(
+        words,
+        words.len(),
+        asking.reader,
+        area,
+        &namespaces,
+        &line[..n],
+        scratch,
+    ) {
         Written::Done(len) => {
             let count = start.count + 1;
             let sent = Progress {

@@ -23,7 +23,7 @@ use Rattle.mailbox_table.specs.Index.{rowsAt}
 use Rattle.mailbox_table.specs.Seen.{seenWords}
 use Rattle.mailbox_table.proofs.SeenLaws.{seen-rows}
 use Rattle.server.specs.declared.Stored.{Stored}
-use Rattle.server.specs.Replies.{commandReply}
+use Rattle.server.specs.Replies.{readOnly, commandReply}
 use Rattle.server.specs.Answering.{memory, Answers}
 use Rattle.server.specs.Edits.{Sound, Leaves, Reads, editKind, readerEdit, editChanges}
 use Rattle.server.proofs.EditLaws.{no-edit, an-edit, comes-16, comes-1, comes-2, comes-read, comes-edit, change-so}
@@ -146,12 +146,13 @@ module _ (ws sums : List ℕ) (count reader : ℕ) (area spaces l out : List ℕ
               → {out′ : List ℕ} {w : Written} → Gives (commandReply area (seenWords reader index) spaces l) out out′ w
               → (r : Stored) → r ≡ record { written = w; count = count; from = 0; to = 0 }
               → Answers D (memory ws sums area out) (memory ws sums area out′) r
-          unfolding held
+          unfolding held readOnly
           read-only index told k {out′} {w} g r e =
               let x = comes-read reader m spaces l out known passes-on listed (no-edit l c reads k) in
               let rows-are : rowsAt area (seenWords reader index) ≡ visible reader area (take count (m .store .records))
               = seen-rows reader area index ∙ ap (visible reader area) (told ∙ ap (λ (t : Summed). take count (t .store .records)) front-is) in
-              let y : C ≡ record { reply = limited (length out) (commandReply area (seenWords reader index) spaces l); left = m } = x ∙ rw rows-are in
+              let y : C ≡ record { reply = limited (length out) (commandReply area (seenWords reader index) spaces l); left = m } = x ∙ rw
+              (rows-are, no-edit l c reads k) in
               alone w out′ r (ap (λ (d : SummedCommand). d .left) y) (changes-read (m .store) (parsed l) (C .reply) (no-edit l c reads k))
               (g .0 ∙ ap (λ (d : SummedCommand). writtenIs (d .reply)) (sym y))
               (g .1 ∙ ap (λ (d : SummedCommand). bufferAfter out (d .reply)) (sym y)) e

@@ -1,10 +1,13 @@
 -- The patterns of a command that lists, as they lie in the server's buffer. Rests on what command_patterns promises of them and on the match's packed form.
-use Rattle.listing_rules.proofs.Prelude.{_∙_, _≡_, ap, sym, List, _≤_, ℕ, arith, drop, length, take, length-take-le, sets, take-append-seam}
+use Rattle.listing_rules.proofs.Prelude.{_∙_, _≡_, ap, sym, List, _≤_, ℕ, arith, drop, length, take, length-take-le, sets, take-append-seam, le-leb}
+use Rattle.listing_rules.specs.Server.{answered, lsubAnswer}
 use Rattle.listing_rules.specs.Walk.{packed}
 use Rattle.octets.specs.Put.{Put}
 use Rattle.octets.proofs.Puts.{put-length, front}
 use Rattle.command_line.specs.Commands.{packedBytes, Few}
 use Rattle.command_line.proofs.Packed.{packed-short, packed-few}
+use Rattle.mailbox_table.specs.Index.{rowsAt}
+use Rattle.list_answer.specs.Shown.{lsubReply}
 use Rattle.pattern.specs.Packed.{unpacked}
 use Rattle.pattern.proofs.Packed.{unpacked-packed}
 
@@ -36,3 +39,8 @@ lying d e ps r p h few =
 
     whole : r ≡ length (packed ps)
     whole = omega (arith, p .place, long, size)
+
+-- one pattern of LSUB, or none, is answered
+pub lsub-one : (area words patterns tag : List ℕ) (ps : List (List ℕ)) → unpacked patterns ≡ ps → length ps ≤ 1 →
+    lsubReply area words patterns tag ≡ answered (lsubAnswer (rowsAt area words) tag ps)
+lsub-one area words patterns tag ps e h = rw (e, le-leb (length ps) 1 h)

@@ -1,12 +1,13 @@
 -- The refusals in document 01's order, and the reply to a command by its kind. Rests on FewLaws of command_patterns.
-use Rattle.listing_rules.proofs.Prelude.{_∙_, _≡_, ap, refl, sym, false, true, List, map, _≤_, ℕ, length}
+use Rattle.listing_rules.proofs.Prelude.{_∙_, _≡_, ap, refl, sym, false, true, List, _++_, map, _≤_, ℕ, arith, drop, length, length-append, take}
+use Rattle.listing_rules.proofs.Prelude.{take-at}
 use Rattle.listing_rules.specs.Table.{Table, rows, passes, packedTable}
-use Rattle.listing_rules.specs.Records.{packedRecords}
-use Rattle.listing_rules.specs.Readers.{isReader, visible, packedSeen}
-use Rattle.listing_rules.proofs.ReaderLaws.{packed-seen-passes, packed-seen-is}
+use Rattle.listing_rules.specs.Records.{Record, recordTable, packedRecords}
+use Rattle.listing_rules.specs.Readers.{isReader, visible, recordsSeen, packedSeen}
+use Rattle.listing_rules.proofs.ReaderLaws.{records-seen-passes, records-seen-is, packed-seen-passes, packed-seen-is}
 use Rattle.listing_rules.specs.Namespaces.{entries, namespacesPass}
-use Rattle.listing_rules.specs.Command.{parsed}
-use Rattle.listing_rules.specs.Server.{refusal, answer, answerTo, limited, served, fromReader, servedTo, bufferAfter}
+use Rattle.listing_rules.specs.Command.{Parsed, isEdit, parsed}
+use Rattle.listing_rules.specs.Server.{refusal, answerTo, limited, fromReader, bufferAfter}
 use Rattle.octets.specs.Written.{writtenIs, Gives}
 use Rattle.octets.specs.declared.Written.the-variants.{Refused}
 use Rattle.command_line.specs.declared.Kind.{Kind}
@@ -19,7 +20,7 @@ use Rattle.records.specs.Words.{recordOf}
 use Rattle.mailbox_table.specs.Index.{rowsAt}
 use Rattle.mailbox_table.specs.Seen.{seenWords}
 use Rattle.mailbox_table.proofs.SeenLaws.{seen-rows}
-use Rattle.server.specs.Replies.{commandReply, indexReply, spacesReply, rootReply, listingReply, subscriptionsReply, okReply}
+use Rattle.server.specs.Replies.{readOnly, readTo, commandReply, indexReply, spacesReply, rootReply, listingReply, subscriptionsReply}
 use Rattle.command_line.proofs.Packed.{listing-few, subscriptions-few}
 
 -- a number of refusal, and no byte changed
@@ -27,34 +28,46 @@ pub refused-with : (k : ℕ) (d : List ℕ) → Gives (refusal k) d d (Refused k
 unfolding limited writtenIs bufferAfter
 refused-with k d = (refl, refl)
 
-module _ (t : Table) (s l d : List ℕ) where
-  pub served-1 : passes t ≡ false → served t s l d ≡ limited (length d) (refusal 1)
-  unfolding served answer
-  served-1 e = rw e
-
-  pub served-on : (area words : List ℕ) → passes t ≡ true → rowsAt area words ≡ rows t →
-      served t s l d ≡ limited (length d) (indexReply area words s l)
-  unfolding served answer
-  served-on area words e f = rw (e, f)
-
--- the same of a packed table that a reader sees
-module _ (reader : ℕ) (t s l d : List ℕ) where
-  pub served-16 : isReader reader ≡ false → servedTo reader (packedSeen reader t) s l d ≡ limited (length d) (refusal 16)
-  unfolding servedTo fromReader limited
-  served-16 e = rw e
+-- a reader's command that only reads: 16, 1, and what is left over the rows that it sees
+module _ (reader : ℕ) (t : Table) (s l : List ℕ) where
+  pub read-16 : isReader reader ≡ false → readTo reader t s l ≡ refusal 16
+  unfolding readTo fromReader
+  read-16 e = rw e
 
   module _ (known : isReader reader ≡ true) where
-    pub packed-1 : passes (packedTable t) ≡ false → servedTo reader (packedSeen reader t) s l d ≡ limited (length d) (refusal 1)
-    unfolding servedTo fromReader
-    packed-1 e = rw known (served-1 (packedSeen reader t) s l d (packed-seen-passes reader t ∙ e))
+    pub read-1 : passes t ≡ false → readTo reader t s l ≡ refusal 1
+    unfolding readTo fromReader
+    read-1 e = rw (known, e)
 
-    pub packed-on : (words : List ℕ) → passes (packedTable t) ≡ true → map recordOf words ≡ packedRecords t
-        → servedTo reader (packedSeen reader t) s l d ≡ limited (length d) (indexReply t (seenWords reader words) s l)
-    unfolding servedTo fromReader rows
-    packed-on words e told =
-        let seen : rowsAt t (seenWords reader words) ≡ rows (packedSeen reader t)
-        = seen-rows reader t words ∙ ap (visible reader t) told ∙ sym (ap rows (packed-seen-is reader t e)) in
-        rw known (served-on (packedSeen reader t) s l d t (seenWords reader words) (packed-seen-passes reader t ∙ e) seen)
+    pub read-on : (area words : List ℕ) → passes t ≡ true → rowsAt area words ≡ rows t → readTo reader t s l ≡ indexReply area words s l
+    unfolding readTo fromReader
+    read-on area words e f = rw (known, e, f)
+
+-- over the index of the records that are counted, and of packed bytes
+module _ (reader : ℕ) (area words s l : List ℕ) (known : isReader reader ≡ true) where
+  pub records-on : (rs : List Record) (count : ℕ) → passes (recordTable area rs count) ≡ true → map recordOf words ≡ take count rs
+      → readTo reader (recordsSeen reader area rs count) s l ≡ indexReply area (seenWords reader words) s l
+  unfolding rows
+  records-on rs count e told =
+      let shown : rowsAt area (seenWords reader words) ≡ rows (recordsSeen reader area rs count)
+      = seen-rows reader area words ∙ ap (visible reader area) told ∙ sym (ap rows (records-seen-is reader area rs count e)) in
+      read-on reader (recordsSeen reader area rs count) s l known area (seenWords reader words) (records-seen-passes reader area rs count ∙ e) shown
+
+  pub packed-on : passes (packedTable area) ≡ true → map recordOf words ≡ packedRecords area
+      → readTo reader (packedSeen reader area) s l ≡ indexReply area (seenWords reader words) s l
+  unfolding rows
+  packed-on e told =
+      let shown : rowsAt area (seenWords reader words) ≡ rows (packedSeen reader area)
+      = seen-rows reader area words ∙ ap (visible reader area) told ∙ sym (ap rows (packed-seen-is reader area e)) in
+      read-on reader (packedSeen reader area) s l known area (seenWords reader words) (packed-seen-passes reader area ∙ e) shown
+
+-- the words that `see_rows` left at the front are those that the reader sees
+pub seen-first : (reader : ℕ) (index exit : List ℕ) (r : ℕ) → (r ≡ length (seenWords reader index)) × (exit ≡ seenWords reader index ++ drop r index)
+    → (r ≤ length exit) × (take r exit ≡ seenWords reader index)
+seen-first reader index exit r p = (
+  omega (arith, p .0, ap length (p .1), length-append (seenWords reader index) (drop r index)),
+  ap (take r) (p .1) ∙ take-at (seenWords reader index) (drop r index) r (sym (p .0)),
+)
 
 -- over an index: the namespace list, then the command
 module _ (area words s l : List ℕ) where
@@ -66,38 +79,40 @@ module _ (area words s l : List ℕ) where
 
 -- The reply to a command that was read, by its kind
 module _ (area words namespaces l : List ℕ) (c : Command) (m : meaning l c ≡ parsed l) where
-  reply-as : (k : Kind) → c .kind ≡ k → answerTo (rowsAt area words) (entries namespaces) (meaningAs k l c) ≡ commandReply area words namespaces l
+  reply-as : (k : Kind) → c .kind ≡ k
+      → readOnly (meaningAs k l c) (answerTo (rowsAt area words) (entries namespaces) (meaningAs k l c)) ≡ commandReply area words namespaces l
   unfolding meaning
-  reply-as k e = ap (answerTo (rowsAt area words) (entries namespaces)) (ap (λ (q : Kind). meaningAs q l c) (sym e) ∙ m)
+  reply-as k e =
+      ap (λ (p : Parsed). readOnly p (answerTo (rowsAt area words) (entries namespaces) p)) (ap (λ (q : Kind). meaningAs q l c) (sym e) ∙ m)
 
   pub reply-refused : (k : ℕ) → c .kind ≡ Refusal k → refusal k ≡ commandReply area words namespaces l
-  unfolding answerTo meaningAs
+  unfolding answerTo meaningAs readOnly isEdit
   reply-refused k e = reply-as (Refusal k) e
 
   module _ (tag : List ℕ) (t : tag ≡ spanBytes l (c .tag)) where
     pub reply-spaces : c .kind ≡ Namespace → spacesReply namespaces tag ≡ commandReply area words namespaces l
-    unfolding answerTo meaningAs
+    unfolding answerTo meaningAs readOnly isEdit
     reply-spaces e = ap (spacesReply namespaces) t ∙ reply-as Namespace e
 
     pub reply-root : c .kind ≡ Root → rootReply tag ≡ commandReply area words namespaces l
-    unfolding answerTo meaningAs
+    unfolding answerTo meaningAs readOnly isEdit
     reply-root e = ap rootReply t ∙ reply-as Root e
 
     pub reply-list : c .kind ≡ Listing → listingReply area words l c tag ≡ commandReply area words namespaces l
-    unfolding answerTo meaningAs
+    unfolding answerTo meaningAs readOnly isEdit
     reply-list e = ap (listingReply area words l c) t ∙ reply-as Listing e
 
     pub reply-lsub : c .kind ≡ Lsub → subscriptionsReply area words l c tag ≡ commandReply area words namespaces l
-    unfolding answerTo meaningAs
+    unfolding answerTo meaningAs readOnly isEdit
     reply-lsub e = ap (subscriptionsReply area words l c) t ∙ reply-as Lsub e
 
-    pub reply-subscribe : c .kind ≡ Subscribe → okReply tag ≡ commandReply area words namespaces l
-    unfolding answerTo meaningAs
-    reply-subscribe e = ap okReply t ∙ reply-as Subscribe e
+  pub reply-subscribe : c .kind ≡ Subscribe → refusal 5 ≡ commandReply area words namespaces l
+  unfolding answerTo meaningAs readOnly isEdit
+  reply-subscribe e = reply-as Subscribe e
 
-    pub reply-unsubscribe : c .kind ≡ Unsubscribe → okReply tag ≡ commandReply area words namespaces l
-    unfolding answerTo meaningAs
-    reply-unsubscribe e = ap okReply t ∙ reply-as Unsubscribe e
+  pub reply-unsubscribe : c .kind ≡ Unsubscribe → refusal 5 ≡ commandReply area words namespaces l
+  unfolding answerTo meaningAs readOnly isEdit
+  reply-unsubscribe e = reply-as Unsubscribe e
 
   -- what a listing asks for is few and short
   pub list-few : c .kind ≡ Listing → Few (patternsOf l c)

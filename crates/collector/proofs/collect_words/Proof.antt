@@ -5,9 +5,8 @@ use Rattle.listing_rules.specs.Table.{passes}
 use Rattle.listing_rules.specs.Readers.{isReader}
 use Rattle.listing_rules.proofs.SummaryAlike.{summed-seen-passes}
 use Rattle.records.specs.Lent.{wordsSummed, wordsTable, wordsSeen}
-use Rattle.mailbox_table.specs.Seen.{seenWords}
 use Rattle.mailbox_table.proofs.HeldLaws.{Held, index-held, index-refused}
-use Rattle.collector.specs.Held.{heldTable}
+use Rattle.collector.specs.Held.{heldSeen}
 use Rattle.collector.proofs.HeldLaws.{summed-held}
 use Rattle.collector.proofs.WholeLaws.{promised, promised-same, collects-refused, refuses-reader, refuses-table}
 use Rattle.collector.proofs.collect_words.Statement.{statement}
@@ -54,7 +53,7 @@ known c = index-held (c .before .before .before .index-summed .ensures) (c .n .g
 seen : (c : tie.After-n) →
     let start = c .before .before .before .before .before .before .before .before .before .before .before .before .before in
     let a = start .args in
-    heldTable (a .area .now) (seenWords (a .reader) (take (c .n .given .0 .0) (c .before .before .before .index-summed .last .1 .1 .1 .1 .0)))
+    heldSeen (a .reader) (a .area .now) (take (c .n .given .0 .0) (c .before .before .before .index-summed .last .1 .1 .1 .1 .0))
     ≡ wordsSeen (a .reader) (a .words .now) (a .count) (a .area .now) (a .sums .now)
 seen c =
     let start = c .before .before .before .before .before .before .before .before .before .before .before .before .before in
@@ -62,8 +61,8 @@ seen c =
     summed-held (a .reader) (a .words .now) (a .count) (a .area .now) (a .sums .now)
     (take (c .n .given .0 .0) (c .before .before .before .index-summed .last .1 .1 .1 .1 .0)) (known c .table-passes) (known c .told)
 
-array-borrow-prefix-rows : tie.Need-array-borrow-prefix-rows
-array-borrow-prefix-rows c = known (c .before) .inside
+array-share-prefix-rows : tie.Need-array-share-prefix-rows
+array-share-prefix-rows c = known (c .before) .inside
 
 slice-aggregate-collect-index : tie.Need-slice-aggregate-collect-index
 slice-aggregate-collect-index c = known (c .before .before) .size
@@ -80,7 +79,7 @@ collect-index-requires c κs =
 
 returns-3 : tie.Need-returns-3
 returns-3 c =
-    let walked = c .before .before .before .before .before .before .before in
+    let walked = c .before .before .before .before .before .before in
     let found = walked .before .before .before .before .before .before in
     let start = found .before .before .before .before .before .before .before .before .before .before .before .before .before in
     let a = start .args in
@@ -94,5 +93,5 @@ pub collect-words-spec : {M : Type 1} → statement M
 collect-words-spec =
     tie.close (tie.spec (λ c κs. search needs) (λ c. search needs) (λ c. search needs) (λ c. search needs) returns (λ c κs. search needs)
     (λ c. search needs) (λ c κs. search needs) (λ c. search needs) (λ c. search needs) (λ c κs. search needs) (λ c. search needs) (λ c. search needs)
-    (λ c. search needs) returns-2 array-borrow-prefix-rows slice-aggregate-collect-index collect-index-requires (λ c. search needs)
+    (λ c. search needs) returns-2 array-share-prefix-rows slice-aggregate-collect-index collect-index-requires (λ c. search needs)
     (λ c. search needs) (λ c. search needs) returns-3)

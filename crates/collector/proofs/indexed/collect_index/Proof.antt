@@ -1,8 +1,7 @@
 -- `indexed::collect_index` meets its contract: what `run` left, and zeros where it was refused. By WholeLaws.
 use Rattle.listing_rules.proofs.Prelude.{_∙_, _≡_, refl, subst, sym, needs}
 use Rattle.listing_rules.specs.Walk.{WalkReply, collected, collectedBy}
-use Rattle.mailbox_table.specs.Seen.{seenWords}
-use Rattle.collector.specs.Held.{heldTable}
+use Rattle.collector.specs.Held.{heldSeen}
 use Rattle.collector.specs.Ends.{Comes, Collects}
 use Rattle.collector.specs.declared.Collected.{Collected}
 use Rattle.collector.proofs.PackLaws.{cleared}
@@ -12,28 +11,28 @@ use Rattle.collector.proofs.indexed.collect_index.Tie as tie
 
 run-requires : tie.Need-run-requires
 run-requires c κs =
-    let pending = c .before .before .before .before .before .before in
+    let pending = c .before .before .before .before .before in
     let found = pending .before .before .before .before in
     let start = found .before .before .before .before .before .before .before in
     let a = start .args in (
-      start .pre .1,
+      start .pre,
       (cleared (a .found .now) (sym (found .clear .kept .0)) (found .clear .ensures), cleared (a .pending .now) (sym (pending .clear2 .kept .0)) (pending .clear2 .ensures)),
     )
 
 -- what the walk gives, by the buffers as they were lent
 same-reply : (c : tie.After-run) →
-    let pending = c .before .before .before .before .before .before .before in
+    let pending = c .before .before .before .before .before .before in
     let found = pending .before .before .before .before in
     let a = found .before .before .before .before .before .before .before .args in
-    let seen = heldTable (a .area .now) (seenWords (a .reader) (a .index .now)) in
+    let seen = heldSeen (a .reader) (a .area .now) (a .index .now) in
     collected seen (a .option) (a .scratch .now) (found .clear .last .0) (pending .clear2 .last .0) ≡
     collectedBy (a .reader) seen (a .option) (a .scratch .now) (a .found .now) (a .pending .now)
 same-reply c =
-    let pending = c .before .before .before .before .before .before .before in
+    let pending = c .before .before .before .before .before .before in
     let found = pending .before .before .before .before in
     let start = found .before .before .before .before .before .before .before in
     let a = start .args in
-    reader-walks-long (a .reader) (heldTable (a .area .now) (seenWords (a .reader) (a .index .now))) (a .option) (a .scratch .now) (a .found .now)
+    reader-walks-long (a .reader) (heldSeen (a .reader) (a .area .now) (a .index .now)) (a .option) (a .scratch .now) (a .found .now)
     (a .pending .now) (start .pre .0) (found .clear .last .0) (pending .clear2 .last .0) (found .clear .kept .0) (pending .clear2 .kept .0)
 
 returns : tie.Need-returns
@@ -41,13 +40,13 @@ returns c =
     let again = c .before .before .before .before .before .before in
     let told = again .before .before .before in
     let scratch = told .before .before .before .before in
-    let ran = scratch .before .before .before .before .before .before .before .before .before .before in
-    let pending = ran .before .before .before .before .before .before .before in
+    let ran = scratch .before .before .before .before .before .before .before .before in
+    let pending = ran .before .before .before .before .before .before in
     let found = pending .before .before .before .before in
     let a = found .before .before .before .before .before .before .before .args in
     let last = ran .run .last .1 .1 .1 .1 in
     let kept = ran .run .kept .1 .1 .1 .1 in
-    collects-refused (a .reader) (heldTable (a .area .now) (seenWords (a .reader) (a .index .now))) (a .option) (a .scratch .now) (a .found .now)
+    collects-refused (a .reader) (heldSeen (a .reader) (a .area .now) (a .index .now)) (a .option) (a .scratch .now) (a .found .now)
     (a .pending .now)
     (cleared (last .0) (kept .0) (scratch .clear3 .ensures))
     refl
@@ -58,12 +57,12 @@ returns c =
 returns-2 : tie.Need-returns-2
 returns-2 c =
     let scratch = c .before .before .before .before in
-    let ran = scratch .before .before .before .before .before .before .before .before .before .before in
+    let ran = scratch .before .before .before .before .before .before .before .before in
     let told = c .enum-told .given in
-    let pending = ran .before .before .before .before .before .before .before in
+    let pending = ran .before .before .before .before .before .before in
     let found = pending .before .before .before .before in
     let a = found .before .before .before .before .before .before .before .args in
-    let seen = heldTable (a .area .now) (seenWords (a .reader) (a .index .now)) in
+    let seen = heldSeen (a .reader) (a .area .now) (a .index .now) in
     let last = ran .run .last .1 .1 .1 .1 in
     let kept = ran .run .kept .1 .1 .1 .1 in
     subst
@@ -80,5 +79,5 @@ returns-2 c =
 pub collect-index-spec : {M : Type 1} → statement M
 collect-index-spec =
     tie.close (tie.spec (λ c κs. search needs) (λ c κs. search needs) run-requires (λ c κs. search needs) (λ c. search needs) (λ c κs. search needs)
-    (λ c κs. search needs) (λ c. search needs) (λ c. search needs) (λ c. search needs) (λ c. search needs) returns (λ c. search needs)
-    (λ c. search needs) (λ c. search needs) (λ c. search needs) (λ c. search needs) returns-2)
+    (λ c κs. search needs) (λ c. search needs) (λ c. search needs) (λ c. search needs) returns (λ c. search needs) (λ c. search needs)
+    (λ c. search needs) (λ c. search needs) returns-2)

@@ -4,9 +4,8 @@ use Rattle.listing_rules.proofs.Prelude.{_∙_, _≡_, ap, arith, length, take,
 use Rattle.listing_rules.specs.Table.{passes, packedTable}
 use Rattle.listing_rules.specs.Readers.{isReader, packedSeen}
 use Rattle.listing_rules.proofs.ReaderLaws.{packed-seen-passes}
-use Rattle.mailbox_table.specs.Seen.{seenWords}
 use Rattle.mailbox_table.proofs.HeldLaws.{Held, index-held, index-refused}
-use Rattle.collector.specs.Held.{heldTable}
+use Rattle.collector.specs.Held.{heldSeen}
 use Rattle.collector.proofs.HeldLaws.{packed-held}
 use Rattle.collector.proofs.WholeLaws.{promised, promised-same, collects-refused, refuses-reader, refuses-table}
 use Rattle.collector.proofs.packed.collect_packed.Statement.{statement}
@@ -53,7 +52,7 @@ known c = index-held (c .before .before .before .index .ensures) (c .n .given .0
 seen : (c : tie.After-n) →
     let start = c .before .before .before .before .before .before .before .before .before .before .before in
     let a = start .args in
-    heldTable (a .table .now) (seenWords (a .reader) (take (c .n .given .0 .0) (c .before .before .before .index .last .1 .0))) ≡ packedSeen
+    heldSeen (a .reader) (a .table .now) (take (c .n .given .0 .0) (c .before .before .before .index .last .1 .0)) ≡ packedSeen
     (a .reader) (a .table .now)
 seen c =
     let start = c .before .before .before .before .before .before .before .before .before .before .before in
@@ -61,8 +60,8 @@ seen c =
     packed-held (a .reader) (a .table .now) (take (c .n .given .0 .0) (c .before .before .before .index .last .1 .0)) (known c .table-passes)
     (known c .told)
 
-array-borrow-prefix-rows : tie.Need-array-borrow-prefix-rows
-array-borrow-prefix-rows c = known (c .before) .inside
+array-share-prefix-rows : tie.Need-array-share-prefix-rows
+array-share-prefix-rows c = known (c .before) .inside
 
 slice-aggregate-collect-index : tie.Need-slice-aggregate-collect-index
 slice-aggregate-collect-index c = known (c .before .before) .size
@@ -78,7 +77,7 @@ collect-index-requires c κs =
 
 returns-3 : tie.Need-returns-3
 returns-3 c =
-    let walked = c .before .before .before .before .before .before .before in
+    let walked = c .before .before .before .before .before .before in
     let found = walked .before .before .before .before .before .before in
     let start = found .before .before .before .before .before .before .before .before .before .before .before in
     let a = start .args in
@@ -91,5 +90,5 @@ pub collect-packed-spec : {M : Type 1} → statement M
 collect-packed-spec =
     tie.close (tie.spec (λ c κs. search needs) (λ c. search needs) (λ c. search needs) (λ c. search needs) returns (λ c κs. search needs)
     (λ c. search needs) (λ c κs. search needs) (λ c. search needs) (λ c. search needs) (λ c κs. search needs) (λ c. search needs) (λ c. search needs)
-    (λ c. search needs) returns-2 array-borrow-prefix-rows slice-aggregate-collect-index collect-index-requires (λ c. search needs)
+    (λ c. search needs) returns-2 array-share-prefix-rows slice-aggregate-collect-index collect-index-requires (λ c. search needs)
     (λ c. search needs) (λ c. search needs) returns-3)

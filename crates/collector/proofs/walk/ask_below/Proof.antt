@@ -18,8 +18,9 @@ below c =
     let start = after-no-reference .before .before .before .before .before .before in
     let put = c .before .put-below in
     let made = after-no-reference .no-reference in
-    put-fronts (made .result) (put .last .0) (nameAt (start .args .name) (start .args .pending .now) ++ (slash ∷ [])) (put .result) referenceRoom (made .ensures) (put .ensures)
-    (simp (length-append, length-take) (omega (arith, start .pre .0)))
+    put-fronts (made .result) (put .last .0) (nameAt (start .args .name) (start .args .pending .now) ++ (slash ∷ [])) (put .result) referenceRoom
+    (made .ensures) (put .ensures)
+    (simp (length-append, length-take) (omega (arith, start .pre .1 .0)))
 
 array-share-prefix-reference : tie.Need-array-share-prefix-reference
 array-share-prefix-reference c = below c .inside
@@ -31,11 +32,12 @@ ask-requires : tie.Need-ask-requires
 ask-requires c κs =
     let referred = c .before .before .before .before in
     let start = referred .before .before .before .before .before .before .before .before .before .before .before in
-    (rw (below referred .bytes) (simp (length-append, length-take) (omega (arith, start .pre .0))), (start .pre .1 .0, start .pre .1 .1))
+    (start .pre .0, (rw (below referred .bytes) (simp (length-append, length-take) (omega (arith, start .pre .1 .0))), (start .pre .1 .1 .0, start .pre .1 .1 .1)))
 
 returns : tie.Need-returns
 returns c =
-    let asked = c .before .before .before .before .before .before in rw (← below (asked .before .before .before .before .before) .bytes) (asked .ask .ensures)
+    let asked = c .before .before .before .before .before .before in rw (← below (asked .before .before .before .before .before) .bytes)
+    (asked .ask .ensures)
 
 pub ask-below-spec : {M : Type 1} → statement M
 ask-below-spec =

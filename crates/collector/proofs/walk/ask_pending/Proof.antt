@@ -2,25 +2,27 @@
 use Rattle.listing_rules.proofs.Prelude.{_∙_, _≡_, ap, _+_, _-_, ℕ, arith, getD, length, needs}
 use Rattle.listing_rules.specs.Walk.{collected}
 use Rattle.collector.specs.Walking.{Walking}
-use Rattle.collector.specs.Held.{heldTable}
+use Rattle.collector.specs.Held.{heldSeen}
 use Rattle.collector.proofs.WalkLaws.{name-inside, name-lies, count-fits, walking-ends, walking-refused, walking-step}
 use Rattle.collector.proofs.walk.ask_pending.Statement.{statement}
 use Rattle.collector.proofs.walk.ask_pending.Tie as tie
 
 abbrev Inv-loop : tie.InvT-loop
-Inv-loop words area options scratch₀ found₀ pending₀ progress₀ at₀ scratch found pending progress at =
-    Walking (heldTable area words) options (length scratch₀) (length found₀) (length pending₀) scratch found pending progress at
+Inv-loop words area scratch₀ found₀ pending₀ reader options progress₀ at₀ scratch found pending progress at =
+    Walking (heldSeen reader area words) options (length scratch₀) (length found₀) (length pending₀) scratch found pending progress at
 
 abbrev μ-loop : tie.MeasureT-loop
-μ-loop words area options scratch₀ found₀ pending₀ progress₀ at₀ scratch found pending progress at = length pending - at
+μ-loop words area scratch₀ found₀ pending₀ reader options progress₀ at₀ scratch found pending progress at = length pending - at
 
 loop-holds : tie.Need-loop-holds Inv-loop μ-loop
 loop-holds c =
-    let after-pre = c .before .before .before .before .before in
-    after-pre .pre
+    let start = c .before .before .before .before .before .before .before in
+    start .pre .1
 
 add-from : tie.Need-add-from Inv-loop μ-loop
-add-from c = let turn = c .before .before in omega (arith, turn .loop .inv .holds .asks .room, turn .loop .inv .pending-long, turn .before .before .before .before .before .before .good)
+add-from c =
+    let turn = c .before .before in omega
+    (arith, turn .loop .inv .holds .asks .room, turn .loop .inv .pending-long, turn .before .before .before .before .before .before .before .before .good)
 
 slice-read-wide : tie.Need-slice-read-wide Inv-loop μ-loop
 slice-read-wide c = omega (arith, c .before .if1 .taken, c .before .before .before .loop .inv .holds .asks .room)
@@ -40,7 +42,7 @@ add-end c =
       name-inside (turn .loop .inv) (c .before .before .if1 .taken) (end-is c),
       turn .loop .inv .holds .asks .room,
       turn .loop .inv .pending-long,
-      turn .before .before .before .before .before .before .good,
+      turn .before .before .before .before .before .before .before .before .good,
     )
 
 ask-below-requires : tie.Need-ask-below-requires Inv-loop μ-loop
@@ -49,8 +51,11 @@ ask-below-requires c κs =
     let turn = read .before .before .before .before in
     let inv = turn .loop .inv in
     let more = read .before .before .if1 .taken in (
-      name-lies inv more (end-is read) (omega (arith, read .before .slice-known4 .given (turn .loop .at))),
-      (record { finds = inv .holds .finds .room; asks = inv .holds .asks .room }, count-fits inv more (end-is read)),
+      turn .before .before .before .before .before .before .before .before .pre .0,
+      (
+        name-lies inv more (end-is read) (omega (arith, read .before .slice-known4 .given (turn .loop .at))),
+        (record { finds = inv .holds .finds .room; asks = inv .holds .asks .room }, count-fits inv more (end-is read)),
+      ),
     )
 
 loop-less : tie.Need-loop-less Inv-loop μ-loop
@@ -68,7 +73,7 @@ loop-again c =
     let kept = asked .ask-below .kept .1 .1 .1 .1 in
     walking-step (turn .loop .inv) (read .before .before .if1 .taken) (end-is read)
     (asked .ask-below .last .1 .1 .1 .1 .0)
-    (rw (c .before .next .given .1) at (asked .ask-below .ensures))
+    (rw (c .before .further .given .1) at (asked .ask-below .ensures))
     (kept .0)
     (kept .1 .0)
     (kept .1 .1 .0)
@@ -94,7 +99,8 @@ returns c =
     let asked = c .before .before .before .before .before .before .before .before .before in
     let read = asked .before .before .before .before in
     let turn = read .before .before .before .before in
-    walking-refused (turn .loop .inv) (read .before .before .if1 .taken) (end-is read) (rw (c .before .number .given .1) at (asked .ask-below .ensures))
+    walking-refused (turn .loop .inv) (read .before .before .if1 .taken) (end-is read)
+    (rw (c .before .number .given .1) at (asked .ask-below .ensures))
 
 same-length-4 : tie.Need-same-length-4 Inv-loop μ-loop
 same-length-4 c = c .before .before .loop .inv .scratch-long

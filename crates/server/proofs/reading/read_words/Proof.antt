@@ -1,37 +1,51 @@
--- `server::reading::read_words` meets its contract: refusal 1, and what `read_index` gives. By Order; the index by HeldLaws of mailbox_table.
-use Rattle.listing_rules.proofs.Prelude.{ap, length, take, needs}
+-- `server::reading::read_words` meets its contract: refusals 16 and 1, and what `read_seen` gives over the index. By Order; the index by HeldLaws of
+-- mailbox_table.
+use Rattle.listing_rules.proofs.Prelude.{_∙_, _≡_, ap, true, length, take, le-leb, lt-leb, needs}
+use Rattle.listing_rules.specs.Readers.{isReader}
+use Rattle.listing_rules.proofs.ReaderLaws.{records-seen-passes}
 use Rattle.mailbox_table.proofs.HeldLaws.{Held, index-held, index-refused}
-use Rattle.server.proofs.Order.{refused-with, served-1, served-on}
+use Rattle.server.proofs.Order.{refused-with, read-16, read-1, records-on}
 use Rattle.server.proofs.reading.read_words.Statement.{statement}
 use Rattle.server.proofs.reading.read_words.Tie as tie
 
--- the rows, where they are found
-known : (c : tie.After-n) → Held (c .before .before .before .index-words .ensures) (c .n .given .0 .0)
-known c = index-held (c .before .before .before .index-words .ensures) _ (c .n .given .1)
-
 returns : tie.Need-returns
-returns c =
-    let after-no-words = c .before .before .before .before .before in
-    let fails = index-refused (c .before .before .before .index-words .ensures) (ap length (after-no-words .no-words .ensures)) (c .enum-told .given .1) in
-    rw (served-1 _ _ _ _ fails) (refused-with 1 _)
+unfolding isReader
+returns c = rw (read-16 _ _ _ _ (lt-leb _ 7 (c .if1 .taken))) (refused-with 16 _)
 
-array-share-prefix-rows : tie.Need-array-share-prefix-rows
-array-share-prefix-rows c = known (c .before) .inside
+-- the reader is one of eight
+known : (c : tie.After-no-words) → isReader (c .before .before .before .before .before .before .before .args .reader) ≡ true
+unfolding isReader
+known c = le-leb _ 7 (c .before .if1 .left)
 
-slice-aggregate-read-index : tie.Need-slice-aggregate-read-index
-slice-aggregate-read-index c = known (c .before .before) .size
-
-read-index-requires : tie.Need-read-index-requires
-read-index-requires c κs = known (c .before .before .before) .index
+-- the rows, where they are found
+found : (c : tie.After-n) → Held (c .before .before .before .index-words .ensures) (c .n .given .0 .0)
+found c = index-held (c .before .before .before .index-words .ensures) _ (c .n .given .1)
 
 returns-2 : tie.Need-returns-2
 returns-2 c =
-    let after-n = c .before .before .before .before .before .before in
-    let words = take (after-n .n .given .0 .0) _ in
-    rw (served-on _ _ _ _ _ words
-    (known after-n .table-passes) (known after-n .same)) (c .before .before .read-index .ensures)
+    let lent = c .before .before .before .before .before in
+    let fails = index-refused (c .before .before .before .index-words .ensures) (ap length (lent .no-words .ensures)) (c .enum-told .given .1) in
+    rw (read-1 _ _ _ _ (known lent) (records-seen-passes _ _ _ _ ∙ fails)) (refused-with 1 _)
+
+array-borrow-prefix-rows : tie.Need-array-borrow-prefix-rows
+array-borrow-prefix-rows c = found (c .before) .inside
+
+slice-aggregate-read-seen : tie.Need-slice-aggregate-read-seen
+slice-aggregate-read-seen c = found (c .before .before) .size
+
+read-seen-requires : tie.Need-read-seen-requires
+read-seen-requires c κs = found (c .before .before .before) .index
+
+returns-3 : tie.Need-returns-3
+returns-3 c =
+    let said = c .before .before .before in
+    let after-n = said .before .before .before .before in
+    let lent = after-n .before .before .before .before .before in
+    let rows = take (after-n .n .given .0 .0) _ in
+    rw (records-on _ _ rows _ _ (known lent) _ _ (found after-n .table-passes) (found after-n .told))
+    (said .read-seen .ensures)
 
 pub read-words-spec : {M : Type 1} → statement M
 read-words-spec =
-    tie.close (tie.spec (λ c κs. search needs) (λ c. search needs) (λ c κs. search needs) (λ c. search needs) (λ c. search needs) returns
-    array-share-prefix-rows slice-aggregate-read-index read-index-requires (λ c. search needs) returns-2)
+    tie.close (tie.spec returns (λ c κs. search needs) (λ c. search needs) (λ c κs. search needs) (λ c. search needs) (λ c. search needs) returns-2
+    array-borrow-prefix-rows slice-aggregate-read-seen read-seen-requires (λ c. search needs) returns-3)

@@ -58,25 +58,22 @@ returns-5 c =
     let told = c .before .before .before .before in
     let tagged = told .before .before in
     let start = tagged .before .before .before .before .before .before in
-    rw (← reply-lsub _ _ _ _ _ (start .pre .1 .means) _ (tag-is tagged) (told .enum-told4 .given .1)) (c .before .before .write-subscriptions .ensures)
+    rw (← reply-lsub _ _ _ _ _ (start .pre .1 .means) _ (tag-is tagged) (told .enum-told4 .given .1))
+    (c .before .before .write-subscriptions .ensures)
 
 returns-6 : tie.Need-returns-6
 returns-6 c =
-    let told = c .before .before .before .before in
-    let tagged = told .before .before in
-    let start = tagged .before .before .before .before .before .before in
-    rw (← reply-subscribe _ _ _ _ _ (start .pre .1 .means) _ (tag-is tagged) (told .enum-told5 .given .1)) (c .before .before .write-ok .ensures)
+    let start = c .before .before .before .before .before .before .before .before in
+    rw (← reply-subscribe _ _ _ _ _ (start .pre .1 .means) (c .enum-told5 .given .1)) (refused-with 5 _)
 
 returns-7 : tie.Need-returns-7
 returns-7 c =
-    let told = c .before .before .before .before in
-    let tagged = told .before .before in
-    let start = tagged .before .before .before .before .before .before in
-    rw (← reply-unsubscribe _ _ _ _ _ (start .pre .1 .means) _ (tag-is tagged) (told .enum-told6 .given .1)) (c .before .before .write-ok2 .ensures)
+    let start = c .before .before .before .before .before .before .before .before in
+    rw (← reply-unsubscribe _ _ _ _ _ (start .pre .1 .means) (c .enum-told6 .given .1)) (refused-with 5 _)
 
 pub respond-spec : {M : Type 1} → statement M
 respond-spec =
     tie.close (tie.spec (λ c κs. search needs) (λ c. search needs) (λ c. search needs) (λ c κs. search needs) (λ c. search needs)
     (λ c κs. search needs) (λ c. search needs) write-listing-requires (λ c. search needs) write-subscriptions-requires (λ c. search needs)
-    (λ c κs. search needs) (λ c. search needs) (λ c κs. search needs) returns (λ c. search needs) returns-2 (λ c. search needs) returns-3
-    (λ c. search needs) returns-4 (λ c. search needs) returns-5 (λ c. search needs) returns-6 (λ c. search needs) returns-7)
+    (λ c. search needs) returns (λ c. search needs) returns-2 (λ c. search needs) returns-3 (λ c. search needs) returns-4 (λ c. search needs)
+    returns-5 returns-6 returns-7)

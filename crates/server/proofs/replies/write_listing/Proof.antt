@@ -23,7 +23,8 @@ slice-aggregate-write-list c = packed-here (c .before .before .before) .size
 returns : tie.Need-returns
 returns c =
     let stage = c .before .before .before .before .before .before .before in
-    rw (← packed-here stage .patterns) (c .before .before .write-list .ensures)
+    let start = stage .before .before .before .before .before .before .before .before in
+    rw (← packed-here stage .patterns) (c .before .before .write-list .ensures (start .pre .0))
 
 pub write-listing-spec : {M : Type 1} → statement M
 write-listing-spec =

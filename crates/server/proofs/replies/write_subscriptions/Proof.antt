@@ -2,7 +2,7 @@
 -- By Inputs.
 use Rattle.listing_rules.proofs.Prelude.{ap, length, needs}
 use Rattle.command_line.specs.Commands.{patternsOf}
-use Rattle.server.proofs.Inputs.{Lying, lying}
+use Rattle.server.proofs.Inputs.{Lying, lying, lsub-one}
 use Rattle.server.proofs.replies.write_subscriptions.Statement.{statement}
 use Rattle.server.proofs.replies.write_subscriptions.Tie as tie
 
@@ -20,16 +20,15 @@ array-share-prefix-patterns c = packed-here (c .before) .within
 slice-aggregate-write-lsub : tie.Need-slice-aggregate-write-lsub
 slice-aggregate-write-lsub c = packed-here (c .before .before) .size
 
-write-lsub-requires : tie.Need-write-lsub-requires
-write-lsub-requires c κs =
-    let after-put-patterns = c .before .before .before in
-    let start = after-put-patterns .before .before .before .before .before .before .before .before in
-    (start .pre .0, rw (packed-here after-put-patterns .patterns) (start .pre .1 .1))
-
 returns : tie.Need-returns
-returns c = rw (← packed-here _ .patterns) (c .before .before .write-lsub .ensures)
+returns c =
+    let after-put-patterns = c .before .before .before .before .before .before in
+    let start = after-put-patterns .before .before .before .before .before .before .before .before in
+    let a = start .args in
+    rw (← lsub-one (a .area .now) (a .words .now) _ (a .tag .now) _ (packed-here after-put-patterns .patterns) (start .pre .1 .1))
+    (c .before .before .write-lsub .ensures (start .pre .0))
 
 pub write-subscriptions-spec : {M : Type 1} → statement M
 write-subscriptions-spec =
     tie.close (tie.spec (λ c κs. search needs) (λ c. search needs) (λ c κs. search needs) array-share-prefix-patterns slice-aggregate-write-lsub
-    write-lsub-requires (λ c. search needs) returns)
+    (λ c κs. search needs) (λ c. search needs) returns)

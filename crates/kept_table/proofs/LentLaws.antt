@@ -1,11 +1,13 @@
--- Laws of the lent memory: lines of output and their lengths, the parts that hold what is stored, records and summary put there, and a frame that only says
--- a line.
+-- Laws of the lent memory: lines of output and their lengths, the tests of its sizes, the parts that hold what is stored, records and summary put
+-- there, and a frame that only says a line.
 use Rattle.listing_rules.proofs.Prelude.{_∙_, _≡_, ap, refl, sym, List, [], _++_, _∷_, append-nil, _*_, _+_, _≤_, ℕ, arith, drop, drop-of-length-le}
 use Rattle.listing_rules.proofs.Prelude.{length, length-append, length-drop, take, drop-at, drop-drop, length-take-le, paste, take-at, take-length}
+use Rattle.listing_rules.proofs.Prelude.{_&&_, true, leb, le-leb, leb-true}
+use Rattle.listing_rules.proofs.Bools.{and-i, and-l, and-r}
 use Rattle.listing_rules.specs.Frames.{hex, answerLine, refusalLine, answering}
 use Rattle.octets.specs.Put.{Put}
 use Rattle.kept_table.specs.declared.Lengths.{Lengths}
-use Rattle.kept_table.specs.Kept.{Lent, lent, numbersWith, storedIn, Held, Within, outcomeIs, Says, Carries}
+use Rattle.kept_table.specs.Kept.{Lent, lent, numbersWith, storedIn, Held, Within, entriesFit, isHeld, isWithin, outcomeIs, Says, Carries}
 
 -- two digits a byte, and a line feed
 length-hex : (bs : List ℕ) → length (hex bs) ≡ 2 * length bs
@@ -30,6 +32,35 @@ says-refusal k w = says (omega (arith, length-refusal k)) w
 
 pub says-none : (o : List ℕ) → Says [] o o 0
 says-none o = record { written = refl; fits = omega arith; bytes = refl }
+
+-- the tests of the sizes are true exactly where the records that say them hold
+pub is-held : {n : Lengths} {t w : List ℕ} → Held n t w → isHeld n t w ≡ true
+is-held {n} {t} {w} x =
+    and-i (leb (n .table) 16384) (leb 16384 (length t) && leb 1024 (length w)) (le-leb (n .table) 16384 (x .rows))
+    (and-i (leb 16384 (length t)) (leb 1024 (length w)) (le-leb 16384 (length t) (x .table)) (le-leb 1024 (length w) (x .records)))
+
+pub is-within : {n : Lengths} {t w m : List ℕ} → Within n t w m → isWithin n t w m ≡ true
+is-within {n} {t} {w} {m} x =
+    and-i (isHeld n t w) (entriesFit n (length m)) (is-held (x .held))
+    (and-i (leb (n .namespaces) 1024) (leb 1024 (length m)) (le-leb (n .namespaces) 1024 (x .entries)) (le-leb 1024 (length m) (x .namespaces)))
+
+pub held-so : (n : Lengths) (t w : List ℕ) → isHeld n t w ≡ true → Held n t w
+held-so n t w h =
+    let sizes = and-r (leb (n .table) 16384) (leb 16384 (length t) && leb 1024 (length w)) h in
+    record {
+      rows = leb-true (n .table) 16384 (and-l (leb (n .table) 16384) (leb 16384 (length t) && leb 1024 (length w)) h);
+      table = leb-true 16384 (length t) (and-l (leb 16384 (length t)) (leb 1024 (length w)) sizes);
+      records = leb-true 1024 (length w) (and-r (leb 16384 (length t)) (leb 1024 (length w)) sizes);
+    }
+
+pub within-so : (n : Lengths) (t w m : List ℕ) → isWithin n t w m ≡ true → Within n t w m
+within-so n t w m h =
+    let sizes = and-r (isHeld n t w) (entriesFit n (length m)) h in
+    record {
+      held = held-so n t w (and-l (isHeld n t w) (entriesFit n (length m)) h);
+      entries = leb-true (n .namespaces) 1024 (and-l (leb (n .namespaces) 1024) (leb 1024 (length m)) sizes);
+      namespaces = leb-true 1024 (length m) (and-r (leb (n .namespaces) 1024) (leb 1024 (length m)) sizes);
+    }
 
 -- the parts of the memory that hold what is stored are there
 module _ {n : Lengths} {t w : List ℕ} (x : Held n t w) where

@@ -29,8 +29,9 @@ use Rattle.records.specs.Stores.{wordCommand}
 use Rattle.server.specs.declared.Stored.{Stored as Answered}
 use Rattle.server.specs.Answering.{memory, Answers}
 use Rattle.kept_table.specs.declared.Lengths.{Lengths}
-use Rattle.kept_table.specs.Kept.{Lent, lent, summedIn, numbersWith, keptAs, keptIn, storedIn, Within, lengthsIs, outcomeIs, Says}
-use Rattle.kept_table.specs.Commanding.{commandLine, writtenLine, answerLength, Fits, Obeys}
+use Rattle.kept_table.specs.declared.outcome.Outcome.{Outcome}
+use Rattle.kept_table.specs.Kept.{Lent, lent, summedIn, numbersWith, keptAs, keptIn, storedIn, Within, isWithin, lengthsIs, outcomeIs, Says}
+use Rattle.kept_table.specs.Commanding.{commandLine, writtenLine, answerLength, Fits, Obeys, ObeysLent}
 use Rattle.kept_table.proofs.LentLaws.{length-line, says, says-refusal, whole-area, with-words, with-sums, with-rest, with-over, carries-said}
 
 -- The line of an answer that lies in its buffer.
@@ -439,3 +440,12 @@ module _ (d : Lent) (n : Lengths) (x : Within n (d .table) (d .records) (d .name
         (obeys-kept made us vs ss (c .area) (c .records) (c .summary) hu (c .size) hs o k
         (step-made (reply-answered (made .reply) j (sym q ∙ c .written))) few
         (reply-says (made .reply) b f (c .written) (c .bytes) s))
+
+-- what is promised of any memory: a command carried out where what is stored lies within it, and nothing done elsewhere
+module _ (d : Lent) (n : Lengths) (reader : ℕ) (l : List ℕ) where
+  pub lent-obeyed : {e : Lent} {r : Outcome} → isWithin n (d .table) (d .records) (d .namespaces) ≡ true → Obeys n reader l d e r →
+      ObeysLent n reader l d e r
+  lent-obeyed so x = record { obeys = λ h. x; refuses = λ h. absurd (false≢true (sym h ∙ so)) }
+
+  pub lent-refused : {r : Outcome} → isWithin n (d .table) (d .records) (d .namespaces) ≡ false → r ≡ outcomeIs n 0 → ObeysLent n reader l d d r
+  lent-refused none is = record { obeys = λ h. absurd (false≢true (sym none ∙ h)); refuses = λ h. (is, refl) }

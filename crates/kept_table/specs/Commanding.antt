@@ -1,4 +1,6 @@
 -- A command over what is kept: its line, by the server's answer, and what it leaves.
+use mathlib.Core.Path.{_≡_}
+use mathlib.Core.Bool.{true, false}
 use mathlib.Core.List.{List, _∷_}
 use lib.ListN.{length, take}
 use Prim.Native.Nat.{ℕ, _≤_}
@@ -7,7 +9,7 @@ use Rattle.octets.specs.declared.Written.{Written}
 use Rattle.octets.specs.declared.Written.the-variants.{Done, Refused}
 use Rattle.kept_table.specs.declared.Lengths.{Lengths}
 use Rattle.kept_table.specs.declared.outcome.Outcome.{Outcome}
-use Rattle.kept_table.specs.Kept.{Lent, storedIn, Carries}
+use Rattle.kept_table.specs.Kept.{Lent, storedIn, isWithin, outcomeIs, Carries}
 
 -- the line that answers a reader's command
 abbrev pub commandLine : ℕ → Kept → List ℕ → List ℕ → List ℕ
@@ -31,3 +33,8 @@ pub record Fits (w : Written) (answer : List ℕ) : Type 0 where
 -- a command was carried out
 abbrev pub Obeys : Lengths → ℕ → List ℕ → Lent → Lent → Outcome → Type 0
 Obeys stored reader command d e r = Carries (commandStep (storedIn d stored) reader command) d e r
+
+-- What `obey` promises of any lent memory: the command was carried out where what is stored lies within it; else nothing was done.
+pub record ObeysLent (stored : Lengths) (reader : ℕ) (command : List ℕ) (d e : Lent) (r : Outcome) : Type 0 where
+  pub obeys : isWithin stored (d .table) (d .records) (d .namespaces) ≡ true → Obeys stored reader command d e r
+  pub refuses : isWithin stored (d .table) (d .records) (d .namespaces) ≡ false → (r ≡ outcomeIs stored 0) × (e ≡ d)

@@ -1,7 +1,8 @@
 -- What is kept in lent memory between two frames, and what one frame leaves there.
 use mathlib.Core.Path.{_≡_}
 use mathlib.Core.List.{List, map, _++_}
-use mathlib.Core.Bool.{Bool, true, false, cond}
+use mathlib.Core.Bool.{Bool, true, false, cond, _&&_}
+use lib.Dec.{leb}
 use lib.ListN.{length, take, drop}
 use lib.Seq.{sets}
 use Prim.Native.Nat.{ℕ, _≤_}
@@ -62,6 +63,20 @@ pub record Within (n : Lengths) (t w m : List ℕ) : Type 0 where
   pub held : Held n t w
   pub entries : n .namespaces ≤ 1024
   pub namespaces : 1024 ≤ length m
+
+-- The same as tests, in the same order: first by the size of the table's area and of the numbers, and by that of the namespace list's area; then of
+-- the lent memory itself.
+abbrev pub rowsFit : Lengths → ℕ → ℕ → Bool
+rowsFit n area numbers = leb (n .table) 16384 && (leb 16384 area && leb 1024 numbers)
+
+abbrev pub entriesFit : Lengths → ℕ → Bool
+entriesFit n area = leb (n .namespaces) 1024 && leb 1024 area
+
+abbrev pub isHeld : Lengths → List ℕ → List ℕ → Bool
+isHeld n t w = rowsFit n (length t) (length w)
+
+abbrev pub isWithin : Lengths → List ℕ → List ℕ → List ℕ → Bool
+isWithin n t w m = isHeld n t w && entriesFit n (length m)
 
 abbrev pub lengthsIs : ℕ → ℕ → Bool → Lengths
 lengthsIs table namespaces edited = record { table = table; namespaces = namespaces; edited = edited }

@@ -6,12 +6,13 @@ ghost use lib.ListN.{length};
 ghost use Rattle.listing_rules.specs.Command.{isEdit, parsed};
 ghost use Rattle.listing_rules.specs.Frames.{bytes};
 ghost use Rattle.kept_table.specs.Kept.{lent, Within, Says};
-ghost use Rattle.kept_table.specs.Commanding.{commandLine, writtenLine, Fits, Obeys};
+ghost use Rattle.kept_table.specs.Commanding.{commandLine, writtenLine, Fits, Obeys, ObeysLent};
 use crate::Lengths;
 use crate::outcome::MAX_TABLE;
 use crate::outcome::Outcome;
 use crate::outcome::said;
 use crate::outcome::with_records;
+use crate::sizes::is_within;
 use crate::store::keep_store;
 use crate::store::keep_sums;
 use crate::store::kept_sums;
@@ -43,8 +44,29 @@ fn put_reply(written: Written, answer: &[u8], out: &mut [u8]) -> usize
     }
 }
 
-// A reader's command over what is kept.
+// A reader's command over what is kept. Where that does not lie within the memory, nothing is done, and no line is written.
 pub fn obey(
+    stored: Lengths,
+    reader: u8,
+    command: &[u8],
+    table: &mut [u8],
+    records: &mut [u64],
+    namespaces: &[u8],
+    out: &mut [u8],
+) -> Outcome
+    ensures { λ r. ⌜ ObeysLent stored reader (now (command .entry))
+        (lent (now (table .entry)) (now (records .entry)) (now (namespaces .entry)) (now (out .entry)))
+        (lent (now (table .exit)) (now (records .exit)) (now (namespaces .entry)) (now (out .exit))) r ⌝ }
+{
+    let within = is_within(stored, table.len(), records.len(), namespaces.len());
+    if !within {
+        return said(stored, 0);
+    }
+    obey_within(stored, reader, command, table, records, namespaces, out)
+}
+
+// A command over what lies within the memory.
+fn obey_within(
     stored: Lengths,
     reader: u8,
     command: &[u8],

@@ -7,6 +7,9 @@ use crate::Lengths;
 // "added behind the stored bytes (16,384 ..)"; and as many bytes of names beside the records.
 pub const MAX_TABLE: usize = 16384;
 
+// "added behind the stored bytes (.. and 1,024; no room: .. 2, nothing added)"
+pub const MAX_NAMESPACES: usize = 1024;
+
 pub struct Outcome {
     pub stored: Lengths,
     pub written: usize,

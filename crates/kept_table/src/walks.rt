@@ -1,12 +1,15 @@
 // A reader's walk over what is kept, and its line.
 ghost use mathlib.Core.Path.{_≡_};
+ghost use mathlib.Core.Bool.{cond};
+ghost use mathlib.Core.List.{[]};
 ghost use lib.ListN.{replicate};
 ghost use Rattle.listing_rules.specs.Walk.{walkBy};
 ghost use Rattle.listing_rules.specs.Frames.{keptSeen, walkLine};
 ghost use Rattle.collector.specs.Result.{collectedOf, foundOf};
-ghost use Rattle.kept_table.specs.Kept.{keptOf, Held, Says};
+ghost use Rattle.kept_table.specs.Kept.{keptOf, Held, isHeld, Says};
 use crate::Lengths;
 use crate::outcome::MAX_TABLE;
+use crate::sizes::is_held;
 use crate::store::MAX_NUMBERS;
 use crate::store::no_bytes;
 use collector::Collected;
@@ -23,8 +26,29 @@ fn names_buffer() -> [u8; 8192]
     [0; 8192]
 }
 
-// The line of a walk: the number of commands and what was found, or the number of its refusal.
+// The line of a walk: the number of commands and what was found, or the number of its refusal. Where what is kept does not lie within the
+// memory, none is written.
 pub fn walk_line(
+    stored: Lengths,
+    reader: u8,
+    table: &[u8],
+    records: &[u64],
+    option: u8,
+    out: &mut [u8],
+) -> usize
+    ensures { λ r. ⌜ Says (cond (isHeld stored (now (table .entry)) (now (records .entry)))
+        (walkLine (walkBy reader (keptSeen reader (keptOf stored (now (table .entry)) (now (records .entry)))) option 16384 8192 8192)) [])
+        (now (out .entry)) (now (out .exit)) r ⌝ }
+{
+    let held = is_held(stored, table.len(), records.len());
+    if !held {
+        return 0;
+    }
+    walk_held(stored, reader, table, records, option, out)
+}
+
+// The line of a walk over what lies within the memory.
+fn walk_held(
     stored: Lengths,
     reader: u8,
     table: &[u8],

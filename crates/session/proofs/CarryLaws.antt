@@ -14,10 +14,10 @@ use Rattle.frames.proofs.StoreLaws.{stored-now, stored-full}
 use Rattle.kept_table.specs.declared.Lengths.{Lengths}
 use Rattle.kept_table.specs.declared.outcome.Outcome.{Outcome}
 use Rattle.session.specs.declared.carrying.Added.{Added}
-use Rattle.kept_table.specs.Kept.{Lent, lent, keptOf, keptIn, storedIn, Within, lengthsIs, outcomeIs, Says}
+use Rattle.kept_table.specs.Kept.{Lent, lent, keptOf, keptIn, storedIn, Within, isHeld, lengthsIs, outcomeIs, Says}
 use Rattle.session.specs.Carrying.{Keeps, AddsRow, CarriesOut}
-use Rattle.kept_table.specs.Commanding.{Obeys}
-use Rattle.kept_table.proofs.LentLaws.{says-none, says-refusal, carries-said}
+use Rattle.kept_table.specs.Commanding.{ObeysLent}
+use Rattle.kept_table.proofs.LentLaws.{says-none, says-refusal, is-held, is-within, carries-said}
 
 -- bytes after those that were added stay
 behind-added : (d bs : List ℕ) (used : ℕ) → used + length bs ≤ length d → drop (used + length bs) (sets d used bs) ≡ drop (used + length bs) d
@@ -130,17 +130,19 @@ module _ (d : Lent) (n : Lengths) (w : Within n (d .table) (d .records) (d .name
       })
 
   pub kind-command : (reader size part : ℕ) (t v o : List ℕ) (r : Outcome) → f ≡ Command reader size →
-      Obeys n reader (take part (drop 1 bs)) d (lent t v (d .namespaces) o) r →
+      ObeysLent n reader (take part (drop 1 bs)) d (lent t v (d .namespaces) o) r →
       part ≡ size → CarriesOut n bs f d (lent t v (d .namespaces) o) r
   unfolding framed frameIs
-  kind-command reader size part t v o r e x same = rw (e, sym same) x
+  kind-command reader size part t v o r e x same = rw (e, sym same) (x .obeys (is-within w))
 
   pub kind-walk : (reader option : ℕ) (o : List ℕ) (k : ℕ) → f ≡ Walk reader option →
-      Says (walkLine (walkBy reader (keptSeen reader (keptIn d n)) option 16384 8192 8192)) (d .out) o k →
+      Says (cond (isHeld n (d .table) (d .records)) (walkLine (walkBy reader (keptSeen reader (keptIn d n)) option 16384 8192 8192)) [])
+      (d .out) o k →
       CarriesOut n bs f d (lent (d .table) (d .records) (d .namespaces) o) (outcomeIs n k)
   unfolding framed frameIs
   kind-walk reader option o k e x =
-      rw e (carries-said d n (w .held .rows) (w .entries) (walkLine (walkBy reader (keptSeen reader (keptIn d n)) option 16384 8192 8192)) o k x)
+      rw e (carries-said d n (w .held .rows) (w .entries) (walkLine (walkBy reader (keptSeen reader (keptIn d n)) option 16384 8192 8192)) o k
+      (rw (is-held (w .held)) at x))
 
   pub kind-bad : (o : List ℕ) (k : ℕ) → f ≡ Bad → Put (d .out) o 0 (refusalLine 13) k →
       CarriesOut n bs f d (lent (d .table) (d .records) (d .namespaces) o) (outcomeIs n k)

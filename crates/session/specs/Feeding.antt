@@ -5,7 +5,7 @@ use mathlib.Core.Bool.{Bool, true, false, not, cond, _&&_, _||_}
 use lib.Dec.{eqb, leb, ltb}
 use lib.ListN.{length, take, drop}
 use Prim.Native.Nat.{ℕ, suc}
-use Rattle.listing_rules.specs.Frames.{Session, Fed as Meant, refusalLine, fedAll, atEnd}
+use Rattle.listing_rules.specs.Frames.{Session, Fed as Meant, refusalLine, start, fedAll, atEnd}
 use Rattle.frames.specs.declared.gathering.Gathered.{Gathered}
 use Rattle.frames.specs.Gathering.{Holds as HoldsFrame, gatheredNone, gatheredIs, gatheredLine}
 use Rattle.kept_table.specs.declared.Lengths.{Lengths}
@@ -41,6 +41,11 @@ pub record Holds (d : Lent) (line : List ℕ) (st : State) (s : Session) : Type 
   pub table : keptIn d (st .stored) ≡ s .stored .table
   pub namespaces : take (st .stored .namespaces) (d .namespaces) ≡ s .stored .namespaces
   pub frame : HoldsFrame line (st .gathered) (s .partial)
+
+-- What `State::start` promises: nothing is stored and no frame begun, and so any memory holds document 01's session at its start.
+pub record Starts (r : State) : Type 0 where
+  pub is : r ≡ startIs
+  pub holds : (d : Lent) (line : List ℕ) → Holds d line r start
 
 -- how many bytes of a piece are taken at a time: those through the first line feed, or all
 unfoldable pub throughLine : List ℕ → ℕ

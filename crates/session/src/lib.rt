@@ -10,19 +10,17 @@ mod gathering;
 
 ghost use mathlib.Core.Path.{_≡_};
 ghost use Rattle.kept_table.specs.Kept.{lent};
-ghost use Rattle.session.specs.Feeding.{ready, takenIs, FeedIs, Finishes};
+ghost use Rattle.session.specs.Feeding.{ready, takenIs, Starts, FeedIs, Finishes};
 use carrying::end_frame;
 use frames::Gathered;
 use frames::MAX_DIGITS;
 use frames::put_refusal;
 use gathering::gather_line;
 use kept_table::Lengths;
+use kept_table::MAX_NAMESPACES;
 use kept_table::MAX_NUMBERS;
 use kept_table::MAX_TABLE;
 use octets::refusals::BAD_FRAME;
-
-// "added behind the stored bytes (.. and 1,024; no room: .. 2, nothing added)"
-pub(crate) const MAX_NAMESPACES: usize = 1024;
 
 // The longest line of output: two digits for each of 1 + 16,384 bytes, and a line feed.
 pub const MAX_LINE: usize = 32771;
@@ -35,14 +33,18 @@ pub struct State {
 
 impl State {
     // Nothing stored and no frame begun: what any memory holds at first.
-    pub const START: State = State {
-        stored: Lengths {
-            table: 0,
-            namespaces: 0,
-            edited: false,
-        },
-        gathered: Gathered::NONE,
-    };
+    pub fn start() -> State
+        ensures { λ r. ⌜ Starts r ⌝ }
+    {
+        State {
+            stored: Lengths {
+                table: 0,
+                namespaces: 0,
+                edited: false,
+            },
+            gathered: Gathered::NONE,
+        }
+    }
 }
 
 // The state after the bytes that were taken, how many they were, and how many bytes of output lie at the front of `out`.

@@ -1,50 +1,37 @@
--- `kept_table::commands::obey` meets its contract: records, an edit, or a command that only reads. Rests on ObeyLaws.
-use Rattle.listing_rules.proofs.Prelude.{_∙_, sym, arith, needs}
-use Rattle.kept_table.specs.Kept.{lent}
-use Rattle.kept_table.proofs.LentLaws.{whole-table, whole-namespaces}
-use Rattle.kept_table.proofs.ObeyLaws.{obeys-read}
+-- `kept_table::commands::obey` meets its contract: nothing where the sizes are others, else the command. Rests on ObeyLaws.
+use Rattle.listing_rules.proofs.Prelude.{_∙_, _≡_, sym, true, not-false, not-true, needs}
+use Rattle.kept_table.specs.Kept.{Lent, lent, isWithin}
+use Rattle.kept_table.proofs.LentLaws.{within-so}
+use Rattle.kept_table.proofs.ObeyLaws.{lent-obeyed, lent-refused}
 use Rattle.kept_table.proofs.commands.obey.Statement.{statement}
 use Rattle.kept_table.proofs.commands.obey.Tie as tie
 
-first-edit-requires : tie.Need-first-edit-requires
-first-edit-requires c κs =
-    let after-is-edit-line = c .before .before .before .before in
-    let at-if1 = after-is-edit-line .before in
-    let start =
-    at-if1 .before .before .before .before .before .before in (start .pre, (at-if1 .if1 .left, sym (after-is-edit-line .is-edit-line .ensures) ∙ c .before .before .before .if2 .taken))
+-- the memory at the start
+abbrev memory : tie.Start → Lent
+memory start = lent (start .args .table .now) (start .args .records .now) (start .args .namespaces .now) (start .args .out .now)
 
-slice-aggregate-spaces : tie.Need-slice-aggregate-spaces
-slice-aggregate-spaces c =
-    let start = c .before .before .before .before .before .before .before .before .before in
-    whole-namespaces (start .pre)
+returns : tie.Need-returns
+returns c =
+    let after-is-within = c .before .before in
+    let start = after-is-within .before .before .before .before .before .before in
+    lent-refused (memory start) _ _ _ (sym (after-is-within .is-within .ensures) ∙ not-true _ (c .before .if1 .taken)) (c .said .ensures)
 
-slice-aggregate-read-line : tie.Need-slice-aggregate-read-line
-slice-aggregate-read-line c =
-    let start = c .before .before .before .before .before .before .before .before .before .before in
-    whole-table (start .pre .held)
+-- the test did not leave
+is-so : (c : tie.Else1) → let start = c .before .before .before .before .before .before .before in
+    isWithin (start .args .stored) (start .args .table .now) (start .args .records .now) (start .args .namespaces .now) ≡ true
+is-so c = sym (c .before .is-within .ensures) ∙ not-false _ (c .if1 .left)
 
-read-line-requires : tie.Need-read-line-requires
-read-line-requires c κs =
-    let after-is-edit-line = c .before .before .before .before in
-    let start =
-    after-is-edit-line .before .before .before .before .before .before .before in (
-      sym (after-is-edit-line .is-edit-line .ensures) ∙ c .before .before .before .if2 .left,
-      omega (arith, whole-table (start .pre .held), start .pre .held .rows),
-    )
+obey-within-requires : tie.Need-obey-within-requires
+obey-within-requires c κs = within-so _ _ _ _ (is-so (c .before .before .before))
 
-returns-3 : tie.Need-returns-3
-returns-3 c =
-    let at-if2 = c .before .before .before .before .before .before .before in
-    let after-is-edit-line = at-if2 .before in
-    let at-if1 = after-is-edit-line .before in
-    let start = at-if1 .before .before .before .before .before .before in
-    let before = lent _ _ _ _ in
-    rw (c .said .ensures)
-    (obeys-read before _ (start .pre) _ _ _ _ (at-if1 .if1 .left)
-    (sym (after-is-edit-line .is-edit-line .ensures) ∙ at-if2 .if2 .left) (c .before .before .before .read-line .ensures))
+returns-2 : tie.Need-returns-2
+returns-2 c =
+    let after-obey-within = c .before .before .before .before .before .before in
+    let stage = after-obey-within .before .before .before .before in
+    let start = stage .before .before .before .before .before .before .before in
+    lent-obeyed (memory start) _ _ _ (is-so stage) (after-obey-within .obey-within .ensures)
 
 pub obey-spec : {M : Type 1} → statement M
 obey-spec =
-    tie.close (tie.spec (λ c κs. search needs) (λ c. search needs) (λ c. search needs) (λ c. search needs) (λ c. search needs) (λ c κs. search needs)
-    first-edit-requires (λ c. search needs) (λ c. search needs) (λ c. search needs) (λ c. search needs) slice-aggregate-spaces (λ c. search needs)
-    slice-aggregate-read-line read-line-requires (λ c κs. search needs) (λ c. search needs) (λ c. search needs) returns-3)
+    tie.close (tie.spec (λ c κs. search needs) (λ c κs. search needs) returns obey-within-requires (λ c. search needs) (λ c. search needs)
+    (λ c. search needs) returns-2)

@@ -1,51 +1,23 @@
--- `kept_table::walks::walk_line` meets its contract: a walk, or a refusal. Rests on WalkLaws.
-use Rattle.listing_rules.proofs.Prelude.{_∙_, _≡_, ap, sym, ℕ, length, length-replicate, needs}
-use Rattle.kept_table.proofs.WalkLaws.{walk-fits, walk-says, walk-refuses}
+-- `kept_table::walks::walk_line` meets its contract: no line where the sizes are others, else that of the walk. Rests on LentLaws.
+use Rattle.listing_rules.proofs.Prelude.{_∙_, _≡_, sym, true, not-false, not-true, needs}
+use Rattle.kept_table.specs.Kept.{isHeld}
+use Rattle.kept_table.proofs.LentLaws.{says-none, held-so}
 use Rattle.kept_table.proofs.walks.walk_line.Statement.{statement}
 use Rattle.kept_table.proofs.walks.walk_line.Tie as tie
 
--- the sizes of the three buffers
-sizes : (c : tie.After-names-buffer2) →
-    (length (c .before .before .no-bytes .result) ≡ 16384) × (length (c .before .names-buffer .result) ≡ 8192) ×
-    (length (c .names-buffer2 .result) ≡ 8192)
-sizes c = (
-  ap length (c .before .before .no-bytes .ensures) ∙ length-replicate {A = ℕ} 16384 0,
-  ap length (c .before .names-buffer .ensures) ∙ length-replicate {A = ℕ} 8192 0,
-  ap length (c .names-buffer2 .ensures) ∙ length-replicate {A = ℕ} 8192 0,
-)
-
-array-share-prefix-found : tie.Need-array-share-prefix-found
-array-share-prefix-found c =
-    let after-collect-kept = c .before .before .before .before .before .before .before in
-    let stage = after-collect-kept .before .before .before .before in
-    let walked = after-collect-kept .collect-kept in walk-fits _ _ _ _ _ _ _ _ (sizes stage) (walked .ensures .0) (walked .kept .1 .1 .1 .1 .1 .1 .0)
-    (walked .ensures .1) _ _ (c .before .before .count .given .1) .0
-
-slice-aggregate-put-walk : tie.Need-slice-aggregate-put-walk
-slice-aggregate-put-walk c =
-    let after-collect-kept = c .before .before .before .before .before .before .before .before in
-    let stage = after-collect-kept .before .before .before .before in
-    let walked = after-collect-kept .collect-kept in sym (walk-fits _ _ _ _ _ _ _ _ (sizes stage) (walked .ensures .0)
-    (walked .kept .1 .1 .1 .1 .1 .1 .0) (walked .ensures .1) _ _ (c .before .before .before .count .given .1) .1)
-
 returns : tie.Need-returns
-returns c =
-    let after-count = c .before .before .before .before .before .before in
-    let after-collect-kept = after-count .before .before .before .before .before in
-    let stage = after-collect-kept .before .before .before .before in
-    let walked = after-collect-kept .collect-kept in walk-says _ _ _ _ _ _ _ _ (sizes stage) (walked .ensures .0) (walked .kept .1 .1 .1 .1 .1 .1 .0)
-    (walked .ensures .1) _ _ _ _ _ (after-count .count .given .1) (c .before .before .put-walk .ensures)
+returns c = rw (sym (c .before .is-held .ensures) ∙ not-true _ (c .if1 .taken)) (says-none _)
+
+-- the test did not leave
+is-so : (c : tie.Else1) → let start = c .before .before .before .before .before in isHeld (start .args .stored) (start .args .table .now)
+    (start .args .records .now) ≡ true
+is-so c = sym (c .before .is-held .ensures) ∙ not-false _ (c .if1 .left)
+
+walk-held-requires : tie.Need-walk-held-requires
+walk-held-requires c κs = held-so _ _ _ (is-so (c .before))
 
 returns-2 : tie.Need-returns-2
-returns-2 c =
-    let after-number = c .before .before .before .before .before in
-    let after-collect-kept = after-number .before .before .before .before .before in
-    let stage = after-collect-kept .before .before .before .before in
-    let walked = after-collect-kept .collect-kept in walk-refuses _ _ _ _ _ _ _ _ (sizes stage) (walked .ensures .0)
-    (walked .kept .1 .1 .1 .1 .1 .1 .0) (walked .ensures .1) _ _ _ _ (after-number .number .given .1) (c .before .before .put-refusal .ensures)
+returns-2 c = rw (is-so (c .before .before .before .before)) (c .before .before .walk-held .ensures)
 
 pub walk-line-spec : {M : Type 1} → statement M
-walk-line-spec =
-    tie.close (tie.spec (λ c κs. search needs) (λ c κs. search needs) (λ c κs. search needs) (λ c. search needs) (λ c. search needs)
-    (λ c. search needs) (λ c κs. search needs) (λ c. search needs) array-share-prefix-found slice-aggregate-put-walk (λ c κs. search needs)
-    (λ c. search needs) (λ c κs. search needs) (λ c. search needs) returns (λ c. search needs) returns-2)
+walk-line-spec = tie.close (tie.spec (λ c κs. search needs) returns walk-held-requires (λ c. search needs) returns-2)

@@ -1,9 +1,13 @@
 // The calls of the system, made again where they were interrupted or would have blocked.
 
 ghost use Prim.Native.Nat.{_≤_};
-ghost use lib.ListN.{length};
-ghost use Rattle.io.specs.Counts.{Counts};
-ghost use Rattle.luspemaro.specs.Calling.{GotSome, Sends};
+ghost use mathlib.Core.Path.{_≡_};
+ghost use lib.IntN.{pos};
+ghost use lib.ListN.{drop, length};
+ghost use Rattle.io.specs.Counts.{Counts, clamped};
+ghost use Rattle.libc.specs.Io.{Moved};
+ghost use Rattle.luspemaro.specs.declared.calls.Got.the-variants.{End, Failed};
+ghost use Rattle.luspemaro.specs.Calling.{isRepeated, Fails, GotSome, Leaves, Sends};
 use libc::EAGAIN;
 use libc::EINTR;
 use libc::STDIN_FILENO;
@@ -38,9 +42,10 @@ fn pause() {
     libc::nanosleep(&asked, &mut left);
 }
 
-// Whether a call that failed is to be made again, after a pause if it would have blocked.
-fn is_to_be_repeated() -> bool {
-    let error = os::errno();
+// Whether a call that failed with this error is to be made again, after a pause if it would have blocked.
+fn is_to_be_repeated(error: i32) -> bool
+    ensures { λ r. ⌜ r ≡ isRepeated error ⌝ }
+{
     if error == EAGAIN {
         pause();
         return true;
@@ -48,65 +53,120 @@ fn is_to_be_repeated() -> bool {
     error == EINTR
 }
 
-// One read. A loop has to end: the tries are more than any machine makes.
+// One call of the system's read. No contract says what a descriptor is: that it is standard input is asked of the caller.
+fn read_from(descriptor: i32, chunk: &mut [u8]) -> isize
+    requires { ⌜ descriptor ≡ pos 0 ⌝ }
+    ensures { λ r. ⌜ Moved (length (now (chunk .entry))) r ⌝ }
+{
+    libc::read(descriptor, chunk)
+}
+
+// One call of the system's write, to standard output alone.
+fn write_to(descriptor: i32, bytes: &[u8]) -> isize
+    requires { ⌜ descriptor ≡ pos 1 ⌝ }
+    ensures { λ r. ⌜ Moved (length (now (bytes .entry))) r ⌝ }
+{
+    libc::write(descriptor, bytes)
+}
+
+// A read that answers 0 has met the end of the input.
+fn end_of(got: isize) -> Got
+    requires { ⌜ got ≡ pos 0 ⌝ }
+    ensures { λ r. ⌜ r ≡ End ⌝ }
+{
+    Got::End
+}
+
+// A read is given up only if it failed, by an error after which it is not to be made again.
+fn give_up(got: isize, error: i32) -> Got
+    requires { ⌜ Fails got error ⌝ }
+    ensures { λ r. ⌜ r ≡ Failed ⌝ }
+{
+    Got::Failed
+}
+
+// One read, of a byte or more. A loop has to end: the tries are more than any machine makes.
 pub(crate) fn read_some(chunk: &mut [u8]) -> Got
     ensures { λ r. ⌜ GotSome (length (now (chunk .entry))) r ⌝ }
 {
     let mut tries = u64::MAX;
     while 0 < tries {
-        let got = libc::read(STDIN_FILENO, chunk);
+        let got = read_from(STDIN_FILENO, chunk);
         if 0 < got {
             return Got::Bytes(io::count(got, chunk));
         }
         if got == 0 {
-            return Got::End;
+            return end_of(got);
         }
-        if !is_to_be_repeated() {
-            return Got::Failed;
+        let error = os::errno();
+        if !is_to_be_repeated(error) {
+            return give_up(got, error);
         }
         tries -= 1;
     }
     Got::Failed
 }
 
-// One write, which takes a byte or more: how many, or 0 where it failed. A write that takes nothing and does not fail would have
-// blocked.
-fn write_some(bytes: &[u8]) -> usize
-    ensures { λ r. ⌜ r ≤ length (now (bytes .entry)) ⌝ }
+// The bytes after those that a write took, by its answer.
+fn left_of(bytes: &[u8], put: isize) -> &[u8]
+    ensures { λ r. ⌜ now r ≡ drop (clamped put (length (now (bytes .entry)))) (now (bytes .entry)) ⌝ }
+{
+    let n = io::count(put, bytes);
+    &bytes[n..]
+}
+
+// A write is given up only if it failed so, too: all its bytes are left.
+fn all_left(bytes: &[u8], put: isize, error: i32) -> &[u8]
+    requires { ⌜ Fails put error ⌝ }
+    ensures { λ r. ⌜ now r ≡ now (bytes .entry) ⌝ }
+{
+    bytes
+}
+
+// One write, which takes a byte or more: the bytes that are left after it, or all where it failed. A write that takes nothing and does
+// not fail would have blocked.
+fn write_some(bytes: &[u8]) -> &[u8]
+    ensures { λ r. ⌜ Leaves (now (bytes .entry)) (now r) ⌝ }
 {
     let mut tries = u64::MAX;
     while 0 < tries {
-        let put = libc::write(STDOUT_FILENO, bytes);
+        let put = write_to(STDOUT_FILENO, bytes);
         if 0 < put {
-            return io::count(put, bytes);
+            return left_of(bytes, put);
         }
         if put == 0 {
             pause();
-        } else if !is_to_be_repeated() {
-            return 0;
+        } else {
+            let reason = os::errno();
+            if !is_to_be_repeated(reason) {
+                return all_left(bytes, put, reason);
+            }
         }
         tries -= 1;
     }
-    0
+    bytes
 }
 
-// Writes the first bytes of `out`, in as many calls as it takes.
+// Writes the first bytes of `out`, in as many calls as it takes: each is handed what the one before has left.
 pub(crate) fn send(out: &[u8], written: usize) -> Sent
     requires { ⌜ written ≤ length (now out) ⌝ }
     ensures { λ r. ⌜ Sends written r ⌝ }
 {
-    let mut bytes = 0;
-    while bytes < written {
-        let put = write_some(&out[bytes..written]);
-        if put == 0 {
+    let mut rest = &out[..written];
+    while 0 < rest.len() {
+        let left = write_some(rest);
+        if rest.len() <= left.len() {
             return Sent {
-                bytes,
+                bytes: written - rest.len(),
                 whole: false,
             };
         }
-        bytes += put;
+        rest = left;
     }
-    Sent { bytes, whole: true }
+    Sent {
+        bytes: written,
+        whole: true,
+    }
 }
 
 // One line on standard error: what failed, the number of the frame, and why, as the system puts it.

@@ -10,8 +10,9 @@
 //     luspemaro: write failed at frame 12: No space left on device
 //
 // Assumed are the contracts of what is called of C: `read`, `write` and `nanosleep` of the kit's libc, and `rattle_errno` and
-// `__xpg_strerror_r` of its os, for the reason of a failure. None says which bytes it moves: what is promised here is what lies in the
-// memory before a write and after a read. A reader that goes away ends the program by SIGPIPE, unless that is ignored.
+// `__xpg_strerror_r` of its os, for the reason of a failure. None says which bytes it moves, or what a descriptor is: what is promised here
+// is what lies in the memory before a write and after a read, which slice and which number are handed over, and what is made of the
+// answer. That `main` calls `run`, and what stands on standard error, is tried (`tools/io-trials`). A reader that goes away ends the program by SIGPIPE, unless that is ignored.
 mod calls;
 mod feeding;
 mod serving;
@@ -19,7 +20,7 @@ mod serving;
 ghost use mathlib.Core.Path.{_≡_};
 ghost use lib.ListN.{length};
 ghost use Rattle.kept_table.specs.Kept.{lent};
-ghost use Rattle.luspemaro.specs.Serving.{Reached, Sized};
+ghost use Rattle.luspemaro.specs.Serving.{Runs, Sized};
 use kept_table::MAX_NUMBERS;
 use serving::Place;
 use serving::read_on;
@@ -66,11 +67,12 @@ fn run(
     out: &mut [u8],
 ) -> Place
     requires { ⌜ Sized (lent (now table) (now records) (now namespaces) (now out)) (now line) ⌝ }
-    ensures { λ r. ⌜ Reached
+    ensures { λ r. ⌜ Runs
+        (lent (now (table .entry)) (now (records .entry)) (now (namespaces .entry)) (now (out .entry)))
         (lent (now (table .exit)) (now (records .exit)) (now (namespaces .exit)) (now (out .exit)))
-        (now (line .exit)) r ⌝ }
+        (now (line .entry)) (now (line .exit)) r ⌝ }
 {
-    let mut place = Place::START;
+    let mut place = Place::start();
     let mut turns = u64::MAX;
     while 0 < turns {
         if !place.more {

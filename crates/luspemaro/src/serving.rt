@@ -5,7 +5,7 @@ ghost use mathlib.Core.Path.{_≡_};
 ghost use mathlib.Core.Bool.{true, false};
 ghost use lib.ListN.{length};
 ghost use Rattle.kept_table.specs.Kept.{lent};
-ghost use Rattle.session.specs.Feeding.{readyIn};
+ghost use Rattle.session.specs.Feeding.{startIs, readyIn};
 ghost use Rattle.luspemaro.specs.Serving.{placeIs, Rounds, Serves, Ends, ReadsOn};
 use crate::calls::Got;
 use crate::calls::Sent;
@@ -26,12 +26,12 @@ pub(crate) struct Place {
 }
 
 impl Place {
-    pub const START: Place = Place {
-        state: State::START,
-        frames: 0,
-        more: true,
-        failed: false,
-    };
+    // Before the first read.
+    pub fn start() -> Place
+        ensures { λ r. ⌜ r ≡ placeIs startIs 0 true false ⌝ }
+    {
+        place_at(State::start(), 0, true, false)
+    }
 }
 
 // What came of some bytes of a read: the state after them, how many were fed, how many frames ended in them, and what was sent.
@@ -94,7 +94,7 @@ fn serve(
         state = round.state;
         let sent = round.sent;
         if !sent.whole {
-            return write_failed(state, frames);
+            return write_failed(state, frames, sent);
         }
         at += round.used;
         frames = octets::advance(frames, round.frames);
@@ -122,8 +122,9 @@ fn place_at(state: State, frames: usize, more: bool, failed: bool) -> Place
     }
 }
 
-// A call failed: the frame after those that have ended is told.
-fn write_failed(state: State, frames: usize) -> Place
+// Not all was sent: the frame after those that have ended is told.
+fn write_failed(state: State, frames: usize, sent: Sent) -> Place
+    requires { ⌜ sent .whole ≡ false ⌝ }
     ensures { λ r. ⌜ r ≡ placeIs state frames false true ⌝ }
 {
     tell(
@@ -164,9 +165,9 @@ pub(crate) fn read_on(
     match read_some(&mut chunk) {
         Got::Bytes(n) => serve(place, &chunk[..n], table, records, namespaces, line, out),
         Got::End => {
-            let sent = answer_end(state, out);
-            if !sent.whole {
-                return write_failed(state, frames);
+            let end = answer_end(state, out);
+            if !end.whole {
+                return write_failed(state, frames, end);
             }
             place_at(state, frames, false, false)
         },

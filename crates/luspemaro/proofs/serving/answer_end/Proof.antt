@@ -14,7 +14,9 @@ same-length : tie.Need-same-length
 same-length c = search needs
 
 returns : tie.Need-returns
-returns c = ends (c .before .before .before .before .before .before .before .pre) (c .before .before .before .before .finish .ensures) (c .send .ensures)
+returns c =
+    ends {n = c .before .before .before .before .finish .result} (c .before .before .before .before .before .before .before .pre)
+    (c .before .before .before .before .finish .ensures) (c .send .ensures .0, c .send .ensures .1)
 
 pub answer-end-spec : {M : Type 1} → statement M
 answer-end-spec = tie.close (tie.spec finish-requires send-requires same-length returns)

@@ -61,6 +61,8 @@ mod raw_replay;
 mod reader;
 mod refusal;
 mod replay;
+#[cfg(test)]
+mod replay_tests;
 mod summary;
 mod walk_refusal;
 
@@ -130,13 +132,15 @@ pub fn matches(pattern: &[u8], name: &[u8]) -> bool {
 
 /// In how many steps [`matches`] decides that, each of which looks at one place of the pattern and
 /// one of the name: at most `(pattern.len() + 1) * (name.len() + 1)`, and none for a name of over 255
-/// bytes.
+/// bytes. The number stays at [`usize::MAX`], which only a pattern of over 2^55 bytes could come to.
 ///
 /// ```
 /// // The last byte of both, then nine bytes, and the end of both.
 /// assert_eq!(luspemaro::match_steps(b"Customers", b"Customers"), 11);
 /// // The last byte of both, then the "*", which takes all that is left.
 /// assert_eq!(luspemaro::match_steps(b"*", b"Customers/ABC"), 2);
+/// // The last byte of both, then the "%", the end of the pattern before "a", and the end of both.
+/// assert_eq!(luspemaro::match_steps(b"%", b"a"), 4);
 /// // The last byte of both is enough.
 /// assert_eq!(luspemaro::match_steps(b"*%/%b", b"Customers/ABC"), 1);
 /// ```

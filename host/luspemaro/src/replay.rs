@@ -4,16 +4,13 @@
 //! A log is frames, each hexadecimal digits of either case and LF: 43, the reader's byte and a command
 //! line; then 41 and its answer, or 52 and the number of its refusal.
 
-#[cfg(test)]
-mod tests;
-
 use crate::raw::RecordsMut;
 use crate::raw_replay::{self, ReplayState};
 
 /// The longest command of a log, its reader first.
-const PENDING_ROOM: usize = 2_050;
+pub(crate) const PENDING_ROOM: usize = 2_050;
 /// One character more than the longest frame of a log.
-const LINE_ROOM: usize = 32_771;
+pub(crate) const LINE_ROOM: usize = 32_771;
 /// The number of a refusal that stops a log.
 const BAD_FRAME: u8 = 13;
 
@@ -40,7 +37,7 @@ pub struct Replayed {
 
 /// A replay between two pieces of its log, with the memory that it needs, which does not grow with the log.
 pub struct Replay {
-    state: ReplayState,
+    pub(crate) state: ReplayState,
     pending: Box<[u8; PENDING_ROOM]>,
     line: Box<[u8; LINE_ROOM]>,
 }
@@ -79,7 +76,7 @@ pub fn replay(table: RecordsMut, namespaces: &[u8], log: &[u8]) -> Replayed {
 
 impl Verdict {
     /// What the archive says by a number of refusal and the number of a frame.
-    fn of(number: u8, frame: usize) -> Verdict {
+    pub(crate) fn of(number: u8, frame: usize) -> Verdict {
         match (number, frame) {
             (0, 0) => Verdict::Agree,
             (0, frame) => Verdict::Differs(frame),

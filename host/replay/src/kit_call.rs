@@ -13,7 +13,7 @@ use replay::{
 };
 use session::{is_same_file, now, path_text, NewFile};
 
-use crate::tell;
+use crate::messages::tell;
 
 const USAGE: &str = "usage: replay --kit --page FILE [[--table TABLE] LOG].. <PROOF";
 

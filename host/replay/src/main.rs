@@ -6,9 +6,9 @@
 
 mod call;
 mod kit_call;
+mod messages;
 
 use std::env;
-use std::fmt::Display;
 use std::io::{self, Write};
 use std::path::PathBuf;
 use std::process::ExitCode;
@@ -19,6 +19,7 @@ use session::{is_same_file, now, path_text, sum_of_file, NewFile};
 
 use crate::call::{Call, Report};
 use crate::kit_call::verify;
+use crate::messages::tell;
 
 /// The first word of a call of `./verify`.
 const KIT: &str = "--kit";
@@ -102,11 +103,4 @@ fn open_report(call: &Call, report: &Report) -> Result<(NewFile, PageFacts), Str
 fn tell_progress(Progress { bytes, of, commands }: Progress) {
     let of = of.map_or(String::new(), |of| format!(" of {of}"));
     tell(format!("{bytes}{of} bytes, {commands} commands run again"));
-}
-
-/// A line of its own for each line. Where standard error cannot be written to, the status alone tells.
-fn tell(message: impl Display) {
-    for line in message.to_string().lines() {
-        let _ = writeln!(io::stderr(), "replay: {line}");
-    }
 }

@@ -34,7 +34,7 @@ struct Tree {
 
 impl Tree {
     fn new(name: &str, rt_says: &str) -> Tree {
-        let folder = Path::new(env!("CARGO_TARGET_TMPDIR")).join(name);
+        let folder = Path::new(env!("CARGO_TARGET_TMPDIR")).join("replay-trees").join(name);
         if folder.exists() {
             fs::remove_dir_all(&folder).expect("a folder that is gone");
         }

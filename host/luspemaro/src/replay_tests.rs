@@ -1,8 +1,9 @@
 //! What the archive does not take: lent memory that is too short, and states that are invalid.
 
-use super::{Replay, Replayed, Verdict, LINE_ROOM, PENDING_ROOM};
+use crate::raw::{Record, RecordsMut};
 use crate::raw_replay::{replay_feed, FedPiece, ReplayState};
-use crate::{Record, RecordsMut, Summary};
+use crate::replay::{Replay, Replayed, Verdict, LINE_ROOM, PENDING_ROOM};
+use crate::summary::Summary;
 
 const FILL: u8 = 0xA5;
 const COUNT: usize = 7;

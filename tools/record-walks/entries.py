@@ -21,17 +21,16 @@ def passing():
     return [Clause('result', 'r ≡ passes t', 'e ∙ a .0')]
 
 
-def collected(result, moves, owner):
-    """The clauses of a collection: the result, the three buffers, and demand 3 for the result `owner`."""
+def collected(result, moves):
+    """The clauses of a collection: the result, the three buffers, and demand 3 for the result."""
     def buffer(name):
         return Clause(name, f'{name}′ ≡ {name}Of reader t {LENT}', f'e ∙ ap ({name}After (length {name})) ({COLLECTED_ALIKE})')
     return [Clause('result', result, moves), buffer('scratch'), buffer('found'), buffer('pending'),
-            Clause('demand3', f'OwesDemand3 reader all t {LENT} {owner} found′ pending′',
-                   f'owes-alike reader {LENT} (λ v. {owner.replace(" t ", " v ")}) found′ pending′ a e')]
+            Clause('demand3', f'OwesOutcome reader all t {LENT} r found′ pending′', f'owes-alike reader {LENT} r found′ pending′ a e')]
 
 
 COLLECTOR = ('use Rattle.listing_rules.specs.Walk.{scratchAfter, foundAfter, pendingAfter, collectedBy}\n'
-             f'use {specs_of("collector", "exports")}.Result.{{collectedIs, collectedOf, scratchOf, foundOf, pendingOf, OwesDemand3}}\n')
+             f'use {specs_of("collector", "exports")}.Result.{{scratchOf, foundOf, pendingOf}}\n')
 
 # ---- The entries, over cores that answer in a struct of numbers.
 
@@ -76,6 +75,6 @@ edit_entry('exports', 'replaying.luspemaro_replay_feed', ('exports', 'replaying.
            'use Rattle.listing_rules.specs.Replay.{replayNumber, replayFrame}\n' + OUTCOMES + '{asNumber}\n' + REPLAYS + '{pieceReport, stateBack}\n')
 
 entry('exports', 'luspemaro_collect', ('exports', 'collect_words'), WALK, OUTCOME,
-      collected(f'r ≡ walkOutcome (collectedBy reader t {LENT})', f'e ∙ ap walkOutcome ({COLLECTED_ALIKE})', f'(collectedOf reader t {LENT})')
+      collected(f'r ≡ walkOutcome (collectedBy reader t {LENT})', f'e ∙ ap walkOutcome ({COLLECTED_ALIKE})')
       + [Clause('numbers', 'allowedOutcome r ≡ true', 'e')],
-      'use mathlib.Core.Bool.{true}\n' + COLLECTOR + OUTCOMES + '{walkOutcome, allowedOutcome}\n', SEEN)
+      'use mathlib.Core.Bool.{true}\n' + COLLECTOR + OUTCOMES + '{walkOutcome, allowedOutcome, OwesOutcome}\n', SEEN)

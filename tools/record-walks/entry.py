@@ -175,7 +175,7 @@ class Tables:
 LENT_SPECS = ('specs', 'records', 'Lent.{lentTable, wordsTable, lentSeen, wordsSeen}')
 ROWS = Tables('t', 'u', ['wordsTable'], ['lentTable'], 'Alike', 'words-alike', '', [LENT_SPECS, ('proofs', 'records', 'WordsAlike.{words-alike}')])
 SEEN = Tables('all t', 'every u', ['wordsTable', 'wordsSeen reader'], ['lentTable', 'lentSeen reader'], 'SeenAlike', 'words-seen-alike', ' reader',
-              [LENT_SPECS, ('proofs', 'records', 'WordsAlike.{SeenAlike, words-seen-alike}'), ('proofs', 'collector', 'SeenAlike.{owes-alike}')])
+              [LENT_SPECS, ('proofs', 'records', 'WordsAlike.{SeenAlike, words-seen-alike}'), ('proofs', 'exports', 'OutcomeLaws.{owes-alike}')])
 # the table that a first summary is counted for
 PLAIN = Tables('t', 'u', ['numberedTable'], ['plainTable'], 'Alike', 'numbered-alike', '',
                [('specs', 'summary', 'Counts.{numberedTable}'), ('specs', 'exports', 'Outcomes.{plainTable}'),

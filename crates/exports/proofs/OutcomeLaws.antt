@@ -1,5 +1,5 @@
 -- The C forms of the answers, case by case.
-use Rattle.listing_rules.proofs.Prelude.{_≡_, ap, refl, sym, Bool, _&&_, true, List, ℕ, eqb, leb}
+use Rattle.listing_rules.proofs.Prelude.{_∙_, _≡_, ap, subst, length, refl, sym, Bool, _&&_, true, List, ℕ, eqb, leb}
 use Rattle.octets.specs.declared.Written.{Written}
 use Rattle.octets.specs.declared.Written.the-variants.{Done, Refused}
 use Rattle.collector.specs.declared.Collected.{Collected}
@@ -10,7 +10,10 @@ use Rattle.line_reader.specs.declared.Line.{Line}
 use Rattle.line_reader.specs.declared.Line.the-variants.{Parts, Refused as NoLine}
 use Rattle.listing_rules.specs.Server.{Reply, refusal, answered, numberOf, lengthOf}
 use Rattle.listing_rules.specs.Reader.{Read, line, root, bad, nameBytes}
+use Rattle.listing_rules.specs.Table.{Table}
 use Rattle.listing_rules.specs.Bytes.{oneOf}
+use Rattle.records.proofs.WordsAlike.{SeenAlike}
+use Rattle.exports.specs.declared.outcomes.Outcome.{Outcome}
 use Rattle.listing_rules.specs.Sending.{walkNumbers}
 use Rattle.listing_rules.proofs.Bools.{or-l, or-r}
 use Rattle.listing_rules.proofs.Keys.{openOptions, openReader}
@@ -18,8 +21,9 @@ use Rattle.listing_rules.specs.Walk.{WalkReply, walkRefused, walked, walkNumber
 use Rattle.octets.specs.Written.{writtenIs}
 use Rattle.list_line.specs.Members.{setOf}
 use Rattle.line_reader.specs.Lines.{lineIs}
-use Rattle.collector.specs.Result.{collectedIs, isAllowed}
-use Rattle.exports.specs.Outcomes.{asNumber, outcomeOf, walkOutcome, allowedOutcome, partsOf, writtenCase, collectedCase, lineCase}
+use Rattle.collector.specs.Result.{WholeWalk, collectedIs, isAllowed}
+use Rattle.exports.specs.Outcomes.{asNumber, outcomeOf, walkOutcome, allowedOutcome, WholeOutcome, OwesOutcome, partsOf, writtenCase}
+use Rattle.exports.specs.Outcomes.{collectedCase, lineCase}
 
 pub written-done : (w : Written) (changed count n : ℕ) → w ≡ Done n
     → record { number = 0; changed = changed; length = n; count = count } ≡ writtenCase w changed count
@@ -60,6 +64,26 @@ pub collected-case : (r : WalkReply) → collectedCase (collectedIs r) ≡ walkO
 unfolding collectedCase collectedIs walkOutcome walkNumber walkCount foundLength
 collected-case (walkRefused k) = refl
 collected-case (walked c f p) = refl
+
+-- so what demand 3 allows of the one it allows of the other
+pub whole-outcome : {table : Table} {o s f p : ℕ} {w : Collected} {inFound inPending : List ℕ} (r : Outcome) → r ≡ collectedCase w
+    → WholeWalk table o s f p w inFound inPending → WholeOutcome table o s f p r inFound inPending
+whole-outcome r e x =
+    record {
+      reply = x .reply;
+      owed = x .owed;
+      result = e ∙ ap collectedCase (x .result) ∙ collected-case (x .reply);
+      found-holds = x .found-holds;
+      pending-holds = x .pending-holds;
+    }
+
+-- and of tables that are alike
+pub owes-alike : (reader o : ℕ) (scratch found pending : List ℕ) (r : Outcome) (f p : List ℕ) {all t every u : Table} → SeenAlike all t every u
+    → OwesOutcome reader all t o scratch found pending r f p → OwesOutcome reader every u o scratch found pending r f p
+owes-alike reader o scratch found pending r f p a owed is ok lawful =
+    let whole = a .rows-pass ∙ ok in
+    subst (λ (v : Table). WholeOutcome v o (length scratch) (length found) (length pending) r f p) (a .seen .1 (a .seen-pass ∙ whole))
+    (owed is whole lawful)
 
 -- and a walk's number is one that a walk can have
 pub collected-allowed : (w : Collected) → isAllowed w ≡ true → allowedOutcome (collectedCase w) ≡ true

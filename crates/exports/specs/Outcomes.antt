@@ -1,17 +1,19 @@
 -- The answers of the entries, in the forms that C takes.
 use mathlib.Core.Path.{_≡_}
-use mathlib.Core.Bool.{Bool, false, cond, _&&_, _||_}
+use mathlib.Core.Bool.{Bool, false, true, cond, _&&_, _||_}
 use mathlib.Core.List.{List}
 use Prim.Native.Nat.{ℕ}
 use lib.Dec.{eqb, leb, ltb}
 use lib.ListN.{length}
 use Rattle.listing_rules.specs.Bytes.{oneOf}
-use Rattle.listing_rules.specs.Table.{Table}
+use Rattle.listing_rules.specs.Table.{Table, passes}
+use Rattle.listing_rules.specs.Readers.{isReader}
+use Rattle.listing_rules.specs.Demand3.{Demand3}
 use Rattle.listing_rules.specs.Options.{criteriaNumber}
 use Rattle.listing_rules.specs.Subscriptions.{storeTable}
 use Rattle.listing_rules.specs.Server.{Reply, numberOf, lengthOf, bufferAfter}
 use Rattle.listing_rules.specs.Reader.{Read, readNumber, attributesRead, nameRead, childInfoOf, nameBytes}
-use Rattle.listing_rules.specs.Walk.{WalkReply, walkNumber, walkCount, foundLength}
+use Rattle.listing_rules.specs.Walk.{lawfulByte, WalkReply, walkNumber, walkCount, foundLength, foundAfter, pendingAfter}
 use Rattle.listing_rules.specs.Sending.{walkNumbers}
 use Rattle.records.specs.declared.Record.{Record}
 use Rattle.records.specs.Lent.{lentSummed}
@@ -50,6 +52,20 @@ walkOutcome r = record { number = walkNumber r; changed = 0; length = foundLengt
 -- W12: the number of a walk's outcome is "1, 6, 9, 10, 11 [or] W9's 16"; or it is 0, and a command was sent
 unfoldable pub allowedOutcome : Outcome → Bool
 allowedOutcome r = oneOf walkNumbers (r .number) || (eqb (r .number) 0 && leb 1 (r .count))
+
+-- Demand 3, of the outcome itself: its number, count and length, and what lies in found and in pending, are those of a reply that demand 3 allows.
+pub record WholeOutcome (table : Table) (o scratch found pending : ℕ) (r : Outcome) (inFound inPending : List ℕ) : Type 0 where
+  pub reply : WalkReply
+  pub owed : Demand3 table o scratch found pending reply
+  pub result : r ≡ walkOutcome reply
+  pub found-holds : inFound ≡ foundAfter found reply
+  pub pending-holds : inPending ≡ pendingAfter pending reply
+
+-- it is owed over the rows that a reader sees, for readers 0 to 7, a table all of whose rows pass and a lawful option byte
+abbrev pub OwesOutcome : ℕ → Table → Table → ℕ → List ℕ → List ℕ → List ℕ → Outcome → List ℕ → List ℕ → Type 0
+OwesOutcome reader all table o scratch found pending r inFound inPending =
+    isReader reader ≡ true → passes all ≡ true → lawfulByte o ≡ true
+    → WholeOutcome table o (length scratch) (length found) (length pending) r inFound inPending
 
 -- what was read; "The reader's refusal gives no attributes and an empty name."
 unfoldable pub partsOf : Read → LineParts

@@ -47,8 +47,8 @@ ghost use Rattle.records.specs.Lent.{lentOf, lentTable, lentSeen, wordsTable, w
 ghost use Rattle.records.specs.Stores.{lentCommand, wordCommand, lentCompaction, Between};
 ghost use Rattle.pattern.specs.Steps.{countedIs};
 ghost use Rattle.list_line.specs.Members.{members};
-ghost use Rattle.collector.specs.Result.{collectedOf, scratchOf, foundOf, pendingOf, OwesDemand3};
-ghost use Rattle.exports.specs.Outcomes.{handedOutcome, plainTable, Into, walkOutcome, allowedOutcome, partsOf};
+ghost use Rattle.collector.specs.Result.{scratchOf, foundOf, pendingOf};
+ghost use Rattle.exports.specs.Outcomes.{handedOutcome, plainTable, Into, walkOutcome, allowedOutcome, OwesOutcome, partsOf};
 
 // Check 1: whether the first `count` records pass, over the area of name bytes, and their summary agrees.
 #[no_mangle]
@@ -238,11 +238,10 @@ pub extern "C" fn luspemaro_collect(
         option (now (scratch .entry)) (now (found .entry)) (now (pending .entry)) ⌝ }
     ensures pending { λ _. ⌜ now (pending .exit) ≡ pendingOf reader (lentSeen reader (now (records .entry)) count (now (area .entry)) (now (summary .entry)))
         option (now (scratch .entry)) (now (found .entry)) (now (pending .entry)) ⌝ }
-    ensures demand3 { λ _. ⌜ OwesDemand3 reader (lentTable (now (records .entry)) count (now (area .entry)) (now (summary .entry)))
+    ensures demand3 { λ r. ⌜ OwesOutcome reader (lentTable (now (records .entry)) count (now (area .entry)) (now (summary .entry)))
         (lentSeen reader (now (records .entry)) count (now (area .entry)) (now (summary .entry)))
         option (now (scratch .entry)) (now (found .entry)) (now (pending .entry))
-        (collectedOf reader (lentSeen reader (now (records .entry)) count (now (area .entry)) (now (summary .entry))) option (now (scratch .entry)) (now (found .entry)) (now (pending .entry)))
-        (now (found .exit)) (now (pending .exit)) ⌝ }
+        r (now (found .exit)) (now (pending .exit)) ⌝ }
     ensures numbers { λ r. ⌜ allowedOutcome r ≡ true ⌝ }
 {
     let mut words = no_words();
@@ -280,11 +279,10 @@ fn collect_words(
         option (now (scratch .entry)) (now (found .entry)) (now (pending .entry)) ⌝ }
     ensures pending { λ _. ⌜ now (pending .exit) ≡ pendingOf reader (wordsSeen reader (now (words .entry)) count (now (area .entry)) (now (summary .entry)))
         option (now (scratch .entry)) (now (found .entry)) (now (pending .entry)) ⌝ }
-    ensures demand3 { λ _. ⌜ OwesDemand3 reader (wordsTable (now (words .entry)) count (now (area .entry)) (now (summary .entry)))
+    ensures demand3 { λ r. ⌜ OwesOutcome reader (wordsTable (now (words .entry)) count (now (area .entry)) (now (summary .entry)))
         (wordsSeen reader (now (words .entry)) count (now (area .entry)) (now (summary .entry)))
         option (now (scratch .entry)) (now (found .entry)) (now (pending .entry))
-        (collectedOf reader (wordsSeen reader (now (words .entry)) count (now (area .entry)) (now (summary .entry))) option (now (scratch .entry)) (now (found .entry)) (now (pending .entry)))
-        (now (found .exit)) (now (pending .exit)) ⌝ }
+        r (now (found .exit)) (now (pending .exit)) ⌝ }
     ensures numbers { λ r. ⌜ allowedOutcome r ≡ true ⌝ }
 {
     collected_outcome(collector::collect_words(
@@ -318,10 +316,9 @@ pub extern "C" fn luspemaro_collect_packed(
         option (now (scratch .entry)) (now (found .entry)) (now (pending .entry)) ⌝ }
     ensures pending { λ _. ⌜ now (pending .exit) ≡ pendingOf reader (packedSeen reader (now (table .entry)))
         option (now (scratch .entry)) (now (found .entry)) (now (pending .entry)) ⌝ }
-    ensures demand3 { λ _. ⌜ OwesDemand3 reader (packedTable (now (table .entry)))
+    ensures demand3 { λ r. ⌜ OwesOutcome reader (packedTable (now (table .entry)))
         (packedSeen reader (now (table .entry))) option (now (scratch .entry)) (now (found .entry)) (now (pending .entry))
-        (collectedOf reader (packedSeen reader (now (table .entry))) option (now (scratch .entry)) (now (found .entry)) (now (pending .entry)))
-        (now (found .exit)) (now (pending .exit)) ⌝ }
+        r (now (found .exit)) (now (pending .exit)) ⌝ }
     ensures numbers { λ r. ⌜ allowedOutcome r ≡ true ⌝ }
 {
     collected_outcome(collector::collect_packed(table, reader, option, scratch, found, pending))

@@ -195,7 +195,7 @@ fn feed_words(
         × Between (now (words .entry)) (now (words .exit)) (lentOf (now (words .entry)) lent (now (summary .entry))) (r .from) (r .to) ⌝ }
 {
     let n = least(lent, words.len());
-    let to = least(n, summary.len());
+    let end = least(n, summary.len());
     let held = replaying_of(state, count);
     let given = replay_piece(
         held,
@@ -208,7 +208,11 @@ fn feed_words(
         piece,
     );
     let fed = fed_of(given);
-    PieceDone { fed, from: 0, to }
+    PieceDone {
+        fed,
+        from: 0,
+        to: end,
+    }
 }
 
 fn report_of(replayed: Replayed) -> Report

@@ -1,15 +1,29 @@
 -- `exports::collect_words` meets its contract: the promise of `collector::collect_words`, in C's form.
 use Rattle.listing_rules.proofs.Prelude.{_∙_, ap, needs}
 use Rattle.exports.specs.Outcomes.{allowedOutcome, collectedCase}
-use Rattle.exports.proofs.OutcomeLaws.{collected-case, collected-allowed}
+use Rattle.exports.proofs.OutcomeLaws.{collected-case, collected-allowed, whole-outcome}
 use Rattle.exports.proofs.collect_words.Statement.{statement}
 use Rattle.exports.proofs.collect_words.Tie as tie
 
 returns : tie.Need-returns
 returns c =
     let after-collect = c .before .before .before .before .before .before .before in
-    let e = after-collect .collect-words .ensures in
-    (c .collected-outcome .ensures ∙ ap collectedCase (e .0) ∙ collected-case _, (e .1 .0, (e .1 .1 .0, (e .1 .1 .1 .0, (λ p l. rw (e .0) at (e .1 .1 .1 .1 .0 p l), ap allowedOutcome (c .collected-outcome .ensures) ∙ collected-allowed _ (e .1 .1 .1 .1 .1))))))
+    let e = after-collect .collect-words .ensures in (
+      c .collected-outcome .ensures ∙ ap collectedCase (e .0) ∙ collected-case _,
+      (
+        e .1 .0,
+        (
+          e .1 .1 .0,
+          (
+            e .1 .1 .1 .0,
+            (
+              λ is ok lawful. whole-outcome _ (c .collected-outcome .ensures) (e .1 .1 .1 .1 .0 is ok lawful),
+              ap allowedOutcome (c .collected-outcome .ensures) ∙ collected-allowed _ (e .1 .1 .1 .1 .1),
+            ),
+          ),
+        ),
+      ),
+    )
 
 pub collect-words-spec : {M : Type 1} → statement M
 collect-words-spec =

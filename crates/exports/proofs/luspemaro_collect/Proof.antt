@@ -22,15 +22,15 @@ use Rattle.records.specs.declared.Record.{Record}
 use Rattle.records.specs.Words.{wordOf, recordOf, meant}
 use Rattle.records.specs.Lent.{lentTable, wordsTable, lentSeen, wordsSeen}
 use Rattle.records.proofs.WordsAlike.{SeenAlike, words-seen-alike}
-use Rattle.collector.proofs.SeenAlike.{owes-alike}
+use Rattle.exports.proofs.OutcomeLaws.{owes-alike}
 use Rattle.records.proofs.Clauses.{says-each}
 use Rattle.exports.specs.declared.outcomes.Outcome.{Outcome}
 use Rattle.exports.proofs.outcomes.Outcome as R
 use Rattle.exports.proofs.outcomes.Outcome.Laws as R′
 use mathlib.Core.Bool.{true}
 use Rattle.listing_rules.specs.Walk.{scratchAfter, foundAfter, pendingAfter, collectedBy}
-use Rattle.collector.specs.Result.{collectedOf, scratchOf, foundOf, pendingOf, OwesDemand3}
-use Rattle.exports.specs.Outcomes.{walkOutcome, allowedOutcome}
+use Rattle.collector.specs.Result.{scratchOf, foundOf, pendingOf}
+use Rattle.exports.specs.Outcomes.{walkOutcome, allowedOutcome, OwesOutcome}
 use Rattle.records.proofs.no_words as no-words
 use Rattle.records.proofs.no_words.Symbol as no-words-def
 use Rattle.records.proofs.no_words.Symbol.{name as #records·no-words}
@@ -157,8 +157,7 @@ module _ {M : Type 1} (𝓤 : URA M) (H : Heap 𝓤) (A : Atoms 𝓤) (W : Given
   Says-pending all t r scratch′ found′ pending′ = pending′ ≡ pendingOf reader t option scratch found pending
 
   abbrev Says-demand3 : Table → Table → Outcome → List ℕ → List ℕ → List ℕ → Type 0
-  Says-demand3 all t r scratch′ found′ pending′ =
-      OwesDemand3 reader all t option scratch found pending (collectedOf reader t option scratch found pending) found′ pending′
+  Says-demand3 all t r scratch′ found′ pending′ = OwesOutcome reader all t option scratch found pending r found′ pending′
 
   abbrev Says-numbers : Table → Table → Outcome → List ℕ → List ℕ → List ℕ → Type 0
   Says-numbers all t r scratch′ found′ pending′ = allowedOutcome r ≡ true
@@ -177,7 +176,7 @@ module _ {M : Type 1} (𝓤 : URA M) (H : Heap 𝓤) (A : Atoms 𝓤) (W : Given
     moved-pending e = e ∙ ap (pendingAfter (length pending)) (collected-by-alike t u reader option scratch found pending (a .seen))
 
     moved-demand3 : Says-demand3 all t r scratch′ found′ pending′ → Says-demand3 every u r scratch′ found′ pending′
-    moved-demand3 e = owes-alike reader option scratch found pending (λ v. (collectedOf reader v option scratch found pending)) found′ pending′ a e
+    moved-demand3 e = owes-alike reader option scratch found pending r found′ pending′ a e
 
     moved-numbers : Says-numbers all t r scratch′ found′ pending′ → Says-numbers every u r scratch′ found′ pending′
     moved-numbers e = e

@@ -246,8 +246,9 @@ struct luspemaro_line {
  * front of the lent memory, where they have to be found again at the next call. The rest is only to be given back.
  *
  * Any numbers are taken. place: 0 in a line, 1 at a CR, 2 at "{", 3 at digits after it, 4 at "}" after those, 5 at the CR after that, 6
- * in a literal, 7 and all above bytes are dropped. value: of 3, 4 and 5 the number that the digits spell, of 6 the literal's bytes to
- * come; given back as 0 with the other places. cr: 0 the last byte is no CR, any other number it is one; given back as 0 or 1. */
+ * in a literal, 7 and all above bytes are dropped. value: of 3, 4 and 5 the number that the digits spell, up to 1,025: no digit makes it
+ * larger, since all above 1,024 are refused alike ("{5000" gives 1025); of 6 the literal's bytes to come; given back as 0 with the other
+ * places. cr: 0 the last byte is no CR, any other number it is one; given back as 0 or 1. */
 struct luspemaro_feeder {
     uint8_t place;
     uint8_t cr;
@@ -320,7 +321,8 @@ bool luspemaro_check_namespaces(const uint8_t *list, size_t list_length);
 bool luspemaro_matches(const uint8_t *pattern, size_t pattern_length, const uint8_t *name, size_t name_length);
 
 /* In how many steps luspemaro_matches decides that, each of which looks at one place of the pattern and one of the name: at most
- * (pattern_length + 1) * (name_length + 1), and 0 of a name of over 255 bytes. */
+ * (pattern_length + 1) * (name_length + 1), and 0 of a name of over 255 bytes. The number stays at SIZE_MAX, which only a pattern of over
+ * 2^55 bytes could come to. */
 size_t luspemaro_match_steps(const uint8_t *pattern, size_t pattern_length, const uint8_t *name, size_t name_length);
 
 /* The answer to one command line of a reader, LIST, LSUB, NAMESPACE, SUBSCRIBE or UNSUBSCRIBE, its CR LF included, at the front of out.

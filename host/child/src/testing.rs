@@ -3,7 +3,8 @@
 use std::env;
 use std::io::Write;
 use std::path::{Path, PathBuf};
-use std::process::{Command, Stdio};
+use std::process::{Command, Output, Stdio};
+use std::thread;
 
 /// An example of the package that is tested. The tests stand in `deps`, beside the folder of the
 /// examples.
@@ -11,6 +12,20 @@ pub fn example(name: &str) -> PathBuf {
     let test = env::current_exe().expect("the path of the test");
     let folder = test.ancestors().nth(2).expect("the folder of the build");
     folder.join("examples").join(name)
+}
+
+/// What a program prints for an input, and how it ends. One that ends before it has read all is no failure.
+pub fn output_for(mut command: Command, input: &[u8]) -> Output {
+    command.stdin(Stdio::piped()).stdout(Stdio::piped()).stderr(Stdio::piped());
+    let mut child = command.spawn().expect("a start");
+    let mut stdin = child.stdin.take().expect("an input");
+    let input = input.to_vec();
+    let writer = thread::spawn(move || {
+        let _ = stdin.write_all(&input);
+    });
+    let output = child.wait_with_output().expect("an end");
+    writer.join().expect("a writer");
+    output
 }
 
 /// Writes a program that is a script of the shell, and gives its path.

@@ -1,12 +1,13 @@
 //! Nights for the tests: recorded by the server itself, in this process.
 
 use std::fs;
-use std::io::{self, Write};
+use std::io;
 use std::path::{Path, PathBuf};
-use std::process::{Command, Output, Stdio};
+use std::process::{Command, Output};
 use std::sync::atomic::{AtomicUsize, Ordering};
 use std::time::Duration;
 
+use child::testing::output_for;
 use luspemaro::{Reader, Verdict};
 use replay::{in_stack, replay_night, Account, Night};
 use serve::{
@@ -119,20 +120,11 @@ pub fn run(words: &[&str]) -> Output {
     run_with(words, b"")
 }
 
-/// The same with an input.
+/// The program with these words and an input.
 pub fn run_with(words: &[&str], input: &[u8]) -> Output {
     let mut command = Command::new(REPLAY);
-    command.args(words).stdin(Stdio::piped()).stdout(Stdio::piped()).stderr(Stdio::piped());
-    let mut child = command.spawn().expect("a start");
-    let mut stdin = child.stdin.take().expect("an input");
-    let input = input.to_vec();
-    let writer = std::thread::spawn(move || {
-        // A program that ends before it has read all is one of the things that are tested.
-        let _ = stdin.write_all(&input);
-    });
-    let output = child.wait_with_output().expect("an end");
-    writer.join().expect("a writer");
-    output
+    command.args(words);
+    output_for(command, input)
 }
 
 /// The status, the first line, and all that was printed.

@@ -8,6 +8,7 @@ use std::process::{Child, ChildStderr, Command, Output, Stdio};
 use std::sync::atomic::{AtomicUsize, Ordering};
 use std::time::Duration;
 
+pub use child::testing::output_for;
 use luspemaro::Reader;
 use serve::{load, Peer, Rooms, Table, Woken};
 
@@ -88,21 +89,7 @@ pub fn large_session() -> String {
 pub fn tunnel(arguments: &[&str], input: &[u8]) -> Output {
     let mut command = Command::new(SERVE);
     command.args(arguments);
-    run(command, input)
-}
-
-pub fn run(mut command: Command, input: &[u8]) -> Output {
-    command.stdin(Stdio::piped()).stdout(Stdio::piped()).stderr(Stdio::piped());
-    let mut child = command.spawn().expect("a start");
-    let mut stdin = child.stdin.take().expect("an input");
-    let input = input.to_vec();
-    let writer = std::thread::spawn(move || {
-        // A server that ends before it has read all is one of the things that are tested.
-        let _ = stdin.write_all(&input);
-    });
-    let output = child.wait_with_output().expect("an end");
-    writer.join().expect("a writer");
-    output
+    output_for(command, input)
 }
 
 pub fn text(bytes: &[u8]) -> String {

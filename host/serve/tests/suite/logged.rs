@@ -5,7 +5,9 @@ use std::fs;
 use std::path::Path;
 use std::process::Command;
 
-use crate::common::{answers, file, path, run, session_file, text, tunnel, word, Server, SERVE};
+use crate::common::{
+    answers, file, output_for, path, session_file, text, tunnel, word, Server, SERVE,
+};
 
 /// The parts of a line: time, connection, peer, frame, and what happened.
 fn parts(log: &Path) -> Vec<[String; 5]> {
@@ -152,7 +154,7 @@ fn a_full_disk() {
     let script = "trap '' XFSZ; ulimit -f 4; exec \"$@\"";
     let words = ["--log", word(&log), "--review", word(&review), word(&table)];
     command.args(["-c", script, "bash", SERVE]).args(words);
-    let output = run(command, &input);
+    let output = output_for(command, &input);
     let told = answers(&output);
     let accepted = told.lines().filter(|line| line.ends_with(" OK done")).count();
     let refused = told.matches(" NO [UNAVAILABLE] the log cannot be written").count();

@@ -9,7 +9,7 @@ use second::frames::Program;
 use second::replay::Verdict;
 
 use crate::common::{
-    answers, file, large_session, path, run, session_file, text, tunnel, word, Server, SERVE,
+    answers, file, large_session, output_for, path, session_file, text, tunnel, word, Server, SERVE,
 };
 use crate::streams::random_stream;
 
@@ -113,7 +113,7 @@ fn a_full_disk_leaves_no_record() {
     let mut command = Command::new("/bin/bash");
     // No file may have more than 2,048 bytes, and the rows need more.
     command.args(["-c", "trap '' XFSZ; ulimit -f 2; exec \"$@\"", "bash"]).args(words);
-    let output = run(command, b"a NOOP\r\n");
+    let output = output_for(command, b"a NOOP\r\n");
     let told = text(&output.stderr);
     assert_eq!(output.status.code(), Some(2), "{told}");
     assert!(told.contains("File too large") && output.stdout.is_empty(), "{told}");

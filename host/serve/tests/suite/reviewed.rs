@@ -4,7 +4,9 @@ use std::fs;
 use std::path::Path;
 use std::process::Command;
 
-use crate::common::{answers, file, path, run, session_file, text, tunnel, word, Server, SERVE};
+use crate::common::{
+    answers, file, output_for, path, session_file, text, tunnel, word, Server, SERVE,
+};
 use crate::streams::Numbers;
 
 const LSUB: &[u8] = b"l LSUB \"\" *\r\n";
@@ -164,7 +166,7 @@ fn a_full_disk() {
     // No file may have more than 2,048 bytes; without the signal, writing fails.
     let script = "trap '' XFSZ; ulimit -f 2; exec \"$@\"";
     command.args(["-c", script, "bash", SERVE, "--review", word(&review), word(&table)]);
-    let output = run(command, &input);
+    let output = output_for(command, &input);
     assert_eq!(output.status.code(), Some(0));
     let told = answers(&output);
     let accepted =

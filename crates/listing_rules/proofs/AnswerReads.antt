@@ -19,7 +19,7 @@ use Rattle.listing_rules.specs.Command.{returnWords, optionsOf, canonica
 use Rattle.listing_rules.specs.Listing.{candidates, attributes, attributesFor, inOrder, childInfo, listed, listedNames}
 use Rattle.listing_rules.specs.Lines.{okLine}
 use Rattle.listing_rules.specs.Server.{Reply, refusal, answered, answerTo, answer, limited, served, fromReader, servedTo, lineOf, listAnswer}
-use Rattle.listing_rules.specs.Reader.{Read, line, bad, readLine, readNumber, nameRead, childInfoOf}
+use Rattle.listing_rules.specs.LineReader.{Read, line, bad, readLine, readNumber, nameRead, childInfoOf}
 use Rattle.listing_rules.specs.Walk.{linesOf}
 use Rattle.listing_rules.specs.Evidence.{ListCommand, listCommand, listLines, lineName, linesFor, listedIn, childInfoIn, Accepted, optionsIn}
 use Rattle.listing_rules.specs.Evidence.{patternsIn}

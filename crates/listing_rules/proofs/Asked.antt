@@ -11,7 +11,7 @@ use Rattle.listing_rules.specs.Options.{Criteria, isNone}
 use Rattle.listing_rules.specs.Listing.{candidates, attributes, attributesFor, inOrder, childInfo, listed, listedNames}
 use Rattle.listing_rules.specs.Lines.{listLine, okLine}
 use Rattle.listing_rules.specs.Server.{answered, refusal, answer, answerTo, limited, lineOf, listAnswer}
-use Rattle.listing_rules.specs.Reader.{line, readLine}
+use Rattle.listing_rules.specs.LineReader.{line, readLine}
 use Rattle.listing_rules.proofs.Keys.{openBytes, openLists, openNamespaces, openTokens, openLines, openReader}
 use Rattle.listing_rules.specs.Walk.{lawfulByte, Lists, stop, _then_, commandLine, linesOf, packed, go, isFind, withName, fits, takenIn}
 use Rattle.listing_rules.specs.Walk.{takenAll, replied, asked}

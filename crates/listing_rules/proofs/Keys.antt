@@ -39,9 +39,9 @@ use Rattle.listing_rules.specs.Summary.{isSubscribedLocal, isSubscribedR
 use Rattle.listing_rules.specs.Summary.{sameSummary, sameSummaries, agrees, grown, summedTable, summedSeen, one, switched, resummed}
 use Rattle.listing_rules.specs.Summary.{ancestorsResummed, noSummary, putIn, takenOut, subscribingSums, unsubscribingSums, sumsEdited}
 use Rattle.listing_rules.specs.Summary.{sumsAfter, summedOver, summedCommand, summedAll, summedCompaction, countedFirst, summarized}
-use Rattle.listing_rules.specs.Reader.{separated, readChosen, criteriaSets, readAmong, childInfoRead, readParts, orBad, readLine}
-use Rattle.listing_rules.specs.Reader.{rootAttributes, attributesRead, nameRead, childInfoOf, readNumber, nameBytes, sameBools, rootParts}
-use Rattle.listing_rules.specs.Reader.{lineFrom, written}
+use Rattle.listing_rules.specs.LineReader.{separated, readChosen, criteriaSets, readAmong, childInfoRead, readParts, orBad, readLine}
+use Rattle.listing_rules.specs.LineReader.{rootAttributes, attributesRead, nameRead, childInfoOf, readNumber, nameBytes, sameBools, rootParts}
+use Rattle.listing_rules.specs.LineReader.{lineFrom, written}
 use Rattle.listing_rules.specs.Walk.{wantsRemote, wantsSpecial, dropsSubscribed, lawfulByte, when, commandLine, linesOf, packed, _then_, attr}
 use Rattle.listing_rules.specs.Walk.{useAttr, isFind, withName, fits, takenIn, takenAll, replied, asked, walkFrom, walkAll, ended, walk}
 use Rattle.listing_rules.specs.Walk.{walkNumber, walkCount, foundLength, zeroBehind, foundAfter, pendingAfter, scratchAfter, collected, walkBy}

@@ -4,7 +4,7 @@ use Rattle.listing_rules.proofs.Prelude.{_≡_, refl, List, [], _∷_, 
 use Rattle.listing_rules.specs.Bytes.{text, same}
 use Rattle.listing_rules.specs.Lines.{attributeNames, remotePlace, subscribedPlace, allPlace, archivePlace, draftsPlace, flaggedPlace}
 use Rattle.listing_rules.specs.Lines.{junkPlace, sentPlace, trashPlace}
-use Rattle.listing_rules.specs.Reader.{rootAttributes}
+use Rattle.listing_rules.specs.LineReader.{rootAttributes}
 use Rattle.listing_rules.proofs.Keys.{openBytes, openLines, openReader}
 
 abbrev places : List ℕ

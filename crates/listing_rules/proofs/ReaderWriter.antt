@@ -7,8 +7,8 @@ use Rattle.listing_rules.specs.Names.{lawfulName}
 use Rattle.listing_rules.specs.Tokens.{Got, got, _>>=_, after, withFirst}
 use Rattle.listing_rules.specs.Options.{Criteria}
 use Rattle.listing_rules.specs.Lines.{attributeNames, chosen, spacedTail, spaced, escaped, quoted, childInfoText, listLine, rootLine}
-use Rattle.listing_rules.specs.Reader.{Read, line, root, bad, separated, readChosen, criteriaSets, readAmong, childInfoRead, readParts, orBad}
-use Rattle.listing_rules.specs.Reader.{readLine}
+use Rattle.listing_rules.specs.LineReader.{Read, line, root, bad, separated, readChosen, criteriaSets, readAmong, childInfoRead, readParts, orBad}
+use Rattle.listing_rules.specs.LineReader.{readLine}
 use Rattle.listing_rules.proofs.Keys.{openBytes, openLists, openNames, openTokens, openOptions, openLines, openReader}
 use Rattle.listing_rules.proofs.Bools.{and-l, and-r}
 use Rattle.listing_rules.proofs.ListLaws.{same-true}

@@ -6,8 +6,8 @@ use Rattle.listing_rules.specs.Names.{lawfulName}
 use Rattle.listing_rules.specs.Options.{Criteria, noCriteria, isNone, lawfulCriteria, criteriaOf, criteriaNumber}
 use Rattle.listing_rules.specs.Lines.{listLine, rootLine}
 use Rattle.listing_rules.specs.Server.{Reply, answered, refusal}
-use Rattle.listing_rules.specs.Reader.{root, bad, readLine, rootAttributes, attributesRead, nameRead, childInfoOf, readNumber, sameBools}
-use Rattle.listing_rules.specs.Reader.{rootParts, lineFrom}
+use Rattle.listing_rules.specs.LineReader.{root, bad, readLine, rootAttributes, attributesRead, nameRead, childInfoOf, readNumber, sameBools}
+use Rattle.listing_rules.specs.LineReader.{rootParts, lineFrom}
 use Rattle.listing_rules.proofs.Keys.{openBytes, openNames, openOptions, openReader}
 use Rattle.listing_rules.proofs.Bools.{and-l, and-r}
 use Rattle.listing_rules.proofs.ListLaws.{empty-true}

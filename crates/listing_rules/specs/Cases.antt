@@ -19,8 +19,8 @@ use Rattle.listing_rules.specs.Server.{Reply, refusal, answered, answer,
 use Rattle.listing_rules.specs.Server.{commanded}
 use Rattle.listing_rules.specs.Series.{Sent, commandedAll, setSent}
 use Rattle.listing_rules.specs.Compaction.{compaction}
-use Rattle.listing_rules.specs.Reader.{Read, line, root, bad, readLine, readNumber, attributesRead, childInfoOf, nameBytes, sameBools, lineFrom}
-use Rattle.listing_rules.specs.Reader.{written}
+use Rattle.listing_rules.specs.LineReader.{Read, line, root, bad, readLine, readNumber, attributesRead, childInfoOf, nameBytes, sameBools, lineFrom}
+use Rattle.listing_rules.specs.LineReader.{written}
 use Rattle.listing_rules.specs.Walk.{lawfulByte, WalkReply, walkRefused, walked, walkBy, collectedBy, walkNumber, walkCount, foundLength}
 use Rattle.listing_rules.specs.Walk.{scratchAfter, foundAfter, pendingAfter, packed}
 use Rattle.listing_rules.specs.Demand3.{meetingNames, meetingAncestors, tooSmall}

@@ -20,7 +20,7 @@ use Rattle.listing_rules.specs.Listing.{candidates, candidateMeets}
 use Rattle.listing_rules.specs.Subscriptions.{Store, storeSeen, held, withSubscribed}
 use Rattle.listing_rules.specs.Server.{answered, servedTo, commanded}
 use Rattle.listing_rules.specs.Series.{Sent, commandedAll}
-use Rattle.listing_rules.specs.Reader.{readLine, readNumber, nameRead, childInfoOf}
+use Rattle.listing_rules.specs.LineReader.{readLine, readNumber, nameRead, childInfoOf}
 use Rattle.listing_rules.specs.Walk.{linesOf}
 
 -- A LIST command as it is written: its tag, and its options, reference and patterns.

@@ -20,7 +20,7 @@ pub mod Lsub
 pub mod Server
 pub mod Series
 pub mod Compaction
-pub mod Reader
+pub mod LineReader
 pub mod Walk
 pub mod Demand3
 pub mod Sending

@@ -13,7 +13,7 @@ use Rattle.listing_rules.specs.Subscriptions.{denied as refusedEdit}
 use Rattle.listing_rules.specs.Feeder.{handed, goOn, denied}
 use Rattle.listing_rules.specs.Options.{Criteria, noCriteria}
 use Rattle.listing_rules.specs.Server.{refusal, answered}
-use Rattle.listing_rules.specs.Reader.{line, root}
+use Rattle.listing_rules.specs.LineReader.{line, root}
 use Rattle.listing_rules.specs.Walk.{walkRefused, walked, packed}
 use Rattle.listing_rules.specs.Cases.{row, mailbox, entry, times, sends, lines, Case, replies, refuses, walks, tables, spaces, answersInto}
 use Rattle.listing_rules.specs.Cases.{commands, walksInto, writes, writesInto, gives, reads, program, steps, answersFrame, counts, feeds}

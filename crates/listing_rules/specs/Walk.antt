@@ -13,7 +13,7 @@ use Rattle.listing_rules.specs.Listing.{candidates}
 use Rattle.listing_rules.specs.Lines.{quoted, remotePlace, subscribedPlace, allPlace, archivePlace, draftsPlace, flaggedPlace, junkPlace}
 use Rattle.listing_rules.specs.Lines.{sentPlace, trashPlace}
 use Rattle.listing_rules.specs.Server.{Reply, refusal, answered, answer, limited}
-use Rattle.listing_rules.specs.Reader.{Read, line, root, bad, readLine}
+use Rattle.listing_rules.specs.LineReader.{Read, line, root, bad, readLine}
 
 -- "an option byte (1 REMOTE, 2 SPECIAL-USE)"; W3: "Option byte 4 lets the collector drop SUBSCRIBED"
 unfoldable pub wantsRemote : ℕ → Bool

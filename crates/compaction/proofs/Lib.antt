@@ -2,3 +2,4 @@
 mod GatherLaws
 mod StartLaws
 mod MoveLaws
+pub mod ResultLaws

@@ -4,7 +4,7 @@ use Rattle.listing_rules.proofs.ListLaws.{map-drop}
 use Rattle.listing_rules.proofs.Prelude.{_∙_, _≡_, ap, refl, subst, sym, Bool, cond, false, not, true, List, [], _++_, _∷_, append-nil, map}
 use Rattle.listing_rules.proofs.Prelude.{map-append, _%_, _+_, _-_, _/_, _<_, _≤_, suc, zero, ℕ, zero-add, arith, leb, drop, drop-of-length-le, getD}
 use Rattle.listing_rules.proofs.Prelude.{length, length-append, length-drop, length-map, length-take, replicate, take, drop-at, getD-take}
-use Rattle.listing_rules.proofs.Prelude.{length-take-le, paste-zero, take-add, take-append-add, take-at, take-take, leb-true}
+use Rattle.listing_rules.proofs.Prelude.{length-take-le, take-add, take-append-add, take-at, take-take, leb-true}
 use Rattle.listing_rules.specs.Lists.{every, anyOf}
 use Rattle.listing_rules.specs.Bytes.{within}
 use Rattle.listing_rules.specs.Names.{lawfulName}
@@ -23,7 +23,9 @@ use Rattle.records.specs.Lent.{lentOf, wordStore, wordSummed, wordsSummed, word
 use Rattle.records.specs.Stores.{wordCompaction, Between}
 use Rattle.records.proofs.WordsAlike.{map-take}
 use Rattle.compaction.specs.Gathered.{kept, keptBefore, Gathers}
-use Rattle.compaction.specs.Moves.{restarted, Starts, Within, together, MovesBytes, MovesNames}
+use Rattle.compaction.specs.declared.Compacted.{Compacted}
+use Rattle.compaction.specs.Moves.{withStart, restarted, movedWords, Starts, Within, together, MovesBytes, MovesNames}
+use Rattle.compaction.specs.Result.{compactedIs, cellsCompacted}
 use Rattle.compaction.proofs.StartLaws.{start-means}
 
 -- the bytes that the map of free bytes keeps are those that rows use
@@ -94,14 +96,29 @@ module _ (rs : List Record) (area places : List ℕ) (small : length area ≤ 32
   all-restarted [] h = refl
   all-restarted (w ∷ ws) h = λ i. restarted-means w (h 0 (omega arith)) i ∷ all-restarted ws (λ k l. h (suc k) (omega arith)) i
 
+  -- to the last bit
+  restarted-is : (w : ℕ) → w / 65536 % 65536 < length area
+      → restarted (take (length area) places) w ≡ withStart (placeAfter rs area (recordOf w .start)) w
+  unfolding restarted recordOf
+  restarted-is w h =
+      let s : ℕ = w / 65536 % 65536 in
+      ap (λ (k : ℕ). withStart k w) (getD-take (length area) places s 0 h ∙ are s h)
+
+  pub all-words : (ws : List ℕ) → Starts ws (length area) →
+      map (restarted (take (length area) places)) ws ≡ map (λ w. withStart (placeAfter rs area (recordOf w .start)) w) ws
+  all-words [] h = refl
+  all-words (w ∷ ws) h = λ i. restarted-is w (h 0 (omega arith)) i ∷ all-words ws (λ k l. h (suc k) (omega arith)) i
+
 -- so names are moved
 pub moves-names : {ws area area′ places vs : List ℕ} → Within ws area → MovesBytes (map recordOf ws) area area′ places →
     vs ≡ map (restarted (take (length area) places)) ws
     → MovesNames ws area vs area′
+unfolding movedWords
 moves-names {ws} {area} {area′} {places} {vs} w m e =
     record {
       size = ap length e ∙ length-map ws (restarted (take (length area) places));
       area-is = m .area-is;
+      words-are = e ∙ all-words (map recordOf ws) area places (w .short) (m .places-are) ws (w .starts);
       records-are = ap (map recordOf) e ∙ all-restarted (map recordOf ws) area places (w .short) (m .places-are) ws (w .starts);
     }
 
@@ -184,16 +201,17 @@ module _ (ws : List ℕ) (n count : ℕ) (area : List ℕ) (inside : n ≤ lengt
     unfolding compacted together
     area-moved = m .area-is ∙ ap (λ (rs : List Record). together rs area) (sym rows-are)
 
-    between-moved : Between ws (vs ++ spare) n 0 count
-    between-moved =
-        let z : count - 0 ≡ count = omega arith in
-        record {
-          order = omega arith;
-          lent-only = rows-most;
-          within = count-inside;
-          size = omega (arith, length-append vs spare, size, length-drop count ws, count-inside);
-          others = rw (z, zero-add count, take-at vs spare count size);
-        }
+  -- as many words in the place of the rows' words
+  pub between-moved : (vs : List ℕ) → length vs ≡ count → Between ws (vs ++ drop count ws) n 0 count
+  between-moved vs size =
+      let z : count - 0 ≡ count = omega arith in
+      record {
+        order = omega arith;
+        lent-only = rows-most;
+        within = count-inside;
+        size = omega (arith, length-append vs (drop count ws), size, length-drop count ws, count-inside);
+        others = rw (z, zero-add count, take-at vs (drop count ws) count size);
+      }
 
 -- One call over words ws of which `lent` are lent, with the numbers of a summary beside them; n of both are there.
 module _ (ws : List ℕ) (lent count : ℕ) (area sums : List ℕ) (n : ℕ) (n-is : n ≡ lentOf ws lent sums) where
@@ -215,26 +233,47 @@ module _ (ws : List ℕ) (lent count : ℕ) (area sums : List ℕ) (n : ℕ) (n-
   same-front : wordsSummed (take n ws) count area (take n sums) ≡ whole
   same-front = λ i. record { store = wordStore ws (n-is i) count area; summary = map summaryOf (take (n-is i) sums) }
 
-  -- what a call leaves: its number, the words, the area, and which words changed
-  abbrev pub Leaves : ℕ → List ℕ → List ℕ → ℕ → ℕ → Type 0
-  Leaves number vs area′ from to =
-      (number ≡ wordCompaction ws lent count area sums .number)
+  refused-result : compactedIs 1 count ≡ record { number = 1; from = 0; to = 0 }
+  unfolding compactedIs
+  refused-result = refl
+
+  done-result : compactedIs 0 count ≡ record { number = 0; from = 0; to = count }
+  unfolding compactedIs
+  done-result = refl
+
+  -- what a call leaves: its result, the area, the words, and the records that they mean
+  abbrev pub Leaves : Compacted → List ℕ → List ℕ → Type 0
+  Leaves r vs area′ =
+      (r ≡ compactedIs (wordCompaction ws lent count area sums .number) count)
       × ((area′ ≡ wordCompaction ws lent count area sums .area)
-      × ((map recordOf (take (lentOf ws lent sums) vs) ≡ wordCompaction ws lent count area sums .records) × Between ws vs (lentOf ws lent sums) from
-      to))
+      × ((vs ≡ cellsCompacted ws lent count area sums)
+      × (map recordOf (take (lentOf ws lent sums) vs) ≡ wordCompaction ws lent count area sums .records)))
+
+  -- check 1 with the summary, of what is lent
+  checked : (b : Bool) → passes (wordsTable (take n ws) count area (take n sums)) ≡ b → passes (summedTable whole) ≡ b
+  checked b e = ap (λ (m : Summed). passes (summedTable m)) (sym same-front) ∙ e
+
+  result-is : (number to : ℕ) (left : Summed) → summedCompaction whole ≡ record { number = number; left = left } →
+      compactedIs number count ≡ record { number = number; from = 0; to = to }
+      → record { number = number; from = 0; to = to } ≡ compactedIs (wordCompaction ws lent count area sums .number) count
+  result-is number to left x e = sym e ∙ ap (λ (c : SummedCompaction). compactedIs (c .number) count) (sym x)
+
+  cells-stay : passes (summedTable whole) ≡ false → ws ≡ cellsCompacted ws lent count area sums
+  unfolding cellsCompacted
+  cells-stay e = rw e
+
+  cells-move : passes (summedTable whole) ≡ true → movedWords (take count ws) area ++ drop count ws ≡ cellsCompacted ws lent count area sums
+  unfolding cellsCompacted
+  cells-move e = rw e
 
   -- the table does not pass: 1, and nothing changes
-  pub refused : passes (wordsTable (take n ws) count area (take n sums)) ≡ false → Leaves 1 ws area 0 0
+  pub refused : passes (wordsTable (take n ws) count area (take n sums)) ≡ false → Leaves (record { number = 1; from = 0; to = 0 }) ws area
   refused e =
-      let x : summedCompaction whole ≡ record { number = 1; left = whole } = unfold summedCompaction in rw
-      (ap (λ (m : Summed). passes (summedTable m)) (sym same-front) ∙ e) in (
-        ap (λ (c : SummedCompaction). c .number) (sym x),
+      let x : summedCompaction whole ≡ record { number = 1; left = whole } = unfold summedCompaction in rw (checked false e) in (
+        result-is 1 0 whole x refused-result,
         (
           ap (λ (c : SummedCompaction). c .left .store .area) (sym x),
-          (
-            ap (λ (c : SummedCompaction). c .left .store .records) (sym x),
-            record { order = omega arith; lent-only = omega arith; within = omega arith; size = refl; others = paste-zero ws 0 ws },
-          ),
+          (cells-stay (checked false e), ap (λ (c : SummedCompaction). c .left .store .records) (sym x)),
         ),
       )
 
@@ -242,21 +281,22 @@ module _ (ws : List ℕ) (lent count : ℕ) (area sums : List ℕ) (n : ℕ) (n-
     pub good : passes (storeTable (wordStore ws n count area)) ≡ true
     good = grown-parts (wordsSummed (take n ws) count area (take n sums)) e .0
 
-    pub done : (vs area′ : List ℕ) → MovesNames (take count ws) area vs area′ → Leaves 0 (vs ++ drop count ws) area′ 0 count
+    pub done : (vs area′ : List ℕ) → MovesNames (take count ws) area vs area′
+        → Leaves (record { number = 0; from = 0; to = count }) (vs ++ drop count ws) area′
     done vs area′ m =
         let x : summedCompaction whole ≡ record { number = 0; left = record { store = compacted (whole .store); summary = whole .summary } } =
-        unfold summedCompaction in rw (ap (λ (y : Summed). passes (summedTable y)) (sym same-front) ∙ e) in (
-          ap (λ (c : SummedCompaction). c .number) (sym x),
+        unfold summedCompaction in rw (checked true e) in (
+          result-is 0 count (record { store = compacted (whole .store); summary = whole .summary }) x done-result,
           (
             area-moved ws n count area front-inside good vs area′ m
                 ∙ ap (λ (k : ℕ). compacted (wordStore ws k count area) .area) n-is
                 ∙ ap (λ (c : SummedCompaction). c .left .store .area) (sym x),
             (
+              ap (λ (l : List ℕ). l ++ drop count ws) (m .words-are) ∙ cells-move (checked true e),
               ap (λ (k : ℕ). map recordOf (take k (vs ++ drop count ws))) (sym n-is)
                   ∙ records-moved ws n count area front-inside good vs area′ m
                   ∙ ap (λ (k : ℕ). compacted (wordStore ws k count area) .records) n-is
                   ∙ ap (λ (c : SummedCompaction). c .left .store .records) (sym x),
-              subst (λ (k : ℕ). Between ws (vs ++ drop count ws) k 0 count) n-is (between-moved ws n count area front-inside good vs area′ m),
             ),
           ),
         )

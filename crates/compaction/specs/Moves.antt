@@ -14,6 +14,10 @@ withStart s w = w - 65536 * (w / 65536 % 65536) + 65536 * s
 unfoldable pub restarted : List ℕ → ℕ → ℕ
 restarted places w = withStart (getD places (w / 65536 % 65536) 0) w
 
+-- the words of rows whose names have moved: each with the place of its start as its start, and every other bit as it was
+unfoldable pub movedWords : List ℕ → List ℕ → List ℕ
+movedWords ws area = map (λ w. withStart (placeAfter (map recordOf ws) area (recordOf w .start)) w) ws
+
 -- the names of the words begin before place n
 abbrev pub Starts : List ℕ → ℕ → Type 0
 Starts ws n = (k : ℕ) → k < length ws → getD ws k 0 / 65536 % 65536 < n
@@ -33,8 +37,9 @@ pub record MovesBytes (rs : List Record) (area area′ places : List ℕ) : Type
   pub room : length area ≤ length places
   pub places-are : (k : ℕ) → k < length area → getD places k 0 ≡ placeAfter rs area k
 
--- the area, and the records that the words mean then
+-- the area, the words, and the records that they mean then
 pub record MovesNames (ws area vs area′ : List ℕ) : Type 0 where
   pub size : length vs ≡ length ws
   pub area-is : area′ ≡ together (map recordOf ws) area
+  pub words-are : vs ≡ movedWords ws area
   pub records-are : map recordOf vs ≡ map (moved (map recordOf ws) area) (map recordOf ws)

@@ -20,10 +20,11 @@ ghost use Prim.Native.Nat.{_≤_};
 ghost use lib.ListN.{length, take};
 ghost use Rattle.records.specs.Words.{recordOf};
 ghost use Rattle.records.specs.Lent.{lentOf};
-ghost use Rattle.records.specs.Stores.{wordCompaction, Between};
+ghost use Rattle.records.specs.Stores.{wordCompaction};
 ghost use Rattle.compaction.specs.Moves.{Within, MovesNames};
+ghost use Rattle.compaction.specs.Result.{compactedIs, cellsCompacted};
 
-// What it comes to: 0 or the number of its refusal, and the words that changed, `from` up to `to`.
+// The result: 0 or the number of its refusal, and the words that changed, `from` up to `to`.
 pub struct Compacted {
     pub number: u8,
     pub from: usize,
@@ -40,11 +41,11 @@ pub fn compact_words(
     area: &mut [u8],
     sums: &[u64],
 ) -> Compacted
-    ensures result { λ r. ⌜ r .number ≡ wordCompaction (now (words .entry)) lent count (now (area .entry)) (now (sums .entry)) .number ⌝ }
+    ensures result { λ r. ⌜ r ≡ compactedIs (wordCompaction (now (words .entry)) lent count (now (area .entry)) (now (sums .entry)) .number) count ⌝ }
     ensures area { λ _. ⌜ now (area .exit) ≡ wordCompaction (now (words .entry)) lent count (now (area .entry)) (now (sums .entry)) .area ⌝ }
-    ensures words { λ r. ⌜ (map recordOf (take (lentOf (now (words .entry)) lent (now (sums .entry))) (now (words .exit)))
-        ≡ wordCompaction (now (words .entry)) lent count (now (area .entry)) (now (sums .entry)) .records)
-        × Between (now (words .entry)) (now (words .exit)) (lentOf (now (words .entry)) lent (now (sums .entry))) (r .from) (r .to) ⌝ }
+    ensures words { λ _. ⌜ now (words .exit) ≡ cellsCompacted (now (words .entry)) lent count (now (area .entry)) (now (sums .entry)) ⌝ }
+    ensures records { λ _. ⌜ map recordOf (take (lentOf (now (words .entry)) lent (now (sums .entry))) (now (words .exit)))
+        ≡ wordCompaction (now (words .entry)) lent count (now (area .entry)) (now (sums .entry)) .records ⌝ }
 {
     let n = least(lent, least(words.len(), sums.len()));
     if !check_summed(&words[..n], count, area, &sums[..n]) {

@@ -1,8 +1,8 @@
 -- Check 1 and the index, of packed bytes and of words: each way through the passes. Rests on PassLaws, and on the laws of packed tables
 -- and their records in listing_rules.
-use Rattle.listing_rules.proofs.Prelude.{_∙_, _≡_, ap, refl, sym, Bool, _&&_, and-false, cond, false, true, none, some, List, _++_, map, _+_, _<_}
-use Rattle.listing_rules.proofs.Prelude.{_≤_, min, ℕ, decLe, arith, leb, drop, length, length-append, length-drop, length-map, length-replicate}
-use Rattle.listing_rules.proofs.Prelude.{replicate, take, drop-at, length-take-le, take-at, le-leb, leb-false, leb-true, lt-leb}
+use Rattle.listing_rules.proofs.Prelude.{_∙_, _≡_, ap, refl, sym, Bool, _&&_, and-false, cond, false, false≢true, true, none, some, List, [], _++_}
+use Rattle.listing_rules.proofs.Prelude.{map, _+_, _<_, _≤_, min, ℕ, decLe, arith, leb, drop, length, length-append, length-drop, length-map}
+use Rattle.listing_rules.proofs.Prelude.{length-replicate, replicate, take, drop-at, length-take-le, take-at, le-leb, leb-false, leb-true, lt-leb}
 use Rattle.listing_rules.specs.Lists.{every}
 use Rattle.listing_rules.specs.Table.{Table, Row, rows, passes, rowsPass, rowsFill, packedRows, packedTable}
 use Rattle.listing_rules.specs.Records.{Record, recordRows, liesInside, allApart, laidOut, recordTable, packedRecords}
@@ -11,14 +11,13 @@ use Rattle.listing_rules.proofs.ListLaws.{map-take}
 use Rattle.listing_rules.proofs.Passes.{rows-parts, packed-some}
 use Rattle.listing_rules.proofs.RecordLaws.{packed-rows-are, packed-inside, packed-count}
 use Rattle.mailbox_table.specs.declared.Indexing.the-variants.{Rows, Fails}
-use Rattle.records.specs.Words.{recordOf}
+use Rattle.records.specs.Words.{cellOf, recordOf}
 use Rattle.records.specs.Lent.{wordTable}
-use Rattle.mailbox_table.specs.Index.{rowsAt, indexingOf, Indexes}
-use Rattle.mailbox_table.specs.Packed.{hasRoom, unpackingOf, Splits, Unpacks}
+use Rattle.mailbox_table.specs.Index.{rowsAt, linkedWords, indexingOf, Indexes}
+use Rattle.mailbox_table.specs.Packed.{hasRoom, unpackingOf, Splits}
 use Rattle.mailbox_table.specs.Link.{Links, wordsPass}
 use Rattle.mailbox_table.specs.Layout.{Mapped}
 use Rattle.mailbox_table.specs.Find.{Finds}
-use Rattle.mailbox_table.proofs.UnpackedLaws.{roomy-fills}
 use Rattle.mailbox_table.proofs.AnswerLaws.{rows-decided, fails-decided}
 use Rattle.mailbox_table.proofs.WordLaws.{rows-records}
 use Rattle.mailbox_table.proofs.IndexLaws.{rows-length}
@@ -55,12 +54,25 @@ module _ (room : ℕ) where
   indexing-no-room none e = indexing-none
   indexing-no-room (some rs) e = indexing-full rs (leb-false (length rs) (min room 512) e)
 
+-- a table with room for its records has rows: they fill its bytes, which are not too many
+roomy-fills : (t : List ℕ) (room : ℕ) → hasRoom (packedTable t) room ≡ true
+    → (length t ≤ 32768) × (rowsFill 0 t ≡ true) × (length (packedRows t) ≤ min room 512)
+unfolding hasRoom packedTable
+roomy-fills t room h = go (leb (length t) 32768) (rowsFill 0 t) refl refl
+  where
+    go : (a b : Bool) → leb (length t) 32768 ≡ a → rowsFill 0 t ≡ b →
+        (length t ≤ 32768) × (rowsFill 0 t ≡ true) × (length (packedRows t) ≤ min room 512)
+    go true true e f = (leb-true (length t) 32768 e, f, leb-true (length (packedRows t)) (min room 512) (rw (e, f) at h))
+    go true false e f = absurd (false≢true (rw (e, f) at h))
+    go false b e f = absurd (false≢true (rw e at h))
+
 -- bytes that were turned into n records
 pub record Split (t before after : List ℕ) (n : ℕ) : Type 0 where
   pub table : packedTable t ≡ some (packedRows t)
   pub inside : every (liesInside t) (packedRecords t) ≡ true
   pub number : n ≡ length (packedRows t)
   pub records : map recordOf (take n after) ≡ packedRecords t
+  pub cells : take n after ≡ map cellOf (packedRecords t)
   pub few : n ≤ 512
   pub fits : n ≤ length after
   pub room : length after ≡ length before
@@ -74,6 +86,7 @@ split {t} {before} {after} {n} s =
       inside = packed-inside t (size .1);
       number = s .records .0 ∙ packed-count t;
       records = s .records .1;
+      cells = s .records .2;
       few = omega (arith, s .records .0, packed-count t, size .2);
       fits = omega (arith, s .records .0, packed-count t, size .2, s .room);
       room = s .room;
@@ -87,7 +100,8 @@ split {t} {before} {after} {n} s =
     size = roomy-fills t (length before) has
 
 -- the index of packed bytes
-pub finds-no-room : {t before after : List ℕ} → Splits t before after Fails → Finds t (packedTable t) (packedRecords t) before after Fails
+pub finds-no-room : {t before after : List ℕ} → Splits t before after Fails →
+    Finds t (packedTable t) (packedRecords t) (map cellOf (packedRecords t)) before after Fails
 unfolding unpackingOf
 finds-no-room {t} {before} {after} s =
     record {
@@ -114,7 +128,7 @@ module _ {t before middle : List ℕ} {n : ℕ} (s : Split t before middle n) wh
 
   module _ {part : List ℕ} where
     pub finds-bad : Links t (take n middle) part (wordsPass t (take n middle)) false →
-        Finds t (packedTable t) (packedRecords t) before (part ++ drop n middle) Fails
+        Finds t (packedTable t) (packedRecords t) (map cellOf (packedRecords t)) before (part ++ drop n middle) Fails
     finds-bad l =
         record {
           answer = sym (rw (s .table) (indexing-bad (length before) (packedRows t) (sym split-passes ∙ sym (l .answer))));
@@ -124,7 +138,7 @@ module _ {t before middle : List ℕ} {n : ℕ} (s : Split t before middle n) wh
         }
 
     pub finds-rows : Links t (take n middle) part (wordsPass t (take n middle)) true →
-        Finds t (packedTable t) (packedRecords t) before (part ++ drop n middle) (Rows n)
+        Finds t (packedTable t) (packedRecords t) (map cellOf (packedRecords t)) before (part ++ drop n middle) (Rows n)
     unfolding rows
     finds-rows l =
         record {
@@ -132,7 +146,7 @@ module _ {t before middle : List ℕ} {n : ℕ} (s : Split t before middle n) wh
               sym (rw (s .table) (indexing-rows (length before) (packedRows t) (sym split-passes ∙ sym (l .answer))
               (omega (arith, s .number, s .fits, s .room))) ∙ ap Rows (sym (s .number)));
           room = whole-length part (l .room);
-          found = rw (s .table, front) (s .number, same-rows, l .same .1, l .same .0 ∙ s .records);
+          found = rw (s .table, front) (s .number, same-rows, l .same .1, l .same .0 ∙ s .records, l .same .2 ∙ ap (linkedWords t []) (s .cells));
           stays = drop-at part (drop n middle) n (l .room ∙ split-length) ∙ s .stays;
         }
       where
@@ -236,12 +250,12 @@ module _ {area raw before : List ℕ} {count : ℕ} {middle : List ℕ} (x : Cop
     words-room = length-append part (drop count middle) ∙ omega (arith, part-length, ap length copied-rest, length-drop count before, x .many)
 
     fails : indexingOf (wordTable area raw count) (length before) ≡ Fails →
-        Finds area (wordTable area raw count) (take count (map recordOf raw)) before (part ++ drop count middle) Fails
+        Finds area (wordTable area raw count) (take count (map recordOf raw)) (take count raw) before (part ++ drop count middle) Fails
     fails e = record { answer = sym e; room = words-room; found = tt; stays = tt }
 
   module _ {part : List ℕ} where
     pub words-bad : Links area (take count middle) part (wordsPass area (take count middle)) false →
-        Finds area (wordTable area raw count) (take count (map recordOf raw)) before (part ++ drop count middle) Fails
+        Finds area (wordTable area raw count) (take count (map recordOf raw)) (take count raw) before (part ++ drop count middle) Fails
     words-bad l = fails l (not-passing (rw copied-front at (sym (l .answer))))
 
     module _ (l : Links area (take count middle) part (wordsPass area (take count middle)) true) where
@@ -252,11 +266,11 @@ module _ {area raw before : List ℕ} {count : ℕ} {middle : List ℕ} (x : Cop
       part-records = l .same .0 ∙ ap (map recordOf) copied-front
 
       pub words-overlap : allApart (map recordOf part) ≡ false →
-          Finds area (wordTable area raw count) (take count (map recordOf raw)) before (part ++ drop count middle) Fails
+          Finds area (wordTable area raw count) (take count (map recordOf raw)) (take count raw) before (part ++ drop count middle) Fails
       words-overlap e = fails l (overlapping (rw part-records at e))
 
       pub words-rows : allApart (map recordOf part) ≡ true →
-          Finds area (wordTable area raw count) (take count (map recordOf raw)) before (part ++ drop count middle) (Rows count)
+          Finds area (wordTable area raw count) (take count (map recordOf raw)) (take count raw) before (part ++ drop count middle) (Rows count)
       unfolding rows
       words-rows e =
           record {
@@ -264,7 +278,7 @@ module _ {area raw before : List ℕ} {count : ℕ} {middle : List ℕ} (x : Cop
                 sym (rw table (indexing-rows (length before) (rowsAt area (take count raw)) rows-pass (omega (arith, rows-number, x .many))) ∙ ap Rows
                 rows-number);
             room = words-room l;
-            found = rw (table, words-front l) (sym rows-number, same-rows, l .same .1, part-records ∙ map-take recordOf count raw);
+            found = rw (table, words-front l) (sym rows-number, same-rows, l .same .1, part-records ∙ map-take recordOf count raw, part-cells);
             stays = drop-at part (drop count middle) count (part-length l) ∙ copied-rest;
           }
         where
@@ -277,12 +291,15 @@ module _ {area raw before : List ℕ} {count : ℕ} {middle : List ℕ} (x : Cop
           table : wordTable area raw count ≡ some (rowsAt area (take count raw))
           table = passing passed (rw part-records at e)
 
+          part-cells : part ≡ linkedWords area [] (take count raw)
+          part-cells = l .same .2 ∙ ap (linkedWords area []) copied-front
+
           same-rows : rowsAt area part ≡ rowsAt area (take count raw)
           same-rows = rw (rows-records area part, part-records, ← rows-records area (take count raw))
 
 -- what the passes answer is what the entries answer, once the words are cleared where they fail
-pub indexes-rows : {area : List ℕ} {t : Table} {rs : List Record} {before after : List ℕ} {n : ℕ} → Finds area t rs before after (Rows n) →
-    Indexes area t rs before after (Rows n)
+pub indexes-rows : {area : List ℕ} {t : Table} {rs : List Record} {cells before after : List ℕ} {n : ℕ} →
+    Finds area t rs cells before after (Rows n) → Indexes area t rs cells before after (Rows n)
 indexes-rows x = record { answer = x .answer; room = x .room; found = x .found; rest = x .stays }
 
 cleared-length : (before after cleared : List ℕ) → length after ≡ length before → cleared ≡ replicate (length after) 0 →
@@ -293,17 +310,8 @@ cleared-rest : (before after cleared : List ℕ) → length after ≡ length bef
     cleared ≡ replicate (length before) 0
 cleared-rest before after cleared h e = e ∙ ap (λ (n : ℕ). replicate n 0) h
 
-pub indexes-fails : {area : List ℕ} {t : Table} {rs : List Record} {before after cleared : List ℕ} → Finds area t rs before after Fails →
-    cleared ≡ replicate (length after) 0 → Indexes area t rs before cleared Fails
-indexes-fails {area} {t} {rs} {before} {after} {cleared} x e =
+pub indexes-fails : {area : List ℕ} {t : Table} {rs : List Record} {cells before after cleared : List ℕ} →
+    Finds area t rs cells before after Fails → cleared ≡ replicate (length after) 0 → Indexes area t rs cells before cleared Fails
+indexes-fails {area} {t} {rs} {cells} {before} {after} {cleared} x e =
     record
     { answer = x .answer; room = cleared-length before after cleared (x .room) e; found = tt; rest = cleared-rest before after cleared (x .room) e }
-
-pub unpacks-rows : {t before after : List ℕ} {n : ℕ} → Splits t before after (Rows n) → Unpacks t before after (Rows n)
-unpacks-rows x = record { answer = x .answer; room = x .room; records = x .records; rest = x .stays }
-
-pub unpacks-fails : {t before after cleared : List ℕ} → Splits t before after Fails → cleared ≡ replicate (length after) 0 →
-    Unpacks t before cleared Fails
-unpacks-fails {t} {before} {after} {cleared} x e =
-    record
-    { answer = x .answer; room = cleared-length before after cleared (x .room) e; records = tt; rest = cleared-rest before after cleared (x .room) e }

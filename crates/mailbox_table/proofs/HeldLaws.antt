@@ -1,7 +1,7 @@
 -- What a caller has who indexed a table: the index of its rows, or, with room for every row that a table may have, that it does not pass. Rests on
 -- the parts of check 1 in listing_rules.
-use Rattle.listing_rules.proofs.Prelude.{_∙_, _≡_, refl, subst, sym, Bool, _&&_, false, false≢true, true, List, map, _≤_, ℕ, arith, leb, length, take}
-use Rattle.listing_rules.proofs.Prelude.{length-take-le, le-leb, leb-true}
+use Rattle.listing_rules.proofs.Prelude.{_∙_, _≡_, refl, subst, sym, Bool, _&&_, false, false≢true, true, List, [], map, _≤_, ℕ, arith, leb, length}
+use Rattle.listing_rules.proofs.Prelude.{take, length-take-le, le-leb, leb-true}
 use Rattle.listing_rules.specs.Table.{Table, rows, passes}
 use Rattle.listing_rules.specs.Records.{Record}
 use Rattle.records.specs.Words.{recordOf}
@@ -9,11 +9,13 @@ use Rattle.listing_rules.proofs.Bools.{and-l, and-r, and-i}
 use Rattle.listing_rules.proofs.Passes.{TableParts, passes-parts}
 use Rattle.mailbox_table.specs.declared.Indexing.{Indexing}
 use Rattle.mailbox_table.specs.declared.Indexing.the-variants.{Rows, Fails}
-use Rattle.mailbox_table.specs.Index.{rowsAt, Lawful, Index, indexingOf, Found, Indexes}
+use Rattle.mailbox_table.specs.Index.{rowsAt, linkedWords, Lawful, Index, indexingOf, Found, Indexes}
 use Rattle.mailbox_table.proofs.AnswerLaws.{rows-decided, fails-decided}
 
-module _ {area : List ℕ} {t : Table} {records : List Record} {before after : List ℕ} {r : Indexing} (x : Indexes area t records before after r) where
-  -- What a caller has who found n rows: the table passes, and the first n words are the index of its rows and tell its records.
+module _ {area : List ℕ} {t : Table} {records : List Record} {cells before after : List ℕ} {r : Indexing}
+    (x : Indexes area t records cells before after r) where
+  -- What a caller has who found n rows: the table passes, and the first n words are the index of its rows and mean its records; the words of these
+  -- records decide every bit of them.
   pub record Held (n : ℕ) : Type 0 where
     pub table-passes : passes t ≡ true
     pub number : n ≡ length (rows t)
@@ -22,6 +24,7 @@ module _ {area : List ℕ} {t : Table} {records : List Record} {before after : L
     pub same : rowsAt area (take n after) ≡ rows t
     pub index : Index area (take n after)
     pub told : map recordOf (take n after) ≡ records
+    pub linked : take n after ≡ linkedWords area [] cells
 
   pub index-held : (n : ℕ) → r ≡ Rows n → Held n
   unfolding indexingOf
@@ -38,10 +41,11 @@ module _ {area : List ℕ} {t : Table} {records : List Record} {before after : L
           lawful = subst Lawful (sym (found .1)) (parts .lawful-names);
         };
         told = found .3;
+        linked = found .4;
       }
     where
-      found : Found area (rows t) records after (Rows n)
-      found = subst (Found area (rows t) records after) e (x .found)
+      found : Found area (rows t) records cells after (Rows n)
+      found = subst (Found area (rows t) records cells after) e (x .found)
 
       roomy : (passes t && leb (length (rows t)) (length before)) ≡ true
       roomy = rows-decided (passes t && leb (length (rows t)) (length before)) (length (rows t)) n (sym e ∙ x .answer) .0

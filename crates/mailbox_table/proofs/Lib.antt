@@ -6,7 +6,6 @@ pub mod IndexLaws
 pub mod ScanLaws
 pub mod SeenLaws
 pub mod HeldLaws
-pub mod UnpackedLaws
 mod AnswerLaws
 mod PackedLaws
 mod LinkLaws

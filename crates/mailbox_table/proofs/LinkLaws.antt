@@ -1,9 +1,9 @@
 -- The pass over words in row order: a word against the name before it, the loop's invariant, and what the pass answers. Rests on KeptLaws,
 -- RightLaws and WordLaws.
-use Rattle.listing_rules.proofs.Prelude.{_∙_, _≡_, ap, refl, sym, Bool, _&&_, and-false, cond, false, true, List, [], _++_, _∷_, map, map-append, _+_}
-use Rattle.listing_rules.proofs.Prelude.{_<_, _≤_, ℕ, add-zero, add-one, arith, leb, drop, drop-of-length-le, getD, length, length-drop, length-set}
-use Rattle.listing_rules.proofs.Prelude.{length-take, set, take, drop-cons, drop-drop, drop-set-lt, getD-drop, take-all, take-suc, take-suc-set}
-use Rattle.listing_rules.proofs.Prelude.{le-leb, leb-true, lt-leb}
+use Rattle.listing_rules.proofs.Prelude.{_∙_, _≡_, ap, refl, sym, Bool, _&&_, and-false, cond, false, true, List, [], _++_, _∷_, append-nil, map}
+use Rattle.listing_rules.proofs.Prelude.{map-append, _+_, _<_, _≤_, ℕ, add-zero, add-one, arith, leb, drop, drop-of-length-le, getD, length}
+use Rattle.listing_rules.proofs.Prelude.{length-drop, length-set, length-take, set, take, append-snoc, drop-cons, drop-drop, drop-set-lt, getD-drop}
+use Rattle.listing_rules.proofs.Prelude.{take-all, take-suc, take-suc-set, le-leb, leb-true, lt-leb}
 use Rattle.listing_rules.specs.Lists.{every}
 use Rattle.listing_rules.specs.Orders.{byteOrder, isLt, ascends}
 use Rattle.listing_rules.specs.Names.{lawfulName}
@@ -15,12 +15,14 @@ use Rattle.listing_rules.proofs.LawfulNames.{GoodParts, good-parts}
 use Rattle.mailbox_table.specs.declared.rows.Row.{Row}
 use Rattle.mailbox_table.specs.declared.rows.Step.{Step}
 use Rattle.mailbox_table.specs.declared.rows.Step.the-variants.{Next, Bad}
-use Rattle.mailbox_table.specs.Words.{wordOf, rowOfWord, Packs}
+use Rattle.mailbox_table.specs.Words.{wordOf, rowOfWord, withShared, Packs}
 use Rattle.records.specs.Words.{recordOf}
-use Rattle.mailbox_table.specs.Index.{nameAt, rowsAt}
+use Rattle.mailbox_table.specs.Index.{nameAt, rowsAt, linkedWords}
+use Rattle.mailbox_table.specs.Shared.{sharedLen}
 use Rattle.mailbox_table.specs.Below.{marksOf, withMarks}
 use Rattle.mailbox_table.specs.Link.{nameIn, rowsRight, goodWord, linkedRow, stepOf, linked, Links}
-use Rattle.mailbox_table.proofs.WordLaws.{row-word, row-with, record-row, record-word, marks-readers, flags-fit, place-fits, rows-records}
+use Rattle.mailbox_table.proofs.WordLaws.{row-word, row-with, record-row, record-word, marks-shared, marks-readers, flags-fit, place-fits}
+use Rattle.mailbox_table.proofs.WordLaws.{rows-records}
 use Rattle.mailbox_table.proofs.SharedLaws.{shared-le-r}
 use Rattle.mailbox_table.proofs.BelowLaws.{ascends-tail}
 use Rattle.mailbox_table.proofs.RightLaws.{right-parts}
@@ -112,6 +114,12 @@ module _ (area x : List ℕ) (w : ℕ) (r : Row) (e : stepOf area x w ≡ Next r
   unfolding nameAt
   word-name = rw word-row
 
+  -- to the last bit, the word with what its name shares
+  word-linked : w < 18446744073709551616 → relinkedWord w r ≡ withShared (sharedLen x (nameAt area w)) w
+  word-linked h =
+      rw (step-next .0)
+      (marks-shared (sharedLen x (nameAt area w)) w (omega (arith, shared-le-r x (nameAt area w), good-name area x w (step-next .1) .most)) h)
+
   row-name : nameIn area r ≡ nameAt area w
   unfolding nameAt
   row-name = rw (step-next .0)
@@ -155,11 +163,13 @@ pub record Linking (area before words : List ℕ) (previous : Row) (i : ℕ) : T
   pub left : linked area (nameIn area previous) (drop i before) ≡ linked area [] before
   pub passed : map recordOf (take i words) ≡ map recordOf (take i before)
   pub kept : Kept area (take i words) (nameIn area previous)
+  pub cells : linkedWords area [] before ≡ take i words ++ linkedWords area (nameIn area previous) (drop i before)
 
 pub linking-none : (area words : List ℕ) (previous : Row) → previous ≡ rowOfWord 0 → Linking area words words previous 0
 unfolding rowOfWord
 linking-none area words previous e =
-    record { inside = omega arith; size = refl; later = refl; left = rw nothing; passed = refl; kept = rw nothing (kept-none area) }
+    record
+    { inside = omega arith; size = refl; later = refl; left = rw nothing; passed = refl; kept = rw nothing (kept-none area); cells = rw nothing }
   where
     nothing : nameIn area previous ≡ []
     nothing = rw e
@@ -181,8 +191,22 @@ module _ {area before words : List ℕ} {previous : Row} {i : ℕ} (c : Linking 
     abbrev v : ℕ
     v = relinkedWord (getD words i 0) r
 
-    pub linking-more : Linking area before (set words i v) r (i + 1)
-    linking-more =
+    -- the words of the index so far, and those that the words from there on give
+    cells-more : getD words i 0 < 18446744073709551616 → take i words ++ linkedWords area (nameIn area previous) (drop i before)
+        ≡ (take i words ++ v ∷ []) ++ linkedWords area (nameIn area r) (drop (i + 1) before)
+    unfolding linkedWords
+    cells-more small =
+        rw (
+          append-snoc (take i words) v (linkedWords area (nameIn area r) (drop (i + 1) before)),
+          row-name area (nameIn area previous) (getD words i 0) r e,
+          word-linked area (nameIn area previous) (getD words i 0) r e small,
+          word-here,
+          add-one i,
+          drop-cons before i 0 h,
+        )
+
+    pub linking-more : getD words i 0 < 18446744073709551616 → Linking area before (set words i v) r (i + 1)
+    linking-more small =
         record {
           inside = omega arith;
           size = length-set words i v ∙ c .size;
@@ -194,6 +218,7 @@ module _ {area before words : List ℕ} {previous : Row} {i : ℕ} (c : Linking 
               rw
               (taken, taken-before, map-append recordOf (take i words) (v ∷ []), map-append recordOf (take i before) (getD before i 0 ∷ []), c .passed, told);
           kept = rw taken (word-kept area (nameIn area previous) (getD words i 0) r e (c .kept));
+          cells = c .cells ∙ cells-more small ∙ rw taken;
         }
       where
         taken : take (i + 1) (set words i v) ≡ take i words ++ v ∷ []
@@ -220,15 +245,19 @@ module _ {area before after : List ℕ} where
 
   pub links-rows : {previous : Row} {i : ℕ} → Linking area before after previous i → length after ≤ i →
       Links area before after (linked area [] before) true
-  unfolding linked
+  unfolding linked linkedWords
   links-rows {previous} {i} c h = record
-      { answer = sym decided; room = c .size; same = (same-records, kept-indexed (rw whole at (c .kept)) ascending) }
+      { answer = sym decided; room = c .size; same = (same-records, kept-indexed (rw whole at (c .kept)) ascending, same-cells) }
     where
       whole : take i after ≡ after
       whole = take-all i after h
 
       same-records : map recordOf after ≡ map recordOf before
       same-records = rw (whole, take-all i before (omega (arith, c .size))) at (c .passed)
+
+      same-cells : after ≡ linkedWords area [] before
+      same-cells =
+          sym (c .cells ∙ rw (whole, drop-of-length-le before {i = i} (omega (arith, c .size))) (append-nil after))
 
       ended : linked area (nameIn area previous) (drop i before) ≡ true
       ended = rw (drop-of-length-le before {i = i} (omega (arith, c .size)))

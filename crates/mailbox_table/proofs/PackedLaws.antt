@@ -2,8 +2,8 @@
 -- records in listing_rules, and on WordLaws.
 use Rattle.listing_rules.proofs.Prelude.{_∙_, _≡_, ap, refl, sym, Bool, _&&_, and-false, cond, false, true, List, [], _++_, _∷_, append-nil, map, _%_}
 use Rattle.listing_rules.proofs.Prelude.{_*_, _+_, _-_, _<_, _≤_, min, suc, ℕ, add-zero, zero-add, add-one, arith, leb, drop, getD, length}
-use Rattle.listing_rules.proofs.Prelude.{length-map, length-set, length-take, set, take, drop-drop, drop-set-lt, take-suc-set, le-leb, leb-false}
-use Rattle.listing_rules.proofs.Prelude.{leb-true, lt-leb}
+use Rattle.listing_rules.proofs.Prelude.{length-map, length-set, length-take, set, take, append-snoc, drop-drop, drop-set-lt, take-suc-set, le-leb}
+use Rattle.listing_rules.proofs.Prelude.{leb-false, leb-true, lt-leb}
 use Rattle.listing_rules.specs.Table.{rowsFill, packedTable}
 use Rattle.listing_rules.specs.Records.{Record, recordsAfter, packedRecords}
 use Rattle.listing_rules.proofs.Bools.{and-l, and-r}
@@ -16,10 +16,10 @@ use Rattle.mailbox_table.specs.declared.rows.Row.{Row}
 use Rattle.mailbox_table.specs.declared.rows.Step.{Step}
 use Rattle.mailbox_table.specs.declared.rows.Step.the-variants.{Next, Bad}
 use Rattle.mailbox_table.specs.Words.{wordOf, Packs}
-use Rattle.records.specs.Words.{recordOf}
+use Rattle.records.specs.Words.{cellOf, recordOf}
 use Rattle.mailbox_table.specs.Below.{withMarks}
 use Rattle.mailbox_table.specs.Packed.{wholeThere, rowThere, stepAt, hasRoom, unpackingOf, Splits}
-use Rattle.mailbox_table.proofs.WordLaws.{record-word}
+use Rattle.mailbox_table.proofs.WordLaws.{record-word, row-cell}
 
 -- the row at a place, by the tests of the code
 module _ (t : List ℕ) (at : ℕ) where
@@ -84,12 +84,16 @@ module _ (t : List ℕ) (at : ℕ) (r : Row) (e : stepAt t at ≡ Next r) where
         rw (step-next .0)
         (record { start = omega (arith, whole-fits t at (step-next .1)); len = omega (arith, b (at + 3)); shared = omega arith })
 
-    word-there : recordOf (wordThere t at r) ≡ recordThere t at
-    word-there = record-word (getD t (at + 2) 0) r bits step-packs ∙ rw (step-next .0, readers)
-      where
-        bits : r .flags .bits < 65536
-        bits = rw (step-next .0) (omega (arith, b at, b (at + 1)))
+    bits-fit : r .flags .bits < 65536
+    bits-fit = rw (step-next .0) (omega (arith, b at, b (at + 1)))
 
+    -- to the last bit, the number of the record that stands there
+    cell-there : wordThere t at r ≡ cellOf (recordThere t at)
+    cell-there = row-cell (getD t (at + 2) 0) r bits-fit step-packs (rw (step-next .0)) ∙ rw (step-next .0)
+
+    word-there : recordOf (wordThere t at r) ≡ recordThere t at
+    word-there = record-word (getD t (at + 2) 0) r bits-fit step-packs ∙ rw (step-next .0, readers)
+      where
         readers : getD t (at + 2) 0 % 256 ≡ getD t (at + 2) 0
         readers = omega (arith, b (at + 2))
 
@@ -133,10 +137,12 @@ pub record Splitting (t before : List ℕ) (limit : ℕ) (words : List ℕ) (n a
   pub later : drop n words ≡ drop n before
   pub left : splits limit n at t ≡ splits limit 0 0 t
   pub passed : packedRecords t ≡ map recordOf (take n words) ++ recordsAfter at 0 (drop at t)
+  pub cells : map cellOf (packedRecords t) ≡ take n words ++ map cellOf (recordsAfter at 0 (drop at t))
 
 pub splitting-none : (t words : List ℕ) (limit : ℕ) → Splitting t words limit words 0 0
 unfolding packedRecords
-splitting-none t words limit = record { inside = omega arith; count = omega arith; size = refl; later = refl; left = refl; passed = refl }
+splitting-none t words limit =
+    record { inside = omega arith; count = omega arith; size = refl; later = refl; left = refl; passed = refl; cells = refl }
 
 -- one word more
 records-snoc : (ws : List ℕ) (w : ℕ) (rs : List Record) → map recordOf (ws ++ w ∷ []) ++ rs ≡ map recordOf ws ++ (recordOf w ∷ rs)
@@ -168,15 +174,25 @@ module _ {t before : List ℕ} {limit : ℕ} {words : List ℕ} {n at : ℕ} (c 
           passed =
               rw (taken, step-end t at r e, records-snoc (take n words) (wordThere t at r) (recordsAfter (at + 4 + getD t (at + 3) 0) 0 (drop (at + 4 + getD t (at + 3) 0) t)), word-there t at r e h b)
               (c .passed ∙ rw (records-at t at inside));
+          cells =
+              rw (
+                taken,
+                step-end t at r e,
+                append-snoc (take n words) (wordThere t at r) (map cellOf (recordsAfter (at + 4 + getD t (at + 3) 0) 0 (drop (at + 4 + getD t (at + 3) 0) t))),
+                cell-there t at r e h b,
+              )
+              (c .cells ∙ rw (records-at t at inside));
         }
       where
         taken : take (n + 1) (set words n (wordThere t at r)) ≡ take n words ++ wordThere t at r ∷ []
         taken = rw (add-one n) (take-suc-set words n (wordThere t at r) (omega (arith, c .size)))
 
-  splitting-done : length t ≤ at → (splits limit 0 0 t ≡ true) × (map recordOf (take n words) ≡ packedRecords t)
+  splitting-done : length t ≤ at
+      → (splits limit 0 0 t ≡ true) × (map recordOf (take n words) ≡ packedRecords t) × (take n words ≡ map cellOf (packedRecords t))
   splitting-done h = (
     sym (c .left) ∙ splits-end t limit n at h (c .count),
     sym (c .passed ∙ rw (records-end t at h) (append-nil (map recordOf (take n words)))),
+    sym (c .cells ∙ rw (records-end t at h) (append-nil (take n words))),
   )
 
 -- what the pass answers
@@ -203,4 +219,5 @@ module _ {t before after : List ℕ} (limit : ℕ) (e : limit ≡ min (length be
       let w = splitting-done c k in
       let number : n ≡ length (packedRecords t) = omega
       (arith, ap length (w .1), length-map (take n after) recordOf, length-take n after, c .size, c .count) in
-      record { answer = rw (has-room t (length before) h, ← e, w .0) (ap Rows number); room = c .size; records = (number, w .1); stays = c .later }
+      record
+      { answer = rw (has-room t (length before) h, ← e, w .0) (ap Rows number); room = c .size; records = (number, w .1, w .2); stays = c .later }

@@ -22,11 +22,11 @@ use Rattle.listing_rules.proofs.Sorted.{order-trans}
 use Rattle.octets.specs.Sets.{touches, setWith}
 use Rattle.octets.proofs.Sets.{touches-bits}
 use Rattle.records.specs.Words.{recordOf}
-use Rattle.mailbox_table.specs.Words.{rowOfWord}
+use Rattle.mailbox_table.specs.Words.{rowOfWord, withShared}
 use Rattle.mailbox_table.specs.Shared.{sharedLen}
 use Rattle.mailbox_table.specs.Index.{nameAt, nthRow, nthName, rowAtWord, rowsAt, Indexed, Index}
-use Rattle.mailbox_table.specs.Seen.{memberOf, withShared, seenFrom, seenWords}
-use Rattle.mailbox_table.proofs.WordLaws.{place-fits, rows-records}
+use Rattle.mailbox_table.specs.Seen.{memberOf, seenFrom, seenWords}
+use Rattle.mailbox_table.proofs.WordLaws.{shared-parts, place-fits, rows-records}
 use Rattle.mailbox_table.proofs.SharedLaws.{order-same, shared-same, order-other, shared-other, shared-nil-l, shared-le-r, order-nil-cons}
 use Rattle.mailbox_table.proofs.SharedLaws.{order-cons-nil}
 
@@ -53,41 +53,37 @@ member-sees reader w = go (leb reader 7) refl
 
 -- a word with another number of shared bytes: the same record, and the same row but for that number
 module _ (n w : ℕ) (h : n < 256) where
-  parts : withShared n w ≡ w % 1099511627776 + 1099511627776 * n + 281474976710656 * (w / 281474976710656)
-  unfolding withShared rowOfWord
-  parts = omega arith
-
   pub shared-with : rowOfWord (withShared n w) ≡ record { flags = rowOfWord w .flags; start = rowOfWord w .start; len = rowOfWord w .len; shared = n }
   unfolding rowOfWord
   shared-with = λ i. record { flags = record { bits = bits-are i }; start = start-is i; len = len-is i; shared = shared-is i }
     where
       bits-are : withShared n w % 65536 ≡ w % 65536
-      bits-are = omega (arith, parts)
+      bits-are = omega (arith, shared-parts n w h)
 
       start-is : withShared n w / 65536 % 65536 ≡ w / 65536 % 65536
-      start-is = omega (arith, parts)
+      start-is = omega (arith, shared-parts n w h)
 
       len-is : withShared n w / 4294967296 % 256 ≡ w / 4294967296 % 256
-      len-is = omega (arith, parts)
+      len-is = omega (arith, shared-parts n w h)
 
       shared-is : withShared n w / 1099511627776 % 256 ≡ n
-      shared-is = omega (arith, parts)
+      shared-is = omega (arith, shared-parts n w h)
 
   pub shared-record : recordOf (withShared n w) ≡ recordOf w
   unfolding recordOf
   shared-record = λ i. record { flags = flags-are i; start = start-is i; len = len-is i; readers = readers-are i }
     where
       flags-are : withShared n w % 65536 ≡ w % 65536
-      flags-are = omega (arith, parts)
+      flags-are = omega (arith, shared-parts n w h)
 
       start-is : withShared n w / 65536 % 65536 ≡ w / 65536 % 65536
-      start-is = omega (arith, parts)
+      start-is = omega (arith, shared-parts n w h)
 
       len-is : withShared n w / 4294967296 % 256 ≡ w / 4294967296 % 256
-      len-is = omega (arith, parts)
+      len-is = omega (arith, shared-parts n w h)
 
       readers-are : withShared n w / 281474976710656 % 256 ≡ w / 281474976710656 % 256
-      readers-are = omega (arith, parts)
+      readers-are = omega (arith, shared-parts n w h)
 
   shared-name : (area : List ℕ) → nameAt area (withShared n w) ≡ nameAt area w
   unfolding nameAt
@@ -118,7 +114,7 @@ unfolding rowOfWord
 shared-inside w = omega arith
 
 pub with-fits : (n w : ℕ) → n < 256 → w < 2 ^ 64 → withShared n w < 2 ^ 64
-with-fits n w h g = omega (arith, parts n w h)
+with-fits n w h g = omega (arith, shared-parts n w h)
 
 -- Of names that ascend, the first and the last share the least of what neighbours do.
 shared-over : (a b c : List ℕ) → isLt (byteOrder a b) ≡ true → isLt (byteOrder b c) ≡ true → min (sharedLen a b) (sharedLen b c) ≡ sharedLen a c

@@ -1,11 +1,11 @@
 -- A row's number tells the row and its record, with marks or readers above it too, and a name that is clamped to its area is the name. Rests on the library alone.
-use Rattle.listing_rules.proofs.Prelude.{_∙_, _≡_, ap, refl, sym, List, [], _∷_, map, _%_, _-_, _/_, _<_, _≤_, ℕ, le-refl, arith, drop}
+use Rattle.listing_rules.proofs.Prelude.{_∙_, _≡_, ap, refl, sym, List, [], _∷_, map, _%_, _*_, _+_, _-_, _/_, _<_, _≤_, ℕ, le-refl, arith, drop}
 use Rattle.listing_rules.proofs.Prelude.{drop-of-length-le, length, length-drop, take, take-all, take-nil}
 use Rattle.listing_rules.specs.Table as Table
 use Rattle.listing_rules.specs.Records.{rowOf, recordRows}
 use Rattle.mailbox_table.specs.declared.rows.Row.{Row}
-use Rattle.mailbox_table.specs.Words.{wordOf, rowOfWord, Packs}
-use Rattle.records.specs.Words.{recordOf}
+use Rattle.mailbox_table.specs.Words.{wordOf, rowOfWord, withShared, Packs}
+use Rattle.records.specs.Words.{cellOf, recordOf}
 use Rattle.mailbox_table.specs.Below.{marksOf, withMarks}
 use Rattle.mailbox_table.specs.Index.{nameAt, rowAtWord, rowsAt}
 
@@ -73,6 +73,40 @@ record-word m r h p =
     let e = row-with m (wordOf r) ∙ row-word r h p in
     let readers : withMarks m (wordOf r) / 281474976710656 % 256 ≡ m % 256 = omega arith in
     record-row (withMarks m (wordOf r)) ∙ (λ i. record { flags = e i .flags .bits; start = e i .start; len = e i .len; readers = readers i })
+
+-- a word by its parts, where another number of bytes is shared
+pub shared-parts : (n w : ℕ) → n < 256 → withShared n w ≡ w % 1099511627776 + 1099511627776 * n + 281474976710656 * (w / 281474976710656)
+unfolding withShared rowOfWord
+shared-parts n w h = omega arith
+
+start-part : (w : ℕ) → w % 65536 + 65536 * (w / 65536 % 65536) ≡ w % 4294967296
+start-part w = omega arith
+
+len-part : (w : ℕ) → w % 4294967296 + 4294967296 * (w / 4294967296 % 256) ≡ w % 1099511627776
+len-part w = omega arith
+
+front-parts : (w : ℕ) → w % 65536 + 65536 * (w / 65536 % 65536) + 4294967296 * (w / 4294967296 % 256) ≡ w % 1099511627776
+front-parts w = ap (λ (v : ℕ). v + 4294967296 * (w / 4294967296 % 256)) (start-part w) ∙ len-part w
+
+sum-parts : (front n top : ℕ) → front < 1099511627776 → n < 256 → top < 65536 →
+    (front + 1099511627776 * n) % 281474976710656 + 281474976710656 * (top % 65536) ≡ front + 1099511627776 * n + 281474976710656 * top
+sum-parts front n top f h t = omega arith
+
+-- the row of a word with another number of shared bytes, and what stood above the row: the word with that number, to the last bit
+pub marks-shared : (n w : ℕ) → n < 256 → w < 18446744073709551616 →
+    withMarks (marksOf w) (wordOf (record { flags = rowOfWord w .flags; start = rowOfWord w .start; len = rowOfWord w .len; shared = n }))
+    ≡ withShared n w
+unfolding marksOf withMarks wordOf rowOfWord
+marks-shared n w h g =
+    ap (λ (v : ℕ). v % 281474976710656 + 281474976710656 * (w / 281474976710656 % 65536)) (ap (λ (v : ℕ). v + 1099511627776 * n) (front-parts w))
+    ∙ sum-parts (w % 1099511627776) n (w / 281474976710656) (omega arith) h (omega arith)
+    ∙ sym (shared-parts n w h)
+
+-- the word of a row that shares nothing, with readers above it, is the number of its record
+pub row-cell : (m : ℕ) (r : Row) → r .flags .bits < 65536 → Packs r → r .shared ≡ 0 →
+    withMarks m (wordOf r) ≡ cellOf (record { flags = r .flags .bits; start = r .start; len = r .len; readers = m })
+unfolding withMarks wordOf cellOf
+row-cell m r h p e = omega (arith, e, p .start, p .len)
 
 -- the readers of a word are the low half of what stands above its row
 pub marks-readers : (w : ℕ) → marksOf w % 256 ≡ recordOf w .readers

@@ -1,7 +1,7 @@
 -- The index of a table's rows: a word for each, over the area where the names lie.
 use mathlib.Core.Path.{_≡_}
 use mathlib.Core.Bool.{true, cond, _&&_}
-use mathlib.Core.List.{List, map}
+use mathlib.Core.List.{List, [], _∷_, map}
 use Prim.Native.Nat.{ℕ, _+_, _<_, _≤_}
 use lib.Dec.{leb}
 use lib.ListN.{length, take, drop, getD, replicate}
@@ -15,7 +15,7 @@ use Rattle.records.specs.Words.{recordOf}
 use Rattle.mailbox_table.specs.declared.Indexing.{Indexing}
 use Rattle.mailbox_table.specs.declared.Indexing.the-variants.{Rows, Fails}
 use Rattle.mailbox_table.specs.declared.rows.Row.{Row}
-use Rattle.mailbox_table.specs.Words.{rowOfWord}
+use Rattle.mailbox_table.specs.Words.{rowOfWord, withShared}
 use Rattle.mailbox_table.specs.Shared.{sharedLen}
 
 -- the name of a word, in the area
@@ -35,6 +35,11 @@ rowAtWord area w = record { flags = rowOfWord w .flags .bits; name = nameAt area
 
 abbrev pub rowsAt : List ℕ → List ℕ → List Table.Row
 rowsAt area words = map (rowAtWord area) words
+
+-- The words of an index: those of the records in row order, each with the number of bytes that its name shares with the name before it.
+unfoldable pub linkedWords : List ℕ → List ℕ → List ℕ → List ℕ
+linkedWords area before [] = []
+linkedWords area before (w ∷ ws) = withShared (sharedLen before (nameAt area w)) w ∷ linkedWords area (nameAt area w) ws
 
 -- The words are an index over the area.
 pub record Indexed (area words : List ℕ) : Type 0 where
@@ -63,21 +68,26 @@ pub record Index (area words : List ℕ) : Type 0 where
 unfoldable pub indexingOf : Table.Table → ℕ → Indexing
 indexingOf t room = cond (passes t && leb (length (rows t)) room) (Rows (length (rows t))) Fails
 
--- where rows are found, the words at the front are their index over the area, and tell their records
-abbrev pub Found : List ℕ → List Table.Row → List Record → List ℕ → Indexing → Type 0
-Found area rs records words Fails = Unit {0}
-Found area rs records words (Rows n) =
-    (n ≡ length rs) × (rowsAt area (take n words) ≡ rs) × Indexed area (take n words) × (map recordOf (take n words) ≡ records)
+-- where rows are found, the words at the front are their index over the area, and mean their records; every bit of them is decided by `cells`,
+-- the words of these records
+abbrev pub Found : List ℕ → List Table.Row → List Record → List ℕ → List ℕ → Indexing → Type 0
+Found area rs records cells words Fails = Unit {0}
+Found area rs records cells words (Rows n) =
+    (n ≡ length rs)
+    × (rowsAt area (take n words) ≡ rs)
+    × Indexed area (take n words)
+    × (map recordOf (take n words) ≡ records)
+    × (take n words ≡ linkedWords area [] cells)
 
 -- the lent words that hold no row: after the rows they stay as they were lent, and on failure every word is zero
 abbrev pub Rest : List ℕ → List ℕ → Indexing → Type 0
 Rest before after Fails = after ≡ replicate (length before) 0
 Rest before after (Rows n) = drop n after ≡ drop n before
 
--- What an index promises of a table with these records, whose names lie in the area, of the lent words before and after it, and of its
--- answer.
-pub record Indexes (area : List ℕ) (t : Table.Table) (records : List Record) (before after : List ℕ) (r : Indexing) : Type 0 where
+-- What an index promises of a table with these records and their words `cells`, whose names lie in the area, of the lent words before and
+-- after it, and of its answer.
+pub record Indexes (area : List ℕ) (t : Table.Table) (records : List Record) (cells before after : List ℕ) (r : Indexing) : Type 0 where
   pub answer : r ≡ indexingOf t (length before)
   pub room : length after ≡ length before
-  pub found : Found area (rows t) records after r
+  pub found : Found area (rows t) records cells after r
   pub rest : Rest before after r

@@ -17,7 +17,7 @@ use Rattle.mailbox_table.specs.declared.rows.Step.the-variants.{Next, Ba
 use Rattle.records.specs.Words.{recordOf}
 use Rattle.mailbox_table.specs.Words.{rowOfWord}
 use Rattle.mailbox_table.specs.Shared.{sharedLen}
-use Rattle.mailbox_table.specs.Index.{nameAt, rowsAt, Indexed}
+use Rattle.mailbox_table.specs.Index.{nameAt, rowsAt, linkedWords, Indexed}
 
 -- the name of a row of the code, in the area
 abbrev pub nameIn : List ℕ → Row → List ℕ
@@ -48,10 +48,10 @@ unfoldable pub linked : List ℕ → List ℕ → List ℕ → Bool
 linked area x [] = true
 linked area x (w ∷ ws) = goodWord area x w && linked area (nameAt area w) ws
 
--- where a pass over the words ends well, they are the index of the same records
+-- where a pass over the words ends well, they are the index of the same records, to the last bit
 abbrev pub Same : List ℕ → List ℕ → List ℕ → Bool → Type 0
 Same area before after false = Unit {0}
-Same area before after true = (map recordOf after ≡ map recordOf before) × Indexed area after
+Same area before after true = (map recordOf after ≡ map recordOf before) × Indexed area after × (after ≡ linkedWords area [] before)
 
 -- What a pass over words promises that is to answer `due`, of the words before and after it, and of its answer.
 pub record Links (area before after : List ℕ) (due r : Bool) : Type 0 where

@@ -13,8 +13,7 @@ use Rattle.mailbox_table.specs.declared.Indexing.the-variants.{Rows, Fai
 use Rattle.mailbox_table.specs.declared.rows.Row.{Row}
 use Rattle.mailbox_table.specs.declared.rows.Step.{Step}
 use Rattle.mailbox_table.specs.declared.rows.Step.the-variants.{Next, Bad}
-use Rattle.records.specs.Words.{recordOf}
-use Rattle.mailbox_table.specs.Index.{Rest}
+use Rattle.records.specs.Words.{cellOf, recordOf}
 
 -- a whole row stands at a place
 unfoldable pub wholeThere : List ℕ → ℕ → Bool
@@ -41,10 +40,11 @@ hasRoom (some rs) room = leb (length rs) (min room 512)
 unfoldable pub unpackingOf : List ℕ → ℕ → Indexing
 unpackingOf t room = cond (hasRoom (packedTable t) room) (Rows (length (packedRecords t))) Fails
 
--- where rows are found, the words at the front are their records
+-- where rows are found, the words at the front mean their records, and are the numbers of these, to the last bit
 abbrev pub Unpacked : List ℕ → List ℕ → Indexing → Type 0
 Unpacked t words Fails = Unit {0}
-Unpacked t words (Rows n) = (n ≡ length (packedRecords t)) × (map recordOf (take n words) ≡ packedRecords t)
+Unpacked t words (Rows n) =
+    (n ≡ length (packedRecords t)) × (map recordOf (take n words) ≡ packedRecords t) × (take n words ≡ map cellOf (packedRecords t))
 
 -- where rows are found, the words after them stay as they were lent
 abbrev pub Stays : List ℕ → List ℕ → Indexing → Type 0
@@ -57,10 +57,3 @@ pub record Splits (t before after : List ℕ) (r : Indexing) : Type 0 where
   pub room : length after ≡ length before
   pub records : Unpacked t after r
   pub stays : Stays before after r
-
--- What is promised where the words are lent for the records alone: on failure every word is zero.
-pub record Unpacks (t before after : List ℕ) (r : Indexing) : Type 0 where
-  pub answer : r ≡ unpackingOf t (length before)
-  pub room : length after ≡ length before
-  pub records : Unpacked t after r
-  pub rest : Rest before after r

@@ -1,18 +1,14 @@
 -- The rows that a reader sees, of an index.
 use mathlib.Core.Bool.{cond}
 use mathlib.Core.List.{List, [], _∷_}
-use Prim.Native.Nat.{ℕ, _+_, _-_, _*_, _^_, min}
+use Prim.Native.Nat.{ℕ, _^_, min}
 use Rattle.listing_rules.specs.Readers.{isReader, sees}
 use Rattle.records.specs.Words.{recordOf}
-use Rattle.mailbox_table.specs.Words.{rowOfWord}
+use Rattle.mailbox_table.specs.Words.{rowOfWord, withShared}
 
 -- the set of one reader, which is empty where there is no such reader
 unfoldable pub memberOf : ℕ → ℕ
 memberOf reader = cond (isReader reader) (2 ^ reader) 0
-
--- the word of the same record with so many bytes shared
-unfoldable pub withShared : ℕ → ℕ → ℕ
-withShared n w = w - 1099511627776 * rowOfWord w .shared + 1099511627776 * n
 
 -- The words of records that the reader sees. Each shares with the one before it what all from there on share with theirs, so the least of
 -- these; `low` is the least since the last word that was seen.

@@ -16,7 +16,6 @@ pub mod rows;
 pub mod scan;
 
 use packed::find_rows;
-use packed::split_rows;
 use raw::find_words;
 pub use readers::MAX_READER;
 pub use readers::Readers;
@@ -29,10 +28,9 @@ ghost use mathlib.Core.List.{map};
 ghost use lib.ListN.{length, take, replicate};
 ghost use Rattle.listing_rules.specs.Table.{passes, packedTable};
 ghost use Rattle.listing_rules.specs.Records.{packedRecords};
-ghost use Rattle.records.specs.Words.{recordOf};
+ghost use Rattle.records.specs.Words.{cellOf, recordOf};
 ghost use Rattle.records.specs.Lent.{wordTable};
 ghost use Rattle.mailbox_table.specs.Index.{Indexes};
-ghost use Rattle.mailbox_table.specs.Packed.{Unpacks};
 
 // What an index of a table answers: the number of its rows, or that the table does not pass (or has more rows than there is
 // room for).
@@ -56,7 +54,7 @@ pub fn check(table: &[u8]) -> bool
 // pass. The words after the rows stay as they were lent. Where it fails, every word is zero.
 pub fn index(table: &[u8], words: &mut [u64]) -> Indexing
     ensures { λ r. ⌜ Indexes (now (table .entry)) (packedTable (now (table .entry))) (packedRecords (now (table .entry)))
-        (now (words .entry)) (now (words .exit)) r ⌝ }
+        (map cellOf (packedRecords (now (table .entry)))) (now (words .entry)) (now (words .exit)) r ⌝ }
 {
     let Indexing::Rows(n) = find_rows(table, words) else {
         clear_words(words);
@@ -68,21 +66,9 @@ pub fn index(table: &[u8], words: &mut [u64]) -> Indexing
 // Check 1 of the first `count` of the records, and the index of their rows as `index` gives it.
 pub fn index_words(area: &[u8], raw: &[u64], count: usize, words: &mut [u64]) -> Indexing
     ensures { λ r. ⌜ Indexes (now (area .entry)) (wordTable (now (area .entry)) (now (raw .entry)) count)
-        (take count (map recordOf (now (raw .entry)))) (now (words .entry)) (now (words .exit)) r ⌝ }
+        (take count (map recordOf (now (raw .entry)))) (take count (now (raw .entry))) (now (words .entry)) (now (words .exit)) r ⌝ }
 {
     let Indexing::Rows(n) = find_words(area, raw, count, words) else {
-        clear_words(words);
-        return Indexing::Fails;
-    };
-    Indexing::Rows(n)
-}
-
-// The packed table turned into records, at the front of `words`; the words after them stay as they were lent. It fails, with every
-// word zero, if rows do not fill the table exactly or are more than 512 or than there is room for.
-pub fn unpack(table: &[u8], words: &mut [u64]) -> Indexing
-    ensures { λ r. ⌜ Unpacks (now (table .entry)) (now (words .entry)) (now (words .exit)) r ⌝ }
-{
-    let Indexing::Rows(n) = split_rows(table, words) else {
         clear_words(words);
         return Indexing::Fails;
     };

@@ -12,11 +12,13 @@ use octets::wide;
 use records::MAX_BYTES;
 use records::MAX_ROWS;
 ghost use mathlib.Core.Path.{_≡_};
+ghost use mathlib.Core.List.{map};
 ghost use Prim.Native.Nat.{_+_, _*_};
 ghost use Rattle.listing_rules.specs.Table.{packedTable};
 ghost use Rattle.listing_rules.specs.Records.{packedRecords};
 ghost use Rattle.mailbox_table.specs.Find.{Finds};
 ghost use lib.ListN.{getD};
+ghost use Rattle.records.specs.Words.{cellOf};
 ghost use Rattle.mailbox_table.specs.Words.{wordOf, Packs};
 ghost use Rattle.mailbox_table.specs.Below.{withMarks};
 ghost use Rattle.mailbox_table.specs.Packed.{stepAt, Placed, Splits};
@@ -27,7 +29,7 @@ const HEAD: usize = 4;
 // Check 1 of the packed table, and the index of its rows. Where it fails, the words are what the passes left.
 pub(crate) fn find_rows(table: &[u8], words: &mut [u64]) -> Indexing
     ensures { λ r. ⌜ Finds (now (table .entry)) (packedTable (now (table .entry))) (packedRecords (now (table .entry)))
-        (now (words .entry)) (now (words .exit)) r ⌝ }
+        (map cellOf (packedRecords (now (table .entry)))) (now (words .entry)) (now (words .exit)) r ⌝ }
 {
     let Indexing::Rows(n) = split_rows(table, words) else {
         return Indexing::Fails;

@@ -16,7 +16,7 @@ ghost use Rattle.mailbox_table.specs.Find.{Finds};
 // Check 1 of the records, and the index of their rows. Where it fails, the words are what the passes left.
 pub(crate) fn find_words(area: &[u8], raw: &[u64], count: usize, words: &mut [u64]) -> Indexing
     ensures { λ r. ⌜ Finds (now (area .entry)) (wordTable (now (area .entry)) (now (raw .entry)) count)
-        (take count (map recordOf (now (raw .entry)))) (now (words .entry)) (now (words .exit)) r ⌝ }
+        (take count (map recordOf (now (raw .entry)))) (take count (now (raw .entry))) (now (words .entry)) (now (words .exit)) r ⌝ }
 {
     if MAX_BYTES < area.len() {
         return Indexing::Fails;

@@ -8,7 +8,8 @@ ghost use Prim.Native.Nat.{_<_};
 ghost use lib.ListN.{length, drop};
 ghost use Rattle.octets.specs.Sets.{touches};
 ghost use Rattle.records.specs.Words.{recordOf};
-ghost use Rattle.mailbox_table.specs.Seen.{memberOf, withShared, seenWords};
+ghost use Rattle.mailbox_table.specs.Words.{withShared};
+ghost use Rattle.mailbox_table.specs.Seen.{memberOf, seenWords};
 
 // No name shares more than it has bytes.
 const MOST_SHARED: usize = 255;

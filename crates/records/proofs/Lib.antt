@@ -8,3 +8,4 @@ pub mod Copies
 pub mod Local
 pub mod Relend
 pub mod StoreLaws
+mod Computed

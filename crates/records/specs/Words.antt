@@ -7,9 +7,12 @@ use Rattle.records.specs.declared.Record.{Record}
 unfoldable pub meant : Record → Meant
 meant r = record { flags = r .flags; start = r .start; len = r .len; readers = r .readers }
 
--- 16 bits of flags, 16 of the start and 8 of the length, the flags lowest; then 8 that are 0, and 8 of the readers
+-- the number of a record: 16 bits of flags, 16 of the start and 8 of the length, the flags lowest; then 8 that are 0, and 8 of the readers
+unfoldable pub cellOf : Meant → ℕ
+cellOf m = m .flags + 65536 * m .start + 4294967296 * m .len + 281474976710656 * m .readers
+
 unfoldable pub wordOf : Record → ℕ
-wordOf r = r .flags + 65536 * r .start + 4294967296 * r .len + 281474976710656 * r .readers
+wordOf r = cellOf (meant r)
 
 -- what a number tells, as the definitions have it and as the code has it; the bits between length and readers, and those above, tell nothing
 unfoldable pub recordOf : ℕ → Meant

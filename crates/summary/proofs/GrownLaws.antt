@@ -52,6 +52,9 @@ module _ (area raw sums : List ℕ) (count : ℕ) (before after : List ℕ) wher
   abbrev kept : List Record
   kept = take count (map recordOf raw)
 
+  abbrev cells : List ℕ
+  cells = take count raw
+
   -- a summary that disagrees leaves no table
   no-table : agrees (wordsSummed raw count area sums) ≡ false → wordsTable raw count area sums ≡ none
   unfolding summedTable grown
@@ -61,31 +64,34 @@ module _ (area raw sums : List ℕ) (count : ℕ) (before after : List ℕ) wher
   unfolding storeTable
   same-table e = table-with m e
 
-  pub index-fails : (r : Indexing) → Indexes area (wordTable area raw count) (take count (map recordOf raw)) before after r → r ≡ Fails
-      → Indexes area (wordsTable raw count area sums) (take count (map recordOf raw)) before after Fails
+  pub index-fails : (r : Indexing) → Indexes area (wordTable area raw count) (take count (map recordOf raw)) (take count raw) before after r →
+      r ≡ Fails
+      → Indexes area (wordsTable raw count area sums) (take count (map recordOf raw)) (take count raw) before after Fails
   index-fails r x e =
-      let y : Indexes area (wordTable area raw count) kept before after Fails = subst (Indexes area (wordTable area raw count) kept before after) e
+      let y : Indexes area (wordTable area raw count) kept cells before after Fails = subst
+      (Indexes area (wordTable area raw count) kept cells before after) e
       x in
       go y (agrees m) refl
     where
-      go : Indexes area (wordTable area raw count) kept before after Fails → (b : Bool) → agrees m ≡ b
-          → Indexes area (wordsTable raw count area sums) kept before after Fails
-      go y true a = subst (λ (t : Table). Indexes area t kept before after Fails) (sym (same-table a)) y
+      go : Indexes area (wordTable area raw count) kept cells before after Fails → (b : Bool) → agrees m ≡ b
+          → Indexes area (wordsTable raw count area sums) kept cells before after Fails
+      go y true a = subst (λ (t : Table). Indexes area t kept cells before after Fails) (sym (same-table a)) y
       go y false a =
-          subst (λ (t : Table). Indexes area t kept before after Fails) (sym (no-table a))
+          subst (λ (t : Table). Indexes area t kept cells before after Fails) (sym (no-table a))
           (record { answer = unfold indexingOf passes in refl; room = y .room; found = tt; rest = y .rest })
 
-  pub index-agrees : (r : Indexing) (n : ℕ) → Indexes area (wordTable area raw count) (take count (map recordOf raw)) before after r → r ≡ Rows n
+  pub index-agrees : (r : Indexing) (n : ℕ) →
+      Indexes area (wordTable area raw count) (take count (map recordOf raw)) (take count raw) before after r → r ≡ Rows n
       → agrees (wordsSummed raw count area sums) ≡ true
-      → Indexes area (wordsTable raw count area sums) (take count (map recordOf raw)) before after (Rows n)
+      → Indexes area (wordsTable raw count area sums) (take count (map recordOf raw)) (take count raw) before after (Rows n)
   index-agrees r n x e a =
-      subst (λ (t : Table). Indexes area t kept before after (Rows n)) (sym (same-table a))
-      (subst (Indexes area (wordTable area raw count) kept before after) e x)
+      subst (λ (t : Table). Indexes area t kept cells before after (Rows n)) (sym (same-table a))
+      (subst (Indexes area (wordTable area raw count) kept cells before after) e x)
 
   pub index-disagrees : length after ≡ length before → after ≡ replicate (length before) 0 → agrees (wordsSummed raw count area sums) ≡ false
-      → Indexes area (wordsTable raw count area sums) (take count (map recordOf raw)) before after Fails
+      → Indexes area (wordsTable raw count area sums) (take count (map recordOf raw)) (take count raw) before after Fails
   index-disagrees size zeros a =
-      subst (λ (t : Table). Indexes area t kept before after Fails) (sym (no-table a))
+      subst (λ (t : Table). Indexes area t kept cells before after Fails) (sym (no-table a))
       (record { answer = unfold indexingOf passes in refl; room = size; found = tt; rest = zeros })
 
 -- A first summary.

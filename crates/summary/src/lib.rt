@@ -69,7 +69,7 @@ pub fn index_summed(
     words: &mut [u64],
 ) -> Indexing
     ensures { λ r. ⌜ Indexes (now (area .entry)) (wordsTable (now (raw .entry)) count (now (area .entry)) (now (sums .entry)))
-        (take count (map recordOf (now (raw .entry)))) (now (words .entry)) (now (words .exit)) r ⌝ }
+        (take count (map recordOf (now (raw .entry)))) (take count (now (raw .entry))) (now (words .entry)) (now (words .exit)) r ⌝ }
 {
     let Indexing::Rows(n) = index_words(area, raw, count, words) else {
         return Indexing::Fails;

@@ -1,7 +1,8 @@
 -- `mailbox_table::index` meets its contract: what `find_rows` answers, with every word cleared where it fails. By FindLaws.
-use Rattle.listing_rules.proofs.Prelude.{subst, needs}
+use Rattle.listing_rules.proofs.Prelude.{subst, map, needs}
 use Rattle.listing_rules.specs.Table.{packedTable}
 use Rattle.listing_rules.specs.Records.{packedRecords}
+use Rattle.records.specs.Words.{cellOf}
 use Rattle.mailbox_table.specs.declared.Indexing.{Indexing}
 use Rattle.mailbox_table.specs.Find.{Finds}
 use Rattle.mailbox_table.proofs.FindLaws.{indexes-rows, indexes-fails}
@@ -15,7 +16,8 @@ returns c =
     let start = after-find-rows .before .before .before .before in
     let found = after-find-rows .find-rows in
     let t = start .args .table .now in
-    indexes-fails (subst (λ (r : Indexing). Finds t (packedTable t) (packedRecords t) (start .args .words .now) (found .last .1 .0) r)
+    indexes-fails (subst (λ (r : Indexing). Finds t (packedTable t) (packedRecords t) (map cellOf (packedRecords t)) (start .args .words .now)
+    (found .last .1 .0) r)
     (after-enum-told .enum-told .given .1) (found .ensures)) (c .before .before .clear-words .ensures)
 
 returns-2 : tie.Need-returns-2
@@ -24,7 +26,8 @@ returns-2 c =
     let start = after-find-rows .before .before .before .before in
     let found = after-find-rows .find-rows in
     let t = start .args .table .now in
-    indexes-rows (subst (λ (r : Indexing). Finds t (packedTable t) (packedRecords t) (start .args .words .now) (found .last .1 .0) r)
+    indexes-rows (subst (λ (r : Indexing). Finds t (packedTable t) (packedRecords t) (map cellOf (packedRecords t)) (start .args .words .now)
+    (found .last .1 .0) r)
     (c .before .n .given .1) (found .ensures))
 
 pub index-spec : {M : Type 1} → statement M

@@ -16,7 +16,8 @@ returns c =
     let a = start .args in
     let found = after-find-words .find-words in
     let t = wordTable _ (a .raw .now) _ in
-    indexes-fails (subst (λ (r : Indexing). Finds (a .area .now) t (take (a .count) (map recordOf (a .raw .now))) (a .words .now)
+    indexes-fails (subst (λ (r : Indexing). Finds (a .area .now) t (take (a .count) (map recordOf (a .raw .now))) (take (a .count) (a .raw .now))
+    (a .words .now)
     (found .last .1 .1 .1 .0) r) (after-enum-told .enum-told .given .1) (found .ensures)) (c .before .before .clear-words .ensures)
 
 returns-2 : tie.Need-returns-2
@@ -26,7 +27,8 @@ returns-2 c =
     let a = start .args in
     let found = after-find-words .find-words in
     let t = wordTable _ (a .raw .now) _ in
-    indexes-rows (subst (λ (r : Indexing). Finds (a .area .now) t (take (a .count) (map recordOf (a .raw .now))) (a .words .now)
+    indexes-rows (subst (λ (r : Indexing). Finds (a .area .now) t (take (a .count) (map recordOf (a .raw .now))) (take (a .count) (a .raw .now))
+    (a .words .now)
     (found .last .1 .1 .1 .0) r) (c .before .n .given .1) (found .ensures))
 
 pub index-words-spec : {M : Type 1} → statement M

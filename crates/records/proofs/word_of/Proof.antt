@@ -1,12 +1,12 @@
 -- `records::word_of` meets its contract: the sum is the definition, opened, and tells the record by the widths of its fields.
 use Rattle.listing_rules.proofs.Prelude.{refl, needs}
-use Rattle.records.specs.Words.{wordOf}
+use Rattle.records.specs.Words.{cellOf, wordOf, meant}
 use Rattle.records.proofs.WordLaws.{word-tells}
 use Rattle.records.proofs.word_of.Statement.{statement}
 use Rattle.records.proofs.word_of.Tie as tie
 
 returns : tie.Need-returns
-unfolding wordOf
+unfolding cellOf wordOf meant
 returns c =
     let start = c .before .before .before .before in (refl, word-tells (start .args .r) (search needs) (search needs) (search needs) (search needs))
 

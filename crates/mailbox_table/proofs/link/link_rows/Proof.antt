@@ -50,9 +50,11 @@ loop-less c =
 
 loop-again : tie.Need-loop-again Inv-loop μ-loop
 loop-again c =
-    let at-loop-test = c .before .before .before .before .before .before in
+    let read = c .before .before .before .before .before in
+    let at-loop-test = read .before in
     let turn = at-loop-test .before .loop in
-    rw (c .relinked .ensures) (linking-more (turn .inv) (omega (arith, turn .inv .size, at-loop-test .loop-test .taken)) _ (stepped (c .before)))
+    rw (c .relinked .ensures) (linking-more (turn .inv) (omega (arith, turn .inv .size, at-loop-test .loop-test .taken)) _ (stepped (c .before))
+    (omega (arith, read .slice-known2 .given (turn .i))))
 
 same-length-2 : tie.Need-same-length-2 Inv-loop μ-loop
 same-length-2 c = c .before .loop .inv .size

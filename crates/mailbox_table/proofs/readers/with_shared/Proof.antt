@@ -1,8 +1,7 @@
 -- `mailbox_table::readers::with_shared` meets its contract: the sum is the definition, opened, and the shared bytes lie in the word. By SeenLaws.
 use Rattle.listing_rules.proofs.Prelude.{_≡_, ap, arith, needs}
 use Rattle.mailbox_table.specs.declared.rows.Row.{Row}
-use Rattle.mailbox_table.specs.Words.{rowOfWord}
-use Rattle.mailbox_table.specs.Seen.{withShared}
+use Rattle.mailbox_table.specs.Words.{rowOfWord, withShared}
 use Rattle.mailbox_table.proofs.SeenLaws.{shared-fits, shared-inside, with-fits}
 use Rattle.mailbox_table.proofs.readers.with_shared.Statement.{statement}
 use Rattle.mailbox_table.proofs.readers.with_shared.Tie as tie

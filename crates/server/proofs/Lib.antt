@@ -3,4 +3,6 @@ mod Inputs
 mod Order
 pub mod ReadLaws
 mod EditLaws
+mod EditedLaws
 pub mod AnswerLaws
+mod EditAnswers

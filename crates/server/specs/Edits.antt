@@ -1,46 +1,19 @@
--- What an edit that was read comes to, and what it leaves of words, summary, area and answer buffer.
+-- An edit that was read, and what it comes to.
 use mathlib.Core.Path.{_≡_}
-use mathlib.Core.Bool.{Bool, true, false, cond}
-use mathlib.Core.List.{List, map}
+use mathlib.Core.Bool.{Bool, true, false}
+use mathlib.Core.List.{List}
 use Prim.Native.Nat.{ℕ, _≤_}
-use lib.Dec.{eqb, ltb}
 use lib.ListN.{length, take}
-use Rattle.listing_rules.specs.Table.{passes}
 use Rattle.listing_rules.specs.Command.{Edit, subscribe, unsubscribe, Parsed, editing, parsed}
 use Rattle.listing_rules.specs.Subscriptions.{Store, edited}
 use Rattle.listing_rules.specs.Lines.{okLine}
-use Rattle.listing_rules.specs.Server.{Reply, Commanded, refusal, answered, concluded, bufferAfter, changes}
+use Rattle.listing_rules.specs.Server.{Commanded, answered, concluded, changes}
 use Rattle.listing_rules.specs.Summary.{Summed, SummedCommand, sumsAfter}
-use Rattle.octets.specs.Written.{writtenIs}
-use Rattle.records.specs.Words.{recordOf}
-use Rattle.records.specs.Numbers.{summaryOf}
-use Rattle.records.specs.Lent.{wordsTable}
-use Rattle.records.specs.Stores.{Between}
 use Rattle.command_tokens.specs.Spans.{spanBytes}
 use Rattle.command_line.specs.declared.Kind.{Kind}
 use Rattle.command_line.specs.declared.Kind.the-variants.{List as Listing, Root, Namespace, Lsub, Subscribe, Unsubscribe, Refused}
 use Rattle.command_line.specs.declared.Command.{Command}
 use Rattle.command_line.specs.Commands.{meaning, nameOf, Inside}
-use Rattle.subscriptions.specs.declared.Plan.{Plan}
-use Rattle.subscriptions.specs.declared.Plan.the-variants.{Keep, Flag, Insert, Remove, Refused as Refuses}
-use Rattle.server.specs.declared.Stored.{Stored}
-use Rattle.server.specs.Answering.{Memory}
-
--- Words whose table passes with its summary, and a number for each of them.
-pub record Sound (ws sums : List ℕ) (count : ℕ) (area : List ℕ) : Type 0 where
-  pub table : passes (wordsTable ws count area sums) ≡ true
-  pub sized : length ws ≡ length sums
-
--- the result and every byte, where the edit comes to c and changes a row or does not; the words are the records lent
-pub record Leaves (c : SummedCommand) (changed : Bool) (before after : Memory) (r : Stored) : Type 0 where
-  pub written : r .written ≡ writtenIs (c .reply)
-  pub count : r .count ≡ c .left .store .count
-  pub changed-so : ltb (r .from) (r .to) ≡ changed
-  pub bytes : after .out ≡ bufferAfter (before .out) (c .reply)
-  pub area : after .area ≡ c .left .store .area
-  pub records : map recordOf (after .words) ≡ c .left .store .records
-  pub summary : map summaryOf (after .sums) ≡ c .left .summary
-  pub between : Between (before .words) (after .words) (length (before .words)) (r .from) (r .to)
 
 -- these bytes lie at the front of a buffer, r of them
 pub record Fronts (bs buffer : List ℕ) (r : ℕ) : Type 0 where
@@ -93,18 +66,3 @@ editCommand m line c out =
 
 abbrev pub editChange : Summed → List ℕ → Command → List ℕ → Bool
 editChange m line c out = changes (m .store) (editParsed line c) (editStored (m .store) line c out .reply)
-
--- the same of an edit from a reader: 16 if it is not reader 0
-abbrev pub readerEdit : ℕ → Summed → List ℕ → Command → List ℕ → SummedCommand
-readerEdit reader m line c out = cond (eqb reader 0) (editCommand m line c out) (record { reply = refusal 16; left = m })
-
-abbrev pub editChanges : ℕ → Summed → List ℕ → Command → List ℕ → Bool
-editChanges reader m line c out = cond (eqb reader 0) (editChange m line c out) false
-
--- what is answered to an edit by its plan, if the buffer has room for it
-unfoldable pub planReply : Plan → List ℕ → Reply
-planReply Keep tag = answered (okLine tag)
-planReply (Flag k f) tag = answered (okLine tag)
-planReply (Insert k start) tag = answered (okLine tag)
-planReply (Remove k) tag = answered (okLine tag)
-planReply (Refuses k) tag = refusal k

@@ -46,10 +46,6 @@ rootText tag = rootLine ++ okLine tag
 abbrev pub rootReply : List ℕ → Reply
 rootReply tag = answered (rootText tag)
 
--- to an edit
-abbrev pub okReply : List ℕ → Reply
-okReply tag = answered (okLine tag)
-
 -- to LIST
 abbrev pub listingReply : List ℕ → List ℕ → List ℕ → Command → List ℕ → Reply
 listingReply area words line c tag = answered (listAnswer (rowsAt area words) tag (optionsIs (c .options)) (patternsOf line c))

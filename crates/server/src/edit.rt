@@ -1,28 +1,29 @@
-// SUBSCRIBE and UNSUBSCRIBE: decided, measured, then done.
+// SUBSCRIBE and UNSUBSCRIBE: the name of the line put into a buffer and spelled there, then edited.
 use super::Stored;
-use super::replies::write_ok;
+use super::replies::ok_fits;
 use command_line::Command;
 use command_line::Kind;
 use command_line::put_name;
 use command_tokens::raw;
+use list_line::put_ok_line;
 use names::spell;
 use octets::Written;
 use octets::refusals::READER;
-use subscriptions::Plan;
-use subscriptions::carry_out;
-use subscriptions::decide;
+use subscriptions::Edited;
+use subscriptions::edit;
 ghost use mathlib.Core.Path.{_≡_};
-ghost use mathlib.Core.Bool.{true};
+ghost use mathlib.Core.Bool.{true, _&&_};
 ghost use Prim.Native.Nat.{_≤_};
+ghost use lib.Dec.{eqb};
 ghost use lib.ListN.{length, replicate};
+ghost use Rattle.listing_rules.specs.Namespaces.{namespacesPass};
 ghost use Rattle.listing_rules.specs.Subscriptions.{spelled};
-ghost use Rattle.records.specs.Lent.{wordsSummed};
-ghost use Rattle.command_line.specs.Commands.{Inside, nameOf};
-ghost use Rattle.octets.specs.Written.{Gives};
-ghost use Rattle.server.specs.Answering.{memory};
-ghost use Rattle.server.specs.Edits.{Fronts, planReply, Sound, Leaves, Reads, editKind, subscribeKind, editCommand, editChange, readerEdit, editChanges};
+ghost use Rattle.command_line.specs.Commands.{nameOf};
+ghost use Rattle.octets.specs.declared.Written.the-variants.{Refused};
+ghost use Rattle.server.specs.Answering.{AnswersEdit, memory};
+ghost use Rattle.server.specs.Edits.{Fronts, Reads, editKind, subscribeKind};
 
-// Room for the name of any command line.
+// A buffer for the name of any command line.
 const NAME_ROOM: usize = 2048;
 
 fn no_name() -> [u8; NAME_ROOM]
@@ -71,17 +72,24 @@ fn is_subscribe(kind: Kind) -> bool
     }
 }
 
-// The answer to an edit by its plan: the number of its refusal, or the OK line.
-fn verdict(plan: Plan, tag: &[u8], out: &mut [u8]) -> Written
-    ensures { λ r. ⌜ Gives (planReply plan (now (tag .entry))) (now (out .entry)) (now (out .exit)) r ⌝ }
+// Whether the command is an edit that its reader may make, beside a namespace list that passes: "SUBSCRIBE and UNSUBSCRIBE come from reader 0 alone".
+pub(crate) fn may_edit(kind: Kind, reader: u8, namespaces: &[u8]) -> bool
+    ensures { λ r. ⌜ r ≡ (eqb reader 0 && (editKind kind && namespacesPass (now (namespaces .entry)))) ⌝ }
 {
-    match plan {
-        Plan::Keep => write_ok(tag, out),
-        Plan::Flag(_, _) => write_ok(tag, out),
-        Plan::Insert(_, _) => write_ok(tag, out),
-        Plan::Remove(_) => write_ok(tag, out),
-        Plan::Refused(number) => Written::Refused(number),
+    if reader != 0 {
+        return false;
     }
+    if !is_edit(kind) {
+        return false;
+    }
+    namespace_list::check(namespaces)
+}
+
+// An edit from another reader than 0.
+pub(crate) fn refused_edit(count: usize) -> Stored
+    ensures { λ r. ⌜ r ≡ record { written = Refused 16; count = count; from = 0; to = 0 } ⌝ }
+{
+    unchanged(Written::Refused(READER), count)
 }
 
 // The name of an edit, spelled, at the front of `name`, and its length.
@@ -94,34 +102,8 @@ fn put_spelled(line: &[u8], command: Command, name: &mut [u8]) -> usize
     end
 }
 
-// The edit of a command that was read, over words whose table passes with its summary, a number for each word: 16 for another reader than 0, then 14, 15 and 9, all before any
-// change.
-pub(crate) fn edit_from(
-    words: &mut [u64],
-    sums: &mut [u64],
-    count: usize,
-    reader: u8,
-    area: &mut [u8],
-    line: &[u8],
-    command: Command,
-    out: &mut [u8],
-) -> Stored
-    requires { ⌜ Sound (now words) (now sums) count (now area) ⌝ }
-    requires { ⌜ Reads (now line) command × (editKind (command .kind) ≡ true) ⌝ }
-    ensures { λ r. ⌜ Leaves
-        (readerEdit reader (wordsSummed (now (words .entry)) count (now (area .entry)) (now (sums .entry))) (now (line .entry)) command (now (out .entry)))
-        (editChanges reader (wordsSummed (now (words .entry)) count (now (area .entry)) (now (sums .entry))) (now (line .entry)) command (now (out .entry)))
-        (memory (now (words .entry)) (now (sums .entry)) (now (area .entry)) (now (out .entry)))
-        (memory (now (words .exit)) (now (sums .exit)) (now (area .exit)) (now (out .exit))) r ⌝ }
-{
-    if reader != 0 {
-        return unchanged(Written::Refused(READER), count);
-    }
-    edit(words, sums, count, area, line, command, out)
-}
-
-// That of reader 0: its name is put into a buffer and spelled.
-fn edit(
+// The edit of a line that was read, for reader 0 and beside any namespace list that passes: 1, 14, 15 and 9, all before any change.
+pub(crate) fn edit_line(
     words: &mut [u64],
     sums: &mut [u64],
     count: usize,
@@ -130,49 +112,22 @@ fn edit(
     command: Command,
     out: &mut [u8],
 ) -> Stored
-    requires { ⌜ Sound (now words) (now sums) count (now area) ⌝ }
     requires { ⌜ Reads (now line) command × (editKind (command .kind) ≡ true) ⌝ }
-    ensures { λ r. ⌜ Leaves
-        (editCommand (wordsSummed (now (words .entry)) count (now (area .entry)) (now (sums .entry))) (now (line .entry)) command (now (out .entry)))
-        (editChange (wordsSummed (now (words .entry)) count (now (area .entry)) (now (sums .entry))) (now (line .entry)) command (now (out .entry)))
-        (memory (now (words .entry)) (now (sums .entry)) (now (area .entry)) (now (out .entry)))
-        (memory (now (words .exit)) (now (sums .exit)) (now (area .exit)) (now (out .exit))) r ⌝ }
+    ensures { λ r. ⌜ AnswersEdit (memory (now (words .entry)) (now (sums .entry)) (now (area .entry)) (now (out .entry)))
+        (memory (now (words .exit)) (now (sums .exit)) (now (area .exit)) (now (out .exit))) count (now (line .entry)) r ⌝ }
 {
     let mut name = no_name();
     let n = put_spelled(line, command, &mut name);
-    edit_named(words, sums, count, area, &name[..n], line, command, out)
-}
-
-// That of a name that is at hand, spelled: decided, answered, and only then done.
-fn edit_named(
-    words: &mut [u64],
-    sums: &mut [u64],
-    count: usize,
-    area: &mut [u8],
-    name: &[u8],
-    line: &[u8],
-    command: Command,
-    out: &mut [u8],
-) -> Stored
-    requires { ⌜ Sound (now words) (now sums) count (now area) ⌝ }
-    requires { ⌜ Inside (now line) command ⌝ }
-    requires { ⌜ now name ≡ spelled (nameOf (now line) command) ⌝ }
-    ensures { λ r. ⌜ Leaves
-        (editCommand (wordsSummed (now (words .entry)) count (now (area .entry)) (now (sums .entry))) (now (line .entry)) command (now (out .entry)))
-        (editChange (wordsSummed (now (words .entry)) count (now (area .entry)) (now (sums .entry))) (now (line .entry)) command (now (out .entry)))
-        (memory (now (words .entry)) (now (sums .entry)) (now (area .entry)) (now (out .entry)))
-        (memory (now (words .exit)) (now (sums .exit)) (now (area .exit)) (now (out .exit))) r ⌝ }
-{
     let kind = command.kind;
     let subscribe = is_subscribe(kind);
-    let lent = words.len();
-    let plan = decide(area, &words[..count], lent, subscribe, name);
-    match verdict(plan, raw(line, command.tag), out) {
-        Written::Refused(number) => unchanged(Written::Refused(number), count),
-        Written::Done(length) => {
-            let change = carry_out(plan, words, sums, count, area, name);
+    let tag = raw(line, command.tag);
+    let fits = ok_fits(tag, out.len());
+    match edit(words, sums, count, area, subscribe, &name[..n], fits) {
+        Edited::Refused(number) => unchanged(Written::Refused(number), count),
+        Edited::Done(change) => {
+            let end = put_ok_line(out, 0, tag);
             Stored {
-                written: Written::Done(length),
+                written: Written::Done(end),
                 count: change.count,
                 from: change.from,
                 to: change.to,

@@ -4,15 +4,18 @@
 //
 // Refusals in the papers' order: a reader above 7 16, the table 1, the namespace list 2, the command 3 to 8, an edit from another reader
 // than 0 16, an edit 14 and 15, the length of the answer 9.
-// An answer is measured before a byte is written, and an edit is decided before it is done, so a refusal changes no byte and no record.
+// An answer is measured before a byte is written, and an edit is decided before it is done, so a refusal changes no byte and no record. An edit makes
+// check 1 itself (`subscriptions::edit`); for every other command it is made here.
 mod edit;
 mod packed;
 mod reading;
 mod replies;
 
 use command_line::read_command;
-use edit::edit_from;
+use edit::edit_line;
 use edit::is_edit;
+use edit::may_edit;
+use edit::refused_edit;
 use edit::unchanged;
 use mailbox_table::Indexing;
 use mailbox_table::MAX_READER;
@@ -28,8 +31,6 @@ pub use reading::read_words;
 use reading::respond;
 use records::no_words;
 use summary::index_summed;
-ghost use lib.ListN.{length};
-ghost use Rattle.records.specs.Stores.{wordCommand};
 ghost use Rattle.server.specs.Answering.{Answers, memory};
 
 // What a command comes to: the length of its answer or the number of its refusal, how many words are rows now, and the
@@ -55,14 +56,17 @@ pub fn answer_words(
     line: &[u8],
     out: &mut [u8],
 ) -> Stored
-    ensures { λ r. ⌜ Answers
-        (wordCommand (now (words .entry)) (length (now (words .entry))) count reader (now (area .entry)) (now (sums .entry))
-        (now (namespaces .entry)) (now (line .entry)) (now (out .entry)))
-        (memory (now (words .entry)) (now (sums .entry)) (now (area .entry)) (now (out .entry)))
-        (memory (now (words .exit)) (now (sums .exit)) (now (area .exit)) (now (out .exit))) r ⌝ }
+    ensures { λ r. ⌜ Answers (memory (now (words .entry)) (now (sums .entry)) (now (area .entry)) (now (out .entry)))
+        (memory (now (words .exit)) (now (sums .exit)) (now (area .exit)) (now (out .exit)))
+        count reader (now (namespaces .entry)) (now (line .entry)) r ⌝ }
 {
     if MAX_READER < reader {
         return unchanged(Written::Refused(READER), count);
+    }
+    let command = read_command(line);
+    let kind = command.kind;
+    if may_edit(kind, reader, namespaces) {
+        return edit_line(words, sums, count, area, line, command, out);
     }
     let mut rows = no_words();
     let n = least(words.len(), sums.len());
@@ -72,19 +76,8 @@ pub fn answer_words(
     if !namespace_list::check(namespaces) {
         return unchanged(Written::Refused(NAMESPACES), count);
     }
-    let command = read_command(line);
-    let kind = command.kind;
     if is_edit(kind) {
-        return edit_from(
-            &mut words[..n],
-            &mut sums[..n],
-            count,
-            reader,
-            area,
-            line,
-            command,
-            out,
-        );
+        return refused_edit(count);
     }
     let seen = see_rows(&mut rows[..m], reader);
     let written = respond(area, &rows[..seen], namespaces, line, command, out);

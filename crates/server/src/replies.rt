@@ -10,12 +10,14 @@ use octets::Written;
 use octets::refusals::SHORT_BUFFER;
 ghost use mathlib.Core.Path.{_≡_};
 ghost use Prim.Native.Nat.{_≤_};
+ghost use lib.Dec.{leb};
 ghost use lib.ListN.{length, replicate};
+ghost use Rattle.listing_rules.specs.Lines.{okLine};
 ghost use Rattle.octets.specs.Put.{Put};
 ghost use Rattle.octets.specs.Written.{Gives};
 ghost use Rattle.command_line.specs.Commands.{patternsOf, Few};
 ghost use Rattle.mailbox_table.specs.Index.{Index};
-ghost use Rattle.server.specs.Replies.{spacesText, spacesReply, rootText, rootReply, okReply, listingReply, subscriptionsReply};
+ghost use Rattle.server.specs.Replies.{spacesText, spacesReply, rootText, rootReply, listingReply, subscriptionsReply};
 
 // The NAMESPACE answer.
 fn put_spaces(buf: &mut [u8], namespaces: &[u8], tag: &[u8]) -> usize
@@ -57,20 +59,16 @@ pub(crate) fn write_root(tag: &[u8], out: &mut [u8]) -> Written
     Written::Done(end)
 }
 
-// The tagged line alone: the answer to an edit.
-pub(crate) fn write_ok(tag: &[u8], out: &mut [u8]) -> Written
-    ensures { λ r. ⌜ Gives (okReply (now (tag .entry))) (now (out .entry)) (now (out .exit)) r ⌝ }
+// Whether the tagged line alone, the answer to an edit, fits a buffer of this size.
+pub(crate) fn ok_fits(tag: &[u8], size: usize) -> bool
+    ensures { λ r. ⌜ r ≡ leb (length (okLine (now (tag .entry)))) size ⌝ }
 {
     let mut none = [0u8; 0];
     let need = put_ok_line(&mut none, 0, tag);
-    if out.len() < need {
-        return Written::Refused(SHORT_BUFFER);
-    }
-    let end = put_ok_line(out, 0, tag);
-    Written::Done(end)
+    need <= size
 }
 
-// Room for eight canonical patterns, each with a length byte.
+// A buffer for eight canonical patterns, each with a length byte.
 fn no_patterns() -> [u8; 2048]
     ensures { λ r. ⌜ r ≡ replicate 2048 0 ⌝ }
 {

@@ -14,3 +14,4 @@ mod ResumLaws
 pub mod MeantLaws
 pub mod SumLaws
 pub mod PlanSums
+pub mod EditingLaws

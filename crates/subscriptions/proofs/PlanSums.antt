@@ -361,6 +361,9 @@ module _ (ws : List ℕ) (count : ℕ) (area sums : List ℕ) (h : passes (store
       kept : length (take count ws) ≡ count
       kept = length-take-le count ws (omega (arith, parts .counted, length-map ws recordOf))
 
+  pub plan-sums-fit : (b : Bool) (n : List ℕ) → SumsFit (planFor (map recordOf (take count ws)) (length ws) area b n) sums (take count ws) area n
+  plan-sums-fit b n = sums-fit area ws sums count h agree-words n (length ws) (λ l. omega (arith, l, sized)) b
+
   pub plan-keeps : (e : Edit) → KeepsSums ws count area sums e (planOf ws count area e)
   unfolding subscribes editedName sumsEdited changes
   plan-keeps (subscribe n) =

@@ -5,3 +5,4 @@ pub mod Applied
 pub mod Resums
 pub mod Summed
 pub mod Stored
+pub mod Editing

@@ -20,7 +20,7 @@ use Rattle.listing_rules.proofs.SummaryLaws.{afresh-length}
 use Rattle.octets.specs.Put.{Put}
 use Rattle.octets.proofs.Clearing.{drop-zeros}
 use Rattle.octets.proofs.Puts.{sets-append}
-use Rattle.records.specs.Words.{recordOf, meant}
+use Rattle.records.specs.Words.{recordOf, meant, cellOf, wordOf}
 use Rattle.records.specs.Numbers.{summaryOf}
 use Rattle.records.specs.Lent.{wordTable, wordStore}
 use Rattle.summary.specs.Counts.{numberedTable}
@@ -39,6 +39,7 @@ pub record Placing (table ws₀ a₀ ws a : List ℕ) (at i : ℕ) : Type 0 wher
   pub size : length ws ≡ length ws₀
   pub left : drop i ws ≡ drop i ws₀
   pub records : map recordOf (take i ws) ++ recordsFrom at (map recordOf (drop i ws₀)) ≡ recordsFrom 0 (map recordOf ws₀)
+  pub cells : take i ws ++ map cellOf (recordsFrom at (map recordOf (drop i ws₀))) ≡ map cellOf (recordsFrom 0 (map recordOf ws₀))
   pub done : List ℕ
   pub bytes : a ≡ sets a₀ 0 done
   pub place : at ≡ length done
@@ -46,7 +47,7 @@ pub record Placing (table ws₀ a₀ ws a : List ℕ) (at i : ℕ) : Type 0 wher
 
 pub placing-none : (table ws a : List ℕ) → Placing table ws a ws a 0 0
 placing-none table ws a =
-    record { inside = omega arith; size = refl; left = refl; records = refl; done = []; bytes = refl; place = refl; named = refl }
+    record { inside = omega arith; size = refl; left = refl; records = refl; cells = refl; done = []; bytes = refl; place = refl; named = refl }
 
 -- the name of a word's row, which is short
 name-is : (table : List ℕ) (w : ℕ) (row : CodeRow) (n : List ℕ) → row ≡ rowOfWord w → n ≡ take (row .len) (drop (row .start) table) →
@@ -90,11 +91,11 @@ module _ {table ws₀ a₀ ws a : List ℕ} {at i : ℕ} (p : Placing table ws�
       name-size table (getD ws i 0) (subst (λ (w : ℕ). rowOfWord w .start + rowOfWord w .len ≤ length table) same (inside i few))
 
   -- a name more: its word tells the record at the place, and the bytes lie there
-  grows : i < length ws → (a′ : List ℕ) (v at′ : ℕ) → recordOf v ≡ placedAt at (recordOf (getD ws i 0)) → Short (rowsAt table ws₀) →
-      Inside table ws₀ →
+  grows : i < length ws → (a′ : List ℕ) (v at′ : ℕ) → recordOf v ≡ placedAt at (recordOf (getD ws i 0)) →
+      v ≡ cellOf (placedAt at (recordOf (getD ws i 0))) → Short (rowsAt table ws₀) → Inside table ws₀ →
       Put a a′ at (nameAt table (getD ws i 0)) at′ → Placing table ws₀ a₀ (set ws i v) a′ at′ (i + 1)
   unfolding recordsFrom joined names
-  grows h a′ v at′ told short inside put =
+  grows h a′ v at′ told exact short inside put =
       let name = nameAt table (getD ws i 0) in
       let rest = rowsAt table (drop (i + 1) ws₀) in
       let cut = ap (rowsAt table) (next h) in
@@ -118,6 +119,12 @@ module _ {table ws₀ a₀ ws a : List ℕ} {at i : ℕ} (p : Placing table ws�
             ∙ (λ j. before ++ (told j ∷ recordsFrom (after j) later))
             ∙ sym (ap (λ (l : List ℕ). before ++ recordsFrom at (map recordOf l)) (next h))
             ∙ p .records;
+        cells =
+            ap (λ (l : List ℕ). l ++ map cellOf (recordsFrom at′ later)) (ap (λ (k : ℕ). take k (set ws i v)) one ∙ take-suc-set ws i v h)
+            ∙ append-assoc (take i ws) (v ∷ []) (map cellOf (recordsFrom at′ later))
+            ∙ (λ j. take i ws ++ (exact j ∷ map cellOf (recordsFrom (after j) later)))
+            ∙ sym (ap (λ (l : List ℕ). take i ws ++ map cellOf (recordsFrom at (map recordOf l))) (next h))
+            ∙ p .cells;
         done = p .done ++ name;
         bytes = put .bytes ∙ (λ j. sets (p .bytes j) (here j) name) ∙ sym (sets-append a₀ 0 (p .done) name);
         place = omega (arith, far, p .place, length-append (p .done) name);
@@ -127,15 +134,19 @@ module _ {table ws₀ a₀ ws a : List ℕ} {at i : ℕ} (p : Placing table ws�
   pub placing-more : i < length ws → Short (rowsAt table ws₀) → Inside table ws₀ → (row : CodeRow) (n a′ : List ℕ) (readers v at′ : ℕ) →
       row ≡ rowOfWord (getD ws i 0) → n ≡ take (row .len) (drop (row .start) table) → readers ≡ recordOf (getD ws i 0) .readers →
       recordOf v ≡ meant (record { flags = row .flags .bits; start = at; len = length n; readers = readers }) →
+      v ≡ wordOf (record { flags = row .flags .bits; start = at; len = length n; readers = readers }) →
       Put a a′ at n at′ → Placing table ws₀ a₀ (set ws i v) a′ at′ (i + 1)
-  unfolding meant
-  placing-more h short inside row n a′ readers v at′ read named who told put =
+  unfolding meant wordOf
+  placing-more h short inside row n a′ readers v at′ read named who told exact put =
       let is = name-is table (getD ws i 0) row n read named in
       let flags : row .flags .bits ≡ recordOf (getD ws i 0) .flags = unfold rowOfWord recordOf in ap (λ (r : CodeRow). r .flags .bits) read in
       let size = ap length is ∙ next-size h inside in
-      grows h a′ v at′ (told ∙ (λ j. record { flags = flags j; start = at; len = size j; readers = who j })) short inside (rw is at put)
+      let placed : _≡_ {A = Meant} (record { flags = row .flags .bits; start = at; len = length n; readers = readers }) (placedAt at (recordOf (getD ws i 0)))
+      = λ j. record { flags = flags j; start = at; len = size j; readers = who j } in
+      grows h a′ v at′ (told ∙ placed) (exact ∙ ap cellOf placed) short inside (rw is at put)
 
   pub placing-all : length ws ≤ i → (map recordOf ws ≡ recordsFrom 0 (map recordOf ws₀)) × (a ≡ sets a₀ 0 (joined (names (rowsAt table ws₀))))
+      × (ws ≡ map cellOf (recordsFrom 0 (map recordOf ws₀)))
   unfolding recordsFrom joined names
   placing-all h =
       let none : drop i ws₀ ≡ [] = drop-of-length-le ws₀ {i = i} (omega (arith, p .size)) in
@@ -143,7 +154,8 @@ module _ {table ws₀ a₀ ws a : List ℕ} {at i : ℕ} (p : Placing table ws�
       (ap (λ (l : List ℕ). p .done ++ joined (names (rowsAt table l))) none) ∙ p .named in
       let told = sym (append-nil (map recordOf (take i ws))) ∙ sym
       (ap (λ (l : List ℕ). map recordOf (take i ws) ++ recordsFrom at (map recordOf l)) none) ∙ p .records in
-      (sym (ap (map recordOf) (take-all i ws h)) ∙ told, p .bytes ∙ ap (sets a₀ 0) named)
+      let exact = sym (append-nil (take i ws)) ∙ sym (ap (λ (l : List ℕ). take i ws ++ map cellOf (recordsFrom at (map recordOf l))) none) ∙ p .cells in
+      (sym (ap (map recordOf) (take-all i ws h)) ∙ told, p .bytes ∙ ap (sets a₀ 0) named, sym (take-all i ws h) ∙ exact)
 
 -- Words copied one by one.
 pub copied-more : (d s : List ℕ) (i : ℕ) → i < length s → length s ≤ length d → set (paste d 0 s i) i (getD s i 0) ≡ paste d 0 s (i + 1)
@@ -182,8 +194,22 @@ records-filled m n vs rs told size few =
     ∙ map-append recordOf vs zs
     ∙ (λ i. told i ++ rest i)
 
+-- the words of these records, and zeros after them up to m
+zero-cells : (n : ℕ) → zeros n ≡ map cellOf (replicate n zeroRecord)
+unfolding cellOf zeroRecord
+zero-cells zero = refl
+zero-cells (suc n) = ap (λ (l : List ℕ). 0 ∷ l) (zero-cells n)
+
+cells-filled : (m n : ℕ) (vs : List ℕ) (rs : List Meant) → vs ≡ map cellOf rs → length rs ≡ n → vs ++ drop n (zeros m) ≡ map cellOf (filledTo m zeroRecord rs)
+unfolding filledTo
+cells-filled m n vs rs exact size =
+    let w : m - n ≡ m - length rs = omega (arith, size) in
+    let rest : drop n (zeros m) ≡ map cellOf (replicate (m - length rs) zeroRecord) = drop-zeros m n ∙ zero-cells (m - n) ∙ ap
+    (λ (k : ℕ). map cellOf (replicate k zeroRecord)) w in
+    (λ i. exact i ++ rest i) ∙ sym (map-append cellOf rs (replicate (m - length rs) zeroRecord))
+
 -- A table's index, with room for 512 rows, where its rows are found.
-module _ {t ws us : List ℕ} {r : Indexing} (x : Indexes t (packedTable t) (packedRecords t) ws us r) (h : length ws ≡ 512) (n : ℕ)
+module _ {t cells ws us : List ℕ} {r : Indexing} (x : Indexes t (packedTable t) (packedRecords t) cells ws us r) (h : length ws ≡ 512) (n : ℕ)
     (e : r ≡ Rows n) where
   held : Held x n
   held = index-held x n e
@@ -199,9 +225,9 @@ module _ {t ws us : List ℕ} {r : Indexing} (x : Indexes t (packedTable t) (pac
 
   -- the names placed, and zeros after them
   pub lays-rows : (a b vs : List ℕ) → Blank t ws a → map recordOf vs ≡ recordsFrom 0 (map recordOf (take n us)) →
-      b ≡ sets a 0 (joined (names (rowsAt t (take n us)))) → Lays t (vs ++ drop n us) b (Rows n)
+      b ≡ sets a 0 (joined (names (rowsAt t (take n us)))) → vs ≡ map cellOf (recordsFrom 0 (map recordOf (take n us))) → Lays t (vs ++ drop n us) b (Rows n)
   unfolding programStore names
-  lays-rows a b vs blank told put =
+  lays-rows a b vs blank told put exact =
       let rs = packedRecords t in
       let recorded = told ∙ ap (recordsFrom 0) (held .told) in
       let number : n ≡ length rs = held .size ∙ sym (length-map (take n us) recordOf) ∙ ap length (held .told) in
@@ -213,7 +239,9 @@ module _ {t ws us : List ℕ} {r : Indexing} (x : Indexes t (packedTable t) (pac
       (count-from 0 rs ∙ sym number) few in
       let area-is = put ∙ (λ i. sets (blank .area i) 0 (named i)) ∙ names-filled 16384 (joined (names (packedRows t)))
       (omega (arith, blank .table, packed-rows-fit t)) in
-      (held .table-passes, λ i. record { records = records-are i; count = number i; area = area-is i })
+      let cells-are = ap (λ (l : List ℕ). vs ++ l) spare ∙ cells-filled 512 n vs (recordsFrom 0 rs) (exact ∙ ap
+      (λ (l : List Meant). map cellOf (recordsFrom 0 l)) (held .told)) (count-from 0 rs ∙ sym number) in
+      (held .table-passes, (λ i. record { records = records-are i; count = number i; area = area-is i }), cells-are)
 
 -- no more rows than records
 pub laid-few : (t ws a : List ℕ) (count : ℕ) → Lays t ws a (Rows count) → count ≤ 512

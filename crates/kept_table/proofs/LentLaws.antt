@@ -1,7 +1,7 @@
 -- Laws of the lent memory: lines of output and their lengths, the tests of its sizes, the parts that hold what is stored, records and summary put
 -- there, and a frame that only says a line.
 use Rattle.listing_rules.proofs.Prelude.{_∙_, _≡_, ap, refl, sym, List, [], _++_, _∷_, append-nil, _*_, _+_, _≤_, ℕ, arith, drop, drop-of-length-le}
-use Rattle.listing_rules.proofs.Prelude.{length, length-append, length-drop, take, drop-at, drop-drop, length-take-le, paste, take-at, take-length}
+use Rattle.listing_rules.proofs.Prelude.{length, length-append, length-drop, take, drop-at, drop-drop, length-take-le, paste, take-append-drop, take-at, take-length}
 use Rattle.listing_rules.proofs.Prelude.{_&&_, true, leb, le-leb, leb-true}
 use Rattle.listing_rules.proofs.Bools.{and-i, and-l, and-r}
 use Rattle.listing_rules.specs.Frames.{hex, answerLine, refusalLine, answering}
@@ -121,6 +121,13 @@ copied-sums sums numbers copied hs hn e =
     let is = e ∙ copied-all sums (take 512 (drop 512 numbers)) hs hn in
     let rest = drop-drop 512 512 numbers in
     λ i. take 512 numbers ++ (is i ++ rest i)
+
+-- records, summary and what follows are all the numbers
+pub whole-numbers : (numbers : List ℕ) → numbersWith (take 512 numbers) (take 512 (drop 512 numbers)) numbers ≡ numbers
+whole-numbers numbers =
+    let rest : take 512 (drop 512 numbers) ++ drop 1024 numbers ≡ drop 512 numbers = ap (λ (l : List ℕ). take 512 (drop 512 numbers) ++ l)
+    (sym (drop-drop 512 512 numbers)) ∙ take-append-drop 512 (drop 512 numbers) in
+    ap (λ (l : List ℕ). take 512 numbers ++ l) rest ∙ take-append-drop 512 numbers
 
 -- a frame that only says a line
 module _ (d : Lent) (n : Lengths) (rows : n .table ≤ 16384) (entries : n .namespaces ≤ 1024) where

@@ -5,11 +5,11 @@ use Rattle.listing_rules.proofs.Prelude.{append-nil, map, min, _+_, _<_, _≤_,
 use Rattle.listing_rules.proofs.Prelude.{length-take, take, drop-at, length-take-le, sets, sets-eq, take-all, take-at, take-take, le-leb, lt-leb}
 use Rattle.listing_rules.specs.Table.{Table, passes, packedTable}
 use Rattle.listing_rules.specs.Readers.{isReader, packedSeen}
-use Rattle.listing_rules.specs.Command.{isEdit, parsed}
+use Rattle.listing_rules.specs.Command.{Parsed, refused, namespace, listing, rootOf, subscriptions, editing, isEdit, parsed}
 use Rattle.listing_rules.specs.Subscriptions.{Store, storeTable}
 use Rattle.listing_rules.specs.Server.{Reply, refusal, answered, isAnswered, limited, answer, served, fromReader, servedTo, bufferAfter, Commanded}
 use Rattle.listing_rules.specs.Server.{unchangedBy, concluded, commandedOver, commanded}
-use Rattle.listing_rules.specs.Summary.{Summed, agrees, sumsAfter, summedOver, SummedCommand, summedCommand, countedFirst}
+use Rattle.listing_rules.specs.Summary.{Summed, agrees, sumsAfter, summedSeen, summedOver, SummedCommand, summedCommand, countedFirst}
 use Rattle.listing_rules.specs.Frames.{Kept, bytes, records, Stored, Stepped, answering, answerLine, refusalLine, replyLine, programStore}
 use Rattle.listing_rules.specs.Frames.{programSummed, keptSeen, keptSummed, commandOver, accepted, commandStep}
 use Rattle.listing_rules.proofs.EditPasses.{store-parts}
@@ -18,21 +18,22 @@ use Rattle.listing_rules.proofs.SummaryCommands.{untouched, refused-sums, read-
 use Rattle.listing_rules.proofs.SummaryCommands.{store-with}
 use Rattle.listing_rules.proofs.CommandLaws.{refused-leaves, read-leaves, read-answered, table-refused, unsound-ends, command-passes}
 use Rattle.listing_rules.proofs.ReaderLaws.{packed-seen-passes}
+use Rattle.listing_rules.proofs.ReplayLaws.{not-accepted-leaves}
 use Rattle.octets.specs.Put.{Put}
 use Rattle.octets.specs.Written.{writtenIs}
 use Rattle.octets.specs.declared.Written.{Written}
 use Rattle.octets.specs.declared.Written.the-variants.{Done, Refused}
-use Rattle.records.specs.Words.{recordOf}
-use Rattle.records.specs.Numbers.{summaryOf}
+use Rattle.records.specs.Words.{recordOf, cellOf}
+use Rattle.records.specs.Numbers.{summaryWord, summaryOf}
 use Rattle.records.specs.Lent.{wordStore, lentOf, wordSummed}
-use Rattle.records.specs.Stores.{wordCommand}
+use Rattle.summary.proofs.AgreeLaws.{word-of-told}
 use Rattle.server.specs.declared.Stored.{Stored as Answered}
-use Rattle.server.specs.Answering.{memory, Answers}
+use Rattle.server.specs.Answering.{memory, wordsLeft, Answers}
 use Rattle.kept_table.specs.declared.Lengths.{Lengths}
 use Rattle.kept_table.specs.declared.outcome.Outcome.{Outcome}
-use Rattle.kept_table.specs.Kept.{Lent, lent, summedIn, numbersWith, keptAs, keptIn, storedIn, Within, isWithin, lengthsIs, outcomeIs, Says}
-use Rattle.kept_table.specs.Commanding.{commandLine, writtenLine, answerLength, Fits, Obeys, ObeysLent}
-use Rattle.kept_table.proofs.LentLaws.{length-line, says, says-refusal, whole-area, with-words, with-sums, with-rest, with-over, carries-said}
+use Rattle.kept_table.specs.Kept.{Lent, lent, summedIn, numbersWith, keptAs, keptIn, storedIn, Within, isWithin, lengthsIs, outcomeIs, Says, Carries}
+use Rattle.kept_table.specs.Commanding.{commandLine, writtenLine, answerLength, Fits, cellsOf, numbersAfter, Obeys, ObeysLent}
+use Rattle.kept_table.proofs.LentLaws.{length-line, says, says-refusal, whole-area, with-words, with-sums, with-rest, with-over, whole-numbers, carries-said}
 
 -- The line of an answer that lies in its buffer.
 module _ {w : Written} {a : List ℕ} (f : Fits w a) where
@@ -107,7 +108,7 @@ module _ (ws sums area b : List ℕ) (count reader : ℕ) (spaces l : List ℕ) 
   came-over = ap (λ (m : Summed). summedCommand reader m spaces l b) all-summed
 
   pub came : {vs ss us e : List ℕ} {r : Answered} →
-      Answers (wordCommand ws (length ws) count reader area sums spaces l b) (memory ws sums area b) (memory vs ss us e) r →
+      Answers (memory ws sums area b) (memory vs ss us e) count reader spaces l r →
       Came (summedCommand reader (record { store = wordStore ws 512 count area; summary = map summaryOf sums }) spaces l b) b vs ss us e r
   came {vs} {ss} {us} {e} {r} x =
       let lent-all : min (length ws) (length sums) ≡ 512 = omega (arith, hw, hs) in
@@ -118,13 +119,71 @@ module _ (ws sums area b : List ℕ) (count reader : ℕ) (spaces l : List ℕ) 
       (omega (arith, every-lent, length-map sums summaryOf, hs)) in
       record {
         written = x .written ∙ ap (λ (c : SummedCommand). writtenIs (c .reply)) came-over;
-        count = x .count ∙ ap (λ (c : SummedCommand). c .left .store .count) came-over;
+        count = x .count-is ∙ ap (λ (c : SummedCommand). c .left .store .count) came-over;
         bytes = x .bytes ∙ ap (λ (c : SummedCommand). bufferAfter b (c .reply)) came-over;
-        area = x .area ∙ ap (λ (c : SummedCommand). c .left .store .area) came-over;
+        area = x .area-is ∙ ap (λ (c : SummedCommand). c .left .store .area) came-over;
         records = sym (ap (map recordOf) words) ∙ x .records ∙ ap (λ (c : SummedCommand). c .left .store .records) came-over;
         summary = x .summary ∙ (λ i. came-over i .left .summary ++ none-left i) ∙ append-nil (summedCommand reader all spaces l b .left .summary);
         size = size;
       }
+
+  pub came-words : {vs ss us e : List ℕ} {r : Answered} →
+      Answers (memory ws sums area b) (memory vs ss us e) count reader spaces l r →
+      vs ≡ wordsLeft (parsed l)
+      (summedCommand reader (record { store = wordStore ws 512 count area; summary = map summaryOf sums }) spaces l b .reply) ws 512 count area
+  came-words x =
+      let lent-all : min (length ws) (length sums) ≡ 512 = omega (arith, hw, hs) in
+      x .words ∙ (λ i. wordsLeft (parsed l) (came-over i .reply) ws (lent-all i) count area)
+
+-- A command that is no accepted edit leaves the words, and every number.
+left-unaccepted : (p : Parsed) (r : Reply) (ws : List ℕ) (lent count : ℕ) (area : List ℕ) → accepted p r ≡ false → wordsLeft p r ws lent count area ≡ ws
+unfolding accepted isEdit isAnswered wordsLeft
+left-unaccepted (editing tag e) (answered a) ws lent count area h = absurd (false≢true (sym h))
+left-unaccepted (editing tag e) (refusal k) ws lent count area h = refl
+left-unaccepted (refused k) r ws lent count area h = refl
+left-unaccepted (namespace tag) r ws lent count area h = refl
+left-unaccepted (listing tag o ps) r ws lent count area h = refl
+left-unaccepted (rootOf tag) r ws lent count area h = refl
+left-unaccepted (subscriptions tag ps) r ws lent count area h = refl
+
+read-unaccepted : (p : Parsed) (r : Reply) → isEdit p ≡ false → accepted p r ≡ false
+unfolding accepted
+read-unaccepted p r e = rw e
+
+refused-unaccepted : (p : Parsed) (r : Reply) (j : ℕ) → r ≡ refusal j → accepted p r ≡ false
+unfolding accepted isAnswered
+refused-unaccepted p r j e = rw e (and-false (isEdit p))
+
+accepted-so : (p : Parsed) (r : Reply) → isEdit p ≡ true → isAnswered r ≡ true → accepted p r ≡ true
+unfolding accepted
+accepted-so p r e a = rw (e, a)
+
+bytes-summed : (t : List ℕ) → programSummed t ≡ keptSummed (bytes t)
+unfolding keptSummed
+bytes-summed t = refl
+
+records-summed : (m : Summed) → m ≡ keptSummed (records m)
+unfolding keptSummed
+records-summed m = refl
+
+numbers-stay : (s : Stored) (reader : ℕ) (l numbers : List ℕ) → accepted (parsed l) (commandOver reader (s .table) (s .namespaces) l .reply) ≡ false
+    → numbers ≡ numbersAfter s reader l numbers
+unfolding numbersAfter
+numbers-stay s reader l numbers h = rw h
+
+-- the numbers of a summary, from what they tell
+told-numbers : (ss : List ℕ) → map summaryWord (map summaryOf ss) ≡ ss
+told-numbers [] = refl
+told-numbers (w ∷ ss) = λ i. word-of-told w i ∷ told-numbers ss i
+
+-- an accepted edit: the words that it leaves, and their summary
+numbers-made : (s : Stored) (reader : ℕ) (l numbers vs ss : List ℕ) (c : SummedCommand) → commandOver reader (s .table) (s .namespaces) l ≡ c
+    → accepted (parsed l) (c .reply) ≡ true
+    → vs ≡ wordsLeft (parsed l) (c .reply) (cellsOf (s .table) numbers) 512 (keptSummed (s .table) .store .count) (keptSummed (s .table) .store .area)
+    → map summaryOf ss ≡ c .left .summary → numbersWith vs ss numbers ≡ numbersAfter s reader l numbers
+unfolding numbersAfter
+numbers-made s reader l numbers vs ss c over h words sums =
+    rw (over, h) (λ i. numbersWith (words i) ((sym (told-numbers ss) ∙ ap (map summaryWord) sums) i) numbers)
 
 -- What a command leaves stored: the same where it is no edit or is refused, else the records with their summary that the edit leaves.
 module _ (s : Stored) (reader : ℕ) (l : List ℕ) where
@@ -308,15 +367,24 @@ module _ (d : Lent) (n : Lengths) (x : Within n (d .table) (d .records) (d .name
       Says (commandLine reader (bytes packed) spaces l) (d .out) o k →
       Obeys n reader l d (lent (d .table) (d .records) (d .namespaces) o) (outcomeIs n k)
   obeys-read o k e r s =
-      rw (step-read (storedIn d n) reader l r) (carries-said d n (x .held .rows) (x .entries) (commandLine reader (keptIn d n) spaces l) o k
-      (rw (kept-bytes e) s))
+      record {
+        carried =
+            rw (step-read (storedIn d n) reader l r) (carries-said d n (x .held .rows) (x .entries) (commandLine reader (keptIn d n) spaces l) o k
+            (rw (kept-bytes e) s));
+        numbers = numbers-stay (storedIn d n) reader l (d .records) (read-unaccepted (parsed l) _ r);
+      }
 
   pub obeys-refused : (j : ℕ) (o : List ℕ) (k : ℕ) → n .edited ≡ false → commandOver reader (bytes packed) spaces l .reply ≡ refusal j →
       Says (commandLine reader (bytes packed) spaces l) (d .out) o k →
       Obeys n reader l d (lent (d .table) (d .records) (d .namespaces) o) (outcomeIs n k)
   obeys-refused j o k e r s =
-      rw (step-refused (storedIn d n) reader l j (rw (kept-bytes e) r))
-      (carries-said d n (x .held .rows) (x .entries) (commandLine reader (keptIn d n) spaces l) o k (rw (kept-bytes e) s))
+      let refused-so : commandOver reader (keptIn d n) spaces l .reply ≡ refusal j = rw (kept-bytes e) r in
+      record {
+        carried =
+            rw (step-refused (storedIn d n) reader l j refused-so)
+            (carries-said d n (x .held .rows) (x .entries) (commandLine reader (keptIn d n) spaces l) o k (rw (kept-bytes e) s));
+        numbers = numbers-stay (storedIn d n) reader l (d .records) (refused-unaccepted (parsed l) _ j refused-so);
+      }
 
   obeys-number : (j : ℕ) (o : List ℕ) (k : ℕ) → n .edited ≡ false → commandOver reader (bytes packed) spaces l .reply ≡ refusal j →
       Put (d .out) o 0 (refusalLine j) k →
@@ -342,7 +410,7 @@ module _ (d : Lent) (n : Lengths) (x : Within n (d .table) (d .records) (d .name
         commandStep (storedIn d n) reader l ≡ record
         { stored = record { table = records (c .left); namespaces = spaces }; output = replyLine (c .reply) }
         → c .left .store .count ≤ 16384 → Says (replyLine (c .reply)) (d .out) o k
-        → Obeys n reader l d (lent (us ++ drop 16384 (d .table)) (numbersWith vs ss (d .records)) (d .namespaces) o)
+        → Carries (commandStep (storedIn d n) reader l) d (lent (us ++ drop 16384 (d .table)) (numbersWith vs ss (d .records)) (d .namespaces) o)
         (outcomeIs (lengthsIs (c .left .store .count) (n .namespaces) true) k)
     obeys-kept o k step few s =
         let area-is = take-at us (drop 16384 (d .table)) 16384 hu ∙ area in
@@ -371,33 +439,73 @@ module _ (d : Lent) (n : Lengths) (x : Within n (d .table) (d .records) (d .name
     abbrev held : Summed
     held = record { store = wordStore (take 512 (d .records)) 512 (n .table) (take 16384 (d .table)); summary = map summaryOf sums }
 
+    kept-as : keptIn d n ≡ records held
+    kept-as =
+        let again = sym (take-take 512 512 (d .records) (omega arith)) in
+        let was = sym are in
+        kept-records e ∙ (λ i. records (record
+        { store = record { records = map recordOf (again i); count = n .table; area = take 16384 (d .table) }; summary = map summaryOf (was i) }))
+
     stored-as : commandStep (storedIn d n) reader l ≡ record {
       stored = record { table = records (summedCommand reader held spaces l b .left); namespaces = spaces };
       output = replyLine (summedCommand reader held spaces l b .reply);
     }
-    stored-as =
-        let again = sym (take-take 512 512 (d .records) (omega arith)) in
-        let was = sym are in
-        let kept : keptIn d n ≡ records held = kept-records e ∙
-        (λ i. records (record
-        { store = record { records = map recordOf (again i); count = n .table; area = take 16384 (d .table) }; summary = map summaryOf (was i) })) in
-        (λ i. commandStep (record { table = kept i; namespaces = spaces }) reader l) ∙ step-records reader held spaces l b size
+    stored-as = (λ i. commandStep (record { table = kept-as i; namespaces = spaces }) reader l) ∙ step-records reader held spaces l b size
+
+    -- every number, where the words are those that the command leaves
+    numbers-as : (vs ss : List ℕ) → vs ≡ wordsLeft (parsed l) (summedCommand reader held spaces l b .reply) (take 512 (d .records)) 512 (n .table)
+        (take 16384 (d .table))
+        → map summaryOf ss ≡ summedCommand reader held spaces l b .left .summary
+        → numbersWith vs ss (d .records) ≡ numbersAfter (storedIn d n) reader l (d .records)
+    numbers-as vs ss words summed =
+        go (accepted (parsed l) (done .reply)) refl
+        ∙ sym (λ i. numbersAfter (record { table = kept-as i; namespaces = spaces }) reader l (d .records))
+      where
+        done : SummedCommand
+        done = summedCommand reader held spaces l b
+
+        over : commandOver reader (records held) spaces l ≡ done
+        over = same reader held spaces l b size
+
+        go : (o : Bool) → accepted (parsed l) (done .reply) ≡ o
+            → numbersWith vs ss (d .records) ≡ numbersAfter (record { table = records held; namespaces = spaces }) reader l (d .records)
+        go true h =
+            numbers-made (record { table = records held; namespaces = spaces }) reader l (d .records) vs ss done over h
+            (words ∙ (λ i. wordsLeft (parsed l) (done .reply) (take 512 (d .records)) 512 (records-summed held i .store .count)
+            (records-summed held i .store .area)))
+            summed
+        go false h =
+            let unchanged : done .left ≡ held = unfold summedCommand in not-accepted-leaves reader held (summedSeen reader held) spaces l (length b) h in
+            let alike : ss ≡ take 512 (drop 512 (d .records)) = sym (told-numbers ss)
+            ∙ ap (map summaryWord) (summed ∙ ap (λ (m : Summed). m .summary) unchanged) ∙ told-numbers sums ∙ are in
+            let front : vs ≡ take 512 (d .records) = words ∙ left-unaccepted (parsed l) (done .reply) (take 512 (d .records)) 512 (n .table) (take 16384 (d .table)) h in
+            (λ i. numbersWith (front i) (alike i) (d .records))
+            ∙ whole-numbers (d .records)
+            ∙ numbers-stay (record { table = records held; namespaces = spaces }) reader l (d .records)
+            (ap (λ (c : SummedCommand). accepted (parsed l) (c .reply)) over ∙ h)
 
     pub obeys-records : (us vs ss f o : List ℕ) (r : Answered) (k : ℕ) →
         Came (summedCommand reader (record
         { store = wordStore (take 512 (d .records)) 512 (n .table) (take 16384 (d .table)); summary = map summaryOf sums }) spaces l b)
         b vs ss us f r
+        → vs ≡ wordsLeft (parsed l) (summedCommand reader (record
+        { store = wordStore (take 512 (d .records)) 512 (n .table) (take 16384 (d .table)); summary = map summaryOf sums }) spaces l b .reply)
+        (take 512 (d .records)) 512 (n .table) (take 16384 (d .table))
         → length us ≡ length (take 16384 (d .table)) → length ss ≡ 512 → Says (writtenLine (r .written) f) (d .out) o k
         → Obeys n reader l d
         (lent (us ++ drop 16384 (d .table)) (numbersWith (take 512 (vs ++ drop 512 (d .records))) ss (vs ++ drop 512 (d .records))) (d .namespaces) o)
         (outcomeIs (lengthsIs (r .count) (n .namespaces) true) k)
-    obeys-records us vs ss f o r k c lu hs s =
+    obeys-records us vs ss f o r k c words lu hs s =
         let hu : length us ≡ 16384 = lu ∙ sym (whole-area (x .held)) in
         let done = summedCommand reader held spaces l b in
         let few = few-after reader held spaces l b (x .held .rows) (few-records done us vs ss (c .area) (c .records) (c .summary) hu (c .size) hs) in
         rw (c .count, with-over vs ss (d .records) (c .size) hs)
-        (obeys-kept done us vs ss (c .area) (c .records) (c .summary) hu (c .size) hs o k stored-as few
-        (reply-says (done .reply) b f (c .written) (c .bytes) s))
+        (record {
+          carried =
+              obeys-kept done us vs ss (c .area) (c .records) (c .summary) hu (c .size) hs o k stored-as few
+              (reply-says (done .reply) b f (c .written) (c .bytes) s);
+          numbers = numbers-as vs ss words (c .summary);
+        })
 
   -- over the packed bytes, an edit: the store that they become, with its first summary, is m
   module _ (e : n .edited ≡ false) (edit : isEdit (parsed l) ≡ true) (m : Summed) (b : List ℕ) (size : length b ≡ 16384)
@@ -428,18 +536,32 @@ module _ (d : Lent) (n : Lengths) (x : Within n (d .table) (d .records) (d .name
 
     -- it is accepted: area, words and summary lie in the memory now
     pub first-accepted : (vs ss us f o : List ℕ) (r : Answered) (j k : ℕ) → Came (summedCommand reader m spaces l b) b vs ss us f r →
+        (ws : List ℕ) → ws ≡ map cellOf (programStore packed .records)
+        → vs ≡ wordsLeft (parsed l) (summedCommand reader m spaces l b .reply) ws 512 (m .store .count) (m .store .area) →
         r .written ≡ Done j → m .store .count ≤ 16384 → length us ≡ 16384 → length ss ≡ 512 → Says (writtenLine (r .written) f) (d .out) o k
         → Obeys n reader l d (lent (sets (d .table) 0 us) (numbersWith vs ss (d .records)) (d .namespaces) o)
         (outcomeIs (lengthsIs (r .count) (n .namespaces) true) k)
-    first-accepted vs ss us f o r j k c q counted hu hs s =
+    first-accepted vs ss us f o r j k c ws cells words q counted hu hs s =
         let end : 0 + length us ≡ 16384 = omega (arith, hu) in
         let bytes-are : sets (d .table) 0 us ≡ us ++ drop 16384 (d .table) = sets-eq us (d .table) 0 (omega (arith, hu, x .held .table)) ∙ ap
         (λ (i : ℕ). us ++ drop i (d .table)) end in
         let few = few-after reader m spaces l b counted (few-records made us vs ss (c .area) (c .records) (c .summary) hu (c .size) hs) in
+        let answered-so = reply-answered (made .reply) j (sym q ∙ c .written) in
+        let summed : m ≡ keptSummed (bytes packed) = is ∙ bytes-summed packed in
+        let words-first : wordsLeft (parsed l) (made .reply) ws 512 (m .store .count) (m .store .area)
+        ≡ wordsLeft (parsed l) (made .reply) (cellsOf (bytes packed) (d .records)) 512 (keptSummed (bytes packed) .store .count)
+        (keptSummed (bytes packed) .store .area)
+        = λ i. wordsLeft (parsed l) (made .reply) (cells i) 512 (summed i .store .count) (summed i .store .area) in
         rw (c .count, bytes-are)
-        (obeys-kept made us vs ss (c .area) (c .records) (c .summary) hu (c .size) hs o k
-        (step-made (reply-answered (made .reply) j (sym q ∙ c .written))) few
-        (reply-says (made .reply) b f (c .written) (c .bytes) s))
+        (record {
+          carried =
+              obeys-kept made us vs ss (c .area) (c .records) (c .summary) hu (c .size) hs o k (step-made answered-so) few
+              (reply-says (made .reply) b f (c .written) (c .bytes) s);
+          numbers =
+              numbers-made (record { table = bytes packed; namespaces = spaces }) reader l (d .records) vs ss made over-made
+              (accepted-so (parsed l) (made .reply) edit answered-so) (words ∙ words-first) (c .summary)
+              ∙ sym (λ i. numbersAfter (record { table = kept-bytes e i; namespaces = spaces }) reader l (d .records));
+        })
 
 -- what is promised of any memory: a command carried out where what is stored lies within it, and nothing done elsewhere
 module _ (d : Lent) (n : Lengths) (reader : ℕ) (l : List ℕ) where

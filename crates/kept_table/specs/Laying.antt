@@ -1,12 +1,13 @@
 -- The store that the packed bytes become at the first accepted edit.
 use mathlib.Core.Path.{_≡_}
 use mathlib.Core.Bool.{true, false}
-use mathlib.Core.List.{List}
+use mathlib.Core.List.{List, map}
 use lib.ListN.{length, replicate}
 use Prim.Native.Nat.{ℕ, _+_, _≤_, _<_}
 use Rattle.listing_rules.specs.Lists.{joined}
 use Rattle.listing_rules.specs.Table.{Row, names, passes, packedTable}
 use Rattle.listing_rules.specs.Frames.{programStore}
+use Rattle.records.specs.Words.{cellOf}
 use Rattle.records.specs.Lent.{wordStore}
 use Rattle.mailbox_table.specs.Index.{nthRow}
 use Rattle.mailbox_table.specs.declared.Indexing.{Indexing}
@@ -26,7 +27,10 @@ pub record Blank (t w a : List ℕ) : Type 0 where
   pub words : w ≡ replicate 512 0
   pub area : a ≡ replicate 16384 0
 
--- The words and the area are the store of the packed table's rows, so many, where the table passes; else that it does not.
+-- The words and the area are the store of the packed table's rows, to the last bit, where the table passes; else that it does not.
 abbrev pub Lays : List ℕ → List ℕ → List ℕ → Indexing → Type 0
 Lays table words area Fails = passes (packedTable table) ≡ false
-Lays table words area (Rows n) = (passes (packedTable table) ≡ true) × (wordStore words 512 n area ≡ programStore table)
+Lays table words area (Rows n) =
+    (passes (packedTable table) ≡ true)
+    × (wordStore words 512 n area ≡ programStore table)
+    × (words ≡ map cellOf (programStore table .records))

@@ -8,7 +8,7 @@ ghost use lib.Seq.{sets, paste};
 ghost use Rattle.listing_rules.specs.Lists.{joined};
 ghost use Rattle.listing_rules.specs.Table.{names};
 ghost use Rattle.listing_rules.specs.Frames.{recordsFrom};
-ghost use Rattle.records.specs.Words.{recordOf};
+ghost use Rattle.records.specs.Words.{recordOf, cellOf};
 ghost use Rattle.mailbox_table.specs.Index.{rowsAt};
 ghost use Rattle.kept_table.specs.Kept.{numbersWith};
 ghost use Rattle.kept_table.specs.Laying.{Short, Inside, Blank, Lays};
@@ -50,7 +50,8 @@ pub(crate) fn lay_out(table: &[u8], words: &mut [u64], area: &mut [u8]) -> Index
 fn place_names(table: &[u8], words: &mut [u64], area: &mut [u8])
     requires { ⌜ Short (rowsAt (now table) (now words)) × Inside (now table) (now words) ⌝ }
     ensures { λ _. ⌜ (map recordOf (now (words .exit)) ≡ recordsFrom 0 (map recordOf (now (words .entry))))
-        × (now (area .exit) ≡ sets (now (area .entry)) 0 (joined (names (rowsAt (now (table .entry)) (now (words .entry)))))) ⌝ }
+        × (now (area .exit) ≡ sets (now (area .entry)) 0 (joined (names (rowsAt (now (table .entry)) (now (words .entry))))))
+        × (now (words .exit) ≡ map cellOf (recordsFrom 0 (map recordOf (now (words .entry))))) ⌝ }
 {
     let mut at = 0;
     let mut i = 0;

@@ -14,8 +14,8 @@ use Rattle.frames.proofs.StoreLaws.{stored-now, stored-full}
 use Rattle.kept_table.specs.declared.Lengths.{Lengths}
 use Rattle.kept_table.specs.declared.outcome.Outcome.{Outcome}
 use Rattle.session.specs.declared.carrying.Added.{Added}
-use Rattle.kept_table.specs.Kept.{Lent, lent, keptOf, keptIn, storedIn, Within, isHeld, lengthsIs, outcomeIs, Says}
-use Rattle.session.specs.Carrying.{Keeps, AddsRow, CarriesOut}
+use Rattle.kept_table.specs.Kept.{Lent, lent, keptOf, keptIn, storedIn, Within, isHeld, lengthsIs, outcomeIs, Says, Carries}
+use Rattle.session.specs.Carrying.{Keeps, AddsRow, numbersFramed, CarriesOut}
 use Rattle.kept_table.specs.Commanding.{ObeysLent}
 use Rattle.kept_table.proofs.LentLaws.{says-none, says-refusal, is-held, is-within, carries-said}
 
@@ -108,46 +108,57 @@ module _ (n : Lengths) (row t o : List ℕ) (rows : n .table ≤ 16384) where
 module _ (d : Lent) (n : Lengths) (w : Within n (d .table) (d .records) (d .namespaces)) (f : Frame) (bs : List ℕ) where
   pub kind-row : (size : ℕ) (t o : List ℕ) (r : Outcome) → f ≡ Table size → AddsRow n (take size bs) (d .table) t (d .out) o r →
       CarriesOut n bs f d (lent t (d .records) (d .namespaces) o) r
-  unfolding framed frameIs
-  kind-row size t o r e x = rw e (x (d .records) (d .namespaces) (w .entries))
+  unfolding framed frameIs numbersFramed
+  kind-row size t o r e x = rw e (record { carried = x (d .records) (d .namespaces) (w .entries); numbers = refl })
 
   pub kind-entry : (size : ℕ) (m o : List ℕ) (k : Added) → f ≡ Namespaces size →
       Keeps 1024 2 (n .namespaces) (take size bs) (d .namespaces) m (d .out) o k →
       CarriesOut n bs f d (lent (d .table) (d .records) m o) (outcomeIs (lengthsIs (n .table) (k .len) (n .edited)) (k .written))
-  unfolding framed frameIs
-  kind-entry size m o k e x =
-      rw (e, entry-added (storedIn d n) (take size bs), length-take-le (n .namespaces) (d .namespaces) (omega (arith, w .entries, w .namespaces)))
-      (record {
-        table = refl;
-        namespaces = x .front;
-        table-room = w .held .rows;
-        namespaces-room = x .room;
-        table-behind = refl;
-        records-behind = refl;
-        records-stay = λ e. refl;
-        namespaces-behind = x .behind;
-        says = x .says;
-      })
+  unfolding framed frameIs numbersFramed
+  kind-entry size m o k e x = rw e (record { carried = entry; numbers = refl })
+    where
+      entry : Carries (addEntry (storedIn d n) (take size bs)) d (lent (d .table) (d .records) m o)
+          (outcomeIs (lengthsIs (n .table) (k .len) (n .edited)) (k .written))
+      entry =
+          rw (entry-added (storedIn d n) (take size bs), length-take-le (n .namespaces) (d .namespaces) (omega (arith, w .entries, w .namespaces)))
+          (record {
+            table = refl;
+            namespaces = x .front;
+            table-room = w .held .rows;
+            namespaces-room = x .room;
+            table-behind = refl;
+            records-behind = refl;
+            records-stay = λ e. refl;
+            namespaces-behind = x .behind;
+            says = x .says;
+          })
 
   pub kind-command : (reader size part : ℕ) (t v o : List ℕ) (r : Outcome) → f ≡ Command reader size →
       ObeysLent n reader (take part (drop 1 bs)) d (lent t v (d .namespaces) o) r →
       part ≡ size → CarriesOut n bs f d (lent t v (d .namespaces) o) r
-  unfolding framed frameIs
-  kind-command reader size part t v o r e x same = rw (e, sym same) (x .obeys (is-within w))
+  unfolding framed frameIs numbersFramed
+  kind-command reader size part t v o r e x same =
+      let y = x .obeys (is-within w) in
+      rw (e, sym same) (record { carried = y .carried; numbers = y .numbers })
 
   pub kind-walk : (reader option : ℕ) (o : List ℕ) (k : ℕ) → f ≡ Walk reader option →
       Says (cond (isHeld n (d .table) (d .records)) (walkLine (walkBy reader (keptSeen reader (keptIn d n)) option 16384 8192 8192)) [])
       (d .out) o k →
       CarriesOut n bs f d (lent (d .table) (d .records) (d .namespaces) o) (outcomeIs n k)
-  unfolding framed frameIs
+  unfolding framed frameIs numbersFramed
   kind-walk reader option o k e x =
-      rw e (carries-said d n (w .held .rows) (w .entries) (walkLine (walkBy reader (keptSeen reader (keptIn d n)) option 16384 8192 8192)) o k
-      (rw (is-held (w .held)) at x))
+      rw e (record {
+        carried =
+            carries-said d n (w .held .rows) (w .entries) (walkLine (walkBy reader (keptSeen reader (keptIn d n)) option 16384 8192 8192)) o k
+            (rw (is-held (w .held)) at x);
+        numbers = refl;
+      })
 
   pub kind-bad : (o : List ℕ) (k : ℕ) → f ≡ Bad → Put (d .out) o 0 (refusalLine 13) k →
       CarriesOut n bs f d (lent (d .table) (d .records) (d .namespaces) o) (outcomeIs n k)
-  unfolding framed frameIs
-  kind-bad o k e x = rw e (carries-said d n (w .held .rows) (w .entries) (refusalLine 13) o k (says-refusal 13 x))
+  unfolding framed frameIs numbersFramed
+  kind-bad o k e x =
+      rw e (record { carried = carries-said d n (w .held .rows) (w .entries) (refusalLine 13) o k (says-refusal 13 x); numbers = refl })
 
 -- the bytes that a frame speaks of are there
 module _ {f : Frame} {n : ℕ} (s : List ℕ) (h : sizeOf f ≤ length s) where

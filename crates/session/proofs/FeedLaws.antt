@@ -2,7 +2,7 @@
 -- come to. Rests on LineLaws and LentLaws.
 use Rattle.listing_rules.proofs.Prelude.{_∙_, _≡_, ap, refl, subst, sym, Bool, _&&_, _||_, cond, false, true, List, [], _++_, _+_, _<_, _≤_, ℕ, arith}
 use Rattle.listing_rules.proofs.Prelude.{leb, length, length-replicate, replicate, take, take-all, le-leb, le-ltb, leb-true, lt-ltb}
-use Rattle.listing_rules.specs.Frames.{Stepped, Session, Fed as Came, refusalLine, framed, step, fedAll, atEnd, start}
+use Rattle.listing_rules.specs.Frames.{Stepped, Session, Fed as Came, refusalLine, readFrame, framed, step, fedAll, atEnd, start}
 use Rattle.listing_rules.proofs.Bools.{and-l, and-r}
 use Rattle.frames.specs.declared.gathering.Gathered.{Gathered}
 use Rattle.frames.specs.Gathering.{HoldsIf, Holds as HoldsFrame, gatheredNone, IsEmpty}
@@ -13,9 +13,9 @@ use Rattle.session.specs.declared.Fed.{Fed}
 use Rattle.session.specs.declared.Fed.the-variants.{Taken}
 use Rattle.kept_table.specs.declared.outcome.Outcome.{Outcome}
 use Rattle.kept_table.specs.Kept.{Lent, storedIn, Within, Says}
-use Rattle.session.specs.Carrying.{Ended}
+use Rattle.session.specs.Carrying.{numbersFramed, Ended}
 use Rattle.session.specs.Feeding.{startIs, ready, readyIn, Holds, throughLine, beforeLine, gatheredAll, lineAfter, Comes, Feeds, FeedIs}
-use Rattle.session.specs.Feeding.{Finishes}
+use Rattle.session.specs.Feeding.{hasLine, numbersFed, Finishes}
 use Rattle.session.proofs.LineLaws.{before-all, through-line, holds-all, fed-before, fed-line}
 use Rattle.kept_table.proofs.LentLaws.{says-none}
 
@@ -110,6 +110,16 @@ module _ (chunk : List ℕ) (d : Lent) (line line′ : List ℕ) (st : State) (g
   goes-on : (p : List ℕ) → HoldsFrame line (st .gathered) p → HoldsFrame line′ g (p ++ beforeLine chunk)
   goes-on p x = rw (run, bytes) (holds-all (beforeLine chunk) line (st .gathered) p (is-sized .line) x)
 
+  -- the numbers without a line feed, and at one
+  no-line : hasLine chunk ≡ false → (s : Session) (numbers : List ℕ) → numbers ≡ numbersFed s chunk numbers
+  unfolding numbersFed
+  no-line e s numbers = rw e
+
+  at-line : hasLine chunk ≡ true → (s : Session) (numbers : List ℕ) →
+      numbersFramed (s .stored) (readFrame (s .partial ++ beforeLine chunk)) numbers ≡ numbersFed s chunk numbers
+  unfolding numbersFed
+  at-line e s numbers = rw e
+
   -- a piece without a line feed
   pub feeds-part : (used : ℕ) → used ≡ length (beforeLine chunk) → length chunk ≤ used →
       Feeds chunk d d line line′ st (record { state = record { stored = st .stored; gathered = g }; used = used; written = 0 })
@@ -128,6 +138,7 @@ module _ (chunk : List ℕ) (d : Lent) (line line′ : List ℕ) (st : State) (g
               holds = record { table = x .table; namespaces = x .namespaces; frame = goes-on (s .partial) (x .frame) };
               says = says-none (d .out);
             });
+        numbers = λ s x. no-line (le-ltb (length (beforeLine chunk)) (length chunk) (omega arith)) s (d .records);
         table-behind = refl;
         records-behind = refl;
         records-stay = λ e. refl;
@@ -168,6 +179,11 @@ module _ (chunk : List ℕ) (d : Lent) (line line′ : List ℕ) (st : State) (g
             (sym (ap (fedAll s) (w .1) ∙ fed-line chunk s ∙ sym
             (ap (λ (f : Stepped). record { session = record { stored = f .stored; partial = [] }; output = f .output }) same)))
             (record { holds = record { table = c .table; namespaces = c .namespaces; frame = holds-none line′ }; says = c .says });
+        numbers =
+            λ s y.
+            x .numbers
+            ∙ (λ i. numbersFramed (stored-is y i) (x .read (s .partial ++ beforeLine chunk) (goes-on (s .partial) (y .frame)) i) (d .records))
+            ∙ at-line (lt-ltb (length (beforeLine chunk)) (length chunk) (omega arith)) s (d .records);
         table-behind = c .table-behind;
         records-behind = c .records-behind;
         records-stay = c .records-stay;

@@ -1,11 +1,11 @@
 -- The session that the lent memory holds between two pieces of input, and what feeding a piece comes to.
 use mathlib.Core.Path.{_≡_}
-use mathlib.Core.List.{List, [], _∷_}
+use mathlib.Core.List.{List, [], _∷_, _++_}
 use mathlib.Core.Bool.{Bool, true, false, not, cond, _&&_, _||_}
 use lib.Dec.{eqb, leb, ltb}
 use lib.ListN.{length, take, drop}
 use Prim.Native.Nat.{ℕ, suc}
-use Rattle.listing_rules.specs.Frames.{Session, Fed as Meant, refusalLine, start, fedAll, atEnd}
+use Rattle.listing_rules.specs.Frames.{Session, Fed as Meant, refusalLine, readFrame, start, fedAll, atEnd}
 use Rattle.frames.specs.declared.gathering.Gathered.{Gathered}
 use Rattle.frames.specs.Gathering.{Holds as HoldsFrame, gatheredNone, gatheredIs, gatheredLine}
 use Rattle.kept_table.specs.declared.Lengths.{Lengths}
@@ -15,6 +15,7 @@ use Rattle.session.specs.declared.Fed.{Fed}
 use Rattle.session.specs.declared.Fed.the-variants.{Taken, Refused}
 use Rattle.session.specs.declared.gathering.Run.{Run}
 use Rattle.kept_table.specs.Kept.{Lent, keptIn, reach, Says}
+use Rattle.session.specs.Carrying.{numbersFramed}
 
 -- nothing stored and no frame begun
 abbrev pub startIs : State
@@ -82,11 +83,17 @@ pub record Comes (f : Meant) (d e : Lent) (line : List ℕ) (r : Took) : Type 0 
   pub holds : Holds e line (r .state) (f .session)
   pub says : Says (f .output) (d .out) (e .out) (r .written)
 
+-- Every bit of the numbers after the bytes of a piece through its first line feed, at which the frame is carried out.
+unfoldable pub numbersFed : Session → List ℕ → List ℕ → List ℕ
+numbersFed s chunk numbers = cond (hasLine chunk) (numbersFramed (s .stored) (readFrame (s .partial ++ beforeLine chunk)) numbers) numbers
+
 -- The bytes of a piece through its first line feed were fed to the memory that was `d` and `line`, and is `e` and `line′`.
 pub record Feeds (chunk : List ℕ) (d e : Lent) (line line′ : List ℕ) (st : State) (r : Took) : Type 0 where
   pub used : r .used ≡ throughLine chunk
   -- whatever session the memory held, it came to what document 01 says of these bytes
   pub comes : (s : Session) → Holds d line st s → Comes (fedAll s (take (throughLine chunk) chunk)) d e line′ r
+  -- and every bit of the numbers is what the definition says
+  pub numbers : (s : Session) → Holds d line st s → e .records ≡ numbersFed s chunk (d .records)
   -- bytes after what is stored stay, and so do the numbers after the summary, and every number where no records are kept; every byte of the
   -- line, and what is gathered in it, are given by a definition
   pub table-behind : drop (reach (r .state .stored)) (e .table) ≡ drop (reach (r .state .stored)) (d .table)

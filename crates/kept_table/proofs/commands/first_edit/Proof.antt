@@ -9,7 +9,7 @@ use Rattle.kept_table.specs.Kept.{Lent, lent}
 use Rattle.kept_table.specs.Laying.{Lays}
 use Rattle.kept_table.proofs.LentLaws.{whole-table, whole-namespaces}
 use Rattle.kept_table.proofs.LayLaws.{laid-few, laid-not, laid-rows, laid-summed}
-use Rattle.kept_table.proofs.ObeyLaws.{came, reply-fits, first-stranger, first-fails, first-refused, first-accepted}
+use Rattle.kept_table.proofs.ObeyLaws.{came, came-words, reply-fits, first-stranger, first-fails, first-refused, first-accepted}
 use Rattle.kept_table.proofs.commands.first_edit.Statement.{statement}
 use Rattle.kept_table.proofs.commands.first_edit.Tie as tie
 
@@ -162,7 +162,8 @@ returns-4 c =
     let outcome = came _ _ _ _ _ _ _ _ (worded placed) (summed counted) (done .ensures) in
     rw (c .with-records .ensures, kept .0, kept .1)
     (first-accepted (memory start) _ (start .pre .0) _ _ (start .pre .1 .0) (start .pre .1 .1) _ _ (sized buffered) (laid numbered .0) (first counted)
-    (done .last .0) (done .last .1 .0) _ _ _ _ _ _ outcome (after-enum-told2 .enum-told2 .given .1) (few numbered)
+    (done .last .0) (done .last .1 .0) _ _ _ _ _ _ outcome _ (laid numbered .2)
+    (came-words _ _ _ _ _ _ _ _ (worded placed) (summed counted) (done .ensures)) (after-enum-told2 .enum-told2 .given .1) (few numbered)
     (done .kept .1 .1 .1 .1 .0 ∙ named placed) (done .kept .1 .0 ∙ summed counted) (after-put-reply .put-reply .ensures))
 
 pub first-edit-spec : {M : Type 1} → statement M

@@ -2,7 +2,7 @@
 use Rattle.listing_rules.proofs.Prelude.{_∙_, _≡_, ap, sym, ℕ, length, length-replicate, needs}
 use Rattle.kept_table.specs.Kept.{lent}
 use Rattle.kept_table.proofs.LentLaws.{whole-area, whole-records, whole-sums, whole-namespaces}
-use Rattle.kept_table.proofs.ObeyLaws.{came, reply-fits, obeys-records}
+use Rattle.kept_table.proofs.ObeyLaws.{came, came-words, reply-fits, obeys-records}
 use Rattle.kept_table.proofs.commands.obey_records.Statement.{statement}
 use Rattle.kept_table.proofs.commands.obey_records.Tie as tie
 
@@ -52,7 +52,7 @@ returns c =
     let before = lent _ _ _ _ in
     rw (c .with-records .ensures, after-keep-sums .keep-sums .ensures)
     (obeys-records before _ (start .pre .0) _ _ (start .pre .1) _ _ (sized buffered) (read .kept-sums .ensures) _ (done .last .0) _ _ _ _ _
-    outcome (done .kept .1 .1 .1 .1 .0) (done .kept .1 .0 ∙ summed read) (c .before .before .before .put-reply .ensures))
+    outcome (came-words _ _ _ _ _ _ _ _ (sym (whole-records (start .pre .0 .held))) (summed read) (done .ensures)) (done .kept .1 .1 .1 .1 .0) (done .kept .1 .0 ∙ summed read) (c .before .before .before .put-reply .ensures))
 
 pub obey-records-spec : {M : Type 1} → statement M
 obey-records-spec =

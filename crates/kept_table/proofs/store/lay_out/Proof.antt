@@ -43,7 +43,7 @@ returns-2 c =
     let start = after-index .before .before .before .before .before in
     let placed = after-place-names .place-names .ensures in
     lays-rows (after-index .index .ensures) (sized start) _ (after-n .n .given .1) _ _ (after-place-names .place-names .last .1 .0) (start .pre)
-    (placed .0) (placed .1)
+    (placed .0) (placed .1) (placed .2)
 
 pub lay-out-spec : {M : Type 1} → statement M
 lay-out-spec =

@@ -31,7 +31,7 @@ loop-again c =
     let turn-2 = at-loop-test .before in
     let start = turn-2 .before .before .before .before in
     placing-more (turn-2 .loop .inv) (at-loop-test .loop-test .taken) (start .pre .0) (start .pre .1) _ _ _ _ _ _ (after-of-word .of-word .ensures)
-    (after-name-of .name-of .ensures) (after-readers-of .readers-of .ensures) (after-word-of .word-of .ensures .1)
+    (after-name-of .name-of .ensures) (after-readers-of .readers-of .ensures) (after-word-of .word-of .ensures .1) (after-word-of .word-of .ensures .0)
     (c .before .before .put-all .ensures)
 
 same-length-2 : tie.Need-same-length-2 Inv-loop μ-loop

@@ -13,7 +13,8 @@ returns c =
     let after-read-gathered = after-carry-out .before .before .before .before .before .before .before in
     let stage = after-read-gathered .before .before in
     let read = after-read-gathered .read-gathered in
-    record { frame = _; read = λ p h. read .ensures .means (omega (arith, sized stage)) p h; carried = after-carry-out .carry-out .ensures }
+    let done = after-carry-out .carry-out .ensures in
+    record { frame = _; read = λ p h. read .ensures .means (omega (arith, sized stage)) p h; carried = done .carried; numbers = done .numbers }
 
 pub end-frame-spec : {M : Type 1} → statement M
 end-frame-spec =

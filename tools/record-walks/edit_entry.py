@@ -10,6 +10,9 @@ An entry is `fn NAME(records: &mut [Record], count: usize, ..) -> R` with the bo
 and the core, which is covered, has the same parameters after `&mut [u64]` and how many words are lent. What it promises of the act over
 words (`wordCommand`, `wordCompaction`) the entry promises of the act over records (`lentCommand`, `lentCompaction`); where the core tells
 of the words at exit, the entry tells of the records.
+
+The core says of the words what the records of the act are, and which words became others, by `from` and `to` of its result. Most cores say
+both by one clause; `Cells` is an act whose core has equations of its own for its result and for the words, and laws that give both.
 """
 from entry import Lender, US, declared, nested, number_made, path
 from head import capital, dashed, proofs_of, specs_of, write
@@ -32,8 +35,52 @@ class Act:
                 f'use {proofs_of(self.crate, own)}.{self.laws}.{{{self.alike}, {self.law}}}\n')
 
 
+    def told(self, entry):
+        """What the core says, clause by clause: a name and the claim."""
+        said = [('s-' + c.name, entry.said_of_words(c)) for c in entry.clauses]
+        return said + [('s-words', f'({entry.same_records}) × Between ({US}) ({VS}) {entry.lent_words} {RUN}')]
+
+    def proves(self, entry, clause):
+        """That a clause of the entry holds of the act over words."""
+        return f's-{clause.name}'
+
+    def records_so(self, entry):
+        return '(s-words .0)'
+
+    def between(self, entry):
+        return '(s-words .1)'
+
+
+class Cells(Act):
+    """An act whose core's result and words are given by equations: `result` and `cells`, and the laws that give the number and the words that
+    became others."""
+
+    def __init__(self, *args, result, cells, number, between, has):
+        super().__init__(*args)
+        self.result, self.cells, self.number, self.became, self.has = result, cells, number, between, has
+
+    def uses(self, own):
+        return super().uses(own) + self.has
+
+    def told(self, entry):
+        return [('s-result', f'r ≡ {self.result} ({entry.over_words} .number) count'), ('s-area', entry.said_of_words(entry.clause('area'))),
+                ('s-words', f'{VS} ≡ {self.cells} ({US}) n count area summary'), ('s-records', entry.same_records)]
+
+    def proves(self, entry, clause):
+        return f'({self.number} ({entry.over_words} .number) count r s-result)' if clause.name == 'result' else super().proves(entry, clause)
+
+    def records_so(self, entry):
+        return 's-records'
+
+    def between(self, entry):
+        return f'({self.became} ({US}) n count area summary r ({VS}) s-result s-words)'
+
+
 COMMAND = Act('Handed', 'lentCommand', 'wordCommand', 'answers', ' reader namespaces line out', 'Answers')
-COMPACTION = Act('Moved', 'lentCompaction', 'wordCompaction', 'compacts', '', 'Compacts')
+COMPACTION = Cells('Moved', 'lentCompaction', 'wordCompaction', 'compacts', '', 'Compacts', result='compactedIs', cells='cellsCompacted',
+                   number='result-number', between='between-compacted',
+                   has=f'use {specs_of("compaction", "exports")}.Result.{{compactedIs, cellsCompacted}}\n'
+                       f'use {proofs_of("compaction", "exports")}.ResultLaws.{{result-number, between-compacted}}\n')
 REPLAY = Act('HandedReplay', 'lentReplay', 'wordReplay', 'replays', ' namespaces log', 'ReplaysAlike', 'exports', 'Replays', 'LentLaws')
 PIECE = Act('HandedPiece', 'lentPiece', 'wordPiece', 'feeds', ' state namespaces pending line piece', 'PiecesAlike', 'exports', 'Replays', 'LentLaws')
 
@@ -81,11 +128,20 @@ class EditEntry(Lender):
         self.last = ''.join(f' (z3 {path(m.place + 1)})' for m in self.bytes)
         # as many words are lent as copy_in counted
         self.lent_words = f'(lentOf ({US}) n summary)'
+        self.same_records = f'map recordOf (take {self.lent_words} ({VS})) ≡ {self.over_words} .records'
         self.whole = f'(all-lent xs ({US}) n (is0 .1 .0 .1) (is2 .1 .0 .1) e1)'
         self.answers = (f'({act.law} records xs ({US}) ({VS}) summary n {RUN} (is0 .1 .0 .1) (is2 .1 .0 .1) (is4 .1 .0 .1) e1 count area{act.more}'
-                        f' (subst (λ (k : ℕ). map recordOf (take k ({VS})) ≡ {self.over_words} .records) {self.whole} (s-words .0))'
-                        f' (subst (λ (k : ℕ). Between ({US}) ({VS}) k {RUN}) {self.whole} (s-words .1)) (z5 .0) e5)')
+                        f' (subst (λ (k : ℕ). map recordOf (take k ({VS})) ≡ {self.over_words} .records) {self.whole} {act.records_so(self)})'
+                        f' (subst (λ (k : ℕ). Between ({US}) ({VS}) k {RUN}) {self.whole} {act.between(self)}) (z5 .0) e5)')
         self.given = ''.join(f' s-{c.name}' for c in clauses) + self.lengths
+        self.proved = ''.join(f' {act.proves(self, c)}' for c in clauses) + self.lengths
+
+    def clause(self, name):
+        return next(c for c in self.clauses if c.name == name)
+
+    def said_of_words(self, clause):
+        """A clause of the entry, of the act over words."""
+        return f'Says-{clause.name} ({self.over_words}) (given r){self.last}'
 
     # ---- The walk.
 
@@ -133,8 +189,7 @@ class EditEntry(Lender):
         to = f'(to-core {self.place} ξ δ₂ ({US}) n)'
         self.hands(w, self.core[1], to, ['msl', 'lent2'] + owns, ['lftξ'] + self.tokens[1:])
         w.call(callee, to, [w.ld_later(self.lending + 1), w.ld_later(self.lent)] + operands, 'v3')
-        told = [('s-' + c.name, f'Says-{c.name} ({self.over_words}) (given r){self.last}') for c in self.clauses]
-        told.append(('s-words', f'(map recordOf (take {self.lent_words} ({VS})) ≡ {self.over_words} .records) × Between ({US}) ({VS}) {self.lent_words} {RUN}'))
+        told = self.act.told(self)
         w.told(callee, self.core_lifetimes('ξ ∷ []'), self.core_tokens('ξ'), r.row, r.denot, self.core_args(f'words {self.place} δ₂ ({US})', 'n'), 'r', 'v3', told, 'z3')
         w.opens(f'peeks ! {r.row} (Is {r.row}) (shows 𝓤 H A {r.row}) r (v3 ∷ []) (λ is3.', [], [])
         w.say(f'land ! (from ! (stop !)) (init ! {w.at(self.done)} refl ({r.lawful} .typed r _ is3 .0)) $')
@@ -177,7 +232,7 @@ class EditEntry(Lender):
         for part in (self.copies, self.calls_core, self.copies_back, self.gives, self.leaves):
             part(w)
         w.keep(*self.had)
-        w.say(f'by ! (exits (given r) ({self.value}) (z5 .0){self.last} ({self.over_words}) {self.answers}{self.given})' + ')' * (w.open + self.locals))
+        w.say(f'by ! (exits (given r) ({self.value}) (z5 .0){self.last} ({self.over_words}) {self.answers}{self.proved})' + ')' * (w.open + self.locals))
         return w.text(8)
 
     # ---- The file.

@@ -9,7 +9,7 @@ use Rattle.list_line.specs.declared.criteria.Criteria.{Criteria}
 use Rattle.line_reader.specs.declared.Line.{Line}
 use Rattle.line_reader.specs.declared.Line.the-variants.{Parts, Refused as NoLine}
 use Rattle.listing_rules.specs.Server.{Reply, refusal, answered, numberOf, lengthOf}
-use Rattle.listing_rules.specs.Reader.{Read, line, root, bad, nameBytes}
+use Rattle.listing_rules.specs.LineReader.{Read, line, root, bad, nameBytes}
 use Rattle.listing_rules.specs.Table.{Table}
 use Rattle.listing_rules.specs.Bytes.{oneOf}
 use Rattle.records.proofs.WordsAlike.{SeenAlike}

@@ -53,15 +53,14 @@ module _ (ws : List ℕ) (lent count reader : ℕ) (area sums spaces l out : Lis
   handed-same = λ i. handed (summed-same i) (lent-same i)
 
   module _ (es ts us out′ : List ℕ) (r : Stored)
-      (x : Answers (wordCommand (take n ws) (length (take n ws)) count reader area sums spaces l out) (memory (take n ws) sums area out)
-      (memory es ts us out′) r) where
+      (x : Answers (memory (take n ws) sums area out) (memory es ts us out′) count reader spaces l r) where
     number : min (length (take n ws)) (length sums) ≡ lentOf ws lent sums
     number = omega (arith, n-is, size)
 
     pub result : doneCase r .outcome ≡ handedOutcome D
     unfolding doneCase
     result =
-        (λ i. writtenCase (x .written i) (asNumber (x .changed i)) (x .count i))
+        (λ i. writtenCase (x .written i) (asNumber (x .changed i)) (x .count-is i))
         ∙ written-case _ _ _
         ∙ ap handedOutcome handed-same
 
@@ -69,7 +68,7 @@ module _ (ws : List ℕ) (lent count reader : ℕ) (area sums spaces l out : Lis
     bytes = x .bytes ∙ ap (λ (h : Handed). bufferAfter out (h .reply)) handed-same
 
     pub area-is : us ≡ D .area
-    area-is = x .area ∙ ap (λ (h : Handed). h .area) handed-same
+    area-is = x .area-is ∙ ap (λ (h : Handed). h .area) handed-same
 
     pub summary-is : map summaryOf ts ≡ D .summary
     summary-is = x .summary ∙ ap (λ (h : Handed). h .summary) handed-same

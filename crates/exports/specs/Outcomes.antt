@@ -12,7 +12,7 @@ use Rattle.listing_rules.specs.Demand3.{Demand3}
 use Rattle.listing_rules.specs.Options.{criteriaNumber}
 use Rattle.listing_rules.specs.Subscriptions.{storeTable}
 use Rattle.listing_rules.specs.Server.{Reply, numberOf, lengthOf, bufferAfter}
-use Rattle.listing_rules.specs.Reader.{Read, readNumber, attributesRead, nameRead, childInfoOf, nameBytes}
+use Rattle.listing_rules.specs.LineReader.{Read, readNumber, attributesRead, nameRead, childInfoOf, nameBytes}
 use Rattle.listing_rules.specs.Walk.{lawfulByte, WalkReply, walkNumber, walkCount, foundLength, foundAfter, pendingAfter}
 use Rattle.listing_rules.specs.Sending.{walkNumbers}
 use Rattle.records.specs.declared.Record.{Record}

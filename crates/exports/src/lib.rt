@@ -36,7 +36,7 @@ ghost use Rattle.listing_rules.specs.Table.{passes, packedTable};
 ghost use Rattle.listing_rules.specs.Readers.{packedSeen};
 ghost use Rattle.listing_rules.specs.Namespaces.{namespacesPass};
 ghost use Rattle.listing_rules.specs.Match.{matches};
-ghost use Rattle.listing_rules.specs.Reader.{written, readLine};
+ghost use Rattle.listing_rules.specs.LineReader.{written, readLine};
 ghost use Rattle.listing_rules.specs.Server.{bufferAfter};
 ghost use Rattle.listing_rules.specs.Walk.{collectedBy};
 ghost use Rattle.listing_rules.specs.Joining.{joinedInto};

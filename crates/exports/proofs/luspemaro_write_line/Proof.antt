@@ -1,6 +1,6 @@
 -- `luspemaro_write_line` meets its contract: `list_line::write_line`'s promise, in C's form.
 use Rattle.listing_rules.proofs.Prelude.{_∙_, ap, false, needs}
-use Rattle.listing_rules.specs.Reader.{written}
+use Rattle.listing_rules.specs.LineReader.{written}
 use Rattle.octets.specs.declared.Written.{Written}
 use Rattle.exports.specs.Outcomes.{asNumber, writtenCase}
 use Rattle.exports.proofs.OutcomeLaws.{written-case}

@@ -158,7 +158,7 @@ def verdict(status, output):
 
 def proof_of(place):
     """The folder of the proof that an error is in, as `lines/take_line`; None of an error elsewhere."""
-    file = re.match(r'(?:.*/)?crates/[^/]*/proofs/(.+)/[^/]*:\d+$', place)
+    file = re.match(r'(?:.*/)?crates/[^/]*/proofs/(.+?)(?:/Proof)?/[^/]*:\d+$', place)
     name = re.match(r'\w+((?:::\w+)+)$', place)
     return file[1] if file else name[1][2:].replace('::', '/') if name else None
 

@@ -1,6 +1,6 @@
 -- The lines of an answer taken in one after the other. Rests on LineLaws.
 use Rattle.listing_rules.proofs.Prelude.{_∙_, _≡_, ap, refl, sym, List, _+_, _-_, _<_, _≤_, ℕ, drop, drop-of-length-le, length, take}
-use Rattle.listing_rules.specs.Reader.{readLine}
+use Rattle.listing_rules.specs.LineReader.{readLine}
 use Rattle.listing_rules.specs.Walk.{Lists, Step, stop, go, _then_, linesOf, takenIn, takenAll}
 use Rattle.collector.specs.Lines.{lineLength}
 use Rattle.collector.specs.Options.{byteOf}

@@ -3,7 +3,7 @@ use Rattle.listing_rules.proofs.Prelude.{_∙_, _≡_, ap, refl, sym, Bool, con
 use Rattle.listing_rules.proofs.Prelude.{arith, leb, length}
 use Rattle.listing_rules.specs.Table.{Table}
 use Rattle.listing_rules.specs.Options.{isNone}
-use Rattle.listing_rules.specs.Reader.{Read, line, root, bad, readLine}
+use Rattle.listing_rules.specs.LineReader.{Read, line, root, bad, readLine}
 use Rattle.listing_rules.specs.Walk.{Lists, Step, stop, go, _then_, linesOf, packed, withName, fits, takenIn, takenAll, asked}
 
 -- more names stand after those of s

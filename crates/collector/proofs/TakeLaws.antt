@@ -5,7 +5,7 @@ use Rattle.listing_rules.proofs.Prelude.{length-append, replicate, take, take-a
 use Rattle.listing_rules.proofs.Keys.{openBytes}
 use Rattle.listing_rules.specs.Options.{Criteria, isNone, criteriaOf, criteriaNumber}
 use Rattle.listing_rules.specs.Lines.{rootLine}
-use Rattle.listing_rules.specs.Reader.{Read, line, root, bad, readLine, nameRead, nameBytes}
+use Rattle.listing_rules.specs.LineReader.{Read, line, root, bad, readLine, nameRead, nameBytes}
 use Rattle.listing_rules.specs.Walk.{Lists, Step, stop, go, _then_, packed, isFind, withName, fits, takenIn}
 use Rattle.listing_rules.proofs.LawfulNames.{good-parts}
 use Rattle.listing_rules.proofs.ReaderWriter.{Taken, readLine-only}

@@ -4,7 +4,7 @@ use mathlib.Core.List.{List}
 use Prim.Native.Nat.{ℕ, _+_, _≤_}
 use lib.ListN.{length}
 use Rattle.listing_rules.specs.Table.{Table}
-use Rattle.listing_rules.specs.Reader.{readLine}
+use Rattle.listing_rules.specs.LineReader.{readLine}
 use Rattle.listing_rules.specs.Walk.{Lists, Step, stop, go, linesOf, takenIn, takenAll, asked}
 use Rattle.collector.specs.Names.{Packs}
 use Rattle.collector.specs.Options.{byteOf}

@@ -1,7 +1,7 @@
 -- Words with one space between two, written one by one: what is written, and what is left. Rests on octets' laws of writes.
 use Rattle.listing_rules.proofs.Prelude.{_≡_, refl, Bool, _&&_, false, not, true, List, [], _++_, _∷_, _+_, _<_, _^_, ℕ, length}
 use Rattle.listing_rules.specs.Lines.{chosen, spaced, spacedTail}
-use Rattle.listing_rules.specs.Reader.{separated}
+use Rattle.listing_rules.specs.LineReader.{separated}
 use Rattle.listing_rules.specs.Walk.{when}
 use Rattle.octets.specs.Put.{Put}
 use Rattle.octets.proofs.Puts.{Putting, putting-none, putting-more, putting-all}

@@ -1,7 +1,7 @@
 -- The text of the patterns from a place of the list on. Rests on PackedPatterns and OptionWords.
 use Rattle.listing_rules.proofs.Prelude.{_∙_, _≡_, ap, refl, sym, Bool, false, true, List, [], _++_, _≤_, map, ℕ, drop, length}
 use Rattle.listing_rules.specs.Lines.{spaced}
-use Rattle.listing_rules.specs.Reader.{separated}
+use Rattle.listing_rules.specs.LineReader.{separated}
 use Rattle.listing_rules.specs.Joining.{packedPatterns, stringText}
 use Rattle.command_writer.specs.declared.patterns.Pattern.{Pattern}
 use Rattle.command_writer.specs.Patterns.{patternBytes, PatternAt}

@@ -6,7 +6,7 @@ ghost use mathlib.Core.Path.{_≡_};
 ghost use mathlib.Core.Bool.{_&&_, not};
 ghost use mathlib.Core.List.{[]};
 ghost use Rattle.listing_rules.specs.Walk.{when};
-ghost use Rattle.listing_rules.specs.Reader.{separated};
+ghost use Rattle.listing_rules.specs.LineReader.{separated};
 ghost use Rattle.listing_rules.specs.Joining.{optionsFrom, returnText, selectionText};
 ghost use Rattle.octets.specs.Put.{Put};
 ghost use Rattle.command_writer.specs.Words.{returnWords};

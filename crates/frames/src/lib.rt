@@ -18,7 +18,6 @@ pub use gathering::Gathered;
 pub use gathering::gather;
 pub use gathering::read_gathered;
 pub use kinds::ANSWER;
-pub use logs::MAX_ANSWER_DIGITS;
 pub use logs::MAX_COMMAND;
 pub use logs::Recorded;
 pub use logs::read_command;

@@ -15,7 +15,7 @@ use crate::reading::Frame;
 use crate::reading::read_frame;
 
 // "In a log a frame of 41 may have up to 32,770 digits".
-pub const MAX_ANSWER_DIGITS: usize = 32770;
+const MAX_ANSWER_DIGITS: usize = 32770;
 
 // The longest command of a log: a reader, and the 2,049 bytes that 4,102 digits leave beside it and the first byte.
 pub const MAX_COMMAND: usize = 2050;

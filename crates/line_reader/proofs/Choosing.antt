@@ -4,7 +4,7 @@ use Rattle.listing_rules.proofs.Prelude.{_+_, _<_, _^_, _≤_, ℕ, pow-suc, ad
 use lib.Pow.{pow-mono}
 use Rattle.listing_rules.specs.Lines.{attributeNames}
 use Rattle.listing_rules.specs.Tokens.{Got, got, after, withFirst}
-use Rattle.listing_rules.specs.Reader.{separated, readChosen}
+use Rattle.listing_rules.specs.LineReader.{separated, readChosen}
 use Rattle.list_line.specs.Members.{setOf}
 use Rattle.list_line.specs.Names.{nameOf}
 use Rattle.list_line.proofs.Members.{setOf-below, setOf-in, setOf-out}

@@ -8,7 +8,7 @@ use Rattle.listing_rules.specs.Lists.{every}
 use Rattle.listing_rules.specs.Tokens.{Got, got, after, unquoted, _>>=_}
 use Rattle.listing_rules.specs.Options.{Criteria, criteriaOf, criteriaNumber}
 use Rattle.listing_rules.specs.Lines.{attributeNames, rootLine}
-use Rattle.listing_rules.specs.Reader.{Read, line, bad, readChosen, childInfoRead, readParts, orBad, readLine, nameBytes, nameRead}
+use Rattle.listing_rules.specs.LineReader.{Read, line, bad, readChosen, childInfoRead, readParts, orBad, readLine, nameBytes, nameRead}
 use Rattle.listing_rules.proofs.Keys.{openBytes, openOptions, openLines, openReader}
 use Rattle.octets.proofs.Clearing.{drop-zeros}
 use Rattle.octets.proofs.Puts.{front}

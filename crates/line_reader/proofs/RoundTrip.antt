@@ -5,7 +5,7 @@ use Rattle.listing_rules.proofs.Prelude.{take-append-seam}
 use Rattle.listing_rules.specs.Options.{criteriaNumber}
 use Rattle.listing_rules.specs.Lines.{rootLine}
 use Rattle.listing_rules.specs.Server.{answered}
-use Rattle.listing_rules.specs.Reader.{Read, line, root, bad, readLine, attributesRead, nameRead, childInfoOf, readNumber, nameBytes, lineFrom}
+use Rattle.listing_rules.specs.LineReader.{Read, line, root, bad, readLine, attributesRead, nameRead, childInfoOf, readNumber, nameBytes, lineFrom}
 use Rattle.listing_rules.proofs.Keys.{openOptions, openReader}
 use Rattle.listing_rules.proofs.ReaderWriter.{Taken, readLine-only}
 use Rattle.listing_rules.proofs.RoundTrip.{written-is-read, read-is-written}

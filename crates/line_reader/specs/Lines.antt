@@ -1,6 +1,6 @@
 -- What the reader answers, in document 01's terms.
 use lib.ListN.{length}
-use Rattle.listing_rules.specs.Reader.{Read, line, root, bad}
+use Rattle.listing_rules.specs.LineReader.{Read, line, root, bad}
 use Rattle.list_line.specs.Members.{setOf}
 use Rattle.listing_rules.specs.Options.{criteriaNumber}
 use Rattle.line_reader.specs.declared.Line.{Line}

@@ -10,7 +10,7 @@ use lib.Seq.{sets}
 use Rattle.listing_rules.specs.Tokens.{Got, got, after, withFirst, unquoted, _>>=_}
 use Rattle.listing_rules.specs.Options.{Criteria, criteriaNumber}
 use Rattle.listing_rules.specs.Lines.{attributeNames}
-use Rattle.listing_rules.specs.Reader.{readChosen}
+use Rattle.listing_rules.specs.LineReader.{readChosen}
 use Rattle.list_line.specs.Members.{setOf}
 use Rattle.line_reader.specs.declared.Place.{Place}
 use Rattle.line_reader.specs.declared.Place.the-variants.{At, Missing}

@@ -14,7 +14,7 @@ use octets::same_bytes;
 ghost use mathlib.Core.Path.{_≡_};
 ghost use Prim.Native.Nat.{_≤_};
 ghost use lib.ListN.{length, replicate};
-ghost use Rattle.listing_rules.specs.Reader.{bad, childInfoRead, readParts, orBad, readLine, nameBytes};
+ghost use Rattle.listing_rules.specs.LineReader.{bad, childInfoRead, readParts, orBad, readLine, nameBytes};
 ghost use Rattle.list_line.specs.Names.{allNames, namePlaces};
 ghost use Rattle.line_reader.specs.Lines.{lineIs};
 ghost use Rattle.line_reader.specs.Parts.{Skips, Chooses, Next, Names, tailIs};

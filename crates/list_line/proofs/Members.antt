@@ -6,7 +6,7 @@ use Rattle.listing_rules.proofs.Prelude.{eqb-true, ne-eqb}
 use lib.Pow.{pow-mono}
 use Rattle.listing_rules.specs.Bytes.{bit, isEmpty}
 use Rattle.listing_rules.specs.Options.{Criteria, isNone}
-use Rattle.listing_rules.specs.Reader.{sameBools, rootAttributes, rootParts}
+use Rattle.listing_rules.specs.LineReader.{sameBools, rootAttributes, rootParts}
 use Rattle.listing_rules.proofs.RoundTrip.{sameBools-true}
 use Rattle.octets.specs.Sets.{contains}
 use Rattle.octets.proofs.Sets.{contains-bit}

@@ -3,7 +3,7 @@ use Rattle.listing_rules.proofs.Prelude.{_∙_, _≡_, ap, refl, subst, sym, Bo
 use Rattle.listing_rules.proofs.Prelude.{decLt, arith, leb, drop, getD, length, take, leb-true, lt-leb}
 use Rattle.listing_rules.specs.Bytes.{same, space}
 use Rattle.listing_rules.proofs.Keys.{openBytes, openLines}
-use Rattle.listing_rules.specs.Reader.{separated}
+use Rattle.listing_rules.specs.LineReader.{separated}
 use Rattle.listing_rules.proofs.Bools.{and-l, and-r}
 use Rattle.listing_rules.proofs.ListLaws.{same-true}
 use Rattle.list_line.specs.declared.texts.Span.{Span}

@@ -5,7 +5,7 @@ use Rattle.listing_rules.proofs.Keys.{openBytes}
 use Rattle.listing_rules.specs.Options.{lawfulCriteria, criteriaOf}
 use Rattle.listing_rules.specs.Lines.{attributeNames, chosen, spaced, spacedTail, listLine, rootLine}
 use Rattle.listing_rules.specs.Names.{lawfulName}
-use Rattle.listing_rules.specs.Reader.{separated, rootParts, lineFrom}
+use Rattle.listing_rules.specs.LineReader.{separated, rootParts, lineFrom}
 use Rattle.listing_rules.specs.Server.{refusal, answered, limited, bufferAfter}
 use Rattle.octets.specs.Put.{Put}
 use Rattle.octets.specs.Written.{writtenIs, Gives}

@@ -6,7 +6,7 @@ use Prim.Native.Nat.{ℕ, _+_, _-_, _≤_}
 use lib.Dec.{leb}
 use lib.ListN.{getD, take, drop, length}
 use Rattle.listing_rules.specs.Lines.{attributeNames, spacedTail}
-use Rattle.listing_rules.specs.Reader.{separated}
+use Rattle.listing_rules.specs.LineReader.{separated}
 use Rattle.list_line.specs.declared.texts.Span.{Span}
 
 -- every name behind a space

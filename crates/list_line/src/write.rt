@@ -14,7 +14,7 @@ ghost use mathlib.Core.List.{_++_};
 ghost use Rattle.listing_rules.specs.Bytes.{crlf};
 ghost use Rattle.listing_rules.specs.Lines.{attributeNames, chosen, spaced, childInfoText, wordLine, listLine, rootLine, okLine};
 ghost use Rattle.listing_rules.specs.Options.{criteriaOf};
-ghost use Rattle.listing_rules.specs.Reader.{rootParts, lineFrom};
+ghost use Rattle.listing_rules.specs.LineReader.{rootParts, lineFrom};
 ghost use Rattle.listing_rules.specs.Server.{answered};
 ghost use Rattle.octets.specs.Put.{Put};
 ghost use Rattle.octets.specs.Written.{Gives};

@@ -20,7 +20,7 @@ use Rattle.octets.specs.declared.Written.{Written}
 use Rattle.records.specs.Words.{recordOf}
 use Rattle.records.specs.Numbers.{summaryOf}
 use Rattle.records.specs.Lent.{lentOf}
-use Rattle.records.specs.Stores.{wordCommand, Between}
+use Rattle.records.specs.Stores.{Between}
 use Rattle.server.specs.declared.Stored.{Stored}
 use Rattle.server.specs.Answering.{memory, Answers}
 use Rattle.frames.specs.declared.logs.Recorded.{Recorded}
@@ -131,8 +131,7 @@ module _ (reader : ℕ) (m : Summed) (spaces l buffer : List ℕ) (sized : lengt
 -- The server's command over lent words is the definition's, and leaves the table that the definition leaves.
 module _ (words sums area spaces command l answer : List ℕ) (rows : ℕ) (line : l ≡ drop 1 command) (long : length answer ≡ 16384)
     (words′ sums′ area′ answer′ : List ℕ) (done : Stored)
-    (a : Answers (wordCommand words (length words) rows (getD command 0 0) area sums spaces l answer) (memory words sums area answer)
-    (memory words′ sums′ area′ answer′) done) where
+    (a : Answers (memory words sums area answer) (memory words′ sums′ area′ answer′) rows (getD command 0 0) spaces l done) where
   abbrev m : Summed
   m = summedIn (table words sums area) rows
 
@@ -178,7 +177,7 @@ module _ (words sums area spaces command l answer : List ℕ) (rows : ℕ) (line
 
   run-left : summedIn (table words′ sums′ area′) (done .count) ≡ rerunOf spaces command m .left
   run-left =
-      (λ i. record { store = record { records = records-are i; count = a .count i; area = a .area i }; summary = summary-is i }) ∙ ap
+      (λ i. record { store = record { records = records-are i; count = a .count-is i; area = a .area-is i }; summary = summary-is i }) ∙ ap
       (λ (c : SummedCommand). c .left) as-rerun
     where
       records-are : map recordOf (take (lentOf words′ (length words′) sums′) words′) ≡ here .left .store .records

@@ -1,6 +1,7 @@
 -- `collect_words` meets its contract: refusals 16 and 1, and the walk over the index of the table that passes with its summary (`collect_index`). By
 -- HeldLaws; the index by HeldLaws of mailbox_table; demand 3 by WholeLaws.
-use Rattle.listing_rules.proofs.Prelude.{_∙_, _≡_, ap, arith, length, take, le-leb, needs}
+mod Stages
+use Rattle.listing_rules.proofs.Prelude.{_∙_, _≡_, ap, arith, length, take, le-leb}
 use Rattle.listing_rules.specs.Table.{passes}
 use Rattle.listing_rules.specs.Readers.{isReader}
 use Rattle.listing_rules.proofs.SummaryAlike.{summed-seen-passes}
@@ -10,88 +11,86 @@ use Rattle.collector.specs.Held.{heldSeen}
 use Rattle.collector.proofs.HeldLaws.{summed-held}
 use Rattle.collector.proofs.WholeLaws.{promised, promised-same, collects-refused, refuses-reader, refuses-table}
 use Rattle.collector.proofs.collect_words.Statement.{statement}
-use Rattle.collector.proofs.collect_words.Tie as tie
 
-returns : tie.Need-returns
-returns c =
-    let refused = c .before .before .before .before .before .before in
-    let above = refused .before .before .before .before in
-    let start = above .before .before .before .before .before .before .before in
-    let a = start .args in
-    let ends = refused .refuse .ensures in
+returns-at-then-max-reader-reader : Stages.Need-returns-at-then-max-reader-reader
+returns-at-then-max-reader-reader c =
+    let at = Stages.returns-at-then-max-reader-reader c in
+    let a = at .start .args in
+    let ends = at .after-refuse .ensures in
     let t = wordsSeen (a .reader) (a .words .now) (a .count) (a .area .now) (a .sums .now) in
     promised (a .reader) (wordsTable (a .words .now) (a .count) (a .area .now) (a .sums .now)) t (a .option) (a .scratch .now) (a .found .now)
     (a .pending .now) (summed-seen-passes (a .reader) (wordsSummed (a .words .now) (a .count) (a .area .now) (a .sums .now))) _ _ _ _
     (collects-refused (a .reader) t (a .option) (a .scratch .now) (a .found .now) (a .pending .now) (ends .1) (ends .0)
-    (refuses-reader (a .reader) t (a .option) (a .scratch .now) (a .found .now) (a .pending .now) (omega (arith, above .if1 .taken)))
+    (refuses-reader (a .reader) t (a .option) (a .scratch .now) (a .found .now) (a .pending .now) (omega (arith, at .then-max-reader-reader .taken)))
     (ends .2) (ends .3))
 
-returns-2 : tie.Need-returns-2
-returns-2 c =
-    let refused = c .before .before .before .before .before .before in
-    let told = refused .before .before .before .before in
-    let indexed = told .before .before .before in
-    let made = indexed .before .before in
-    let reader = made .before in
-    let start = reader .before .before .before .before .before .before .before in
-    let a = start .args in
-    let ends = refused .refuse2 .ensures in
+returns-at-else-index-summed-area-words : Stages.Need-returns-at-else-index-summed-area-words
+returns-at-else-index-summed-area-words c =
+    let at = Stages.returns-at-else-index-summed-area-words c in
+    let a = at .start .args in
+    let ends = at .after-refuse-at-else-index-summed-area-words .ensures in
     let t = wordsSeen (a .reader) (a .words .now) (a .count) (a .area .now) (a .sums .now) in
     let alike = summed-seen-passes (a .reader) (wordsSummed (a .words .now) (a .count) (a .area .now) (a .sums .now)) in
-    let fails = index-refused (indexed .index-summed .ensures) (ap length (made .no-words .ensures)) (told .enum-told .given .1) in
+    let fails = index-refused (at .after-index-summed .ensures) (ap length (at .after-no-words .ensures)) (at .else-index-summed-area-words-enum-told .given .1) in
     promised (a .reader) (wordsTable (a .words .now) (a .count) (a .area .now) (a .sums .now)) t (a .option) (a .scratch .now) (a .found .now)
     (a .pending .now) alike _ _ _ _
     (collects-refused (a .reader) t (a .option) (a .scratch .now) (a .found .now) (a .pending .now) (ends .1) (ends .0)
-    (refuses-table (a .reader) t (a .option) (a .scratch .now) (a .found .now) (a .pending .now) (omega (arith, reader .if1 .left)) (alike ∙ fails))
+    (refuses-table (a .reader) t (a .option) (a .scratch .now) (a .found .now) (a .pending .now) (omega (arith, at .else-max-reader-reader .left)) (alike ∙ fails))
     (ends .2) (ends .3))
 
 -- the rows, where they are found
-known : (c : tie.After-n) → Held (c .before .before .before .index-summed .ensures) (c .n .given .0 .0)
-known c = index-held (c .before .before .before .index-summed .ensures) (c .n .given .0 .0) (c .n .given .1)
+known : (c : Stages.Bound-n) →
+    let at = Stages.bound-n c in
+    Held (at .after-index-summed .ensures) (at .bound-n .given .0 .0)
+known c =
+    let at = Stages.bound-n c in
+    index-held (at .after-index-summed .ensures) (at .bound-n .given .0 .0) (at .bound-n .given .1)
 
 -- those of them that the reader sees are the table that it sees
-seen : (c : tie.After-n) →
-    let start = c .before .before .before .before .before .before .before .before .before .before .before .before .before in
-    let a = start .args in
-    heldSeen (a .reader) (a .area .now) (take (c .n .given .0 .0) (c .before .before .before .index-summed .last .1 .1 .1 .1 .0))
+seen : (c : Stages.Bound-n) →
+    let at = Stages.bound-n c in
+    let a = at .start .args in
+    heldSeen (a .reader) (a .area .now) (take (at .bound-n .given .0 .0) (at .after-index-summed .last .1 .1 .1 .1 .0))
     ≡ wordsSeen (a .reader) (a .words .now) (a .count) (a .area .now) (a .sums .now)
 seen c =
-    let start = c .before .before .before .before .before .before .before .before .before .before .before .before .before in
-    let a = start .args in
+    let at = Stages.bound-n c in
+    let a = at .start .args in
     summed-held (a .reader) (a .words .now) (a .count) (a .area .now) (a .sums .now)
-    (take (c .n .given .0 .0) (c .before .before .before .index-summed .last .1 .1 .1 .1 .0)) (known c .table-passes) (known c .told)
+    (take (at .bound-n .given .0 .0) (at .after-index-summed .last .1 .1 .1 .1 .0)) (known c .table-passes) (known c .told)
 
-array-share-prefix-rows : tie.Need-array-share-prefix-rows
-array-share-prefix-rows c = known (c .before) .inside
+array-share-prefix-rows-at-then-index-summed-area-words : Stages.Need-array-share-prefix-rows-at-then-index-summed-area-words
+array-share-prefix-rows-at-then-index-summed-area-words c = known (Stages.array-share-prefix-rows-at-then-index-summed-area-words c .Bound-n) .inside
 
-slice-aggregate-collect-index : tie.Need-slice-aggregate-collect-index
-slice-aggregate-collect-index c = known (c .before .before) .size
+slice-aggregate-collect-index-at-then-index-summed-area-words : Stages.Need-slice-aggregate-collect-index-at-then-index-summed-area-words
+slice-aggregate-collect-index-at-then-index-summed-area-words c = known (Stages.slice-aggregate-collect-index-at-then-index-summed-area-words c .Bound-n) .size
 
-collect-index-requires : tie.Need-collect-index-requires
+collect-index-requires : Stages.Need-collect-index-requires
 unfolding isReader
 collect-index-requires c κs =
-    let found = c .before .before .before .before .before in
-    let at-if1 = found .before .before .before .before .before .before in
-    let start = at-if1 .before .before .before .before .before .before .before in
-    let a = start .args in
+    let at = Stages.collect-index-requires c in
+    let found = at .Bound-n in
+    let a = at .start .args in
     let alike = summed-seen-passes (a .reader) (wordsSummed (a .words .now) (a .count) (a .area .now) (a .sums .now)) in
-    (le-leb (a .reader) 7 (at-if1 .if1 .left), ap passes (seen found) ∙ alike ∙ known found .table-passes)
+    (le-leb (a .reader) 7 (at .else-max-reader-reader .left), ap passes (seen found) ∙ alike ∙ known found .table-passes)
 
-returns-3 : tie.Need-returns-3
-returns-3 c =
-    let walked = c .before .before .before .before .before .before in
-    let found = walked .before .before .before .before .before .before in
-    let start = found .before .before .before .before .before .before .before .before .before .before .before .before .before in
-    let a = start .args in
-    let last = walked .collect-index .last .1 .1 .1 .1 in
+returns-at-then-index-summed-area-words : Stages.Need-returns-at-then-index-summed-area-words
+returns-at-then-index-summed-area-words c =
+    let at = Stages.returns-at-then-index-summed-area-words c in
+    let found = at .Bound-n in
+    let a = at .start .args in
+    let last = at .after-collect-index .last .1 .1 .1 .1 in
     promised-same (a .reader) (wordsTable (a .words .now) (a .count) (a .area .now) (a .sums .now))
     (wordsSeen (a .reader) (a .words .now) (a .count) (a .area .now) (a .sums .now)) (a .option) (a .scratch .now) (a .found .now) (a .pending .now)
-    (summed-seen-passes (a .reader) (wordsSummed (a .words .now) (a .count) (a .area .now) (a .sums .now))) (walked .collect-index .result) (last .0)
-    (last .1 .0) (last .1 .1 .0) (seen found) (walked .collect-index .ensures)
+    (summed-seen-passes (a .reader) (wordsSummed (a .words .now) (a .count) (a .area .now) (a .sums .now))) (at .after-collect-index .result) (last .0)
+    (last .1 .0) (last .1 .1 .0) (seen found) (at .after-collect-index .ensures)
 
 pub collect-words-spec : {M : Type 1} → statement M
 collect-words-spec =
-    tie.close (tie.spec (λ c κs. search needs) (λ c. search needs) (λ c. search needs) (λ c. search needs) returns (λ c κs. search needs)
-    (λ c. search needs) (λ c κs. search needs) (λ c. search needs) (λ c. search needs) (λ c κs. search needs) (λ c. search needs) (λ c. search needs)
-    (λ c. search needs) returns-2 array-share-prefix-rows slice-aggregate-collect-index collect-index-requires (λ c. search needs)
-    (λ c. search needs) (λ c. search needs) returns-3)
+    Stages.close (record {
+      returns-at-then-max-reader-reader = returns-at-then-max-reader-reader;
+      returns-at-else-index-summed-area-words = returns-at-else-index-summed-area-words;
+      array-share-prefix-rows-at-then-index-summed-area-words = array-share-prefix-rows-at-then-index-summed-area-words;
+      slice-aggregate-collect-index-at-then-index-summed-area-words = slice-aggregate-collect-index-at-then-index-summed-area-words;
+      collect-index-requires = collect-index-requires;
+      returns-at-then-index-summed-area-words = returns-at-then-index-summed-area-words;
+    })

@@ -1,12 +1,13 @@
 -- `put_name`: the bytes of the name's span, as command_tokens puts them.
-use Rattle.listing_rules.proofs.Prelude.{needs}
+mod Stages
 use Rattle.command_line.specs.Commands.{nameOf}
 use Rattle.command_line.proofs.put_name.Statement.{statement}
-use Rattle.command_line.proofs.put_name.Tie as tie
 
-returns : tie.Need-returns
+returns-at-start : Stages.Need-returns-at-start
 unfolding nameOf
-returns c = c .before .before .put-span .ensures
+returns-at-start c = Stages.returns-at-start c .after-put-span .ensures
 
 pub put-name-spec : {M : Type 1} → statement M
-put-name-spec = tie.close (tie.spec (λ c κs. search needs) (λ c. search needs) returns)
+put-name-spec = Stages.close (record {
+  returns-at-start = returns-at-start;
+})

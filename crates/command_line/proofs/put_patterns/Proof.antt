@@ -1,12 +1,13 @@
 -- `put_patterns`: the patterns of the command, as command_patterns puts them.
-use Rattle.listing_rules.proofs.Prelude.{needs}
+mod Stages
 use Rattle.command_line.specs.Commands.{patternsOf}
 use Rattle.command_line.proofs.put_patterns.Statement.{statement}
-use Rattle.command_line.proofs.put_patterns.Tie as tie
 
-returns : tie.Need-returns
+returns-at-start : Stages.Need-returns-at-start
 unfolding patternsOf
-returns c = c .before .before .put-patterns .ensures
+returns-at-start c = Stages.returns-at-start c .after-put-patterns .ensures
 
 pub put-patterns-spec : {M : Type 1} → statement M
-put-patterns-spec = tie.close (tie.spec (λ c κs. search needs) (λ c. search needs) returns)
+put-patterns-spec = Stages.close (record {
+  returns-at-start = returns-at-start;
+})

@@ -1,39 +1,47 @@
 -- `read_command`: check 3, and then the text before CR LF. Rests on Lines.
-use Rattle.listing_rules.proofs.Prelude.{_∙_, _≡_, sym, true, _-_, arith, length, length-take, not-false, not-true, needs}
+mod Stages
+use Rattle.listing_rules.proofs.Prelude.{_∙_, _≡_, sym, true, _-_, arith, length, length-take, not-false, not-true}
 use Rattle.listing_rules.specs.Feeder.{first, oneCommand}
 use Rattle.command_line.specs.Commands.{Answers}
 use Rattle.command_shape.proofs.Shapes.{one-long}
 use Rattle.command_line.proofs.Judging.{refuses}
 use Rattle.command_line.proofs.Lines.{line-off, line-read, meaning-line, inside-line}
 use Rattle.command_line.proofs.read_command.Statement.{statement}
-use Rattle.command_line.proofs.read_command.Tie as tie
 
 -- the line is one command
-one : (c : tie.Else1) → oneCommand first (c .before .before .before .args .line .now) ≡ true
-one c = sym (c .before .is-one-command .ensures) ∙ not-false _ (c .if1 .left)
+one : (c : Stages.Else-not-is-one-command-line) → oneCommand first (Stages.else-not-is-one-command-line c .start .args .line .now) ≡ true
+one c =
+    let at = Stages.else-not-is-one-command-line c in
+    sym (at .after-is-one-command .ensures) ∙ not-false _ (at .else-not-is-one-command-line .left)
 
-returns : tie.Need-returns
-returns c =
-    let off : Answers _ _ Unit _ = refuses _ 3 (c .refused .ensures) (line-off _ (sym (c .before .before .is-one-command .ensures) ∙ not-true _ (c .before .if1 .taken))) in
+returns-at-then-not-is-one-command-line : Stages.Need-returns-at-then-not-is-one-command-line
+returns-at-then-not-is-one-command-line c =
+    let at = Stages.returns-at-then-not-is-one-command-line c in
+    let off : Answers _ _ Unit _ = refuses _ 3 (at .after-refused .ensures) (line-off _ (sym (at .after-is-one-command .ensures) ∙ not-true _ (at .then-not-is-one-command-line .taken))) in
     (off .means, off .inside tt)
 
-sub-n : tie.Need-sub-n
-sub-n c = omega (arith, one-long _ (one c))
+sub-n-at-else-not-is-one-command-line : Stages.Need-sub-n-at-else-not-is-one-command-line
+sub-n-at-else-not-is-one-command-line c = omega (arith, one-long _ (one (Stages.sub-n-at-else-not-is-one-command-line c .Else-not-is-one-command-line)))
 
-slice-aggregate-read-text : tie.Need-slice-aggregate-read-text
-slice-aggregate-read-text c =
-    let start = c .before .before .before .before in
-    let line = start .args .line .now in
-    omega (arith, length-take (length line - 2) line, one-long line (one (c .before)))
+slice-aggregate-read-text-at-else-not-is-one-command-line : Stages.Need-slice-aggregate-read-text-at-else-not-is-one-command-line
+slice-aggregate-read-text-at-else-not-is-one-command-line c =
+    let at = Stages.slice-aggregate-read-text-at-else-not-is-one-command-line c in
+    let line = at .start .args .line .now in
+    omega (arith, length-take (length line - 2) line, one-long line (one (at .Else-not-is-one-command-line)))
 
-returns-2 : tie.Need-returns-2
-returns-2 c =
-    let start = c .before .before .before .before .before in
-    let line = start .args .line .now in
-    let read = c .read-text .ensures in
+returns-at-else-not-is-one-command-line : Stages.Need-returns-at-else-not-is-one-command-line
+returns-at-else-not-is-one-command-line c =
+    let at = Stages.returns-at-else-not-is-one-command-line c in
+    let line = at .start .args .line .now in
+    let read = at .after-read-text .ensures in
     let n = length line - 2 in
-    (sym (meaning-line line n _ (read .inside tt)) ∙ read .means ∙ sym (line-read line (one (c .before .before))), inside-line line n _ (read .inside tt))
+    (sym (meaning-line line n _ (read .inside tt)) ∙ read .means ∙ sym (line-read line (one (at .Else-not-is-one-command-line))), inside-line line n _ (read .inside tt))
 
 pub read-command-spec : {M : Type 1} → statement M
 read-command-spec =
-    tie.close (tie.spec (λ c κs. search needs) (λ c κs. search needs) returns sub-n slice-aggregate-read-text (λ c κs. search needs) returns-2)
+    Stages.close (record {
+      returns-at-then-not-is-one-command-line = returns-at-then-not-is-one-command-line;
+      sub-n-at-else-not-is-one-command-line = sub-n-at-else-not-is-one-command-line;
+      slice-aggregate-read-text-at-else-not-is-one-command-line = slice-aggregate-read-text-at-else-not-is-one-command-line;
+      returns-at-else-not-is-one-command-line = returns-at-else-not-is-one-command-line;
+    })

@@ -1,13 +1,15 @@
 -- `is_line_byte` is the definition's test.
+mod Stages
 use Rattle.listing_rules.proofs.Prelude.{refl}
 use Rattle.listing_rules.specs.Bytes.{within}
 use Rattle.listing_rules.specs.Tokens.{lineByte}
 use Rattle.command_shape.proofs.is_line_byte.Statement.{statement}
-use Rattle.command_shape.proofs.is_line_byte.Tie as tie
 
-returns : tie.Need-returns
+returns-at-start : Stages.Need-returns-at-start
 unfolding lineByte within
-returns c = refl
+returns-at-start c = refl
 
 pub is-line-byte-spec : {M : Type 1} → statement M
-is-line-byte-spec = tie.close (tie.spec returns)
+is-line-byte-spec = Stages.close (record {
+  returns-at-start = returns-at-start;
+})

@@ -1,33 +1,25 @@
 -- `put_join` meets its contract: ten writes, one after the other (`put-then`).
-use Rattle.listing_rules.proofs.Prelude.{needs}
+mod Stages
 use Rattle.listing_rules.specs.Bytes.{text, crlf}
 use Rattle.listing_rules.specs.Joining.{joinedText}
 use Rattle.octets.proofs.Puts.{put-length, put-then}
 use Rattle.command_writer.proofs.put_join.Statement.{statement}
-use Rattle.command_writer.proofs.put_join.Tie as tie
 
-returns : tie.Need-returns
+returns-at-start : Stages.Need-returns-at-start
 unfolding text crlf joinedText
-returns c =
-    let after-put-return = c .before .before .before .before .before .before .before in
-    let after-put = after-put-return .before .before .before .before in
-    let after-put-patterns = after-put .before .before .before .before in
-    let after-put-all4 = after-put-patterns .before .before .before .before in
-    let after-put-string = after-put-all4 .before .before .before .before .before in
-    let after-put-all3 = after-put-string .before .before .before .before in
-    let after-put-selection = after-put-all3 .before .before .before .before .before in
-    let after-put-all2 = after-put-selection .before .before .before .before in
-    let after-put-all = after-put-all2 .before .before .before .before .before in
-    put-then (after-put-all .put-all .ensures) (put-then (after-put-all2 .put-all2 .ensures) (put-then (after-put-selection .put-selection .ensures)
-    (put-then (after-put-all3 .put-all3 .ensures) (put-then (after-put-string .put-string .ensures) (put-then (after-put-all4 .put-all4 .ensures)
-    (put-then (after-put-patterns .put-patterns .ensures) (put-then (after-put .put .ensures)
-    (put-then (after-put-return .put-return .ensures) (c .before .before .put-all5 .ensures)))))))))
+returns-at-start c =
+    let at = Stages.returns-at-start c in
+    put-then (at .after-put-all .ensures) (put-then (at .after-put-all-word .ensures) (put-then (at .after-put-selection .ensures)
+    (put-then (at .after-put-all-closed .ensures) (put-then (at .after-put-string .ensures) (put-then (at .after-put-all-open .ensures)
+    (put-then (at .after-put-patterns .ensures) (put-then (at .after-put .ensures)
+    (put-then (at .after-put-return .ensures) (at .after-put-all-at-start .ensures)))))))))
 
-same-length : tie.Need-same-length
-same-length c = put-length (returns c)
+same-length-at-start : Stages.Need-same-length-at-start
+same-length-at-start c = put-length (returns-at-start (Stages.same-length-at-start c .Bound-buf-at-start-9-slice-known))
 
 pub put-join-spec : {M : Type 1} → statement M
 put-join-spec =
-    tie.close (tie.spec (λ c κs. search needs) (λ c. search needs) (λ c κs. search needs) (λ c κs. search needs) (λ c. search needs)
-    (λ c κs. search needs) (λ c κs. search needs) (λ c. search needs) (λ c κs. search needs) (λ c κs. search needs) (λ c κs. search needs)
-    (λ c κs. search needs) (λ c. search needs) (λ c κs. search needs) same-length returns)
+    Stages.close (record {
+      same-length-at-start = same-length-at-start;
+      returns-at-start = returns-at-start;
+    })

@@ -1,25 +1,29 @@
 -- `feeder::event_of` meets its contract.
+mod Stages
 use Rattle.feeder.specs.Feed.{eventIs}
-use Rattle.listing_rules.proofs.Prelude.{needs}
 use Rattle.feeder.proofs.event_of.Statement.{statement}
-use Rattle.feeder.proofs.event_of.Tie as tie
 
-returns : tie.Need-returns
+returns-at-arm-signal-quiet : Stages.Need-returns-at-arm-signal-quiet
 unfolding eventIs
-returns c = rw (c .enum-told .given .1)
+returns-at-arm-signal-quiet c = rw (Stages.returns-at-arm-signal-quiet c .arm-signal-quiet-enum-told .given .1)
 
-returns-2 : tie.Need-returns-2
+returns-at-arm-signal-goon : Stages.Need-returns-at-arm-signal-goon
 unfolding eventIs
-returns-2 c = rw (c .enum-told2 .given .1)
+returns-at-arm-signal-goon c = rw (Stages.returns-at-arm-signal-goon c .arm-signal-goon-enum-told .given .1)
 
-returns-3 : tie.Need-returns-3
+returns-at-arm-signal-whole : Stages.Need-returns-at-arm-signal-whole
 unfolding eventIs
-returns-3 c = rw (c .enum-told3 .given .1)
+returns-at-arm-signal-whole c = rw (Stages.returns-at-arm-signal-whole c .arm-signal-whole-enum-told .given .1)
 
-returns-4 : tie.Need-returns-4
+returns-at-arm-signal-refused : Stages.Need-returns-at-arm-signal-refused
 unfolding eventIs
-returns-4 c = rw (c .enum-told4 .given .1)
+returns-at-arm-signal-refused c = rw (Stages.returns-at-arm-signal-refused c .arm-signal-refused-enum-told .given .1)
 
 pub event-of-spec : {M : Type 1} → statement M
 event-of-spec =
-    tie.close (tie.spec (λ c. search needs) (λ c. search needs) (λ c. search needs) (λ c. search needs) returns returns-2 returns-3 returns-4)
+    Stages.close (record {
+      returns-at-arm-signal-quiet = returns-at-arm-signal-quiet;
+      returns-at-arm-signal-goon = returns-at-arm-signal-goon;
+      returns-at-arm-signal-whole = returns-at-arm-signal-whole;
+      returns-at-arm-signal-refused = returns-at-arm-signal-refused;
+    })

@@ -1,16 +1,15 @@
 -- `feeder::feed_byte` meets its contract.
+mod Stages
 use Rattle.feeder.proofs.FeedLaws.{fed-byte}
-use Rattle.listing_rules.proofs.Prelude.{needs}
 use Rattle.feeder.proofs.feed_byte.Statement.{statement}
-use Rattle.feeder.proofs.feed_byte.Tie as tie
 
-returns : tie.Need-returns
-returns c =
-    let after-step = c .before .before .before in
-    let after-store = after-step .before .before .before in
-    let start = after-store .before .before .before in
-    let a = start .args in fed-byte _ _ _ _ _ _ _ (after-step .step .ensures) (after-store .store .ensures) (c .before .advance .ensures) (c .event-of .ensures)
+returns-at-start : Stages.Need-returns-at-start
+returns-at-start c =
+    let at = Stages.returns-at-start c in
+    let a = at .start .args in fed-byte _ _ _ _ _ _ _ (at .after-step .ensures) (at .after-store .ensures) (at .after-advance .ensures) (at .after-event-of .ensures)
 
 pub feed-byte-spec : {M : Type 1} → statement M
 feed-byte-spec =
-    tie.close (tie.spec (λ c κs. search needs) (λ c κs. search needs) (λ c κs. search needs) (λ c κs. search needs) (λ c. search needs) returns)
+    Stages.close (record {
+      returns-at-start = returns-at-start;
+    })

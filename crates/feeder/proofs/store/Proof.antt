@@ -1,18 +1,23 @@
 -- `feeder::store` meets its contract.
-use Rattle.listing_rules.proofs.Prelude.{_∙_, sym, needs}
+mod Stages
+use Rattle.listing_rules.proofs.Prelude.{_∙_, sym}
 use Rattle.feeder.specs.Feed.{storedIs}
 use Rattle.feeder.proofs.store.Statement.{statement}
-use Rattle.feeder.proofs.store.Tie as tie
 
-returns : tie.Need-returns
+returns-at-then-state-takes : Stages.Need-returns-at-then-state-takes
 unfolding storedIs
-returns c =
-    let at-if1 = c .before .before .before .before in
-    c .before .before .put .ensures .bytes ∙ rw (sym (at-if1 .before .takes .ensures) ∙ at-if1 .if1 .taken)
+returns-at-then-state-takes c =
+    let at = Stages.returns-at-then-state-takes c in
+    at .after-put .ensures .bytes ∙ rw (sym (at .after-takes .ensures) ∙ at .then-state-takes .taken)
 
-returns-2 : tie.Need-returns-2
+returns-at-else-state-takes : Stages.Need-returns-at-else-state-takes
 unfolding storedIs
-returns-2 c = rw (sym (c .before .takes .ensures) ∙ c .if1 .left)
+returns-at-else-state-takes c =
+    let at = Stages.returns-at-else-state-takes c in
+    rw (sym (at .after-takes .ensures) ∙ at .else-state-takes .left)
 
 pub store-spec : {M : Type 1} → statement M
-store-spec = tie.close (tie.spec (λ c κs. search needs) (λ c κs. search needs) (λ c. search needs) returns returns-2)
+store-spec = Stages.close (record {
+  returns-at-then-state-takes = returns-at-then-state-takes;
+  returns-at-else-state-takes = returns-at-else-state-takes;
+})

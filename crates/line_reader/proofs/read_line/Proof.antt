@@ -1,19 +1,25 @@
 -- `read_line` meets its contract: the root line, or `read_parts` (`read-root`, `read-other` of `Reading`).
-use Rattle.listing_rules.proofs.Prelude.{_∙_, sym, needs}
+mod Stages
+use Rattle.listing_rules.proofs.Prelude.{_∙_, sym}
 use Rattle.listing_rules.proofs.Keys.{openBytes}
 use Rattle.listing_rules.specs.Lines.{rootLine}
 use Rattle.line_reader.proofs.Reading.{read-root, read-other}
 use Rattle.line_reader.proofs.read_line.Statement.{statement}
-use Rattle.line_reader.proofs.read_line.Tie as tie
 
-returns : tie.Need-returns
+returns-at-then-same-bytes-line-texts-root-line : Stages.Need-returns-at-then-same-bytes-line-texts-root-line
 unfolding openBytes rootLine
-returns c =
-    let r = read-root _ (sym (c .before .before .same-bytes .ensures) ∙ c .before .if1 .taken) in (r .0, c .no-name .ensures ∙ r .1)
+returns-at-then-same-bytes-line-texts-root-line c =
+    let at = Stages.returns-at-then-same-bytes-line-texts-root-line c in
+    let r = read-root _ (sym (at .after-same-bytes .ensures) ∙ at .then-same-bytes-line-texts-root-line .taken) in (r .0, at .after-no-name .ensures ∙ r .1)
 
-returns-2 : tie.Need-returns-2
+returns-at-else-same-bytes-line-texts-root-line : Stages.Need-returns-at-else-same-bytes-line-texts-root-line
 unfolding openBytes rootLine
-returns-2 c = rw (read-other _ (sym (c .before .before .same-bytes .ensures) ∙ c .before .if1 .left)) (c .read-parts .ensures)
+returns-at-else-same-bytes-line-texts-root-line c =
+    let at = Stages.returns-at-else-same-bytes-line-texts-root-line c in
+    rw (read-other _ (sym (at .after-same-bytes .ensures) ∙ at .else-same-bytes-line-texts-root-line .left)) (at .after-read-parts .ensures)
 
 pub read-line-spec : {M : Type 1} → statement M
-read-line-spec = tie.close (tie.spec (λ c. search needs) (λ c κs. search needs) (λ c κs. search needs) returns (λ c κs. search needs) returns-2)
+read-line-spec = Stages.close (record {
+  returns-at-then-same-bytes-line-texts-root-line = returns-at-then-same-bytes-line-texts-root-line;
+  returns-at-else-same-bytes-line-texts-root-line = returns-at-else-same-bytes-line-texts-root-line;
+})

@@ -1,63 +1,68 @@
 -- `read_name` meets its contract. The loop's invariant is `Naming`: the bytes read so far, and what is left of the name.
-use Rattle.listing_rules.proofs.Prelude.{subst, _-_, arith, length, needs}
+mod Loops
+mod Stages
+use Rattle.listing_rules.proofs.Prelude.{subst, arith}
 use Rattle.line_reader.specs.Parts.{Next}
 use Rattle.line_reader.specs.declared.Piece.the-variants.{Byte}
-use Rattle.line_reader.proofs.Naming.{Naming, naming-none, naming-byte, naming-full, naming-end, naming-torn}
+use Rattle.line_reader.proofs.Naming.{naming-none, naming-byte, naming-full, naming-end, naming-torn}
 use Rattle.line_reader.proofs.read_name.Statement.{statement}
-use Rattle.line_reader.proofs.read_name.Tie as tie
 
-abbrev Inv-loop : tie.InvT-loop
-Inv-loop line from name₀ len₀ i₀ name len i = Naming line from name₀ name len i
+loop-holds-at-start : Stages.Need-loop-holds-at-start
+loop-holds-at-start c = naming-none _ _ _
 
-abbrev μ-loop : tie.MeasureT-loop
-μ-loop line from name₀ len₀ i₀ name len i = length line - i
+told : (c : Stages.Bound-b-known-told) →
+    let at = Stages.bound-b-known-told c in
+    Next (at .start .args .line .now) (at .head .i) (Byte (at .bound-b .given .0 .0) (at .bound-b .given .0 .1 .0))
+told c =
+    let at = Stages.bound-b-known-told c in
+    subst (Next _ _) (at .bound-b .given .1) (at .after-next-piece .ensures)
 
-loop-holds : tie.Need-loop-holds Inv-loop μ-loop
-loop-holds c = naming-none _ _ _
+same-length-at-then-name-len-len : Stages.Need-same-length-at-then-name-len-len
+same-length-at-then-name-len-len c =
+    let at = Stages.same-length-at-then-name-len-len c in
+    at .head .inv .long
 
-told : (c : tie.After-known-told Inv-loop μ-loop) →
-    let turn = c .before .before .before .before in
-    let start = turn .before .before .before in
-    Next (start .args .line .now) (turn .loop .i) (Byte (c .before .b .given .0 .0) (c .before .b .given .0 .1 .0))
-told c = subst (Next _ _) (c .before .b .given .1) (c .before .before .before .next-piece .ensures)
+returns-at-then-name-len-len : Stages.Need-returns-at-then-name-len-len
+returns-at-then-name-len-len c =
+    let at = Stages.returns-at-then-name-len-len c in
+    naming-full (at .head .inv) _ _ (told (at .Bound-b-known-told)) (at .then-name-len-len .taken)
 
-same-length : tie.Need-same-length Inv-loop μ-loop
-same-length c =
-    let turn = c .before .before .before .before .before in
-    turn .loop .inv .long
+loop-less-at-else-name-len-len : Stages.Need-loop-less-at-else-name-len-len
+loop-less-at-else-name-len-len c = omega (arith, told (Stages.loop-less-at-else-name-len-len c .Bound-b-known-told))
 
-returns : tie.Need-returns Inv-loop μ-loop
-returns c =
-    let turn = c .before .before .before .before .before in
-    naming-full (turn .loop .inv) _ _ (told (c .before)) (c .if1 .taken)
+loop-again-at-else-name-len-len : Stages.Need-loop-again-at-else-name-len-len
+loop-again-at-else-name-len-len c =
+    let at = Stages.loop-again-at-else-name-len-len c in
+    naming-byte (at .head .inv) _ _ (told (at .Bound-b-known-told)) (at .else-name-len-len .left)
 
-loop-less : tie.Need-loop-less Inv-loop μ-loop
-loop-less c = omega (arith, told (c .before))
+same-length-at-arm-piece-end-next : Stages.Need-same-length-at-arm-piece-end-next
+same-length-at-arm-piece-end-next c =
+    let at = Stages.same-length-at-arm-piece-end-next c in
+    at .head .inv .long
 
-loop-again : tie.Need-loop-again Inv-loop μ-loop
-loop-again c =
-    let turn = c .before .before .before .before .before in
-    naming-byte (turn .loop .inv) _ _ (told (c .before)) (c .if1 .left)
+returns-at-arm-piece-end-next : Stages.Need-returns-at-arm-piece-end-next
+returns-at-arm-piece-end-next c =
+    let at = Stages.returns-at-arm-piece-end-next c in
+    naming-end (at .head .inv) _ (subst (Next _ _) (at .bound-next .given .1) (at .after-next-piece .ensures))
 
-same-length-2 : tie.Need-same-length-2 Inv-loop μ-loop
-same-length-2 c =
-    let turn = c .before .before .before .before in
-    turn .loop .inv .long
+same-length-at-arm-piece-missing : Stages.Need-same-length-at-arm-piece-missing
+same-length-at-arm-piece-missing c = Stages.same-length-at-arm-piece-missing c .head .inv .long
 
-returns-2 : tie.Need-returns-2 Inv-loop μ-loop
-returns-2 c =
-    let after-next-piece = c .before .before .before in
-    naming-end (after-next-piece .before .loop .inv) _ (subst (Next _ _) (c .before .next .given .1) (after-next-piece .next-piece .ensures))
-
-same-length-3 : tie.Need-same-length-3 Inv-loop μ-loop
-same-length-3 c = c .before .before .before .loop .inv .long
-
-returns-3 : tie.Need-returns-3 Inv-loop μ-loop
-returns-3 c =
-    let after-next-piece = c .before .before in
-    naming-torn (after-next-piece .before .loop .inv) (subst (Next _ _) (c .enum-told .given .1) (after-next-piece .next-piece .ensures))
+returns-at-arm-piece-missing : Stages.Need-returns-at-arm-piece-missing
+returns-at-arm-piece-missing c =
+    let at = Stages.returns-at-arm-piece-missing c in
+    naming-torn (at .head .inv) (subst (Next _ _) (at .arm-piece-missing-enum-told .given .1) (at .after-next-piece .ensures))
 
 pub read-name-spec : {M : Type 1} → statement M
 read-name-spec =
-    tie.close (tie.spec Inv-loop μ-loop loop-holds (λ c κs. search needs) (λ c. search needs) same-length returns (λ c. search needs)
-    (λ c. search needs) loop-less loop-again (λ c. search needs) same-length-2 returns-2 (λ c. search needs) same-length-3 returns-3)
+    Stages.close (record {
+      loop-holds-at-start = loop-holds-at-start;
+      same-length-at-then-name-len-len = same-length-at-then-name-len-len;
+      returns-at-then-name-len-len = returns-at-then-name-len-len;
+      loop-less-at-else-name-len-len = loop-less-at-else-name-len-len;
+      loop-again-at-else-name-len-len = loop-again-at-else-name-len-len;
+      same-length-at-arm-piece-end-next = same-length-at-arm-piece-end-next;
+      returns-at-arm-piece-end-next = returns-at-arm-piece-end-next;
+      same-length-at-arm-piece-missing = same-length-at-arm-piece-missing;
+      returns-at-arm-piece-missing = returns-at-arm-piece-missing;
+    })

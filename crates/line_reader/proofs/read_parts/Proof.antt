@@ -1,10 +1,11 @@
 -- `read_parts` meets its contract. At each place one equation says what the reader makes of the rest of the line (`Reading`), and a
 -- missing part makes it nothing.
+mod Stages
 use Rattle.listing_rules.proofs.Prelude.{_∙_, _≡_, ap, subst, sym, cond, none, some, _≤_, ℕ, arith, drop, length, length-replicate, length-take}
-use Rattle.listing_rules.proofs.Prelude.{not-false, not-true, needs}
+use Rattle.listing_rules.proofs.Prelude.{not-false, not-true}
 use Rattle.listing_rules.specs.Bytes.{text}
 use Rattle.listing_rules.specs.Names.{lawfulName}
-use Rattle.listing_rules.specs.Reader.{line, readParts}
+use Rattle.listing_rules.specs.LineReader.{line, readParts}
 use Rattle.listing_rules.specs.Options.{criteriaOf, criteriaNumber}
 use Rattle.line_reader.specs.Parts.{Skips, Names}
 use Rattle.line_reader.specs.declared.Place.the-variants.{At}
@@ -13,158 +14,155 @@ use Rattle.line_reader.proofs.Reading.{fromEnd, fromName, fromDelimiter
 use Rattle.line_reader.proofs.Reading.{delimiter-missing, name-read, name-missing, tail-whole, end-read, end-missing, name-front}
 use Rattle.line_reader.proofs.Reading.{parts-refused, parts-taken}
 use Rattle.line_reader.proofs.read_parts.Statement.{statement}
-use Rattle.line_reader.proofs.read_parts.Tie as tie
 
-returns : tie.Need-returns
+returns-at-else-skip-line-0 : Stages.Need-returns-at-else-skip-line-0
 unfolding text
-returns c =
-    let after-skip = c .before .before .before in
-    rw (parts-refused _ (start-missing _ (subst (Skips _ 0 (text "* LIST (")) (c .before .enum-told .given .1) (after-skip .skip .ensures)))) (c .refused .ensures)
+returns-at-else-skip-line-0 c =
+    let at = Stages.returns-at-else-skip-line-0 c in
+    rw (parts-refused _ (start-missing _ (subst (Skips _ 0 (text "* LIST (")) (at .else-skip-line-0-enum-told .given .1) (at .after-skip .ensures)))) (at .after-refused .ensures)
 
 -- the start stands there
-start : (c : tie.After-known-told) →
-    Skips (c .before .before .before .before .before .before .args .line .now) 0 (text "* LIST (") (At (c .before .a .given .0 .0))
+start : (c : Stages.Bound-a-known-told) →
+    let at = Stages.bound-a-known-told c in
+    Skips (at .start .args .line .now) 0 (text "* LIST (") (At (at .bound-a .given .0 .0))
 unfolding text
-start c = subst (Skips _ 0 (text "* LIST (")) (c .before .a .given .1) (c .before .before .before .skip .ensures)
+start c =
+    let at = Stages.bound-a-known-told c in
+    subst (Skips _ 0 (text "* LIST (")) (at .bound-a .given .1) (at .after-skip .ensures)
 
-read-attributes-requires : tie.Need-read-attributes-requires
-read-attributes-requires c κs = start c .1
+read-attributes-requires : Stages.Need-read-attributes-requires
+read-attributes-requires c κs = start (Stages.read-attributes-requires c .Bound-a-known-told) .1
 
 -- what is left behind the attributes
-chosen : (c : tie.After-read-attributes) →
-    let start = c .before .before .before .before .before .before .before in
-    readParts (start .args .line .now) ≡ fromDelimiter (chosenAt (start .args .line .now) (c .before .before .a .given .0 .0)) (drop (c .read-attributes .result .at) (start .args .line .now))
-chosen c = start-read _ _ (start (c .before) .0) ∙ attributes-read _ _ _ (c .read-attributes .ensures)
+chosen : (c : Stages.After-read-attributes) →
+    let at = Stages.after-read-attributes c in
+    readParts (at .start .args .line .now) ≡ fromDelimiter (chosenAt (at .start .args .line .now) (at .bound-a .given .0 .0))
+    (drop (at .after-read-attributes .result .at) (at .start .args .line .now))
+chosen c =
+    let at = Stages.after-read-attributes c in
+    start-read _ _ (start (at .Bound-a-known-told) .0) ∙ attributes-read _ _ _ (at .after-read-attributes .ensures)
 
-returns-2 : tie.Need-returns-2
+returns-at-else-skip-line-chosen : Stages.Need-returns-at-else-skip-line-chosen
 unfolding text
-returns-2 c =
-    let after-skip2 = c .before .before .before in
-    let stage = after-skip2 .before .before in
-    let start = stage .before .before .before .before .before .before .before in
-    rw (parts-refused (start .args .line .now) (chosen stage ∙ delimiter-missing _ _
-    (subst (Skips (start .args .line .now) (stage .read-attributes .result .at)
-    (text ") \"/\" \"")) (c .before .enum-told2 .given .1) (after-skip2 .skip2 .ensures)))) (c .refused2 .ensures)
+returns-at-else-skip-line-chosen c =
+    let at = Stages.returns-at-else-skip-line-chosen c in
+    rw (parts-refused (at .start .args .line .now) (chosen (at .After-read-attributes) ∙ delimiter-missing _ _
+    (subst (Skips (at .start .args .line .now) (at .after-read-attributes .result .at)
+    (text ") \"/\" \"")) (at .else-skip-line-chosen-enum-told .given .1) (at .after-skip-b .ensures)))) (at .after-refused-at-else-skip-line-chosen .ensures)
 
 -- what is left behind the delimiter
-delimited : (c : tie.After-known-told2) →
-    let after-a = c .before .before .before .before .before .before .before in
-    let start = after-a .before .before .before .before .before in
-    readParts (start .args .line .now) ≡ fromName (chosenAt (start .args .line .now) (after-a .a .given .0 .0)) (drop (c .before .b .given .0 .0) (start .args .line .now))
+delimited : (c : Stages.Bound-b-known-told) →
+    let at = Stages.bound-b-known-told c in
+    readParts (at .start .args .line .now) ≡ fromName (chosenAt (at .start .args .line .now) (at .bound-a .given .0 .0)) (drop (at .bound-b .given .0 .0) (at .start .args .line .now))
 unfolding text
 delimited c =
-    let after-skip2 = c .before .before .before in
-    let stage = after-skip2 .before .before in
-    let start = stage .before .before .before .before .before .before .before in
-    chosen stage ∙ delimiter-read _ _ _ (subst (Skips (start .args .line .now) (stage .read-attributes .result .at) (text ") \"/\" \"")) (c .before .b .given .1) (after-skip2 .skip2 .ensures) .0)
+    let at = Stages.bound-b-known-told c in
+    chosen (at .After-read-attributes) ∙ delimiter-read _ _ _
+    (subst (Skips (at .start .args .line .now) (at .after-read-attributes .result .at)
+    (text ") \"/\" \"")) (at .bound-b .given .1) (at .after-skip-b .ensures) .0)
 
-returns-3 : tie.Need-returns-3
-returns-3 c =
-    let after-read-name = c .before .before .before .before in
-    let after-no-name = after-read-name .before .before in
-    let stage = after-no-name .before in
-    let after-b = stage .before in
-    rw (parts-refused _ (delimited stage ∙ name-missing _ _ (after-b .b .given .0 .0) _ (after-read-name .read-name .last .1 .1 .0)
-    (after-no-name .no-name .ensures) (subst (Names _ _ _ _) (c .before .enum-told3 .given .1) (after-read-name .read-name .ensures))))
-    (c .refused3 .ensures)
+returns-at-else-read-name-line-name : Stages.Need-returns-at-else-read-name-line-name
+returns-at-else-read-name-line-name c =
+    let at = Stages.returns-at-else-read-name-line-name c in
+    rw (parts-refused _ (delimited (at .Bound-b-known-told) ∙ name-missing _ _ (at .bound-b .given .0 .0) _ (at .after-read-name .last .1 .1 .0)
+    (at .after-no-name .ensures) (subst (Names _ _ _ _) (at .else-read-name-line-name-enum-told .given .1) (at .after-read-name .ensures))))
+    (at .after-refused-at-else-read-name-line-name .ensures)
 
 -- the name, and what is left behind it
-name : (c : tie.After-known-told3) →
-    let after-read-name = c .before .before .before .before in
-    let after-no-name = after-read-name .before .before in
-    let after-b = after-no-name .before .before in
-    let start = after-b .before .before .before .before .before .before .before .before .before .before .before in
-    Names (start .args .line .now) (after-b .b .given .0 .0) (after-no-name .no-name .result) (after-read-name .read-name .last .1 .1 .0)
-    (Of (c .before .len .given .0 .0) (c .before .len .given .0 .1 .0))
+name : (c : Stages.Bound-len-known-told) →
+    let at = Stages.bound-len-known-told c in
+    Names (at .start .args .line .now) (at .bound-b .given .0 .0) (at .after-no-name .result) (at .after-read-name .last .1 .1 .0)
+    (Of (at .bound-len .given .0 .0) (at .bound-len .given .0 .1 .0))
 name c =
-    let after-read-name = c .before .before .before .before in
-    subst (Names _ _ _ _) (c .before .len .given .1) (after-read-name .read-name .ensures)
+    let at = Stages.bound-len-known-told c in
+    subst (Names _ _ _ _) (at .bound-len .given .1) (at .after-read-name .ensures)
 
-room : (c : tie.After-known-told3) → c .before .len .given .0 .0 ≤ 200
+room : (c : Stages.Bound-len-known-told) → Stages.bound-len-known-told c .bound-len .given .0 .0 ≤ 200
 room c =
-    let after-no-name = c .before .before .before .before .before .before in
-    omega (arith, name c .4, ap length (after-no-name .no-name .ensures), length-replicate {A = ℕ} 200 0)
+    let at = Stages.bound-len-known-told c in
+    omega (arith, name c .4, ap length (at .after-no-name .ensures), length-replicate {A = ℕ} 200 0)
 
-named : (c : tie.After-known-told3) →
-    let after-a = c .before .before .before .before .before .before .before .before .before .before .before .before .before .before in
-    let start = after-a .before .before .before .before .before in
-    readParts (start .args .line .now) ≡ fromEnd (chosenAt (start .args .line .now) (after-a .a .given .0 .0)) (name c .0) (drop (c .before .len .given .0 .1 .0) (start .args .line .now))
+named : (c : Stages.Bound-len-known-told) →
+    let at = Stages.bound-len-known-told c in
+    readParts (at .start .args .line .now) ≡ fromEnd (chosenAt (at .start .args .line .now) (at .bound-a .given .0 .0)) (name c .0) (drop (at .bound-len .given .0 .1 .0) (at .start .args .line .now))
 named c =
-    let stage = c .before .before .before .before .before .before .before in
-    delimited stage ∙ name-read _ _ _ _ (name c .1)
+    delimited (Stages.bound-len-known-told c .Bound-b-known-told) ∙ name-read _ _ _ _ (name c .1)
 
-sub-read-tail : tie.Need-sub-read-tail
-sub-read-tail c = name c .2
+sub-read-tail-at-then-read-name-line-name : Stages.Need-sub-read-tail-at-then-read-name-line-name
+sub-read-tail-at-then-read-name-line-name c = name (Stages.sub-read-tail-at-then-read-name-line-name c .Bound-len-known-told) .2
 
-part-read-tail-start : tie.Need-part-read-tail-start
-part-read-tail-start c = name c .2
+part-read-tail-start-at-then-read-name-line-name : Stages.Need-part-read-tail-start-at-then-read-name-line-name
+part-read-tail-start-at-then-read-name-line-name c = name (Stages.part-read-tail-start-at-then-read-name-line-name c .Bound-len-known-told) .2
 
-returns-4 : tie.Need-returns-4
-returns-4 c =
-    let after-read-tail = c .before .before .before in
-    let stage = after-read-tail .before .before in
-    let after-len = stage .before in
-    rw (parts-refused _ (named stage ∙ end-missing _ _ _ (after-len .len .given .0 .1 .0) (sym (after-read-tail .read-tail .ensures) ∙ c .before .enum-told4 .given .1))) (c .refused4 .ensures)
+returns-at-else-read-tail-line-end : Stages.Need-returns-at-else-read-tail-line-end
+returns-at-else-read-tail-line-end c =
+    let at = Stages.returns-at-else-read-tail-line-end c in
+    rw (parts-refused _ (named (at .Bound-len-known-told) ∙ end-missing _ _ _ (at .bound-len .given .0 .1 .0)
+    (sym (at .after-read-tail .ensures) ∙ at .else-read-tail-line-end-enum-told .given .1))) (at .after-refused-at-else-read-tail-line-end .ensures)
 
 -- what is left behind the end: the name is lawful or not
-ended : (c : tie.After-known-told4) →
-    let stage = c .before .before .before .before .before in
-    let after-a = stage .before .before .before .before .before .before .before .before .before .before .before .before .before .before in
-    let start = after-a .before .before .before .before .before in
-    let read = name stage .0 in
-    readParts (start .args .line .now) ≡ cond (lawfulName read)
-    (some (line (chosenAt (start .args .line .now) (after-a .a .given .0 .0)) read (criteriaOf (c .before .criteria .given .0 .0 .bits)))) none
+ended : (c : Stages.Bound-criteria-known-told) →
+    let at = Stages.bound-criteria-known-told c in
+    let read = name (at .Bound-len-known-told) .0 in
+    readParts (at .start .args .line .now) ≡ cond (lawfulName read)
+    (some (line (chosenAt (at .start .args .line .now) (at .bound-a .given .0 .0)) read (criteriaOf (at .bound-criteria .given .0 .0 .bits)))) none
 ended c =
-    let after-read-tail = c .before .before .before in
-    let stage = after-read-tail .before .before in
-    named stage ∙ end-read _ _ _ (stage .before .len .given .0 .1 .0) _ (sym (after-read-tail .read-tail .ensures) ∙ c .before .criteria .given .1)
+    let at = Stages.bound-criteria-known-told c in
+    named (at .Bound-len-known-told) ∙ end-read _ _ _ (at .bound-len .given .0 .1 .0) _ (sym (at .after-read-tail .ensures) ∙ at .bound-criteria .given .1)
 
 -- the criteria read have no other bit
-whole : (c : tie.After-known-told4) → criteriaNumber (criteriaOf (c .before .criteria .given .0 .0 .bits)) ≡ c .before .criteria .given .0 .0 .bits
-whole c = tail-whole _ _ (sym (c .before .before .before .read-tail .ensures) ∙ c .before .criteria .given .1)
+whole : (c : Stages.Bound-criteria-known-told) →
+    let at = Stages.bound-criteria-known-told c in
+    criteriaNumber (criteriaOf (at .bound-criteria .given .0 .0 .bits)) ≡ at .bound-criteria .given .0 .0 .bits
+whole c =
+    let at = Stages.bound-criteria-known-told c in
+    tail-whole _ _ (sym (at .after-read-tail .ensures) ∙ at .bound-criteria .given .1)
 
-array-share-prefix-name : tie.Need-array-share-prefix-name
-array-share-prefix-name c =
-    let stage = c .before .before .before .before .before in
-    omega (arith, name stage .4)
+array-share-prefix-name-at-then-read-tail-line-end : Stages.Need-array-share-prefix-name-at-then-read-tail-line-end
+array-share-prefix-name-at-then-read-tail-line-end c =
+    omega (arith, name (Stages.array-share-prefix-name-at-then-read-tail-line-end c .Bound-len-known-told) .4)
 
-slice-aggregate-lawful-name : tie.Need-slice-aggregate-lawful-name
-slice-aggregate-lawful-name c =
-    let stage = c .before .before .before .before .before .before in
-    simp length-take (omega (arith, name stage .4))
+slice-aggregate-lawful-name-at-then-read-tail-line-end : Stages.Need-slice-aggregate-lawful-name-at-then-read-tail-line-end
+slice-aggregate-lawful-name-at-then-read-tail-line-end c =
+    simp length-take (omega (arith, name (Stages.slice-aggregate-lawful-name-at-then-read-tail-line-end c .Bound-len-known-told) .4))
 
-lawful : (c : tie.After-lawful-name) → c .lawful-name .result ≡ lawfulName (name (c .before .before .before .before .before .before .before) .0)
+lawful : (c : Stages.After-lawful-name) →
+    let at = Stages.after-lawful-name c in
+    at .after-lawful-name .result ≡ lawfulName (name (at .Bound-len-known-told) .0)
 lawful c =
-    let stage = c .before .before .before .before .before .before .before in
-    let after-read-name = stage .before .before .before .before in
-    let after-no-name = after-read-name .before .before in
-    c .lawful-name .ensures ∙ ap lawfulName (name-front _ _ (after-no-name .no-name .ensures) (omega (arith, room (stage), name stage .3)) _ _ (name stage .3) (name stage .5))
+    let at = Stages.after-lawful-name c in
+    at .after-lawful-name .ensures ∙ ap lawfulName (name-front _ _ (at .after-no-name .ensures)
+    (omega (arith, room (at .Bound-len-known-told), name (at .Bound-len-known-told) .3)) _ _ (name (at .Bound-len-known-told) .3)
+    (name (at .Bound-len-known-told) .5))
 
-returns-5 : tie.Need-returns-5
-returns-5 c =
-    let stage = c .before .before in
-    rw (parts-refused _ (ended (stage .before .before) ∙ rw (sym (lawful stage) ∙ not-true _ (c .before .if1 .taken)))) (c .refused5 .ensures)
+returns-at-then-not-lawful-name-name-len : Stages.Need-returns-at-then-not-lawful-name-name-len
+returns-at-then-not-lawful-name-name-len c =
+    let at = Stages.returns-at-then-not-lawful-name-name-len c in
+    rw (parts-refused _ (ended (at .Bound-criteria-known-told) ∙ rw
+    (sym (lawful (at .After-lawful-name)) ∙ not-true _ (at .then-not-lawful-name-name-len .taken))))
+    (at .after-refused-at-then-not-lawful-name-name-len .ensures)
 
-returns-6 : tie.Need-returns-6
+returns-at-else-not-lawful-name-name-len : Stages.Need-returns-at-else-not-lawful-name-name-len
 unfolding chosenAt
-returns-6 c =
-    let stage = c .before .before .before in
-    let stage-2 = stage .before .before .before .before .before in
-    let after-len = stage-2 .before in
-    let after-read-name = after-len .before .before .before in
-    let after-no-name = after-read-name .before .before in
-    let after-read-attributes = after-no-name .before .before .before .before .before .before in
-    let after-a = after-read-attributes .before .before in
-    let start = after-a .before .before .before .before .before in
-    parts-taken _ (chosenAt (start .args .line .now) (after-a .a .given .0 .0)) (name stage-2 .0) _ _ (after-len .len .given .0 .0)
-    (after-no-name .no-name .result) (after-read-name .read-name .last .1 .1 .0)
-    (ended stage ∙ rw (sym (lawful (c .before)) ∙ not-false _ (c .if1 .left))) (whole stage)
-    (after-read-attributes .read-attributes .ensures .chosen) (name stage-2 .3) (room stage-2) (after-no-name .no-name .ensures) (name stage-2 .5)
+returns-at-else-not-lawful-name-name-len c =
+    let at = Stages.returns-at-else-not-lawful-name-name-len c in
+    parts-taken _ (chosenAt (at .start .args .line .now) (at .bound-a .given .0 .0)) (name (at .Bound-len-known-told) .0) _ _ (at .bound-len .given .0 .0)
+    (at .after-no-name .result) (at .after-read-name .last .1 .1 .0)
+    (ended (at .Bound-criteria-known-told) ∙ rw (sym (lawful (at .After-lawful-name)) ∙ not-false _ (at .else-not-lawful-name-name-len .left))) (whole (at .Bound-criteria-known-told))
+    (at .after-read-attributes .ensures .chosen) (name (at .Bound-len-known-told) .3) (room (at .Bound-len-known-told)) (at .after-no-name .ensures) (name (at .Bound-len-known-told) .5)
 
 pub read-parts-spec : {M : Type 1} → statement M
 read-parts-spec =
-    tie.close (tie.spec (λ c. search needs) (λ c κs. search needs) (λ c. search needs) (λ c. search needs) (λ c κs. search needs) returns
-    read-attributes-requires (λ c. search needs) (λ c κs. search needs) (λ c. search needs) (λ c. search needs) (λ c κs. search needs) returns-2
-    (λ c κs. search needs) (λ c. search needs) (λ c κs. search needs) (λ c. search needs) (λ c. search needs) (λ c κs. search needs) returns-3
-    sub-read-tail part-read-tail-start (λ c. search needs) (λ c κs. search needs) (λ c. search needs) (λ c. search needs) (λ c κs. search needs)
-    returns-4 array-share-prefix-name slice-aggregate-lawful-name (λ c κs. search needs) (λ c κs. search needs) returns-5 returns-6)
+    Stages.close (record {
+      returns-at-else-skip-line-0 = returns-at-else-skip-line-0;
+      read-attributes-requires = read-attributes-requires;
+      returns-at-else-skip-line-chosen = returns-at-else-skip-line-chosen;
+      returns-at-else-read-name-line-name = returns-at-else-read-name-line-name;
+      sub-read-tail-at-then-read-name-line-name = sub-read-tail-at-then-read-name-line-name;
+      part-read-tail-start-at-then-read-name-line-name = part-read-tail-start-at-then-read-name-line-name;
+      returns-at-else-read-tail-line-end = returns-at-else-read-tail-line-end;
+      array-share-prefix-name-at-then-read-tail-line-end = array-share-prefix-name-at-then-read-tail-line-end;
+      slice-aggregate-lawful-name-at-then-read-tail-line-end = slice-aggregate-lawful-name-at-then-read-tail-line-end;
+      returns-at-then-not-lawful-name-name-len = returns-at-then-not-lawful-name-name-len;
+      returns-at-else-not-lawful-name-name-len = returns-at-else-not-lawful-name-name-len;
+    })

@@ -1,57 +1,55 @@
 -- `read_tail` meets its contract, by its four texts (`Reading`).
-use Rattle.listing_rules.proofs.Prelude.{_∙_, sym, needs}
+mod Stages
+use Rattle.listing_rules.proofs.Prelude.{_∙_, sym}
 use Rattle.listing_rules.specs.Bytes.{text}
 use Rattle.line_reader.specs.declared.Tail.the-variants.{ChildInfo}
 use Rattle.line_reader.proofs.Reading.{tail-plain, tail-subscribed, tail-special, tail-both, tail-other}
 use Rattle.line_reader.proofs.read_tail.Statement.{statement}
-use Rattle.line_reader.proofs.read_tail.Tie as tie
 
-returns : tie.Need-returns
-returns c = tail-plain _ (sym (c .before .same-bytes .ensures) ∙ c .if1 .taken)
+returns-at-then-same-bytes-rest-texts-plain-end : Stages.Need-returns-at-then-same-bytes-rest-texts-plain-end
+returns-at-then-same-bytes-rest-texts-plain-end c =
+    let at = Stages.returns-at-then-same-bytes-rest-texts-plain-end c in
+    tail-plain _ (sym (at .after-same-bytes .ensures) ∙ at .then-same-bytes-rest-texts-plain-end .taken)
 
-returns-2 : tie.Need-returns-2
+returns-at-then-same-bytes-rest-texts-subscribed-end : Stages.Need-returns-at-then-same-bytes-rest-texts-subscribed-end
 unfolding text
-returns-2 c =
-    let at-if1 = c .before .before .before in
-    tail-subscribed _ (sym (at-if1 .before .same-bytes .ensures) ∙ at-if1 .if1 .left) (sym (c .before .same-bytes2 .ensures) ∙ c .if2 .taken)
+returns-at-then-same-bytes-rest-texts-subscribed-end c =
+    let at = Stages.returns-at-then-same-bytes-rest-texts-subscribed-end c in
+    tail-subscribed _ (sym (at .after-same-bytes .ensures) ∙ at .else-same-bytes-rest-texts-plain-end .left)
+    (sym (at .after-same-bytes-at-else-same-bytes-rest-texts-plain-end .ensures) ∙ at .then-same-bytes-rest-texts-subscribed-end .taken)
 
-returns-3 : tie.Need-returns-3
+returns-at-then-same-bytes-rest-texts-special-use-end : Stages.Need-returns-at-then-same-bytes-rest-texts-special-use-end
 unfolding text
-returns-3 c =
-    let at-if2 = c .before .before .before in
-    let after-same-bytes2 = at-if2 .before in
-    let at-if1 = after-same-bytes2 .before .before in
-    let after-same-bytes = at-if1 .before in
-    tail-special _ (sym (after-same-bytes .same-bytes .ensures) ∙ at-if1 .if1 .left)
-    (sym (after-same-bytes2 .same-bytes2 .ensures) ∙ at-if2 .if2 .left) (sym (c .before .same-bytes3 .ensures) ∙ c .if3 .taken)
+returns-at-then-same-bytes-rest-texts-special-use-end c =
+    let at = Stages.returns-at-then-same-bytes-rest-texts-special-use-end c in
+    tail-special _ (sym (at .after-same-bytes .ensures) ∙ at .else-same-bytes-rest-texts-plain-end .left)
+    (sym (at .after-same-bytes-at-else-same-bytes-rest-texts-plain-end .ensures) ∙ at .else-same-bytes-rest-texts-subscribed-end .left)
+    (sym (at .after-same-bytes-at-else-same-bytes-rest-texts-subscribed-end .ensures) ∙ at .then-same-bytes-rest-texts-special-use-end .taken)
 
-returns-4 : tie.Need-returns-4
+returns-at-then-same-bytes-rest-texts-both-end : Stages.Need-returns-at-then-same-bytes-rest-texts-both-end
 unfolding text
-returns-4 c =
-    let after-same-bytes4 = c .before .before in
-    let at-if3 = after-same-bytes4 .before .before in
-    let after-same-bytes3 = at-if3 .before in
-    let at-if2 = after-same-bytes3 .before .before in
-    let after-same-bytes2 = at-if2 .before in
-    let at-if1 = after-same-bytes2 .before .before in
-    let after-same-bytes = at-if1 .before in
-    (λ i. ChildInfo (record { bits = c .union .ensures i })) ∙ tail-both _ (sym (after-same-bytes .same-bytes .ensures) ∙ at-if1 .if1 .left)
-    (sym (after-same-bytes2 .same-bytes2 .ensures) ∙ at-if2 .if2 .left) (sym (after-same-bytes3 .same-bytes3 .ensures) ∙ at-if3 .if3 .left)
-    (sym (after-same-bytes4 .same-bytes4 .ensures) ∙ c .before .if4 .taken)
+returns-at-then-same-bytes-rest-texts-both-end c =
+    let at = Stages.returns-at-then-same-bytes-rest-texts-both-end c in
+    (λ i. ChildInfo (record { bits = at .after-union .ensures i })) ∙ tail-both _ (sym (at .after-same-bytes .ensures) ∙ at .else-same-bytes-rest-texts-plain-end .left)
+    (sym (at .after-same-bytes-at-else-same-bytes-rest-texts-plain-end .ensures) ∙ at .else-same-bytes-rest-texts-subscribed-end .left)
+    (sym (at .after-same-bytes-at-else-same-bytes-rest-texts-subscribed-end .ensures) ∙ at .else-same-bytes-rest-texts-special-use-end .left)
+    (sym (at .after-same-bytes-at-else-same-bytes-rest-texts-special-use-end .ensures) ∙ at .then-same-bytes-rest-texts-both-end .taken)
 
-returns-5 : tie.Need-returns-5
+returns-at-else-same-bytes-rest-texts-both-end : Stages.Need-returns-at-else-same-bytes-rest-texts-both-end
 unfolding text
-returns-5 c =
-    let at-if3 = c .before .before .before in
-    let after-same-bytes3 = at-if3 .before in
-    let at-if2 = after-same-bytes3 .before .before in
-    let after-same-bytes2 = at-if2 .before in
-    let at-if1 = after-same-bytes2 .before .before in
-    let after-same-bytes = at-if1 .before in
-    tail-other _ (sym (after-same-bytes .same-bytes .ensures) ∙ at-if1 .if1 .left) (sym (after-same-bytes2 .same-bytes2 .ensures) ∙ at-if2 .if2 .left)
-    (sym (after-same-bytes3 .same-bytes3 .ensures) ∙ at-if3 .if3 .left) (sym (c .before .same-bytes4 .ensures) ∙ c .if4 .left)
+returns-at-else-same-bytes-rest-texts-both-end c =
+    let at = Stages.returns-at-else-same-bytes-rest-texts-both-end c in
+    tail-other _ (sym (at .after-same-bytes .ensures) ∙ at .else-same-bytes-rest-texts-plain-end .left)
+    (sym (at .after-same-bytes-at-else-same-bytes-rest-texts-plain-end .ensures) ∙ at .else-same-bytes-rest-texts-subscribed-end .left)
+    (sym (at .after-same-bytes-at-else-same-bytes-rest-texts-subscribed-end .ensures) ∙ at .else-same-bytes-rest-texts-special-use-end .left)
+    (sym (at .after-same-bytes-at-else-same-bytes-rest-texts-special-use-end .ensures) ∙ at .else-same-bytes-rest-texts-both-end .left)
 
 pub read-tail-spec : {M : Type 1} → statement M
 read-tail-spec =
-    tie.close (tie.spec (λ c. search needs) (λ c κs. search needs) returns (λ c. search needs) (λ c κs. search needs) returns-2 (λ c. search needs)
-    (λ c κs. search needs) returns-3 (λ c. search needs) (λ c κs. search needs) (λ c κs. search needs) returns-4 returns-5)
+    Stages.close (record {
+      returns-at-then-same-bytes-rest-texts-plain-end = returns-at-then-same-bytes-rest-texts-plain-end;
+      returns-at-then-same-bytes-rest-texts-subscribed-end = returns-at-then-same-bytes-rest-texts-subscribed-end;
+      returns-at-then-same-bytes-rest-texts-special-use-end = returns-at-then-same-bytes-rest-texts-special-use-end;
+      returns-at-then-same-bytes-rest-texts-both-end = returns-at-then-same-bytes-rest-texts-both-end;
+      returns-at-else-same-bytes-rest-texts-both-end = returns-at-else-same-bytes-rest-texts-both-end;
+    })

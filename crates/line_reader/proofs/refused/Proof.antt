@@ -1,13 +1,15 @@
 -- `refused` meets its contract.
-use Rattle.listing_rules.proofs.Prelude.{refl, needs}
-use Rattle.listing_rules.specs.Reader.{nameBytes, nameRead}
+mod Stages
+use Rattle.listing_rules.proofs.Prelude.{refl}
+use Rattle.listing_rules.specs.LineReader.{nameBytes, nameRead}
 use Rattle.line_reader.specs.Lines.{lineIs}
 use Rattle.line_reader.proofs.refused.Statement.{statement}
-use Rattle.line_reader.proofs.refused.Tie as tie
 
-returns : tie.Need-returns
+returns-at-start : Stages.Need-returns-at-start
 unfolding lineIs nameBytes nameRead
-returns c = (refl, c .no-name .ensures)
+returns-at-start c = (refl, Stages.returns-at-start c .after-no-name .ensures)
 
 pub refused-spec : {M : Type 1} → statement M
-refused-spec = tie.close (tie.spec (λ c κs. search needs) returns)
+refused-spec = Stages.close (record {
+  returns-at-start = returns-at-start;
+})

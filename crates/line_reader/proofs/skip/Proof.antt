@@ -1,20 +1,28 @@
 -- `skip` meets its contract: a text that has room is compared at once (`Skipping`).
-use Rattle.listing_rules.proofs.Prelude.{_∙_, sym, arith, not-false, not-true, needs}
+mod Stages
+use Rattle.listing_rules.proofs.Prelude.{_∙_, sym, arith, not-false, not-true}
 use Rattle.line_reader.proofs.Skipping.{skip-short, skip-other, skip-found}
 use Rattle.line_reader.proofs.skip.Statement.{statement}
-use Rattle.line_reader.proofs.skip.Tie as tie
 
-returns : tie.Need-returns
-returns c = skip-short _ _ (c .before .before .before .args .at) (c .if1 .taken)
+returns-at-then-line-len-at-n : Stages.Need-returns-at-then-line-len-at-n
+returns-at-then-line-len-at-n c =
+    let at = Stages.returns-at-then-line-len-at-n c in
+    skip-short _ _ (at .start .args .at) (at .then-line-len-at-n .taken)
 
-returns-2 : tie.Need-returns-2
-returns-2 c = skip-other _ _ _ (c .before .before .before .if1 .left) (sym (c .before .same-bytes .ensures) ∙ not-true _ (c .if2 .taken))
+returns-at-then-not-same-bytes-text-line : Stages.Need-returns-at-then-not-same-bytes-text-line
+returns-at-then-not-same-bytes-text-line c =
+    let at = Stages.returns-at-then-not-same-bytes-text-line c in
+    skip-other _ _ _ (at .else-line-len-at-n .left) (sym (at .after-same-bytes .ensures) ∙ not-true _ (at .then-not-same-bytes-text-line .taken))
 
-returns-3 : tie.Need-returns-3
-returns-3 c =
-    (skip-found _ _ _ (c .before .before .before .if1 .left) (sym (c .before .same-bytes .ensures) ∙ not-false _ (c .if2 .left)), omega arith)
+returns-at-else-not-same-bytes-text-line : Stages.Need-returns-at-else-not-same-bytes-text-line
+returns-at-else-not-same-bytes-text-line c =
+    let at = Stages.returns-at-else-not-same-bytes-text-line c in
+    (skip-found _ _ _ (at .else-line-len-at-n .left) (sym (at .after-same-bytes .ensures) ∙ not-false _ (at .else-not-same-bytes-text-line .left)), omega arith)
 
 pub skip-spec : {M : Type 1} → statement M
 skip-spec =
-    tie.close (tie.spec (λ c. search needs) returns (λ c. search needs) (λ c. search needs) (λ c. search needs) (λ c. search needs)
-    (λ c κs. search needs) returns-2 returns-3)
+    Stages.close (record {
+      returns-at-then-line-len-at-n = returns-at-then-line-len-at-n;
+      returns-at-then-not-same-bytes-text-line = returns-at-then-not-same-bytes-text-line;
+      returns-at-else-not-same-bytes-text-line = returns-at-else-not-same-bytes-text-line;
+    })

@@ -1,27 +1,37 @@
 -- `names::inbox_spelled` meets its contract: another first level, or the first five bytes compared. By Inbox.
-use Rattle.listing_rules.proofs.Prelude.{_∙_, _≡_, sym, true, arith, length-take, not-false, not-true, needs}
+mod Stages
+use Rattle.listing_rules.proofs.Prelude.{_∙_, _≡_, sym, true, arith, length-take, not-false, not-true}
 use Rattle.listing_rules.proofs.Keys.{openBytes}
 use Rattle.listing_rules.specs.Names.{inbox}
 use Rattle.names.specs.Inbox.{inboxFirst}
 use Rattle.names.proofs.Inbox.{first-long, inbox-other, inbox-same}
 use Rattle.names.proofs.inbox_spelled.Statement.{statement}
-use Rattle.names.proofs.inbox_spelled.Tie as tie
 
-returns : tie.Need-returns
-returns c = sym (inbox-other _ (sym (c .before .inbox-first .ensures) ∙ not-true _ (c .if1 .taken)))
+returns-at-then-not-inbox-first-name : Stages.Need-returns-at-then-not-inbox-first-name
+returns-at-then-not-inbox-first-name c =
+    let at = Stages.returns-at-then-not-inbox-first-name c in
+    sym (inbox-other _ (sym (at .after-inbox-first .ensures) ∙ not-true _ (at .then-not-inbox-first-name .taken)))
 
-first : (c : tie.Else1) → inboxFirst (c .before .before .before .args .name .now) ≡ true
-first c = sym (c .before .inbox-first .ensures) ∙ not-false _ (c .if1 .left)
+first : (c : Stages.Else-not-inbox-first-name) → inboxFirst (Stages.else-not-inbox-first-name c .start .args .name .now) ≡ true
+first c =
+    let at = Stages.else-not-inbox-first-name c in
+    sym (at .after-inbox-first .ensures) ∙ not-false _ (at .else-not-inbox-first-name .left)
 
-slice-aggregate-same-bytes : tie.Need-slice-aggregate-same-bytes
-slice-aggregate-same-bytes c =
-    let long = first-long _ (first (c .before)) in
+slice-aggregate-same-bytes-at-else-not-inbox-first-name : Stages.Need-slice-aggregate-same-bytes-at-else-not-inbox-first-name
+slice-aggregate-same-bytes-at-else-not-inbox-first-name c =
+    let long = first-long _ (first (Stages.slice-aggregate-same-bytes-at-else-not-inbox-first-name c .Else-not-inbox-first-name)) in
     simp length-take (omega (arith, long))
 
-returns-2 : tie.Need-returns-2
+returns-at-else-not-inbox-first-name : Stages.Need-returns-at-else-not-inbox-first-name
 unfolding openBytes inbox
-returns-2 c = c .same-bytes .ensures ∙ sym (inbox-same _ (first (c .before .before .before)))
+returns-at-else-not-inbox-first-name c =
+    let at = Stages.returns-at-else-not-inbox-first-name c in
+    at .after-same-bytes .ensures ∙ sym (inbox-same _ (first (at .Else-not-inbox-first-name)))
 
 pub inbox-spelled-spec : {M : Type 1} → statement M
 inbox-spelled-spec =
-    tie.close (tie.spec (λ c κs. search needs) returns slice-aggregate-same-bytes (λ c. search needs) (λ c κs. search needs) returns-2)
+    Stages.close (record {
+      returns-at-then-not-inbox-first-name = returns-at-then-not-inbox-first-name;
+      slice-aggregate-same-bytes-at-else-not-inbox-first-name = slice-aggregate-same-bytes-at-else-not-inbox-first-name;
+      returns-at-else-not-inbox-first-name = returns-at-else-not-inbox-first-name;
+    })

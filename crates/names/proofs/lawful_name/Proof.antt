@@ -1,44 +1,54 @@
 -- `names::lawful_name` meets its contract: each refusal is one part of the definition. By the last laws of NameShape.
-use Rattle.listing_rules.proofs.Prelude.{_∙_, sym, arith, not-false, not-true, needs}
+mod Stages
+use Rattle.listing_rules.proofs.Prelude.{_∙_, sym, arith, not-false, not-true}
 use Rattle.names.proofs.NameShape.{not-none, not-long, not-bytes, not-few, not-first, not-last, not-pair, all-but-inbox}
 use Rattle.names.proofs.lawful_name.Statement.{statement}
-use Rattle.names.proofs.lawful_name.Tie as tie
 
-returns : tie.Need-returns
-returns c = sym (not-none _ (c .if1 .taken))
+returns-at-then-n-0 : Stages.Need-returns-at-then-n-0
+returns-at-then-n-0 c = sym (not-none _ (Stages.returns-at-then-n-0 c .then-n-0 .taken))
 
-returns-2 : tie.Need-returns-2
-returns-2 c = sym (not-long _ (c .if2 .taken))
+returns-at-then-max-name-n : Stages.Need-returns-at-then-max-name-n
+returns-at-then-max-name-n c = sym (not-long _ (Stages.returns-at-then-max-name-n c .then-max-name-n .taken))
 
-returns-3 : tie.Need-returns-3
-returns-3 c = sym (not-bytes _ (sym (c .before .name-bytes .ensures) ∙ not-true _ (c .if3 .taken)))
+returns-at-then-not-name-bytes-name : Stages.Need-returns-at-then-not-name-bytes-name
+returns-at-then-not-name-bytes-name c =
+    let at = Stages.returns-at-then-not-name-bytes-name c in
+    sym (not-bytes _ (sym (at .after-name-bytes .ensures) ∙ not-true _ (at .then-not-name-bytes-name .taken)))
 
-returns-4 : tie.Need-returns-4
-returns-4 c = sym (not-few _ (omega (arith, c .before .slashes .ensures)))
+returns-at-then-max-levels-slashes-name : Stages.Need-returns-at-then-max-levels-slashes-name
+returns-at-then-max-levels-slashes-name c = sym (not-few _ (omega (arith, Stages.returns-at-then-max-levels-slashes-name c .after-slashes .ensures)))
 
-returns-5 : tie.Need-returns-5
-returns-5 c = sym (not-first _ (omega arith) (c .if5 .taken))
+returns-at-then-name-0-slash : Stages.Need-returns-at-then-name-0-slash
+returns-at-then-name-0-slash c = sym (not-first _ (omega arith) (Stages.returns-at-then-name-0-slash c .then-name-0-slash .taken))
 
-returns-6 : tie.Need-returns-6
-returns-6 c = sym (not-last _ (omega arith) (c .if6 .taken))
+returns-at-then-name-n-1-slash : Stages.Need-returns-at-then-name-n-1-slash
+returns-at-then-name-n-1-slash c = sym (not-last _ (omega arith) (Stages.returns-at-then-name-n-1-slash c .then-name-n-1-slash .taken))
 
-returns-7 : tie.Need-returns-7
-returns-7 c = sym (not-pair _ (omega arith) (sym (c .before .no-pair .ensures) ∙ not-true _ (c .if7 .taken)))
+returns-at-then-not-no-pair-name : Stages.Need-returns-at-then-not-no-pair-name
+returns-at-then-not-no-pair-name c =
+    let at = Stages.returns-at-then-not-no-pair-name c in
+    sym (not-pair _ (omega arith) (sym (at .after-no-pair .ensures) ∙ not-true _ (at .then-not-no-pair-name .taken)))
 
-returns-8 : tie.Need-returns-8
-returns-8 c =
-    let at-if5 = c .before .before .before .before .before in
-    let after-slashes = at-if5 .before .before .before in
-    let at-if3 = after-slashes .before in
-    c .inbox-spelled .ensures
+returns-at-else-not-no-pair-name : Stages.Need-returns-at-else-not-no-pair-name
+returns-at-else-not-no-pair-name c =
+    let at = Stages.returns-at-else-not-no-pair-name c in
+    at .after-inbox-spelled .ensures
     ∙ sym
-    (all-but-inbox _ (omega arith) (omega arith) (sym (at-if3 .before .name-bytes .ensures) ∙ not-false _ (at-if3 .if3 .left))
-    (omega (arith, after-slashes .slashes .ensures))
-    (at-if5 .if5 .left)
-    (c .before .before .before .if6 .left)
-    (sym (c .before .before .no-pair .ensures) ∙ not-false _ (c .before .if7 .left)))
+    (all-but-inbox _ (omega arith) (omega arith) (sym (at .after-name-bytes .ensures) ∙ not-false _ (at .else-not-name-bytes-name .left))
+    (omega (arith, at .after-slashes .ensures))
+    (at .else-name-0-slash .left)
+    (at .else-name-n-1-slash .left)
+    (sym (at .after-no-pair .ensures) ∙ not-false _ (at .else-not-no-pair-name .left)))
 
 pub lawful-name-spec : {M : Type 1} → statement M
 lawful-name-spec =
-    tie.close (tie.spec returns returns-2 (λ c κs. search needs) returns-3 (λ c κs. search needs) returns-4 (λ c. search needs) returns-5
-    (λ c. search needs) (λ c. search needs) returns-6 (λ c κs. search needs) returns-7 (λ c κs. search needs) returns-8)
+    Stages.close (record {
+      returns-at-then-n-0 = returns-at-then-n-0;
+      returns-at-then-max-name-n = returns-at-then-max-name-n;
+      returns-at-then-not-name-bytes-name = returns-at-then-not-name-bytes-name;
+      returns-at-then-max-levels-slashes-name = returns-at-then-max-levels-slashes-name;
+      returns-at-then-name-0-slash = returns-at-then-name-0-slash;
+      returns-at-then-name-n-1-slash = returns-at-then-name-n-1-slash;
+      returns-at-then-not-no-pair-name = returns-at-then-not-no-pair-name;
+      returns-at-else-not-no-pair-name = returns-at-else-not-no-pair-name;
+    })

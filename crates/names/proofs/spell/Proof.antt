@@ -1,20 +1,25 @@
 -- `names::spell` meets its contract: another name stays, and INBOX is written over the first five bytes. By Inbox.
-use Rattle.listing_rules.proofs.Prelude.{_∙_, _≡_, sym, not-false, not-true, needs}
+mod Stages
+use Rattle.listing_rules.proofs.Prelude.{_∙_, _≡_, sym, not-false, not-true}
 use Rattle.listing_rules.proofs.Keys.{openBytes}
 use Rattle.listing_rules.specs.Names.{inbox}
 use Rattle.names.proofs.Inbox.{spelled-other, spelled-first}
 use Rattle.names.proofs.spell.Statement.{statement}
-use Rattle.names.proofs.spell.Tie as tie
 
-returns : tie.Need-returns
-returns c = sym (spelled-other _ (sym (c .before .inbox-first .ensures) ∙ not-true _ (c .if1 .taken)))
+returns-at-then-not-inbox-first-name : Stages.Need-returns-at-then-not-inbox-first-name
+returns-at-then-not-inbox-first-name c =
+    let at = Stages.returns-at-then-not-inbox-first-name c in
+    sym (spelled-other _ (sym (at .after-inbox-first .ensures) ∙ not-true _ (at .then-not-inbox-first-name .taken)))
 
-returns-2 : tie.Need-returns-2
+returns-at-else-not-inbox-first-name : Stages.Need-returns-at-else-not-inbox-first-name
 unfolding openBytes inbox
-returns-2 c =
-    let tested = c .before .before .before .before .before in
-    c .before .before .put-all .ensures .bytes ∙ spelled-first _ (sym (tested .before .inbox-first .ensures) ∙ not-false _ (tested .if1 .left))
+returns-at-else-not-inbox-first-name c =
+    let at = Stages.returns-at-else-not-inbox-first-name c in
+    at .after-put-all .ensures .bytes ∙ spelled-first _ (sym (at .after-inbox-first .ensures) ∙ not-false _ (at .else-not-inbox-first-name .left))
 
 pub spell-spec : {M : Type 1} → statement M
 spell-spec =
-    tie.close (tie.spec (λ c κs. search needs) (λ c. search needs) returns (λ c. search needs) (λ c κs. search needs) (λ c. search needs) returns-2)
+    Stages.close (record {
+      returns-at-then-not-inbox-first-name = returns-at-then-not-inbox-first-name;
+      returns-at-else-not-inbox-first-name = returns-at-else-not-inbox-first-name;
+    })

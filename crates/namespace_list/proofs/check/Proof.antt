@@ -1,86 +1,79 @@
 -- `check` meets its contract: the entries from `at` on decide, after `count` entries of `class`. By the laws of Passing.
-use Rattle.listing_rules.proofs.Prelude.{_∙_, _≡_, sym, true, _-_, _≤_, arith, drop, length, not-false, not-true, needs}
-use Rattle.listing_rules.specs.Namespaces.{lawfulEntry, namespacesPass}
+mod Loops
+mod Stages
+use Rattle.listing_rules.proofs.Prelude.{_∙_, _≡_, sym, true, arith, not-false, not-true}
+use Rattle.listing_rules.specs.Namespaces.{lawfulEntry}
 use Rattle.namespace_list.specs.Entries.{meaning}
-use Rattle.namespace_list.proofs.Passing.{restPasses, rest-whole, rest-end, rest-past, rest-unlawful, rest-fall, rest-full, rest-same}
+use Rattle.namespace_list.proofs.Passing.{rest-whole, rest-end, rest-past, rest-unlawful, rest-fall, rest-full, rest-same}
 use Rattle.namespace_list.proofs.Passing.{rest-rise}
 use Rattle.namespace_list.proofs.check.Statement.{statement}
-use Rattle.namespace_list.proofs.check.Tie as tie
 
-abbrev Inv-loop : tie.InvT-loop
-Inv-loop list at₀ class₀ count₀ at class count = (count ≤ 4) × (restPasses class count (drop at list) ≡ namespacesPass list)
+loop-holds-at-start : Stages.Need-loop-holds-at-start
+loop-holds-at-start c = (omega arith, rest-whole _)
 
-abbrev μ-loop : tie.MeasureT-loop
-μ-loop list at₀ class₀ count₀ at class count = length list - at
+returns-at-then-list-len-e-next : Stages.Need-returns-at-then-list-len-e-next
+returns-at-then-list-len-e-next c =
+    let at = Stages.returns-at-then-list-len-e-next c in
+    sym (rest-past _ _ (at .turn .taken) (at .after-entry-at .ensures) (at .then-list-len-e-next .taken)) ∙ at .head .inv .1
 
-loop-holds : tie.Need-loop-holds Inv-loop μ-loop
-loop-holds c = (omega arith, rest-whole _)
-
-returns : tie.Need-returns Inv-loop μ-loop
-returns c =
-    let turn-2 = c .before .before .before .before in
-    sym (rest-past _ _ (c .before .before .before .loop-test .taken) (c .before .before .entry-at .ensures) (c .if1 .taken)) ∙ turn-2 .loop .inv .1
-
-returns-2 : tie.Need-returns-2 Inv-loop μ-loop
-returns-2 c =
-    let after-entry-at = c .before .before .before .before .before in
-    let at-loop-test = after-entry-at .before in
-    let inside = at-loop-test .loop-test .taken in
-    let entry = after-entry-at .entry-at .ensures in
-    sym (rest-unlawful _ _ inside entry (sym (c .before .is-lawful .ensures) ∙ not-true _ (c .if2 .taken))) ∙ at-loop-test .before .loop .inv .1
+returns-at-then-not-is-lawful-e-class : Stages.Need-returns-at-then-not-is-lawful-e-class
+returns-at-then-not-is-lawful-e-class c =
+    let at = Stages.returns-at-then-not-is-lawful-e-class c in
+    let inside = at .turn .taken in
+    let entry = at .after-entry-at .ensures in
+    sym (rest-unlawful _ _ inside entry (sym (at .after-is-lawful .ensures) ∙ not-true _ (at .then-not-is-lawful-e-class .taken))) ∙ at .head .inv .1
 
 -- after the test for a lawful entry
-lawful : (c : tie.Else2 Inv-loop μ-loop) →
-    let after-entry-at = c .before .before .before .before .before in
-    let start = after-entry-at .before .before .before .before in
-    lawfulEntry (meaning (start .args .list .now) (after-entry-at .entry-at .result)) ≡ true
-lawful c = sym (c .before .is-lawful .ensures) ∙ not-false _ (c .if2 .left)
+lawful : (c : Stages.Else-not-is-lawful-e-class) →
+    let at = Stages.else-not-is-lawful-e-class c in
+    lawfulEntry (meaning (at .start .args .list .now) (at .after-entry-at .result)) ≡ true
+lawful c =
+    let at = Stages.else-not-is-lawful-e-class c in
+    sym (at .after-is-lawful .ensures) ∙ not-false _ (at .else-not-is-lawful-e-class .left)
 
-returns-3 : tie.Need-returns-3 Inv-loop μ-loop
-returns-3 c =
-    let at-if1 = c .before .before .before .before .before in
-    let after-entry-at = at-if1 .before .before in
-    let at-loop-test = after-entry-at .before in
-    let entry = after-entry-at .entry-at .ensures in
-    let whole = at-if1 .if1 .left in
-    sym (rest-fall _ _ (at-loop-test .loop-test .taken) entry whole (lawful (c .before .before)) (c .if3 .taken)) ∙ at-loop-test .before .loop .inv .1
+returns-at-then-e-class-class : Stages.Need-returns-at-then-e-class-class
+returns-at-then-e-class-class c =
+    let at = Stages.returns-at-then-e-class-class c in
+    let entry = at .after-entry-at .ensures in
+    let whole = at .else-list-len-e-next .left in
+    sym (rest-fall _ _ (at .turn .taken) entry whole (lawful (at .Else-not-is-lawful-e-class)) (at .then-e-class-class .taken)) ∙ at .head .inv .1
 
-returns-4 : tie.Need-returns-4 Inv-loop μ-loop
-returns-4 c =
-    let stage = c .before .before .before .before .before in
-    let at-if1 = stage .before .before .before in
-    let after-entry-at = at-if1 .before .before in
-    let at-loop-test = after-entry-at .before in
-    let inside = at-loop-test .loop-test .taken in
-    let entry = after-entry-at .entry-at .ensures in
-    sym (rest-full _ _ inside entry (at-if1 .if1 .left) (lawful stage) (c .before .if4 .taken) (omega arith)) ∙ at-loop-test .before .loop .inv .1
+returns-at-then-count-max-of-class : Stages.Need-returns-at-then-count-max-of-class
+returns-at-then-count-max-of-class c =
+    let at = Stages.returns-at-then-count-max-of-class c in
+    let inside = at .turn .taken in
+    let entry = at .after-entry-at .ensures in
+    sym (rest-full _ _ inside entry (at .else-list-len-e-next .left) (lawful (at .Else-not-is-lawful-e-class)) (at .then-e-class-class-2 .taken) (omega arith)) ∙ at .head .inv .1
 
-loop-again : tie.Need-loop-again Inv-loop μ-loop
-loop-again c =
-    let stage = c .before .before .before .before .before in
-    let at-if1 = stage .before .before .before in
-    let after-entry-at = at-if1 .before .before in
-    let at-loop-test = after-entry-at .before in
-    let inside = at-loop-test .loop-test .taken in
-    let entry = after-entry-at .entry-at .ensures in
-    (omega arith, sym (rest-same _ _ inside entry (at-if1 .if1 .left) (lawful stage) (c .before .if4 .taken)) ∙ at-loop-test .before .loop .inv .1)
+loop-again-at-else-count-max-of-class : Stages.Need-loop-again-at-else-count-max-of-class
+loop-again-at-else-count-max-of-class c =
+    let at = Stages.loop-again-at-else-count-max-of-class c in
+    let inside = at .turn .taken in
+    let entry = at .after-entry-at .ensures in
+    (omega arith, sym (rest-same _ _ inside entry (at .else-list-len-e-next .left) (lawful (at .Else-not-is-lawful-e-class)) (at .then-e-class-class-2 .taken)) ∙ at .head .inv .1)
 
-loop-again-2 : tie.Need-loop-again-2 Inv-loop μ-loop
-loop-again-2 c =
-    let stage = c .before .before .before .before in
-    let at-if1 = stage .before .before .before in
-    let after-entry-at = at-if1 .before .before in
-    let at-loop-test = after-entry-at .before in
-    let inside = at-loop-test .loop-test .taken in
-    let entry = after-entry-at .entry-at .ensures in
-    let whole = at-if1 .if1 .left in
-    (omega arith, sym (rest-rise _ _ inside entry whole (lawful stage) (omega arith) (omega arith)) ∙ at-loop-test .before .loop .inv .1)
+loop-again-at-else-e-class-class-2 : Stages.Need-loop-again-at-else-e-class-class-2
+loop-again-at-else-e-class-class-2 c =
+    let at = Stages.loop-again-at-else-e-class-class-2 c in
+    let inside = at .turn .taken in
+    let entry = at .after-entry-at .ensures in
+    let whole = at .else-list-len-e-next .left in
+    (omega arith, sym (rest-rise _ _ inside entry whole (lawful (at .Else-not-is-lawful-e-class)) (omega arith) (omega arith)) ∙ at .head .inv .1)
 
-returns-5 : tie.Need-returns-5 Inv-loop μ-loop
-returns-5 c = sym (rest-end _ _ _ _ (c .loop-test .left) (omega arith)) ∙ c .before .loop .inv .1
+returns-at-exit : Stages.Need-returns-at-exit
+returns-at-exit c =
+    let at = Stages.returns-at-exit c in
+    sym (rest-end _ _ _ _ (at .exit .left) (omega arith)) ∙ at .head .inv .1
 
 pub check-spec : {M : Type 1} → statement M
 check-spec =
-    tie.close (tie.spec Inv-loop μ-loop loop-holds (λ c κs. search needs) returns (λ c. search needs) (λ c. search needs) (λ c. search needs)
-    (λ c κs. search needs) returns-2 returns-3 returns-4 (λ c. search needs) (λ c. search needs) loop-again (λ c. search needs) loop-again-2
-    returns-5)
+    Stages.close (record {
+      loop-holds-at-start = loop-holds-at-start;
+      returns-at-then-list-len-e-next = returns-at-then-list-len-e-next;
+      returns-at-then-not-is-lawful-e-class = returns-at-then-not-is-lawful-e-class;
+      returns-at-then-e-class-class = returns-at-then-e-class-class;
+      returns-at-then-count-max-of-class = returns-at-then-count-max-of-class;
+      loop-again-at-else-count-max-of-class = loop-again-at-else-count-max-of-class;
+      loop-again-at-else-e-class-class-2 = loop-again-at-else-e-class-class-2;
+      returns-at-exit = returns-at-exit;
+    })

@@ -1,23 +1,25 @@
 -- `put_delimiter` meets its contract.
+mod Stages
 use Rattle.listing_rules.specs.Bytes.{text}
 use Rattle.listing_rules.specs.Server.{delimiterText}
-use Rattle.listing_rules.proofs.Prelude.{eq-eqb, ne-eqb, needs}
+use Rattle.listing_rules.proofs.Prelude.{eq-eqb, ne-eqb}
 use Rattle.namespace_list.proofs.put_delimiter.Statement.{statement}
-use Rattle.namespace_list.proofs.put_delimiter.Tie as tie
 
-returns : tie.Need-returns
+returns-at-then-delimiter-0 : Stages.Need-returns-at-then-delimiter-0
 unfolding text delimiterText
-returns c =
-    let at-if1 = c .before .before .before .before .before in
-    rw (eq-eqb _ 0 (at-if1 .if1 .taken)) (c .before .before .put-all .ensures)
+returns-at-then-delimiter-0 c =
+    let at = Stages.returns-at-then-delimiter-0 c in
+    rw (eq-eqb _ 0 (at .then-delimiter-0 .taken)) (at .after-put-all .ensures)
 
-returns-2 : tie.Need-returns-2
+returns-at-else-delimiter-0 : Stages.Need-returns-at-else-delimiter-0
 unfolding delimiterText
-returns-2 c =
-    let at-if1 = c .before .before .before .before .before in
-    rw (ne-eqb _ 0 (at-if1 .if1 .left)) (c .before .before .put-quoted .ensures)
+returns-at-else-delimiter-0 c =
+    let at = Stages.returns-at-else-delimiter-0 c in
+    rw (ne-eqb _ 0 (at .else-delimiter-0 .left)) (at .after-put-quoted .ensures)
 
 pub put-delimiter-spec : {M : Type 1} → statement M
 put-delimiter-spec =
-    tie.close (tie.spec (λ c. search needs) (λ c κs. search needs) (λ c. search needs) returns (λ c. search needs) (λ c κs. search needs)
-    (λ c. search needs) returns-2)
+    Stages.close (record {
+      returns-at-then-delimiter-0 = returns-at-then-delimiter-0;
+      returns-at-else-delimiter-0 = returns-at-else-delimiter-0;
+    })

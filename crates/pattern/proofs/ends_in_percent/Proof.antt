@@ -1,14 +1,17 @@
 -- `ends_in_percent` meets its contract: the last byte decides.
-use Rattle.listing_rules.proofs.Prelude.{sym, arith, needs}
+mod Stages
+use Rattle.listing_rules.proofs.Prelude.{sym, arith}
 use Rattle.pattern.proofs.Chosen.{percent-last, percent-none}
 use Rattle.pattern.proofs.ends_in_percent.Statement.{statement}
-use Rattle.pattern.proofs.ends_in_percent.Tie as tie
 
-returns : tie.Need-returns
-returns c = sym (percent-none _ (c .if1 .taken))
+returns-at-then-n-0 : Stages.Need-returns-at-then-n-0
+returns-at-then-n-0 c = sym (percent-none _ (Stages.returns-at-then-n-0 c .then-n-0 .taken))
 
-returns-2 : tie.Need-returns-2
-returns-2 c = percent-last _ (omega (arith, c .before .if1 .left))
+returns-at-else-n-0 : Stages.Need-returns-at-else-n-0
+returns-at-else-n-0 c = percent-last _ (omega (arith, Stages.returns-at-else-n-0 c .else-n-0 .left))
 
 pub ends-in-percent-spec : {M : Type 1} → statement M
-ends-in-percent-spec = tie.close (tie.spec returns (λ c. search needs) (λ c. search needs) returns-2)
+ends-in-percent-spec = Stages.close (record {
+  returns-at-then-n-0 = returns-at-then-n-0;
+  returns-at-else-n-0 = returns-at-else-n-0;
+})

@@ -1,13 +1,14 @@
 -- `is_inbox` meets its contract: the text that is compared with is that of the definition.
+mod Stages
 use Rattle.listing_rules.specs.Bytes.{text}
 use Rattle.listing_rules.specs.Names.{inbox}
-use Rattle.listing_rules.proofs.Prelude.{needs}
 use Rattle.pattern.proofs.is_inbox.Statement.{statement}
-use Rattle.pattern.proofs.is_inbox.Tie as tie
 
-returns : tie.Need-returns
+returns-at-start : Stages.Need-returns-at-start
 unfolding inbox text
-returns c = c .same-bytes .ensures
+returns-at-start c = Stages.returns-at-start c .after-same-bytes .ensures
 
 pub is-inbox-spec : {M : Type 1} → statement M
-is-inbox-spec = tie.close (tie.spec (λ c. search needs) (λ c κs. search needs) returns)
+is-inbox-spec = Stages.close (record {
+  returns-at-start = returns-at-start;
+})

@@ -1,39 +1,37 @@
 -- `some_level` meets its contract: some pattern from here on ends in "%" exactly if some of the whole does.
-use Rattle.listing_rules.proofs.Prelude.{_∙_, _≡_, refl, sym, _-_, _≤_, arith, drop, length, needs}
-use Rattle.listing_rules.specs.Lists.{anyOf}
-use Rattle.listing_rules.specs.Listing.{endsInPercent}
-use Rattle.pattern.specs.Packed.{unpacked}
+mod Loops
+mod Stages
+use Rattle.listing_rules.proofs.Prelude.{_∙_, _≡_, refl, sym, arith}
 use Rattle.pattern.proofs.Chosen.{percent-here, percent-later, percent-end}
 use Rattle.pattern.proofs.some_level.Statement.{statement}
-use Rattle.pattern.proofs.some_level.Tie as tie
 
-abbrev Inv-loop : tie.InvT-loop
-Inv-loop patterns at₀ at = (at ≤ length patterns) × (anyOf endsInPercent (unpacked (drop at patterns)) ≡ anyOf endsInPercent (unpacked patterns))
+loop-holds-at-start : Stages.Need-loop-holds-at-start
+loop-holds-at-start c = (omega arith, refl)
 
-abbrev μ-loop : tie.MeasureT-loop
-μ-loop patterns at₀ at = length patterns - at
+returns-at-then-ends-in-percent-patterns-start-next : Stages.Need-returns-at-then-ends-in-percent-patterns-start-next
+returns-at-then-ends-in-percent-patterns-start-next c =
+    let at = Stages.returns-at-then-ends-in-percent-patterns-start-next c in
+    let more = at .turn .taken in
+    let item = at .after-item-end .ensures in
+    sym (percent-here _ _ _ more item _ (at .after-ends-in-percent .ensures) (at .then-ends-in-percent-patterns-start-next .taken)) ∙ at .head .inv .1
 
-loop-holds : tie.Need-loop-holds Inv-loop μ-loop
-loop-holds c = (omega arith, refl)
+loop-again-at-else-ends-in-percent-patterns-start-next : Stages.Need-loop-again-at-else-ends-in-percent-patterns-start-next
+loop-again-at-else-ends-in-percent-patterns-start-next c =
+    let at = Stages.loop-again-at-else-ends-in-percent-patterns-start-next c in
+    let more = at .turn .taken in
+    let item = at .after-item-end .ensures in
+    (omega arith, sym (percent-later _ _ _ more item _ (at .after-ends-in-percent .ensures) (at .else-ends-in-percent-patterns-start-next .left)) ∙ at .head .inv .1)
 
-returns : tie.Need-returns Inv-loop μ-loop
-returns c =
-    let at-loop-test = c .before .before .before .before in
-    let more = at-loop-test .loop-test .taken in
-    let item = c .before .before .before .item-end .ensures in
-    sym (percent-here _ _ _ more item _ (c .before .ends-in-percent .ensures) (c .if1 .taken)) ∙ at-loop-test .before .loop .inv .1
-
-loop-again : tie.Need-loop-again Inv-loop μ-loop
-loop-again c =
-    let at-loop-test = c .before .before .before .before in
-    let more = at-loop-test .loop-test .taken in
-    let item = c .before .before .before .item-end .ensures in
-    (omega arith, sym (percent-later _ _ _ more item _ (c .before .ends-in-percent .ensures) (c .if1 .left)) ∙ at-loop-test .before .loop .inv .1)
-
-returns-2 : tie.Need-returns-2 Inv-loop μ-loop
-returns-2 c = sym (percent-end _ _ (c .loop-test .left)) ∙ c .before .loop .inv .1
+returns-at-exit : Stages.Need-returns-at-exit
+returns-at-exit c =
+    let at = Stages.returns-at-exit c in
+    sym (percent-end _ _ (at .exit .left)) ∙ at .head .inv .1
 
 pub some-level-spec : {M : Type 1} → statement M
 some-level-spec =
-    tie.close (tie.spec Inv-loop μ-loop loop-holds (λ c. search needs) (λ c κs. search needs) (λ c. search needs) (λ c. search needs)
-    (λ c. search needs) (λ c κs. search needs) returns (λ c. search needs) loop-again returns-2)
+    Stages.close (record {
+      loop-holds-at-start = loop-holds-at-start;
+      returns-at-then-ends-in-percent-patterns-start-next = returns-at-then-ends-in-percent-patterns-start-next;
+      loop-again-at-else-ends-in-percent-patterns-start-next = loop-again-at-else-ends-in-percent-patterns-start-next;
+      returns-at-exit = returns-at-exit;
+    })

@@ -1,21 +1,24 @@
 -- `put_when` meets its contract: the text, or nothing (`put-none`).
-use Rattle.listing_rules.proofs.Prelude.{arith, needs}
+mod Stages
+use Rattle.listing_rules.proofs.Prelude.{arith}
 use Rattle.listing_rules.specs.Walk.{when}
 use Rattle.octets.proofs.Puts.{put-none}
 use Rattle.collector.proofs.command.put_when.Statement.{statement}
-use Rattle.collector.proofs.command.put_when.Tie as tie
 
-returns : tie.Need-returns
+returns-at-then-asked : Stages.Need-returns-at-then-asked
 unfolding when
-returns c =
-    let at-if1 = c .before .before .before .before in
-    rw (at-if1 .if1 .taken) (c .before .before .put-all .ensures)
+returns-at-then-asked c =
+    let at = Stages.returns-at-then-asked c in
+    rw (at .then-asked .taken) (at .after-put-all .ensures)
 
-returns-2 : tie.Need-returns-2
+returns-at-else-asked : Stages.Need-returns-at-else-asked
 unfolding when
-returns-2 c =
-    let start = c .before .before .before in
-    rw (c .if1 .left) (put-none (start .args .buf .now) (start .args .at) (omega arith) (omega arith))
+returns-at-else-asked c =
+    let at = Stages.returns-at-else-asked c in
+    rw (at .else-asked .left) (put-none (at .start .args .buf .now) (at .start .args .at) (omega arith) (omega arith))
 
 pub put-when-spec : {M : Type 1} → statement M
-put-when-spec = tie.close (tie.spec (λ c κs. search needs) (λ c. search needs) returns returns-2)
+put-when-spec = Stages.close (record {
+  returns-at-then-asked = returns-at-then-asked;
+  returns-at-else-asked = returns-at-else-asked;
+})

@@ -1,102 +1,105 @@
 -- `take_line` meets its contract: what the reader's answer tells of the line, and what is kept of it (`TakeLaws`).
-use Rattle.listing_rules.proofs.Prelude.{ap, not, arith, length-take, needs}
+mod Stages
+use Rattle.listing_rules.proofs.Prelude.{ap, not, arith, length-take}
 use Rattle.collector.proofs.TakeLaws.{parentOf, ReadAs, read-as, line-skipped, find-full, ask-full, line-taken}
 use Rattle.collector.proofs.lines.take_line.Statement.{statement}
-use Rattle.collector.proofs.lines.take_line.Tie as tie
 
-returns : tie.Need-returns
-returns c =
-    let read = c .before .before in
-    let start = read .before .before .before .before in
-    line-skipped (start .args .line .now) (start .args .options) (read .read-line .ensures .0) (c .enum-told .given .1) (start .pre)
+returns-at-else-parts : Stages.Need-returns-at-else-parts
+returns-at-else-parts c =
+    let at = Stages.returns-at-else-parts c in
+    line-skipped (at .start .args .line .now) (at .start .args .options) (at .after-read-line .ensures .0) (at .else-parts-enum-told .given .1) (at .start .pre)
 
 -- what is read of the line
-told : (c : tie.After-known-told) →
-    let start = c .before .before .before .before .before .before .before in
-    let parts = c .before .parts .given .0 in
-    ReadAs (start .args .line .now) (parts .0) (parts .1 .0) (parentOf (parts .1 .1 .0)) (c .before .before .before .read-line .result .name)
+told : (c : Stages.Bound-parts-known-told) →
+    let at = Stages.bound-parts-known-told c in
+    let parts = at .bound-parts .given .0 in
+    ReadAs (at .start .args .line .now) (parts .0) (parts .1 .0) (parentOf (parts .1 .1 .0)) (at .after-read-line .result .name)
 told c =
-    let parts = c .before .parts .given in
-    let read = c .before .before .before in
-    let start = read .before .before .before .before in
-    read-as (start .args .line .now) (parts .0 .0) (parts .0 .1 .0) (parts .0 .1 .1 .0) (read .read-line .result .name) (read .read-line .ensures .0) (parts .1) (read .read-line .ensures .1)
+    let at = Stages.bound-parts-known-told c in
+    let parts = at .bound-parts .given in
+    read-as (at .start .args .line .now) (parts .0 .0) (parts .0 .1 .0) (parts .0 .1 .1 .0) (at .after-read-line .result .name)
+    (at .after-read-line .ensures .0) (parts .1) (at .after-read-line .ensures .1)
 
-array-share-prefix-name : tie.Need-array-share-prefix-name
-array-share-prefix-name c =
-    let stage = c .before .before .before .before in
-    told (stage) .inside
+array-share-prefix-name-at-then-parts : Stages.Need-array-share-prefix-name-at-then-parts
+array-share-prefix-name-at-then-parts c =
+    told (Stages.array-share-prefix-name-at-then-parts c .Bound-parts-known-told) .inside
 
-slice-aggregate-keep : tie.Need-slice-aggregate-keep
-slice-aggregate-keep c =
-    let stage = c .before .before .before .before .before in
-    simp length-take (omega (arith, told (stage) .inside))
+slice-aggregate-keep-at-then-parts : Stages.Need-slice-aggregate-keep-at-then-parts
+slice-aggregate-keep-at-then-parts c =
+    simp length-take (omega (arith, told (Stages.slice-aggregate-keep-at-then-parts c .Bound-parts-known-told) .inside))
 
-keep-requires : tie.Need-keep-requires
+keep-requires : Stages.Need-keep-requires
 keep-requires c κs =
-    let read = c .before .before .before .before .before in (omega (arith, read .before .before .before .before .before .before .before .pre), simp length-take (omega (arith, told read .short)))
+    let at = Stages.keep-requires c in
+    let read = at .Bound-parts-known-told in (omega (arith, at .start .pre), simp length-take (omega (arith, told read .short)))
 
-returns-2 : tie.Need-returns-2
-returns-2 c =
-    let kept = c .before .before .before .before in
-    let read = kept .before .before .before .before .before .before in
-    find-full (told read) (read .before .before .before .before .before .before .before .args .options) (kept .keep .last .1 .0)
-    (kept .before .before .before .before .is-find .ensures) (c .enum-told2 .given .1) (kept .keep .ensures)
+returns-at-else-keep-find-found : Stages.Need-returns-at-else-keep-find-found
+returns-at-else-keep-find-found c =
+    let at = Stages.returns-at-else-keep-find-found c in
+    let read = at .Bound-parts-known-told in
+    find-full (told read) (at .start .args .options) (at .after-keep .last .1 .0)
+    (at .after-is-find .ensures) (at .else-keep-find-found-enum-told .given .1) (at .after-keep .ensures)
 
 -- the stage at which the line was read, from the one at which its find was kept
-abbrev read-before : tie.After-known-told2 → tie.After-known-told
+abbrev read-before : Stages.Bound-found-end-known-told → Stages.Bound-parts-known-told
 read-before c =
-    let stage = c .before .before .before .before .before .before .before .before .before .before .before in
-    stage
+    (Stages.bound-found-end-known-told c .Bound-parts-known-told)
 
-array-share-prefix-name-2 : tie.Need-array-share-prefix-name-2
-array-share-prefix-name-2 c = told (read-before (c .before)) .inside
+array-share-prefix-name-at-then-keep-find-found : Stages.Need-array-share-prefix-name-at-then-keep-find-found
+array-share-prefix-name-at-then-keep-find-found c = told (read-before (Stages.array-share-prefix-name-at-then-keep-find-found c .Bound-found-end-known-told)) .inside
 
-slice-aggregate-keep-2 : tie.Need-slice-aggregate-keep-2
-slice-aggregate-keep-2 c = simp length-take (omega (arith, told (read-before (c .before .before)) .inside))
+slice-aggregate-keep-at-then-keep-find-found : Stages.Need-slice-aggregate-keep-at-then-keep-find-found
+slice-aggregate-keep-at-then-keep-find-found c = simp length-take (omega (arith, told (read-before (Stages.slice-aggregate-keep-at-then-keep-find-found c .Bound-found-end-known-told)) .inside))
 
-keep-requires-2 : tie.Need-keep-requires-2
-keep-requires-2 c κs =
-    let read = read-before (c .before .before) in
-    (omega (arith, read .before .before .before .before .before .before .before .pre), simp length-take (omega (arith, told read .short)))
+keep-pending-end-requires : Stages.Need-keep-pending-end-requires
+keep-pending-end-requires c κs =
+    let read = read-before (Stages.keep-pending-end-requires c .Bound-found-end-known-told) in
+    (omega (arith, Stages.bound-parts-known-told read .start .pre), simp length-take (omega (arith, told read .short)))
 
-returns-3 : tie.Need-returns-3
-returns-3 c =
-    let asked = c .before .before .before .before in
-    let found = asked .before .before .before in
-    let kept = found .before .before .before .before .before in
+returns-at-else-keep-parent-pending : Stages.Need-returns-at-else-keep-parent-pending
+returns-at-else-keep-parent-pending c =
+    let at = Stages.returns-at-else-keep-parent-pending c in
+    let found = at .Bound-found-end-known-told in
     let read = read-before found in
-    ask-full (told read) (read .before .before .before .before .before .before .before .args .options)
-    (kept .keep .last .1 .0)
-    (kept .before .before .before .before .is-find .ensures)
-    (found .before .found-end .given .1)
-    (kept .keep .ensures)
-    (kept .keep .kept .1 .0)
-    (asked .keep2 .last .1 .0)
-    (ap not (kept .before .before .before .is-none .ensures))
-    (c .enum-told3 .given .1)
-    (asked .keep2 .ensures)
+    ask-full (told read) (Stages.bound-parts-known-told read .start .args .options)
+    (at .after-keep .last .1 .0)
+    (at .after-is-find .ensures)
+    (at .bound-found-end .given .1)
+    (at .after-keep .ensures)
+    (at .after-keep .kept .1 .0)
+    (at .after-keep-pending-end .last .1 .0)
+    (ap not (at .after-is-none .ensures))
+    (at .else-keep-parent-pending-enum-told .given .1)
+    (at .after-keep-pending-end .ensures)
 
-returns-4 : tie.Need-returns-4
-returns-4 c =
-    let asked = c .before .before .before .before .before in
-    let found = asked .before .before .before in
-    let kept = found .before .before .before .before .before in
+returns-at-then-keep-parent-pending : Stages.Need-returns-at-then-keep-parent-pending
+returns-at-then-keep-parent-pending c =
+    let at = Stages.returns-at-then-keep-parent-pending c in
+    let found = at .Bound-found-end-known-told in
     let read = read-before found in
-    line-taken (told read) (read .before .before .before .before .before .before .before .args .options)
-    (kept .keep .last .1 .0)
-    (kept .before .before .before .before .is-find .ensures)
-    (found .before .found-end .given .1)
-    (kept .keep .ensures)
-    (kept .keep .kept .1 .0)
-    (asked .keep2 .last .1 .0)
-    (ap not (kept .before .before .before .is-none .ensures))
-    (c .before .pending-end .given .1)
-    (asked .keep2 .ensures)
-    (asked .keep2 .kept .1 .0)
+    line-taken (told read) (Stages.bound-parts-known-told read .start .args .options)
+    (at .after-keep .last .1 .0)
+    (at .after-is-find .ensures)
+    (at .bound-found-end .given .1)
+    (at .after-keep .ensures)
+    (at .after-keep .kept .1 .0)
+    (at .after-keep-pending-end .last .1 .0)
+    (ap not (at .after-is-none .ensures))
+    (at .bound-pending-end .given .1)
+    (at .after-keep-pending-end .ensures)
+    (at .after-keep-pending-end .kept .1 .0)
 
 pub take-line-spec : {M : Type 1} → statement M
 take-line-spec =
-    tie.close (tie.spec (λ c κs. search needs) (λ c. search needs) (λ c. search needs) returns (λ c κs. search needs) (λ c κs. search needs)
-    array-share-prefix-name slice-aggregate-keep keep-requires (λ c. search needs) (λ c. search needs) (λ c. search needs) returns-2
-    array-share-prefix-name-2 slice-aggregate-keep-2 keep-requires-2 (λ c. search needs) (λ c. search needs) (λ c. search needs) (λ c. search needs)
-    returns-3 (λ c. search needs) (λ c. search needs) returns-4)
+    Stages.close (record {
+      returns-at-else-parts = returns-at-else-parts;
+      array-share-prefix-name-at-then-parts = array-share-prefix-name-at-then-parts;
+      slice-aggregate-keep-at-then-parts = slice-aggregate-keep-at-then-parts;
+      keep-requires = keep-requires;
+      returns-at-else-keep-find-found = returns-at-else-keep-find-found;
+      array-share-prefix-name-at-then-keep-find-found = array-share-prefix-name-at-then-keep-find-found;
+      slice-aggregate-keep-at-then-keep-find-found = slice-aggregate-keep-at-then-keep-find-found;
+      keep-pending-end-requires = keep-pending-end-requires;
+      returns-at-else-keep-parent-pending = returns-at-else-keep-parent-pending;
+      returns-at-then-keep-parent-pending = returns-at-then-keep-parent-pending;
+    })

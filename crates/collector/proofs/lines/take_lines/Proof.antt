@@ -1,79 +1,87 @@
 -- `take_lines` meets its contract. The loop's invariant is `Taking`: the lines that are left give what all lines give (`AnswerLaws`).
-use Rattle.listing_rules.proofs.Prelude.{_∙_, _-_, _<_, _≤_, arith, length, needs}
+mod Loops
+mod Stages
+use Rattle.listing_rules.proofs.Prelude.{_∙_, _<_, _≤_, arith, length}
 use Rattle.collector.proofs.LineLaws.{line-lies}
-use Rattle.collector.proofs.AnswerLaws.{Taking, taking-none, taking-line, taking-refused, taking-end}
+use Rattle.collector.proofs.AnswerLaws.{taking-none, taking-line, taking-refused, taking-end}
 use Rattle.collector.proofs.lines.take_lines.Statement.{statement}
-use Rattle.collector.proofs.lines.take_lines.Tie as tie
 
-abbrev Inv-loop : tie.InvT-loop
-Inv-loop answer options found₀ pending₀ progress₀ at₀ found pending progress at = Taking options answer progress₀ found₀ pending₀ found pending progress at
-
-abbrev μ-loop : tie.MeasureT-loop
-μ-loop answer options found₀ pending₀ progress₀ at₀ found pending progress at = length answer - at
-
-loop-holds : tie.Need-loop-holds Inv-loop μ-loop
-loop-holds c = taking-none (c .before .before .before .pre)
+loop-holds-at-start : Stages.Need-loop-holds-at-start
+loop-holds-at-start c = taking-none (Stages.loop-holds-at-start c .start .pre)
 
 -- the line lies in the answer
-lies : (c : tie.After-next-line Inv-loop μ-loop) →
-    (c .before .before .loop .at < c .next-line .result) × (c .next-line .result ≤ length
-    (c .before .before .before .before .before .before .args .answer .now))
+lies : (c : Stages.After-next-line) →
+    let at = Stages.after-next-line c in
+    (at .head .at < at .after-next-line .result) × (at .after-next-line .result ≤ length
+    (at .start .args .answer .now))
 lies c =
-    let start = c .before .before .before .before .before .before in
-    line-lies (start .args .answer .now) (c .before .before .loop .at) (c .next-line .result) (c .before .loop-test .taken) (c .next-line .ensures)
+    let at = Stages.after-next-line c in
+    line-lies (at .start .args .answer .now) (at .head .at) (at .after-next-line .result) (at .turn .taken) (at .after-next-line .ensures)
 
-sub-take-line : tie.Need-sub-take-line Inv-loop μ-loop
-sub-take-line c = omega (arith, lies c)
+sub-take-line-at-turn : Stages.Need-sub-take-line-at-turn
+sub-take-line-at-turn c = omega (arith, lies (Stages.sub-take-line-at-turn c .After-next-line))
 
-part-take-line-start : tie.Need-part-take-line-start Inv-loop μ-loop
-part-take-line-start c = omega (arith, lies c)
+part-take-line-start-at-turn : Stages.Need-part-take-line-start-at-turn
+part-take-line-start-at-turn c = omega (arith, lies (Stages.part-take-line-start-at-turn c .After-next-line))
 
-part-take-line-end : tie.Need-part-take-line-end Inv-loop μ-loop
-part-take-line-end c = lies c .1
+part-take-line-end-at-turn : Stages.Need-part-take-line-end-at-turn
+part-take-line-end-at-turn c = lies (Stages.part-take-line-end-at-turn c .After-next-line) .1
 
-take-line-requires : tie.Need-take-line-requires Inv-loop μ-loop
+take-line-requires : Stages.Need-take-line-requires
 take-line-requires c κs =
-    let turn = c .before .before .before .before .before in
-    turn .loop .inv .inside
+    let at = Stages.take-line-requires c in
+    at .head .inv .inside
 
-loop-less : tie.Need-loop-less Inv-loop μ-loop
-loop-less c =
-    let stage = c .before .before .before .before .before .before .before .before .before .before .before in
-    omega (arith, lies (stage))
+loop-less-at-arm-taken-all-next : Stages.Need-loop-less-at-arm-taken-all-next
+loop-less-at-arm-taken-all-next c =
+    omega (arith, lies (Stages.loop-less-at-arm-taken-all-next c .After-next-line))
 
-loop-again : tie.Need-loop-again Inv-loop μ-loop
-loop-again c =
-    let taken = c .before .before .before .before .before .before .before in
-    let found = taken .before .before .before .before in
-    let turn = found .before .before in
-    let kept = taken .take-line .kept .1 .1 in
-    taking-line (turn .loop .inv) (found .before .loop-test .taken) (found .next-line .ensures) (rw (c .before .next .given .1) at (taken .take-line .ensures)) (kept .0) (kept .1 .0)
+loop-again-at-arm-taken-all-next : Stages.Need-loop-again-at-arm-taken-all-next
+loop-again-at-arm-taken-all-next c =
+    let here = Stages.loop-again-at-arm-taken-all-next c in
+    let kept = here .after-take-line .kept .1 .1 in
+    taking-line (here .head .inv) (here .turn .taken) (here .after-next-line .ensures) (rw (here .bound-next .given .1) at (here .after-take-line .ensures)) (kept .0) (kept .1 .0)
 
-same-length : tie.Need-same-length Inv-loop μ-loop
-same-length c =
-    let taken = c .before .before .before .before .before .before .before in taken .take-line .kept .1 .1 .0 ∙ taken .before .before .before .before .before .before .loop .inv .found-long
+same-length-at-arm-taken-refused-number : Stages.Need-same-length-at-arm-taken-refused-number
+same-length-at-arm-taken-refused-number c =
+    let at = Stages.same-length-at-arm-taken-refused-number c in
+    at .after-take-line .kept .1 .1 .0 ∙ at .head .inv .found-long
 
-same-length-2 : tie.Need-same-length-2 Inv-loop μ-loop
-same-length-2 c =
-    let taken = c .before .before .before .before .before .before .before in taken .take-line .kept .1 .1 .1 .0 ∙ taken .before .before .before .before .before .before .loop .inv .pending-long
+same-length-at-arm-taken-refused-number-2 : Stages.Need-same-length-at-arm-taken-refused-number-2
+same-length-at-arm-taken-refused-number-2 c =
+    let at = Stages.same-length-at-arm-taken-refused-number-2 c in
+    at .after-take-line .kept .1 .1 .1 .0 ∙ at .head .inv .pending-long
 
-returns : tie.Need-returns Inv-loop μ-loop
-returns c =
-    let taken = c .before .before .before .before .before .before .before in
-    let found = taken .before .before .before .before in
-    let turn = found .before .before in
-    taking-refused (turn .loop .inv) (found .before .loop-test .taken) (found .next-line .ensures) (rw (c .before .number .given .1) at (taken .take-line .ensures))
+returns-at-arm-taken-refused-number : Stages.Need-returns-at-arm-taken-refused-number
+returns-at-arm-taken-refused-number c =
+    let here = Stages.returns-at-arm-taken-refused-number c in
+    taking-refused (here .head .inv) (here .turn .taken) (here .after-next-line .ensures) (rw (here .bound-number .given .1) at (here .after-take-line .ensures))
 
-same-length-3 : tie.Need-same-length-3 Inv-loop μ-loop
-same-length-3 c = c .before .loop .inv .found-long
+same-length-at-exit : Stages.Need-same-length-at-exit
+same-length-at-exit c = Stages.same-length-at-exit c .head .inv .found-long
 
-same-length-4 : tie.Need-same-length-4 Inv-loop μ-loop
-same-length-4 c = c .before .loop .inv .pending-long
+same-length-at-exit-2 : Stages.Need-same-length-at-exit-2
+same-length-at-exit-2 c = Stages.same-length-at-exit-2 c .head .inv .pending-long
 
-returns-2 : tie.Need-returns-2 Inv-loop μ-loop
-returns-2 c = taking-end (c .before .loop .inv) (c .loop-test .left)
+returns-at-exit : Stages.Need-returns-at-exit
+returns-at-exit c =
+    let at = Stages.returns-at-exit c in
+    taking-end (at .head .inv) (at .exit .left)
 
 pub take-lines-spec : {M : Type 1} → statement M
 take-lines-spec =
-    tie.close (tie.spec Inv-loop μ-loop loop-holds (λ c κs. search needs) sub-take-line part-take-line-start part-take-line-end take-line-requires
-    (λ c. search needs) loop-less loop-again (λ c. search needs) same-length same-length-2 returns same-length-3 same-length-4 returns-2)
+    Stages.close (record {
+      loop-holds-at-start = loop-holds-at-start;
+      sub-take-line-at-turn = sub-take-line-at-turn;
+      part-take-line-start-at-turn = part-take-line-start-at-turn;
+      part-take-line-end-at-turn = part-take-line-end-at-turn;
+      take-line-requires = take-line-requires;
+      loop-less-at-arm-taken-all-next = loop-less-at-arm-taken-all-next;
+      loop-again-at-arm-taken-all-next = loop-again-at-arm-taken-all-next;
+      same-length-at-arm-taken-refused-number = same-length-at-arm-taken-refused-number;
+      same-length-at-arm-taken-refused-number-2 = same-length-at-arm-taken-refused-number-2;
+      returns-at-arm-taken-refused-number = returns-at-arm-taken-refused-number;
+      same-length-at-exit = same-length-at-exit;
+      same-length-at-exit-2 = same-length-at-exit-2;
+      returns-at-exit = returns-at-exit;
+    })

@@ -1,31 +1,35 @@
 -- `keep` meets its contract: a name that is wanted is packed after the others, or there is no room for it (`PackLaws`).
-use Rattle.listing_rules.proofs.Prelude.{arith, not-false, not-true, needs}
+mod Stages
+use Rattle.listing_rules.proofs.Prelude.{arith, not-false, not-true}
 use Rattle.listing_rules.specs.Walk.{withName}
 use Rattle.octets.proofs.Puts.{put-length, put-then}
 use Rattle.collector.proofs.PackLaws.{packs-more, packs-full}
 use Rattle.collector.proofs.names.keep.Statement.{statement}
-use Rattle.collector.proofs.names.keep.Tie as tie
 
-returns : tie.Need-returns
+returns-at-then-not-wanted : Stages.Need-returns-at-then-not-wanted
 unfolding withName
-returns c = let start = c .before .before .before in rw (not-true (start .args .wanted) (c .if1 .taken)) (start .pre .0, λ ns p. p)
+returns-at-then-not-wanted c =
+    let at = Stages.returns-at-then-not-wanted c in
+    rw (not-true (at .start .args .wanted) (at .then-not-wanted .taken)) (at .start .pre .0, λ ns p. p)
 
-returns-2 : tie.Need-returns-2
+returns-at-then-buf-len-at-n : Stages.Need-returns-at-then-buf-len-at-n
 unfolding withName
-returns-2 c =
-    let start = c .before .before .before .before in
-    rw (not-false (start .args .wanted) (c .before .if1 .left)) (λ ns p. packs-full (start .args .name .now) p (c .if2 .taken))
+returns-at-then-buf-len-at-n c =
+    let at = Stages.returns-at-then-buf-len-at-n c in
+    rw (not-false (at .start .args .wanted) (at .else-not-wanted .left)) (λ ns p. packs-full (at .start .args .name .now) p (at .then-buf-len-at-n .taken))
 
-returns-3 : tie.Need-returns-3
+returns-at-else-buf-len-at-n : Stages.Need-returns-at-else-buf-len-at-n
 unfolding withName
-returns-3 c =
-    let put = c .before .before in
-    let fits = put .before .before .before .before .before .before in
-    let start = fits .before .before .before .before in
-    let both = put-then (put .before .before .before .before .put .ensures) (put .put-all .ensures) in
-    rw (not-false (start .args .wanted) (fits .before .if1 .left)) (omega (arith, both .place, both .fits, put-length both), λ ns p. packs-more (start .args .name .now) p both (fits .if2 .left))
+returns-at-else-buf-len-at-n c =
+    let at = Stages.returns-at-else-buf-len-at-n c in
+    let both = put-then (at .after-put .ensures) (at .after-put-all .ensures) in
+    rw (not-false (at .start .args .wanted) (at .else-not-wanted .left))
+    (omega (arith, both .place, both .fits, put-length both), λ ns p. packs-more (at .start .args .name .now) p both (at .else-buf-len-at-n .left))
 
 pub keep-spec : {M : Type 1} → statement M
 keep-spec =
-    tie.close (tie.spec returns (λ c. search needs) returns-2 (λ c. search needs) (λ c κs. search needs) (λ c κs. search needs) (λ c. search needs)
-    returns-3)
+    Stages.close (record {
+      returns-at-then-not-wanted = returns-at-then-not-wanted;
+      returns-at-then-buf-len-at-n = returns-at-then-buf-len-at-n;
+      returns-at-else-buf-len-at-n = returns-at-else-buf-len-at-n;
+    })

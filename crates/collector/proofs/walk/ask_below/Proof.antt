@@ -1,45 +1,49 @@
 -- `ask_below` meets its contract: the reference is the pending name and "/" (`AskLaws`).
-use Rattle.listing_rules.proofs.Prelude.{[], _++_, _∷_, arith, length-append, length-take, needs}
+mod Stages
+use Rattle.listing_rules.proofs.Prelude.{[], _++_, _∷_, arith, length-append, length-take}
 use Rattle.listing_rules.specs.Bytes.{slash}
 use Rattle.collector.specs.Names.{nameAt}
 use Rattle.collector.specs.Rooms.{referenceRoom}
 use Rattle.collector.proofs.AskLaws.{Fronts, put-fronts}
 use Rattle.collector.proofs.walk.ask_below.Statement.{statement}
-use Rattle.collector.proofs.walk.ask_below.Tie as tie
 
 -- the name and "/" stand at the front of the reference
-below : (c : tie.After-reference2) →
-    let start = c .before .before .before .before .before .before .before .before .before .before .before in
-    let put = c .before .put-below in
-    let args = start .args in
+below : (c : Stages.Bound-reference-at-start) →
+    let at = Stages.bound-reference-at-start c in
+    let put = at .after-put-below in
+    let args = at .start .args in
     Fronts (put .last .0) (put .result) (nameAt (args .name) (args .pending .now) ++ (slash ∷ []))
 below c =
-    let after-no-reference = c .before .before .before .before .before in
-    let start = after-no-reference .before .before .before .before .before .before in
-    let put = c .before .put-below in
-    let made = after-no-reference .no-reference in
-    put-fronts (made .result) (put .last .0) (nameAt (start .args .name) (start .args .pending .now) ++ (slash ∷ [])) (put .result) referenceRoom
+    let at = Stages.bound-reference-at-start c in
+    let put = at .after-put-below in
+    let made = at .after-no-reference in
+    put-fronts (made .result) (put .last .0) (nameAt (at .start .args .name) (at .start .args .pending .now) ++ (slash ∷ [])) (put .result) referenceRoom
     (made .ensures) (put .ensures)
-    (simp (length-append, length-take) (omega (arith, start .pre .1 .0)))
+    (simp (length-append, length-take) (omega (arith, at .start .pre .1 .0)))
 
-array-share-prefix-reference : tie.Need-array-share-prefix-reference
-array-share-prefix-reference c = below c .inside
+array-share-prefix-reference-at-start : Stages.Need-array-share-prefix-reference-at-start
+array-share-prefix-reference-at-start c = below (Stages.array-share-prefix-reference-at-start c .Bound-reference-at-start) .inside
 
-slice-aggregate-ask : tie.Need-slice-aggregate-ask
-slice-aggregate-ask c = simp length-take (omega (arith, below (c .before) .inside))
+slice-aggregate-ask-at-start : Stages.Need-slice-aggregate-ask-at-start
+slice-aggregate-ask-at-start c = simp length-take (omega (arith, below (Stages.slice-aggregate-ask-at-start c .Bound-reference-at-start) .inside))
 
-ask-requires : tie.Need-ask-requires
+ask-requires : Stages.Need-ask-requires
 ask-requires c κs =
-    let referred = c .before .before .before .before in
-    let start = referred .before .before .before .before .before .before .before .before .before .before .before in
-    (start .pre .0, (rw (below referred .bytes) (simp (length-append, length-take) (omega (arith, start .pre .1 .0))), (start .pre .1 .1 .0, start .pre .1 .1 .1)))
+    let at = Stages.ask-requires c in
+    let referred = at .Bound-reference-at-start in
+    (at .start .pre .0, (rw (below referred .bytes) (simp (length-append, length-take) (omega (arith, at .start .pre .1 .0))), (at .start .pre .1 .1 .0, at .start .pre .1 .1 .1)))
 
-returns : tie.Need-returns
-returns c =
-    let asked = c .before .before .before .before .before .before in rw (← below (asked .before .before .before .before .before) .bytes)
-    (asked .ask .ensures)
+returns-at-start : Stages.Need-returns-at-start
+returns-at-start c =
+    let at = Stages.returns-at-start c in
+    rw (← below (at .Bound-reference-at-start) .bytes)
+    (at .after-ask .ensures)
 
 pub ask-below-spec : {M : Type 1} → statement M
 ask-below-spec =
-    tie.close (tie.spec (λ c κs. search needs) (λ c. search needs) (λ c. search needs) (λ c. search needs) (λ c. search needs) (λ c κs. search needs)
-    array-share-prefix-reference slice-aggregate-ask ask-requires (λ c. search needs) (λ c. search needs) (λ c. search needs) returns)
+    Stages.close (record {
+      array-share-prefix-reference-at-start = array-share-prefix-reference-at-start;
+      slice-aggregate-ask-at-start = slice-aggregate-ask-at-start;
+      ask-requires = ask-requires;
+      returns-at-start = returns-at-start;
+    })

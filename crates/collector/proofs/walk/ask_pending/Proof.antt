@@ -1,121 +1,134 @@
 -- `ask_pending` meets its contract. The loop's invariant is `Walking`: what is left of the walk gives what the whole gives (`WalkLaws`).
-use Rattle.listing_rules.proofs.Prelude.{_∙_, _≡_, ap, _+_, _-_, ℕ, arith, getD, length, needs}
+mod Loops
+mod Stages
+use Rattle.listing_rules.proofs.Prelude.{_∙_, _≡_, ap, _+_, ℕ, arith, getD}
 use Rattle.listing_rules.specs.Walk.{collected}
-use Rattle.collector.specs.Walking.{Walking}
-use Rattle.collector.specs.Held.{heldSeen}
 use Rattle.collector.proofs.WalkLaws.{name-inside, name-lies, count-fits, walking-ends, walking-refused, walking-step}
 use Rattle.collector.proofs.walk.ask_pending.Statement.{statement}
-use Rattle.collector.proofs.walk.ask_pending.Tie as tie
 
-abbrev Inv-loop : tie.InvT-loop
-Inv-loop words area scratch₀ found₀ pending₀ reader options progress₀ at₀ scratch found pending progress at =
-    Walking (heldSeen reader area words) options (length scratch₀) (length found₀) (length pending₀) scratch found pending progress at
+loop-holds-at-start : Stages.Need-loop-holds-at-start
+loop-holds-at-start c =
+    let at = Stages.loop-holds-at-start c in
+    at .start .pre .1
 
-abbrev μ-loop : tie.MeasureT-loop
-μ-loop words area scratch₀ found₀ pending₀ reader options progress₀ at₀ scratch found pending progress at = length pending - at
+add-from-at-then-at-progress-pending : Stages.Need-add-from-at-then-at-progress-pending
+add-from-at-then-at-progress-pending c =
+    let at = Stages.add-from-at-then-at-progress-pending c in
+    omega
+    (arith, at .head .inv .holds .asks .room, at .head .inv .pending-long, at .start .good)
 
-loop-holds : tie.Need-loop-holds Inv-loop μ-loop
-loop-holds c =
-    let start = c .before .before .before .before .before .before .before in
-    start .pre .1
-
-add-from : tie.Need-add-from Inv-loop μ-loop
-add-from c =
-    let turn = c .before .before in omega
-    (arith, turn .loop .inv .holds .asks .room, turn .loop .inv .pending-long, turn .before .before .before .before .before .before .before .before .good)
-
-slice-read-wide : tie.Need-slice-read-wide Inv-loop μ-loop
-slice-read-wide c = omega (arith, c .before .if1 .taken, c .before .before .before .loop .inv .holds .asks .room)
+slice-read-wide-at-then-at-progress-pending : Stages.Need-slice-read-wide-at-then-at-progress-pending
+slice-read-wide-at-then-at-progress-pending c =
+    let at = Stages.slice-read-wide-at-then-at-progress-pending c in
+    omega (arith, at .then-at-progress-pending .taken, at .head .inv .holds .asks .room)
 
 -- where the next name ends
-end-is : (c : tie.After-wide Inv-loop μ-loop) →
-    let at = c .before .before .before .before .loop .at in at + 1 + c .wide .result ≡ at + 1 + getD
-    (c .before .before .before .before .loop .pending) at 0
+end-is : (c : Stages.After-wide) →
+    let here = Stages.after-wide c in
+    let at = here .head .at in at + 1 + here .after-wide .result ≡ at + 1 + getD
+    (here .head .pending) at 0
 end-is c =
-    let turn = c .before .before .before .before in
-    ap (λ (n : ℕ). turn .loop .at + 1 + n) (c .wide .ensures)
+    let at = Stages.after-wide c in
+    ap (λ (n : ℕ). at .head .at + 1 + n) (at .after-wide .ensures)
 
-add-end : tie.Need-add-end Inv-loop μ-loop
-add-end c =
-    let turn = c .before .before .before .before in omega (
+add-end-at-then-at-progress-pending : Stages.Need-add-end-at-then-at-progress-pending
+add-end-at-then-at-progress-pending c =
+    let at = Stages.add-end-at-then-at-progress-pending c in
+    omega (
       arith,
-      name-inside (turn .loop .inv) (c .before .before .if1 .taken) (end-is c),
-      turn .loop .inv .holds .asks .room,
-      turn .loop .inv .pending-long,
-      turn .before .before .before .before .before .before .before .before .good,
+      name-inside (at .head .inv) (at .then-at-progress-pending .taken) (end-is (at .After-wide)),
+      at .head .inv .holds .asks .room,
+      at .head .inv .pending-long,
+      at .start .good,
     )
 
-ask-below-requires : tie.Need-ask-below-requires Inv-loop μ-loop
+ask-below-requires : Stages.Need-ask-below-requires
 ask-below-requires c κs =
-    let read = c .before .before .before in
-    let turn = read .before .before .before .before in
-    let inv = turn .loop .inv in
-    let more = read .before .before .if1 .taken in (
-      turn .before .before .before .before .before .before .before .before .pre .0,
+    let at = Stages.ask-below-requires c in
+    let read = at .After-wide in
+    let inv = at .head .inv in
+    let more = at .then-at-progress-pending .taken in (
+      at .start .pre .0,
       (
-        name-lies inv more (end-is read) (omega (arith, read .before .slice-known4 .given (turn .loop .at))),
+        name-lies inv more (end-is read) (omega (arith, at .then-at-progress-pending-slice-known .given (at .head .at))),
         (record { finds = inv .holds .finds .room; asks = inv .holds .asks .room }, count-fits inv more (end-is read)),
       ),
     )
 
-loop-less : tie.Need-loop-less Inv-loop μ-loop
-loop-less c =
-    let asked = c .before .before .before .before .before .before .before .before .before in
-    let read = asked .before .before .before .before in
-    let turn = read .before .before .before .before in
-    omega (arith, read .before .before .if1 .taken, turn .loop .inv .holds .asks .room, asked .ask-below .kept .1 .1 .1 .1 .1 .1 .0)
+loop-less-at-arm-taken-all-further : Stages.Need-loop-less-at-arm-taken-all-further
+loop-less-at-arm-taken-all-further c =
+    let at = Stages.loop-less-at-arm-taken-all-further c in
+    omega (arith, at .then-at-progress-pending .taken, at .head .inv .holds .asks .room, at .after-ask-below .kept .1 .1 .1 .1 .1 .1 .0)
 
-loop-again : tie.Need-loop-again Inv-loop μ-loop
-loop-again c =
-    let asked = c .before .before .before .before .before .before .before .before .before in
-    let read = asked .before .before .before .before in
-    let turn = read .before .before .before .before in
-    let kept = asked .ask-below .kept .1 .1 .1 .1 in
-    walking-step (turn .loop .inv) (read .before .before .if1 .taken) (end-is read)
-    (asked .ask-below .last .1 .1 .1 .1 .0)
-    (rw (c .before .further .given .1) at (asked .ask-below .ensures))
+loop-again-at-arm-taken-all-further : Stages.Need-loop-again-at-arm-taken-all-further
+loop-again-at-arm-taken-all-further c =
+    let here = Stages.loop-again-at-arm-taken-all-further c in
+    let read = here .After-wide in
+    let kept = here .after-ask-below .kept .1 .1 .1 .1 in
+    walking-step (here .head .inv) (here .then-at-progress-pending .taken) (end-is read)
+    (here .after-ask-below .last .1 .1 .1 .1 .0)
+    (rw (here .bound-further .given .1) at (here .after-ask-below .ensures))
     (kept .0)
     (kept .1 .0)
     (kept .1 .1 .0)
 
-same-length : tie.Need-same-length Inv-loop μ-loop
-same-length c =
-    let asked = c .before .before .before .before .before .before .before .before .before in asked .ask-below .kept .1 .1 .1 .1 .0 ∙
-    asked .before .before .before .before .before .before .before .before .loop .inv .scratch-long
+same-length-at-arm-taken-refused-number : Stages.Need-same-length-at-arm-taken-refused-number
+same-length-at-arm-taken-refused-number c =
+    let at = Stages.same-length-at-arm-taken-refused-number c in
+    at .after-ask-below .kept .1 .1 .1 .1 .0 ∙
+    at .head .inv .scratch-long
 
-same-length-2 : tie.Need-same-length-2 Inv-loop μ-loop
-same-length-2 c =
-    let asked = c .before .before .before .before .before .before .before .before .before in asked .ask-below .kept .1 .1 .1 .1 .1 .0 ∙
-    asked .before .before .before .before .before .before .before .before .loop .inv .found-long
+same-length-at-arm-taken-refused-number-2 : Stages.Need-same-length-at-arm-taken-refused-number-2
+same-length-at-arm-taken-refused-number-2 c =
+    let at = Stages.same-length-at-arm-taken-refused-number-2 c in
+    at .after-ask-below .kept .1 .1 .1 .1 .1 .0 ∙
+    at .head .inv .found-long
 
-same-length-3 : tie.Need-same-length-3 Inv-loop μ-loop
-same-length-3 c =
-    let asked = c .before .before .before .before .before .before .before .before .before in asked .ask-below .kept .1 .1 .1 .1 .1 .1 .0 ∙
-    asked .before .before .before .before .before .before .before .before .loop .inv .pending-long
+same-length-at-arm-taken-refused-number-3 : Stages.Need-same-length-at-arm-taken-refused-number-3
+same-length-at-arm-taken-refused-number-3 c =
+    let at = Stages.same-length-at-arm-taken-refused-number-3 c in
+    at .after-ask-below .kept .1 .1 .1 .1 .1 .1 .0 ∙
+    at .head .inv .pending-long
 
-returns : tie.Need-returns Inv-loop μ-loop
+returns-at-arm-taken-refused-number : Stages.Need-returns-at-arm-taken-refused-number
 unfolding collected
-returns c =
-    let asked = c .before .before .before .before .before .before .before .before .before in
-    let read = asked .before .before .before .before in
-    let turn = read .before .before .before .before in
-    walking-refused (turn .loop .inv) (read .before .before .if1 .taken) (end-is read)
-    (rw (c .before .number .given .1) at (asked .ask-below .ensures))
+returns-at-arm-taken-refused-number c =
+    let here = Stages.returns-at-arm-taken-refused-number c in
+    let read = here .After-wide in
+    walking-refused (here .head .inv) (here .then-at-progress-pending .taken) (end-is read)
+    (rw (here .bound-number .given .1) at (here .after-ask-below .ensures))
 
-same-length-4 : tie.Need-same-length-4 Inv-loop μ-loop
-same-length-4 c = c .before .before .loop .inv .scratch-long
+same-length-at-else-at-progress-pending : Stages.Need-same-length-at-else-at-progress-pending
+same-length-at-else-at-progress-pending c = Stages.same-length-at-else-at-progress-pending c .head .inv .scratch-long
 
-same-length-5 : tie.Need-same-length-5 Inv-loop μ-loop
-same-length-5 c = c .before .before .loop .inv .found-long
+same-length-at-else-at-progress-pending-2 : Stages.Need-same-length-at-else-at-progress-pending-2
+same-length-at-else-at-progress-pending-2 c = Stages.same-length-at-else-at-progress-pending-2 c .head .inv .found-long
 
-same-length-6 : tie.Need-same-length-6 Inv-loop μ-loop
-same-length-6 c = c .before .before .loop .inv .pending-long
+same-length-at-else-at-progress-pending-3 : Stages.Need-same-length-at-else-at-progress-pending-3
+same-length-at-else-at-progress-pending-3 c = Stages.same-length-at-else-at-progress-pending-3 c .head .inv .pending-long
 
-returns-2 : tie.Need-returns-2 Inv-loop μ-loop
+returns-at-else-at-progress-pending : Stages.Need-returns-at-else-at-progress-pending
 unfolding collected
-returns-2 c = walking-ends (c .before .before .loop .inv) (c .if1 .left)
+returns-at-else-at-progress-pending c =
+    let at = Stages.returns-at-else-at-progress-pending c in
+    walking-ends (at .head .inv) (at .else-at-progress-pending .left)
 
 pub ask-pending-spec : {M : Type 1} → statement M
 ask-pending-spec =
-    tie.close (tie.spec Inv-loop μ-loop loop-holds add-from slice-read-wide (λ c κs. search needs) add-end ask-below-requires (λ c. search needs)
-    loop-less loop-again (λ c. search needs) same-length same-length-2 same-length-3 returns same-length-4 same-length-5 same-length-6 returns-2)
+    Stages.close (record {
+      loop-holds-at-start = loop-holds-at-start;
+      add-from-at-then-at-progress-pending = add-from-at-then-at-progress-pending;
+      slice-read-wide-at-then-at-progress-pending = slice-read-wide-at-then-at-progress-pending;
+      add-end-at-then-at-progress-pending = add-end-at-then-at-progress-pending;
+      ask-below-requires = ask-below-requires;
+      loop-less-at-arm-taken-all-further = loop-less-at-arm-taken-all-further;
+      loop-again-at-arm-taken-all-further = loop-again-at-arm-taken-all-further;
+      same-length-at-arm-taken-refused-number = same-length-at-arm-taken-refused-number;
+      same-length-at-arm-taken-refused-number-2 = same-length-at-arm-taken-refused-number-2;
+      same-length-at-arm-taken-refused-number-3 = same-length-at-arm-taken-refused-number-3;
+      returns-at-arm-taken-refused-number = returns-at-arm-taken-refused-number;
+      same-length-at-else-at-progress-pending = same-length-at-else-at-progress-pending;
+      same-length-at-else-at-progress-pending-2 = same-length-at-else-at-progress-pending-2;
+      same-length-at-else-at-progress-pending-3 = same-length-at-else-at-progress-pending-3;
+      returns-at-else-at-progress-pending = returns-at-else-at-progress-pending;
+    })

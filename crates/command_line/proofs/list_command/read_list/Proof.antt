@@ -1,5 +1,6 @@
 -- `read_list`: part by part off the grammar, or what is kept of the parts, judged. Rests on Grammar, Refusing, Judging and Listing.
-use Rattle.listing_rules.proofs.Prelude.{_∙_, _≡_, ap, subst, sym, Bool, _&&_, some, List as Seq, _<_, _^_, ℕ, drop, needs}
+mod Stages
+use Rattle.listing_rules.proofs.Prelude.{_∙_, _≡_, ap, subst, sym, Bool, _&&_, some, List as Seq, _<_, _^_, ℕ, drop}
 use Rattle.listing_rules.specs.Bytes.{text}
 use Rattle.listing_rules.specs.Tokens.{got, after}
 use Rattle.listing_rules.specs.Command.{Parsed, isSome}
@@ -19,185 +20,195 @@ use Rattle.command_line.proofs.Judging.{refuses, answers-as}
 use Rattle.command_line.proofs.Refusing.{read-on, read-off, reference-off, reference-alone, reference-read}
 use Rattle.command_line.proofs.Grammar.{afterSelection, afterSpace, afterPatterns, list-is}
 use Rattle.command_line.proofs.list_command.read_list.Statement.{statement}
-use Rattle.command_line.proofs.list_command.read_list.Tie as tie
 
 -- ---- what the line gives after the word
 
-abbrev line : tie.Start → Seq ℕ
+abbrev line : Stages.Start → Seq ℕ
 line s = s .args .text .now
 
-abbrev tag : tie.Start → Seq ℕ
+abbrev tag : Stages.Start → Seq ℕ
 tag s = spanBytes (line s) (s .args .tag)
 
-abbrev rest : tie.Start → Seq ℕ
+abbrev rest : Stages.Start → Seq ℕ
 rest s = drop (s .args .first .at) (line s)
 
-abbrev whole : tie.Start → Parsed
+abbrev whole : Stages.Start → Parsed
 whole s = wordedAs List (tag s) (rest s)
 
-abbrev has : tie.Start → Bool
+abbrev has : Stages.Start → Bool
 has s = isSome (after (text " (") (rest s))
 
-returns : tie.Need-returns
+returns-at-else-read-selection-text-first : Stages.Need-returns-at-else-read-selection-text-first
 unfolding wordedAs
-returns c =
-    let start = c .before .before .before .before .before in
-    refuses _ 4 (c .refused .ensures) (list-is (tag start) (rest start) ∙ read-off 4 _ (listed-broken _ (c .before .before .before .read-selection .ensures) (c .before .enum-told .given .1)))
+returns-at-else-read-selection-text-first c =
+    let at = Stages.returns-at-else-read-selection-text-first c in
+    let start = at .start in
+    refuses _ 4 (at .after-refused .ensures) (list-is (tag start) (rest start) ∙ read-off 4 _
+    (listed-broken _ (at .after-read-selection .ensures) (at .else-read-selection-text-first-enum-told .given .1)))
 
 -- ---- the selection options
 
-module _ (c : tie.After-known-told) where
+module _ (c : Stages.Bound-selected-known-told) where
   abbrev marks : Marks
-  marks = record { set = c .before .selected .given .0 .0 .bits; known = c .before .selected .given .0 .1 .0 }
+  marks =
+      let at = Stages.bound-selected-known-told c in
+      record { set = at .bound-selected .given .0 .0 .bits; known = at .bound-selected .given .0 .1 .0 }
 
-  selected : whole (c .before .before .before .before .before) ≡ afterSelection (tag (c .before .before .before .before .before))
-      (has (c .before .before .before .before .before)) (got marks
-      (drop (c .before .selected .given .0 .1 .1 .0 .at) (line (c .before .before .before .before .before))))
+  selected : whole (Stages.bound-selected-known-told c .start) ≡ afterSelection (tag (Stages.bound-selected-known-told c .start))
+      (has (Stages.bound-selected-known-told c .start)) (got marks
+      (drop (Stages.bound-selected-known-told c .bound-selected .given .0 .1 .1 .0 .at) (line (Stages.bound-selected-known-told c .start))))
   unfolding wordedAs
   selected =
-      list-is (tag (c .before .before .before .before .before)) (rest (c .before .before .before .before .before)) ∙ read-on 4
-      (afterSelection (tag (c .before .before .before .before .before)) (has (c .before .before .before .before .before)))
-      (listed-read _ (c .before .before .before .read-selection .ensures) (c .before .selected .given .1))
+      let at = Stages.bound-selected-known-told c in
+      list-is (tag (at .start)) (rest (at .start)) ∙ read-on 4
+      (afterSelection (tag (at .start)) (has (at .start)))
+      (listed-read _ (at .after-read-selection .ensures) (at .bound-selected .given .1))
 
-returns-2 : tie.Need-returns-2
+returns-at-else-second-argument-text : Stages.Need-returns-at-else-second-argument-text
 unfolding afterSelection got
-returns-2 c =
-    let stage = c .before .before .before .before in
-    refuses _ 4 (c .refused2 .ensures) (selected stage ∙ reference-off _ _ (token-missing _ (c .before .before .before .argument .ensures .0) (c .before .enum-told2 .given .1)))
+returns-at-else-second-argument-text c =
+    let at = Stages.returns-at-else-second-argument-text c in
+    refuses _ 4 (at .after-refused-at-else-second-argument-text .ensures)
+    (selected (at .Bound-selected-known-told) ∙ reference-off _ _
+    (token-missing _ (at .after-argument .ensures .0) (at .else-second-argument-text-enum-told .given .1)))
 
 -- ---- the reference
 
-module _ (c : tie.After-known-told2) where
+module _ (c : Stages.Bound-reference-known-told) where
   abbrev reference : Seq ℕ
-  reference = spanBytes (line (c .before .before .before .before .before .before .before .before .before)) (c .before .reference .given .0 .0)
+  reference =
+      let at = Stages.bound-reference-known-told c in
+      spanBytes (line (at .start)) (at .bound-reference .given .0 .0)
 
-  referred : argument (drop (c .before .before .before .before .before .selected .given .0 .1 .1 .0 .at)
-      (line (c .before .before .before .before .before .before .before .before .before))) ≡ some
-      (got reference (drop (c .before .reference .given .0 .1 .0 .at)
-      (line (c .before .before .before .before .before .before .before .before .before))))
-  referred = token-found _ (c .before .before .before .argument .ensures .0) (c .before .reference .given .1)
+  referred : argument (drop (Stages.bound-reference-known-told c .bound-selected .given .0 .1 .1 .0 .at)
+      (line (Stages.bound-reference-known-told c .start))) ≡ some
+      (got reference (drop (Stages.bound-reference-known-told c .bound-reference .given .0 .1 .0 .at)
+      (line (Stages.bound-reference-known-told c .start))))
+  referred =
+      let at = Stages.bound-reference-known-told c in
+      token-found _ (at .after-argument .ensures .0) (at .bound-reference .given .1)
 
-returns-3 : tie.Need-returns-3
+returns-at-else-third-space-text : Stages.Need-returns-at-else-third-space-text
 unfolding afterSelection got
-returns-3 c =
-    let stage = c .before .before .before .before in
-    let selection = stage .before .before .before .before in
-    refuses _ 4 (c .refused3 .ensures) (selected selection ∙ reference-alone _ _ _ _ (referred stage)
-    (behind-nothing _ (c .before .before .before .space .ensures .0) (c .before .enum-told3 .given .1)))
+returns-at-else-third-space-text c =
+    let at = Stages.returns-at-else-third-space-text c in
+    let selection = at .Bound-selected-known-told in
+    refuses _ 4 (at .after-refused-at-else-third-space-text .ensures) (selected selection ∙ reference-alone _ _ _ _ (referred (at .Bound-reference-known-told))
+    (behind-nothing _ (at .after-space .ensures .0) (at .else-third-space-text-enum-told .given .1)))
 
 -- ---- the space before the patterns
 
-module _ (c : tie.After-known-told3) where
+module _ (c : Stages.Bound-fourth-known-told) where
   abbrev place : ℕ
-  place = c .before .fourth .given .0 .0 .at
+  place = Stages.bound-fourth-known-told c .bound-fourth .given .0 .0 .at
 
-  spaced : whole (c .before .before .before .before .before .before .before .before .before .before .before .before .before) ≡ afterSpace
-      (tag (c .before .before .before .before .before .before .before .before .before .before .before .before .before))
-      (has (c .before .before .before .before .before .before .before .before .before .before .before .before .before))
-      (marks (c .before .before .before .before .before .before .before .before)) (reference (c .before .before .before .before))
-      (drop place (line (c .before .before .before .before .before .before .before .before .before .before .before .before .before)))
+  spaced : whole (Stages.bound-fourth-known-told c .start) ≡ afterSpace
+      (tag (Stages.bound-fourth-known-told c .start))
+      (has (Stages.bound-fourth-known-told c .start))
+      (marks (Stages.bound-fourth-known-told c .Bound-selected-known-told)) (reference (Stages.bound-fourth-known-told c .Bound-reference-known-told))
+      (drop place (line (Stages.bound-fourth-known-told c .start)))
   unfolding afterSelection got
   spaced =
-      selected (c .before .before .before .before .before .before .before .before) ∙ reference-read _
-      (afterSpace (tag (c .before .before .before .before .before .before .before .before .before .before .before .before .before))
-      (has (c .before .before .before .before .before .before .before .before .before .before .before .before .before))
-      (marks (c .before .before .before .before .before .before .before .before))) _ _ (referred (c .before .before .before .before)) _
-      (behind-at _ (c .before .before .before .space .ensures .0) (c .before .fourth .given .1))
+      let at = Stages.bound-fourth-known-told c in
+      selected (at .Bound-selected-known-told) ∙ reference-read _
+      (afterSpace (tag (at .start))
+      (has (at .start))
+      (marks (at .Bound-selected-known-told))) _ _ (referred (at .Bound-reference-known-told)) _
+      (behind-at _ (at .after-space .ensures .0) (at .bound-fourth .given .1))
 
-returns-4 : tie.Need-returns-4
+returns-at-else-behind : Stages.Need-returns-at-else-behind
 unfolding afterSpace
-returns-4 c =
-    let stage = c .before .before .before .before in
-    refuses _ 4 (c .refused4 .ensures) (spaced stage ∙ read-off 4 _ (patterns-nothing _ _ (c .before .before .before .read-patterns .ensures .0) (c .before .enum-told4 .given .1)))
+returns-at-else-behind c =
+    let at = Stages.returns-at-else-behind c in
+    refuses _ 4 (at .after-refused-at-else-behind .ensures) (spaced (at .Bound-fourth-known-told) ∙ read-off 4 _
+    (patterns-nothing _ _ (at .after-read-patterns .ensures .0) (at .else-behind-enum-told .given .1)))
 
 -- ---- the patterns
 
-module _ (c : tie.After-known-told4) where
+module _ (c : Stages.Bound-behind-known-told) where
   abbrev end : ℕ
-  end = c .before .behind .given .0 .0 .at
+  end = Stages.bound-behind-known-told c .bound-behind .given .0 .0 .at
 
   listed : whole
-      (c .before .before .before .before .before .before .before .before .before .before .before .before .before .before .before .before .before) ≡
+      (Stages.bound-behind-known-told c .start) ≡
       afterPatterns (tag
-      (c .before .before .before .before .before .before .before .before .before .before .before .before .before .before .before .before .before))
+      (Stages.bound-behind-known-told c .start))
       (has
-      (c .before .before .before .before .before .before .before .before .before .before .before .before .before .before .before .before .before))
-      (marks (c .before .before .before .before .before .before .before .before .before .before .before .before))
-      (reference (c .before .before .before .before .before .before .before .before))
-      (drop (place (c .before .before .before .before)) (line
-      (c .before .before .before .before .before .before .before .before .before .before .before .before .before .before .before .before .before)))
+      (Stages.bound-behind-known-told c .start))
+      (marks (Stages.bound-behind-known-told c .Bound-selected-known-told))
+      (reference (Stages.bound-behind-known-told c .Bound-reference-known-told))
+      (drop (place (Stages.bound-behind-known-told c .Bound-fourth-known-told)) (line
+      (Stages.bound-behind-known-told c .start)))
       (got (kept (line
-      (c .before .before .before .before .before .before .before .before .before .before .before .before .before .before .before .before .before))
-      (c .before .before .before .read-patterns .result .patterns))
+      (Stages.bound-behind-known-told c .start))
+      (Stages.bound-behind-known-told c .after-read-patterns .result .patterns))
       (drop end (line
-      (c .before .before .before .before .before .before .before .before .before .before .before .before .before .before .before .before .before))))
+      (Stages.bound-behind-known-told c .start))))
   unfolding afterSpace
   listed =
-      spaced (c .before .before .before .before) ∙ read-on 4 (afterPatterns
+      let at = Stages.bound-behind-known-told c in
+      spaced (at .Bound-fourth-known-told) ∙ read-on 4 (afterPatterns
       (tag
-      (c .before .before .before .before .before .before .before .before .before .before .before .before .before .before .before .before .before))
+      (at .start))
       (has
-      (c .before .before .before .before .before .before .before .before .before .before .before .before .before .before .before .before .before))
-      (marks (c .before .before .before .before .before .before .before .before .before .before .before .before))
-      (reference (c .before .before .before .before .before .before .before .before))
-      (drop (place (c .before .before .before .before)) (line
-      (c .before .before .before .before .before .before .before .before .before .before .before .before .before .before .before .before .before))))
-      (patterns-behind _ _ (c .before .before .before .read-patterns .ensures .0) (c .before .behind .given .1))
+      (at .start))
+      (marks (at .Bound-selected-known-told))
+      (reference (at .Bound-reference-known-told))
+      (drop (place (at .Bound-fourth-known-told)) (line
+      (at .start))))
+      (patterns-behind _ _ (at .after-read-patterns .ensures .0) (at .bound-behind .given .1))
 
-returns-5 : tie.Need-returns-5
+returns-at-else-read-returns-text-fifth : Stages.Need-returns-at-else-read-returns-text-fifth
 unfolding afterPatterns got
-returns-5 c =
-    let stage = c .before .before .before .before in
-    refuses _ 4 (c .refused5 .ensures) (listed stage ∙ read-off 4 _ (listed-broken _ (c .before .before .before .read-returns .ensures) (c .before .enum-told5 .given .1)))
+returns-at-else-read-returns-text-fifth c =
+    let at = Stages.returns-at-else-read-returns-text-fifth c in
+    refuses _ 4 (at .after-refused-at-else-read-returns-text-fifth .ensures)
+    (listed (at .Bound-behind-known-told) ∙ read-off 4 _ (listed-broken _ (at .after-read-returns .ensures)
+    (at .else-read-returns-text-fifth-enum-told .given .1)))
 
 -- ---- the return options, and the judgement
 
-module _ (c : tie.After-known-told5) where
+module _ (c : Stages.Bound-returned-known-told) where
   abbrev marks-too : Marks
-  marks-too = record { set = c .before .returned .given .0 .0 .bits; known = c .before .returned .given .0 .1 .0 }
+  marks-too =
+      let at = Stages.bound-returned-known-told c in
+      record { set = at .bound-returned .given .0 .0 .bits; known = at .bound-returned .given .0 .1 .0 }
 
-returns-6 : tie.Need-returns-6
+returns-at-then-read-returns-text-fifth : Stages.Need-returns-at-then-read-returns-text-fifth
 unfolding argumentsIs afterPatterns got
-returns-6 c =
-    let stage = c .before .before .before .before in
-    let after-returned = stage .before in
-    let after-read-returns = after-returned .before .before in
-    let stage-2 = after-read-returns .before in
-    let after-read-patterns = stage-2 .before .before .before in
-    let stage-4 = after-read-patterns .before .before .before .before .before in
-    let after-reference = stage-4 .before in
-    let after-argument = after-reference .before .before in
-    let stage-5 = after-argument .before in
-    let after-selected = stage-5 .before in
-    let after-read-selection = after-selected .before .before in
-    let start = after-read-selection .before .before in
+returns-at-then-read-returns-text-fifth c =
+    let at = Stages.returns-at-then-read-returns-text-fifth c in
+    let start = at .start in
     let text = line start in
-    let ret = stage in
-    let refer = stage-4 in
-    let sel = stage-5 in
-    let returned = listed-read _ (after-read-returns .read-returns .ensures) (after-returned .returned .given .1) in
-    let read = listed stage-2 ∙ read-on 4 _ returned in
-    answers-as (c .judge .ensures) (read ∙ ap (decided (tag start))
+    let ret = (at .Bound-returned-known-told) in
+    let refer = (at .Bound-reference-known-told) in
+    let sel = (at .Bound-selected-known-told) in
+    let returned = listed-read _ (at .after-read-returns .ensures) (at .bound-returned .given .1) in
+    let read = listed (at .Bound-behind-known-told) ∙ read-on 4 _ returned in
+    answers-as (at .after-judge .ensures) (read ∙ ap (decided (tag start))
     (λ i. record {
       known = marks sel .known && marks-too ret .known;
-      set = optionsIs (record { bits = sym (c .before .before .union .ensures) i });
-      extended = sym (c .before .is-extended .ensures) i;
+      set = optionsIs (record { bits = sym (at .after-union .ensures) i });
+      extended = sym (at .after-is-extended .ensures) i;
       reference = reference refer;
-      pats = kept text (after-read-patterns .read-patterns .result .patterns);
+      pats = kept text (at .after-read-patterns .result .patterns);
     }))
     (λ h. record {
       tagged = h;
       seven =
-          subst (λ (x : ℕ). x < 2 ^ 7) (sym (c .before .before .union .ensures))
-          (both-seven _ _ _ _ _ _ (listed-read _ (after-read-selection .read-selection .ensures) (after-selected .selected .given .1)) returned);
-      reference = lies-ahead _ _ _ _ (token-ahead _ _ (after-argument .argument .ensures .1) (after-reference .reference .given .1));
-      patterns = after-read-patterns .read-patterns .ensures .1;
+          subst (λ (x : ℕ). x < 2 ^ 7) (sym (at .after-union .ensures))
+          (both-seven _ _ _ _ _ _ (listed-read _ (at .after-read-selection .ensures) (at .bound-selected .given .1)) returned);
+      reference = lies-ahead _ _ _ _ (token-ahead _ _ (at .after-argument .ensures .1) (at .bound-reference .given .1));
+      patterns = at .after-read-patterns .ensures .1;
     })
 
 pub read-list-spec : {M : Type 1} → statement M
 read-list-spec =
-    tie.close (tie.spec (λ c κs. search needs) (λ c. search needs) (λ c. search needs) (λ c κs. search needs) returns (λ c κs. search needs)
-    (λ c. search needs) (λ c. search needs) (λ c κs. search needs) returns-2 (λ c κs. search needs) (λ c. search needs) (λ c. search needs)
-    (λ c κs. search needs) returns-3 (λ c κs. search needs) (λ c. search needs) (λ c. search needs) (λ c κs. search needs) returns-4
-    (λ c κs. search needs) (λ c. search needs) (λ c. search needs) (λ c κs. search needs) returns-5 (λ c κs. search needs) (λ c κs. search needs)
-    (λ c κs. search needs) returns-6)
+    Stages.close (record {
+      returns-at-else-read-selection-text-first = returns-at-else-read-selection-text-first;
+      returns-at-else-second-argument-text = returns-at-else-second-argument-text;
+      returns-at-else-third-space-text = returns-at-else-third-space-text;
+      returns-at-else-behind = returns-at-else-behind;
+      returns-at-else-read-returns-text-fifth = returns-at-else-read-returns-text-fifth;
+      returns-at-then-read-returns-text-fifth = returns-at-then-read-returns-text-fifth;
+    })

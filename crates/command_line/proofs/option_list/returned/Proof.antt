@@ -1,45 +1,50 @@
 -- `returned`: the return option that a word spells, or none, word by word. Opens the definition; rests on the promise of `spells_word`.
-use Rattle.listing_rules.proofs.Prelude.{_∙_, sym, needs}
+mod Stages
+use Rattle.listing_rules.proofs.Prelude.{_∙_, sym}
 use Rattle.listing_rules.specs.Bytes.{text}
 use Rattle.command_line.specs.OptionSets.{returned}
 use Rattle.command_line.proofs.option_list.returned.Statement.{statement}
-use Rattle.command_line.proofs.option_list.returned.Tie as tie
 
-returns : tie.Need-returns
+returns-at-then-spells-word-word-subscribed : Stages.Need-returns-at-then-spells-word-word-subscribed
 unfolding returned text
-returns c = rw (sym (c .before .spells-word .ensures) ∙ c .if1 .taken)
+returns-at-then-spells-word-word-subscribed c =
+    let at = Stages.returns-at-then-spells-word-word-subscribed c in
+    rw (sym (at .after-spells-word .ensures) ∙ at .then-spells-word-word-subscribed .taken)
 
-returns-2 : tie.Need-returns-2
+returns-at-then-spells-word-word-children : Stages.Need-returns-at-then-spells-word-word-children
 unfolding returned text
-returns-2 c =
-    let after-spells-word = c .before .before .before .before in
-    rw (sym (after-spells-word .spells-word .ensures) ∙ c .before .before .before .if1 .left, sym (c .before .spells-word2 .ensures) ∙ c .if2 .taken)
-
-returns-3 : tie.Need-returns-3
-unfolding returned text
-returns-3 c =
-    let after-spells-word2 = c .before .before .before .before in
-    let at-if1 = after-spells-word2 .before .before in
-    let after-spells-word = at-if1 .before in
+returns-at-then-spells-word-word-children c =
+    let at = Stages.returns-at-then-spells-word-word-children c in
     rw (
-      sym (after-spells-word .spells-word .ensures) ∙ at-if1 .if1 .left,
-      sym (after-spells-word2 .spells-word2 .ensures) ∙ c .before .before .before .if2 .left,
-      sym (c .before .spells-word3 .ensures) ∙ c .if3 .taken,
+      sym (at .after-spells-word .ensures) ∙ at .else-spells-word-word-subscribed .left,
+      sym (at .after-spells-word-at-else-spells-word-word-subscribed .ensures) ∙ at .then-spells-word-word-children .taken,
     )
 
-returns-4 : tie.Need-returns-4
+returns-at-then-spells-word-word-special-use : Stages.Need-returns-at-then-spells-word-word-special-use
 unfolding returned text
-returns-4 c =
-    let after-spells-word2 = c .before .before .before .before in
-    let at-if1 = after-spells-word2 .before .before in
-    let after-spells-word = at-if1 .before in
+returns-at-then-spells-word-word-special-use c =
+    let at = Stages.returns-at-then-spells-word-word-special-use c in
     rw (
-      sym (after-spells-word .spells-word .ensures) ∙ at-if1 .if1 .left,
-      sym (after-spells-word2 .spells-word2 .ensures) ∙ c .before .before .before .if2 .left,
-      sym (c .before .spells-word3 .ensures) ∙ c .if3 .left,
+      sym (at .after-spells-word .ensures) ∙ at .else-spells-word-word-subscribed .left,
+      sym (at .after-spells-word-at-else-spells-word-word-subscribed .ensures) ∙ at .else-spells-word-word-children .left,
+      sym (at .after-spells-word-at-else-spells-word-word-children .ensures) ∙ at .then-spells-word-word-special-use .taken,
+    )
+
+returns-at-else-spells-word-word-special-use : Stages.Need-returns-at-else-spells-word-word-special-use
+unfolding returned text
+returns-at-else-spells-word-word-special-use c =
+    let at = Stages.returns-at-else-spells-word-word-special-use c in
+    rw (
+      sym (at .after-spells-word .ensures) ∙ at .else-spells-word-word-subscribed .left,
+      sym (at .after-spells-word-at-else-spells-word-word-subscribed .ensures) ∙ at .else-spells-word-word-children .left,
+      sym (at .after-spells-word-at-else-spells-word-word-children .ensures) ∙ at .else-spells-word-word-special-use .left,
     )
 
 pub returned-spec : {M : Type 1} → statement M
 returned-spec =
-    tie.close (tie.spec (λ c. search needs) (λ c κs. search needs) returns (λ c. search needs) (λ c κs. search needs) returns-2 (λ c. search needs)
-    (λ c κs. search needs) returns-3 returns-4)
+    Stages.close (record {
+      returns-at-then-spells-word-word-subscribed = returns-at-then-spells-word-word-subscribed;
+      returns-at-then-spells-word-word-children = returns-at-then-spells-word-word-children;
+      returns-at-then-spells-word-word-special-use = returns-at-then-spells-word-word-special-use;
+      returns-at-else-spells-word-word-special-use = returns-at-else-spells-word-word-special-use;
+    })

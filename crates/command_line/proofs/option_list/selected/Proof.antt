@@ -1,63 +1,63 @@
 -- `selected`: the selection option that a word spells, or none, word by word. Opens the definition; rests on the promise of `spells_word`.
-use Rattle.listing_rules.proofs.Prelude.{_∙_, sym, needs}
+mod Stages
+use Rattle.listing_rules.proofs.Prelude.{_∙_, sym}
 use Rattle.listing_rules.specs.Bytes.{text}
 use Rattle.command_line.specs.OptionSets.{selected}
 use Rattle.command_line.proofs.option_list.selected.Statement.{statement}
-use Rattle.command_line.proofs.option_list.selected.Tie as tie
 
-returns : tie.Need-returns
+returns-at-then-spells-word-word-subscribed : Stages.Need-returns-at-then-spells-word-word-subscribed
 unfolding selected text
-returns c = rw (sym (c .before .spells-word .ensures) ∙ c .if1 .taken)
+returns-at-then-spells-word-word-subscribed c =
+    let at = Stages.returns-at-then-spells-word-word-subscribed c in
+    rw (sym (at .after-spells-word .ensures) ∙ at .then-spells-word-word-subscribed .taken)
 
-returns-2 : tie.Need-returns-2
+returns-at-then-spells-word-word-remote : Stages.Need-returns-at-then-spells-word-word-remote
 unfolding selected text
-returns-2 c =
-    let after-spells-word = c .before .before .before .before in
-    rw (sym (after-spells-word .spells-word .ensures) ∙ c .before .before .before .if1 .left, sym (c .before .spells-word2 .ensures) ∙ c .if2 .taken)
-
-returns-3 : tie.Need-returns-3
-unfolding selected text
-returns-3 c =
-    let after-spells-word2 = c .before .before .before .before in
-    let at-if1 = after-spells-word2 .before .before in
-    let after-spells-word = at-if1 .before in
+returns-at-then-spells-word-word-remote c =
+    let at = Stages.returns-at-then-spells-word-word-remote c in
     rw (
-      sym (after-spells-word .spells-word .ensures) ∙ at-if1 .if1 .left,
-      sym (after-spells-word2 .spells-word2 .ensures) ∙ c .before .before .before .if2 .left,
-      sym (c .before .spells-word3 .ensures) ∙ c .if3 .taken,
+      sym (at .after-spells-word .ensures) ∙ at .else-spells-word-word-subscribed .left,
+      sym (at .after-spells-word-at-else-spells-word-word-subscribed .ensures) ∙ at .then-spells-word-word-remote .taken,
     )
 
-returns-4 : tie.Need-returns-4
+returns-at-then-spells-word-word-recursivematch : Stages.Need-returns-at-then-spells-word-word-recursivematch
 unfolding selected text
-returns-4 c =
-    let after-spells-word3 = c .before .before .before .before in
-    let at-if2 = after-spells-word3 .before .before in
-    let after-spells-word2 = at-if2 .before in
-    let at-if1 = after-spells-word2 .before .before in
-    let after-spells-word = at-if1 .before in
+returns-at-then-spells-word-word-recursivematch c =
+    let at = Stages.returns-at-then-spells-word-word-recursivematch c in
     rw (
-      sym (after-spells-word .spells-word .ensures) ∙ at-if1 .if1 .left,
-      sym (after-spells-word2 .spells-word2 .ensures) ∙ at-if2 .if2 .left,
-      sym (after-spells-word3 .spells-word3 .ensures) ∙ c .before .before .before .if3 .left,
-      sym (c .before .spells-word4 .ensures) ∙ c .if4 .taken,
+      sym (at .after-spells-word .ensures) ∙ at .else-spells-word-word-subscribed .left,
+      sym (at .after-spells-word-at-else-spells-word-word-subscribed .ensures) ∙ at .else-spells-word-word-remote .left,
+      sym (at .after-spells-word-at-else-spells-word-word-remote .ensures) ∙ at .then-spells-word-word-recursivematch .taken,
     )
 
-returns-5 : tie.Need-returns-5
+returns-at-then-spells-word-word-special-use : Stages.Need-returns-at-then-spells-word-word-special-use
 unfolding selected text
-returns-5 c =
-    let after-spells-word3 = c .before .before .before .before in
-    let at-if2 = after-spells-word3 .before .before in
-    let after-spells-word2 = at-if2 .before in
-    let at-if1 = after-spells-word2 .before .before in
-    let after-spells-word = at-if1 .before in
+returns-at-then-spells-word-word-special-use c =
+    let at = Stages.returns-at-then-spells-word-word-special-use c in
     rw (
-      sym (after-spells-word .spells-word .ensures) ∙ at-if1 .if1 .left,
-      sym (after-spells-word2 .spells-word2 .ensures) ∙ at-if2 .if2 .left,
-      sym (after-spells-word3 .spells-word3 .ensures) ∙ c .before .before .before .if3 .left,
-      sym (c .before .spells-word4 .ensures) ∙ c .if4 .left,
+      sym (at .after-spells-word .ensures) ∙ at .else-spells-word-word-subscribed .left,
+      sym (at .after-spells-word-at-else-spells-word-word-subscribed .ensures) ∙ at .else-spells-word-word-remote .left,
+      sym (at .after-spells-word-at-else-spells-word-word-remote .ensures) ∙ at .else-spells-word-word-recursivematch .left,
+      sym (at .after-spells-word-at-else-spells-word-word-recursivematch .ensures) ∙ at .then-spells-word-word-special-use .taken,
+    )
+
+returns-at-else-spells-word-word-special-use : Stages.Need-returns-at-else-spells-word-word-special-use
+unfolding selected text
+returns-at-else-spells-word-word-special-use c =
+    let at = Stages.returns-at-else-spells-word-word-special-use c in
+    rw (
+      sym (at .after-spells-word .ensures) ∙ at .else-spells-word-word-subscribed .left,
+      sym (at .after-spells-word-at-else-spells-word-word-subscribed .ensures) ∙ at .else-spells-word-word-remote .left,
+      sym (at .after-spells-word-at-else-spells-word-word-remote .ensures) ∙ at .else-spells-word-word-recursivematch .left,
+      sym (at .after-spells-word-at-else-spells-word-word-recursivematch .ensures) ∙ at .else-spells-word-word-special-use .left,
     )
 
 pub selected-spec : {M : Type 1} → statement M
 selected-spec =
-    tie.close (tie.spec (λ c. search needs) (λ c κs. search needs) returns (λ c. search needs) (λ c κs. search needs) returns-2 (λ c. search needs)
-    (λ c κs. search needs) returns-3 (λ c. search needs) (λ c κs. search needs) returns-4 returns-5)
+    Stages.close (record {
+      returns-at-then-spells-word-word-subscribed = returns-at-then-spells-word-word-subscribed;
+      returns-at-then-spells-word-word-remote = returns-at-then-spells-word-word-remote;
+      returns-at-then-spells-word-word-recursivematch = returns-at-then-spells-word-word-recursivematch;
+      returns-at-then-spells-word-word-special-use = returns-at-then-spells-word-word-special-use;
+      returns-at-else-spells-word-word-special-use = returns-at-else-spells-word-word-special-use;
+    })

@@ -1,10 +1,11 @@
 -- `named` is the definition.
-use Rattle.listing_rules.proofs.Prelude.{needs}
+mod Stages
 use Rattle.command_line.proofs.reading.named.Statement.{statement}
-use Rattle.command_line.proofs.reading.named.Tie as tie
 
-returns : tie.Need-returns
-returns c = rw (c .before .none .ensures)
+returns-at-start : Stages.Need-returns-at-start
+returns-at-start c = rw (Stages.returns-at-start c .after-none .ensures)
 
 pub named-spec : {M : Type 1} → statement M
-named-spec = tie.close (tie.spec (λ c κs. search needs) returns)
+named-spec = Stages.close (record {
+  returns-at-start = returns-at-start;
+})

@@ -1,73 +1,98 @@
 -- `word_of` is the table, word by word. Rests on Wording.
-use Rattle.listing_rules.proofs.Prelude.{_∙_, _≡_, sym, false, needs}
+mod Stages
+use Rattle.listing_rules.proofs.Prelude.{_∙_, _≡_, sym, false}
 use Rattle.listing_rules.specs.Bytes.{text, spells}
 use Rattle.command_line.proofs.Wording.{word-list, word-namespace, word-lsub, word-subscribe, word-unsubscribe, word-unknown}
 use Rattle.command_line.proofs.reading.word_of.Statement.{statement}
-use Rattle.command_line.proofs.reading.word_of.Tie as tie
 
 -- ---- what each test shows
 
-not-list : (c : tie.Else1) → spells (c .before .before .before .before .args .name .now) (text "LIST") ≡ false
+not-list : (c : Stages.Else-spells-word-name-list) → spells (Stages.else-spells-word-name-list c .start .args .name .now) (text "LIST") ≡ false
 unfolding text
-not-list c = sym (c .before .spells-word .ensures) ∙ c .if1 .left
+not-list c =
+    let at = Stages.else-spells-word-name-list c in
+    sym (at .after-spells-word .ensures) ∙ at .else-spells-word-name-list .left
 
-not-namespace : (c : tie.Else2) → spells (c .before .before .before .before .before .before .before .args .name .now) (text "NAMESPACE") ≡ false
+not-namespace : (c : Stages.Else-spells-word-name-namespace) → spells (Stages.else-spells-word-name-namespace c .start .args .name .now) (text "NAMESPACE") ≡ false
 unfolding text
-not-namespace c = sym (c .before .spells-word2 .ensures) ∙ c .if2 .left
+not-namespace c =
+    let at = Stages.else-spells-word-name-namespace c in
+    sym (at .after-spells-word-at-else-spells-word-name-list .ensures) ∙ at .else-spells-word-name-namespace .left
 
-not-lsub : (c : tie.Else3) →
-    let start = c .before .before .before .before .before .before .before .before .before .before in
-    spells (start .args .name .now) (text "LSUB") ≡ false
+not-lsub : (c : Stages.Else-spells-word-name-lsub) →
+    let at = Stages.else-spells-word-name-lsub c in
+    spells (at .start .args .name .now) (text "LSUB") ≡ false
 unfolding text
-not-lsub c = sym (c .before .spells-word3 .ensures) ∙ c .if3 .left
+not-lsub c =
+    let at = Stages.else-spells-word-name-lsub c in
+    sym (at .after-spells-word-at-else-spells-word-name-namespace .ensures) ∙ at .else-spells-word-name-lsub .left
 
-not-subscribe : (c : tie.Else4) →
-    let start = c .before .before .before .before .before .before .before .before .before .before .before .before .before in
-    spells (start .args .name .now) (text "SUBSCRIBE") ≡ false
+not-subscribe : (c : Stages.Else-spells-word-name-subscribe) →
+    let at = Stages.else-spells-word-name-subscribe c in
+    spells (at .start .args .name .now) (text "SUBSCRIBE") ≡ false
 unfolding text
-not-subscribe c = sym (c .before .spells-word4 .ensures) ∙ c .if4 .left
+not-subscribe c =
+    let at = Stages.else-spells-word-name-subscribe c in
+    sym (at .after-spells-word-at-else-spells-word-name-lsub .ensures) ∙ at .else-spells-word-name-subscribe .left
 
 -- ---- the words
 
-returns : tie.Need-returns
+returns-at-then-spells-word-name-list : Stages.Need-returns-at-then-spells-word-name-list
 unfolding text
-returns c = sym (word-list _ (sym (c .before .spells-word .ensures) ∙ c .if1 .taken))
+returns-at-then-spells-word-name-list c =
+    let at = Stages.returns-at-then-spells-word-name-list c in
+    sym (word-list _ (sym (at .after-spells-word .ensures) ∙ at .then-spells-word-name-list .taken))
 
-returns-2 : tie.Need-returns-2
+returns-at-then-spells-word-name-namespace : Stages.Need-returns-at-then-spells-word-name-namespace
 unfolding text
-returns-2 c = sym (word-namespace _ (not-list (c .before .before .before)) (sym (c .before .spells-word2 .ensures) ∙ c .if2 .taken))
+returns-at-then-spells-word-name-namespace c =
+    let at = Stages.returns-at-then-spells-word-name-namespace c in
+    sym (word-namespace _ (not-list (at .Else-spells-word-name-list)) (sym (at .after-spells-word-at-else-spells-word-name-list .ensures) ∙ at .then-spells-word-name-namespace .taken))
 
-returns-3 : tie.Need-returns-3
+returns-at-then-spells-word-name-lsub : Stages.Need-returns-at-then-spells-word-name-lsub
 unfolding text
-returns-3 c =
-    let second = c .before .before .before in
-    sym (word-lsub _ (not-list (second .before .before .before)) (not-namespace second) (sym (c .before .spells-word3 .ensures) ∙ c .if3 .taken))
+returns-at-then-spells-word-name-lsub c =
+    let at = Stages.returns-at-then-spells-word-name-lsub c in
+    let second = at .Else-spells-word-name-namespace in
+    sym (word-lsub _ (not-list (at .Else-spells-word-name-list)) (not-namespace second)
+    (sym (at .after-spells-word-at-else-spells-word-name-namespace .ensures) ∙ at .then-spells-word-name-lsub .taken))
 
-returns-4 : tie.Need-returns-4
+returns-at-then-spells-word-name-subscribe : Stages.Need-returns-at-then-spells-word-name-subscribe
 unfolding text
-returns-4 c =
-    let third = c .before .before .before in
-    let second = third .before .before .before in
-    sym (word-subscribe _ (not-list (second .before .before .before)) (not-namespace second) (not-lsub third) (sym (c .before .spells-word4 .ensures) ∙ c .if4 .taken))
+returns-at-then-spells-word-name-subscribe c =
+    let at = Stages.returns-at-then-spells-word-name-subscribe c in
+    let third = at .Else-spells-word-name-lsub in
+    let second = at .Else-spells-word-name-namespace in
+    sym (word-subscribe _ (not-list (at .Else-spells-word-name-list)) (not-namespace second) (not-lsub third)
+    (sym (at .after-spells-word-at-else-spells-word-name-lsub .ensures) ∙ at .then-spells-word-name-subscribe .taken))
 
-returns-5 : tie.Need-returns-5
+returns-at-then-spells-word-name-unsubscribe : Stages.Need-returns-at-then-spells-word-name-unsubscribe
 unfolding text
-returns-5 c =
-    let fourth = c .before .before .before in
-    let third = fourth .before .before .before in
-    let second = third .before .before .before in
-    sym (word-unsubscribe _ (not-list (second .before .before .before)) (not-namespace second) (not-lsub third) (not-subscribe fourth) (sym (c .before .spells-word5 .ensures) ∙ c .if5 .taken))
+returns-at-then-spells-word-name-unsubscribe c =
+    let at = Stages.returns-at-then-spells-word-name-unsubscribe c in
+    let fourth = at .Else-spells-word-name-subscribe in
+    let third = at .Else-spells-word-name-lsub in
+    let second = at .Else-spells-word-name-namespace in
+    sym (word-unsubscribe _ (not-list (at .Else-spells-word-name-list)) (not-namespace second) (not-lsub third) (not-subscribe fourth)
+    (sym (at .after-spells-word-at-else-spells-word-name-subscribe .ensures) ∙ at .then-spells-word-name-unsubscribe .taken))
 
-returns-6 : tie.Need-returns-6
+returns-at-else-spells-word-name-unsubscribe : Stages.Need-returns-at-else-spells-word-name-unsubscribe
 unfolding text
-returns-6 c =
-    let fourth = c .before .before .before in
-    let third = fourth .before .before .before in
-    let second = third .before .before .before in
-    sym (word-unknown _ (not-list (second .before .before .before)) (not-namespace second) (not-lsub third) (not-subscribe fourth) (sym (c .before .spells-word5 .ensures) ∙ c .if5 .left))
+returns-at-else-spells-word-name-unsubscribe c =
+    let at = Stages.returns-at-else-spells-word-name-unsubscribe c in
+    let fourth = at .Else-spells-word-name-subscribe in
+    let third = at .Else-spells-word-name-lsub in
+    let second = at .Else-spells-word-name-namespace in
+    sym (word-unknown _ (not-list (at .Else-spells-word-name-list)) (not-namespace second) (not-lsub third) (not-subscribe fourth)
+    (sym (at .after-spells-word-at-else-spells-word-name-subscribe .ensures) ∙ at .else-spells-word-name-unsubscribe .left))
 
 pub word-of-spec : {M : Type 1} → statement M
 word-of-spec =
-    tie.close (tie.spec (λ c. search needs) (λ c κs. search needs) returns (λ c. search needs) (λ c κs. search needs) returns-2 (λ c. search needs)
-    (λ c κs. search needs) returns-3 (λ c. search needs) (λ c κs. search needs) returns-4 (λ c. search needs) (λ c κs. search needs) returns-5
-    returns-6)
+    Stages.close (record {
+      returns-at-then-spells-word-name-list = returns-at-then-spells-word-name-list;
+      returns-at-then-spells-word-name-namespace = returns-at-then-spells-word-name-namespace;
+      returns-at-then-spells-word-name-lsub = returns-at-then-spells-word-name-lsub;
+      returns-at-then-spells-word-name-subscribe = returns-at-then-spells-word-name-subscribe;
+      returns-at-then-spells-word-name-unsubscribe = returns-at-then-spells-word-name-unsubscribe;
+      returns-at-else-spells-word-name-unsubscribe = returns-at-else-spells-word-name-unsubscribe;
+    })

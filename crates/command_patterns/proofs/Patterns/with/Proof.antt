@@ -1,16 +1,19 @@
 -- `Patterns::with` is the definition: the ninth pattern has no place.
-use Rattle.listing_rules.proofs.Prelude.{le-leb, lt-leb, needs}
+mod Stages
+use Rattle.listing_rules.proofs.Prelude.{le-leb, lt-leb}
 use Rattle.command_patterns.specs.Places.{withSpan}
 use Rattle.command_patterns.proofs.Patterns.with.Statement.{statement}
-use Rattle.command_patterns.proofs.Patterns.with.Tie as tie
 
-returns : tie.Need-returns
+returns-at-then-max-patterns-at : Stages.Need-returns-at-then-max-patterns-at
 unfolding withSpan
-returns c = rw (le-leb 8 _ (c .if1 .taken))
+returns-at-then-max-patterns-at c = rw (le-leb 8 _ (Stages.returns-at-then-max-patterns-at c .then-max-patterns-at .taken))
 
-returns-2 : tie.Need-returns-2
+returns-at-else-max-patterns-at : Stages.Need-returns-at-else-max-patterns-at
 unfolding withSpan
-returns-2 c = rw (lt-leb 8 _ (c .if1 .left))
+returns-at-else-max-patterns-at c = rw (lt-leb 8 _ (Stages.returns-at-else-max-patterns-at c .else-max-patterns-at .left))
 
 pub with-spec : {M : Type 1} → statement M
-with-spec = tie.close (tie.spec (λ c. search needs) returns (λ c. search needs) (λ c. search needs) (λ c. search needs) returns-2)
+with-spec = Stages.close (record {
+  returns-at-then-max-patterns-at = returns-at-then-max-patterns-at;
+  returns-at-else-max-patterns-at = returns-at-else-max-patterns-at;
+})

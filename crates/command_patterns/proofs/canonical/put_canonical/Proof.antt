@@ -1,30 +1,25 @@
 -- `put_canonical`: three writes, one after the other. Rests on octets' Puts.
-use Rattle.listing_rules.proofs.Prelude.{_∙_, _≡_, ap, subst, sym, _++_, _∷_, _%_, _+_, ℕ, length, length-append, needs}
+mod Stages
+use Rattle.listing_rules.proofs.Prelude.{_∙_, _≡_, ap, subst, sym, _++_, _∷_, _%_, _+_, ℕ, length, length-append}
 use Rattle.octets.specs.Put.{Put}
 use Rattle.octets.proofs.Puts.{put-then}
 use Rattle.command_tokens.specs.Spans.{spanBytes}
 use Rattle.command_patterns.proofs.canonical.put_canonical.Statement.{statement}
-use Rattle.command_patterns.proofs.canonical.put_canonical.Tie as tie
 
-returns : tie.Need-returns
-returns c =
-    let after-put-span2 = c .before .before in
-    let after-put-span = after-put-span2 .before .before .before .before in
-    let after-put = after-put-span .before .before .before .before in
-    let after-length-byte = after-put .before in
-    let after-span-len2 = after-length-byte .before .before in
-    let after-span-len = after-span-len2 .before in
-    let start = after-span-len .before .before .before in
-    let reference = spanBytes (start .args .line .now) (start .args .reference) in
-    let pattern = spanBytes (start .args .line .now) (start .args .pattern) in
-    let head = after-span-len .span-len .ensures in
-    let tail = after-span-len2 .span-len2 .ensures in
-    let size : after-length-byte .length-byte .result ≡ length (reference ++ pattern) % 256 = after-length-byte .length-byte .ensures ∙ rw
+returns-at-start : Stages.Need-returns-at-start
+returns-at-start c =
+    let at = Stages.returns-at-start c in
+    let reference = spanBytes (at .start .args .line .now) (at .start .args .reference) in
+    let pattern = spanBytes (at .start .args .line .now) (at .start .args .pattern) in
+    let head = at .after-span-len .ensures in
+    let tail = at .after-span-len-tail .ensures in
+    let size : at .after-length-byte .result ≡ length (reference ++ pattern) % 256 = at .after-length-byte .ensures ∙ rw
     (head, tail) (ap (λ (x : ℕ). x % 256) (sym (length-append reference pattern))) in
-    subst (λ (x : ℕ). Put (start .args .buf .now) (after-put-span2 .put-span2 .last .0) (start .args .at) (x ∷ (reference ++ pattern)) (after-put-span2 .put-span2 .result)) size
-    (put-then (put-then (after-put .put .ensures) (after-put-span .put-span .ensures)) (after-put-span2 .put-span2 .ensures))
+    subst (λ (x : ℕ). Put (at .start .args .buf .now) (at .after-put-span-at-start .last .0) (at .start .args .at) (x ∷ (reference ++ pattern)) (at .after-put-span-at-start .result)) size
+    (put-then (put-then (at .after-put .ensures) (at .after-put-span .ensures)) (at .after-put-span-at-start .ensures))
 
 pub put-canonical-spec : {M : Type 1} → statement M
 put-canonical-spec =
-    tie.close (tie.spec (λ c κs. search needs) (λ c κs. search needs) (λ c κs. search needs) (λ c κs. search needs) (λ c κs. search needs)
-    (λ c κs. search needs) (λ c. search needs) returns)
+    Stages.close (record {
+      returns-at-start = returns-at-start;
+    })

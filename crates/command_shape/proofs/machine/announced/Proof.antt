@@ -1,20 +1,28 @@
 -- `announced` is the definition, number by number.
-use Rattle.listing_rules.proofs.Prelude.{arith, eq-eqb, le-leb, lt-leb, ne-eqb, needs}
+mod Stages
+use Rattle.listing_rules.proofs.Prelude.{arith, eq-eqb, le-leb, lt-leb, ne-eqb}
 use Rattle.command_shape.specs.Machine.{announcedIs, awaitingIs}
 use Rattle.command_shape.proofs.machine.announced.Statement.{statement}
-use Rattle.command_shape.proofs.machine.announced.Tie as tie
 
-returns : tie.Need-returns
+returns-at-then-n-0 : Stages.Need-returns-at-then-n-0
 unfolding announcedIs awaitingIs
-returns c = rw (le-leb (c .before .before .args .n) 1024 (omega arith), eq-eqb _ 0 (c .before .if1 .taken)) (c .stands .ensures)
+returns-at-then-n-0 c =
+    let at = Stages.returns-at-then-n-0 c in
+    rw (le-leb (at .start .args .n) 1024 (omega arith), eq-eqb _ 0 (at .then-n-0 .taken)) (at .after-stands .ensures)
 
-returns-2 : tie.Need-returns-2
+returns-at-then-n-max-literal : Stages.Need-returns-at-then-n-max-literal
 unfolding announcedIs awaitingIs
-returns-2 c = rw (le-leb _ 1024 (c .before .if2 .taken), ne-eqb _ 0 (c .before .before .if1 .left)) (c .stands2 .ensures)
+returns-at-then-n-max-literal c =
+    let at = Stages.returns-at-then-n-max-literal c in
+    rw (le-leb _ 1024 (at .then-n-max-literal .taken), ne-eqb _ 0 (at .else-n-0 .left)) (at .after-stands-at-then-n-max-literal .ensures)
 
-returns-3 : tie.Need-returns-3
+returns-at-else-n-max-literal : Stages.Need-returns-at-else-n-max-literal
 unfolding announcedIs awaitingIs
-returns-3 c = rw (lt-leb _ 1024 (c .if2 .left))
+returns-at-else-n-max-literal c = rw (lt-leb _ 1024 (Stages.returns-at-else-n-max-literal c .else-n-max-literal .left))
 
 pub announced-spec : {M : Type 1} → statement M
-announced-spec = tie.close (tie.spec (λ c κs. search needs) returns (λ c κs. search needs) returns-2 returns-3)
+announced-spec = Stages.close (record {
+  returns-at-then-n-0 = returns-at-then-n-0;
+  returns-at-then-n-max-literal = returns-at-then-n-max-literal;
+  returns-at-else-n-max-literal = returns-at-else-n-max-literal;
+})

@@ -1,15 +1,18 @@
 -- `dropped` is the definition's choice.
+mod Stages
 use Rattle.command_shape.specs.Machine.{droppedIs}
 use Rattle.command_shape.proofs.machine.dropped.Statement.{statement}
-use Rattle.command_shape.proofs.machine.dropped.Tie as tie
 
-returns : tie.Need-returns
+returns-at-then-cr-lf : Stages.Need-returns-at-then-cr-lf
 unfolding droppedIs
-returns c = rw (c .if1 .taken)
+returns-at-then-cr-lf c = rw (Stages.returns-at-then-cr-lf c .then-cr-lf .taken)
 
-returns-2 : tie.Need-returns-2
+returns-at-else-cr-lf : Stages.Need-returns-at-else-cr-lf
 unfolding droppedIs
-returns-2 c = rw (c .if1 .left)
+returns-at-else-cr-lf c = rw (Stages.returns-at-else-cr-lf c .else-cr-lf .left)
 
 pub dropped-spec : {M : Type 1} → statement M
-dropped-spec = tie.close (tie.spec returns returns-2)
+dropped-spec = Stages.close (record {
+  returns-at-then-cr-lf = returns-at-then-cr-lf;
+  returns-at-else-cr-lf = returns-at-else-cr-lf;
+})

@@ -1,43 +1,66 @@
 -- `line_byte` is the table of `lineIs`, row by row.
-use Rattle.listing_rules.proofs.Prelude.{_∙_, eq-eqb, ne-eqb, needs}
+mod Stages
+use Rattle.listing_rules.proofs.Prelude.{_∙_, eq-eqb, ne-eqb}
 use Rattle.command_shape.specs.Machine.{lineIs}
 use Rattle.command_shape.proofs.machine.line_byte.Statement.{statement}
-use Rattle.command_shape.proofs.machine.line_byte.Tie as tie
 
-returns : tie.Need-returns
+returns-at-then-lf : Stages.Need-returns-at-then-lf
 unfolding lineIs
-returns c = rw (c .before .enum-told2 .given .1, eq-eqb _ 10 (c .if1 .taken))
+returns-at-then-lf c =
+    let at = Stages.returns-at-then-lf c in
+    rw (at .arm-tail-cr-enum-told .given .1, eq-eqb _ 10 (at .then-lf .taken))
 
-returns-2 : tie.Need-returns-2
+returns-at-then-lf-2 : Stages.Need-returns-at-then-lf-2
 unfolding lineIs
-returns-2 c = rw (c .before .before .before .tail .given .1, eq-eqb _ 10 (c .before .if2 .taken)) (c .announced .ensures)
+returns-at-then-lf-2 c =
+    let at = Stages.returns-at-then-lf-2 c in
+    rw (at .bound-tail .given .1, eq-eqb _ 10 (at .then-lf-2 .taken)) (at .after-announced .ensures)
 
-returns-3 : tie.Need-returns-3
+returns-at-arm-tail-text : Stages.Need-returns-at-arm-tail-text
 unfolding lineIs
-returns-3 c = c .text-byte .ensures ∙ rw (c .before .enum-told .given .1)
+returns-at-arm-tail-text c =
+    let at = Stages.returns-at-arm-tail-text c in
+    at .after-text-byte .ensures ∙ rw (at .arm-tail-text-enum-told .given .1)
 
-returns-4 : tie.Need-returns-4
+returns-at-else-lf : Stages.Need-returns-at-else-lf
 unfolding lineIs
-returns-4 c = c .text-byte2 .ensures ∙ rw (c .before .before .enum-told2 .given .1, ne-eqb _ 10 (c .before .if1 .left))
+returns-at-else-lf c =
+    let at = Stages.returns-at-else-lf c in
+    at .after-text-byte-at-else-lf .ensures ∙ rw (at .arm-tail-cr-enum-told .given .1, ne-eqb _ 10 (at .else-lf .left))
 
-returns-5 : tie.Need-returns-5
+returns-at-arm-tail-open : Stages.Need-returns-at-arm-tail-open
 unfolding lineIs
-returns-5 c = c .text-byte3 .ensures ∙ rw (c .before .enum-told3 .given .1)
+returns-at-arm-tail-open c =
+    let at = Stages.returns-at-arm-tail-open c in
+    at .after-text-byte-at-arm-tail-open .ensures ∙ rw (at .arm-tail-open-enum-told .given .1)
 
-returns-6 : tie.Need-returns-6
+returns-at-arm-tail-digits : Stages.Need-returns-at-arm-tail-digits
 unfolding lineIs
-returns-6 c = c .text-byte4 .ensures ∙ rw (c .before .enum-told4 .given .1)
+returns-at-arm-tail-digits c =
+    let at = Stages.returns-at-arm-tail-digits c in
+    at .after-text-byte-at-arm-tail-digits .ensures ∙ rw (at .arm-tail-digits-enum-told .given .1)
 
-returns-7 : tie.Need-returns-7
+returns-at-arm-tail-closed : Stages.Need-returns-at-arm-tail-closed
 unfolding lineIs
-returns-7 c = c .text-byte5 .ensures ∙ rw (c .before .enum-told5 .given .1)
+returns-at-arm-tail-closed c =
+    let at = Stages.returns-at-arm-tail-closed c in
+    at .after-text-byte-at-arm-tail-closed .ensures ∙ rw (at .arm-tail-closed-enum-told .given .1)
 
-returns-8 : tie.Need-returns-8
+returns-at-else-lf-2 : Stages.Need-returns-at-else-lf-2
 unfolding lineIs
-returns-8 c = c .text-byte6 .ensures ∙ rw (c .before .before .before .tail .given .1, ne-eqb _ 10 (c .before .if2 .left))
+returns-at-else-lf-2 c =
+    let at = Stages.returns-at-else-lf-2 c in
+    at .after-text-byte-at-else-lf-2 .ensures ∙ rw (at .bound-tail .given .1, ne-eqb _ 10 (at .else-lf-2 .left))
 
 pub line-byte-spec : {M : Type 1} → statement M
 line-byte-spec =
-    tie.close (tie.spec (λ c. search needs) (λ c κs. search needs) (λ c. search needs) returns (λ c κs. search needs) (λ c. search needs)
-    (λ c κs. search needs) (λ c. search needs) (λ c κs. search needs) (λ c. search needs) (λ c κs. search needs) (λ c. search needs)
-    (λ c κs. search needs) returns-2 (λ c κs. search needs) returns-3 returns-4 returns-5 returns-6 returns-7 returns-8)
+    Stages.close (record {
+      returns-at-then-lf = returns-at-then-lf;
+      returns-at-then-lf-2 = returns-at-then-lf-2;
+      returns-at-arm-tail-text = returns-at-arm-tail-text;
+      returns-at-else-lf = returns-at-else-lf;
+      returns-at-arm-tail-open = returns-at-arm-tail-open;
+      returns-at-arm-tail-digits = returns-at-arm-tail-digits;
+      returns-at-arm-tail-closed = returns-at-arm-tail-closed;
+      returns-at-else-lf-2 = returns-at-else-lf-2;
+    })

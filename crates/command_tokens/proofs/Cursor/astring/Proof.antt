@@ -1,12 +1,13 @@
 -- `Cursor::astring`: `string_or` with the bytes of an astring is the definition.
+mod Stages
 use Rattle.listing_rules.specs.Tokens.{astring}
-use Rattle.listing_rules.proofs.Prelude.{needs}
 use Rattle.command_tokens.proofs.Cursor.astring.Statement.{statement}
-use Rattle.command_tokens.proofs.Cursor.astring.Tie as tie
 
-returns : tie.Need-returns
+returns-at-start : Stages.Need-returns-at-start
 unfolding astring
-returns c = c .string-or .ensures
+returns-at-start c = Stages.returns-at-start c .after-string-or .ensures
 
 pub astring-spec : {M : Type 1} → statement M
-astring-spec = tie.close (tie.spec (λ c κs. search needs) returns)
+astring-spec = Stages.close (record {
+  returns-at-start = returns-at-start;
+})

@@ -1,12 +1,13 @@
 -- `Cursor::atom`: `run` with atom bytes is the definition.
+mod Stages
 use Rattle.listing_rules.specs.Tokens.{atom}
-use Rattle.listing_rules.proofs.Prelude.{needs}
 use Rattle.command_tokens.proofs.Cursor.atom.Statement.{statement}
-use Rattle.command_tokens.proofs.Cursor.atom.Tie as tie
 
-returns : tie.Need-returns
+returns-at-start : Stages.Need-returns-at-start
 unfolding atom
-returns c = c .run .ensures
+returns-at-start c = Stages.returns-at-start c .after-run .ensures
 
 pub atom-spec : {M : Type 1} → statement M
-atom-spec = tie.close (tie.spec (λ c κs. search needs) returns)
+atom-spec = Stages.close (record {
+  returns-at-start = returns-at-start;
+})

@@ -1,12 +1,13 @@
 -- `Cursor::pattern`: `string_or` with the bytes of a pattern is the definition.
+mod Stages
 use Rattle.listing_rules.specs.Tokens.{pattern}
-use Rattle.listing_rules.proofs.Prelude.{needs}
 use Rattle.command_tokens.proofs.Cursor.pattern.Statement.{statement}
-use Rattle.command_tokens.proofs.Cursor.pattern.Tie as tie
 
-returns : tie.Need-returns
+returns-at-start : Stages.Need-returns-at-start
 unfolding pattern
-returns c = c .string-or .ensures
+returns-at-start c = Stages.returns-at-start c .after-string-or .ensures
 
 pub pattern-spec : {M : Type 1} → statement M
-pattern-spec = tie.close (tie.spec (λ c κs. search needs) returns)
+pattern-spec = Stages.close (record {
+  returns-at-start = returns-at-start;
+})

@@ -1,43 +1,45 @@
 -- `Cursor::quoted`: what is left of a quoted string is read byte by byte, up to the quote that closes it. Rests on Quoting.
-use Rattle.command_tokens.specs.Tokens.{TokenIn, tokenIs, closing, closedAt}
-use Rattle.listing_rules.proofs.Prelude.{_∙_, _≡_, ap, refl, sym, false, _-_, _≤_, arith, drop, length, needs}
+mod Loops
+mod Stages
+use Rattle.command_tokens.specs.Tokens.{TokenIn, tokenIs}
+use Rattle.listing_rules.proofs.Prelude.{_∙_, _≡_, ap, refl, sym, arith}
 use Rattle.command_tokens.proofs.Quoting.{quoted-out, quoted-more, quoted-end, quoted-bad, closed-is}
 use Rattle.command_tokens.proofs.Cursor.quoted.Statement.{statement}
-use Rattle.command_tokens.proofs.Cursor.quoted.Tie as tie
 
-abbrev Inv-loop : tie.InvT-loop
-Inv-loop text at i₀ escaped₀ i escaped = (at ≤ i) × (closedAt at i (closing escaped (drop i text)) ≡ closedAt at at (closing false (drop at text)))
+loop-holds-at-start : Stages.Need-loop-holds-at-start
+loop-holds-at-start c = (omega arith, refl)
 
-abbrev μ-loop : tie.MeasureT-loop
-μ-loop text at i₀ escaped₀ i escaped = length text - i
-
-loop-holds : tie.Need-loop-holds Inv-loop μ-loop
-loop-holds c = (omega arith, refl)
-
-returns : tie.Need-returns Inv-loop μ-loop
+returns-at-arm-quote-end : Stages.Need-returns-at-arm-quote-end
 unfolding TokenIn
-returns c =
-    let turn = c .before .before .before .before .before in (
-      ap (tokenIs _) (sym (quoted-end _ _ _ _ (omega arith) (sym (c .before .before .quoted-step .ensures) ∙ c .enum-told .given .1)) ∙ turn .loop .inv .1) ∙ closed-is _ _,
+returns-at-arm-quote-end c =
+    let at = Stages.returns-at-arm-quote-end c in (
+      ap (tokenIs _) (sym (quoted-end _ _ _ _ (omega arith) (sym (at .after-quoted-step .ensures) ∙ at .arm-quote-end-enum-told .given .1)) ∙ at .head .inv .1) ∙ closed-is _ _,
       record { order = omega arith; within = omega arith; past = omega arith; inside = omega arith },
     )
 
-returns-2 : tie.Need-returns-2 Inv-loop μ-loop
+returns-at-arm-quote-bad : Stages.Need-returns-at-arm-quote-bad
 unfolding TokenIn
-returns-2 c =
-    let turn = c .before .before .before .before .before in
-    (ap (tokenIs _) (sym (quoted-bad _ _ _ _ (omega arith) (sym (c .before .before .quoted-step .ensures) ∙ c .enum-told2 .given .1)) ∙ turn .loop .inv .1) ∙ closed-is _ _, tt)
+returns-at-arm-quote-bad c =
+    let at = Stages.returns-at-arm-quote-bad c in
+    (ap (tokenIs _) (sym (quoted-bad _ _ _ _ (omega arith) (sym (at .after-quoted-step .ensures) ∙ at .arm-quote-bad-enum-told .given .1)) ∙ at .head .inv .1) ∙ closed-is _ _, tt)
 
-loop-again : tie.Need-loop-again Inv-loop μ-loop
-loop-again c =
-    let turn = c .before .before .before .before .before .before in
-    (omega arith, sym (quoted-more _ _ _ _ (omega arith) _ (sym (c .before .before .before .quoted-step .ensures) ∙ c .before .e .given .1)) ∙ turn .loop .inv .1)
+loop-again-at-arm-quote-more-e : Stages.Need-loop-again-at-arm-quote-more-e
+loop-again-at-arm-quote-more-e c =
+    let at = Stages.loop-again-at-arm-quote-more-e c in
+    (omega arith, sym (quoted-more _ _ _ _ (omega arith) _ (sym (at .after-quoted-step .ensures) ∙ at .bound-e .given .1)) ∙ at .head .inv .1)
 
-returns-3 : tie.Need-returns-3 Inv-loop μ-loop
+returns-at-exit : Stages.Need-returns-at-exit
 unfolding TokenIn
-returns-3 c = (ap (tokenIs _) (sym (quoted-out _ _ _ _ (c .loop-test .left)) ∙ c .before .loop .inv .1) ∙ closed-is _ _, tt)
+returns-at-exit c =
+    let at = Stages.returns-at-exit c in
+    (ap (tokenIs _) (sym (quoted-out _ _ _ _ (at .exit .left)) ∙ at .head .inv .1) ∙ closed-is _ _, tt)
 
 pub quoted-spec : {M : Type 1} → statement M
 quoted-spec =
-    tie.close (tie.spec Inv-loop μ-loop loop-holds (λ c. search needs) (λ c κs. search needs) (λ c. search needs) (λ c. search needs) returns
-    (λ c. search needs) returns-2 (λ c. search needs) (λ c. search needs) (λ c. search needs) loop-again returns-3)
+    Stages.close (record {
+      loop-holds-at-start = loop-holds-at-start;
+      returns-at-arm-quote-end = returns-at-arm-quote-end;
+      returns-at-arm-quote-bad = returns-at-arm-quote-bad;
+      loop-again-at-arm-quote-more-e = loop-again-at-arm-quote-more-e;
+      returns-at-exit = returns-at-exit;
+    })

@@ -1,12 +1,13 @@
 -- `Cursor::space`: `byte` with a space is the definition.
+mod Stages
 use Rattle.listing_rules.specs.Bytes.{text}
-use Rattle.listing_rules.proofs.Prelude.{needs}
 use Rattle.command_tokens.proofs.Cursor.space.Statement.{statement}
-use Rattle.command_tokens.proofs.Cursor.space.Tie as tie
 
-returns : tie.Need-returns
+returns-at-start : Stages.Need-returns-at-start
 unfolding text
-returns c = c .byte .ensures
+returns-at-start c = Stages.returns-at-start c .after-byte .ensures
 
 pub space-spec : {M : Type 1} → statement M
-space-spec = tie.close (tie.spec (λ c κs. search needs) returns)
+space-spec = Stages.close (record {
+  returns-at-start = returns-at-start;
+})

@@ -1,28 +1,44 @@
 -- `quoted_step`: each way through the tests gives the step of the definition.
-use Rattle.listing_rules.proofs.Prelude.{_∙_, sym, eq-eqb, ne-eqb, needs}
+mod Stages
+use Rattle.listing_rules.proofs.Prelude.{_∙_, sym, eq-eqb, ne-eqb}
 use Rattle.command_tokens.specs.Tokens.{quotedStep}
 use Rattle.command_tokens.proofs.tokens.quoted_step.Statement.{statement}
-use Rattle.command_tokens.proofs.tokens.quoted_step.Tie as tie
 
-returns : tie.Need-returns
+returns-at-then-quote-backslash : Stages.Need-returns-at-then-quote-backslash
 unfolding quotedStep
-returns c = rw (c .before .if1 .taken, c .if2 .taken)
+returns-at-then-quote-backslash c =
+    let at = Stages.returns-at-then-quote-backslash c in
+    rw (at .then-escaped .taken, at .then-quote-backslash .taken)
 
-returns-2 : tie.Need-returns-2
+returns-at-else-quote-backslash : Stages.Need-returns-at-else-quote-backslash
 unfolding quotedStep
-returns-2 c = rw (c .before .if1 .taken, c .if2 .left)
+returns-at-else-quote-backslash c =
+    let at = Stages.returns-at-else-quote-backslash c in
+    rw (at .then-escaped .taken, at .else-quote-backslash .left)
 
-returns-3 : tie.Need-returns-3
+returns-at-then-quote : Stages.Need-returns-at-then-quote
 unfolding quotedStep
-returns-3 c = rw (c .before .if1 .left, eq-eqb _ _ (c .if3 .taken))
+returns-at-then-quote c =
+    let at = Stages.returns-at-then-quote c in
+    rw (at .else-escaped .left, eq-eqb _ _ (at .then-quote .taken))
 
-returns-4 : tie.Need-returns-4
+returns-at-then-is-line-byte : Stages.Need-returns-at-then-is-line-byte
 unfolding quotedStep
-returns-4 c = rw (c .before .before .before .if1 .left, ne-eqb _ _ (c .before .before .if3 .left), sym (c .before .is-line-byte .ensures) ∙ c .if4 .taken)
+returns-at-then-is-line-byte c =
+    let at = Stages.returns-at-then-is-line-byte c in
+    rw (at .else-escaped .left, ne-eqb _ _ (at .else-quote .left), sym (at .after-is-line-byte .ensures) ∙ at .then-is-line-byte .taken)
 
-returns-5 : tie.Need-returns-5
+returns-at-else-is-line-byte : Stages.Need-returns-at-else-is-line-byte
 unfolding quotedStep
-returns-5 c = rw (c .before .before .before .if1 .left, ne-eqb _ _ (c .before .before .if3 .left), sym (c .before .is-line-byte .ensures) ∙ c .if4 .left)
+returns-at-else-is-line-byte c =
+    let at = Stages.returns-at-else-is-line-byte c in
+    rw (at .else-escaped .left, ne-eqb _ _ (at .else-quote .left), sym (at .after-is-line-byte .ensures) ∙ at .else-is-line-byte .left)
 
 pub quoted-step-spec : {M : Type 1} → statement M
-quoted-step-spec = tie.close (tie.spec (λ c κs. search needs) returns returns-2 returns-3 returns-4 returns-5)
+quoted-step-spec = Stages.close (record {
+  returns-at-then-quote-backslash = returns-at-then-quote-backslash;
+  returns-at-else-quote-backslash = returns-at-else-quote-backslash;
+  returns-at-then-quote = returns-at-then-quote;
+  returns-at-then-is-line-byte = returns-at-then-is-line-byte;
+  returns-at-else-is-line-byte = returns-at-else-is-line-byte;
+})

@@ -1,10 +1,13 @@
 -- `few_patterns` is the definition's test, by the promises of its two callees.
-use Rattle.listing_rules.proofs.Prelude.{needs}
+mod Stages
 use Rattle.command_writer.proofs.patterns.few_patterns.Statement.{statement}
-use Rattle.command_writer.proofs.patterns.few_patterns.Tie as tie
 
-returns : tie.Need-returns
-returns c = rw (c .before .count-patterns .ensures, c .patterns-short .ensures)
+returns-at-start : Stages.Need-returns-at-start
+returns-at-start c =
+    let at = Stages.returns-at-start c in
+    rw (at .after-count-patterns .ensures, at .after-patterns-short .ensures)
 
 pub few-patterns-spec : {M : Type 1} → statement M
-few-patterns-spec = tie.close (tie.spec (λ c κs. search needs) (λ c κs. search needs) returns)
+few-patterns-spec = Stages.close (record {
+  returns-at-start = returns-at-start;
+})

@@ -1,16 +1,18 @@
 -- `pattern_at` meets its contract: what it reads at a place is the pattern there, by the law pattern-here.
-use Rattle.listing_rules.proofs.Prelude.{_∙_, _≡_, arith, getD, needs}
+mod Stages
+use Rattle.listing_rules.proofs.Prelude.{_∙_, _≡_, arith, getD}
 use Rattle.command_writer.proofs.PackedPatterns.{pattern-here}
 use Rattle.command_writer.proofs.patterns.pattern_at.Statement.{statement}
-use Rattle.command_writer.proofs.patterns.pattern_at.Tie as tie
 
-returns : tie.Need-returns
-returns c =
-    let start = c .before .before .before .before in
-    let n : c .before .wide .result ≡ getD (start .args .list .now) (start .args .at) 0 = c .before .wide .ensures ∙
-    c .before .before .byte-at .ensures in
-    pattern-here (start .args .list .now) (start .args .at) (start .pre) _ _ (c .least .ensures) (omega arith)
+returns-at-start : Stages.Need-returns-at-start
+returns-at-start c =
+    let at = Stages.returns-at-start c in
+    let n : at .after-wide .result ≡ getD (at .start .args .list .now) (at .start .args .at) 0 = at .after-wide .ensures ∙
+    at .after-byte-at .ensures in
+    pattern-here (at .start .args .list .now) (at .start .args .at) (at .start .pre) _ _ (at .after-least .ensures) (omega arith)
 
 pub pattern-at-spec : {M : Type 1} → statement M
 pattern-at-spec =
-    tie.close (tie.spec (λ c. search needs) (λ c κs. search needs) (λ c κs. search needs) (λ c. search needs) (λ c κs. search needs) returns)
+    Stages.close (record {
+      returns-at-start = returns-at-start;
+    })

@@ -1,43 +1,36 @@
 -- `patterns_short` meets its contract: the patterns from `at` on decide. By the laws of PackedPatterns.
-use Rattle.listing_rules.proofs.Prelude.{_∙_, _≡_, sym, _-_, drop, length, not-false, not-true, needs}
-use Rattle.listing_rules.specs.Lists.{every}
-use Rattle.listing_rules.specs.Command.{canonical}
-use Rattle.listing_rules.specs.Joining.{packedPatterns}
-use Rattle.command_writer.specs.Patterns.{short, shortAfter}
+mod Loops
+mod Stages
+use Rattle.listing_rules.proofs.Prelude.{_∙_, _≡_, sym, not-false, not-true}
+use Rattle.command_writer.specs.Patterns.{shortAfter}
 use Rattle.command_writer.proofs.PackedPatterns.{every-next, every-stop, every-end, canonical-short}
 use Rattle.command_writer.proofs.patterns.patterns_short.Statement.{statement}
-use Rattle.command_writer.proofs.patterns.patterns_short.Tie as tie
 
-abbrev Inv-loop : tie.InvT-loop
-Inv-loop reference list at₀ at =
-    every (shortAfter reference) (packedPatterns (drop at list)) ≡ every short (canonical reference (packedPatterns list))
+loop-holds-at-start : Stages.Need-loop-holds-at-start
+loop-holds-at-start c = sym (canonical-short _ _)
 
-abbrev μ-loop : tie.MeasureT-loop
-μ-loop reference list at₀ at = length list - at
+returns-at-then-not-is-short-reference-list : Stages.Need-returns-at-then-not-is-short-reference-list
+returns-at-then-not-is-short-reference-list c =
+    let at = Stages.returns-at-then-not-is-short-reference-list c in
+    sym (every-stop (shortAfter (at .start .args .reference .now)) (at .after-pattern-at .ensures)
+    (sym (at .after-is-short .ensures) ∙ not-true _ (at .then-not-is-short-reference-list .taken))) ∙ at .head .inv
 
-loop-holds : tie.Need-loop-holds Inv-loop μ-loop
-loop-holds c = sym (canonical-short _ _)
+loop-again-at-else-not-is-short-reference-list : Stages.Need-loop-again-at-else-not-is-short-reference-list
+loop-again-at-else-not-is-short-reference-list c =
+    let at = Stages.loop-again-at-else-not-is-short-reference-list c in
+    sym (every-next (shortAfter (at .start .args .reference .now)) (at .after-pattern-at .ensures)
+    (sym (at .after-is-short .ensures) ∙ not-false _ (at .else-not-is-short-reference-list .left))) ∙ at .head .inv
 
-returns : tie.Need-returns Inv-loop μ-loop
-returns c =
-    let turn = c .before .before .before .before .before in
-    let start = turn .before .before .before in
-    sym (every-stop (shortAfter (start .args .reference .now)) (c .before .before .before .pattern-at .ensures)
-    (sym (c .before .is-short .ensures) ∙ not-true _ (c .if1 .taken))) ∙ turn .loop .inv
-
-loop-again : tie.Need-loop-again Inv-loop μ-loop
-loop-again c =
-    let turn = c .before .before .before .before .before in
-    let start = turn .before .before .before in
-    sym (every-next (shortAfter (start .args .reference .now)) (c .before .before .before .pattern-at .ensures)
-    (sym (c .before .is-short .ensures) ∙ not-false _ (c .if1 .left))) ∙ turn .loop .inv
-
-returns-2 : tie.Need-returns-2 Inv-loop μ-loop
-returns-2 c =
-    let start = c .before .before .before .before in
-    sym (every-end (shortAfter (start .args .reference .now)) _ _ (c .loop-test .left)) ∙ c .before .loop .inv
+returns-at-exit : Stages.Need-returns-at-exit
+returns-at-exit c =
+    let at = Stages.returns-at-exit c in
+    sym (every-end (shortAfter (at .start .args .reference .now)) _ _ (at .exit .left)) ∙ at .head .inv
 
 pub patterns-short-spec : {M : Type 1} → statement M
 patterns-short-spec =
-    tie.close (tie.spec Inv-loop μ-loop loop-holds (λ c κs. search needs) (λ c. search needs) (λ c. search needs) (λ c. search needs)
-    (λ c κs. search needs) returns (λ c. search needs) loop-again returns-2)
+    Stages.close (record {
+      loop-holds-at-start = loop-holds-at-start;
+      returns-at-then-not-is-short-reference-list = returns-at-then-not-is-short-reference-list;
+      loop-again-at-else-not-is-short-reference-list = loop-again-at-else-not-is-short-reference-list;
+      returns-at-exit = returns-at-exit;
+    })

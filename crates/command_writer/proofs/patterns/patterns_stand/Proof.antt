@@ -1,36 +1,36 @@
 -- `patterns_stand` meets its contract: the patterns from `at` on decide. By the laws of PackedPatterns.
-use Rattle.listing_rules.proofs.Prelude.{_∙_, _≡_, refl, sym, _-_, drop, length, not-false, not-true, needs}
-use Rattle.listing_rules.specs.Lists.{every}
-use Rattle.listing_rules.specs.Joining.{packedPatterns, canStand}
+mod Loops
+mod Stages
+use Rattle.listing_rules.proofs.Prelude.{_∙_, _≡_, refl, sym, not-false, not-true}
+use Rattle.listing_rules.specs.Joining.{canStand}
 use Rattle.command_writer.proofs.PackedPatterns.{every-next, every-stop, every-end}
 use Rattle.command_writer.proofs.patterns.patterns_stand.Statement.{statement}
-use Rattle.command_writer.proofs.patterns.patterns_stand.Tie as tie
 
-abbrev Inv-loop : tie.InvT-loop
-Inv-loop list at₀ at = every canStand (packedPatterns (drop at list)) ≡ every canStand (packedPatterns list)
+loop-holds-at-start : Stages.Need-loop-holds-at-start
+loop-holds-at-start c = refl
 
-abbrev μ-loop : tie.MeasureT-loop
-μ-loop list at₀ at = length list - at
+returns-at-then-not-can-stand-list-start : Stages.Need-returns-at-then-not-can-stand-list-start
+returns-at-then-not-can-stand-list-start c =
+    let at = Stages.returns-at-then-not-can-stand-list-start c in
+    sym (every-stop canStand (at .after-pattern-at .ensures) (sym (at .after-can-stand .ensures) ∙ not-true _ (at .then-not-can-stand-list-start .taken))) ∙
+    at .head .inv
 
-loop-holds : tie.Need-loop-holds Inv-loop μ-loop
-loop-holds c = refl
+loop-again-at-else-not-can-stand-list-start : Stages.Need-loop-again-at-else-not-can-stand-list-start
+loop-again-at-else-not-can-stand-list-start c =
+    let at = Stages.loop-again-at-else-not-can-stand-list-start c in
+    sym (every-next canStand (at .after-pattern-at .ensures) (sym (at .after-can-stand .ensures) ∙ not-false _ (at .else-not-can-stand-list-start .left))) ∙
+    at .head .inv
 
-returns : tie.Need-returns Inv-loop μ-loop
-returns c =
-    let turn = c .before .before .before .before .before in
-    sym (every-stop canStand (c .before .before .before .pattern-at .ensures) (sym (c .before .can-stand .ensures) ∙ not-true _ (c .if1 .taken))) ∙
-    turn .loop .inv
-
-loop-again : tie.Need-loop-again Inv-loop μ-loop
-loop-again c =
-    let turn = c .before .before .before .before .before in
-    sym (every-next canStand (c .before .before .before .pattern-at .ensures) (sym (c .before .can-stand .ensures) ∙ not-false _ (c .if1 .left))) ∙
-    turn .loop .inv
-
-returns-2 : tie.Need-returns-2 Inv-loop μ-loop
-returns-2 c = sym (every-end canStand _ _ (c .loop-test .left)) ∙ c .before .loop .inv
+returns-at-exit : Stages.Need-returns-at-exit
+returns-at-exit c =
+    let at = Stages.returns-at-exit c in
+    sym (every-end canStand _ _ (at .exit .left)) ∙ at .head .inv
 
 pub patterns-stand-spec : {M : Type 1} → statement M
 patterns-stand-spec =
-    tie.close (tie.spec Inv-loop μ-loop loop-holds (λ c κs. search needs) (λ c. search needs) (λ c. search needs) (λ c. search needs)
-    (λ c κs. search needs) returns (λ c. search needs) loop-again returns-2)
+    Stages.close (record {
+      loop-holds-at-start = loop-holds-at-start;
+      returns-at-then-not-can-stand-list-start = returns-at-then-not-can-stand-list-start;
+      loop-again-at-else-not-can-stand-list-start = loop-again-at-else-not-can-stand-list-start;
+      returns-at-exit = returns-at-exit;
+    })

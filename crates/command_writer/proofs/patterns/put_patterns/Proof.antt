@@ -1,37 +1,34 @@
 -- `put_patterns` meets its contract: the patterns before `i` are written, and those from `i` on are left. By `Putting` of octets and
 -- PatternTexts.
-use Rattle.listing_rules.proofs.Prelude.{map, _-_, length, needs}
-use Rattle.listing_rules.specs.Lines.{spaced}
-use Rattle.listing_rules.specs.Joining.{packedPatterns, stringText}
-use Rattle.octets.proofs.Puts.{Putting, putting-none, putting-on, putting-more, putting-all, put-then, put-length}
-use Rattle.command_writer.proofs.PatternTexts.{textFrom, text-whole, text-here, text-end}
+mod Loops
+mod Stages
+use Rattle.listing_rules.proofs.Prelude.{needs}
+use Rattle.octets.proofs.Puts.{putting-none, putting-on, putting-more, putting-all, put-then, put-length}
+use Rattle.command_writer.proofs.PatternTexts.{text-whole, text-here, text-end}
 use Rattle.command_writer.proofs.patterns.put_patterns.Statement.{statement}
-use Rattle.command_writer.proofs.patterns.put_patterns.Tie as tie
 
-abbrev Inv-loop : tie.InvT-loop
-Inv-loop buf₀ at list to₀ first₀ i₀ buf to first i = Putting buf₀ buf at (spaced (map stringText (packedPatterns list))) (textFrom first list i) to
+loop-holds-at-start : Stages.Need-loop-holds-at-start
+loop-holds-at-start c = putting-on (putting-none _ _ _ (search needs) (search needs)) (text-whole _)
 
-abbrev μ-loop : tie.MeasureT-loop
-μ-loop buf₀ at list to₀ first₀ i₀ buf to first i = length list - i
+loop-again-at-turn : Stages.Need-loop-again-at-turn
+loop-again-at-turn c =
+    let at = Stages.loop-again-at-turn c in
+    putting-more (at .head .inv) (text-here _ (at .after-pattern-at .ensures))
+    (put-then (at .after-put-gap .ensures) (at .after-put-string .ensures))
 
-loop-holds : tie.Need-loop-holds Inv-loop μ-loop
-loop-holds c = putting-on (putting-none _ _ _ (search needs) (search needs)) (text-whole _)
+same-length-at-exit : Stages.Need-same-length-at-exit
+same-length-at-exit c = put-length (Stages.same-length-at-exit c .head .inv .put)
 
-loop-again : tie.Need-loop-again Inv-loop μ-loop
-loop-again c =
-    let after-put-gap = c .before .before .before .before .before .before .before in
-    let after-pattern-at = after-put-gap .before .before in
-    let turn = after-pattern-at .before .before in
-    putting-more (turn .loop .inv) (text-here _ (after-pattern-at .pattern-at .ensures))
-    (put-then (after-put-gap .put-gap .ensures) (c .before .before .put-string .ensures))
-
-same-length : tie.Need-same-length Inv-loop μ-loop
-same-length c = put-length (c .before .loop .inv .put)
-
-returns : tie.Need-returns Inv-loop μ-loop
-returns c = putting-all (c .before .loop .inv) (text-end _ _ _ (c .loop-test .left))
+returns-at-exit : Stages.Need-returns-at-exit
+returns-at-exit c =
+    let at = Stages.returns-at-exit c in
+    putting-all (at .head .inv) (text-end _ _ _ (at .exit .left))
 
 pub put-patterns-spec : {M : Type 1} → statement M
 put-patterns-spec =
-    tie.close (tie.spec Inv-loop μ-loop loop-holds (λ c κs. search needs) (λ c κs. search needs) (λ c. search needs) (λ c. search needs)
-    (λ c. search needs) (λ c κs. search needs) (λ c. search needs) loop-again same-length returns)
+    Stages.close (record {
+      loop-holds-at-start = loop-holds-at-start;
+      loop-again-at-turn = loop-again-at-turn;
+      same-length-at-exit = same-length-at-exit;
+      returns-at-exit = returns-at-exit;
+    })

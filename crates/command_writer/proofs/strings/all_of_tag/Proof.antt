@@ -1,38 +1,36 @@
 -- `all_of_tag` meets its contract: the bytes from `i` on decide. By octets' laws of Every.
-use Rattle.listing_rules.proofs.Prelude.{_∙_, _≡_, refl, sym, _-_, drop, length, not-false, not-true, needs}
-use Rattle.listing_rules.specs.Bytes.{all}
+mod Loops
+mod Stages
+use Rattle.listing_rules.proofs.Prelude.{_∙_, _≡_, refl, sym, not-false, not-true}
 use Rattle.listing_rules.specs.Tokens.{tagByte}
 use Rattle.octets.proofs.Every.{all-step, all-stop, all-end}
 use Rattle.command_writer.proofs.strings.all_of_tag.Statement.{statement}
-use Rattle.command_writer.proofs.strings.all_of_tag.Tie as tie
 
-abbrev Inv-loop : tie.InvT-loop
-Inv-loop s i₀ i = all tagByte (drop i s) ≡ all tagByte s
+loop-holds-at-start : Stages.Need-loop-holds-at-start
+loop-holds-at-start c = refl
 
-abbrev μ-loop : tie.MeasureT-loop
-μ-loop s i₀ i = length s - i
+returns-at-then-not-is-tag-byte-s-i : Stages.Need-returns-at-then-not-is-tag-byte-s-i
+returns-at-then-not-is-tag-byte-s-i c =
+    let at = Stages.returns-at-then-not-is-tag-byte-s-i c in
+    sym (all-stop tagByte _ _ (at .turn .taken) (sym (at .after-is-tag-byte .ensures) ∙ not-true _ (at .then-not-is-tag-byte-s-i .taken))) ∙
+    at .head .inv
 
-loop-holds : tie.Need-loop-holds Inv-loop μ-loop
-loop-holds c = refl
+loop-again-at-else-not-is-tag-byte-s-i : Stages.Need-loop-again-at-else-not-is-tag-byte-s-i
+loop-again-at-else-not-is-tag-byte-s-i c =
+    let at = Stages.loop-again-at-else-not-is-tag-byte-s-i c in
+    sym (all-step tagByte _ _ (at .turn .taken) (sym (at .after-is-tag-byte .ensures) ∙ not-false _ (at .else-not-is-tag-byte-s-i .left))) ∙
+    at .head .inv
 
-returns : tie.Need-returns Inv-loop μ-loop
-returns c =
-    let after-is-tag-byte = c .before in
-    let at-loop-test = after-is-tag-byte .before .before in
-    sym (all-stop tagByte _ _ (at-loop-test .loop-test .taken) (sym (after-is-tag-byte .is-tag-byte .ensures) ∙ not-true _ (c .if1 .taken))) ∙
-    at-loop-test .before .loop .inv
-
-loop-again : tie.Need-loop-again Inv-loop μ-loop
-loop-again c =
-    let after-is-tag-byte = c .before in
-    let at-loop-test = after-is-tag-byte .before .before in
-    sym (all-step tagByte _ _ (at-loop-test .loop-test .taken) (sym (after-is-tag-byte .is-tag-byte .ensures) ∙ not-false _ (c .if1 .left))) ∙
-    at-loop-test .before .loop .inv
-
-returns-2 : tie.Need-returns-2 Inv-loop μ-loop
-returns-2 c = sym (all-end tagByte _ _ (c .loop-test .left)) ∙ c .before .loop .inv
+returns-at-exit : Stages.Need-returns-at-exit
+returns-at-exit c =
+    let at = Stages.returns-at-exit c in
+    sym (all-end tagByte _ _ (at .exit .left)) ∙ at .head .inv
 
 pub all-of-tag-spec : {M : Type 1} → statement M
 all-of-tag-spec =
-    tie.close (tie.spec Inv-loop μ-loop loop-holds (λ c. search needs) (λ c κs. search needs) returns (λ c. search needs) (λ c. search needs)
-    loop-again returns-2)
+    Stages.close (record {
+      loop-holds-at-start = loop-holds-at-start;
+      returns-at-then-not-is-tag-byte-s-i = returns-at-then-not-is-tag-byte-s-i;
+      loop-again-at-else-not-is-tag-byte-s-i = loop-again-at-else-not-is-tag-byte-s-i;
+      returns-at-exit = returns-at-exit;
+    })

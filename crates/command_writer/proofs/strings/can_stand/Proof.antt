@@ -1,12 +1,15 @@
 -- `can_stand` is the definition's test, by the promises of its two callees.
-use Rattle.listing_rules.proofs.Prelude.{needs}
+mod Stages
 use Rattle.listing_rules.specs.Joining.{canStand}
 use Rattle.command_writer.proofs.strings.can_stand.Statement.{statement}
-use Rattle.command_writer.proofs.strings.can_stand.Tie as tie
 
-returns : tie.Need-returns
+returns-at-start : Stages.Need-returns-at-start
 unfolding canStand
-returns c = rw (c .before .all-of-line .ensures, c .all-not-zero .ensures)
+returns-at-start c =
+    let at = Stages.returns-at-start c in
+    rw (at .after-all-of-line .ensures, at .after-all-not-zero .ensures)
 
 pub can-stand-spec : {M : Type 1} → statement M
-can-stand-spec = tie.close (tie.spec (λ c κs. search needs) (λ c κs. search needs) returns)
+can-stand-spec = Stages.close (record {
+  returns-at-start = returns-at-start;
+})

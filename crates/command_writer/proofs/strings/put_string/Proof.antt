@@ -1,31 +1,28 @@
 -- `put_string` meets its contract: quotes where every byte may stand in them, else the four parts of a literal (`put-then`).
-use Rattle.listing_rules.proofs.Prelude.{_∙_, sym, needs}
+mod Stages
+use Rattle.listing_rules.proofs.Prelude.{_∙_, sym}
 use Rattle.listing_rules.specs.Bytes.{text, crlf}
 use Rattle.listing_rules.specs.Joining.{stringText}
 use Rattle.octets.proofs.Puts.{put-then}
 use Rattle.command_writer.proofs.strings.put_string.Statement.{statement}
-use Rattle.command_writer.proofs.strings.put_string.Tie as tie
 
-returns : tie.Need-returns
+returns-at-then-all-of-line-s : Stages.Need-returns-at-then-all-of-line-s
 unfolding stringText
-returns c =
-    let at-if1 = c .before .before .before .before in
-    let after-all-of-line = at-if1 .before in
-    rw (sym (after-all-of-line .all-of-line .ensures) ∙ at-if1 .if1 .taken) (c .before .before .put-quoted .ensures)
+returns-at-then-all-of-line-s c =
+    let at = Stages.returns-at-then-all-of-line-s c in
+    rw (sym (at .after-all-of-line .ensures) ∙ at .then-all-of-line-s .taken) (at .after-put-quoted .ensures)
 
-returns-2 : tie.Need-returns-2
+returns-at-else-all-of-line-s : Stages.Need-returns-at-else-all-of-line-s
 unfolding stringText text crlf
-returns-2 c =
-    let after-put-all = c .before .before .before .before .before .before in
-    let after-put-number = after-put-all .before .before .before .before .before in
-    let after-put = after-put-number .before .before .before .before in
-    let at-if1 = after-put .before .before in
-    let after-all-of-line = at-if1 .before in
-    rw (sym (after-all-of-line .all-of-line .ensures) ∙ at-if1 .if1 .left)
-    (put-then (after-put .put .ensures) (put-then (after-put-number .put-number .ensures)
-    (put-then (after-put-all .put-all .ensures) (c .before .before .put-all2 .ensures))))
+returns-at-else-all-of-line-s c =
+    let at = Stages.returns-at-else-all-of-line-s c in
+    rw (sym (at .after-all-of-line .ensures) ∙ at .else-all-of-line-s .left)
+    (put-then (at .after-put .ensures) (put-then (at .after-put-number .ensures)
+    (put-then (at .after-put-all .ensures) (at .after-put-all-at-else-all-of-line-s .ensures))))
 
 pub put-string-spec : {M : Type 1} → statement M
 put-string-spec =
-    tie.close (tie.spec (λ c κs. search needs) (λ c κs. search needs) (λ c. search needs) returns (λ c κs. search needs) (λ c κs. search needs)
-    (λ c. search needs) (λ c κs. search needs) (λ c κs. search needs) (λ c. search needs) returns-2)
+    Stages.close (record {
+      returns-at-then-all-of-line-s = returns-at-then-all-of-line-s;
+      returns-at-else-all-of-line-s = returns-at-else-all-of-line-s;
+    })

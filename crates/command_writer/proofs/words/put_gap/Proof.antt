@@ -1,19 +1,22 @@
 -- `put_gap` meets its contract: nothing, or the space.
+mod Stages
 use Rattle.listing_rules.proofs.Prelude.{needs}
-use Rattle.listing_rules.specs.Reader.{separated}
+use Rattle.listing_rules.specs.LineReader.{separated}
 use Rattle.octets.proofs.Puts.{put-none}
 use Rattle.command_writer.proofs.words.put_gap.Statement.{statement}
-use Rattle.command_writer.proofs.words.put_gap.Tie as tie
 
-returns : tie.Need-returns
+returns-at-then-first : Stages.Need-returns-at-then-first
 unfolding separated
-returns c = rw (c .if1 .taken) (put-none _ _ (search needs) (search needs))
+returns-at-then-first c = rw (Stages.returns-at-then-first c .then-first .taken) (put-none _ _ (search needs) (search needs))
 
-returns-2 : tie.Need-returns-2
+returns-at-else-first : Stages.Need-returns-at-else-first
 unfolding separated
-returns-2 c =
-    let at-if1 = c .before .before .before .before in
-    rw (at-if1 .if1 .left) (c .before .before .put .ensures)
+returns-at-else-first c =
+    let at = Stages.returns-at-else-first c in
+    rw (at .else-first .left) (at .after-put .ensures)
 
 pub put-gap-spec : {M : Type 1} → statement M
-put-gap-spec = tie.close (tie.spec returns (λ c κs. search needs) (λ c. search needs) returns-2)
+put-gap-spec = Stages.close (record {
+  returns-at-then-first = returns-at-then-first;
+  returns-at-else-first = returns-at-else-first;
+})

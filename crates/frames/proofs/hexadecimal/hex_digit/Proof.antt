@@ -1,16 +1,19 @@
 -- `frames::hexadecimal::hex_digit` meets its contract: its test is that of `hexDigit`.
-use Rattle.listing_rules.proofs.Prelude.{le-leb, lt-leb, needs}
+mod Stages
+use Rattle.listing_rules.proofs.Prelude.{le-leb, lt-leb}
 use Rattle.listing_rules.specs.Frames.{hexDigit}
 use Rattle.frames.proofs.hexadecimal.hex_digit.Statement.{statement}
-use Rattle.frames.proofs.hexadecimal.hex_digit.Tie as tie
 
-returns : tie.Need-returns
+returns-at-then-d-9 : Stages.Need-returns-at-then-d-9
 unfolding hexDigit
-returns c = rw (le-leb _ 9 (c .if1 .taken))
+returns-at-then-d-9 c = rw (le-leb _ 9 (Stages.returns-at-then-d-9 c .then-d-9 .taken))
 
-returns-2 : tie.Need-returns-2
+returns-at-else-d-9 : Stages.Need-returns-at-else-d-9
 unfolding hexDigit
-returns-2 c = rw (lt-leb _ 9 (c .if1 .left))
+returns-at-else-d-9 c = rw (lt-leb _ 9 (Stages.returns-at-else-d-9 c .else-d-9 .left))
 
 pub hex-digit-spec : {M : Type 1} → statement M
-hex-digit-spec = tie.close (tie.spec (λ c. search needs) returns (λ c. search needs) returns-2)
+hex-digit-spec = Stages.close (record {
+  returns-at-then-d-9 = returns-at-then-d-9;
+  returns-at-else-d-9 = returns-at-else-d-9;
+})

@@ -1,12 +1,14 @@
 -- `frames::hexadecimal::pair_value` meets its contract, by arithmetic: two values below 16 make a byte.
+mod Stages
 use Rattle.frames.specs.Hexadecimal.{pairOf}
-use Rattle.listing_rules.proofs.Prelude.{arith, needs}
+use Rattle.listing_rules.proofs.Prelude.{arith}
 use Rattle.frames.proofs.hexadecimal.pair_value.Statement.{statement}
-use Rattle.frames.proofs.hexadecimal.pair_value.Tie as tie
 
-returns : tie.Need-returns
+returns-at-start : Stages.Need-returns-at-start
 unfolding pairOf
-returns c = omega arith
+returns-at-start c = omega arith
 
 pub pair-value-spec : {M : Type 1} → statement M
-pair-value-spec = tie.close (tie.spec (λ c κs. search needs) (λ c. search needs) (λ c κs. search needs) (λ c. search needs) returns)
+pair-value-spec = Stages.close (record {
+  returns-at-start = returns-at-start;
+})

@@ -1,81 +1,68 @@
 -- `frames::logs::read_command` meets its contract: one law for each way out. By LogLaws.
-use Rattle.listing_rules.proofs.Prelude.{_∙_, _≡_, ap, sym, arith, needs}
+mod Stages
+use Rattle.listing_rules.proofs.Prelude.{_∙_, _≡_, ap, sym, arith}
 use Rattle.frames.specs.Reading.{sizeOf}
 use Rattle.frames.proofs.LogLaws.{log-short, log-no-command, command-read, command-none, command-unreadable}
 use Rattle.frames.proofs.logs.read_command.Statement.{statement}
-use Rattle.frames.proofs.logs.read_command.Tie as tie
 
-returns : tie.Need-returns
-returns c = command-unreadable _ _ (log-short _ (c .if1 .taken))
+returns-at-then-line-len-2 : Stages.Need-returns-at-then-line-len-2
+returns-at-then-line-len-2 c = command-unreadable _ _ (log-short _ (Stages.returns-at-then-line-len-2 c .then-line-len-2 .taken))
 
-returns-2 : tie.Need-returns-2
-returns-2 c =
-    let at-if1 = c .before .before .before .before in
-    let start = at-if1 .before .before .before in
-    command-none _ _ (log-no-command (start .args .line .now) (at-if1 .if1 .left) (λ e. c .if2 .taken (c .before .pair-value .ensures ∙ e)))
+returns-at-then-pair-value-line-0-line : Stages.Need-returns-at-then-pair-value-line-0-line
+returns-at-then-pair-value-line-0-line c =
+    let at = Stages.returns-at-then-pair-value-line-0-line c in
+    command-none _ _ (log-no-command (at .start .args .line .now) (at .else-line-len-2 .left) (λ e. at .then-pair-value-line-0-line .taken (at .after-pair-value .ensures ∙ e)))
 
 -- the command lies in the lent bytes
-add-result : tie.Need-add-result
+add-result-at-arm-frame-command-n : Stages.Need-add-result-at-arm-frame-command-n
 unfolding sizeOf
-add-result c =
-    let after-read-frame = c .before .before .before .before .before in
-    omega (arith, after-read-frame .read-frame .ensures .inside, ap sizeOf (c .before .n .given .1))
+add-result-at-arm-frame-command-n c =
+    let at = Stages.add-result-at-arm-frame-command-n c in
+    omega (arith, at .after-read-frame .ensures .inside, ap sizeOf (at .bound-n .given .1))
 
-returns-3 : tie.Need-returns-3
-returns-3 c =
-    let after-read-frame = c .before .before .before .before .before in
-    let at-if2 = after-read-frame .before .before in
-    let after-pair-value = at-if2 .before in
-    let at-if1 = after-pair-value .before .before .before in
-    let start = at-if1 .before .before .before in
-    command-read (start .args .line .now) (at-if1 .if1 .left) (sym (after-pair-value .pair-value .ensures) ∙ at-if2 .if2 .left) _ _ _ _ (c .before .n .given .1)
-    (after-read-frame .read-frame .ensures)
+returns-at-arm-frame-command-n : Stages.Need-returns-at-arm-frame-command-n
+returns-at-arm-frame-command-n c =
+    let at = Stages.returns-at-arm-frame-command-n c in
+    command-read (at .start .args .line .now) (at .else-line-len-2 .left) (sym (at .after-pair-value .ensures) ∙ at .else-pair-value-line-0-line .left) _ _ _ _ (at .bound-n .given .1)
+    (at .after-read-frame .ensures)
 
-returns-4 : tie.Need-returns-4
-returns-4 c =
-    let after-read-frame = c .before .before .before .before in
-    let at-if2 = after-read-frame .before .before in
-    let after-pair-value = at-if2 .before in
-    let at-if1 = after-pair-value .before .before .before in
-    let start = at-if1 .before .before .before in
-    command-read (start .args .line .now) (at-if1 .if1 .left) (sym (after-pair-value .pair-value .ensures) ∙ at-if2 .if2 .left) _ _ _ _ (c .enum-told .given .1)
-    (after-read-frame .read-frame .ensures)
+returns-at-arm-frame-table : Stages.Need-returns-at-arm-frame-table
+returns-at-arm-frame-table c =
+    let at = Stages.returns-at-arm-frame-table c in
+    command-read (at .start .args .line .now) (at .else-line-len-2 .left)
+    (sym (at .after-pair-value .ensures) ∙ at .else-pair-value-line-0-line .left) _ _ _ _ (at .arm-frame-table-enum-told .given .1)
+    (at .after-read-frame .ensures)
 
-returns-5 : tie.Need-returns-5
-returns-5 c =
-    let after-read-frame = c .before .before .before .before in
-    let at-if2 = after-read-frame .before .before in
-    let after-pair-value = at-if2 .before in
-    let at-if1 = after-pair-value .before .before .before in
-    let start = at-if1 .before .before .before in
-    command-read (start .args .line .now) (at-if1 .if1 .left) (sym (after-pair-value .pair-value .ensures) ∙ at-if2 .if2 .left) _ _ _ _
-    (c .enum-told2 .given .1)
-    (after-read-frame .read-frame .ensures)
+returns-at-arm-frame-namespaces : Stages.Need-returns-at-arm-frame-namespaces
+returns-at-arm-frame-namespaces c =
+    let at = Stages.returns-at-arm-frame-namespaces c in
+    command-read (at .start .args .line .now) (at .else-line-len-2 .left) (sym (at .after-pair-value .ensures) ∙ at .else-pair-value-line-0-line .left) _ _ _ _
+    (at .arm-frame-namespaces-enum-told .given .1)
+    (at .after-read-frame .ensures)
 
-returns-6 : tie.Need-returns-6
-returns-6 c =
-    let after-read-frame = c .before .before .before .before in
-    let at-if2 = after-read-frame .before .before in
-    let after-pair-value = at-if2 .before in
-    let at-if1 = after-pair-value .before .before .before in
-    let start = at-if1 .before .before .before in
-    command-read (start .args .line .now) (at-if1 .if1 .left) (sym (after-pair-value .pair-value .ensures) ∙ at-if2 .if2 .left) _ _ _ _
-    (c .enum-told3 .given .1)
-    (after-read-frame .read-frame .ensures)
+returns-at-arm-frame-walk : Stages.Need-returns-at-arm-frame-walk
+returns-at-arm-frame-walk c =
+    let at = Stages.returns-at-arm-frame-walk c in
+    command-read (at .start .args .line .now) (at .else-line-len-2 .left) (sym (at .after-pair-value .ensures) ∙ at .else-pair-value-line-0-line .left) _ _ _ _
+    (at .arm-frame-walk-enum-told .given .1)
+    (at .after-read-frame .ensures)
 
-returns-7 : tie.Need-returns-7
-returns-7 c =
-    let after-read-frame = c .before .before .before .before in
-    let at-if2 = after-read-frame .before .before in
-    let after-pair-value = at-if2 .before in
-    let at-if1 = after-pair-value .before .before .before in
-    let start = at-if1 .before .before .before in
-    command-read (start .args .line .now) (at-if1 .if1 .left) (sym (after-pair-value .pair-value .ensures) ∙ at-if2 .if2 .left) _ _ _ _
-    (c .enum-told4 .given .1)
-    (after-read-frame .read-frame .ensures)
+returns-at-arm-frame-bad : Stages.Need-returns-at-arm-frame-bad
+returns-at-arm-frame-bad c =
+    let at = Stages.returns-at-arm-frame-bad c in
+    command-read (at .start .args .line .now) (at .else-line-len-2 .left) (sym (at .after-pair-value .ensures) ∙ at .else-pair-value-line-0-line .left) _ _ _ _
+    (at .arm-frame-bad-enum-told .given .1)
+    (at .after-read-frame .ensures)
 
 pub read-command-spec : {M : Type 1} → statement M
 read-command-spec =
-    tie.close (tie.spec returns (λ c. search needs) (λ c. search needs) (λ c κs. search needs) returns-2 (λ c κs. search needs) (λ c. search needs)
-    add-result (λ c. search needs) (λ c. search needs) (λ c. search needs) (λ c. search needs) (λ c. search needs) returns-3 (λ c. search needs) returns-4
-    (λ c. search needs) returns-5 (λ c. search needs) returns-6 (λ c. search needs) returns-7)
+    Stages.close (record {
+      returns-at-then-line-len-2 = returns-at-then-line-len-2;
+      returns-at-then-pair-value-line-0-line = returns-at-then-pair-value-line-0-line;
+      add-result-at-arm-frame-command-n = add-result-at-arm-frame-command-n;
+      returns-at-arm-frame-command-n = returns-at-arm-frame-command-n;
+      returns-at-arm-frame-table = returns-at-arm-frame-table;
+      returns-at-arm-frame-namespaces = returns-at-arm-frame-namespaces;
+      returns-at-arm-frame-walk = returns-at-arm-frame-walk;
+      returns-at-arm-frame-bad = returns-at-arm-frame-bad;
+    })

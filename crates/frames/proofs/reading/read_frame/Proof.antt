@@ -1,76 +1,73 @@
 -- `frames::reading::read_frame` meets its contract: one law for each way out. Rests on FrameLaws.
+mod Stages
 use Rattle.listing_rules.proofs.Prelude.{_∙_, _≡_, ap, sym, true, List, [], _∷_, _-_, ℕ, arith, drop, length, length-drop, sets, take-all, not-false}
-use Rattle.listing_rules.proofs.Prelude.{not-true, needs}
+use Rattle.listing_rules.proofs.Prelude.{not-true}
 use types.Run.{miss}
 use Rattle.listing_rules.specs.Frames.{bytesOf}
 use Rattle.frames.specs.Hexadecimal.{isSome, decoded}
 use Rattle.frames.proofs.FrameLaws.{bad-long, bad-short, bad-text, within-bad, frame-bad, frame-short, frame-other, frame-good, kindAnswer}
 use Rattle.frames.proofs.reading.read_frame.Statement.{statement}
-use Rattle.frames.proofs.reading.read_frame.Tie as tie
 
 -- the characters are digits, an even number of them
-hexed : (c : tie.Else3) → isSome (bytesOf (c .before .before .before .before .before .before .args .line .now)) ≡ true
-hexed c = sym (c .before .is-hex .ensures) ∙ not-false _ (c .if3 .left)
+hexed : (c : Stages.Else-not-is-hex-line) → isSome (bytesOf (Stages.else-not-is-hex-line c .start .args .line .now)) ≡ true
+hexed c =
+    let at = Stages.else-not-is-hex-line c in
+    sym (at .after-is-hex .ensures) ∙ not-false _ (at .else-not-is-hex-line .left)
 
 -- the answer by the first byte
-kinded : (c : tie.After-kind-of) →
-    let start = c .before .before .before .before .before .before .before .before .before .before .before .before .before .before .before .before .before in
-    c .kind-of .result ≡ kindAnswer (start .args .line .now)
+kinded : (c : Stages.After-kind-of) →
+    let at = Stages.after-kind-of c in
+    at .after-kind-of .result ≡ kindAnswer (at .start .args .line .now)
 kinded c =
-    let after-pair-value2 = c .before .before .before .before in
-    let after-byte-at4 = after-pair-value2 .before in
-    let after-byte-at3 = after-byte-at4 .before in
-    let after-pair-value = after-byte-at3 .before in
-    let after-byte-at2 = after-pair-value .before in
-    c .kind-of .ensures ∙ rw (
-      c .before .pair-value3 .ensures,
-      after-pair-value .pair-value .ensures,
-      after-pair-value2 .pair-value2 .ensures,
-      after-byte-at2 .before .byte-at .ensures,
-      after-byte-at2 .byte-at2 .ensures,
-      after-byte-at3 .byte-at3 .ensures,
-      after-byte-at4 .byte-at4 .ensures,
+    let at = Stages.after-kind-of c in
+    at .after-kind-of .ensures ∙ rw (
+      at .after-pair-value-frame .ensures,
+      at .after-pair-value .ensures,
+      at .after-pair-value-option .ensures,
+      at .after-byte-at .ensures,
+      at .after-byte-at-reader .ensures,
+      at .after-byte-at-option .ensures,
+      at .after-byte-at-option-2 .ensures,
     )
 
-returns : tie.Need-returns
-returns c = frame-bad _ _ (within-bad _ _ (bad-long _ (c .if1 .taken)))
+returns-at-then-max-digits-line-len : Stages.Need-returns-at-then-max-digits-line-len
+returns-at-then-max-digits-line-len c = frame-bad _ _ (within-bad _ _ (bad-long _ (Stages.returns-at-then-max-digits-line-len c .then-max-digits-line-len .taken)))
 
-returns-2 : tie.Need-returns-2
-returns-2 c = frame-bad _ _ (within-bad _ _ (bad-short _ (c .if2 .taken)))
+returns-at-then-line-len-2 : Stages.Need-returns-at-then-line-len-2
+returns-at-then-line-len-2 c = frame-bad _ _ (within-bad _ _ (bad-short _ (Stages.returns-at-then-line-len-2 c .then-line-len-2 .taken)))
 
-returns-3 : tie.Need-returns-3
-returns-3 c = frame-bad _ _ (within-bad _ _ (bad-text _ (sym (c .before .is-hex .ensures) ∙ not-true _ (c .if3 .taken))))
+returns-at-then-not-is-hex-line : Stages.Need-returns-at-then-not-is-hex-line
+returns-at-then-not-is-hex-line c =
+    let at = Stages.returns-at-then-not-is-hex-line c in
+    frame-bad _ _ (within-bad _ _ (bad-text _ (sym (at .after-is-hex .ensures) ∙ not-true _ (at .then-not-is-hex-line .taken))))
 
-returns-4 : tie.Need-returns-4
-returns-4 c =
-    let at-if1 = c .before .before .before .before in
-    frame-short _ (at-if1 .if1 .left) (c .before .before .before .if2 .left) (hexed (c .before)) _ (c .if4 .taken)
+returns-at-then-bytes-len-n : Stages.Need-returns-at-then-bytes-len-n
+returns-at-then-bytes-len-n c =
+    let at = Stages.returns-at-then-bytes-len-n c in
+    frame-short _ (at .else-max-digits-line-len .left) (at .else-line-len-2 .left) (hexed (at .Else-not-is-hex-line)) _ (at .then-bytes-len-n .taken)
 
-returns-5 : tie.Need-returns-5
-returns-5 c =
-    let at-if4 = c .before .before .before .before .before .before .before .before .before .before .before .before in
-    let stage = at-if4 .before in
-    let at-if2 = stage .before .before in
-    frame-other _ (at-if2 .before .if1 .left) (at-if2 .if2 .left) (hexed stage) _ (at-if4 .if4 .left)
-    (sym (kinded (c .before .before)) ∙ c .enum-told .given .1)
+returns-at-then-frame : Stages.Need-returns-at-then-frame
+returns-at-then-frame c =
+    let at = Stages.returns-at-then-frame c in
+    frame-other _ (at .else-max-digits-line-len .left) (at .else-line-len-2 .left) (hexed (at .Else-not-is-hex-line)) _ (at .else-bytes-len-n .left)
+    (sym (kinded (at .After-kind-of)) ∙ at .then-frame-enum-told .given .1)
 
-returns-6 : tie.Need-returns-6
-returns-6 c =
-    let after-match = c .before .before .before .before .before in
-    let stage = after-match .before in
-    let at-if4 = stage .before .before .before .before .before .before .before .before .before .before in
-    let stage-2 = at-if4 .before in
-    let at-if2 = stage-2 .before .before in
-    let at-if1 = at-if2 .before in
-    let a = at-if1 .before .before .before .args in
+returns-at-else-frame : Stages.Need-returns-at-else-frame
+returns-at-else-frame c =
+    let here = Stages.returns-at-else-frame c in
+    let a = here .start .args in
     let whole = take-all (length (a .line .now) - 2) (drop 2 (a .line .now)) (omega (arith, length-drop 2 (a .line .now))) in
-    frame-good _ (at-if1 .if1 .left) (at-if2 .if2 .left) (hexed stage-2) _ (at-if4 .if4 .left) _ _ (kinded stage)
-    (λ e. miss (0 ∷ 1 ∷ 2 ∷ 3 ∷ []) 4 tt (rw e at (after-match .match .keys2)))
-    (c .before .before .put-decoded .ensures .bytes ∙ ap (λ (x : List ℕ). sets (a .bytes .now) 0 (decoded x)) whole)
+    frame-good _ (here .else-max-digits-line-len .left) (here .else-line-len-2 .left) (hexed (here .Else-not-is-hex-line)) _ (here .else-bytes-len-n .left) _ _ (kinded (here .After-kind-of))
+    (λ e. miss (0 ∷ 1 ∷ 2 ∷ 3 ∷ []) 4 tt (rw e at (here .else-frame .keys2)))
+    (here .after-put-decoded .ensures .bytes ∙ ap (λ (x : List ℕ). sets (a .bytes .now) 0 (decoded x)) whole)
 
 pub read-frame-spec : {M : Type 1} → statement M
 read-frame-spec =
-    tie.close (tie.spec returns returns-2 (λ c κs. search needs) returns-3 (λ c. search needs) returns-4 (λ c κs. search needs) (λ c κs. search needs)
-    (λ c κs. search needs) (λ c κs. search needs) (λ c κs. search needs) (λ c κs. search needs) (λ c. search needs) (λ c. search needs)
-    (λ c κs. search needs) (λ c κs. search needs) (λ c. search needs) returns-5 (λ c. search needs) (λ c. search needs) (λ c. search needs)
-    (λ c κs. search needs) (λ c. search needs) returns-6)
+    Stages.close (record {
+      returns-at-then-max-digits-line-len = returns-at-then-max-digits-line-len;
+      returns-at-then-line-len-2 = returns-at-then-line-len-2;
+      returns-at-then-not-is-hex-line = returns-at-then-not-is-hex-line;
+      returns-at-then-bytes-len-n = returns-at-then-bytes-len-n;
+      returns-at-then-frame = returns-at-then-frame;
+      returns-at-else-frame = returns-at-else-frame;
+    })

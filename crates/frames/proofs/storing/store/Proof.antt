@@ -1,21 +1,26 @@
 -- `frames::storing::store` meets its contract: one law for each way out. Rests on StoreLaws.
-use Rattle.listing_rules.proofs.Prelude.{ap, arith, needs}
+mod Stages
+use Rattle.listing_rules.proofs.Prelude.{ap, arith}
 use Rattle.frames.specs.declared.storing.Stored.the-variants.{Now}
 use Rattle.frames.proofs.StoreLaws.{stores-outside, stores-over, stores-now}
 use Rattle.frames.proofs.storing.store.Statement.{statement}
-use Rattle.frames.proofs.storing.store.Tie as tie
 
-returns : tie.Need-returns
-returns c = stores-outside _ _ _ _ (c .if1 .taken)
+returns-at-then-area-len-limit : Stages.Need-returns-at-then-area-len-limit
+returns-at-then-area-len-limit c = stores-outside _ _ _ _ (Stages.returns-at-then-area-len-limit c .then-area-len-limit .taken)
 
-returns-2 : tie.Need-returns-2
-returns-2 c = stores-over _ _ _ _ (omega arith)
+returns-at-then-limit-used : Stages.Need-returns-at-then-limit-used
+returns-at-then-limit-used c = stores-over _ _ _ _ (omega arith)
 
-returns-3 : tie.Need-returns-3
-returns-3 c = stores-over _ _ _ _ (omega arith)
+returns-at-then-limit-used-bytes-len : Stages.Need-returns-at-then-limit-used-bytes-len
+returns-at-then-limit-used-bytes-len c = stores-over _ _ _ _ (omega arith)
 
-returns-4 : tie.Need-returns-4
-returns-4 c = stores-now _ _ _ _ _ _ (omega arith) (omega arith) (ap Now (omega arith)) (c .before .before .put-all .ensures .bytes)
+returns-at-else-limit-used-bytes-len : Stages.Need-returns-at-else-limit-used-bytes-len
+returns-at-else-limit-used-bytes-len c = stores-now _ _ _ _ _ _ (omega arith) (omega arith) (ap Now (omega arith)) (Stages.returns-at-else-limit-used-bytes-len c .after-put-all .ensures .bytes)
 
 pub store-spec : {M : Type 1} → statement M
-store-spec = tie.close (tie.spec returns returns-2 returns-3 (λ c κs. search needs) (λ c. search needs) returns-4)
+store-spec = Stages.close (record {
+  returns-at-then-area-len-limit = returns-at-then-area-len-limit;
+  returns-at-then-limit-used = returns-at-then-limit-used;
+  returns-at-then-limit-used-bytes-len = returns-at-then-limit-used-bytes-len;
+  returns-at-else-limit-used-bytes-len = returns-at-else-limit-used-bytes-len;
+})

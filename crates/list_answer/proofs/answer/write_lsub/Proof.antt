@@ -1,27 +1,31 @@
 -- `list_answer::answer::write_lsub` meets its contract: a second pattern is refused, and the reply to its question is that of the LSUB
 -- command. By Replies.
+mod Stages
 use Rattle.list_answer.proofs.Replies.{lsub-reply, lsub-second}
-use Rattle.listing_rules.proofs.Prelude.{_∙_, sym, not-false, not-true, needs}
+use Rattle.listing_rules.proofs.Prelude.{_∙_, sym, not-false, not-true}
 use Rattle.list_answer.proofs.answer.write_lsub.Statement.{statement}
-use Rattle.list_answer.proofs.answer.write_lsub.Tie as tie
 
-returns : tie.Need-returns
-returns c =
-    let a = c .before .before .before .before .before .before .before .args in
+returns-at-then-not-is-one-at-most-patterns : Stages.Need-returns-at-then-not-is-one-at-most-patterns
+returns-at-then-not-is-one-at-most-patterns c =
+    let at = Stages.returns-at-then-not-is-one-at-most-patterns c in
+    let a = at .start .args in
     λ index.
     lsub-second (a .area .now) (a .words .now) (a .patterns .now) (a .tag .now) _
-    (sym (c .before .is-one-at-most .ensures) ∙ not-true _ (c .if1 .taken))
+    (sym (at .after-is-one-at-most .ensures) ∙ not-true _ (at .then-not-is-one-at-most-patterns .taken))
 
-write-answer-requires : tie.Need-write-answer-requires
-write-answer-requires c κs = c .before .lsub .ensures .2
+write-answer-requires : Stages.Need-write-answer-requires
+write-answer-requires c κs = Stages.write-answer-requires c .after-lsub .ensures .2
 
-returns-2 : tie.Need-returns-2
-returns-2 c =
-    let after-question = c .before .before .before .before in
-    let at-if1 = after-question .before in
-    let one = sym (at-if1 .before .is-one-at-most .ensures) ∙ not-false _ (at-if1 .if1 .left) in
-    λ index. rw (← lsub-reply _ _ _ _ _ (after-question .lsub .ensures) one) (c .before .before .write-answer .ensures index)
+returns-at-else-not-is-one-at-most-patterns : Stages.Need-returns-at-else-not-is-one-at-most-patterns
+returns-at-else-not-is-one-at-most-patterns c =
+    let at = Stages.returns-at-else-not-is-one-at-most-patterns c in
+    let one = sym (at .after-is-one-at-most .ensures) ∙ not-false _ (at .else-not-is-one-at-most-patterns .left) in
+    λ index. rw (← lsub-reply _ _ _ _ _ (at .after-lsub .ensures) one) (at .after-write-answer .ensures index)
 
 pub write-lsub-spec : {M : Type 1} → statement M
 write-lsub-spec =
-    tie.close (tie.spec (λ c κs. search needs) returns (λ c κs. search needs) write-answer-requires (λ c. search needs) returns-2)
+    Stages.close (record {
+      returns-at-then-not-is-one-at-most-patterns = returns-at-then-not-is-one-at-most-patterns;
+      write-answer-requires = write-answer-requires;
+      returns-at-else-not-is-one-at-most-patterns = returns-at-else-not-is-one-at-most-patterns;
+    })

@@ -1,10 +1,13 @@
 -- `list_answer::attributes::with` meets its contract, by that of `union`.
-use Rattle.listing_rules.proofs.Prelude.{needs}
+mod Stages
 use Rattle.list_answer.proofs.attributes.with.Statement.{statement}
-use Rattle.list_answer.proofs.attributes.with.Tie as tie
 
-returns : tie.Need-returns
-returns c = rw (c .before .if1 .taken) (c .union .ensures)
+returns-at-then-shown : Stages.Need-returns-at-then-shown
+returns-at-then-shown c =
+    let at = Stages.returns-at-then-shown c in
+    rw (at .then-shown .taken) (at .after-union .ensures)
 
 pub with-spec : {M : Type 1} → statement M
-with-spec = tie.close (tie.spec (λ c κs. search needs) returns (λ c. search needs))
+with-spec = Stages.close (record {
+  returns-at-then-shown = returns-at-then-shown;
+})

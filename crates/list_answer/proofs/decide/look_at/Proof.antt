@@ -1,5 +1,6 @@
 -- `list_answer::decide::look_at` meets its contract: the row's word and the scans below say what the table does. By Deciding.
-use Rattle.listing_rules.proofs.Prelude.{_∙_, _≡_, ap, sym, Bool, _&&_, _||_, cond, not, ℕ, eqb, needs}
+mod Stages
+use Rattle.listing_rules.proofs.Prelude.{_∙_, _≡_, ap, sym, Bool, _&&_, _||_, cond, not, ℕ, eqb}
 use Rattle.listing_rules.specs.Flags.{exists}
 use Rattle.listing_rules.specs.Table.{flagsOf}
 use Rattle.octets.specs.Sets.{contains}
@@ -12,28 +13,22 @@ use Rattle.list_answer.specs.Marks.{levelOnly}
 use Rattle.list_answer.specs.Shown.{begun, foundBelow}
 use Rattle.list_answer.proofs.Deciding.{begins-here, flags-here, meets-below, right-here}
 use Rattle.list_answer.proofs.decide.look_at.Statement.{statement}
-use Rattle.list_answer.proofs.decide.look_at.Tie as tie
 
-returns : tie.Need-returns
-returns c =
-    let after-has = c .before .before .before .before in
-    let after-of-word2 = after-has .before in
-    let after-flags-of = after-of-word2 .before in
-    let after-of-word = after-flags-of .before .before .before in
-    let stage = after-of-word .before .before .before .before in
+returns-at-start : Stages.Need-returns-at-start
+returns-at-start c =
+    let known = Stages.returns-at-start c in
     λ patterns ready at.
-    let start = stage in
-    let row = after-of-word .of-word in
-    let flagged = after-flags-of .flags-of in
-    let marks = after-of-word2 .of-word2 in
-    let met = after-has .has in
-    let recursive = c .before .before .before .is-recursive in
-    let deep = c .before .before .asked-below in
-    let absent = c .before .asks-level in
-    let level = c .asked-below2 in
-    let area = start .args .area .now in
-    let words = start .args .words .now in
-    let name = start .args .name in
+    let row = known .after-of-word in
+    let flagged = known .after-flags-of in
+    let marks = known .after-of-word-own in
+    let met = known .after-has in
+    let recursive = known .after-is-recursive in
+    let deep = known .after-asked-below in
+    let absent = known .after-asks-level in
+    let level = known .after-asked-below-level in
+    let area = known .start .args .area .now in
+    let words = known .start .args .words .now in
+    let name = known .start .args .name in
     let x = ready .index .indexed in
     let here = begins-here area words x name at in
     let o = optionsIs _ in
@@ -59,5 +54,6 @@ returns c =
 
 pub look-at-spec : {M : Type 1} → statement M
 look-at-spec =
-    tie.close (tie.spec (λ c. search needs) (λ c. search needs) (λ c κs. search needs) (λ c κs. search needs) (λ c κs. search needs)
-    (λ c κs. search needs) (λ c κs. search needs) (λ c κs. search needs) (λ c κs. search needs) (λ c κs. search needs) returns)
+    Stages.close (record {
+      returns-at-start = returns-at-start;
+    })

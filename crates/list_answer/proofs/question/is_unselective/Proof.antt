@@ -1,14 +1,15 @@
 -- `list_answer::question::is_unselective` meets its contract: the bits of the three members.
+mod Stages
 use Rattle.listing_rules.specs.Listing.{unselective}
 use Rattle.octets.proofs.Sets.{contains-bit}
 use Rattle.command_line.specs.OptionSets.{optionsIs}
-use Rattle.listing_rules.proofs.Prelude.{needs}
 use Rattle.list_answer.proofs.question.is_unselective.Statement.{statement}
-use Rattle.list_answer.proofs.question.is_unselective.Tie as tie
 
-returns : tie.Need-returns
+returns-at-start : Stages.Need-returns-at-start
 unfolding unselective optionsIs
-returns c = let o = c .before .before .before .args .options .bits in cc (contains-bit 0 o, contains-bit 2 o, contains-bit 3 o)
+returns-at-start c = let o = Stages.returns-at-start c .start .args .options .bits in cc (contains-bit 0 o, contains-bit 2 o, contains-bit 3 o)
 
 pub is-unselective-spec : {M : Type 1} → statement M
-is-unselective-spec = tie.close (tie.spec (λ c κs. search needs) (λ c κs. search needs) (λ c κs. search needs) returns)
+is-unselective-spec = Stages.close (record {
+  returns-at-start = returns-at-start;
+})

@@ -1,28 +1,31 @@
 -- `list_line::texts::name_span` meets its contract: the places are read from the table. By `spanIn` itself.
-use Rattle.listing_rules.proofs.Prelude.{arith, needs, le-leb, lt-leb}
+mod Stages
+use Rattle.listing_rules.proofs.Prelude.{arith, le-leb, lt-leb}
 use Rattle.list_line.proofs.texts.name_span.Statement.{statement}
-use Rattle.list_line.proofs.texts.name_span.Tie as tie
 
-returns : tie.Need-returns
-returns c = rw (le-leb _ _ (c .if1 .taken))
+returns-at-then-places-len-k : Stages.Need-returns-at-then-places-len-k
+returns-at-then-places-len-k c = rw (le-leb _ _ (Stages.returns-at-then-places-len-k c .then-places-len-k .taken))
 
-add-t10 : tie.Need-add-t10
-add-t10 c =
-    let after-wide = c .before .before .before in
-    let start = after-wide .before .before .before .before in
-    omega (arith, after-wide .wide .ensures, after-wide .before .shared-slice-known2 .given (start .args .k))
+add-at-then-first : Stages.Need-add-at-then-first
+add-at-then-first c =
+    let at = Stages.add-at-then-first c in
+    omega (arith, at .after-wide .ensures, at .else-places-len-k-shared-slice-known .given (at .start .args .k))
 
-returns-2 : tie.Need-returns-2
-returns-2 c =
-    let after-wide = c .before .before .before in
-    rw (after-wide .wide .ensures, c .before .wide2 .ensures, c .before .before .byte-at .ensures, lt-leb _ _ (after-wide .before .before .if1 .left), c .if2 .taken)
+returns-at-then-first : Stages.Need-returns-at-then-first
+returns-at-then-first c =
+    let at = Stages.returns-at-then-first c in
+    rw (at .after-wide .ensures, at .after-wide-end .ensures, at .after-byte-at .ensures, lt-leb _ _ (at .else-places-len-k .left), at .then-first .taken)
 
-returns-3 : tie.Need-returns-3
-returns-3 c =
-    let after-wide = c .before .before .before in
-    rw (after-wide .wide .ensures, c .before .wide2 .ensures, c .before .before .byte-at .ensures, lt-leb _ _ (after-wide .before .before .if1 .left), c .if2 .left)
+returns-at-else-first : Stages.Need-returns-at-else-first
+returns-at-else-first c =
+    let at = Stages.returns-at-else-first c in
+    rw (at .after-wide .ensures, at .after-wide-end .ensures, at .after-byte-at .ensures, lt-leb _ _ (at .else-places-len-k .left), at .else-first .left)
 
 pub name-span-spec : {M : Type 1} → statement M
 name-span-spec =
-    tie.close (tie.spec returns (λ c. search needs) (λ c κs. search needs) (λ c. search needs) (λ c κs. search needs) (λ c κs. search needs) add-t10
-    returns-2 returns-3)
+    Stages.close (record {
+      returns-at-then-places-len-k = returns-at-then-places-len-k;
+      add-at-then-first = add-at-then-first;
+      returns-at-then-first = returns-at-then-first;
+      returns-at-else-first = returns-at-else-first;
+    })

@@ -1,58 +1,63 @@
 -- `put_chosen` meets its contract. The loop's invariant is `Spelled` of `Writing`: what is written, and what is left of the names.
-use Rattle.listing_rules.proofs.Prelude.{ap, subst, ⊎-elim, List, _-_, ℕ, arith, length, needs}
+mod Loops
+mod Stages
+use Rattle.listing_rules.proofs.Prelude.{ap, subst, ⊎-elim, List, ℕ, arith, length, needs}
 use Rattle.octets.specs.Put.{Put}
 use Rattle.octets.proofs.Puts.{put-length}
 use Rattle.list_line.proofs.Names.{span-text, span-named}
 use Rattle.list_line.specs.Names.{NameSpan}
-use Rattle.list_line.proofs.Writing.{Spelled, spelled-none, spelled-in, spelled-out, spelled-all}
+use Rattle.list_line.proofs.Writing.{spelled-none, spelled-in, spelled-out, spelled-all}
 use Rattle.list_line.proofs.write.put_chosen.Statement.{statement}
-use Rattle.list_line.proofs.write.put_chosen.Tie as tie
 
-abbrev Inv-loop : tie.InvT-loop
-Inv-loop buf₀ at bits names places to₀ left₀ first₀ k₀ buf to left first k = Spelled buf₀ buf at to bits left first k
-
-abbrev μ-loop : tie.MeasureT-loop
-μ-loop buf₀ at bits names places to₀ left₀ first₀ k₀ buf to left first k = 16 - k
-
-loop-holds : tie.Need-loop-holds Inv-loop μ-loop
-loop-holds c = spelled-none _ _ _ (search needs) (search needs)
+loop-holds-at-start : Stages.Need-loop-holds-at-start
+loop-holds-at-start c = spelled-none _ _ _ (search needs) (search needs)
 
 -- the span is that of name k
-spanned : (c : tie.After-name-span Inv-loop μ-loop) → NameSpan (c .before .before .before .loop .k) (c .before .before .before .loop .first) (c .name-span .result)
+spanned : (c : Stages.After-name-span) →
+    let at = Stages.after-name-span c in
+    NameSpan (at .head .k) (at .head .first) (at .after-name-span .result)
 spanned c =
-    let turn = c .before .before .before in
-    span-named _ _ _ (turn .before .before .before .before .pre .1) (c .before .before .loop-test .taken) (c .name-span .ensures)
+    let at = Stages.after-name-span c in
+    span-named _ _ _ (at .start .pre .1) (at .turn .taken) (at .after-name-span .ensures)
 
-sub-put-all : tie.Need-sub-put-all Inv-loop μ-loop
-sub-put-all c = spanned (c .before) .order
+sub-put-all-at-then-left-2-1 : Stages.Need-sub-put-all-at-then-left-2-1
+sub-put-all-at-then-left-2-1 c = spanned (Stages.sub-put-all-at-then-left-2-1 c .After-name-span) .order
 
-part-put-all-start : tie.Need-part-put-all-start Inv-loop μ-loop
-part-put-all-start c = spanned (c .before) .order
+part-put-all-start-at-then-left-2-1 : Stages.Need-part-put-all-start-at-then-left-2-1
+part-put-all-start-at-then-left-2-1 c = spanned (Stages.part-put-all-start-at-then-left-2-1 c .After-name-span) .order
 
-part-put-all-end : tie.Need-part-put-all-end Inv-loop μ-loop
-part-put-all-end c =
-    let after-pre = c .before .before .before .before .before .before .before .before in
-    omega (arith, spanned (c .before) .inside, ap length (after-pre .pre .0))
+part-put-all-end-at-then-left-2-1 : Stages.Need-part-put-all-end-at-then-left-2-1
+part-put-all-end-at-then-left-2-1 c =
+    let at = Stages.part-put-all-end-at-then-left-2-1 c in
+    omega (arith, spanned (at .After-name-span) .inside, ap length (at .start .pre .0))
 
-loop-again : tie.Need-loop-again Inv-loop μ-loop
-loop-again c =
-    let turn = c .before .before in
-    let start = turn .before .before .before .before in
+loop-again-at-turn : Stages.Need-loop-again-at-turn
+loop-again-at-turn c =
+    let at = Stages.loop-again-at-turn c in
     ⊎-elim
     (λ w.
-    let name = span-text _ (start .pre .0) (span-named _ _ _ (start .pre .1) (c .before .loop-test .taken) (w .1 .ensures)) in
-    let put = subst (λ (x : List ℕ). Put (turn .loop .buf) (w .4 .last .0) (turn .loop .to) x (w .4 .result)) name (w .4 .ensures) in
-    rw (w .7, w .8, w .9) (spelled-in (turn .loop .inv) (c .before .loop-test .taken) (w .0 .taken) put))
-    (λ w. rw (w .1, w .2, w .3) (spelled-out (turn .loop .inv) (c .before .loop-test .taken) (w .0 .left)))
-    (c .if1 .came)
+    let name = span-text _ (at .start .pre .0) (span-named _ _ _ (at .start .pre .1) (at .turn .taken) (w .1 .ensures)) in
+    let put = subst (λ (x : List ℕ). Put (at .head .buf) (w .4 .last .0) (at .head .to) x (w .4 .result)) name (w .4 .ensures) in
+    rw (w .7, w .8, w .9) (spelled-in (at .head .inv) (at .turn .taken) (w .0 .taken) put))
+    (λ w. rw (w .1, w .2, w .3) (spelled-out (at .head .inv) (at .turn .taken) (w .0 .left)))
+    (at .joined-left-2-1 .came)
 
-same-length : tie.Need-same-length Inv-loop μ-loop
-same-length c = put-length (c .before .loop .inv .put)
+same-length-at-exit : Stages.Need-same-length-at-exit
+same-length-at-exit c = put-length (Stages.same-length-at-exit c .head .inv .put)
 
-returns : tie.Need-returns Inv-loop μ-loop
-returns c = spelled-all (c .before .loop .inv) (c .loop-test .left)
+returns-at-exit : Stages.Need-returns-at-exit
+returns-at-exit c =
+    let at = Stages.returns-at-exit c in
+    spelled-all (at .head .inv) (at .exit .left)
 
 pub put-chosen-spec : {M : Type 1} → statement M
 put-chosen-spec =
-    tie.close (tie.spec Inv-loop μ-loop loop-holds (λ c κs. search needs) sub-put-all part-put-all-start part-put-all-end (λ c κs. search needs)
-    (λ c. search needs) (λ c. search needs) loop-again same-length returns)
+    Stages.close (record {
+      loop-holds-at-start = loop-holds-at-start;
+      sub-put-all-at-then-left-2-1 = sub-put-all-at-then-left-2-1;
+      part-put-all-start-at-then-left-2-1 = part-put-all-start-at-then-left-2-1;
+      part-put-all-end-at-then-left-2-1 = part-put-all-end-at-then-left-2-1;
+      loop-again-at-turn = loop-again-at-turn;
+      same-length-at-exit = same-length-at-exit;
+      returns-at-exit = returns-at-exit;
+    })

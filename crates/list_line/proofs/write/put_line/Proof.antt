@@ -1,23 +1,19 @@
 -- `put_line` meets its contract: five writes, one behind the other (`put-then`).
-use Rattle.listing_rules.proofs.Prelude.{needs}
+mod Stages
 use Rattle.listing_rules.proofs.Keys.{openBytes}
 use Rattle.listing_rules.specs.Lines.{wordLine}
 use Rattle.octets.proofs.Puts.{put-then}
 use Rattle.list_line.proofs.write.put_line.Statement.{statement}
-use Rattle.list_line.proofs.write.put_line.Tie as tie
 
-returns : tie.Need-returns
+returns-at-start : Stages.Need-returns-at-start
 unfolding openBytes wordLine
-returns c =
-    let after-put-line-end = c .before .before in
-    let after-put-quoted = after-put-line-end .before .before .before .before in
-    let after-put-all = after-put-quoted .before .before .before .before in
-    let after-put-attributes = after-put-all .before .before .before .before .before in
-    let after-put-start = after-put-attributes .before .before .before .before in
-    put-then (after-put-start .put-start .ensures) (put-then (after-put-attributes .put-attributes .ensures)
-    (put-then (after-put-all .put-all .ensures) (put-then (after-put-quoted .put-quoted .ensures) (after-put-line-end .put-line-end .ensures))))
+returns-at-start c =
+    let at = Stages.returns-at-start c in
+    put-then (at .after-put-start .ensures) (put-then (at .after-put-attributes .ensures)
+    (put-then (at .after-put-all .ensures) (put-then (at .after-put-quoted .ensures) (at .after-put-line-end .ensures))))
 
 pub put-line-spec : {M : Type 1} → statement M
 put-line-spec =
-    tie.close (tie.spec (λ c κs. search needs) (λ c κs. search needs) (λ c. search needs) (λ c κs. search needs) (λ c κs. search needs)
-    (λ c κs. search needs) (λ c. search needs) returns)
+    Stages.close (record {
+      returns-at-start = returns-at-start;
+    })

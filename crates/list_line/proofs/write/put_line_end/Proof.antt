@@ -1,61 +1,44 @@
 -- `put_line_end` meets its contract: its four texts compute to CR LF behind CHILDINFO or nothing.
-use Rattle.listing_rules.proofs.Prelude.{_∙_, sym, false, true, needs}
+mod Stages
+use Rattle.listing_rules.proofs.Prelude.{_∙_, sym, false, true}
 use Rattle.listing_rules.proofs.Keys.{openBytes, openLines}
 use Rattle.listing_rules.specs.Options.{isNone}
 use Rattle.list_line.proofs.CriteriaSets.{criteria-tests}
 use Rattle.list_line.proofs.write.put_line_end.Statement.{statement}
-use Rattle.list_line.proofs.write.put_line_end.Tie as tie
 
-returns : tie.Need-returns
+returns-at-then-special : Stages.Need-returns-at-then-special
 unfolding openBytes openLines isNone
-returns c =
-    let after-put-all = c .before .before in
-    let at-if2 = after-put-all .before .before .before in
-    let at-if1 = at-if2 .before in
-    let after-has2 = at-if1 .before in
-    let after-has = after-has2 .before in
-    let start = after-has .before .before in
-    rw (criteria-tests (start .args .criteria .bits) true true (sym (after-has .has .ensures) ∙ at-if1 .if1 .taken)
-    (sym (after-has2 .has2 .ensures) ∙ at-if2 .if2 .taken)) (after-put-all .put-all .ensures)
+returns-at-then-special c =
+    let at = Stages.returns-at-then-special c in
+    rw (criteria-tests (at .start .args .criteria .bits) true true (sym (at .after-has .ensures) ∙ at .then-subscribed .taken)
+    (sym (at .after-has-special .ensures) ∙ at .then-special .taken)) (at .after-put-all .ensures)
 
-returns-2 : tie.Need-returns-2
+returns-at-else-special : Stages.Need-returns-at-else-special
 unfolding openBytes openLines isNone
-returns-2 c =
-    let after-put-all2 = c .before .before in
-    let at-if2 = after-put-all2 .before .before .before in
-    let at-if1 = at-if2 .before in
-    let after-has2 = at-if1 .before in
-    let after-has = after-has2 .before in
-    let start = after-has .before .before in
-    rw (criteria-tests (start .args .criteria .bits) true false (sym (after-has .has .ensures) ∙ at-if1 .if1 .taken)
-    (sym (after-has2 .has2 .ensures) ∙ at-if2 .if2 .left)) (after-put-all2 .put-all2 .ensures)
+returns-at-else-special c =
+    let at = Stages.returns-at-else-special c in
+    rw (criteria-tests (at .start .args .criteria .bits) true false (sym (at .after-has .ensures) ∙ at .then-subscribed .taken)
+    (sym (at .after-has-special .ensures) ∙ at .else-special .left)) (at .after-put-all-at-else-special .ensures)
 
-returns-3 : tie.Need-returns-3
+returns-at-then-special-2 : Stages.Need-returns-at-then-special-2
 unfolding openBytes openLines isNone
-returns-3 c =
-    let after-put-all3 = c .before .before in
-    let at-if3 = after-put-all3 .before .before .before in
-    let at-if1 = at-if3 .before in
-    let after-has2 = at-if1 .before in
-    let after-has = after-has2 .before in
-    let start = after-has .before .before in
-    rw (criteria-tests (start .args .criteria .bits) false true (sym (after-has .has .ensures) ∙ at-if1 .if1 .left)
-    (sym (after-has2 .has2 .ensures) ∙ at-if3 .if3 .taken)) (after-put-all3 .put-all3 .ensures)
+returns-at-then-special-2 c =
+    let at = Stages.returns-at-then-special-2 c in
+    rw (criteria-tests (at .start .args .criteria .bits) false true (sym (at .after-has .ensures) ∙ at .else-subscribed .left)
+    (sym (at .after-has-special .ensures) ∙ at .then-special-2 .taken)) (at .after-put-all-at-then-special-2 .ensures)
 
-returns-4 : tie.Need-returns-4
+returns-at-else-special-2 : Stages.Need-returns-at-else-special-2
 unfolding openBytes openLines isNone
-returns-4 c =
-    let after-put-all4 = c .before .before in
-    let at-if3 = after-put-all4 .before .before .before in
-    let at-if1 = at-if3 .before in
-    let after-has2 = at-if1 .before in
-    let after-has = after-has2 .before in
-    let start = after-has .before .before in
-    rw (criteria-tests (start .args .criteria .bits) false false (sym (after-has .has .ensures) ∙ at-if1 .if1 .left)
-    (sym (after-has2 .has2 .ensures) ∙ at-if3 .if3 .left)) (after-put-all4 .put-all4 .ensures)
+returns-at-else-special-2 c =
+    let at = Stages.returns-at-else-special-2 c in
+    rw (criteria-tests (at .start .args .criteria .bits) false false (sym (at .after-has .ensures) ∙ at .else-subscribed .left)
+    (sym (at .after-has-special .ensures) ∙ at .else-special-2 .left)) (at .after-put-all-at-else-special-2 .ensures)
 
 pub put-line-end-spec : {M : Type 1} → statement M
 put-line-end-spec =
-    tie.close (tie.spec (λ c κs. search needs) (λ c κs. search needs) (λ c. search needs) (λ c κs. search needs) (λ c. search needs) returns
-    (λ c. search needs) (λ c κs. search needs) (λ c. search needs) returns-2 (λ c. search needs) (λ c κs. search needs) (λ c. search needs) returns-3
-    (λ c. search needs) (λ c κs. search needs) (λ c. search needs) returns-4)
+    Stages.close (record {
+      returns-at-then-special = returns-at-then-special;
+      returns-at-else-special = returns-at-else-special;
+      returns-at-then-special-2 = returns-at-then-special-2;
+      returns-at-else-special-2 = returns-at-else-special-2;
+    })

@@ -1,12 +1,13 @@
 -- `put_root_line` meets its contract: its text computes to the root line.
-use Rattle.listing_rules.proofs.Prelude.{needs}
+mod Stages
 use Rattle.listing_rules.proofs.Keys.{openBytes, openLines}
 use Rattle.list_line.proofs.write.put_root_line.Statement.{statement}
-use Rattle.list_line.proofs.write.put_root_line.Tie as tie
 
-returns : tie.Need-returns
+returns-at-start : Stages.Need-returns-at-start
 unfolding openBytes openLines
-returns c = c .before .before .put-all .ensures
+returns-at-start c = Stages.returns-at-start c .after-put-all .ensures
 
 pub put-root-line-spec : {M : Type 1} → statement M
-put-root-line-spec = tie.close (tie.spec (λ c. search needs) (λ c κs. search needs) (λ c. search needs) returns)
+put-root-line-spec = Stages.close (record {
+  returns-at-start = returns-at-start;
+})

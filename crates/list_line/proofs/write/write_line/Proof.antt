@@ -1,44 +1,44 @@
 -- `write_line` meets its contract, by the cases of the line writer in `Writing`.
-use Rattle.listing_rules.proofs.Prelude.{_∙_, sym, not-false, not-true, needs}
+mod Stages
+use Rattle.listing_rules.proofs.Prelude.{_∙_, sym, not-false, not-true}
 use Rattle.list_line.proofs.Writing.{line-unlawful, line-named, line-root, line-other, gives-refusal}
 use Rattle.list_line.proofs.write.write_line.Statement.{statement}
-use Rattle.list_line.proofs.write.write_line.Tie as tie
 
-returns : tie.Need-returns
-returns c = rw (line-unlawful _ _ _ (sym (c .before .lawful .ensures) ∙ not-true _ (c .if1 .taken))) (gives-refusal _ 12)
+returns-at-then-not-criteria-lawful : Stages.Need-returns-at-then-not-criteria-lawful
+returns-at-then-not-criteria-lawful c =
+    let at = Stages.returns-at-then-not-criteria-lawful c in
+    rw (line-unlawful _ _ _ (sym (at .after-lawful .ensures) ∙ not-true _ (at .then-not-criteria-lawful .taken))) (gives-refusal _ 12)
 
-returns-2 : tie.Need-returns-2
-returns-2 c =
-    let after-write-named = c .before .before in
-    let named = after-write-named .before .before in
-    let checked = named .before .before in
+returns-at-then-lawful-name-name : Stages.Need-returns-at-then-lawful-name-name
+returns-at-then-lawful-name-name c =
+    let at = Stages.returns-at-then-lawful-name-name c in
     rw
-    (line-named _ _ _ (sym (checked .before .lawful .ensures) ∙ not-false _ (checked .if1 .left)) (sym (named .before .lawful-name .ensures) ∙ named .if2 .taken))
-    (after-write-named .write-named .ensures)
+    (line-named _ _ _ (sym (at .after-lawful .ensures) ∙ not-false _ (at .else-not-criteria-lawful .left)) (sym (at .after-lawful-name .ensures) ∙ at .then-lawful-name-name .taken))
+    (at .after-write-named .ensures)
 
-returns-3 : tie.Need-returns-3
-returns-3 c =
-    let named = c .before .before in
-    let checked = named .before .before in
+returns-at-then-not-root-parts-attributes-name : Stages.Need-returns-at-then-not-root-parts-attributes-name
+returns-at-then-not-root-parts-attributes-name c =
+    let at = Stages.returns-at-then-not-root-parts-attributes-name c in
     rw
-    (line-other _ _ _ (sym (checked .before .lawful .ensures) ∙ not-false _ (checked .if1 .left))
-    (sym (named .before .lawful-name .ensures) ∙ named .if2 .left)
-    (sym (c .before .root-parts .ensures) ∙ not-true _ (c .if3 .taken)))
+    (line-other _ _ _ (sym (at .after-lawful .ensures) ∙ not-false _ (at .else-not-criteria-lawful .left))
+    (sym (at .after-lawful-name .ensures) ∙ at .else-lawful-name-name .left)
+    (sym (at .after-root-parts .ensures) ∙ not-true _ (at .then-not-root-parts-attributes-name .taken)))
     (gives-refusal _ 12)
 
-returns-4 : tie.Need-returns-4
-returns-4 c =
-    let after-write-root = c .before .before in
-    let root = after-write-root .before .before in
-    let named = root .before .before in
-    let checked = named .before .before in
+returns-at-else-not-root-parts-attributes-name : Stages.Need-returns-at-else-not-root-parts-attributes-name
+returns-at-else-not-root-parts-attributes-name c =
+    let at = Stages.returns-at-else-not-root-parts-attributes-name c in
     rw
-    (line-root _ _ _ (sym (checked .before .lawful .ensures) ∙ not-false _ (checked .if1 .left))
-    (sym (named .before .lawful-name .ensures) ∙ named .if2 .left)
-    (sym (root .before .root-parts .ensures) ∙ not-false _ (root .if3 .left)))
-    (after-write-root .write-root .ensures)
+    (line-root _ _ _ (sym (at .after-lawful .ensures) ∙ not-false _ (at .else-not-criteria-lawful .left))
+    (sym (at .after-lawful-name .ensures) ∙ at .else-lawful-name-name .left)
+    (sym (at .after-root-parts .ensures) ∙ not-false _ (at .else-not-root-parts-attributes-name .left)))
+    (at .after-write-root .ensures)
 
 pub write-line-spec : {M : Type 1} → statement M
 write-line-spec =
-    tie.close (tie.spec (λ c κs. search needs) returns (λ c κs. search needs) (λ c κs. search needs) (λ c. search needs) returns-2
-    (λ c κs. search needs) returns-3 (λ c κs. search needs) (λ c. search needs) returns-4)
+    Stages.close (record {
+      returns-at-then-not-criteria-lawful = returns-at-then-not-criteria-lawful;
+      returns-at-then-lawful-name-name = returns-at-then-lawful-name-name;
+      returns-at-then-not-root-parts-attributes-name = returns-at-then-not-root-parts-attributes-name;
+      returns-at-else-not-root-parts-attributes-name = returns-at-else-not-root-parts-attributes-name;
+    })

@@ -1,13 +1,16 @@
 -- `luspemaro::calls::at_most` meets its contract, by its test.
+mod Stages
 use Rattle.listing_rules.proofs.Prelude.{sym, arith, length-take-le}
 use Rattle.luspemaro.proofs.calls.at_most.Statement.{statement}
-use Rattle.luspemaro.proofs.calls.at_most.Tie as tie
 
-returns : tie.Need-returns
-returns c = (omega arith, sym (length-take-le _ _ (omega arith)))
+returns-at-then-n-text-len : Stages.Need-returns-at-then-n-text-len
+returns-at-then-n-text-len c = (omega arith, sym (length-take-le _ _ (omega arith)))
 
-returns-2 : tie.Need-returns-2
-returns-2 c = (omega arith, sym (length-take-le _ _ (omega arith)))
+returns-at-else-n-text-len : Stages.Need-returns-at-else-n-text-len
+returns-at-else-n-text-len c = (omega arith, sym (length-take-le _ _ (omega arith)))
 
 pub at-most-spec : {M : Type 1} → statement M
-at-most-spec = tie.close (tie.spec returns returns-2)
+at-most-spec = Stages.close (record {
+  returns-at-then-n-text-len = returns-at-then-n-text-len;
+  returns-at-else-n-text-len = returns-at-else-n-text-len;
+})

@@ -1,14 +1,20 @@
 -- `luspemaro::calls::is_to_be_repeated` meets its contract, by its tests. Rests on CallLaws.
+mod Stages
 use Rattle.luspemaro.proofs.CallLaws.{blocks, interrupted}
-use Rattle.listing_rules.proofs.Prelude.{needs}
 use Rattle.luspemaro.proofs.calls.is_to_be_repeated.Statement.{statement}
-use Rattle.luspemaro.proofs.calls.is_to_be_repeated.Tie as tie
 
-returns : tie.Need-returns
-returns c = blocks _ (c .before .before .fits .error) (c .before .if1 .taken)
+returns-at-then-error-eagain : Stages.Need-returns-at-then-error-eagain
+returns-at-then-error-eagain c =
+    let at = Stages.returns-at-then-error-eagain c in
+    blocks _ (at .start .fits .error) (at .then-error-eagain .taken)
 
-returns-2 : tie.Need-returns-2
-returns-2 c = interrupted _ (c .before .fits .error) (c .if1 .left)
+returns-at-else-error-eagain : Stages.Need-returns-at-else-error-eagain
+returns-at-else-error-eagain c =
+    let at = Stages.returns-at-else-error-eagain c in
+    interrupted _ (at .start .fits .error) (at .else-error-eagain .left)
 
 pub is-to-be-repeated-spec : {M : Type 1} → statement M
-is-to-be-repeated-spec = tie.close (tie.spec (λ c κs. search needs) returns returns-2)
+is-to-be-repeated-spec = Stages.close (record {
+  returns-at-then-error-eagain = returns-at-then-error-eagain;
+  returns-at-else-error-eagain = returns-at-else-error-eagain;
+})

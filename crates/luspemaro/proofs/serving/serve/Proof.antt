@@ -1,113 +1,98 @@
 -- `luspemaro::serving::serve` meets its contract. The loop's invariant: the first bytes are answered. Rests on ServeLaws.
+mod Loops
+mod Stages
 use Rattle.luspemaro.proofs.serving.Place.Laws.{the-laws}
 use Rattle.luspemaro.proofs.serving.Place.{the-type}
 use denote.Struct.Laws.{owed}
-use Rattle.luspemaro.proofs.ServeLaws.{Along, along-none, along-takes, along-more, serves-all, serves-none}
-use Rattle.kept_table.specs.Kept.{lent}
-use Rattle.listing_rules.proofs.Prelude.{_∙_, refl, _-_, arith, length, needs, not-false, not-true}
+use Rattle.luspemaro.proofs.ServeLaws.{along-none, along-takes, along-more, serves-all, serves-none}
+use Rattle.listing_rules.proofs.Prelude.{_∙_, refl, arith, not-false, not-true}
 use Rattle.luspemaro.proofs.serving.serve.Statement.{statement}
-use Rattle.luspemaro.proofs.serving.serve.Tie as tie
 
-abbrev Inv-loop : tie.InvT-loop
-Inv-loop bytes table₀ records₀ namespaces₀ line₀ out₀ state₀ frames₀ at₀ table records namespaces line out state frames at =
-    Along bytes (lent table₀ records₀ namespaces₀ out₀) line₀ state₀ frames₀ (lent table records namespaces out) line state frames at
+loop-holds-at-start : Stages.Need-loop-holds-at-start
+loop-holds-at-start c =
+    let at = Stages.loop-holds-at-start c in
+    let fields = owed the-type the-laws _ _ (at .start .good .0) in
+    along-none _ _ _ _ _ (fields .1 .0 .1) (at .start .pre)
 
-abbrev μ-loop : tie.MeasureT-loop
-μ-loop bytes table₀ records₀ namespaces₀ line₀ out₀ state₀ frames₀ at₀ table records namespaces line out state frames at =
-    length bytes - at
-
-loop-holds : tie.Need-loop-holds Inv-loop μ-loop
-loop-holds c =
-    let start = c .before .before .before .before .before .before .before in
-    let fields = owed the-type the-laws _ _ (start .good .0) in
-    along-none _ _ _ _ _ (fields .1 .0 .1) (start .pre)
-
-answer-some-requires : tie.Need-answer-some-requires Inv-loop μ-loop
+answer-some-requires : Stages.Need-answer-some-requires
 answer-some-requires c κs =
-    let turn = c .before .before .before .before .before .before .before in
-    turn .loop .inv .ready-on
+    let at = Stages.answer-some-requires c in
+    at .head .inv .ready-on
 
-same-length : tie.Need-same-length Inv-loop μ-loop
-same-length c =
-    let after-answer-some =
-    c .before .before .before .before .before .before .before .before .before .before .before .before .before .before .before in
-    let turn = after-answer-some .before .before .before .before .before .before .before .before in
-    after-answer-some .answer-some .kept .1 .1 .0 ∙ turn .loop .inv .table
+same-length-at-then-not-sent-whole : Stages.Need-same-length-at-then-not-sent-whole
+same-length-at-then-not-sent-whole c =
+    let at = Stages.same-length-at-then-not-sent-whole c in
+    at .after-answer-some .kept .1 .1 .0 ∙ at .head .inv .table
 
-same-length-2 : tie.Need-same-length-2 Inv-loop μ-loop
-same-length-2 c =
-    let after-answer-some =
-    c .before .before .before .before .before .before .before .before .before .before .before .before .before .before .before in
-    let turn = after-answer-some .before .before .before .before .before .before .before .before in
-    after-answer-some .answer-some .kept .1 .1 .1 .0 ∙ turn .loop .inv .records
+same-length-at-then-not-sent-whole-2 : Stages.Need-same-length-at-then-not-sent-whole-2
+same-length-at-then-not-sent-whole-2 c =
+    let at = Stages.same-length-at-then-not-sent-whole-2 c in
+    at .after-answer-some .kept .1 .1 .1 .0 ∙ at .head .inv .records
 
-same-length-3 : tie.Need-same-length-3 Inv-loop μ-loop
-same-length-3 c =
-    let after-answer-some =
-    c .before .before .before .before .before .before .before .before .before .before .before .before .before .before .before in
-    let turn = after-answer-some .before .before .before .before .before .before .before .before in
-    after-answer-some .answer-some .kept .1 .1 .1 .1 .0 ∙ turn .loop .inv .namespaces
+same-length-at-then-not-sent-whole-3 : Stages.Need-same-length-at-then-not-sent-whole-3
+same-length-at-then-not-sent-whole-3 c =
+    let at = Stages.same-length-at-then-not-sent-whole-3 c in
+    at .after-answer-some .kept .1 .1 .1 .1 .0 ∙ at .head .inv .namespaces
 
-same-length-4 : tie.Need-same-length-4 Inv-loop μ-loop
-same-length-4 c =
-    let after-answer-some =
-    c .before .before .before .before .before .before .before .before .before .before .before .before .before .before .before in
-    let turn = after-answer-some .before .before .before .before .before .before .before .before in
-    after-answer-some .answer-some .kept .1 .1 .1 .1 .1 .0 ∙ turn .loop .inv .digits
+same-length-at-then-not-sent-whole-4 : Stages.Need-same-length-at-then-not-sent-whole-4
+same-length-at-then-not-sent-whole-4 c =
+    let at = Stages.same-length-at-then-not-sent-whole-4 c in
+    at .after-answer-some .kept .1 .1 .1 .1 .1 .0 ∙ at .head .inv .digits
 
-same-length-5 : tie.Need-same-length-5 Inv-loop μ-loop
-same-length-5 c =
-    let after-answer-some =
-    c .before .before .before .before .before .before .before .before .before .before .before .before .before .before .before in
-    let turn = after-answer-some .before .before .before .before .before .before .before .before in
-    after-answer-some .answer-some .kept .1 .1 .1 .1 .1 .1 .0 ∙ turn .loop .inv .out
+same-length-at-then-not-sent-whole-5 : Stages.Need-same-length-at-then-not-sent-whole-5
+same-length-at-then-not-sent-whole-5 c =
+    let at = Stages.same-length-at-then-not-sent-whole-5 c in
+    at .after-answer-some .kept .1 .1 .1 .1 .1 .1 .0 ∙ at .head .inv .out
 
-write-failed-requires : tie.Need-write-failed-requires Inv-loop μ-loop
-write-failed-requires c κs = not-true _ (c .if1 .taken)
+write-failed-requires : Stages.Need-write-failed-requires
+write-failed-requires c κs = not-true _ (Stages.write-failed-requires c .then-not-sent-whole .taken)
 
-returns : tie.Need-returns Inv-loop μ-loop
-returns c =
-    let after-answer-some =
-    c .before .before .before .before .before .before .before .before .before .before .before .before .before .before .before in
-    let start =
-    after-answer-some .before .before .before .before .before .before .before .before .before .before .before .before .before .before .before .before in rw
-    (c .write-failed .ensures) (serves-none _ _ _ _ _ (after-answer-some .answer-some .ensures .ready-on))
+returns-at-then-not-sent-whole : Stages.Need-returns-at-then-not-sent-whole
+returns-at-then-not-sent-whole c =
+    let at = Stages.returns-at-then-not-sent-whole c in
+    rw
+    (at .after-write-failed .ensures) (serves-none _ _ _ _ _ (at .after-answer-some .ensures .ready-on))
 
-add-at : tie.Need-add-at Inv-loop μ-loop
-add-at c =
-    let after-answer-some =
-    c .before .before .before .before .before .before .before .before .before .before .before .before .before .before .before in
-    let at-loop-test = after-answer-some .before .before .before .before .before .before .before in
-    let turn = at-loop-test .before in
-    let start = turn .before .before .before .before .before .before .before .before in omega
-    (arith, along-takes (turn .loop .inv) (at-loop-test .loop-test .taken) (after-answer-some .answer-some .ensures) .0, start .good .1 .0)
+add-at-at-else-not-sent-whole : Stages.Need-add-at-at-else-not-sent-whole
+add-at-at-else-not-sent-whole c =
+    let at = Stages.add-at-at-else-not-sent-whole c in
+    omega
+    (arith, along-takes (at .head .inv) (at .turn .taken) (at .after-answer-some .ensures) .0, at .start .good .1 .0)
 
-loop-less : tie.Need-loop-less Inv-loop μ-loop
-loop-less c =
-    let after-answer-some =
-    c .before .before .before .before .before .before .before .before .before .before .before .before .before .before .before .before in
-    let at-loop-test = after-answer-some .before .before .before .before .before .before .before in
-    let w = along-takes (at-loop-test .before .loop .inv) (at-loop-test .loop-test .taken) (after-answer-some .answer-some .ensures) in
+loop-less-at-else-not-sent-whole : Stages.Need-loop-less-at-else-not-sent-whole
+loop-less-at-else-not-sent-whole c =
+    let at = Stages.loop-less-at-else-not-sent-whole c in
+    let w = along-takes (at .head .inv) (at .turn .taken) (at .after-answer-some .ensures) in
     omega (arith, w .0, w .1)
 
-loop-again : tie.Need-loop-again Inv-loop μ-loop
-loop-again c =
-    let after-answer-some =
-    c .before .before .before .before .before .before .before .before .before .before .before .before .before .before .before .before in
-    let at-loop-test = after-answer-some .before .before .before .before .before .before .before in
-    let turn = at-loop-test .before in
-    let round = after-answer-some .answer-some in
-    along-more (turn .loop .inv) _ _ _ (at-loop-test .loop-test .taken) (round .ensures) (not-false _ (c .before .before .if1 .left))
+loop-again-at-else-not-sent-whole : Stages.Need-loop-again-at-else-not-sent-whole
+loop-again-at-else-not-sent-whole c =
+    let at = Stages.loop-again-at-else-not-sent-whole c in
+    let round = at .after-answer-some in
+    along-more (at .head .inv) _ _ _ (at .turn .taken) (round .ensures) (not-false _ (at .else-not-sent-whole .left))
     (round .kept .1 .1 .0) (round .kept .1 .1 .1 .0)
-    (round .kept .1 .1 .1 .1 .0) (round .kept .1 .1 .1 .1 .1 .0) (round .kept .1 .1 .1 .1 .1 .1 .0) _ (c .advance .ensures)
+    (round .kept .1 .1 .1 .1 .0) (round .kept .1 .1 .1 .1 .1 .0) (round .kept .1 .1 .1 .1 .1 .1 .0) _ (at .after-advance .ensures)
 
-returns-2 : tie.Need-returns-2 Inv-loop μ-loop
-returns-2 c =
-    let start = c .before .before .before .before .before .before .before .before .before .before in rw (c .place-at .ensures)
-    (serves-all (c .before .before .loop .inv) _ refl refl (omega (arith, c .before .loop-test .left)))
+returns-at-exit : Stages.Need-returns-at-exit
+returns-at-exit c =
+    let at = Stages.returns-at-exit c in
+    rw (at .after-place-at .ensures)
+    (serves-all (at .head .inv) _ refl refl (omega (arith, at .exit .left)))
 
 pub serve-spec : {M : Type 1} → statement M
 serve-spec =
-    tie.close (tie.spec Inv-loop μ-loop loop-holds (λ c. search needs) (λ c. search needs) (λ c. search needs) answer-some-requires
-    write-failed-requires same-length same-length-2 same-length-3 same-length-4 same-length-5 returns add-at (λ c κs. search needs) loop-less
-    loop-again (λ c κs. search needs) (λ c. search needs) (λ c. search needs) (λ c. search needs) (λ c. search needs) (λ c. search needs) returns-2)
+    Stages.close (record {
+      loop-holds-at-start = loop-holds-at-start;
+      answer-some-requires = answer-some-requires;
+      write-failed-requires = write-failed-requires;
+      same-length-at-then-not-sent-whole = same-length-at-then-not-sent-whole;
+      same-length-at-then-not-sent-whole-2 = same-length-at-then-not-sent-whole-2;
+      same-length-at-then-not-sent-whole-3 = same-length-at-then-not-sent-whole-3;
+      same-length-at-then-not-sent-whole-4 = same-length-at-then-not-sent-whole-4;
+      same-length-at-then-not-sent-whole-5 = same-length-at-then-not-sent-whole-5;
+      returns-at-then-not-sent-whole = returns-at-then-not-sent-whole;
+      add-at-at-else-not-sent-whole = add-at-at-else-not-sent-whole;
+      loop-less-at-else-not-sent-whole = loop-less-at-else-not-sent-whole;
+      loop-again-at-else-not-sent-whole = loop-again-at-else-not-sent-whole;
+      returns-at-exit = returns-at-exit;
+    })

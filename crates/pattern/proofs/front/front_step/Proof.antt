@@ -1,73 +1,85 @@
 -- `front_step` is a step of the definition, at the same place of both. Rests on OneStep and Fronts.
-use Rattle.listing_rules.proofs.Prelude.{_∙_, _≡_, refl, _⊎_, inl, inr, ⊎-elim, _<_, ℕ, arith, needs}
+mod Stages
+use Rattle.listing_rules.proofs.Prelude.{_∙_, _≡_, refl, _⊎_, inl, inr, ⊎-elim, _<_, ℕ, arith}
 use Rattle.pattern.specs.Steps.{givenUpAs, resumedAs, pendingAs}
 use Rattle.pattern.proofs.OneStep.{step-end, step-over, step-star, step-level, step-missed, step-byte, byte-differs}
 use Rattle.pattern.proofs.Fronts.{front-byte, front-led, star-ends, star-begins}
 use Rattle.pattern.proofs.front.front_step.Statement.{statement}
-use Rattle.pattern.proofs.front.front_step.Tie as tie
 
 -- no wildcard is above "/"
 above : (c : ℕ) → 47 < c → (c ≡ 42) ⊎ (c ≡ 37) → ⊥
 above c h e = ⊎-elim (λ f. omega arith) (λ f. omega arith) e
 
-returns : tie.Need-returns
-returns c = front-led (c .leads .ensures) (step-end _ _ _ _ (c .before .before .if1 .taken) (c .before .if2 .taken)) refl
+returns-at-then-i-name-len : Stages.Need-returns-at-then-i-name-len
+returns-at-then-i-name-len c =
+    let at = Stages.returns-at-then-i-name-len c in
+    front-led (at .after-leads .ensures) (step-end _ _ _ _ (at .then-i-pattern-len .taken) (at .then-i-name-len .taken)) refl
 
-returns-2 : tie.Need-returns-2
+returns-at-else-i-name-len : Stages.Need-returns-at-else-i-name-len
 unfolding givenUpAs resumedAs
-returns-2 c = front-led (c .leads2 .ensures) (step-over _ _ _ _ (c .before .before .if1 .taken) (omega arith)) refl
+returns-at-else-i-name-len c =
+    let at = Stages.returns-at-else-i-name-len c in
+    front-led (at .after-leads-at-else-i-name-len .ensures) (step-over _ _ _ _ (at .then-i-pattern-len .taken) (omega arith)) refl
 
-returns-3 : tie.Need-returns-3
-returns-3 c =
-    let after-letter = c .before .before .before .before in
-    front-led (c .leads3 .ensures)
-    (step-star _ _ _ _ (omega arith) _ (after-letter .letter .ensures) (c .before .before .if4 .taken) ∙ star-ends _ _ _ (c .before .if5 .taken)) refl
+returns-at-then-i-1-pattern-len : Stages.Need-returns-at-then-i-1-pattern-len
+returns-at-then-i-1-pattern-len c =
+    let at = Stages.returns-at-then-i-1-pattern-len c in
+    front-led (at .after-leads-at-then-i-1-pattern-len .ensures)
+    (step-star _ _ _ _ (omega arith) _ (at .after-letter .ensures) (at .then-c-star .taken) ∙ star-ends _ _ _ (at .then-i-1-pattern-len .taken)) refl
 
-returns-4 : tie.Need-returns-4
-returns-4 c =
-    let after-letter = c .before .before .before .before in
-    front-led (c .leads4 .ensures)
-    (step-star _ _ _ _ (omega arith) _ (after-letter .letter .ensures) (c .before .before .if4 .taken) ∙ star-begins _ _ _ (c .before .if5 .left))
+returns-at-else-i-1-pattern-len : Stages.Need-returns-at-else-i-1-pattern-len
+returns-at-else-i-1-pattern-len c =
+    let at = Stages.returns-at-else-i-1-pattern-len c in
+    front-led (at .after-leads-at-else-i-1-pattern-len .ensures)
+    (step-star _ _ _ _ (omega arith) _ (at .after-letter .ensures) (at .then-c-star .taken) ∙ star-begins _ _ _ (at .else-i-1-pattern-len .left))
     refl
 
-returns-5 : tie.Need-returns-5
+returns-at-then-c-percent : Stages.Need-returns-at-then-c-percent
 unfolding pendingAs
-returns-5 c =
-    front-led (c .leads5 .ensures) (step-level _ _ _ _ (omega arith) _ (c .before .before .before .before .letter .ensures) (c .before .if6 .taken))
+returns-at-then-c-percent c =
+    let at = Stages.returns-at-then-c-percent c in
+    front-led (at .after-leads-at-then-c-percent .ensures) (step-level _ _ _ _ (omega arith) _ (at .after-letter .ensures) (at .then-c-percent .taken))
     refl
 
-returns-6 : tie.Need-returns-6
-returns-6 c =
-    let start = c .before .before .before .before .before .before .before .before in
-    let missed = step-missed _ (start .args .pattern .now) _ _ (omega arith) _ (c .before .before .before .letter .ensures) in
-    let at-end = c .before .if7 .taken in
-    front-led (c .leads6 .ensures)
+returns-at-then-i-name-len-2 : Stages.Need-returns-at-then-i-name-len-2
+returns-at-then-i-name-len-2 c =
+    let at = Stages.returns-at-then-i-name-len-2 c in
+    let missed = step-missed _ (at .start .args .pattern .now) _ _ (omega arith) _ (at .after-letter .ensures) in
+    let at-end = at .then-i-name-len-2 .taken in
+    front-led (at .after-leads-at-then-i-name-len-2 .ensures)
     (⊎-elim (λ w. missed (w .1 .left) (w .2 .left) at-end) (λ w. missed (λ e. above _ (w .left) (inl e)) (λ e. above _ (w .left) (inr e)) at-end)
-    (c .before .before .if3 .came)) refl
+    (at .joined-c-slash .came)) refl
 
-returns-7 : tie.Need-returns-7
+returns-at-then-c-name-i : Stages.Need-returns-at-then-c-name-i
 unfolding givenUpAs resumedAs
-returns-7 c =
-    let start = c .before .before .before .before .before .before .before .before .before .before in
-    let byte = step-byte _ (start .args .pattern .now) _ _ (omega arith) _ (c .before .before .before .before .before .letter .ensures) in
-    front-led (c .leads7 .ensures)
+returns-at-then-c-name-i c =
+    let at = Stages.returns-at-then-c-name-i c in
+    let byte = step-byte _ (at .start .args .pattern .now) _ _ (omega arith) _ (at .after-letter .ensures) in
+    front-led (at .after-leads-at-then-c-name-i .ensures)
     (⊎-elim (λ w. byte (w .1 .left) (w .2 .left) (omega arith))
     (λ w. byte (λ e. above _ (w .left) (inl e)) (λ e. above _ (w .left) (inr e)) (omega arith))
-    (c .before .before .before .before .if3 .came)
-    ∙ byte-differs _ _ _ (c .before .if8 .taken)) refl
+    (at .joined-c-slash .came)
+    ∙ byte-differs _ _ _ (at .then-c-name-i .taken)) refl
 
-returns-8 : tie.Need-returns-8
-returns-8 c =
-    let start = c .before .before .before .before .before .before .before .before .before .before in
-    let byte = step-byte _ (start .args .pattern .now) _ _ (omega arith) _ (c .before .before .before .before .before .letter .ensures) in
-    front-led (c .leads8 .ensures)
+returns-at-else-c-name-i : Stages.Need-returns-at-else-c-name-i
+returns-at-else-c-name-i c =
+    let at = Stages.returns-at-else-c-name-i c in
+    let byte = step-byte _ (at .start .args .pattern .now) _ _ (omega arith) _ (at .after-letter .ensures) in
+    front-led (at .after-leads-at-else-c-name-i .ensures)
     (⊎-elim (λ w. byte (w .1 .left) (w .2 .left) (omega arith))
     (λ w. byte (λ e. above _ (w .left) (inl e)) (λ e. above _ (w .left) (inr e)) (omega arith))
-    (c .before .before .before .before .if3 .came)
+    (at .joined-c-slash .came)
     ∙ front-byte _ _ _ _ (omega arith)) refl
 
 pub front-step-spec : {M : Type 1} → statement M
 front-step-spec =
-    tie.close (tie.spec (λ c κs. search needs) returns (λ c κs. search needs) returns-2 (λ c. search needs) (λ c κs. search needs) (λ c. search needs)
-    (λ c κs. search needs) returns-3 (λ c κs. search needs) returns-4 (λ c κs. search needs) returns-5 (λ c κs. search needs) returns-6
-    (λ c. search needs) (λ c κs. search needs) returns-7 (λ c. search needs) (λ c κs. search needs) returns-8)
+    Stages.close (record {
+      returns-at-then-i-name-len = returns-at-then-i-name-len;
+      returns-at-else-i-name-len = returns-at-else-i-name-len;
+      returns-at-then-i-1-pattern-len = returns-at-then-i-1-pattern-len;
+      returns-at-else-i-1-pattern-len = returns-at-else-i-1-pattern-len;
+      returns-at-then-c-percent = returns-at-then-c-percent;
+      returns-at-then-i-name-len-2 = returns-at-then-i-name-len-2;
+      returns-at-then-c-name-i = returns-at-then-c-name-i;
+      returns-at-else-c-name-i = returns-at-else-c-name-i;
+    })

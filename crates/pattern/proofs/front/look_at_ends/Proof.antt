@@ -1,25 +1,24 @@
 -- `look_at_ends` is the definition, by the bytes at the last places. Rests on OneStep.
-use Rattle.listing_rules.proofs.Prelude.{needs}
+mod Stages
 use Rattle.pattern.specs.Steps.{apart}
 use Rattle.pattern.proofs.OneStep.{looked-apart, looked-alike}
 use Rattle.pattern.proofs.front.look_at_ends.Statement.{statement}
-use Rattle.pattern.proofs.front.look_at_ends.Tie as tie
 
-returns : tie.Need-returns
+returns-at-then-c-name-name-len : Stages.Need-returns-at-then-c-name-name-len
 unfolding apart
-returns c =
-    let after-letter = c .before .before .before in
-    let start = after-letter .before .before .before .before in
-    looked-apart _ _ _ (start .args .at) _ (after-letter .letter .ensures) (c .before .if1 .taken) (c .leads .ensures)
+returns-at-then-c-name-name-len c =
+    let at = Stages.returns-at-then-c-name-name-len c in
+    looked-apart _ _ _ (at .start .args .at) _ (at .after-letter .ensures) (at .then-c-name-name-len .taken) (at .after-leads .ensures)
 
-returns-2 : tie.Need-returns-2
+returns-at-else-c-name-name-len : Stages.Need-returns-at-else-c-name-name-len
 unfolding apart
-returns-2 c =
-    let after-letter = c .before .before .before in
-    let start = after-letter .before .before .before .before in
-    looked-alike _ _ _ (start .args .at) _ (after-letter .letter .ensures) (c .before .if1 .left) (c .leads2 .ensures)
+returns-at-else-c-name-name-len c =
+    let at = Stages.returns-at-else-c-name-name-len c in
+    looked-alike _ _ _ (at .start .args .at) _ (at .after-letter .ensures) (at .else-c-name-name-len .left) (at .after-leads-at-else-c-name-name-len .ensures)
 
 pub look-at-ends-spec : {M : Type 1} → statement M
 look-at-ends-spec =
-    tie.close (tie.spec (λ c. search needs) (λ c. search needs) (λ c κs. search needs) (λ c. search needs) (λ c. search needs) (λ c κs. search needs)
-    returns (λ c κs. search needs) returns-2)
+    Stages.close (record {
+      returns-at-then-c-name-name-len = returns-at-then-c-name-name-len;
+      returns-at-else-c-name-name-len = returns-at-else-c-name-name-len;
+    })

@@ -1,99 +1,100 @@
 -- `run_steps` meets its contract: between two steps the match stands, and fewer steps are left after each. Rests on Running and
 -- Fronts.
-use Rattle.listing_rules.proofs.Prelude.{_∙_, sym, arith, needs}
+mod Loops
+mod Stages
+use Rattle.listing_rules.proofs.Prelude.{_∙_, sym, arith}
 use Rattle.pattern.specs.declared.steps.Going.the-variants.{On, Matched, Missed}
-use Rattle.pattern.specs.Steps.{frontAt}
-use Rattle.pattern.proofs.Stepping.{dueAt}
-use Rattle.pattern.proofs.Running.{Turn, turn-inside, turn-less, turn-next}
+use Rattle.pattern.proofs.Running.{turn-inside, turn-less, turn-next}
 use Rattle.pattern.proofs.Fronts.{first-turn, first-over, front-over, front-wild, front-next, front-less}
 use Rattle.pattern.proofs.run.run_steps.Statement.{statement}
-use Rattle.pattern.proofs.run.run_steps.Tie as tie
 
-abbrev Inv-loop : tie.InvT-loop
-Inv-loop pattern name fold front₀ front = Turn fold pattern name (frontAt (front .i) (front .steps))
+returns-at-then-front-is-over : Stages.Need-returns-at-then-front-is-over
+returns-at-then-front-is-over c =
+    let at = Stages.returns-at-then-front-is-over c in
+    rw (at .after-answer .ensures) (first-over _ _ _ _ (at .after-first-step .ensures)
+    (sym (at .after-is-over .ensures) ∙ at .then-front-is-over .taken))
 
-abbrev μ-loop : tie.MeasureT-loop
-μ-loop pattern name fold front₀ front = dueAt fold pattern name (frontAt (front .i) (front .steps))
+loop-holds-at-else-front-is-over : Stages.Need-loop-holds-at-else-front-is-over
+loop-holds-at-else-front-is-over c =
+    let at = Stages.loop-holds-at-else-front-is-over c in
+    first-turn _ _ _ _ (at .after-first-step .ensures) (sym (at .after-is-over .ensures) ∙ at .else-front-is-over .left)
 
-abbrev Inv-loop2 : tie.InvT-loop2
-Inv-loop2 pattern name fold back at₀ at = Turn fold pattern name at
+front-step-requires : Stages.Need-front-step-requires
+front-step-requires c κs = let h = turn-inside _ _ _ _ (Stages.front-step-requires c .head .inv) in (h .pattern, h .name)
 
-abbrev μ-loop2 : tie.MeasureT-loop2
-μ-loop2 pattern name fold back at₀ at = dueAt fold pattern name at
+loop-less-at-else-front-ends : Stages.Need-loop-less-at-else-front-ends
+loop-less-at-else-front-ends c =
+    let at = Stages.loop-less-at-else-front-ends c in
+    front-less _ _ _ _ (at .head .inv) (at .after-front-step .result) (at .after-front-step .ensures)
+    (sym (at .after-ends .ensures) ∙ at .else-front-ends .left)
 
-returns : tie.Need-returns Inv-loop μ-loop Inv-loop2 μ-loop2
-returns c =
-    let after-first-step = c .before .before .before in
-    rw (c .answer .ensures) (first-over _ _ _ _ (after-first-step .first-step .ensures)
-    (sym (c .before .before .is-over .ensures) ∙ c .before .if1 .taken))
+loop-again-at-else-front-ends : Stages.Need-loop-again-at-else-front-ends
+loop-again-at-else-front-ends c =
+    let at = Stages.loop-again-at-else-front-ends c in
+    front-next _ _ _ _ (at .head .inv) (at .after-front-step .result) (at .after-front-step .ensures)
+    (sym (at .after-ends .ensures) ∙ at .else-front-ends .left)
 
-loop-holds : tie.Need-loop-holds Inv-loop μ-loop Inv-loop2 μ-loop2
-loop-holds c = first-turn _ _ _ _ (c .before .before .first-step .ensures) (sym (c .before .is-over .ensures) ∙ c .if1 .left)
+returns-at-then-front-is-over-2 : Stages.Need-returns-at-then-front-is-over-2
+returns-at-then-front-is-over-2 c =
+    let at = Stages.returns-at-then-front-is-over-2 c in
+    let over = sym (at .after-is-over-at-then-front-ends .ensures) ∙ at .then-front-is-over-2 .taken in
+    rw (at .after-answer-at-then-front-is-over-2 .ensures) (front-over _ _ _ _ (at .head .inv) (at .after-front-step .result) (at .after-front-step .ensures) over)
 
-front-step-requires : tie.Need-front-step-requires Inv-loop μ-loop Inv-loop2 μ-loop2
-front-step-requires c κs = let h = turn-inside _ _ _ _ (c .loop .inv) in (h .pattern, h .name)
+add-back-at-else-front-is-over-2 : Stages.Need-add-back-at-else-front-is-over-2
+add-back-at-else-front-is-over-2 c =
+    let at = Stages.add-back-at-else-front-is-over-2 c in
+    let over = sym (at .after-is-over-at-then-front-ends .ensures) ∙ at .else-front-is-over-2 .left in
+    let ends = sym (at .after-ends .ensures) ∙ at .then-front-ends .taken in
+    let turn = front-wild _ _ _ _ (at .head .inv) (at .after-front-step .result) (at .after-front-step .ensures) ends over in
+    omega (arith, turn-inside _ _ _ _ turn .pattern, at .start .good)
 
-loop-less : tie.Need-loop-less Inv-loop μ-loop Inv-loop2 μ-loop2
-loop-less c =
-    let step = c .before .before in
-    front-less _ _ _ _ (step .before .loop .inv) (step .front-step .result) (step .front-step .ensures)
-    (sym (c .before .ends .ensures) ∙ c .if2 .left)
+loop2-holds-at-else-front-is-over-2 : Stages.Need-loop2-holds-at-else-front-is-over-2
+loop2-holds-at-else-front-is-over-2 c =
+    let at = Stages.loop2-holds-at-else-front-is-over-2 c in
+    let over = sym (at .after-is-over-at-then-front-ends .ensures) ∙ at .else-front-is-over-2 .left in
+    let ends = sym (at .after-ends .ensures) ∙ at .then-front-ends .taken in
+    rw (at .after-wildcard .ensures)
+    (front-wild _ _ _ _ (at .head .inv) (at .after-front-step .result) (at .after-front-step .ensures) ends over)
 
-loop-again : tie.Need-loop-again Inv-loop μ-loop Inv-loop2 μ-loop2
-loop-again c =
-    let step = c .before .before in
-    front-next _ _ _ _ (step .before .loop .inv) (step .front-step .result) (step .front-step .ensures)
-    (sym (c .before .ends .ensures) ∙ c .if2 .left)
+step-requires : Stages.Need-step-requires
+step-requires c κs = turn-inside _ _ _ _ (Stages.step-requires c .head-loop .inv)
 
-returns-2 : tie.Need-returns-2 Inv-loop μ-loop Inv-loop2 μ-loop2
-returns-2 c =
-    let over = sym (c .before .before .is-over2 .ensures) ∙ c .before .if3 .taken in
-    let step = c .before .before .before .before .before in
-    rw (c .answer2 .ensures) (front-over _ _ _ _ (step .before .loop .inv) (step .front-step .result) (step .front-step .ensures) over)
+loop2-less-at-arm-going-on : Stages.Need-loop2-less-at-arm-going-on
+loop2-less-at-arm-going-on c =
+    let at = Stages.loop2-less-at-arm-going-on c in
+    turn-less _ _ _ _ (at .head-loop .inv) _ (at .after-step .ensures) (at .arm-going-on-enum-told .given .1)
 
-add-back : tie.Need-add-back Inv-loop μ-loop Inv-loop2 μ-loop2
-add-back c =
-    let over = sym (c .before .before .before .is-over2 .ensures) ∙ c .before .before .if3 .left in
-    let at-ends = c .before .before .before .before .before in
-    let ends = sym (at-ends .ends .ensures) ∙ c .before .before .before .before .if2 .taken in
-    let step = at-ends .before in
-    let turn = front-wild _ _ _ _ (step .before .loop .inv) (step .front-step .result) (step .front-step .ensures) ends over in
-    let start = step .before .before .before .before .before .before .before in
-    omega (arith, turn-inside _ _ _ _ turn .pattern, start .good)
+loop2-again-at-arm-going-on : Stages.Need-loop2-again-at-arm-going-on
+loop2-again-at-arm-going-on c =
+    let at = Stages.loop2-again-at-arm-going-on c in
+    turn-next _ _ _ _ (at .head-loop .inv) _ (at .after-step .ensures) On (at .arm-going-on-enum-told .given .1)
 
-loop2-holds : tie.Need-loop2-holds Inv-loop μ-loop Inv-loop2 μ-loop2
-loop2-holds c =
-    let over = sym (c .before .before .before .is-over2 .ensures) ∙ c .before .before .if3 .left in
-    let at-ends = c .before .before .before .before .before in
-    let ends = sym (at-ends .ends .ensures) ∙ c .before .before .before .before .if2 .taken in
-    let step = at-ends .before in
-    rw (c .before .wildcard .ensures)
-    (front-wild _ _ _ _ (step .before .loop .inv) (step .front-step .result) (step .front-step .ensures) ends over)
+returns-at-arm-going-matched : Stages.Need-returns-at-arm-going-matched
+returns-at-arm-going-matched c =
+    let at = Stages.returns-at-arm-going-matched c in
+    rw (at .after-answer-at-arm-going-matched .ensures) (turn-next _ _ _ _ (at .head-loop .inv) _ (at .after-step .ensures) Matched
+    (at .arm-going-matched-enum-told .given .1))
 
-step-requires : tie.Need-step-requires Inv-loop μ-loop Inv-loop2 μ-loop2
-step-requires c κs = turn-inside _ _ _ _ (c .loop2 .inv)
-
-loop2-less : tie.Need-loop2-less Inv-loop μ-loop Inv-loop2 μ-loop2
-loop2-less c = turn-less _ _ _ _ (c .before .before .before .loop2 .inv) _ (c .before .before .step .ensures) (c .enum-told .given .1)
-
-loop2-again : tie.Need-loop2-again Inv-loop μ-loop Inv-loop2 μ-loop2
-loop2-again c = turn-next _ _ _ _ (c .before .before .before .loop2 .inv) _ (c .before .before .step .ensures) On (c .enum-told .given .1)
-
-returns-3 : tie.Need-returns-3 Inv-loop μ-loop Inv-loop2 μ-loop2
-returns-3 c =
-    let after-step = c .before .before .before in
-    rw (c .answer3 .ensures) (turn-next _ _ _ _ (after-step .before .loop2 .inv) _ (after-step .step .ensures) Matched
-    (c .before .enum-told2 .given .1))
-
-returns-4 : tie.Need-returns-4 Inv-loop μ-loop Inv-loop2 μ-loop2
-returns-4 c =
-    let after-step = c .before .before .before in
-    rw (c .answer4 .ensures) (turn-next _ _ _ _ (after-step .before .loop2 .inv) _ (after-step .step .ensures) Missed
-    (c .before .enum-told3 .given .1))
+returns-at-arm-going-missed : Stages.Need-returns-at-arm-going-missed
+returns-at-arm-going-missed c =
+    let at = Stages.returns-at-arm-going-missed c in
+    rw (at .after-answer-at-arm-going-missed .ensures) (turn-next _ _ _ _ (at .head-loop .inv) _ (at .after-step .ensures) Missed
+    (at .arm-going-missed-enum-told .given .1))
 
 pub run-steps-spec : {M : Type 1} → statement M
 run-steps-spec =
-    tie.close (tie.spec Inv-loop μ-loop Inv-loop2 μ-loop2 (λ c κs. search needs) (λ c κs. search needs) (λ c κs. search needs) returns loop-holds
-    front-step-requires (λ c κs. search needs) loop-less loop-again (λ c κs. search needs) (λ c κs. search needs) returns-2 (λ c κs. search needs)
-    add-back loop2-holds step-requires (λ c. search needs) loop2-less loop2-again (λ c. search needs) (λ c κs. search needs) returns-3
-    (λ c. search needs) (λ c κs. search needs) returns-4)
+    Stages.close (record {
+      returns-at-then-front-is-over = returns-at-then-front-is-over;
+      loop-holds-at-else-front-is-over = loop-holds-at-else-front-is-over;
+      front-step-requires = front-step-requires;
+      loop-less-at-else-front-ends = loop-less-at-else-front-ends;
+      loop-again-at-else-front-ends = loop-again-at-else-front-ends;
+      returns-at-then-front-is-over-2 = returns-at-then-front-is-over-2;
+      add-back-at-else-front-is-over-2 = add-back-at-else-front-is-over-2;
+      loop2-holds-at-else-front-is-over-2 = loop2-holds-at-else-front-is-over-2;
+      step-requires = step-requires;
+      loop2-less-at-arm-going-on = loop2-less-at-arm-going-on;
+      loop2-again-at-arm-going-on = loop2-again-at-arm-going-on;
+      returns-at-arm-going-matched = returns-at-arm-going-matched;
+      returns-at-arm-going-missed = returns-at-arm-going-missed;
+    })

@@ -1,16 +1,19 @@
 -- `one_more` is the definition: the sum, up to the largest number.
-use Rattle.listing_rules.proofs.Prelude.{arith, needs}
+mod Stages
+use Rattle.listing_rules.proofs.Prelude.{arith}
 use Rattle.pattern.specs.Steps.{capped}
 use Rattle.pattern.proofs.steps.one_more.Statement.{statement}
-use Rattle.pattern.proofs.steps.one_more.Tie as tie
 
-returns : tie.Need-returns
+returns-at-then-steps-max : Stages.Need-returns-at-then-steps-max
 unfolding capped
-returns c = omega arith
+returns-at-then-steps-max c = omega arith
 
-returns-2 : tie.Need-returns-2
+returns-at-else-steps-max : Stages.Need-returns-at-else-steps-max
 unfolding capped
-returns-2 c = omega arith
+returns-at-else-steps-max c = omega arith
 
 pub one-more-spec : {M : Type 1} → statement M
-one-more-spec = tie.close (tie.spec returns (λ c. search needs) returns-2)
+one-more-spec = Stages.close (record {
+  returns-at-then-steps-max = returns-at-then-steps-max;
+  returns-at-else-steps-max = returns-at-else-steps-max;
+})

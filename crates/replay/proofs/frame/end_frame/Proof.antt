@@ -1,47 +1,48 @@
 -- `replay::frame::end_frame` meets its contract: a command or an answer, whichever is due. By FrameLaws.
-use Rattle.listing_rules.proofs.Prelude.{_≡_, arith, length-take, length-take-le, needs}
+mod Stages
+use Rattle.listing_rules.proofs.Prelude.{_≡_, arith, length-take, length-take-le}
 use Rattle.replay.proofs.FrameLaws.{asks-goes, settles-goes}
 use Rattle.replay.proofs.frame.end_frame.Statement.{statement}
-use Rattle.replay.proofs.frame.end_frame.Tie as tie
 
-slice-aggregate-text : tie.Need-slice-aggregate-text
-slice-aggregate-text c =
-    let after-pre = c .before .before .before .before .before .before .before in
-    simp length-take (omega (arith, after-pre .pre))
+slice-aggregate-text-at-start : Stages.Need-slice-aggregate-text-at-start
+slice-aggregate-text-at-start c =
+    let at = Stages.slice-aggregate-text-at-start c in
+    simp length-take (omega (arith, at .start .pre))
 
-returns : tie.Need-returns
-returns c =
-    let at-if1 = c .before .before .before .before in
-    let start = at-if1 .before .before .before .before .before .before .before .before in
-    asks-goes (start .args .namespaces .now) (start .args .words .now) (start .args .sums .now) (start .args .area .now) (start .args .pending .now)
-    (start .args .line .now) _ _ _ (start .pre .0) (at-if1 .if1 .taken) (start .pre .1 .1 .1 .1 .0) (c .before .before .ask .ensures)
+returns-at-then-due-0 : Stages.Need-returns-at-then-due-0
+returns-at-then-due-0 c =
+    let at = Stages.returns-at-then-due-0 c in
+    asks-goes (at .start .args .namespaces .now) (at .start .args .words .now) (at .start .args .sums .now) (at .start .args .area .now) (at .start .args .pending .now)
+    (at .start .args .line .now) _ _ _ (at .start .pre .0) (at .then-due-0 .taken) (at .start .pre .1 .1 .1 .1 .0) (at .after-ask .ensures)
 
-slice-aggregate-settle : tie.Need-slice-aggregate-settle
-slice-aggregate-settle c =
-    let after-pre = c .before .before .before .before .before .before .before .before .before .before .before .before in
-    simp length-take (omega (arith, after-pre .pre))
+slice-aggregate-settle-at-else-due-0 : Stages.Need-slice-aggregate-settle-at-else-due-0
+slice-aggregate-settle-at-else-due-0 c =
+    let at = Stages.slice-aggregate-settle-at-else-due-0 c in
+    simp length-take (omega (arith, at .start .pre))
 
-settle-requires : tie.Need-settle-requires
+settle-requires : Stages.Need-settle-requires
 settle-requires c κs =
-    let at-if1 = c .before .before .before .before in
-    let start = at-if1 .before .before .before .before .before .before .before .before in
-    let due = start .args .state .due in (
-      start .pre .1 .0,
+    let at = Stages.settle-requires c in
+    let due = at .start .args .state .due in (
+      at .start .pre .1 .0,
       (
-        omega (arith, start .pre, at-if1 .if1 .left),
-        omega (arith, at-if1 .if1 .left, length-take-le due (start .args .pending .now) (omega (arith, start .pre))),
+        omega (arith, at .start .pre, at .else-due-0 .left),
+        omega (arith, at .else-due-0 .left, length-take-le due (at .start .args .pending .now) (omega (arith, at .start .pre))),
       ),
     )
 
-returns-2 : tie.Need-returns-2
-returns-2 c =
-    let after-settle = c .before .before .before .before .before .before in
-    let at-if1 = after-settle .before .before .before .before .before in
-    let start = at-if1 .before .before .before .before .before .before .before .before in
-    settles-goes (start .args .namespaces .now) (start .args .words .now) (start .args .sums .now) (start .args .area .now) _ _ _ (start .args .pending .now)
-    (start .args .line .now) _ _ (start .pre .0) (omega (arith, at-if1 .if1 .left)) (omega (arith, start .pre)) (after-settle .settle .ensures)
+returns-at-else-due-0 : Stages.Need-returns-at-else-due-0
+returns-at-else-due-0 c =
+    let at = Stages.returns-at-else-due-0 c in
+    settles-goes (at .start .args .namespaces .now) (at .start .args .words .now) (at .start .args .sums .now) (at .start .args .area .now) _ _ _ (at .start .args .pending .now)
+    (at .start .args .line .now) _ _ (at .start .pre .0) (omega (arith, at .else-due-0 .left)) (omega (arith, at .start .pre)) (at .after-settle .ensures)
 
 pub end-frame-spec : {M : Type 1} → statement M
 end-frame-spec =
-    tie.close (tie.spec slice-aggregate-text (λ c κs. search needs) (λ c. search needs) returns (λ c. search needs) slice-aggregate-settle settle-requires
-    (λ c. search needs) (λ c. search needs) (λ c. search needs) (λ c. search needs) returns-2)
+    Stages.close (record {
+      slice-aggregate-text-at-start = slice-aggregate-text-at-start;
+      returns-at-then-due-0 = returns-at-then-due-0;
+      slice-aggregate-settle-at-else-due-0 = slice-aggregate-settle-at-else-due-0;
+      settle-requires = settle-requires;
+      returns-at-else-due-0 = returns-at-else-due-0;
+    })

@@ -1,20 +1,24 @@
 -- `replay::frame::is_answer` meets its contract, case by case.
-use Rattle.listing_rules.proofs.Prelude.{_≡_, ap, sym, needs}
+mod Stages
+use Rattle.listing_rules.proofs.Prelude.{_≡_, ap, sym}
 use Rattle.replay.specs.Framing.{isAnswer}
 use Rattle.replay.proofs.frame.is_answer.Statement.{statement}
-use Rattle.replay.proofs.frame.is_answer.Tie as tie
 
-returns : tie.Need-returns
+returns-at-arm-recorded-answer : Stages.Need-returns-at-arm-recorded-answer
 unfolding isAnswer
-returns c = sym (ap isAnswer (c .enum-told .given .1))
+returns-at-arm-recorded-answer c = sym (ap isAnswer (Stages.returns-at-arm-recorded-answer c .arm-recorded-answer-enum-told .given .1))
 
-returns-2 : tie.Need-returns-2
+returns-at-arm-recorded-number : Stages.Need-returns-at-arm-recorded-number
 unfolding isAnswer
-returns-2 c = sym (ap isAnswer (c .enum-told2 .given .1))
+returns-at-arm-recorded-number c = sym (ap isAnswer (Stages.returns-at-arm-recorded-number c .arm-recorded-number-enum-told .given .1))
 
-returns-3 : tie.Need-returns-3
+returns-at-arm-recorded-other : Stages.Need-returns-at-arm-recorded-other
 unfolding isAnswer
-returns-3 c = sym (ap isAnswer (c .enum-told3 .given .1))
+returns-at-arm-recorded-other c = sym (ap isAnswer (Stages.returns-at-arm-recorded-other c .arm-recorded-other-enum-told .given .1))
 
 pub is-answer-spec : {M : Type 1} → statement M
-is-answer-spec = tie.close (tie.spec (λ c. search needs) (λ c. search needs) (λ c. search needs) returns returns-2 returns-3)
+is-answer-spec = Stages.close (record {
+  returns-at-arm-recorded-answer = returns-at-arm-recorded-answer;
+  returns-at-arm-recorded-number = returns-at-arm-recorded-number;
+  returns-at-arm-recorded-other = returns-at-arm-recorded-other;
+})

@@ -1,31 +1,39 @@
 -- `criteria` meets its contract: each test is the option's (`OptionLaws`).
-use Rattle.listing_rules.proofs.Prelude.{_∙_, sym, needs}
+mod Stages
+use Rattle.listing_rules.proofs.Prelude.{_∙_, sym}
 use Rattle.collector.specs.Options.{criteriaOf}
 use Rattle.collector.proofs.OptionLaws.{has-special, has-dropped}
 use Rattle.collector.proofs.options.OptionByte.criteria.Statement.{statement}
-use Rattle.collector.proofs.options.OptionByte.criteria.Tie as tie
 
-returns : tie.Need-returns
+returns-at-then-has-optionbyte-without-subscribed : Stages.Need-returns-at-then-has-optionbyte-without-subscribed
 unfolding criteriaOf
-returns c =
-    let start = c .before .before in
-    rw (sym (has-dropped (start .args .self .bits)) ∙ sym (c .before .has .ensures) ∙ c .if1 .taken)
+returns-at-then-has-optionbyte-without-subscribed c =
+    let at = Stages.returns-at-then-has-optionbyte-without-subscribed c in
+    rw (sym (has-dropped (at .start .args .self .bits)) ∙ sym (at .after-has .ensures) ∙ at .then-has-optionbyte-without-subscribed .taken)
 
-returns-2 : tie.Need-returns-2
+returns-at-then-has-optionbyte-special-use : Stages.Need-returns-at-then-has-optionbyte-special-use
 unfolding criteriaOf
-returns-2 c =
-    let left = c .before .before in
-    let start = left .before .before in
-    let byte = start .args .self .bits in
-    rw (sym (has-dropped byte) ∙ sym (left .before .has .ensures) ∙ left .if1 .left, sym (has-special byte) ∙ sym (c .before .has2 .ensures) ∙ c .if2 .taken)
+returns-at-then-has-optionbyte-special-use c =
+    let at = Stages.returns-at-then-has-optionbyte-special-use c in
+    let byte = at .start .args .self .bits in
+    rw (
+      sym (has-dropped byte) ∙ sym (at .after-has .ensures) ∙ at .else-has-optionbyte-without-subscribed .left,
+      sym (has-special byte) ∙ sym (at .after-has-at-else-has-optionbyte-without-subscribed .ensures) ∙ at .then-has-optionbyte-special-use .taken,
+    )
 
-returns-3 : tie.Need-returns-3
+returns-at-else-has-optionbyte-special-use : Stages.Need-returns-at-else-has-optionbyte-special-use
 unfolding criteriaOf
-returns-3 c =
-    let left = c .before .before in
-    let start = left .before .before in
-    let byte = start .args .self .bits in
-    rw (sym (has-dropped byte) ∙ sym (left .before .has .ensures) ∙ left .if1 .left, sym (has-special byte) ∙ sym (c .before .has2 .ensures) ∙ c .if2 .left)
+returns-at-else-has-optionbyte-special-use c =
+    let at = Stages.returns-at-else-has-optionbyte-special-use c in
+    let byte = at .start .args .self .bits in
+    rw (
+      sym (has-dropped byte) ∙ sym (at .after-has .ensures) ∙ at .else-has-optionbyte-without-subscribed .left,
+      sym (has-special byte) ∙ sym (at .after-has-at-else-has-optionbyte-without-subscribed .ensures) ∙ at .else-has-optionbyte-special-use .left,
+    )
 
 pub criteria-spec : {M : Type 1} → statement M
-criteria-spec = tie.close (tie.spec (λ c κs. search needs) returns (λ c κs. search needs) returns-2 returns-3)
+criteria-spec = Stages.close (record {
+  returns-at-then-has-optionbyte-without-subscribed = returns-at-then-has-optionbyte-without-subscribed;
+  returns-at-then-has-optionbyte-special-use = returns-at-then-has-optionbyte-special-use;
+  returns-at-else-has-optionbyte-special-use = returns-at-else-has-optionbyte-special-use;
+})

@@ -1,16 +1,18 @@
 -- `lawful` meets its contract: each test is the option's (`OptionLaws`).
-use Rattle.listing_rules.proofs.Prelude.{_∙_, _&&_, _||_, not, leb, needs}
+mod Stages
+use Rattle.listing_rules.proofs.Prelude.{_∙_, _&&_, _||_, not, leb}
 use Rattle.listing_rules.specs.Walk.{lawfulByte}
 use Rattle.collector.proofs.OptionLaws.{has-special, has-dropped}
 use Rattle.collector.proofs.options.OptionByte.lawful.Statement.{statement}
-use Rattle.collector.proofs.options.OptionByte.lawful.Tie as tie
 
-returns : tie.Need-returns
+returns-at-start : Stages.Need-returns-at-start
 unfolding lawfulByte
-returns c =
-    let start = c .before .before .before .before in
-    let byte = start .args .self .bits in
-    λ i. leb byte 7 && (not ((c .before .has .ensures ∙ has-dropped byte) i) || (c .has2 .ensures ∙ has-special byte) i)
+returns-at-start c =
+    let at = Stages.returns-at-start c in
+    let byte = at .start .args .self .bits in
+    λ i. leb byte 7 && (not ((at .after-has .ensures ∙ has-dropped byte) i) || (at .after-has-beside .ensures ∙ has-special byte) i)
 
 pub lawful-spec : {M : Type 1} → statement M
-lawful-spec = tie.close (tie.spec (λ c κs. search needs) (λ c κs. search needs) returns)
+lawful-spec = Stages.close (record {
+  returns-at-start = returns-at-start;
+})

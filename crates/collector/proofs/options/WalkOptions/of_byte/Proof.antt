@@ -1,23 +1,25 @@
 -- `of_byte` meets its contract: what a lawful byte asks for (`OptionLaws`).
-use Rattle.listing_rules.proofs.Prelude.{_∙_, sym, not-false, not-true, needs}
+mod Stages
+use Rattle.listing_rules.proofs.Prelude.{_∙_, sym, not-false, not-true}
 use Rattle.collector.specs.Options.{askedBy}
 use Rattle.collector.specs.declared.options.Asked.the-variants.{Of}
 use Rattle.collector.proofs.OptionLaws.{has-remote, unlawful-asks}
 use Rattle.collector.proofs.options.WalkOptions.of_byte.Statement.{statement}
-use Rattle.collector.proofs.options.WalkOptions.of_byte.Tie as tie
 
-returns : tie.Need-returns
-returns c =
-    let start = c .before .before in
-    sym (unlawful-asks (start .args .byte) (sym (c .before .lawful .ensures) ∙ not-true _ (c .if1 .taken)))
+returns-at-then-not-set-lawful : Stages.Need-returns-at-then-not-set-lawful
+returns-at-then-not-set-lawful c =
+    let at = Stages.returns-at-then-not-set-lawful c in
+    sym (unlawful-asks (at .start .args .byte) (sym (at .after-lawful .ensures) ∙ not-true _ (at .then-not-set-lawful .taken)))
 
-returns-2 : tie.Need-returns-2
+returns-at-else-not-set-lawful : Stages.Need-returns-at-else-not-set-lawful
 unfolding askedBy
-returns-2 c =
-    let lawful = c .before .before in
-    let start = lawful .before .before in
-    rw (sym (lawful .before .lawful .ensures) ∙ not-false _ (lawful .if1 .left))
-    (λ i. Of (record { criteria = c .before .criteria .ensures i; remote = (c .has .ensures ∙ has-remote (start .args .byte)) i }))
+returns-at-else-not-set-lawful c =
+    let at = Stages.returns-at-else-not-set-lawful c in
+    rw (sym (at .after-lawful .ensures) ∙ not-false _ (at .else-not-set-lawful .left))
+    (λ i. Of (record { criteria = at .after-criteria .ensures i; remote = (at .after-has .ensures ∙ has-remote (at .start .args .byte)) i }))
 
 pub of-byte-spec : {M : Type 1} → statement M
-of-byte-spec = tie.close (tie.spec (λ c κs. search needs) returns (λ c κs. search needs) (λ c κs. search needs) returns-2)
+of-byte-spec = Stages.close (record {
+  returns-at-then-not-set-lawful = returns-at-then-not-set-lawful;
+  returns-at-else-not-set-lawful = returns-at-else-not-set-lawful;
+})

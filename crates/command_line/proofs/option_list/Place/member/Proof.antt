@@ -1,13 +1,19 @@
 -- `Place::member`: a word means what `selected` or `returned` says of it, by the place. Rests on their promises.
-use Rattle.listing_rules.proofs.Prelude.{needs}
+mod Stages
 use Rattle.command_line.proofs.option_list.Place.member.Statement.{statement}
-use Rattle.command_line.proofs.option_list.Place.member.Tie as tie
 
-returns : tie.Need-returns
-returns c = rw (c .before .enum-told .given .1) (c .selected .ensures)
+returns-at-arm-place-selection : Stages.Need-returns-at-arm-place-selection
+returns-at-arm-place-selection c =
+    let at = Stages.returns-at-arm-place-selection c in
+    rw (at .arm-place-selection-enum-told .given .1) (at .after-selected .ensures)
 
-returns-2 : tie.Need-returns-2
-returns-2 c = rw (c .before .enum-told2 .given .1) (c .returned .ensures)
+returns-at-arm-place-return : Stages.Need-returns-at-arm-place-return
+returns-at-arm-place-return c =
+    let at = Stages.returns-at-arm-place-return c in
+    rw (at .arm-place-return-enum-told .given .1) (at .after-returned .ensures)
 
 pub member-spec : {M : Type 1} → statement M
-member-spec = tie.close (tie.spec (λ c. search needs) (λ c κs. search needs) (λ c. search needs) (λ c κs. search needs) returns returns-2)
+member-spec = Stages.close (record {
+  returns-at-arm-place-selection = returns-at-arm-place-selection;
+  returns-at-arm-place-return = returns-at-arm-place-return;
+})

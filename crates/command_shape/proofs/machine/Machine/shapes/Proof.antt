@@ -1,48 +1,49 @@
 -- `Machine::shapes` is the definition: a byte that may not stand there, and else the signal of the step.
-use Rattle.listing_rules.proofs.Prelude.{_∙_, ap, sym, not-false, not-true, needs}
+mod Stages
+use Rattle.listing_rules.proofs.Prelude.{_∙_, ap, sym, not-false, not-true}
 use Rattle.command_shape.specs.declared.machine.Stepped.{Stepped}
 use Rattle.command_shape.specs.declared.shaping.Shaping.the-variants.{Further}
 use Rattle.command_shape.specs.Shaping.{shapeStep, shapingAs}
 use Rattle.command_shape.proofs.machine.Machine.shapes.Statement.{statement}
-use Rattle.command_shape.proofs.machine.Machine.shapes.Tie as tie
 
-returns : tie.Need-returns
+returns-at-then-not-allows : Stages.Need-returns-at-then-not-allows
 unfolding shapeStep shapingAs
-returns c = rw (sym (c .before .allows .ensures) ∙ not-true _ (c .if1 .taken))
+returns-at-then-not-allows c =
+    let at = Stages.returns-at-then-not-allows c in
+    rw (sym (at .after-allows .ensures) ∙ not-true _ (at .then-not-allows .taken))
 
-returns-2 : tie.Need-returns-2
+returns-at-arm-signal-quiet : Stages.Need-returns-at-arm-signal-quiet
 unfolding shapeStep shapingAs
-returns-2 c =
-    let after-step = c .before .before .before in
-    let at-if1 = after-step .before in
-    let after-allows = at-if1 .before in
-    rw (sym (after-allows .allows .ensures) ∙ not-false _ (at-if1 .if1 .left), sym (ap (λ (x : Stepped). x .signal) (after-step .step .ensures)) ∙ c .enum-told .given .1)
-    (ap (λ (x : Stepped). Further (x .machine)) (after-step .step .ensures))
+returns-at-arm-signal-quiet c =
+    let at = Stages.returns-at-arm-signal-quiet c in
+    rw (sym (at .after-allows .ensures) ∙ not-false _ (at .else-not-allows .left), sym (ap (λ (x : Stepped). x .signal) (at .after-step .ensures)) ∙ at .arm-signal-quiet-enum-told .given .1)
+    (ap (λ (x : Stepped). Further (x .machine)) (at .after-step .ensures))
 
-returns-3 : tie.Need-returns-3
+returns-at-arm-signal-goon : Stages.Need-returns-at-arm-signal-goon
 unfolding shapeStep shapingAs
-returns-3 c =
-    let after-step = c .before .before .before in
-    let at-if1 = after-step .before in
-    let after-allows = at-if1 .before in
-    rw (sym (after-allows .allows .ensures) ∙ not-false _ (at-if1 .if1 .left), sym (ap (λ (x : Stepped). x .signal) (after-step .step .ensures)) ∙ c .enum-told2 .given .1)
-    (ap (λ (x : Stepped). Further (x .machine)) (after-step .step .ensures))
+returns-at-arm-signal-goon c =
+    let at = Stages.returns-at-arm-signal-goon c in
+    rw (sym (at .after-allows .ensures) ∙ not-false _ (at .else-not-allows .left), sym (ap (λ (x : Stepped). x .signal) (at .after-step .ensures)) ∙ at .arm-signal-goon-enum-told .given .1)
+    (ap (λ (x : Stepped). Further (x .machine)) (at .after-step .ensures))
 
-returns-4 : tie.Need-returns-4
+returns-at-arm-signal-whole : Stages.Need-returns-at-arm-signal-whole
 unfolding shapeStep shapingAs
-returns-4 c =
-    let at-if1 = c .before .before .before .before in
-    let after-allows = at-if1 .before in
-    rw (sym (after-allows .allows .ensures) ∙ not-false _ (at-if1 .if1 .left), sym (ap (λ (x : Stepped). x .signal) (c .before .before .before .step .ensures)) ∙ c .enum-told3 .given .1)
+returns-at-arm-signal-whole c =
+    let at = Stages.returns-at-arm-signal-whole c in
+    rw (sym (at .after-allows .ensures) ∙ not-false _ (at .else-not-allows .left), sym (ap (λ (x : Stepped). x .signal) (at .after-step .ensures)) ∙ at .arm-signal-whole-enum-told .given .1)
 
-returns-5 : tie.Need-returns-5
+returns-at-arm-signal-refused : Stages.Need-returns-at-arm-signal-refused
 unfolding shapeStep shapingAs
-returns-5 c =
-    let at-if1 = c .before .before .before .before in
-    let after-allows = at-if1 .before in
-    rw (sym (after-allows .allows .ensures) ∙ not-false _ (at-if1 .if1 .left), sym (ap (λ (x : Stepped). x .signal) (c .before .before .before .step .ensures)) ∙ c .enum-told4 .given .1)
+returns-at-arm-signal-refused c =
+    let at = Stages.returns-at-arm-signal-refused c in
+    rw (sym (at .after-allows .ensures) ∙ not-false _ (at .else-not-allows .left), sym (ap (λ (x : Stepped). x .signal) (at .after-step .ensures)) ∙ at .arm-signal-refused-enum-told .given .1)
 
 pub shapes-spec : {M : Type 1} → statement M
 shapes-spec =
-    tie.close (tie.spec (λ c κs. search needs) returns (λ c κs. search needs) (λ c. search needs) (λ c. search needs) (λ c. search needs)
-    (λ c. search needs) returns-2 returns-3 returns-4 returns-5)
+    Stages.close (record {
+      returns-at-then-not-allows = returns-at-then-not-allows;
+      returns-at-arm-signal-quiet = returns-at-arm-signal-quiet;
+      returns-at-arm-signal-goon = returns-at-arm-signal-goon;
+      returns-at-arm-signal-whole = returns-at-arm-signal-whole;
+      returns-at-arm-signal-refused = returns-at-arm-signal-refused;
+    })

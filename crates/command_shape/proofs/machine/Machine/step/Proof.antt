@@ -1,52 +1,60 @@
 -- `Machine::step` is the table of `stepAt`, row by row. Rests on Steps.
-use Rattle.listing_rules.proofs.Prelude.{_∙_, ap, sym, arith, needs}
+mod Stages
+use Rattle.listing_rules.proofs.Prelude.{_∙_, ap, sym, arith}
 use Rattle.command_shape.specs.declared.machine.Machine.{Machine}
 use Rattle.command_shape.specs.declared.machine.Signal.the-variants.{Quiet}
 use Rattle.command_shape.specs.Machine.{steps, stepAt}
 use Rattle.command_shape.proofs.Steps.{room-left}
 use Rattle.command_shape.proofs.machine.Machine.step.Statement.{statement}
-use Rattle.command_shape.proofs.machine.Machine.step.Tie as tie
 
-returns : tie.Need-returns
+returns-at-then-offends-size : Stages.Need-returns-at-then-offends-size
 unfolding stepAt
-returns c =
-    let after-place = c .before .before .before .before in
-    rw (after-place .place .given .1, sym (c .before .before .offends .ensures) ∙ c .before .if1 .taken) (c .refused .ensures)
+returns-at-then-offends-size c =
+    let at = Stages.returns-at-then-offends-size c in
+    rw (at .bound-place .given .1, sym (at .after-offends .ensures) ∙ at .then-offends-size .taken) (at .after-refused .ensures)
 
-add-line-byte : tie.Need-add-line-byte
-add-line-byte c =
-    let start = c .before .before .before .before .before .before in
-    omega (arith, room-left (start .args .self .size) (start .args .b) (sym (c .before .before .offends .ensures) ∙ c .before .if1 .left))
+add-line-byte-at-else-offends-size : Stages.Need-add-line-byte-at-else-offends-size
+add-line-byte-at-else-offends-size c =
+    let at = Stages.add-line-byte-at-else-offends-size c in
+    omega (arith, room-left (at .start .args .self .size) (at .start .args .b) (sym (at .after-offends .ensures) ∙ at .else-offends-size .left))
 
-returns-2 : tie.Need-returns-2
+returns-at-then-offends-size-2 : Stages.Need-returns-at-then-offends-size-2
 unfolding stepAt
-returns-2 c =
-    let after-place2 = c .before .before .before .before in
-    rw (after-place2 .place2 .given .1, sym (c .before .before .offends2 .ensures) ∙ c .before .if2 .taken) (c .refused2 .ensures)
+returns-at-then-offends-size-2 c =
+    let at = Stages.returns-at-then-offends-size-2 c in
+    rw (at .bound-place-at-arm-place-literal-n .given .1, sym (at .after-offends-at-arm-place-literal-n .ensures) ∙ at .then-offends-size-2 .taken) (at .after-refused-at-then-offends-size-2 .ensures)
 
-add-literal-byte : tie.Need-add-literal-byte
-add-literal-byte c =
-    let start = c .before .before .before .before .before .before in
-    omega (arith, room-left (start .args .self .size) (start .args .b) (sym (c .before .before .offends2 .ensures) ∙ c .before .if2 .left))
+add-literal-byte-at-else-offends-size-2 : Stages.Need-add-literal-byte-at-else-offends-size-2
+add-literal-byte-at-else-offends-size-2 c =
+    let at = Stages.add-literal-byte-at-else-offends-size-2 c in
+    omega (arith, room-left (at .start .args .self .size) (at .start .args .b) (sym (at .after-offends-at-arm-place-literal-n .ensures) ∙ at .else-offends-size-2 .left))
 
-returns-3 : tie.Need-returns-3
+returns-at-else-offends-size : Stages.Need-returns-at-else-offends-size
 unfolding stepAt
-returns-3 c =
-    let after-place = c .before .before .before .before .before in
-    rw (after-place .place .given .1, sym (c .before .before .before .offends .ensures) ∙ c .before .before .if1 .left) (c .line-byte .ensures)
+returns-at-else-offends-size c =
+    let at = Stages.returns-at-else-offends-size c in
+    rw (at .bound-place .given .1, sym (at .after-offends .ensures) ∙ at .else-offends-size .left) (at .after-line-byte .ensures)
 
-returns-4 : tie.Need-returns-4
+returns-at-else-offends-size-2 : Stages.Need-returns-at-else-offends-size-2
 unfolding stepAt
-returns-4 c =
-    let after-place2 = c .before .before .before .before .before in
-    rw (after-place2 .place2 .given .1, sym (c .before .before .before .offends2 .ensures) ∙ c .before .before .if2 .left) (c .literal-byte .ensures)
+returns-at-else-offends-size-2 c =
+    let at = Stages.returns-at-else-offends-size-2 c in
+    rw (at .bound-place-at-arm-place-literal-n .given .1, sym (at .after-offends-at-arm-place-literal-n .ensures) ∙ at .else-offends-size-2 .left) (at .after-literal-byte .ensures)
 
-returns-5 : tie.Need-returns-5
+returns-at-arm-place-dropping : Stages.Need-returns-at-arm-place-dropping
 unfolding stepAt
-returns-5 c = rw (c .before .enum-told .given .1) (ap (λ (m : Machine). steps m Quiet) (c .dropped .ensures))
+returns-at-arm-place-dropping c =
+    let at = Stages.returns-at-arm-place-dropping c in
+    rw (at .arm-place-dropping-enum-told .given .1) (ap (λ (m : Machine). steps m Quiet) (at .after-dropped .ensures))
 
 pub step-spec : {M : Type 1} → statement M
 step-spec =
-    tie.close (tie.spec (λ c. search needs) (λ c κs. search needs) (λ c κs. search needs) returns add-line-byte (λ c κs. search needs)
-    (λ c. search needs) (λ c κs. search needs) (λ c κs. search needs) returns-2 add-literal-byte (λ c κs. search needs) (λ c. search needs)
-    (λ c κs. search needs) returns-3 returns-4 returns-5)
+    Stages.close (record {
+      returns-at-then-offends-size = returns-at-then-offends-size;
+      add-line-byte-at-else-offends-size = add-line-byte-at-else-offends-size;
+      returns-at-then-offends-size-2 = returns-at-then-offends-size-2;
+      add-literal-byte-at-else-offends-size-2 = add-literal-byte-at-else-offends-size-2;
+      returns-at-else-offends-size = returns-at-else-offends-size;
+      returns-at-else-offends-size-2 = returns-at-else-offends-size-2;
+      returns-at-arm-place-dropping = returns-at-arm-place-dropping;
+    })

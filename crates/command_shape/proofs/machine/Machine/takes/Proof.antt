@@ -1,10 +1,13 @@
 -- `takes` is the definition, by the two tests that it calls.
-use Rattle.listing_rules.proofs.Prelude.{needs}
+mod Stages
 use Rattle.command_shape.proofs.machine.Machine.takes.Statement.{statement}
-use Rattle.command_shape.proofs.machine.Machine.takes.Tie as tie
 
-returns : tie.Need-returns
-returns c = rw (c .before .drops .ensures, c .offends .ensures)
+returns-at-start : Stages.Need-returns-at-start
+returns-at-start c =
+    let at = Stages.returns-at-start c in
+    rw (at .after-drops .ensures, at .after-offends .ensures)
 
 pub takes-spec : {M : Type 1} → statement M
-takes-spec = tie.close (tie.spec (λ c κs. search needs) (λ c κs. search needs) returns)
+takes-spec = Stages.close (record {
+  returns-at-start = returns-at-start;
+})

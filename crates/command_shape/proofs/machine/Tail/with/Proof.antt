@@ -1,75 +1,88 @@
 -- `Tail::with` is the table of `tailAs`, row by row.
-use Rattle.listing_rules.proofs.Prelude.{_∙_, ap, sym, eq-eqb, ne-eqb, needs}
+mod Stages
+use Rattle.listing_rules.proofs.Prelude.{_∙_, ap, sym, eq-eqb, ne-eqb}
 use Rattle.command_shape.specs.declared.machine.Tail.the-variants.{Digits}
 use Rattle.command_shape.specs.Machine.{tailAs, tailIs}
 use Rattle.command_shape.proofs.machine.Tail.with.Statement.{statement}
-use Rattle.command_shape.proofs.machine.Tail.with.Tie as tie
 
-returns : tie.Need-returns
+returns-at-then-brace : Stages.Need-returns-at-then-brace
 unfolding tailIs tailAs
-returns c = rw (eq-eqb _ 123 (c .if1 .taken))
+returns-at-then-brace c = rw (eq-eqb _ 123 (Stages.returns-at-then-brace c .then-brace .taken))
 
-returns-2 : tie.Need-returns-2
+returns-at-then-is-digit : Stages.Need-returns-at-then-is-digit
 unfolding tailIs tailAs
-returns-2 c =
-    let at-if1 = c .before .before .before .before .before in
-    rw (ne-eqb _ 123 (at-if1 .if1 .left), c .before .before .before .enum-told3 .given .1, sym (c .before .before .is-digit .ensures) ∙ c .before .if2 .taken) (ap Digits (c .with-digit .ensures))
+returns-at-then-is-digit c =
+    let at = Stages.returns-at-then-is-digit c in
+    rw (ne-eqb _ 123 (at .else-brace .left), at .arm-tail-open-enum-told .given .1, sym (at .after-is-digit .ensures) ∙ at .then-is-digit .taken) (ap Digits (at .after-with-digit .ensures))
 
-returns-3 : tie.Need-returns-3
+returns-at-then-is-digit-2 : Stages.Need-returns-at-then-is-digit-2
 unfolding tailIs tailAs
-returns-3 c =
-    let after-self = c .before .before .before .before in
-    let at-if1 = after-self .before .before in
-    rw (ne-eqb _ 123 (at-if1 .if1 .left), after-self .self .given .1, sym (c .before .before .is-digit2 .ensures) ∙ c .before .if3 .taken) (ap Digits (c .with-digit2 .ensures))
+returns-at-then-is-digit-2 c =
+    let at = Stages.returns-at-then-is-digit-2 c in
+    rw (ne-eqb _ 123 (at .else-brace .left), at .bound-self .given .1, sym (at .after-is-digit-at-arm-tail-digits-n .ensures) ∙ at .then-is-digit-2 .taken)
+    (ap Digits (at .after-with-digit-at-then-is-digit-2 .ensures))
 
-returns-4 : tie.Need-returns-4
+returns-at-then-test : Stages.Need-returns-at-then-test
 unfolding tailIs tailAs
-returns-4 c =
-    let after-self = c .before .before .before .before in
-    let at-if1 = after-self .before .before in
-    rw (ne-eqb _ 123 (at-if1 .if1 .left), after-self .self .given .1, sym (c .before .before .is-digit2 .ensures) ∙ c .before .if3 .left, eq-eqb _ 125 (c .if4 .taken))
+returns-at-then-test c =
+    let at = Stages.returns-at-then-test c in
+    rw (ne-eqb _ 123 (at .else-brace .left), at .bound-self .given .1, sym (at .after-is-digit-at-arm-tail-digits-n .ensures) ∙ at .else-is-digit-2 .left, eq-eqb _ 125 (at .then-test .taken))
 
-returns-5 : tie.Need-returns-5
+returns-at-then-cr : Stages.Need-returns-at-then-cr
 unfolding tailIs tailAs
-returns-5 c =
-    let at-if1 = c .before .before .before .before in
-    rw (ne-eqb _ 123 (at-if1 .if1 .left), c .before .before .self2 .given .1, eq-eqb _ 13 (c .if5 .taken))
+returns-at-then-cr c =
+    let at = Stages.returns-at-then-cr c in
+    rw (ne-eqb _ 123 (at .else-brace .left), at .bound-self-at-arm-tail-closed-n .given .1, eq-eqb _ 13 (at .then-cr .taken))
 
-returns-6 : tie.Need-returns-6
+returns-at-arm-tail-text : Stages.Need-returns-at-arm-tail-text
 unfolding tailIs tailAs
-returns-6 c = rw (ne-eqb _ 123 (c .before .before .before .if1 .left), c .before .enum-told .given .1) (c .plain-tail .ensures)
+returns-at-arm-tail-text c =
+    let at = Stages.returns-at-arm-tail-text c in
+    rw (ne-eqb _ 123 (at .else-brace .left), at .arm-tail-text-enum-told .given .1) (at .after-plain-tail .ensures)
 
-returns-7 : tie.Need-returns-7
+returns-at-arm-tail-cr : Stages.Need-returns-at-arm-tail-cr
 unfolding tailIs tailAs
-returns-7 c = rw (ne-eqb _ 123 (c .before .before .before .if1 .left), c .before .enum-told2 .given .1) (c .plain-tail2 .ensures)
+returns-at-arm-tail-cr c =
+    let at = Stages.returns-at-arm-tail-cr c in
+    rw (ne-eqb _ 123 (at .else-brace .left), at .arm-tail-cr-enum-told .given .1) (at .after-plain-tail-at-arm-tail-cr .ensures)
 
-returns-8 : tie.Need-returns-8
+returns-at-else-is-digit : Stages.Need-returns-at-else-is-digit
 unfolding tailIs tailAs
-returns-8 c =
-    let at-if1 = c .before .before .before .before .before in
-    rw (ne-eqb _ 123 (at-if1 .if1 .left), c .before .before .before .enum-told3 .given .1, sym (c .before .before .is-digit .ensures) ∙ c .before .if2 .left) (c .plain-tail3 .ensures)
+returns-at-else-is-digit c =
+    let at = Stages.returns-at-else-is-digit c in
+    rw (ne-eqb _ 123 (at .else-brace .left), at .arm-tail-open-enum-told .given .1, sym (at .after-is-digit .ensures) ∙ at .else-is-digit .left) (at .after-plain-tail-at-else-is-digit .ensures)
 
-returns-9 : tie.Need-returns-9
+returns-at-else-test : Stages.Need-returns-at-else-test
 unfolding tailIs tailAs
-returns-9 c =
-    let after-self = c .before .before .before .before .before in
-    let at-if1 = after-self .before .before in
-    rw (ne-eqb _ 123 (at-if1 .if1 .left), after-self .self .given .1, sym (c .before .before .before .is-digit2 .ensures) ∙ c .before .before .if3 .left, ne-eqb _ 125 (c .before .if4 .left))
-    (c .plain-tail4 .ensures)
+returns-at-else-test c =
+    let at = Stages.returns-at-else-test c in
+    rw (ne-eqb _ 123 (at .else-brace .left), at .bound-self .given .1, sym (at .after-is-digit-at-arm-tail-digits-n .ensures) ∙ at .else-is-digit-2 .left, ne-eqb _ 125 (at .else-test .left))
+    (at .after-plain-tail-at-else-test .ensures)
 
-returns-10 : tie.Need-returns-10
+returns-at-else-cr : Stages.Need-returns-at-else-cr
 unfolding tailIs tailAs
-returns-10 c =
-    let at-if1 = c .before .before .before .before .before in
-    rw (ne-eqb _ 123 (at-if1 .if1 .left), c .before .before .before .self2 .given .1, ne-eqb _ 13 (c .before .if5 .left)) (c .plain-tail5 .ensures)
+returns-at-else-cr c =
+    let at = Stages.returns-at-else-cr c in
+    rw (ne-eqb _ 123 (at .else-brace .left), at .bound-self-at-arm-tail-closed-n .given .1, ne-eqb _ 13 (at .else-cr .left)) (at .after-plain-tail-at-else-cr .ensures)
 
-returns-11 : tie.Need-returns-11
+returns-at-arm-tail-ending : Stages.Need-returns-at-arm-tail-ending
 unfolding tailIs tailAs
-returns-11 c = rw (ne-eqb _ 123 (c .before .before .before .if1 .left), c .before .enum-told4 .given .1) (c .plain-tail6 .ensures)
+returns-at-arm-tail-ending c =
+    let at = Stages.returns-at-arm-tail-ending c in
+    rw (ne-eqb _ 123 (at .else-brace .left), at .arm-tail-ending-enum-told .given .1) (at .after-plain-tail-at-arm-tail-ending .ensures)
 
 pub with-spec : {M : Type 1} → statement M
 with-spec =
-    tie.close (tie.spec returns (λ c. search needs) (λ c κs. search needs) (λ c. search needs) (λ c κs. search needs) (λ c. search needs)
-    (λ c κs. search needs) (λ c κs. search needs) returns-2 (λ c κs. search needs) (λ c. search needs) (λ c κs. search needs) (λ c κs. search needs)
-    returns-3 returns-4 (λ c κs. search needs) (λ c. search needs) returns-5 (λ c κs. search needs) (λ c. search needs) (λ c κs. search needs)
-    returns-6 returns-7 returns-8 returns-9 returns-10 returns-11)
+    Stages.close (record {
+      returns-at-then-brace = returns-at-then-brace;
+      returns-at-then-is-digit = returns-at-then-is-digit;
+      returns-at-then-is-digit-2 = returns-at-then-is-digit-2;
+      returns-at-then-test = returns-at-then-test;
+      returns-at-then-cr = returns-at-then-cr;
+      returns-at-arm-tail-text = returns-at-arm-tail-text;
+      returns-at-arm-tail-cr = returns-at-arm-tail-cr;
+      returns-at-else-is-digit = returns-at-else-is-digit;
+      returns-at-else-test = returns-at-else-test;
+      returns-at-else-cr = returns-at-else-cr;
+      returns-at-arm-tail-ending = returns-at-arm-tail-ending;
+    })

@@ -1,30 +1,43 @@
 -- `Class::holds`: each class has the bytes of its definition. Rests on the promise of `is_atom`, and for patterns on Bytes.
+mod Stages
 use Rattle.listing_rules.specs.Tokens.{atomByte, tagByte, astringByte, patternByte}
 use Rattle.command_tokens.proofs.Bytes.{pattern-is}
-use Rattle.listing_rules.proofs.Prelude.{needs}
 use Rattle.command_tokens.proofs.tokens.Class.holds.Statement.{statement}
-use Rattle.command_tokens.proofs.tokens.Class.holds.Tie as tie
 
-returns : tie.Need-returns
+returns-at-arm-class-tag : Stages.Need-returns-at-arm-class-tag
 unfolding tagByte
-returns c = rw (c .before .enum-told .given .1, c .is-atom .ensures)
+returns-at-arm-class-tag c =
+    let at = Stages.returns-at-arm-class-tag c in
+    rw (at .arm-class-tag-enum-told .given .1, at .after-is-atom .ensures)
 
-returns-2 : tie.Need-returns-2
-returns-2 c = rw (c .before .enum-told2 .given .1) (c .is-atom2 .ensures)
+returns-at-arm-class-atom : Stages.Need-returns-at-arm-class-atom
+returns-at-arm-class-atom c =
+    let at = Stages.returns-at-arm-class-atom c in
+    rw (at .arm-class-atom-enum-told .given .1) (at .after-is-atom-at-arm-class-atom .ensures)
 
-returns-3 : tie.Need-returns-3
+returns-at-arm-class-astring : Stages.Need-returns-at-arm-class-astring
 unfolding astringByte
-returns-3 c = rw (c .before .enum-told3 .given .1, c .is-atom3 .ensures)
+returns-at-arm-class-astring c =
+    let at = Stages.returns-at-arm-class-astring c in
+    rw (at .arm-class-astring-enum-told .given .1, at .after-is-atom-at-arm-class-astring .ensures)
 
-returns-4 : tie.Need-returns-4
+returns-at-arm-class-pattern : Stages.Need-returns-at-arm-class-pattern
 unfolding patternByte
-returns-4 c = rw (c .before .enum-told4 .given .1, c .is-atom4 .ensures) (pattern-is (atomByte _) _)
+returns-at-arm-class-pattern c =
+    let at = Stages.returns-at-arm-class-pattern c in
+    rw (at .arm-class-pattern-enum-told .given .1, at .after-is-atom-at-arm-class-pattern .ensures) (pattern-is (atomByte _) _)
 
-returns-5 : tie.Need-returns-5
-returns-5 c = rw (c .before .enum-told5 .given .1) (c .is-digit .ensures)
+returns-at-arm-class-digit : Stages.Need-returns-at-arm-class-digit
+returns-at-arm-class-digit c =
+    let at = Stages.returns-at-arm-class-digit c in
+    rw (at .arm-class-digit-enum-told .given .1) (at .after-is-digit .ensures)
 
 pub holds-spec : {M : Type 1} → statement M
 holds-spec =
-    tie.close (tie.spec (λ c. search needs) (λ c κs. search needs) (λ c. search needs) (λ c κs. search needs) (λ c. search needs)
-    (λ c κs. search needs) (λ c. search needs) (λ c κs. search needs) (λ c. search needs) (λ c κs. search needs) returns returns-2 returns-3 returns-4
-    returns-5)
+    Stages.close (record {
+      returns-at-arm-class-tag = returns-at-arm-class-tag;
+      returns-at-arm-class-atom = returns-at-arm-class-atom;
+      returns-at-arm-class-astring = returns-at-arm-class-astring;
+      returns-at-arm-class-pattern = returns-at-arm-class-pattern;
+      returns-at-arm-class-digit = returns-at-arm-class-digit;
+    })

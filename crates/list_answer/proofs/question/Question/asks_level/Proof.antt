@@ -1,13 +1,17 @@
 -- `list_answer::question::Question::asks_level` meets its contract: the bit of the member.
-use Rattle.listing_rules.proofs.Prelude.{_∙_, ap, Bool, _&&_, not, needs}
+mod Stages
+use Rattle.listing_rules.proofs.Prelude.{_∙_, ap, Bool, _&&_, not}
 use Rattle.listing_rules.specs.Flags.{exists}
 use Rattle.octets.proofs.Sets.{contains-bit}
 use Rattle.list_answer.proofs.question.Question.asks_level.Statement.{statement}
-use Rattle.list_answer.proofs.question.Question.asks_level.Tie as tie
 
-returns : tie.Need-returns
+returns-at-start : Stages.Need-returns-at-start
 unfolding exists
-returns c = ap (λ (b : Bool). c .before .before .args .self .levels && not b) (c .before .has .ensures ∙ contains-bit 0 _)
+returns-at-start c =
+    let at = Stages.returns-at-start c in
+    ap (λ (b : Bool). at .start .args .self .levels && not b) (at .after-has .ensures ∙ contains-bit 0 _)
 
 pub asks-level-spec : {M : Type 1} → statement M
-asks-level-spec = tie.close (tie.spec (λ c κs. search needs) returns)
+asks-level-spec = Stages.close (record {
+  returns-at-start = returns-at-start;
+})

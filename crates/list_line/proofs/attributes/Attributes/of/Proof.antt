@@ -1,48 +1,50 @@
 -- `Attributes::of`: the bits so far are the set of the places from k on. Rests on Members.
-use Rattle.listing_rules.proofs.Prelude.{_∙_, _≡_, ap, sym, _+_, _-_, _≤_, ℕ, arith, drop, length, needs}
+mod Loops
+mod Stages
+use Rattle.listing_rules.proofs.Prelude.{_∙_, _≡_, ap, sym, _+_, _-_, ℕ, arith, drop, needs}
 use Rattle.list_line.specs.Members.{setOf}
 use Rattle.list_line.proofs.Members.{setOf-here, setOf-not-here, setOf-none, setOf-room}
 use Rattle.list_line.proofs.attributes.Attributes.of.Statement.{statement}
-use Rattle.list_line.proofs.attributes.Attributes.of.Tie as tie
 
-abbrev Inv-loop : tie.InvT-loop
-Inv-loop shown bits₀ k₀ bits k = (length shown ≡ 16) × (k ≤ 16) × (bits ≡ setOf (drop k shown))
+loop-holds-at-start : Stages.Need-loop-holds-at-start
+loop-holds-at-start c = (search needs, omega arith, sym (setOf-none (Stages.loop-holds-at-start c .start .args .t1) 16 (search needs)))
 
-abbrev μ-loop : tie.MeasureT-loop
-μ-loop shown bits₀ k₀ bits k = k
+mul-bits-at-turn : Stages.Need-mul-bits-at-turn
+mul-bits-at-turn c =
+    let at = Stages.mul-bits-at-turn c in
+    omega (arith, setOf-room (at .start .args .t1) _ (at .head .inv .0) (at .turn .taken))
 
-loop-holds : tie.Need-loop-holds Inv-loop μ-loop
-loop-holds c = (search needs, omega arith, sym (setOf-none (c .args .t1) 16 (search needs)))
+add-bits-at-then-shown-k : Stages.Need-add-bits-at-then-shown-k
+add-bits-at-then-shown-k c =
+    let at = Stages.add-bits-at-then-shown-k c in
+    omega (arith, setOf-room (at .start .args .t1) _ (at .head .inv .0) (at .turn .taken))
 
-mul-bits : tie.Need-mul-bits Inv-loop μ-loop
-mul-bits c = omega (arith, setOf-room (c .before .before .args .t1) _ (c .before .loop .inv .0) (c .loop-test .taken))
-
-add-bits : tie.Need-add-bits Inv-loop μ-loop
-add-bits c =
-    let turn = c .before .before in
-    omega (arith, setOf-room (turn .before .args .t1) _ (turn .loop .inv .0) (c .before .loop-test .taken))
-
-loop-again : tie.Need-loop-again Inv-loop μ-loop
-loop-again c =
-    let turn = c .before .before in
-    let start = turn .before in
-    let k = turn .loop .k in
+loop-again-at-then-shown-k : Stages.Need-loop-again-at-then-shown-k
+loop-again-at-then-shown-k c =
+    let at = Stages.loop-again-at-then-shown-k c in
+    let k = at .head .k in
     let w : k - 1 + 1 ≡ k = omega arith in
-    (turn .loop .inv .0, omega arith, omega (arith, setOf-here (start .args .t1) (k - 1) (omega arith) (c .if1 .taken), ap (λ (n : ℕ). setOf (drop n (start .args .t1))) w))
+    (at .head .inv .0, omega arith, omega (arith, setOf-here (at .start .args .t1) (k - 1) (omega arith) (at .then-shown-k .taken), ap (λ (n : ℕ). setOf (drop n (at .start .args .t1))) w))
 
-loop-again-2 : tie.Need-loop-again-2 Inv-loop μ-loop
-loop-again-2 c =
-    let turn = c .before .before in
-    let start = turn .before in
-    let k = turn .loop .k in
+loop-again-at-else-shown-k : Stages.Need-loop-again-at-else-shown-k
+loop-again-at-else-shown-k c =
+    let at = Stages.loop-again-at-else-shown-k c in
+    let k = at .head .k in
     let w : k - 1 + 1 ≡ k = omega arith in
-    (turn .loop .inv .0, omega arith, omega (arith, setOf-not-here (start .args .t1) (k - 1) (omega arith) (c .if1 .left), ap (λ (n : ℕ). setOf (drop n (start .args .t1))) w))
+    (at .head .inv .0, omega arith, omega (arith, setOf-not-here (at .start .args .t1) (k - 1) (omega arith) (at .else-shown-k .left), ap (λ (n : ℕ). setOf (drop n (at .start .args .t1))) w))
 
-returns : tie.Need-returns Inv-loop μ-loop
-returns c =
-    let w : c .before .loop .k ≡ 0 = omega arith in c .before .loop .inv .2 ∙ ap (λ (n : ℕ). setOf (drop n (c .before .before .args .t1))) w
+returns-at-exit : Stages.Need-returns-at-exit
+returns-at-exit c =
+    let at = Stages.returns-at-exit c in
+    let w : at .head .k ≡ 0 = omega arith in at .head .inv .2 ∙ ap (λ (n : ℕ). setOf (drop n (at .start .args .t1))) w
 
 pub of-spec : {M : Type 1} → statement M
 of-spec =
-    tie.close (tie.spec Inv-loop μ-loop loop-holds (λ c. search needs) mul-bits (λ c. search needs) add-bits (λ c. search needs) loop-again
-    (λ c. search needs) loop-again-2 returns)
+    Stages.close (record {
+      loop-holds-at-start = loop-holds-at-start;
+      mul-bits-at-turn = mul-bits-at-turn;
+      add-bits-at-then-shown-k = add-bits-at-then-shown-k;
+      loop-again-at-then-shown-k = loop-again-at-then-shown-k;
+      loop-again-at-else-shown-k = loop-again-at-else-shown-k;
+      returns-at-exit = returns-at-exit;
+    })

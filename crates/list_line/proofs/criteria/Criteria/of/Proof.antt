@@ -1,24 +1,36 @@
 -- `Criteria::of` meets its contract, by the four cases.
-use Rattle.listing_rules.proofs.Prelude.{needs}
+mod Stages
 use Rattle.listing_rules.specs.Options.{criteriaNumber}
 use Rattle.list_line.proofs.criteria.Criteria.of.Statement.{statement}
-use Rattle.list_line.proofs.criteria.Criteria.of.Tie as tie
 
-returns : tie.Need-returns
+returns-at-then-special : Stages.Need-returns-at-then-special
 unfolding criteriaNumber
-returns c = rw (c .before .before .if1 .taken, c .before .if2 .taken) (c .union .ensures)
+returns-at-then-special c =
+    let at = Stages.returns-at-then-special c in
+    rw (at .then-subscribed .taken, at .then-special .taken) (at .after-union .ensures)
 
-returns-2 : tie.Need-returns-2
+returns-at-else-special : Stages.Need-returns-at-else-special
 unfolding criteriaNumber
-returns-2 c = rw (c .before .if1 .taken, c .if2 .left)
+returns-at-else-special c =
+    let at = Stages.returns-at-else-special c in
+    rw (at .then-subscribed .taken, at .else-special .left)
 
-returns-3 : tie.Need-returns-3
+returns-at-then-special-2 : Stages.Need-returns-at-then-special-2
 unfolding criteriaNumber
-returns-3 c = rw (c .before .if1 .left, c .if3 .taken)
+returns-at-then-special-2 c =
+    let at = Stages.returns-at-then-special-2 c in
+    rw (at .else-subscribed .left, at .then-special-2 .taken)
 
-returns-4 : tie.Need-returns-4
+returns-at-else-special-2 : Stages.Need-returns-at-else-special-2
 unfolding criteriaNumber
-returns-4 c = rw (c .before .if1 .left, c .if3 .left)
+returns-at-else-special-2 c =
+    let at = Stages.returns-at-else-special-2 c in
+    rw (at .else-subscribed .left, at .else-special-2 .left)
 
 pub of-spec : {M : Type 1} → statement M
-of-spec = tie.close (tie.spec (λ c κs. search needs) returns returns-2 returns-3 returns-4)
+of-spec = Stages.close (record {
+  returns-at-then-special = returns-at-then-special;
+  returns-at-else-special = returns-at-else-special;
+  returns-at-then-special-2 = returns-at-then-special-2;
+  returns-at-else-special-2 = returns-at-else-special-2;
+})

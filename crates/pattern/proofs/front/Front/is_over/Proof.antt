@@ -1,30 +1,34 @@
 -- `Front::is_over` is the table of `isOver`, row by row.
-use Rattle.listing_rules.proofs.Prelude.{needs}
+mod Stages
 use Rattle.pattern.specs.Steps.{isOver}
 use Rattle.pattern.proofs.front.Front.is_over.Statement.{statement}
-use Rattle.pattern.proofs.front.Front.is_over.Tie as tie
 
-returns : tie.Need-returns
+returns-at-arm-next-front : Stages.Need-returns-at-arm-next-front
 unfolding isOver
-returns c = rw (c .enum-told .given .1)
+returns-at-arm-next-front c = rw (Stages.returns-at-arm-next-front c .arm-next-front-enum-told .given .1)
 
-returns-2 : tie.Need-returns-2
+returns-at-arm-next-level : Stages.Need-returns-at-arm-next-level
 unfolding isOver
-returns-2 c = rw (c .enum-told2 .given .1)
+returns-at-arm-next-level c = rw (Stages.returns-at-arm-next-level c .arm-next-level-enum-told .given .1)
 
-returns-3 : tie.Need-returns-3
+returns-at-arm-next-any : Stages.Need-returns-at-arm-next-any
 unfolding isOver
-returns-3 c = rw (c .enum-told3 .given .1)
+returns-at-arm-next-any c = rw (Stages.returns-at-arm-next-any c .arm-next-any-enum-told .given .1)
 
-returns-4 : tie.Need-returns-4
+returns-at-arm-next-matched : Stages.Need-returns-at-arm-next-matched
 unfolding isOver
-returns-4 c = rw (c .enum-told4 .given .1)
+returns-at-arm-next-matched c = rw (Stages.returns-at-arm-next-matched c .arm-next-matched-enum-told .given .1)
 
-returns-5 : tie.Need-returns-5
+returns-at-arm-next-missed : Stages.Need-returns-at-arm-next-missed
 unfolding isOver
-returns-5 c = rw (c .enum-told5 .given .1)
+returns-at-arm-next-missed c = rw (Stages.returns-at-arm-next-missed c .arm-next-missed-enum-told .given .1)
 
 pub is-over-spec : {M : Type 1} → statement M
 is-over-spec =
-    tie.close (tie.spec (λ c. search needs) (λ c. search needs) (λ c. search needs) (λ c. search needs) (λ c. search needs) returns returns-2
-    returns-3 returns-4 returns-5)
+    Stages.close (record {
+      returns-at-arm-next-front = returns-at-arm-next-front;
+      returns-at-arm-next-level = returns-at-arm-next-level;
+      returns-at-arm-next-any = returns-at-arm-next-any;
+      returns-at-arm-next-matched = returns-at-arm-next-matched;
+      returns-at-arm-next-missed = returns-at-arm-next-missed;
+    })

@@ -1,10 +1,11 @@
 -- `At::goes` is the definition.
-use Rattle.listing_rules.proofs.Prelude.{needs}
+mod Stages
 use Rattle.pattern.proofs.steps.At.goes.Statement.{statement}
-use Rattle.pattern.proofs.steps.At.goes.Tie as tie
 
-returns : tie.Need-returns
-returns c = rw (c .one-more .ensures)
+returns-at-start : Stages.Need-returns-at-start
+returns-at-start c = rw (Stages.returns-at-start c .after-one-more .ensures)
 
 pub goes-spec : {M : Type 1} → statement M
-goes-spec = tie.close (tie.spec (λ c κs. search needs) returns)
+goes-spec = Stages.close (record {
+  returns-at-start = returns-at-start;
+})

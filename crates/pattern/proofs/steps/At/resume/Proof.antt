@@ -1,22 +1,30 @@
 -- `At::resume` is the table of `resumedAs`, row by row.
+mod Stages
 use Rattle.pattern.specs.Steps.{resumedAs}
-use Rattle.listing_rules.proofs.Prelude.{needs}
 use Rattle.pattern.proofs.steps.At.resume.Statement.{statement}
-use Rattle.pattern.proofs.steps.At.resume.Tie as tie
 
-returns : tie.Need-returns
+returns-at-arm-known-gone : Stages.Need-returns-at-arm-known-gone
 unfolding resumedAs
-returns c = rw (c .before .enum-told .given .1) (c .ends .ensures)
+returns-at-arm-known-gone c =
+    let at = Stages.returns-at-arm-known-gone c in
+    rw (at .arm-known-gone-enum-told .given .1) (at .after-ends .ensures)
 
-returns-2 : tie.Need-returns-2
+returns-at-arm-known-pending : Stages.Need-returns-at-arm-known-pending
 unfolding resumedAs
-returns-2 c = rw (c .before .before .enum-told2 .given .1) (c .begins .ensures)
+returns-at-arm-known-pending c =
+    let at = Stages.returns-at-arm-known-pending c in
+    rw (at .arm-known-pending-enum-told .given .1) (at .after-begins .ensures)
 
-returns-3 : tie.Need-returns-3
+returns-at-arm-known-settled : Stages.Need-returns-at-arm-known-settled
 unfolding resumedAs
-returns-3 c = rw (c .before .enum-told3 .given .1) (c .begins2 .ensures)
+returns-at-arm-known-settled c =
+    let at = Stages.returns-at-arm-known-settled c in
+    rw (at .arm-known-settled-enum-told .given .1) (at .after-begins-at-arm-known-settled .ensures)
 
 pub resume-spec : {M : Type 1} → statement M
 resume-spec =
-    tie.close (tie.spec (λ c. search needs) (λ c κs. search needs) (λ c. search needs) (λ c. search needs) (λ c κs. search needs) (λ c. search needs)
-    (λ c κs. search needs) returns returns-2 returns-3)
+    Stages.close (record {
+      returns-at-arm-known-gone = returns-at-arm-known-gone;
+      returns-at-arm-known-pending = returns-at-arm-known-pending;
+      returns-at-arm-known-settled = returns-at-arm-known-settled;
+    })

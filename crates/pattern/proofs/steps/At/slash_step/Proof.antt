@@ -1,22 +1,30 @@
 -- `At::slash_step` is the table of `settledAs`, row by row.
+mod Stages
 use Rattle.pattern.specs.Steps.{settledAs}
-use Rattle.listing_rules.proofs.Prelude.{needs}
 use Rattle.pattern.proofs.steps.At.slash_step.Statement.{statement}
-use Rattle.pattern.proofs.steps.At.slash_step.Tie as tie
 
-returns : tie.Need-returns
+returns-at-arm-kind-plain : Stages.Need-returns-at-arm-kind-plain
 unfolding settledAs
-returns c = rw (c .before .enum-told .given .1) (c .goes .ensures)
+returns-at-arm-kind-plain c =
+    let at = Stages.returns-at-arm-kind-plain c in
+    rw (at .arm-kind-plain-enum-told .given .1) (at .after-goes .ensures)
 
-returns-2 : tie.Need-returns-2
+returns-at-arm-kind-level : Stages.Need-returns-at-arm-kind-level
 unfolding settledAs
-returns-2 c = rw (c .before .before .enum-told2 .given .1, ← c .before .settle .ensures) (c .goes2 .ensures)
+returns-at-arm-kind-level c =
+    let at = Stages.returns-at-arm-kind-level c in
+    rw (at .arm-kind-level-enum-told .given .1, ← at .after-settle .ensures) (at .after-goes-at-arm-kind-level .ensures)
 
-returns-3 : tie.Need-returns-3
+returns-at-arm-kind-any : Stages.Need-returns-at-arm-kind-any
 unfolding settledAs
-returns-3 c = rw (c .before .enum-told3 .given .1) (c .goes3 .ensures)
+returns-at-arm-kind-any c =
+    let at = Stages.returns-at-arm-kind-any c in
+    rw (at .arm-kind-any-enum-told .given .1) (at .after-goes-at-arm-kind-any .ensures)
 
 pub slash-step-spec : {M : Type 1} → statement M
 slash-step-spec =
-    tie.close (tie.spec (λ c. search needs) (λ c. search needs) (λ c. search needs) (λ c κs. search needs) (λ c. search needs) (λ c κs. search needs)
-    (λ c κs. search needs) (λ c. search needs) (λ c κs. search needs) returns returns-2 returns-3)
+    Stages.close (record {
+      returns-at-arm-kind-plain = returns-at-arm-kind-plain;
+      returns-at-arm-kind-level = returns-at-arm-kind-level;
+      returns-at-arm-kind-any = returns-at-arm-kind-any;
+    })

@@ -1,16 +1,22 @@
 -- `At::star_step` is the definition's choice.
+mod Stages
 use Rattle.pattern.specs.Steps.{starIs}
-use Rattle.listing_rules.proofs.Prelude.{needs}
 use Rattle.pattern.proofs.steps.At.star_step.Statement.{statement}
-use Rattle.pattern.proofs.steps.At.star_step.Tie as tie
 
-returns : tie.Need-returns
+returns-at-then-last : Stages.Need-returns-at-then-last
 unfolding starIs
-returns c = rw (c .before .if1 .taken) (c .ends .ensures)
+returns-at-then-last c =
+    let at = Stages.returns-at-then-last c in
+    rw (at .then-last .taken) (at .after-ends .ensures)
 
-returns-2 : tie.Need-returns-2
+returns-at-else-last : Stages.Need-returns-at-else-last
 unfolding starIs
-returns-2 c = rw (c .before .before .if1 .left) (c .begins .ensures)
+returns-at-else-last c =
+    let at = Stages.returns-at-else-last c in
+    rw (at .else-last .left) (at .after-begins .ensures)
 
 pub star-step-spec : {M : Type 1} → statement M
-star-step-spec = tie.close (tie.spec (λ c κs. search needs) returns (λ c. search needs) (λ c κs. search needs) returns-2)
+star-step-spec = Stages.close (record {
+  returns-at-then-last = returns-at-then-last;
+  returns-at-else-last = returns-at-else-last;
+})

@@ -1,20 +1,23 @@
 -- `Star::settle` is the table of `fixedAs`, row by row.
+mod Stages
 use Rattle.pattern.specs.Steps.{fixedAs}
-use Rattle.listing_rules.proofs.Prelude.{needs}
 use Rattle.pattern.proofs.steps.Star.settle.Statement.{statement}
-use Rattle.pattern.proofs.steps.Star.settle.Tie as tie
 
-returns : tie.Need-returns
+returns-at-arm-known-gone : Stages.Need-returns-at-arm-known-gone
 unfolding fixedAs
-returns c = rw (c .enum-told .given .1)
+returns-at-arm-known-gone c = rw (Stages.returns-at-arm-known-gone c .arm-known-gone-enum-told .given .1)
 
-returns-2 : tie.Need-returns-2
+returns-at-arm-known-pending : Stages.Need-returns-at-arm-known-pending
 unfolding fixedAs
-returns-2 c = rw (c .enum-told2 .given .1)
+returns-at-arm-known-pending c = rw (Stages.returns-at-arm-known-pending c .arm-known-pending-enum-told .given .1)
 
-returns-3 : tie.Need-returns-3
+returns-at-arm-known-settled : Stages.Need-returns-at-arm-known-settled
 unfolding fixedAs
-returns-3 c = rw (c .enum-told3 .given .1)
+returns-at-arm-known-settled c = rw (Stages.returns-at-arm-known-settled c .arm-known-settled-enum-told .given .1)
 
 pub settle-spec : {M : Type 1} → statement M
-settle-spec = tie.close (tie.spec (λ c. search needs) (λ c. search needs) (λ c. search needs) returns returns-2 returns-3)
+settle-spec = Stages.close (record {
+  returns-at-arm-known-gone = returns-at-arm-known-gone;
+  returns-at-arm-known-pending = returns-at-arm-known-pending;
+  returns-at-arm-known-settled = returns-at-arm-known-settled;
+})

@@ -1,22 +1,26 @@
 -- `replay::Verdict::frame` meets its contract, case by case.
-use Rattle.listing_rules.proofs.Prelude.{_≡_, ap, sym, needs}
+mod Stages
+use Rattle.listing_rules.proofs.Prelude.{_≡_, ap, sym}
 use Rattle.listing_rules.specs.Replay.{replayFrame}
 use Rattle.replay.specs.declared.verdict.Verdict.{Verdict}
 use Rattle.replay.specs.Reports.{meantBy}
 use Rattle.replay.proofs.verdict.Verdict.frame.Statement.{statement}
-use Rattle.replay.proofs.verdict.Verdict.frame.Tie as tie
 
-returns : tie.Need-returns
+returns-at-arm-verdict-agrees : Stages.Need-returns-at-arm-verdict-agrees
 unfolding replayFrame meantBy
-returns c = sym (ap (λ (v : Verdict). replayFrame (meantBy v)) (c .enum-told .given .1))
+returns-at-arm-verdict-agrees c = sym (ap (λ (v : Verdict). replayFrame (meantBy v)) (Stages.returns-at-arm-verdict-agrees c .arm-verdict-agrees-enum-told .given .1))
 
-returns-2 : tie.Need-returns-2
+returns-at-arm-verdict-differs-k : Stages.Need-returns-at-arm-verdict-differs-k
 unfolding replayFrame meantBy
-returns-2 c = sym (ap (λ (v : Verdict). replayFrame (meantBy v)) (c .before .self .given .1))
+returns-at-arm-verdict-differs-k c = sym (ap (λ (v : Verdict). replayFrame (meantBy v)) (Stages.returns-at-arm-verdict-differs-k c .bound-self .given .1))
 
-returns-3 : tie.Need-returns-3
+returns-at-arm-verdict-stopped-k : Stages.Need-returns-at-arm-verdict-stopped-k
 unfolding replayFrame meantBy
-returns-3 c = sym (ap (λ (v : Verdict). replayFrame (meantBy v)) (c .before .self2 .given .1))
+returns-at-arm-verdict-stopped-k c = sym (ap (λ (v : Verdict). replayFrame (meantBy v)) (Stages.returns-at-arm-verdict-stopped-k c .bound-self-at-arm-verdict-stopped-k .given .1))
 
 pub frame-spec : {M : Type 1} → statement M
-frame-spec = tie.close (tie.spec (λ c. search needs) (λ c. search needs) (λ c. search needs) returns returns-2 returns-3)
+frame-spec = Stages.close (record {
+  returns-at-arm-verdict-agrees = returns-at-arm-verdict-agrees;
+  returns-at-arm-verdict-differs-k = returns-at-arm-verdict-differs-k;
+  returns-at-arm-verdict-stopped-k = returns-at-arm-verdict-stopped-k;
+})

@@ -1,0 +1,3 @@
+-- Laws of tags and meanings.
+pub mod TagLaws
+pub mod MeaningLaws

@@ -2,10 +2,11 @@
 
 use compare::records::{extend, Layout};
 use compare::tables::{table_bytes, NewRow};
-use second::name::MAX_NAME;
-use second::namespaces::Entry;
-use second::rows::Flags;
-use second::{Readers, Record};
+use formats::name::MAX_NAME;
+use formats::namespaces::Entry;
+use formats::readers::Readers;
+use formats::rows::Flags;
+use second::Record;
 
 /// What every deep name begins with, as `deep_name` makes it.
 macro_rules! below_thirteen {
@@ -75,7 +76,7 @@ pub struct Repeated(pub &'static str, pub usize, pub &'static str);
 const NO_REFERENCE: Repeated = Repeated("", 0, "");
 
 #[derive(Clone, Copy, PartialEq)]
-pub enum Table {
+pub enum TableKind {
     /// Three levels of names, parents with and without a row, all kinds of flags.
     Tree,
     /// The same, of which every other row is hidden from one reader, who asks.
@@ -91,6 +92,8 @@ pub enum Table {
     /// Fifty names `a-..-`, each of which begins as the next one does, and names below them, so that fifty rows are
     /// open at once; all kinds of flags.
     Dashes,
+    /// Names of sixteen levels, the first a number and the others "abb", all subscribed: no two rows share a level.
+    OwnLevels,
 }
 
 #[derive(Clone, Copy, PartialEq)]
@@ -101,7 +104,7 @@ pub enum Form {
 
 pub struct Case {
     pub title: &'static str,
-    pub table: Table,
+    pub table: TableKind,
     pub form: Form,
     pub call: Call,
 }
@@ -111,7 +114,7 @@ pub const CASES: [Case; 31] = [
     text_case(r#"`LIST "" "*"`"#, r#"a LIST "" "*""#),
     records_case(
         r#"`LIST "" "*"`, half of the rows hidden"#,
-        Table::Halved,
+        TableKind::Halved,
         Call::Command(Command::Text(r#"a LIST "" "*""#)),
     ),
     text_case(r#"`LIST "" "%"`"#, r#"a LIST "" "%""#),
@@ -119,37 +122,37 @@ pub const CASES: [Case; 31] = [
         r#"`LIST (SUBSCRIBED RECURSIVEMATCH) "" "%"`"#,
         r#"a LIST (SUBSCRIBED RECURSIVEMATCH) "" "%""#,
     ),
-    patterns_case("eight patterns of forty `*`", Table::Tree, Repeated("*", 40, ""), 8),
-    patterns_case("`%a` twenty times, then `b`", Table::ManyA, Repeated("%a", 20, "b"), 1),
+    patterns_case("eight patterns of forty `*`", TableKind::Tree, Repeated("*", 40, ""), 8),
+    patterns_case("`%a` twenty times, then `b`", TableKind::ManyA, Repeated("%a", 20, "b"), 1),
     patterns_case(
         "eight patterns of `%b*` seventy times",
-        Table::Levels,
+        TableKind::Levels,
         Repeated("%b*", 70, ""),
         8,
     ),
-    patterns_case("`*%/%b`", Table::Levels, Repeated("*%/%b", 1, ""), 1),
-    patterns_case("`%*/b`", Table::Levels, Repeated("%*/b", 1, ""), 1),
+    patterns_case("`*%/%b`", TableKind::Levels, Repeated("*%/%b", 1, ""), 1),
+    patterns_case("`%*/b`", TableKind::Levels, Repeated("%*/b", 1, ""), 1),
     patterns_case(
         "eight of `*a%b` fifty times, then `*`",
-        Table::Levels,
+        TableKind::Levels,
         Repeated("*a%b", 50, "*"),
         8,
     ),
     patterns_case(
         "eight of `a*` a hundred times, then `b*`",
-        Table::LongA,
+        TableKind::LongA,
         Repeated("a*", 100, "b*"),
         8,
     ),
     patterns_case(
         "eight of `*/%` sixty times, then `/c*`",
-        Table::Levels,
+        TableKind::Levels,
         Repeated("*/%", 60, "/c*"),
         8,
     ),
     records_case(
         "eight behind a reference: `*a%` 83 times, then `/cb*`",
-        Table::LongA,
+        TableKind::LongA,
         Call::Command(Command::Patterns {
             reference: Repeated("*a%", 20, ""),
             pattern: Repeated("*a%", 63, "/cb*"),
@@ -159,11 +162,11 @@ pub const CASES: [Case; 31] = [
     text_case(r#"`LIST "" "*" RETURN (CHILDREN)`"#, r#"a LIST "" "*" RETURN (CHILDREN)"#),
     text_case("`NAMESPACE`", "a NAMESPACE"),
     packed_case("a whole walk", Call::Walk(0)),
-    records_case("check of records", Table::Tree, Call::Check),
-    records_case("check of records, fourteen levels", Table::Deep, Call::Check),
-    records_case("check of records, fifty names `a-..-`", Table::Dashes, Call::Check),
-    records_case("a summary counted afresh", Table::Tree, Call::Summary),
-    records_case("a whole walk over records", Table::Tree, Call::Walk(0)),
+    records_case("check of records", TableKind::Tree, Call::Check),
+    records_case("check of records, fourteen levels", TableKind::Deep, Call::Check),
+    records_case("check of records, fifty names `a-..-`", TableKind::Dashes, Call::Check),
+    records_case("a summary counted afresh", TableKind::Tree, Call::Summary),
+    records_case("a whole walk over records", TableKind::Tree, Call::Walk(0)),
     edit_case(
         "`SUBSCRIBE`, a flag set",
         undone_edit(
@@ -214,56 +217,42 @@ pub const CASES: [Case; 31] = [
     ),
     edit_case("`SUBSCRIBE`, refused with 14", refused_edit(r#"a SUBSCRIBE "Customer 00//x""#, 14)),
     edit_case("`SUBSCRIBE`, refused with 15", refused_edit(r#"a SUBSCRIBE "Customer 00/x""#, 15)),
-    records_case("compaction", Table::Tree, Call::Compaction),
+    records_case("compaction", TableKind::Tree, Call::Compaction),
 ];
 
-/// The worst commands found, one by its steps and one by its time beside the second program's. They are
-/// measured beside the table, and no bound holds for them. Each begins and ends in a wildcard, so
-/// that no look at one end decides.
-///
-/// In every level of a name each "%" is a step; and every name nearly has the run of thirty "a", at
-/// every place.
-pub const WORST: [Case; 2] = [
-    records_case(
-        "eight patterns of `*`, 250 `%` and `x*`, over names of fourteen levels",
-        Table::Levels,
-        Call::Command(Command::Patterns {
-            reference: Repeated("*", 1, ""),
-            pattern: Repeated("%", 250, "x*"),
-            count: 8,
-        }),
-    ),
-    patterns_case(
-        "eight patterns of `*`, thirty `a` and `b*`, over names of sixty `a` and a number",
-        Table::LongA,
-        Repeated("*aaaaaaaaaaaaaaaaaaaaaaaaaaaaaab*", 1, ""),
-        8,
-    ),
-];
+/// The walk with the most commands: each of the fifteen levels above every row is asked below, and no other row shares
+/// it. No bound holds for it.
+pub const DEEP_WALK: Case =
+    records_case("a walk over sixteen levels, all subscribed", TableKind::OwnLevels, Call::Walk(0));
 
 const fn packed_case(title: &'static str, call: Call) -> Case {
-    Case { title, table: Table::Tree, form: Form::Packed, call }
+    Case { title, table: TableKind::Tree, form: Form::Packed, call }
 }
 
-const fn records_case(title: &'static str, table: Table, call: Call) -> Case {
+const fn records_case(title: &'static str, table: TableKind, call: Call) -> Case {
     Case { title, table, form: Form::Records, call }
 }
 
 const fn text_case(title: &'static str, line: &'static str) -> Case {
-    records_case(title, Table::Tree, Call::Command(Command::Text(line)))
+    records_case(title, TableKind::Tree, Call::Command(Command::Text(line)))
 }
 
-const fn patterns_case(title: &'static str, table: Table, pattern: Repeated, count: usize) -> Case {
+const fn patterns_case(
+    title: &'static str,
+    table: TableKind,
+    pattern: Repeated,
+    count: usize,
+) -> Case {
     let patterns = Command::Patterns { reference: NO_REFERENCE, pattern, count };
     records_case(title, table, Call::Command(patterns))
 }
 
 const fn edit_case(title: &'static str, edit: Edit) -> Case {
-    records_case(title, Table::Tree, Call::Edit(edit))
+    records_case(title, TableKind::Tree, Call::Edit(edit))
 }
 
 const fn deep_edit_case(title: &'static str, edit: Edit) -> Case {
-    records_case(title, Table::Deep, Call::Edit(edit))
+    records_case(title, TableKind::Deep, Call::Edit(edit))
 }
 
 const fn undone_edit(line: &'static str, undo: &'static str, has_spare: bool) -> Edit {
@@ -274,6 +263,7 @@ const fn refused_edit(line: &'static str, number: u8) -> Edit {
     Edit { line, undo: None, refusal: Some(number), has_spare: false }
 }
 
+const BUFFER: usize = 65_536;
 /// From whom the rows of the halved table are hidden.
 const HALF_READER: u8 = 1;
 
@@ -281,17 +271,27 @@ impl Case {
     /// Who asks.
     pub fn reader(&self) -> u8 {
         match self.table {
-            Table::Halved => HALF_READER,
+            TableKind::Halved => HALF_READER,
             _ => 0,
         }
     }
 
-    /// Commands are answered over records alone.
+    /// Commands are answered over records alone. Names of sixteen levels of their own have no packed form of 512 rows.
     pub fn beside(&self) -> Option<Beside> {
         match (self.form, self.call) {
+            _ if self.table == TableKind::OwnLevels => None,
             (Form::Records, Call::Edit(_) | Call::Compaction) => Some(Beside::Listing),
             (Form::Records, Call::Check | Call::Walk(_)) => Some(Beside::Packed),
             _ => None,
+        }
+    }
+
+    /// More bytes than any answer or list of names has. A walk fills all of its buffers with zeros, so they are not longer
+    /// than they need be.
+    pub fn buffer_size(&self) -> usize {
+        match self.table {
+            TableKind::OwnLevels => 4 * BUFFER,
+            _ => BUFFER,
         }
     }
 
@@ -345,33 +345,23 @@ impl Repeated {
     }
 }
 
-/// How far apart in the rows two names are that lie side by side in the area. It has no divisor with
-/// the numbers of rows.
+/// How far apart in the rows two names are that lie side by side in the area, unless it divides the number of rows. It is
+/// a prime number.
 const STRIDE: usize = 37;
 /// What lies before each name and is no name's.
 const UNUSED: u8 = 0;
 /// Lengths of holes as removals leave them, in turn: of no name, of short ones and of a long one.
 const HOLES: [usize; 8] = [0, 23, 0, 0, 11, 0, 40, 0];
 
-impl Table {
+impl TableKind {
     /// The packed form.
     pub fn bytes(self, rows: usize) -> Vec<u8> {
         table_bytes(&self.rows(rows))
     }
 
-    /// The same rows as records: the names lie in another order, with unused bytes before each, so many
-    /// as `unused` says of its place in that order.
-    fn layout(self, rows: usize, unused: impl Fn(usize) -> usize) -> Layout {
-        let rows = self.rows(rows);
-        let mut records = vec![Record::default(); rows.len()];
-        let mut area = Vec::new();
-        for place in 0..rows.len() {
-            let at = place * STRIDE % rows.len();
-            area.resize(area.len() + unused(place), UNUSED);
-            records[at] = rows[at].record_at(area.len());
-            area.extend_from_slice(&rows[at].name);
-        }
-        Layout::counted(records, rows.len(), area)
+    /// The same rows as records, with so many unused bytes before each name as `unused` says of its place.
+    pub fn layout(self, rows: usize, unused: impl Fn(usize) -> usize) -> Layout {
+        laid_out(&self.rows(rows), unused)
     }
 
     pub fn rows(self, count: usize) -> Vec<NewRow> {
@@ -381,7 +371,7 @@ impl Table {
         };
         let mut rows: Vec<NewRow> = (0..count).map(row).collect();
         rows.sort_by(|one, other| one.name.cmp(&other.name));
-        if self == Table::Halved {
+        if self == TableKind::Halved {
             let others = Readers::from_bits(!(1 << HALF_READER));
             rows.iter_mut().step_by(2).for_each(|row| row.readers = others);
         }
@@ -390,18 +380,34 @@ impl Table {
 
     fn row(self, at: usize) -> (String, Flags) {
         match self {
-            Table::Tree | Table::Halved => tree_row(at),
-            Table::ManyA => (format!("{}{at:03}", "a".repeat(30)), Flags::EXISTS),
-            Table::LongA => (format!("{}{at:03}", "a".repeat(60)), Flags::EXISTS),
-            Table::Levels => (deep_name(at), Flags::EXISTS),
-            Table::Deep if at < DEPTH => (vec!["abb"; at + 1].join("/"), some_flags(at)),
-            Table::Deep => (deep_name(at), some_flags(at)),
-            Table::Dashes if at < DASHES => (dashed_name(at), some_flags(at)),
-            Table::Dashes => {
+            TableKind::Tree | TableKind::Halved => tree_row(at),
+            TableKind::ManyA => (format!("{}{at:03}", "a".repeat(30)), Flags::EXISTS),
+            TableKind::LongA => (format!("{}{at:03}", "a".repeat(60)), Flags::EXISTS),
+            TableKind::Levels => (deep_name(at), Flags::EXISTS),
+            TableKind::Deep if at < DEPTH => (vec!["abb"; at + 1].join("/"), some_flags(at)),
+            TableKind::Deep => (deep_name(at), some_flags(at)),
+            TableKind::Dashes if at < DASHES => (dashed_name(at), some_flags(at)),
+            TableKind::Dashes => {
                 (format!("{}/{:02}", dashed_name(at % DASHES), at / DASHES), some_flags(at))
             }
+            TableKind::OwnLevels => (format!("{at:03}{}", "/abb".repeat(15)), Flags::SUBSCRIBED),
         }
     }
+}
+
+/// Rows as records: the names lie in another order, with unused bytes before each, so many as `unused` says of its place
+/// in that order.
+pub fn laid_out(rows: &[NewRow], unused: impl Fn(usize) -> usize) -> Layout {
+    let stride = if rows.len().is_multiple_of(STRIDE) { 1 } else { STRIDE };
+    let mut records = vec![Record::default(); rows.len()];
+    let mut area = Vec::new();
+    for place in 0..rows.len() {
+        let at = place * stride % rows.len();
+        area.resize(area.len() + unused(place), UNUSED);
+        records[at] = rows[at].record_at(area.len());
+        area.extend_from_slice(&rows[at].name);
+    }
+    Layout::counted(records, rows.len(), area)
 }
 
 /// Levels above the last one of a deep name.

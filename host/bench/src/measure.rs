@@ -7,18 +7,20 @@ use compare::library::both::{
     Asked, Lent, Mailboxes, ANSWER, CHECK_TABLE, COLLECT, COMPACT, PROVED, SECOND, SUMMARIZE,
 };
 
-use crate::clock::seconds_of_one;
+use crate::clock::{processor_seconds, seconds_of_one};
 use crate::floor;
 use crate::inputs::{line_of, namespaces, Beside, Call, Case, Edit, Form, LISTING, SIZES};
+use crate::steps::match_steps;
 
-/// More than any answer to these cases.
-const ROOM: usize = 65_536;
 /// More than the OK line.
 const UNDO_ROOM: usize = 64;
 /// A sample repeats a call for about so long.
 const SAMPLE_SECONDS: f64 = 0.000_5;
-/// In a round each contender has one sample at each size, one behind the other.
+/// In a round each contender has one sample at each size, one after the other.
 const ROUNDS: usize = 41;
+/// Of a case whose rounds are long, there are so few that they take no longer, but as many as these at least.
+const CASE_SECONDS: f64 = 10.0;
+const FEWEST_ROUNDS: usize = 3;
 
 /// Who is measured: the two libraries, by their places in `both`, the two floors, and the proved
 /// library beside itself.
@@ -39,10 +41,12 @@ pub struct Measured {
     pub by_beside: Option<f64>,
     /// The proved library's time by its own at the first size.
     pub growth: f64,
+    /// The same by its own at the size before, which is half of this one; 1 at the first.
+    pub doubling: f64,
     /// Seconds of one call of the proved library.
     pub seconds: f64,
     /// Steps of the match over the names of the rows, of a command made of repeated patterns.
-    pub steps: Option<usize>,
+    pub steps: Option<u64>,
 }
 
 /// The result of a call, and the lent memory behind it.
@@ -74,6 +78,7 @@ struct Inputs {
     call: Call,
     beside: Option<Beside>,
     listing: Vec<u8>,
+    buffer_size: usize,
 }
 
 /// What is measured at one size, and how many calls make a sample.
@@ -88,7 +93,7 @@ type Round = [[f64; CONTENDERS]; SIZES.len()];
 
 /// Measures a case at every size. The error is a difference, or a refusal that is not meant.
 pub fn measure(case: &Case) -> Result<[Measured; SIZES.len()], String> {
-    let mut lent = Buffers::new();
+    let mut lent = Buffers::new(case.buffer_size());
     let mut prepared = Vec::new();
     for rows in SIZES {
         let mut inputs = Inputs::new(case, rows);
@@ -97,8 +102,12 @@ pub fn measure(case: &Case) -> Result<[Measured; SIZES.len()], String> {
         let calls = array::from_fn(|who| inputs.calls(who, &done, &mut lent));
         prepared.push(Prepared { inputs, done, calls });
     }
-    let rounds: Vec<Round> =
-        (0..ROUNDS).map(|_| array::from_fn(|size| prepared[size].seconds(&mut lent))).collect();
+    let mut rounds: Vec<Round> = Vec::new();
+    let start = processor_seconds();
+    let is_long = || processor_seconds() - start > CASE_SECONDS;
+    while rounds.len() < ROUNDS && (rounds.len() < FEWEST_ROUNDS || !is_long()) {
+        rounds.push(array::from_fn(|size| prepared[size].seconds(&mut lent)));
+    }
     Ok(array::from_fn(|size| Measured {
         steps: steps(case, SIZES[size]),
         ..medians(&rounds, size, case.beside().is_some())
@@ -107,15 +116,10 @@ pub fn measure(case: &Case) -> Result<[Measured; SIZES.len()], String> {
 
 /// The steps in which each row's name is matched: against one pattern after the other, up to the
 /// first that it matches.
-fn steps(case: &Case, rows: usize) -> Option<usize> {
+fn steps(case: &Case, rows: usize) -> Option<u64> {
     let Call::Command(command) = case.call else { return None };
     let patterns = command.patterns()?;
-    let of_name = |name: &[u8]| {
-        let failing = patterns.iter().take_while(|pattern| !luspemaro::matches(pattern, name));
-        let tried = patterns.len().min(failing.count() + 1);
-        patterns[..tried].iter().map(|pattern| luspemaro::match_steps(pattern, name)).sum::<usize>()
-    };
-    Some(case.table.rows(rows).iter().map(|row| of_name(&row.name)).sum())
+    Some(case.table.rows(rows).iter().map(|row| match_steps(&patterns, &row.name).0).sum())
 }
 
 fn medians(rounds: &[Round], size: usize, has_beside: bool) -> Measured {
@@ -127,6 +131,7 @@ fn medians(rounds: &[Round], size: usize, has_beside: bool) -> Measured {
         by_block_floor: by(BLOCK_FLOOR),
         by_beside: has_beside.then(|| by(BESIDE)),
         growth: median_of(&|round| round[size][PROVED] / round[0][PROVED]),
+        doubling: median_of(&|round| round[size][PROVED] / round[size.saturating_sub(1)][PROVED]),
         seconds: median_of(&|round| round[size][PROVED]),
         steps: None,
     }
@@ -159,6 +164,7 @@ impl Inputs {
             call: case.call,
             beside: case.beside(),
             listing: line_of(LISTING),
+            buffer_size: case.buffer_size(),
         }
     }
 
@@ -198,7 +204,7 @@ impl Inputs {
     }
 
     fn done(&mut self, who: usize) -> Done {
-        let mut lent = Buffers::new();
+        let mut lent = Buffers::new(self.buffer_size);
         Done { result: self.run(who, &mut lent), lent }
     }
 
@@ -285,12 +291,12 @@ impl Inputs {
 }
 
 impl Buffers {
-    fn new() -> Buffers {
-        Buffers { out: vec![b'.'; ROOM], found: vec![b'.'; ROOM], pending: vec![b'.'; ROOM] }
+    fn new(size: usize) -> Buffers {
+        Buffers { out: vec![b'.'; size], found: vec![b'.'; size], pending: vec![b'.'; size] }
     }
 }
 
-fn median(mut values: Vec<f64>) -> f64 {
+pub fn median(mut values: Vec<f64>) -> f64 {
     values.sort_by(f64::total_cmp);
     values[values.len() / 2]
 }

@@ -1,19 +1,22 @@
-//! An account: the table, its review file, its record and its log. Commands of all connections are decided
-//! one after another, and that order is the record's and the log's.
+//! An account: the table, its review file, its record and its log. Commands of all connections have one order,
+//! which is the record's and the log's, and each is answered over the table that the edits before it left.
+//!
+//! A command that reads is answered over a copy of the table, beside others, and has its place in the order when it
+//! is written. If a row was changed meanwhile, its answer may be an old one, so it is answered again.
 
 use std::fmt::{self, Display};
-use std::io::{self, Write};
+use std::io;
 use std::sync::{Mutex, MutexGuard};
 use std::time::Duration;
 
 use luspemaro::{Answered, Reader, Refusal};
 
-use crate::log::{word_text, Log, Peer};
-use crate::record::Record;
-use crate::review::Review;
+use crate::keeping::Keeping;
+use crate::log::Peer;
 use crate::rooms::Rooms;
 use crate::table::Table;
-use crate::words::{own_answer, Own};
+use crate::turns::Turns;
+use crate::words::{is_about_line, is_edit, own_answer, Own};
 
 /// What a command comes to.
 #[derive(Debug, PartialEq, Eq)]
@@ -39,33 +42,41 @@ pub struct Client {
     pub idle: Option<Duration>,
 }
 
-/// What is kept of commands, each if it is wanted.
-#[derive(Default)]
-pub struct Keeping {
-    pub review: Option<Review>,
-    pub record: Option<Record>,
-    pub log: Option<Log>,
-}
-
 /// What is served.
 pub struct Account {
+    /// Locked for a short while, and while an edit is decided and written.
     state: Mutex<State>,
+    /// An edit has a turn alone. A reading that edits have overtaken too often shares one, so that none overtakes it.
+    turns: Turns,
     rooms: Rooms,
 }
 
 struct State {
-    /// Where a command is decided.
+    /// Where an edit is decided.
     table: Table,
-    /// The same between two commands. It is what the table was before an edit that cannot be written.
+    /// The same between two edits. It is what the table was before an edit that cannot be written.
     copy: Table,
+    /// The number of edits that have changed a row.
+    edits: u64,
+    /// Copies of the table as it is that no reading has.
+    spare: Vec<Lent>,
     keeping: Keeping,
     /// All is written, and nothing is decided any more.
     has_ended: bool,
 }
 
-const NOT_RECORDED: &str = "the record cannot be written, so the command is not answered";
-const NOT_LOGGED: &str = "the log cannot be written, so the command is not answered";
-const NOT_REVIEWED: &str = "the review file cannot be written, so the edit is not made";
+/// A copy of the table over which a reading is answered.
+struct Lent {
+    table: Table,
+    /// The number of edits that it has.
+    edits: u64,
+}
+
+/// How often a reading is answered beside edits before they wait for it.
+const FREE_TRIES: usize = 3;
+/// The most copies of the table that are kept for later readings.
+const MOST_SPARE: usize = 8;
+
 const FAILED: &str = "the server has failed before, so nothing is decided any more";
 const ENDED: &str = "the server ends, so the command is not answered";
 
@@ -73,7 +84,8 @@ impl Account {
     /// An account without edits or commands so far.
     pub fn new(table: Table, keeping: Keeping) -> Account {
         let (copy, rooms) = (table.clone(), table.rooms());
-        Account { state: Mutex::new(State { table, copy, keeping, has_ended: false }), rooms }
+        let state = State { table, copy, edits: 0, spare: Vec::new(), keeping, has_ended: false };
+        Account { state: Mutex::new(state), turns: Turns::default(), rooms }
     }
 
     /// Memory for the longest answer.
@@ -81,50 +93,133 @@ impl Account {
         vec![0; self.rooms.answer]
     }
 
-    /// Decides one command. It is decided on the table, then written where it has to be, and only then is an edit
-    /// kept; one that cannot be written is undone. Nothing is copied for a command that changes no row.
+    /// Decides one command, and writes it where it has to be.
     pub fn decide(&self, client: &Client, line: &[u8], out: &mut [u8]) -> Decided {
-        match self.lock() {
-            Some(state) if state.has_ended => Decided::NotKept(ENDED),
-            Some(mut state) => state.decide(client, line, out),
-            None => Decided::NotKept(FAILED),
+        let decided =
+            if is_edit(line) { self.edit(client, line, out) } else { self.read(client, line, out) };
+        decided.unwrap_or_else(Decided::NotKept)
+    }
+
+    /// Decides an edit: on the table, then it is written, and only then is it kept; one that cannot be written is
+    /// undone. Nothing is copied for one that changes no row. An error says why nothing is decided.
+    fn edit(&self, client: &Client, line: &[u8], out: &mut [u8]) -> Result<Decided, &'static str> {
+        let _turn = self.turns.alone();
+        Ok(self.open()?.edit(client, line, out))
+    }
+
+    /// Decides a command that changes no row.
+    fn read(&self, client: &Client, line: &[u8], out: &mut [u8]) -> Result<Decided, &'static str> {
+        for _ in 0..FREE_TRIES {
+            if let Some(decided) = self.try_read(client, line, out)? {
+                return Ok(decided);
+            }
         }
+        let turn = self.turns.shared();
+        let decided = self.try_read(client, line, out)?;
+        drop(turn);
+        // What still is not decided changes a row, so it is an edit, whatever its word.
+        decided.map_or_else(|| self.edit(client, line, out), Ok)
+    }
+
+    /// Answers a command over a copy of the table, and writes it. None if a row was changed meanwhile, or if the
+    /// command itself changes one: then nothing was done.
+    fn try_read(
+        &self,
+        client: &Client,
+        line: &[u8],
+        out: &mut [u8],
+    ) -> Result<Option<Decided>, &'static str> {
+        let mut lent = self.open()?.lend();
+        let answered = lent.table.answer(client.reader, line, out);
+        if is_of_edit(answered) {
+            return Ok(None);
+        }
+        Ok(self.open()?.end_reading(lent, client, line, answered, out))
     }
 
     /// Adds a line to the log, if there is one, of what is no command that was decided.
     pub fn note(&self, peer: Option<&Peer>, what: fmt::Arguments) -> io::Result<()> {
-        let Some(mut state) = self.lock() else {
-            return Err(io::Error::other(FAILED));
-        };
-        state.note(peer, None, what)
+        let mut state = self.lock().map_err(io::Error::other)?;
+        state.keeping.note(peer, None, what)
     }
 
     /// Returns when all that was written is on the disk. Nothing is decided after it.
     pub fn end(&self) -> io::Result<()> {
-        let Some(mut state) = self.lock() else {
-            return Err(io::Error::other(FAILED));
-        };
+        let mut state = self.lock().map_err(io::Error::other)?;
         state.has_ended = true;
-        state.note(None, None, format_args!("the server ends"))?;
-        let Keeping { record, log, .. } = &mut state.keeping;
-        record.as_mut().map_or(Ok(()), Record::sync)?;
-        log.as_mut().map_or(Ok(()), Log::sync)
+        state.keeping.note(None, None, format_args!("the server ends"))?;
+        state.keeping.sync()
     }
 
     /// The table as it is.
     pub fn table(&self) -> Option<Table> {
-        self.lock().map(|state| state.table.clone())
+        self.lock().ok().map(|state| state.table.clone())
     }
 
-    /// None after a thread has failed while it had the lock.
-    fn lock(&self) -> Option<MutexGuard<'_, State>> {
-        self.state.lock().ok()
+    /// The state while commands are decided, or why none is any more.
+    fn open(&self) -> Result<MutexGuard<'_, State>, &'static str> {
+        let state = self.lock()?;
+        if state.has_ended {
+            return Err(ENDED);
+        }
+        Ok(state)
+    }
+
+    /// An error after a thread has failed while it had the lock.
+    fn lock(&self) -> Result<MutexGuard<'_, State>, &'static str> {
+        self.state.lock().map_err(|_| FAILED)
+    }
+}
+
+/// Whether the answer is one after which the memory of a table may be another.
+fn is_of_edit(answered: Result<Answered, Refusal>) -> bool {
+    match answered {
+        Ok(Answered { changed, .. }) => changed,
+        Err(refusal) => refusal == Refusal::NoRoom,
     }
 }
 
 impl State {
-    fn decide(&mut self, client: &Client, line: &[u8], out: &mut [u8]) -> Decided {
+    fn edit(&mut self, client: &Client, line: &[u8], out: &mut [u8]) -> Decided {
         let answered = self.table.answer(client.reader, line, out);
+        let decided = self.keep(client, line, answered, out);
+        self.settle(answered, !matches!(decided, Decided::NotKept(_)));
+        decided
+    }
+
+    /// A copy of the table as it is.
+    fn lend(&mut self) -> Lent {
+        let new = || Lent { table: self.table.clone(), edits: self.edits };
+        self.spare.pop().unwrap_or_else(new)
+    }
+
+    /// Takes back a copy that a command left as it was, and writes the command, if the answer is that of the table as it
+    /// is. None if a row was changed meanwhile.
+    fn end_reading(
+        &mut self,
+        lent: Lent,
+        client: &Client,
+        line: &[u8],
+        answered: Result<Answered, Refusal>,
+        out: &[u8],
+    ) -> Option<Decided> {
+        if lent.edits == self.edits {
+            self.spare.push(lent);
+            self.spare.truncate(MOST_SPARE);
+        } else if !answered.is_err_and(is_about_line) {
+            return None;
+        }
+        Some(self.keep(client, line, answered, out))
+    }
+
+    /// Writes a command with what the library gives, at the front of `out`. Returns what the client is answered.
+    fn keep(
+        &mut self,
+        client: &Client,
+        line: &[u8],
+        answered: Result<Answered, Refusal>,
+        out: &[u8],
+    ) -> Decided {
         let decided = match answered {
             Ok(Answered { length, .. }) => Decided::Answered(length),
             Err(Refusal::Word) => own_answer(line, client.accepts_login)
@@ -133,82 +228,21 @@ impl State {
         };
         let answer = answered.map(|given| &out[..given.length]);
         let changed = answered.is_ok_and(|given| given.changed);
-        let written = self.write(client, line, answer, &decided, changed);
-        self.settle(answered, written.is_ok());
-        match written {
-            Ok(()) => decided,
-            Err(why) => {
-                let decided = Decided::NotKept(why);
-                if why != NOT_LOGGED {
-                    let what = format_args!("{} {decided}", word_text(line));
-                    // Where the log takes nothing either, that is reported, and the client is told no more than why.
-                    let _ = self.note(Some(&client.peer), None, what);
-                }
-                decided
-            }
-        }
+        self.keeping.keep(client, line, answer, decided, changed)
     }
 
-    /// Makes table and copy the same again after a command: an edit that is written is made in the copy too, and one
+    /// Makes table and copy the same again after an edit: one that is written is made in the copy too, and one
     /// that is not is undone. For what is refused with 15, names may have been moved together.
     fn settle(&mut self, answered: Result<Answered, Refusal>, is_written: bool) {
         match answered {
-            Ok(Answered { changed: true, .. }) if is_written => self.copy.clone_from(&self.table),
-            Ok(Answered { changed: true, .. }) | Err(Refusal::NoRoom) => {
-                self.table.clone_from(&self.copy)
+            Ok(Answered { changed: true, .. }) if is_written => {
+                self.copy.clone_from(&self.table);
+                self.edits += 1;
+                self.spare.clear();
             }
+            _ if is_of_edit(answered) => self.table.clone_from(&self.copy),
             _ => {}
         }
-    }
-
-    /// Writes a command to the record, to the log and, where it changed a row, to the review file; or to none of
-    /// them.
-    fn write(
-        &mut self,
-        client: &Client,
-        line: &[u8],
-        answer: Result<&[u8], Refusal>,
-        decided: &Decided,
-        changed: bool,
-    ) -> Result<(), &'static str> {
-        let mut frame = None;
-        if let Some(record) = &mut self.keeping.record {
-            let added = record.add(client.reader, line, answer);
-            frame = Some(added.map_err(|error| not_written("the record", &error, NOT_RECORDED))?);
-        }
-        let what = format_args!("{} {decided}", word_text(line));
-        if self.note(Some(&client.peer), frame, what).is_err() {
-            self.keeping.record.iter_mut().for_each(Record::take_back);
-            return Err(NOT_LOGGED);
-        }
-        if changed {
-            self.review(line).inspect_err(|_| {
-                self.keeping.record.iter_mut().for_each(Record::take_back);
-                self.keeping.log.iter_mut().for_each(Log::take_back);
-            })?;
-        }
-        Ok(())
-    }
-
-    /// Writes an edit to the review file, if there is one.
-    fn review(&mut self, line: &[u8]) -> Result<(), &'static str> {
-        let Some(review) = &mut self.keeping.review else {
-            return Ok(());
-        };
-        let kept = review.keep(line);
-        kept.map_err(|error| not_written("the review file", &error, NOT_REVIEWED))
-    }
-
-    fn note(
-        &mut self,
-        peer: Option<&Peer>,
-        frame: Option<u64>,
-        what: fmt::Arguments,
-    ) -> io::Result<()> {
-        let Some(log) = &mut self.keeping.log else {
-            return Ok(());
-        };
-        log.add(peer, frame, what).inspect_err(|error| tell(format_args!("the log: {error}")))
     }
 }
 
@@ -224,21 +258,17 @@ impl Display for Decided {
     }
 }
 
-fn not_written(what: &str, error: &io::Error, why: &'static str) -> &'static str {
-    tell(format_args!("{what}: {error}"));
-    why
-}
-
-/// One line on standard error. Where that cannot be written to, nothing is told.
-pub fn tell(message: impl Display) {
-    let _ = writeln!(io::stderr(), "serve: {message}");
-}
-
 #[cfg(test)]
 mod tests {
+    use std::thread;
+
     use crate::account::*;
     use crate::frame_file::tests::{Fails, Fake};
     use crate::frame_file::FrameFile;
+    use crate::frame_log::FrameLog;
+    use crate::keeping::{NOT_LOGGED, NOT_RECORDED, NOT_REVIEWED};
+    use crate::log::Log;
+    use crate::review::Review;
 
     const SUBSCRIBE: &[u8] = b"a SUBSCRIBE Foo\r\n";
     const LSUB: &[u8] = b"b LSUB \"\" *\r\n";
@@ -255,17 +285,20 @@ mod tests {
         let (review, record, log) = (Fake::default(), Fake::default(), Fake::default());
         let keeping = Keeping {
             review: Some(Review::of_file(FrameFile::new(review.clone(), 0))),
-            record: Some(Record::of_file(FrameFile::new(record.clone(), 0))),
+            record: Some(FrameLog::of_file(FrameFile::new(record.clone(), 0))),
             log: Some(Log::of_file(FrameFile::new(log.clone(), 0))),
         };
         Kept { account: Account::new(table, keeping), review, record, log }
     }
 
+    fn client() -> Client {
+        let peer = Peer { connection: 1, address: "tunnel".to_string() };
+        Client { peer, reader: Reader::EDITOR, accepts_login: false, idle: None }
+    }
+
     fn decide(account: &Account, line: &[u8]) -> Result<String, Decided> {
         let mut out = account.answer_memory();
-        let peer = Peer { connection: 1, address: "tunnel".to_string() };
-        let client = Client { peer, reader: Reader::EDITOR, accepts_login: false, idle: None };
-        match account.decide(&client, line, &mut out) {
+        match account.decide(&client(), line, &mut out) {
             Decided::Answered(length) => Ok(String::from_utf8_lossy(&out[..length]).into_owned()),
             other => Err(other),
         }
@@ -328,6 +361,46 @@ mod tests {
         assert!(decide(&account, SUBSCRIBE).is_ok());
         let [table, copy] = both(&account);
         assert_eq!(table, copy);
+    }
+
+    /// What was answered over the table before an edit has no place after it, unless it is about the line alone.
+    #[test]
+    fn an_answer_that_an_edit_overtook_is_not_written() {
+        let Kept { account, record, .. } = kept();
+        let mut out = account.answer_memory();
+        for (turn, (line, is_written)) in
+            [(LSUB, false), (b"c NOOP\r\n", true), (b"c LIST (\r\n", true)].into_iter().enumerate()
+        {
+            let mut lent = account.open().expect("a state").lend();
+            let answered = lent.table.answer(Reader::EDITOR, line, &mut out);
+            let edit = format!("a SUBSCRIBE n{turn}\r\n");
+            assert!(decide(&account, edit.as_bytes()).is_ok());
+            let before = record.text().lines().count();
+            let mut state = account.open().expect("a state");
+            let decided = state.end_reading(lent, &client(), line, answered, &out);
+            assert_eq!(decided.is_some(), is_written);
+            assert_eq!(record.text().lines().count() - before, 2 * usize::from(is_written));
+            assert!(state.spare.is_empty());
+        }
+    }
+
+    /// Beside an edit that waits for its turn, everything else is decided.
+    #[test]
+    fn nobody_waits_for_an_edit_that_waits() {
+        let Kept { account, .. } = kept();
+        let turn = account.turns.shared();
+        thread::scope(|scope| {
+            let edit = scope.spawn(|| decide(&account, SUBSCRIBE));
+            while !account.turns.has_waiting() {
+                thread::yield_now();
+            }
+            assert_eq!(decide(&account, LSUB).as_deref(), Ok("b OK done\r\n"));
+            assert!(matches!(decide(&account, b"c NOOP\r\n"), Err(Decided::Own(_))));
+            account.note(None, format_args!("a line")).expect("a log");
+            drop(turn);
+            assert!(edit.join().expect("an edit").is_ok());
+        });
+        assert!(decide(&account, LSUB).is_ok_and(|answer| answer.contains("Foo")));
     }
 
     /// Only what changed a row is written to the review file, by what the library says of it.

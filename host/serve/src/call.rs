@@ -32,12 +32,12 @@ pub struct Call {
 
 /// A socket.
 pub struct Listening {
-    pub place: Place,
+    pub place: ListenAt,
     pub limits: Limits,
 }
 
 /// Where connections come from.
-pub enum Place {
+pub enum ListenAt {
     Address(SocketAddr),
     /// Opened by another process.
     HandedOver(TcpListener),
@@ -134,20 +134,20 @@ impl Words {
     }
 
     /// The socket, which is of this machine alone unless any address is allowed.
-    fn place(&self, handed: Option<TcpListener>) -> Result<Option<Place>, String> {
+    fn place(&self, handed: Option<TcpListener>) -> Result<Option<ListenAt>, String> {
         let place = match (self.address, handed) {
             (Some(_), Some(_)) => {
                 return Err(
                     "a socket is handed over (LISTEN_FDS), so --listen names none".to_string()
                 );
             }
-            (Some(address), None) => Place::Address(address),
-            (None, Some(listener)) => Place::HandedOver(listener),
+            (Some(address), None) => ListenAt::Address(address),
+            (None, Some(listener)) => ListenAt::HandedOver(listener),
             (None, None) => return Ok(None),
         };
         let address = match &place {
-            Place::Address(address) => *address,
-            Place::HandedOver(listener) => listener
+            ListenAt::Address(address) => *address,
+            ListenAt::HandedOver(listener) => listener
                 .local_addr()
                 .map_err(|error| format!("the socket of LISTEN_FDS is none of TCP: {error}"))?,
         };

@@ -2,7 +2,7 @@
 
 use std::time::{SystemTime, UNIX_EPOCH};
 
-use session::date_text;
+use formats::date::date_text;
 
 /// A time, as `2026-11-17T16:20:57.123Z`.
 pub fn time_text(time: SystemTime) -> String {

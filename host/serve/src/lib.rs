@@ -9,11 +9,14 @@
 //! | `rooms` | the numbers of `include/luspemaro.h`: rooms and stacks |
 //! | `load` | the rows and entries of a session file, a file of frames or a packed table |
 //! | `table` | the table as records, and one command over it |
+//! | `second_program` | why a table does not pass, as the second program sees it, which is not proved |
 //! | `frame_file` | a file of frames that is only added to |
 //! | `review` | the accepted edits, kept so that no crash loses one |
-//! | `record` | every command with what the library answered |
+//! | `frame_log` | the record: every command with what the library answered |
 //! | `log` | a line for each connection, command and line of the server itself |
-//! | `account` | table, review, record and log together: one command decided and kept |
+//! | `keeping` | review, record and log together: a command is written where it has to be, or nowhere |
+//! | `turns` | turns that are shared or alone, in the order in which they are asked for |
+//! | `account` | the table with what is kept of it: one command decided and kept |
 //! | `words` | tag and word of a line, and what is answered to words that the library does not know |
 //! | `connection` | one connection: bytes in, answers out |
 //! | `listen` | connections of a socket: threads, and the limits of their number and idle time |
@@ -30,29 +33,33 @@ mod activation;
 mod clock;
 mod connection;
 mod frame_file;
+mod frame_log;
+mod keeping;
 mod listen;
 mod load;
 mod log;
-mod record;
 mod review;
 mod rooms;
+pub mod second_program;
 mod start;
 mod stop;
 mod system;
 mod table;
+mod turns;
 mod words;
 
-pub use account::{Account, Client, Decided, Keeping};
+pub use account::{Account, Client, Decided};
 pub use activation::handed_over;
 pub use clock::dated;
 pub use connection::{converse, Ending};
+pub use frame_log::FrameLog;
+pub use keeping::Keeping;
 pub use listen::{listen, Limits};
 pub use load::{load, LoadError, Loaded};
 pub use log::{word_text, Log, Peer};
-pub use record::Record;
 pub use review::{Review, ReviewError};
 pub use rooms::{Rooms, MAX_ROWS, THREAD_STACK};
 pub use start::start_text;
 pub use stop::{Stop, Woken, END_WAIT};
-pub use table::{namespaces_fault, records_of, table_fault, Table, TableError};
+pub use table::{records_of, rows_of, Table, TableError};
 pub use words::CAPABILITIES;

@@ -10,8 +10,9 @@ use std::time::{Duration, Instant};
 
 use luspemaro::Reader;
 
-use crate::account::{tell, Account, Client};
+use crate::account::{Account, Client};
 use crate::connection::converse;
+use crate::keeping::tell;
 use crate::log::Peer;
 use crate::rooms::THREAD_STACK;
 use crate::stop::{Stop, Woken, END_WAIT};
@@ -57,9 +58,9 @@ struct Open {
 }
 
 /// One of the connections that are open.
-struct Place(Arc<Open>);
+struct Slot(Arc<Open>);
 
-impl Drop for Place {
+impl Drop for Slot {
     fn drop(&mut self) {
         *self.0.count.lock().unwrap_or_else(PoisonError::into_inner) -= 1;
         self.0.changed.notify_all();
@@ -68,13 +69,13 @@ impl Drop for Place {
 
 impl Open {
     /// A place, unless so many are taken.
-    fn take(open: &Arc<Open>, most: usize) -> Option<Place> {
+    fn take(open: &Arc<Open>, most: usize) -> Option<Slot> {
         let mut count = open.count.lock().unwrap_or_else(PoisonError::into_inner);
         if *count >= most {
             return None;
         }
         *count += 1;
-        Some(Place(Arc::clone(open)))
+        Some(Slot(Arc::clone(open)))
     }
 
     /// Waits until no connection is open, at most so long.

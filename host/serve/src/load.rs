@@ -7,8 +7,11 @@ use std::fs::File;
 use std::io::{self, Read};
 use std::path::Path;
 
-use second::frames::Frame;
-use session::{Content, Session, SessionError, Source};
+use formats::error::SessionError;
+use formats::frames::Frame;
+use formats::item::Content;
+use formats::session::Session;
+use formats::source::Source;
 
 use crate::rooms::MAX_TABLE;
 

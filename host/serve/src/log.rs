@@ -11,7 +11,7 @@ use std::io::{self, Read, Seek, SeekFrom};
 use std::path::Path;
 use std::time::SystemTime;
 
-use session::line_text;
+use formats::text::line_text;
 
 use crate::clock::time_text;
 use crate::frame_file::{lock, FrameFile};

@@ -16,10 +16,10 @@ use std::sync::Arc;
 use std::thread;
 use std::time::SystemTime;
 
-use call::{Call, Listening, Place};
+use call::{Call, ListenAt, Listening};
 use serve::{
-    converse, dated, listen, load, start_text, Account, Client, Ending, Keeping, Log, Peer, Record,
-    Review, ReviewError, Rooms, Stop, Table, Woken, END_WAIT, THREAD_STACK,
+    converse, dated, listen, load, start_text, Account, Client, Ending, FrameLog, Keeping, Log,
+    Peer, Review, ReviewError, Rooms, Stop, Table, Woken, END_WAIT, THREAD_STACK,
 };
 
 /// Trouble with the machine: a socket, a file that cannot be written, input or output that fails.
@@ -87,12 +87,12 @@ fn account_of(call: &Call) -> Result<Account, Failure> {
 }
 
 /// The name of a record may hold the time of the start.
-fn begin_record(call: &Call, table: &Table) -> Result<Option<Record>, Failure> {
+fn begin_record(call: &Call, table: &Table) -> Result<Option<FrameLog>, Failure> {
     let Some(pattern) = &call.record else {
         return Ok(None);
     };
     let path = dated(pattern, SystemTime::now()).map_err(failed(NOT_RUN))?;
-    let record = Record::create(path.as_ref(), table)
+    let record = FrameLog::create(path.as_ref(), table)
         .map_err(|error| failed(NOT_RUN)(format!("{path}: {error}")))?;
     if path != *pattern {
         tell(&format!("the record is {path}"));
@@ -136,11 +136,11 @@ fn open_review(call: &Call, table: &mut Table) -> Result<Option<Review>, Failure
 
 fn serve_socket(account: &Arc<Account>, call: &Call, listening: Listening) -> Result<(), Failure> {
     let (listener, place) = match listening.place {
-        Place::Address(address) => {
+        ListenAt::Address(address) => {
             let trouble = |error| failed(TROUBLE)(format!("{address}: {error}"));
             (TcpListener::bind(address).map_err(trouble)?, address.to_string())
         }
-        Place::HandedOver(listener) => (listener, "the socket that is handed over".to_string()),
+        ListenAt::HandedOver(listener) => (listener, "the socket that is handed over".to_string()),
     };
     let trouble = |error: io::Error| failed(TROUBLE)(format!("{place}: {error}"));
     let address = listener.local_addr().map_err(trouble)?;

@@ -10,8 +10,8 @@ use std::fs::{File, OpenOptions};
 use std::io::{self, BufRead, BufReader, Read};
 use std::path::Path;
 
+use formats::frames::{Frame, MAX_DIGITS};
 use luspemaro::{Answered, Reader, Refusal};
-use second::frames::{Frame, MAX_DIGITS};
 
 use crate::frame_file::{lock, FrameFile};
 use crate::table::Table;
@@ -24,7 +24,7 @@ pub struct Review {
 
 /// What a review file held when it was opened.
 #[derive(Clone, Copy, Debug, Default, PartialEq, Eq)]
-pub struct Replayed {
+pub struct MadeAgain {
     /// How many edits were made again, each of which changed a row.
     pub edits: u64,
     /// Bytes after the last LF, which are cut off.
@@ -52,12 +52,12 @@ struct Reading {
     length: u64,
     /// Bytes of the heading that the file does not have.
     heading_left: usize,
-    replayed: Replayed,
+    replayed: MadeAgain,
 }
 
 impl Review {
     /// Opens a review file of the table, or begins one, and makes its edits again.
-    pub fn open(path: &Path, table: &mut Table) -> Result<(Review, Replayed), ReviewError> {
+    pub fn open(path: &Path, table: &mut Table) -> Result<(Review, MadeAgain), ReviewError> {
         let file = OpenOptions::new().read(true).append(true).create(true).open(path)?;
         if !file.metadata()?.is_file() {
             return Err(io::Error::other("not a file").into());
@@ -98,8 +98,12 @@ fn read_edits(
     mut make: impl FnMut(&[u8]) -> Result<Answered, Refusal>,
 ) -> Result<Reading, ReviewError> {
     let mut input = BufReader::new(file);
-    let mut read =
-        Reading { lines: 0, length: 0, heading_left: heading.len(), replayed: Replayed::default() };
+    let mut read = Reading {
+        lines: 0,
+        length: 0,
+        heading_left: heading.len(),
+        replayed: MadeAgain::default(),
+    };
     loop {
         let mut line = Vec::new();
         (&mut input).take(MAX_DIGITS as u64 + 1).read_until(b'\n', &mut line)?;

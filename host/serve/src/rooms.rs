@@ -1,9 +1,7 @@
 //! The numbers of `include/luspemaro.h` that a server needs.
 
+use formats::sizes::{PROGRAM_ANSWER, PROGRAM_AREA, ROOM_ANSWER};
 use luspemaro::COMMAND_ROOM;
-use second::frames::ANSWER_ROOM;
-use second::store::STORE_AREA;
-use session::ROOM_ANSWER;
 
 /// `LUSPEMARO_MAX_ROWS`: so many records are lent.
 pub const MAX_ROWS: usize = 512;
@@ -36,7 +34,8 @@ impl Rooms {
     /// The most that the library takes: no answer is refused for its length.
     pub const WIDE: Rooms = Rooms { area: MAX_AREA, answer: ROOM_ANSWER, compacts: true };
     /// Those of the program of frames, so that it gives the same answers to the same commands.
-    pub const PROGRAM: Rooms = Rooms { area: STORE_AREA, answer: ANSWER_ROOM, compacts: false };
+    pub const PROGRAM: Rooms =
+        Rooms { area: PROGRAM_AREA, answer: PROGRAM_ANSWER, compacts: false };
 }
 
 /// The memory that a command is fed into.

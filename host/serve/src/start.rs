@@ -1,7 +1,7 @@
 //! What is said at the start: the table as it is served, and what an answer may have.
 
+use formats::sha256::sum_of_bytes;
 use luspemaro::{Answered, Reader, COMMAND_ROOM};
-use session::sum_of_bytes;
 
 use crate::rooms::{Rooms, LIST_LINE};
 use crate::table::Table;

@@ -3,20 +3,18 @@
 use std::error::Error;
 use std::fmt;
 
+use formats::frames::Frame;
+use formats::namespaces::split_entries;
+use formats::readers::Readers;
+use formats::rows::{split_rows, Flags, Row};
+use formats::sizes::PROGRAM_TABLE;
 use luspemaro::{
     answer, check_namespaces, check_records, check_table, compact, summarize, Answered, Reader,
     Record, Records, RecordsMut, Refusal, Summary,
 };
-use second::frames::{Frame, TABLE_ROOM};
-use second::namespaces::{checked_entries, entry_at, split_entries};
-use second::packed::split_rows;
-use second::rows::{Flags, Row};
-use second::Readers;
-use session::{list_fault_text, name_text};
 
 use crate::rooms::{Rooms, MAX_ROWS};
-
-const NOT_REFUSED: &str = "the programs differ: the second one does not refuse this";
+use crate::second_program::{namespaces_fault, table_fault};
 
 /// A table that passes both checks, and what it is lent.
 #[derive(Clone, Debug, PartialEq, Eq)]
@@ -49,7 +47,7 @@ impl Table {
         if !check_namespaces(namespaces) {
             return Err(TableError::Refused(Refusal::Namespaces, namespaces_fault(namespaces)));
         }
-        if rooms == Rooms::PROGRAM && rows.len() > TABLE_ROOM {
+        if rooms == Rooms::PROGRAM && rows.len() > PROGRAM_TABLE {
             return Err(TableError::NoRoom("a table that is recorded has at most 16,384 bytes"));
         }
         let held = split_rows(rows).0;
@@ -90,12 +88,12 @@ impl Table {
 
     /// The rows in their packed form.
     pub fn packed(&self) -> Vec<u8> {
-        self.rows().filter_map(|row| row.to_bytes()).flatten().collect()
+        rows_of(self.records()).filter_map(|row| row.to_bytes()).flatten().collect()
     }
 
     /// A frame for each row, then for each entry, LF after each.
     pub fn heading(&self) -> Vec<u8> {
-        let rows = self.rows().filter_map(|row| row.to_bytes()).map(Frame::Row);
+        let rows = rows_of(self.records()).filter_map(|row| row.to_bytes()).map(Frame::Row);
         let entries = split_entries(&self.namespaces).0;
         let entries = entries.iter().filter_map(|entry| entry.to_bytes()).map(Frame::Entry);
         rows.chain(entries).flat_map(|frame| [frame.encode(), b"\n".to_vec()].concat()).collect()
@@ -130,15 +128,17 @@ impl Table {
         let table = RecordsMut { records, count: *count, area, summary };
         answer(reader, table, namespaces, line, out)
     }
+}
 
-    fn rows(&self) -> impl Iterator<Item = Row<'_>> {
-        self.records.iter().take(self.count).filter_map(|record| {
-            let start = usize::from(record.start);
-            let name = self.area.get(start..start + usize::from(record.len))?;
-            let readers = Readers::from_bits(record.readers);
-            Some(Row { flags: Flags::from_bits(record.flags), readers, name })
-        })
-    }
+/// The rows of records whose names lie inside of the area.
+pub fn rows_of<'t>(table: Records<'t>) -> impl Iterator<Item = Row<'t>> {
+    let Records { records, count, area, .. } = table;
+    records.iter().take(count).filter_map(|record| {
+        let start = usize::from(record.start);
+        let name = area.get(start..start + usize::from(record.len))?;
+        let readers = Readers::from_bits(record.readers);
+        Some(Row { flags: Flags::from_bits(record.flags), readers, name })
+    })
 }
 
 /// The records of rows, their names in row order without gaps, and these names. The rows are those of a packed table of at
@@ -151,18 +151,6 @@ pub fn records_of(rows: &[Row]) -> (Vec<Record>, Vec<u8>) {
         area.extend_from_slice(name);
     }
     (records, area)
-}
-
-/// Which row is wrong, and which rule it breaks.
-pub fn table_fault(rows: &[u8]) -> String {
-    session::table_fault(rows).unwrap_or_else(|| NOT_REFUSED.to_string())
-}
-
-/// Which entry is wrong, and which rule it breaks.
-pub fn namespaces_fault(list: &[u8]) -> String {
-    let prefix = |at| entry_at(list, at).map(|entry| name_text(entry.prefix));
-    let fault = checked_entries(list).err().map(|fault| list_fault_text(fault, prefix));
-    fault.unwrap_or_else(|| NOT_REFUSED.to_string())
 }
 
 impl fmt::Display for TableError {

@@ -18,7 +18,7 @@ const CRLF: &[u8] = b"\r\n";
 const NO_TAG: &[u8] = b"*";
 
 /// A line up to the end of its word.
-struct Start<'l> {
+struct LineStart<'l> {
     tag: &'l [u8],
     word: &'l [u8],
     /// What comes after the word, without CR LF.
@@ -55,14 +55,15 @@ pub fn bare_lf_hint() -> Vec<u8> {
 }
 
 /// Whether the word of a line is that of an edit. What an edit changed is the library's to say; this tells what a line
-/// of a review file is that changed no row.
+/// of a review file is that changed no row, and which commands are decided alone from the start.
 pub fn is_edit(line: &[u8]) -> bool {
-    Start::of(line).is_some_and(|start| start.is_word("SUBSCRIBE") || start.is_word("UNSUBSCRIBE"))
+    LineStart::of(line)
+        .is_some_and(|start| start.is_word("SUBSCRIBE") || start.is_word("UNSUBSCRIBE"))
 }
 
 /// The answer to a line whose word the library does not know. A line without a word has none.
 pub fn own_answer(text: &[u8], accepts_login: bool) -> Option<Own> {
-    let start = Start::of(text).filter(|start| !start.word.is_empty())?;
+    let start = LineStart::of(text).filter(|start| !start.word.is_empty())?;
     let (lines, is_end) = if start.is_word("CAPABILITY") {
         (start.plain(&["CAPABILITY ", CAPABILITIES].concat()), false)
     } else if start.is_word("NOOP") {
@@ -87,13 +88,15 @@ impl Own {
     }
 }
 
-/// The line of a refusal: BAD for 3 to 8, which are about the line, and NO for all others. The text is
+/// Whether a refusal, 3 to 8, is about the line alone: the table decides nothing about it.
+pub fn is_about_line(refusal: Refusal) -> bool {
+    (3..=8).contains(&refusal.number())
+}
+
+/// The line of a refusal: BAD for what is about the line, and NO for all others. The text is
 /// the line that is refused, or its first bytes.
 pub fn refusal_line(text: &[u8], refusal: Refusal) -> Vec<u8> {
-    let status = match refusal.number() {
-        3..=8 => "BAD",
-        _ => "NO",
-    };
+    let status = if is_about_line(refusal) { "BAD" } else { "NO" };
     let told = format!("[refusal {}] {}", refusal.number(), refusal.meaning());
     line(&[tag_of(text), status.as_bytes(), told.as_bytes()])
 }
@@ -112,12 +115,12 @@ fn tag_of(text: &[u8]) -> &[u8] {
     tag
 }
 
-impl<'l> Start<'l> {
-    fn of(text: &'l [u8]) -> Option<Start<'l>> {
+impl<'l> LineStart<'l> {
+    fn of(text: &'l [u8]) -> Option<LineStart<'l>> {
         let (tag, rest) = split_run(text, is_tag_byte);
         let rest = rest.strip_prefix(b" ").filter(|_| !tag.is_empty())?;
         let (word, rest) = split_run(rest, is_atom_byte);
-        Some(Start { tag, word, rest: rest.strip_suffix(CRLF).unwrap_or(rest) })
+        Some(LineStart { tag, word, rest: rest.strip_suffix(CRLF).unwrap_or(rest) })
     }
 
     fn is_word(&self, word: &str) -> bool {

@@ -54,7 +54,7 @@ fn what_is_served_is_told() {
     let wide = "buffers: names 32768 bytes, a command 2048, an answer 1572864";
     let narrow = "buffers: names 16384 bytes, a command 2048, an answer 16384; a record is written, so an answer \
                   of over 16384 bytes is refused with 9, which cannot be for up to 23 names; LIST \"\" * has";
-    let sum = |table: &Path| session::sum_of_bytes(&table_of(table, Rooms::WIDE).packed());
+    let sum = |table: &Path| formats::sha256::sum_of_bytes(&table_of(table, Rooms::WIDE).packed());
     let start = |table: &Path, rows: &str| {
         format!("serve: {}: {rows}; SHA-256 of the packed rows {}; ", word(table), sum(table))
     };

@@ -37,7 +37,7 @@ fn command(option: u8, reference: &[u8]) -> Vec<u8> {
     ];
     let words: Vec<&str> = words.into_iter().flatten().collect();
     let mut command = format!("w LIST ({}) ", words.join(" ")).into_bytes();
-    second::quoted::push_quoted(&mut command, reference);
+    formats::quoted::push_quoted(&mut command, reference);
     command.extend_from_slice(b" \"%\"\r\n");
     command
 }

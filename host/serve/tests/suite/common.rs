@@ -5,10 +5,10 @@ use std::io::{self, BufRead, BufReader, Read, Write};
 use std::net::{SocketAddr, TcpStream};
 use std::path::{Path, PathBuf};
 use std::process::{Child, ChildStderr, Command, Output, Stdio};
-use std::sync::atomic::{AtomicUsize, Ordering};
 use std::time::Duration;
 
 pub use child::testing::output_for;
+use child::testing::{new_file, new_path};
 use luspemaro::Reader;
 use serve::{load, Peer, Rooms, Table, Woken};
 
@@ -53,18 +53,12 @@ pub fn word(path: &Path) -> &str {
 
 /// A new path in the folder of the tests.
 pub fn path(name: &str) -> PathBuf {
-    static NUMBER: AtomicUsize = AtomicUsize::new(0);
-    let number = NUMBER.fetch_add(1, Ordering::SeqCst);
-    let path = Path::new(FOLDER).join(format!("{}-{number}-{name}", std::process::id()));
-    let _ = fs::remove_file(&path);
-    path
+    new_path(FOLDER, name)
 }
 
 /// A new file.
 pub fn file(name: &str, text: impl AsRef<[u8]>) -> PathBuf {
-    let path = path(name);
-    fs::write(&path, text).expect("a file");
-    path
+    new_file(FOLDER, name, text)
 }
 
 pub fn session_file() -> PathBuf {

@@ -87,7 +87,7 @@ fn record_and_log_side_by_side() {
 }
 
 fn hex(word: &str) -> String {
-    text(&second::frames::hex_of(word.as_bytes()))
+    text(&formats::hex::hex_of(word.as_bytes()))
 }
 
 /// What a client sends forges no line; a log is added to, and a line without an end gets one.

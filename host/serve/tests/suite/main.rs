@@ -12,4 +12,5 @@ mod logged;
 mod recorded;
 mod reviewed;
 mod streams;
+mod waiting;
 mod words;

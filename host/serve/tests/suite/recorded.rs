@@ -14,7 +14,7 @@ use crate::common::{
 use crate::streams::random_stream;
 
 /// Splits a record and compares what it says was answered with the second program.
-fn check(record: &Path) -> (usize, usize) {
+pub fn check(record: &Path) -> (usize, usize) {
     let frames = fs::read_to_string(record).expect("a file");
     let is_answer = |line: &&str| line.starts_with("41") || line.starts_with("52");
     let sent: String =

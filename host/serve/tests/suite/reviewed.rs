@@ -52,7 +52,7 @@ fn edits_that_changed_no_row() {
     let mut frames = fs::read_to_string(&review).expect("a file");
     for line in ["a UNSUBSCRIBE Nothing", "a SUBSCRIBE New", "a SUBSCRIBE New"] {
         let frame = [b"\x43\0", line.as_bytes(), b"\r\n"].concat();
-        frames += &format!("{}\n", text(&second::frames::hex_of(&frame)));
+        frames += &format!("{}\n", text(&formats::hex::hex_of(&frame)));
     }
     fs::write(&review, &frames).expect("a file");
     assert_eq!(subscribed(&table, &review).len(), before.len() + 1);
@@ -115,7 +115,7 @@ fn other_files() {
     let heading = "4D0001FF05494E424F58\n";
     let [unlawful, listing] =
         [b"\x43\0a SUBSCRIBE \"*\"\r\n".as_slice(), b"\x43\0a LIST \"\" *\r\n"]
-            .map(second::frames::hex_of);
+            .map(formats::hex::hex_of);
     let cases: [(String, i32, &str); 9] = [
         ("4D0001FF03466F6F\n".to_string(), 2, "line 1: it belongs to another table"),
         ("Notes".to_string(), 2, "line 1: it belongs to another table"),

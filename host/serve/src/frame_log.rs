@@ -8,8 +8,9 @@ use std::fs::{self, OpenOptions};
 use std::io;
 use std::path::Path;
 
+use formats::frames::{Frame, ANSWER, REFUSAL};
+use formats::hex::hex_of;
 use luspemaro::{Reader, Refusal};
-use second::frames::{hex_of, Frame, ANSWER, REFUSAL};
 
 use crate::frame_file::{lock, FrameFile};
 use crate::table::Table;
@@ -18,20 +19,20 @@ use crate::table::Table;
 const LINES_A_COMMAND: u64 = 2;
 
 /// A record that is being written.
-pub struct Record {
+pub struct FrameLog {
     file: FrameFile,
     /// Lines of the frames that are there.
     lines: u64,
 }
 
-impl Record {
+impl FrameLog {
     /// Begins a record of the table as it is. A file that is there already is not written to. Where the
     /// table cannot be written to the disk, no file is left, so that a later start can begin one.
-    pub fn create(path: &Path, table: &Table) -> io::Result<Record> {
+    pub fn create(path: &Path, table: &Table) -> io::Result<FrameLog> {
         let file = OpenOptions::new().append(true).create_new(true).open(path)?;
         let begin = || {
             lock(&file)?;
-            let mut record = Record { file: FrameFile::new(file, 0), lines: 0 };
+            let mut record = FrameLog { file: FrameFile::new(file, 0), lines: 0 };
             record.begin(&table.heading())?;
             Ok(record)
         };
@@ -49,8 +50,8 @@ impl Record {
 
     /// A record on another medium than a file.
     #[cfg(test)]
-    pub fn of_file(file: FrameFile) -> Record {
-        Record { file, lines: 0 }
+    pub fn of_file(file: FrameFile) -> FrameLog {
+        FrameLog { file, lines: 0 }
     }
 
     /// Adds a command and what was answered, and returns the line of the command's frame, counted from 1.

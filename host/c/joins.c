@@ -194,7 +194,7 @@ static void order(void)
     EXPECT(join(a, 0, none, percent, 20).length == 20);
 }
 
-/* README's patterns, and the lines of the two commands that are joined. */
+/* The patterns of docs/LIBRARY.md, and the lines of the two commands that are joined. */
 static void one_request_for_two(void)
 {
     static const struct string patterns = TEXT("\1%\5Foo/%"), subscribed = TEXT("a LIST (SUBSCRIBED) \"\" (\"%\" \"Foo/%\")\r\n");

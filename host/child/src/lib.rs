@@ -11,6 +11,8 @@ use std::sync::Arc;
 use std::thread;
 use std::time::{Duration, Instant};
 
+use formats::frames::SentFrame;
+
 pub mod testing;
 
 /// How long a program may neither answer nor take any input.
@@ -23,15 +25,6 @@ const READ_AHEAD: usize = 64;
 const MAX_REPORT: u64 = 4_096;
 /// Between two looks at whether a program has ended.
 const SHORT_WHILE: Duration = Duration::from_millis(5);
-
-/// A frame as it is sent, bad or not.
-#[derive(Clone, Debug)]
-pub struct SentFrame {
-    /// Without LF.
-    pub text: Vec<u8>,
-    /// The last frame, with no LF after it.
-    pub is_cut: bool,
-}
 
 /// A program that is running. It is ended when this is dropped.
 pub struct Running {

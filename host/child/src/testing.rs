@@ -1,9 +1,11 @@
-//! For tests: the programs that they run.
+//! For tests: the programs that they run, and files of their own.
 
 use std::env;
+use std::fs;
 use std::io::Write;
 use std::path::{Path, PathBuf};
-use std::process::{Command, Output, Stdio};
+use std::process::{self, Command, Output, Stdio};
+use std::sync::atomic::{AtomicUsize, Ordering};
 use std::thread;
 
 /// An example of the package that is tested. The tests stand in `deps`, beside the folder of the
@@ -26,6 +28,22 @@ pub fn output_for(mut command: Command, input: &[u8]) -> Output {
     let output = child.wait_with_output().expect("an end");
     writer.join().expect("a writer");
     output
+}
+
+/// A path in a folder that no other call gives. No file is there.
+pub fn new_path(folder: &str, name: &str) -> PathBuf {
+    static NUMBER: AtomicUsize = AtomicUsize::new(0);
+    let number = NUMBER.fetch_add(1, Ordering::SeqCst);
+    let path = Path::new(folder).join(format!("{}-{number}-{name}", process::id()));
+    let _ = fs::remove_file(&path);
+    path
+}
+
+/// A file at such a path.
+pub fn new_file(folder: &str, name: &str, text: impl AsRef<[u8]>) -> PathBuf {
+    let path = new_path(folder, name);
+    fs::write(&path, text).expect("a file");
+    path
 }
 
 /// Writes a program that is a script of the shell, and gives its path.

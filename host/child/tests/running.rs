@@ -6,7 +6,8 @@ use std::thread;
 use std::time::{Duration, Instant};
 
 use child::testing::script;
-use child::{sender_of, Running, SentFrame, PATIENCE};
+use child::{sender_of, Running, PATIENCE};
+use formats::frames::SentFrame;
 
 const ECHO: &str = "/bin/cat";
 /// Where scripts are written.

@@ -1,9 +1,9 @@
 //! Tables for compactions (document 02, W7): areas full of holes, as long series of edits leave them,
 //! rubbish in the free bytes, and tables that do not pass.
 
-use second::name::MAX_NAME;
+use formats::name::MAX_NAME;
+use formats::rows::Flags;
 use second::records::{Record, MAX_AREA};
-use second::rows::Flags;
 use second::{answer, check_table, Table};
 
 use crate::edit_series;

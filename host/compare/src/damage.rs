@@ -1,8 +1,9 @@
 //! Tables and namespace lists with something wrong, or nearly so.
 
-use second::name::{MAX_LEVELS, MAX_NAME};
-use second::namespaces::{Entry, CLASSES, MAX_ENTRIES_A_CLASS, MAX_PREFIX};
-use second::rows::Flags;
+use formats::name::{MAX_LEVELS, MAX_NAME};
+use formats::namespaces::Entry;
+use formats::rows::Flags;
+use second::namespaces::{CLASSES, MAX_ENTRIES_A_CLASS, MAX_PREFIX};
 
 use crate::random::Random;
 use crate::tables::{lawful_flags, level, table_bytes, NewRow};

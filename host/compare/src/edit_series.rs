@@ -1,8 +1,8 @@
 //! Series of calls over lent records and an area (document 02, W6): edits, with other commands and walks
 //! between them.
 
+use formats::rows::{Flags, MAX_ROWS};
 use second::records::{Record, MAX_AREA};
-use second::rows::{Flags, MAX_ROWS};
 use second::{check_table, Table};
 
 use crate::commands::command;

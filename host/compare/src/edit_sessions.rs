@@ -1,13 +1,12 @@
 //! Sessions for W6 (document 02): series of edits with LIST, LSUB and walks between them, tables without
 //! room, names in pieces, rows and entries around edits, and every refusal.
 
-use child::SentFrame;
-use second::frames::{Program, ENTRY, ROW, TABLE_ROOM};
-use second::name::MAX_NAME;
-use second::packed::ROW_HEAD;
-use second::readers::MAX_READER;
-use second::rows::{Flags, Row, MAX_ROWS};
-use second::{Readers, Store};
+use formats::frames::{SentFrame, ENTRY, ROW};
+use formats::name::MAX_NAME;
+use formats::readers::{Readers, MAX_READER};
+use formats::rows::{Flags, Row, MAX_ROWS, ROW_HEAD};
+use second::frames::{Program, TABLE_ROOM};
+use second::Store;
 
 use crate::commands::{command, damaged};
 use crate::damage::{damaged_table, namespace_list};

@@ -2,8 +2,8 @@
 
 use std::ops::Range;
 
-use second::name::{INBOX, MAX_LEVELS, MAX_NAME};
-use second::rows::Flags;
+use formats::name::{INBOX, MAX_LEVELS, MAX_NAME};
+use formats::rows::Flags;
 use second::Record;
 
 use crate::commands::{damaged, push_in_some_case, tag_and_space};

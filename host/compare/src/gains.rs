@@ -1,10 +1,11 @@
 //! Rows that gain subscriptions (document 02, W10): "If rows gain subscriptions instead, no listed name
 //! and no CHILDINFO is lost." A row gains one by its bit, or as a row 0002 that is inserted.
 
+use formats::name;
+use formats::name::is_lawful;
+use formats::readers::Reader;
+use formats::rows::Flags;
 use second::line::Attributes;
-use second::name::{self, is_lawful};
-use second::rows::Flags;
-use second::Reader;
 
 use crate::edits::{edit_command, name_to_edit, SUBSCRIBE};
 use crate::random::Random;

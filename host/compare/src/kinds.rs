@@ -1,9 +1,8 @@
 //! The kinds of sessions.
 
-use child::SentFrame;
-use second::frames::MAX_DIGITS;
-use second::name::{MAX_LEVELS, MAX_NAME};
-use second::rows::Flags;
+use formats::frames::{SentFrame, MAX_DIGITS};
+use formats::name::{MAX_LEVELS, MAX_NAME};
+use formats::rows::Flags;
 use second::shape::MAX_LINE;
 
 use crate::commands::{command, damaged, hostile_pattern, push_value};

@@ -1,9 +1,9 @@
 //! Sessions for W1 (document 02): levels without a mailbox, and patterns that end in "%" or do not.
 
-use child::SentFrame;
-use second::name::{self, INBOX};
-use second::quoted::push_quoted;
-use second::rows::Flags;
+use formats::frames::SentFrame;
+use formats::name::{self, INBOX};
+use formats::quoted::push_quoted;
+use formats::rows::Flags;
 
 use crate::random::Random;
 use crate::sending::Sending;

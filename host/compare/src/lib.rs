@@ -44,10 +44,11 @@ mod walks;
 use std::path::Path;
 use std::process::ExitCode;
 
-use child::{sender_of, Running, SentFrame, PATIENCE};
+use child::{sender_of, Running, PATIENCE};
+use formats::frames::{Frame, SentFrame};
 use second::collector::WALK_REFUSALS;
 use second::fault::Fault;
-use second::frames::{Answer, Frame, Program};
+use second::frames::{Answer, Program};
 use second::Refusal;
 
 pub use kinds::{kinds, Kind};

@@ -2,14 +2,14 @@
 
 use std::collections::BTreeSet;
 
-use child::SentFrame;
+use formats::frames::{SentFrame, ENTRY, ROW};
+use formats::name;
+use formats::name::{MAX_LEVELS, MAX_NAME};
+use formats::rows::{Flags, MAX_ROWS, ROW_HEAD};
 use second::command::{MAX_CANONICAL, MAX_PATTERNS};
 use second::frames::{
-    ANSWER_ROOM, ENTRY, FOUND_ROOM, NAMESPACES_ROOM, PENDING_ROOM, ROW, SCRATCH_ROOM, TABLE_ROOM,
+    ANSWER_ROOM, FOUND_ROOM, NAMESPACES_ROOM, PENDING_ROOM, SCRATCH_ROOM, TABLE_ROOM,
 };
-use second::name::{self, MAX_LEVELS, MAX_NAME};
-use second::packed::ROW_HEAD;
-use second::rows::{Flags, MAX_ROWS};
 use second::shape::MAX_LINE;
 use second::{answer_reading, Table};
 

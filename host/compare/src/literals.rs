@@ -1,9 +1,9 @@
 //! Sessions for W2 (document 02): literals in every place, odd ones, and the limits of them.
 
-use child::SentFrame;
+use formats::frames::SentFrame;
+use formats::quoted::{push_quoted, read_quoted};
 use second::command::{MAX_CANONICAL, MAX_PATTERNS};
 use second::literal::MAX_LITERAL;
-use second::quoted::{push_quoted, read_quoted};
 use second::shape::MAX_LINE;
 
 use crate::commands::command;

@@ -1,7 +1,8 @@
 //! Frames of a log (document 02, W14): those of an exchange, those that stop a log, and those at the limits; and a log
 //! in pieces.
 
-use second::frames::{hex_of, ANSWER, COMMAND, ENTRY, MAX_DIGITS, REFUSAL, ROW, WALK};
+use formats::frames::{self, ANSWER, COMMAND, ENTRY, MAX_DIGITS, REFUSAL, ROW, WALK};
+use formats::hex::hex_of;
 use second::replay::{Exchange, Recorded, MAX_ANSWER_DIGITS};
 
 use crate::random::Random;
@@ -16,10 +17,10 @@ pub fn frames_of(exchange: &Exchange) -> [Vec<u8>; 2] {
 }
 
 pub fn answer_frame(recorded: &Recorded) -> Vec<u8> {
-    match recorded {
-        Recorded::Lines(lines) => hex_of(&[&[ANSWER], lines.as_slice()].concat()),
-        Recorded::Refused(number) => hex_of(&[REFUSAL, *number]),
-    }
+    frames::answer_frame(match recorded {
+        Recorded::Lines(lines) => Ok(lines),
+        Recorded::Refused(number) => Err(*number),
+    })
 }
 
 /// Frames that stop a log wherever they stand, and what is wrong with each.

@@ -1,9 +1,9 @@
 //! Sessions for W5 (document 02): subscribed names by LSUB, levels above them, and what is off its
 //! grammar.
 
-use child::SentFrame;
+use formats::frames::SentFrame;
+use formats::rows::Flags;
 use second::command::MAX_CANONICAL;
-use second::rows::Flags;
 
 use crate::commands::{damaged, pattern, push_in_some_case, tag_and_space};
 use crate::random::Random;

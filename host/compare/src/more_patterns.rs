@@ -4,10 +4,12 @@
 //! for a name that did not meet the criteria; that one goes exactly if each of its meeting descendants now
 //! matches a pattern."
 
+use formats::name;
+use formats::name::INBOX;
+use formats::readers::Reader;
+use formats::rows::Flags;
 use second::command::{Selection, MAX_PATTERNS};
-use second::name::INBOX;
-use second::rows::Flags;
-use second::{matches, meets_criteria, name, Reader};
+use second::{matches, meets_criteria};
 
 use crate::random::Random;
 use crate::reached::Reached;
@@ -145,6 +147,10 @@ fn check_kept(name: &[u8], before: &Listed, after: &Listed) -> Result<(), String
     Err(format!("{} stays with another line", shown(name)))
 }
 
+fn meets(row: &NewRow, selection: Selection) -> bool {
+    meets_criteria(second::rows::Flags::from_bits(row.flags.bits()), selection)
+}
+
 impl Pair {
     fn selection(&self) -> Selection {
         self.requests[0].options.selection
@@ -157,7 +163,7 @@ impl Pair {
 
     fn cause(&self, rows: &[NewRow], name: &[u8]) -> Cause {
         let selection = self.selection();
-        let meets = |row: &&NewRow| meets_criteria(row.flags, selection);
+        let meets = |row: &&NewRow| meets(row, selection);
         if self.seen(rows).any(|row| row.name == name && meets(&row)) {
             return Cause::Meets;
         }
@@ -191,7 +197,7 @@ impl Pair {
         let would_be_listed = |row: &NewRow| {
             !row.readers.has(first.reader)
                 && second.matches(&row.name)
-                && meets_criteria(row.flags, self.selection())
+                && meets(row, self.selection())
         };
         if rows.iter().any(would_be_listed) {
             reached.add(hidden_text(first.reader));

@@ -2,9 +2,9 @@
 //! from one of its own commands." Walks below the longest and oddest names that a table may have send the
 //! longest commands.
 
-use child::SentFrame;
+use formats::frames::SentFrame;
+use formats::name::{ancestors, MAX_LEVELS, MAX_NAME};
 use second::collector::own_commands;
-use second::name::{ancestors, MAX_LEVELS, MAX_NAME};
 use second::{collect, Refusal, Table};
 
 use crate::random::Random;

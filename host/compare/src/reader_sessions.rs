@@ -1,11 +1,10 @@
 //! Sessions for W9 (document 02): commands and walks of every reader over tables of which each sees
 //! another part, and what is hidden from a reader while it asks the same again.
 
-use child::SentFrame;
-use second::frames::ROW;
-use second::name;
-use second::rows::Flags;
-use second::Readers;
+use formats::frames::{SentFrame, ROW};
+use formats::name;
+use formats::readers::Readers;
+use formats::rows::Flags;
 
 use crate::commands::{command, damaged};
 use crate::edits::{edit_command, SUBSCRIBE, UNSUBSCRIBE};

@@ -1,9 +1,9 @@
 //! Who may see which mailbox (document 02, W9): readers, sets of them, and tables that one reader sees
 //! alike.
 
-use second::name;
-use second::readers::{Reader, Readers, MAX_READER};
-use second::rows::Flags;
+use formats::name;
+use formats::readers::{Reader, Readers, MAX_READER};
+use formats::rows::Flags;
 use second::Record;
 
 use crate::random::Random;

@@ -3,7 +3,7 @@
 
 use std::ops::Range;
 
-use second::name;
+use formats::name;
 use second::records::{Record, MAX_AREA};
 use second::{Store, Summary};
 

@@ -1,9 +1,10 @@
 //! Nights to be replayed (document 02, W14): a table, a namespace list and a log of commands with what was answered,
 //! as it was or with something changed.
 
-use second::frames::{ANSWER_ROOM, MAX_DIGITS};
+use formats::frames::MAX_DIGITS;
+use formats::rows::{Flags, MAX_ROWS};
+use second::frames::ANSWER_ROOM;
 use second::replay::{Exchange, Recorded, MAX_ANSWER_DIGITS};
-use second::rows::{Flags, Row, MAX_ROWS};
 use second::store::STORE_AREA;
 use second::{answer, Store};
 
@@ -119,9 +120,9 @@ fn answered(store: &mut Layout, namespaces: &[u8], reader: u8, line: Vec<u8>) ->
 
 /// The rows as the program keeps them.
 fn kept(rows: &[NewRow]) -> Layout {
-    let rows = rows.iter().map(|NewRow { flags, readers, name }| Row {
-        flags: *flags,
-        readers: *readers,
+    let rows = rows.iter().map(|NewRow { flags, readers, name }| second::rows::Row {
+        flags: second::rows::Flags::from_bits(flags.bits()),
+        readers: second::Readers::from_bits(readers.bits()),
         name,
     });
     Store::of_rows(&rows.collect::<Vec<_>>())

@@ -2,11 +2,11 @@
 
 use std::io;
 
-use child::SentFrame;
+use formats::frames::{Frame, SentFrame};
+use formats::show::{show_answer, show_frame, show_namespaces, show_table, Shown};
 use second::fault::Fault;
-use second::frames::{Frame, Program};
+use second::frames::Program;
 use second::Record;
-use session::{show_answer, show_frame, show_namespaces, show_table, Shown};
 
 use crate::records::Layout;
 

@@ -1,9 +1,9 @@
 //! Extended LIST commands of given parts: a reader, a set of options, a reference and patterns. What is
 //! shown of several commands at a time (document 02, W10 and W11) is shown of these.
 
+use formats::readers::Reader;
 use second::command::{Return, Selection};
 use second::joined::{options_of, MAX_OPTIONS};
-use second::Reader;
 
 use crate::commands::{push_in_some_case, tag_and_space};
 use crate::random::Random;

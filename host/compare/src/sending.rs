@@ -1,9 +1,8 @@
 //! From bytes to the frames of a session.
 
-use child::SentFrame;
-use second::frames::{hex_of, COMMAND, ENTRY, MAX_DIGITS, ROW, WALK};
-use second::packed::split_rows;
-use second::rows::Row;
+use formats::frames::{SentFrame, COMMAND, ENTRY, MAX_DIGITS, ROW, WALK};
+use formats::hex::hex_of;
+use formats::rows::{split_rows, Row};
 
 use crate::random::Random;
 use crate::tables::{table_bytes, NewRow};

@@ -1,9 +1,9 @@
 //! Sessions for W3 (document 02): special uses by tree, RECURSIVEMATCH beside any of the other
 //! selection options, and every option byte.
 
-use child::SentFrame;
-use second::quoted::push_quoted;
-use second::rows::Flags;
+use formats::frames::SentFrame;
+use formats::quoted::push_quoted;
+use formats::rows::Flags;
 
 use crate::commands::pattern;
 use crate::random::Random;

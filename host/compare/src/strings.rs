@@ -1,6 +1,6 @@
 //! The three ways in which a string stands in a command: bare, in quotes, as a literal.
 
-use second::quoted::push_quoted;
+use formats::quoted::push_quoted;
 
 use crate::random::Random;
 

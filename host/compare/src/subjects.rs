@@ -1,7 +1,7 @@
 //! Tables, and requests that are about some name of theirs.
 
-use second::name;
-use second::Reader;
+use formats::name;
+use formats::readers::Reader;
 
 use crate::commands::pattern;
 use crate::levels::tree;

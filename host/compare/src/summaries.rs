@@ -1,9 +1,10 @@
 //! Tables for the summary beside the records (document 02, W13): families of names that sort between a parent and its
 //! children, deep names and full tables; edits of such names; and summaries that are wrong, too short or too long.
 
-use second::name::{self, MAX_LEVELS};
+use formats::name;
+use formats::name::MAX_LEVELS;
+use formats::rows::{Flags, MAX_ROWS};
 use second::records::MAX_AREA;
-use second::rows::{Flags, MAX_ROWS};
 use second::Summary;
 
 use crate::edit_series::in_pieces;

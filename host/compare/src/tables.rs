@@ -1,8 +1,9 @@
 //! Tables that pass: names with shared parents, bytes below "/", quotes and INBOX spellings.
 
-use second::name::{self, INBOX, MAX_LEVELS, MAX_NAME};
-use second::rows::{Flags, Row};
-use second::{Readers, Record};
+use formats::name::{self, INBOX, MAX_LEVELS, MAX_NAME};
+use formats::readers::Readers;
+use formats::rows::{Flags, Row};
+use second::Record;
 
 use crate::random::Random;
 

@@ -5,10 +5,10 @@
 use std::collections::BTreeMap;
 use std::slice;
 
-use child::SentFrame;
-use second::frames::{bytes_of_hex, ANSWER, REFUSAL};
+use formats::frames::{SentFrame, ANSWER, REFUSAL};
+use formats::hex::bytes_of_hex;
+use formats::show::show_table;
 use second::Line;
-use session::show_table;
 
 use crate::random::Random;
 use crate::reached::Reached;

@@ -1,8 +1,8 @@
 //! What walks ask for.
 
-use second::name;
-use second::quoted::push_quoted;
-use second::rows::Flags;
+use formats::name;
+use formats::quoted::push_quoted;
+use formats::rows::Flags;
 
 use crate::random::Random;
 

@@ -7,12 +7,12 @@
 //! `\NonExistent`; an LSUB line says that its name is subscribed, unless it has `\Noselect`, which marks a
 //! level above subscribed names (RFC 3501, 6.3.9).
 
-use second::rows::Flags;
-use session::line_text;
+use formats::rows::Flags;
+use formats::text::line_text;
 
+use crate::answer_lines::AnswerLines;
 use crate::found::{Found, Said};
 use crate::mention::may_be_answer;
-use crate::record::Record;
 use crate::response::{Cursor, Response, Word};
 use crate::told::Told;
 
@@ -43,7 +43,7 @@ const MOST_RESPONSE: usize = 1 << 12;
 
 /// Everything that an answer says. None where no line is an answer, nor may be one.
 pub fn read_answer(bytes: &[u8], told: &mut Told) -> Option<Vec<Found>> {
-    let mut reading = Reading::of(Record::of(bytes), told);
+    let mut reading = Reading::of(AnswerLines::of(bytes), told);
     let mut at = 0;
     while at < reading.record.length() {
         at += reading.lines_at(at);
@@ -52,7 +52,7 @@ pub fn read_answer(bytes: &[u8], told: &mut Told) -> Option<Vec<Found>> {
 }
 
 struct Reading<'t, 'o> {
-    record: Record<'t>,
+    record: AnswerLines<'t>,
     told: &'o mut Told,
     all_found: Vec<Found>,
     has_list: bool,
@@ -63,7 +63,7 @@ struct Reading<'t, 'o> {
 }
 
 impl<'t, 'o> Reading<'t, 'o> {
-    fn of(record: Record<'t>, told: &'o mut Told) -> Reading<'t, 'o> {
+    fn of(record: AnswerLines<'t>, told: &'o mut Told) -> Reading<'t, 'o> {
         let (has_list, has_lsub, has_missed) = (false, false, false);
         let (all_found, others) = (Vec::new(), Others::default());
         Reading { record, told, all_found, has_list, has_lsub, has_missed, others }

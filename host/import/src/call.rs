@@ -3,7 +3,7 @@
 use std::ffi::OsString;
 use std::path::PathBuf;
 
-use session::comment_text;
+use formats::text::comment_text;
 
 use crate::found::Found;
 use crate::gathered::Room;

@@ -8,8 +8,8 @@
 //! Names are those of the whole server, as an administrator sees them (`user.jane.Sent`), in modified UTF-7.
 //! A type is a number, or left out by old servers: 0 is a mailbox, and 1 one on another server.
 
-use second::rows::Flags;
-use session::line_text;
+use formats::rows::Flags;
+use formats::text::line_text;
 
 use crate::answer::found_of;
 use crate::found::{Found, Said};

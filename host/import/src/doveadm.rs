@@ -3,13 +3,13 @@
 //! Servers name mailboxes in modified UTF-7, so names are put into that. The list does not say what parts
 //! the levels.
 
-use second::name::DELIMITER;
-use session::{decoded, line_text};
+use formats::name::DELIMITER;
+use formats::text::line_text;
+use formats::utf7::{decoded, encoded};
 
 use crate::found::{Found, Said};
 use crate::names::read_names;
 use crate::told::Told;
-use crate::utf7::encoded;
 
 /// What doveadm writes above the list in the forms of a table.
 const HEAD: &[u8] = b"mailbox";

@@ -4,7 +4,7 @@ use std::fmt;
 use std::io;
 use std::path::{Path, PathBuf};
 
-use session::path_text;
+use formats::text::path_text;
 
 /// Why a store cannot be read at all. Nothing is written then.
 #[derive(Debug)]

@@ -1,7 +1,7 @@
 //! What a store says of one mailbox.
 
-use second::name::{self, DELIMITER};
-use second::rows::Flags;
+use formats::name::{self, DELIMITER};
+use formats::rows::Flags;
 
 /// What one line or folder of a store says.
 #[derive(Clone, Debug, PartialEq, Eq)]

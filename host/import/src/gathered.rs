@@ -2,17 +2,16 @@
 
 use std::collections::BTreeMap;
 
-use second::frames::TABLE_ROOM;
-use second::name;
-use second::packed::{MAX_TABLE, ROW_HEAD};
-use second::rows::{Flags, MAX_ROWS};
+use formats::name;
+use formats::rows::{Flags, MAX_ROWS, MAX_TABLE, ROW_HEAD};
+use formats::sizes::PROGRAM_TABLE;
 
 use crate::found::{Found, Said};
 use crate::told::Told;
 
 /// One row of the result.
 #[derive(Clone, Debug, PartialEq, Eq)]
-pub struct Row {
+pub struct StoreRow {
     pub name: Vec<u8>,
     pub flags: Flags,
 }
@@ -29,7 +28,7 @@ pub enum Room {
 impl Room {
     pub const fn bytes(self) -> usize {
         match self {
-            Room::Program => TABLE_ROOM,
+            Room::Program => PROGRAM_TABLE,
             Room::Library => MAX_TABLE,
         }
     }
@@ -46,7 +45,7 @@ impl Room {
 
 /// What is said of one name, by everything that says something of it.
 #[derive(Debug)]
-struct Entry {
+struct SaidOfName {
     /// Of the first in the store that named it.
     origin: String,
     /// Empty where nothing in the store names it.
@@ -66,7 +65,7 @@ struct Entry {
 /// What a store says, by the names of the table, which ascend by their bytes.
 #[derive(Debug, Default)]
 pub struct Gathered {
-    entries: BTreeMap<Vec<u8>, Entry>,
+    entries: BTreeMap<Vec<u8>, SaidOfName>,
 }
 
 impl Gathered {
@@ -89,14 +88,14 @@ impl Gathered {
             return told.left_out(origin, &found.name, rule);
         }
         if matches!(found.said, Said::Added(_)) {
-            let entry = self.entries.entry(name).or_insert_with(|| Entry::new(origin, &[]));
+            let entry = self.entries.entry(name).or_insert_with(|| SaidOfName::new(origin, &[]));
             return entry.add(origin, found.said);
         }
         let own_name = found.own_name(&name);
         if own_name != found.name {
             told.note_name(origin, &found.name, "spelled INBOX in its first level");
         }
-        let entry = self.entries.entry(name).or_insert_with(|| Entry::new(origin, &own_name));
+        let entry = self.entries.entry(name).or_insert_with(|| SaidOfName::new(origin, &own_name));
         if entry.own_name.is_empty() {
             entry.own_name.clone_from(&own_name);
             entry.origin.clone_from(origin);
@@ -112,8 +111,8 @@ impl Gathered {
     }
 
     /// The rows, in the order of the bytes of their names. They pass check 1.
-    pub fn into_rows(self, room: Room, told: &mut Told) -> Vec<Row> {
-        let mut rows: Vec<Row> = Vec::new();
+    pub fn into_rows(self, room: Room, told: &mut Told) -> Vec<StoreRow> {
+        let mut rows: Vec<StoreRow> = Vec::new();
         let mut levels = Vec::new();
         let mut used = 0;
         let mut is_full = None;
@@ -123,7 +122,7 @@ impl Gathered {
                 continue;
             };
             if let Some(above) = above_without_inferiors(&self.entries, name) {
-                let above = session::name_text(above);
+                let above = formats::text::name_text(above);
                 let reason = format!("it lies below {above}, which has no inferiors");
                 told.left_out(&entry.origin, name, &reason);
                 continue;
@@ -139,7 +138,7 @@ impl Gathered {
                 continue;
             }
             used += size;
-            rows.push(Row { name: name.clone(), flags });
+            rows.push(StoreRow { name: name.clone(), flags });
         }
         for (name, entry) in levels {
             tell_level(name, entry, &rows, told);
@@ -148,9 +147,9 @@ impl Gathered {
     }
 }
 
-impl Entry {
-    fn new(origin: &str, own_name: &[u8]) -> Entry {
-        Entry {
+impl SaidOfName {
+    fn new(origin: &str, own_name: &[u8]) -> SaidOfName {
+        SaidOfName {
             origin: origin.to_string(),
             own_name: own_name.to_vec(),
             existing: None,
@@ -215,7 +214,7 @@ impl Entry {
         let mut lost = self.beside;
         lost.remove(flags);
         if lost != Flags::IMPLIED {
-            let words = session::words_of_flags(lost);
+            let words = formats::words::words_of_flags(lost);
             let reason = format!("{words}, said where it is not said to exist; no row has that");
             told.left_out(&self.origin, name, &reason);
         }
@@ -226,7 +225,7 @@ impl Entry {
         let mut lost = self.added;
         lost.remove(Flags::SUBSCRIBED);
         if lost != Flags::IMPLIED {
-            let words = session::words_of_flags(lost);
+            let words = formats::words::words_of_flags(lost);
             let reason = format!("there is no such mailbox, so none is {words}");
             told.left_out(&self.added_origin, name, &reason);
         }
@@ -235,7 +234,7 @@ impl Entry {
 
 /// The ancestor of a name that has a row with no inferiors, if one has.
 fn above_without_inferiors<'n>(
-    entries: &BTreeMap<Vec<u8>, Entry>,
+    entries: &BTreeMap<Vec<u8>, SaidOfName>,
     name: &'n [u8],
 ) -> Option<&'n [u8]> {
     let has_none = |ancestor: &&[u8]| {
@@ -246,7 +245,7 @@ fn above_without_inferiors<'n>(
 }
 
 /// A level needs no row where one lies below it: its name is implied.
-fn tell_level(name: &[u8], entry: &Entry, rows: &[Row], told: &mut Told) {
+fn tell_level(name: &[u8], entry: &SaidOfName, rows: &[StoreRow], told: &mut Told) {
     let prefix = name::descendant_prefix(name);
     if entry.is_level && !rows.iter().any(|row| row.name.starts_with(&prefix)) {
         let reason = "it neither exists nor is subscribed, and no row lies below it";

@@ -2,7 +2,7 @@
 
 use std::path::{Path, PathBuf};
 
-use second::name::DELIMITER;
+use formats::name::DELIMITER;
 
 use crate::maildir::Layout;
 

@@ -10,6 +10,7 @@
 //! which has one spelling. Modified UTF-7 is not touched; what it says stands beside it in a comment.
 
 pub mod answer;
+mod answer_lines;
 mod call;
 pub mod cyrus;
 pub mod doveadm;
@@ -24,7 +25,6 @@ mod mention;
 pub mod names;
 mod output;
 mod python;
-mod record;
 mod response;
 mod store;
 mod strays;
@@ -32,17 +32,15 @@ pub mod subscriptions;
 mod told;
 mod tree;
 mod uses;
-mod utf7;
 mod write;
 
 pub use call::{read_call, Call, CallError, USAGE};
 pub use error::StoreError;
 pub use found::{Found, Said};
-pub use gathered::{Gathered, Room, Row};
+pub use gathered::{Gathered, Room, StoreRow};
 pub use kind::{ListForm, Store};
 pub use output::Output;
 pub use store::{read_bytes, read_store, read_text, Contents, TextForm};
 pub use told::Told;
 pub use uses::read_uses;
-pub use utf7::encoded;
 pub use write::{mailbox_lines, rows_text, session_text, Asked, MadeFrom};

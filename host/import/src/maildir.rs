@@ -11,8 +11,8 @@
 
 use std::path::Path;
 
-use second::name::INBOX;
-use session::Sum;
+use formats::name::INBOX;
+use formats::sha256::Sum;
 
 use crate::error::StoreError;
 use crate::found::Found;

@@ -8,10 +8,10 @@ use std::fmt::Display;
 use std::io::{self, Write};
 use std::process::ExitCode;
 
+use formats::date::now;
 use import::{
     read_call, read_store, rows_text, session_text, Call, Gathered, StoreError, Told, USAGE,
 };
-use session::now;
 
 /// Something was left out.
 const LEFT_OUT: u8 = 1;

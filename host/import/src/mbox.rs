@@ -9,8 +9,9 @@ use std::fs;
 use std::io::{self, Read};
 use std::path::Path;
 
-use second::name::{DELIMITER, INBOX};
-use session::{line_text, Sum};
+use formats::name::{DELIMITER, INBOX};
+use formats::sha256::Sum;
+use formats::text::line_text;
 
 use crate::error::StoreError;
 use crate::found::Found;

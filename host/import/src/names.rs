@@ -3,7 +3,7 @@
 //! A name is all bytes of its line: spaces count. Empty lines are no names, and CR before the line end
 //! and the mark that some editors write before the first line are no part of one.
 
-use second::rows::Flags;
+use formats::rows::Flags;
 
 use crate::found::{Found, Said};
 use crate::marks::BYTE_ORDER_MARK;

@@ -4,7 +4,8 @@
 use std::fs;
 use std::path::{Path, PathBuf};
 
-use session::{is_same_file, path_text, NewFile};
+use formats::text::path_text;
+use session::{is_same_file, NewFile};
 
 use crate::kind::Store;
 

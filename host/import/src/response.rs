@@ -9,7 +9,7 @@
 //! A line end is CR LF, or LF alone as in a file that an editor wrote. More spaces than one are taken
 //! too. Of values only the tags are kept.
 
-use second::quoted::read_quoted;
+use formats::quoted::read_quoted;
 
 /// A response, its names not judged any further.
 #[derive(Debug, PartialEq, Eq)]

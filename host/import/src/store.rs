@@ -4,7 +4,8 @@ use std::fs::File;
 use std::io::{self, Read};
 use std::path::Path;
 
-use session::{line_text, path_text, sum_of_bytes, Sum};
+use formats::sha256::{sum_of_bytes, Sum};
+use formats::text::{line_text, path_text};
 
 use crate::answer::read_answer;
 use crate::cyrus::read_cyrus;

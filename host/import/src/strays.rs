@@ -4,8 +4,9 @@ use std::collections::BTreeMap;
 use std::fs;
 use std::path::Path;
 
-use second::rows::Flags;
-use session::{line_text, sum_of_bytes, Sum};
+use formats::rows::Flags;
+use formats::sha256::{sum_of_bytes, Sum};
+use formats::text::line_text;
 
 use crate::error::StoreError;
 use crate::found::{Found, Said};

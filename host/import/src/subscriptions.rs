@@ -3,7 +3,7 @@
 //! It has one name a line, with the tree's own delimiter between the levels, or, where its first line is
 //! `V`, a tab and `2`, with tabs.
 
-use second::rows::Flags;
+use formats::rows::Flags;
 
 use crate::found::{Found, Said};
 

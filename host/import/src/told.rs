@@ -1,6 +1,7 @@
 //! What is told of a store beside its rows.
 
-use session::{beside, name_text};
+use formats::show::beside;
+use formats::text::name_text;
 
 /// What was left out, and what else is to be known. Each is a line of text.
 #[derive(Debug, Default)]

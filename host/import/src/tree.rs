@@ -7,7 +7,8 @@ use std::os::unix::ffi::OsStrExt;
 use std::os::unix::fs::MetadataExt;
 use std::path::{Path, PathBuf};
 
-use session::{comment_text, line_text, sum_of_bytes, Sum};
+use formats::sha256::{sum_of_bytes, Sum};
+use formats::text::{comment_text, line_text};
 
 /// Names have at most 16 levels, so nothing so deep is a mailbox that a table can have.
 const MOST_DEPTH: usize = 128;

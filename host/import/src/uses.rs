@@ -8,8 +8,8 @@
 //! A name is one of the table, with "/" between its levels. It may hold a comma, unless that looks like the
 //! start of the next one.
 
-use second::name::DELIMITER;
-use second::rows::Flags;
+use formats::name::DELIMITER;
+use formats::rows::Flags;
 
 use crate::found::{Found, Said};
 

@@ -1,9 +1,13 @@
 //! The session file. A lawful name has bytes 20 to 7E alone, so as text it is what an item takes.
 
-use session::{counted, decoded, name_text, quoted_text, shortened, words_of_flags, Sum};
+use formats::sha256::Sum;
+use formats::show::counted;
+use formats::text::{name_text, quoted_text, shortened};
+use formats::utf7::decoded;
+use formats::words::words_of_flags;
 
 use crate::found::Found;
-use crate::gathered::Row;
+use crate::gathered::StoreRow;
 use crate::told::Told;
 
 /// What the last line of a file asks for.
@@ -36,7 +40,7 @@ const MOST_CHARACTERS: usize = 4_000;
 pub fn session_text(
     made_from: &MadeFrom,
     date: &str,
-    rows: &[Row],
+    rows: &[StoreRow],
     told: &Told,
     asked: Asked,
 ) -> String {
@@ -70,9 +74,9 @@ fn comment(text: &str) -> String {
 }
 
 /// The rows as items, with what names in modified UTF-7 say in comments above them.
-pub fn mailbox_lines(rows: &[Row]) -> String {
+pub fn mailbox_lines(rows: &[StoreRow]) -> String {
     let mut text = String::new();
-    for Row { name, flags } in rows {
+    for StoreRow { name, flags } in rows {
         if let Some(says) = decoded(name) {
             text += &format!("# {} = {}\n", name_text(name), quoted_text(&says));
         }
@@ -87,6 +91,6 @@ fn added_text(added: &Found) -> String {
 }
 
 /// How many rows there are.
-pub fn rows_text(rows: &[Row]) -> String {
+pub fn rows_text(rows: &[StoreRow]) -> String {
     counted(rows.len(), "row", "rows")
 }

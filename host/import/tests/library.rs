@@ -1,16 +1,17 @@
 //! The proved library's check of the tables that come of stores.
 
+use formats::readers::Readers;
+use formats::rows::Row;
 use import::answer::read_answer;
 use import::names::{read_names, EXISTS};
-use import::{read_uses, Found, Gathered, Room, Row, Told};
-use second::Readers;
+use import::{read_uses, Found, Gathered, Room, StoreRow, Told};
 
 /// The packed table of what a store says, and how much of it was left out.
 fn table(found: &[Found], room: Room) -> (Vec<u8>, usize) {
     let mut told = Told::default();
     let rows = Gathered::of(found, &mut told).into_rows(room, &mut told);
-    let bytes = |Row { name, flags }: &Row| {
-        let row = second::rows::Row { flags: *flags, readers: Readers::ALL, name };
+    let bytes = |StoreRow { name, flags }: &StoreRow| {
+        let row = Row { flags: *flags, readers: Readers::ALL, name };
         row.to_bytes().expect("a row")
     };
     (rows.iter().flat_map(bytes).collect(), told.all_left_out().len())

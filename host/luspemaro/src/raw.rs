@@ -234,39 +234,49 @@ extern "C" {
     fn luspemaro_put_go_on(out: *mut u8, out_len: usize, at: usize) -> usize;
 }
 
-// Every call below is sound for any slices: the archive's functions are proved to stay inside of
-// what they are lent, with no condition on the caller but that what is written overlaps nothing
-// else, and an exclusive reference overlaps nothing.
+/// A call of an entry of the archive. A slice is lent to be read or to be written, and passes as its pointer and its
+/// length; all else passes by its value.
+///
+/// It is sound for any slices: the archive's functions are proved to stay inside of what they are lent, with no condition
+/// on the caller but that what is written overlaps nothing else, and an exclusive reference overlaps nothing.
+macro_rules! call {
+    (@ $entry:ident [$($passed:expr),*]) => {
+        unsafe { $entry($($passed),*) }
+    };
+    (@ $entry:ident [$($passed:expr),*] read $slice:ident $(, $($rest:tt)*)?) => {
+        call!(@ $entry [$($passed,)* $slice.as_ptr(), $slice.len()] $($($rest)*)?)
+    };
+    (@ $entry:ident [$($passed:expr),*] write $slice:ident $(, $($rest:tt)*)?) => {
+        call!(@ $entry [$($passed,)* $slice.as_mut_ptr(), $slice.len()] $($($rest)*)?)
+    };
+    (@ $entry:ident [$($passed:expr),*] value $value:ident $(, $($rest:tt)*)?) => {
+        call!(@ $entry [$($passed,)* $value] $($($rest)*)?)
+    };
+    ($entry:ident: $($arguments:tt)*) => {
+        call!(@ $entry [] $($arguments)*)
+    };
+}
+pub(crate) use call;
 
 pub fn check_table(table: &[u8]) -> bool {
-    unsafe { luspemaro_check_table(table.as_ptr(), table.len()) }
+    call!(luspemaro_check_table: read table)
 }
 
 pub fn check_records(table: Records) -> bool {
     let Records { records, count, area, summary } = table;
-    unsafe {
-        luspemaro_check_records(
-            records.as_ptr(),
-            records.len(),
-            count,
-            area.as_ptr(),
-            area.len(),
-            summary.as_ptr(),
-            summary.len(),
-        )
-    }
+    call!(luspemaro_check_records: read records, value count, read area, read summary)
 }
 
 pub fn check_namespaces(list: &[u8]) -> bool {
-    unsafe { luspemaro_check_namespaces(list.as_ptr(), list.len()) }
+    call!(luspemaro_check_namespaces: read list)
 }
 
 pub fn matches(pattern: &[u8], name: &[u8]) -> bool {
-    unsafe { luspemaro_matches(pattern.as_ptr(), pattern.len(), name.as_ptr(), name.len()) }
+    call!(luspemaro_matches: read pattern, read name)
 }
 
 pub fn match_steps(pattern: &[u8], name: &[u8]) -> usize {
-    unsafe { luspemaro_match_steps(pattern.as_ptr(), pattern.len(), name.as_ptr(), name.len()) }
+    call!(luspemaro_match_steps: read pattern, read name)
 }
 
 pub fn answer(
@@ -277,52 +287,17 @@ pub fn answer(
     out: &mut [u8],
 ) -> Outcome {
     let RecordsMut { records, count, area, summary } = table;
-    unsafe {
-        luspemaro_answer(
-            records.as_mut_ptr(),
-            records.len(),
-            count,
-            reader,
-            area.as_mut_ptr(),
-            area.len(),
-            summary.as_mut_ptr(),
-            summary.len(),
-            namespaces.as_ptr(),
-            namespaces.len(),
-            line.as_ptr(),
-            line.len(),
-            out.as_mut_ptr(),
-            out.len(),
-        )
-    }
+    call!(luspemaro_answer:
+        write records, value count, value reader, write area, write summary, read namespaces,
+        read line, write out)
 }
 
 pub fn compact(records: &mut [Record], count: usize, area: &mut [u8], summary: &[Summary]) -> u8 {
-    unsafe {
-        luspemaro_compact(
-            records.as_mut_ptr(),
-            records.len(),
-            count,
-            area.as_mut_ptr(),
-            area.len(),
-            summary.as_ptr(),
-            summary.len(),
-        )
-    }
+    call!(luspemaro_compact: write records, value count, write area, read summary)
 }
 
 pub fn summarize(records: &[Record], count: usize, area: &[u8], summary: &mut [Summary]) -> u8 {
-    unsafe {
-        luspemaro_summarize(
-            records.as_ptr(),
-            records.len(),
-            count,
-            area.as_ptr(),
-            area.len(),
-            summary.as_mut_ptr(),
-            summary.len(),
-        )
-    }
+    call!(luspemaro_summarize: read records, value count, read area, write summary)
 }
 
 pub fn collect(
@@ -334,25 +309,9 @@ pub fn collect(
     pending: &mut [u8],
 ) -> Outcome {
     let Records { records, count, area, summary } = table;
-    unsafe {
-        luspemaro_collect(
-            records.as_ptr(),
-            records.len(),
-            count,
-            reader,
-            area.as_ptr(),
-            area.len(),
-            summary.as_ptr(),
-            summary.len(),
-            option,
-            scratch.as_mut_ptr(),
-            scratch.len(),
-            found.as_mut_ptr(),
-            found.len(),
-            pending.as_mut_ptr(),
-            pending.len(),
-        )
-    }
+    call!(luspemaro_collect:
+        read records, value count, value reader, read area, read summary, value option,
+        write scratch, write found, write pending)
 }
 
 pub fn collect_packed(
@@ -363,57 +322,28 @@ pub fn collect_packed(
     found: &mut [u8],
     pending: &mut [u8],
 ) -> Outcome {
-    unsafe {
-        luspemaro_collect_packed(
-            table.as_ptr(),
-            table.len(),
-            reader,
-            option,
-            scratch.as_mut_ptr(),
-            scratch.len(),
-            found.as_mut_ptr(),
-            found.len(),
-            pending.as_mut_ptr(),
-            pending.len(),
-        )
-    }
+    call!(luspemaro_collect_packed:
+        read table, value reader, value option, write scratch, write found, write pending)
 }
 
 pub fn write_line(attributes: u16, name: &[u8], criteria: u8, out: &mut [u8]) -> Outcome {
-    let (name, name_len) = (name.as_ptr(), name.len());
-    unsafe {
-        luspemaro_write_line(attributes, name, name_len, criteria, out.as_mut_ptr(), out.len())
-    }
+    call!(luspemaro_write_line: value attributes, read name, value criteria, write out)
 }
 
 pub fn read_line(line: &[u8]) -> LineParts {
-    unsafe { luspemaro_read_line(line.as_ptr(), line.len()) }
+    call!(luspemaro_read_line: read line)
 }
 
 pub fn join(tag: &[u8], options: u8, reference: &[u8], patterns: &[u8], out: &mut [u8]) -> Outcome {
-    unsafe {
-        luspemaro_join(
-            tag.as_ptr(),
-            tag.len(),
-            options,
-            reference.as_ptr(),
-            reference.len(),
-            patterns.as_ptr(),
-            patterns.len(),
-            out.as_mut_ptr(),
-            out.len(),
-        )
-    }
+    call!(luspemaro_join: read tag, value options, read reference, read patterns, write out)
 }
 
 pub fn feed(state: FeederState, command: &mut [u8], chunk: &[u8]) -> FedChunk {
-    unsafe {
-        luspemaro_feed(state, command.as_mut_ptr(), command.len(), chunk.as_ptr(), chunk.len())
-    }
+    call!(luspemaro_feed: value state, write command, read chunk)
 }
 
 pub fn put_go_on(out: &mut [u8], at: usize) -> usize {
-    unsafe { luspemaro_put_go_on(out.as_mut_ptr(), out.len(), at) }
+    call!(luspemaro_put_go_on: write out, value at)
 }
 
 impl Outcome {

@@ -1,6 +1,6 @@
 //! The C names of a replay and their structs, and a safe call of each, as in `raw`.
 
-use crate::raw::{Record, RecordsMut};
+use crate::raw::{call, Record, RecordsMut};
 use crate::summary::Summary;
 
 /// `luspemaro_replayed` of the header: what a whole log comes to.
@@ -67,25 +67,10 @@ extern "C" {
     ) -> FedPiece;
 }
 
-// Both calls are sound for any slices, for the reason that `raw` gives.
-
 pub fn replay(table: RecordsMut, namespaces: &[u8], log: &[u8]) -> ReplayReport {
     let RecordsMut { records, count, area, summary } = table;
-    unsafe {
-        luspemaro_replay(
-            records.as_mut_ptr(),
-            records.len(),
-            count,
-            area.as_mut_ptr(),
-            area.len(),
-            summary.as_mut_ptr(),
-            summary.len(),
-            namespaces.as_ptr(),
-            namespaces.len(),
-            log.as_ptr(),
-            log.len(),
-        )
-    }
+    call!(luspemaro_replay:
+        write records, value count, write area, write summary, read namespaces, read log)
 }
 
 pub fn replay_feed(
@@ -97,26 +82,9 @@ pub fn replay_feed(
     piece: &[u8],
 ) -> FedPiece {
     let RecordsMut { records, count, area, summary } = table;
-    unsafe {
-        luspemaro_replay_feed(
-            records.as_mut_ptr(),
-            records.len(),
-            count,
-            state,
-            area.as_mut_ptr(),
-            area.len(),
-            summary.as_mut_ptr(),
-            summary.len(),
-            namespaces.as_ptr(),
-            namespaces.len(),
-            pending.as_mut_ptr(),
-            pending.len(),
-            line.as_mut_ptr(),
-            line.len(),
-            piece.as_ptr(),
-            piece.len(),
-        )
-    }
+    call!(luspemaro_replay_feed:
+        write records, value count, value state, write area, write summary, read namespaces,
+        write pending, write line, read piece)
 }
 
 impl FedPiece {

@@ -1,12 +1,14 @@
 //! The account of a replay as text. Its first line is the verdict.
 
+use formats::frames::Frame;
+use formats::show::{counted, Shown};
+use formats::text::{line_text, path_text, shortened};
 use luspemaro::Verdict;
-use second::frames::Frame;
-use session::{counted, line_text, path_text, shortened, Shown, UNPROVED};
 
 use crate::difference::Difference;
 use crate::followed::{Contradicted, Counts, Followed};
 use crate::night::Account;
+use crate::second_program::UNPROVED;
 use crate::served::LeftOut;
 use crate::start::LogStart;
 
@@ -110,8 +112,8 @@ pub fn counts_text(counts: &Counts) -> String {
 
 fn table_lines(account: &Account) -> Vec<String> {
     let start = &account.start;
-    let rows = counted(second::packed::split_rows(&start.rows).0.len(), "row", "rows");
-    let entries = second::namespaces::split_entries(&start.entries).0.len();
+    let rows = counted(formats::rows::split_rows(&start.rows).0.len(), "row", "rows");
+    let entries = formats::namespaces::split_entries(&start.entries).0.len();
     let entries = counted(entries, "namespace entry", "namespace entries");
     let sum = start.rows_sum();
     let from = match (&start.from, &account.night.table) {
@@ -144,16 +146,16 @@ pub fn numbers_text(lines: u64) -> String {
 
 /// Why the log was stopped, if it was, and what is to be done where it brings a table beside the one that is named.
 fn stop(account: &Account) -> Vec<Labelled> {
-    let Some((stop, frame)) = &account.followed.stop else {
+    let Some(stop) = &account.followed.stop else {
         return Vec::new();
     };
     let line = stop.frame + account.start.lines();
     let place = format!("by frame {}, line {line} of the file: {}", stop.frame, stop.rule);
     let mut shown = vec![("Stopped", vec![place, format!("({UNPROVED})")])];
-    if !frame.is_empty() {
-        shown.push(("Frame", vec![shortened(&line_text(frame), MOST_OF_FRAME)]));
+    if !stop.text.is_empty() {
+        shown.push(("Frame", vec![shortened(&line_text(&stop.text), MOST_OF_FRAME)]));
     }
-    let has_row = matches!(Frame::decode(frame), Ok(Frame::Row(_) | Frame::Entry(_)));
+    let has_row = matches!(Frame::decode(&stop.text), Ok(Frame::Row(_) | Frame::Entry(_)));
     if has_row && stop.frame == 1 && account.night.table.is_some() {
         shown.push((
             "Hint",

@@ -3,8 +3,9 @@
 use std::ffi::OsString;
 use std::path::PathBuf;
 
-use replay::{Night, Origin};
-use session::{comment_text, Matter};
+use formats::text::comment_text;
+use replay::{LibraryBuild, Night};
+use session::{Page, PageWords};
 
 const USAGE: &str = "usage: replay [--table] [--all] [--log FILE] [--report PAGE [--force] [--date TEXT] [--case TEXT] \
                      [--examiner TEXT] [--exhibit TEXT]] [--archive-sum SUM] [--built-by-proof] [--sources-sum SUM] [--commit \
@@ -15,17 +16,8 @@ pub struct Call {
     pub night: Night,
     /// Whether the rows at the end are printed.
     pub has_table: bool,
-    pub report: Option<Report>,
-    pub origin: Origin,
-}
-
-/// A page.
-pub struct Report {
-    pub path: PathBuf,
-    /// Whether a file that is there may be written over.
-    pub is_forced: bool,
-    pub date: Option<String>,
-    pub matter: Matter,
+    pub page: Option<Page>,
+    pub origin: LibraryBuild,
 }
 
 /// The words as they come, each option at most once.
@@ -34,12 +26,9 @@ struct Words {
     paths: Vec<PathBuf>,
     has_table: bool,
     finds_all: bool,
-    is_forced: bool,
     served: Option<PathBuf>,
-    report: Option<PathBuf>,
-    date: Option<String>,
-    matter: Matter,
-    origin: Origin,
+    page: PageWords,
+    origin: LibraryBuild,
 }
 
 impl Call {
@@ -69,22 +58,23 @@ impl Words {
         match option {
             "--table" => self.has_table = true,
             "--all" => self.finds_all = true,
-            "--force" => self.is_forced = true,
+            "--force" => self.page.is_forced = true,
             "--built-by-proof" => self.origin.is_built_by_proof = true,
             "--log" => set(&mut self.served, value(option, rest)?.into(), option)?,
-            "--report" => set(&mut self.report, value(option, rest)?.into(), option)?,
+            "--report" => set(&mut self.page.path, value(option, rest)?.into(), option)?,
             _ => {
                 let place = match option {
-                    "--date" => &mut self.date,
-                    "--case" => &mut self.matter.case,
-                    "--examiner" => &mut self.matter.examiner,
-                    "--exhibit" => &mut self.matter.exhibit,
-                    "--archive-sum" => &mut self.origin.archive_sum,
-                    "--sources-sum" => &mut self.origin.sources_sum,
-                    "--commit" => &mut self.origin.commit,
-                    _ => return Err(format!("unknown option {}", comment_text(option.as_bytes()))),
+                    "--archive-sum" => Some(&mut self.origin.archive_sum),
+                    "--sources-sum" => Some(&mut self.origin.sources_sum),
+                    "--commit" => Some(&mut self.origin.commit),
+                    _ => self.page.text_option(option),
                 };
-                set(place, comment_text(value(option, rest)?.as_encoded_bytes()), option)?;
+                let unknown = || format!("unknown option {}", comment_text(option.as_bytes()));
+                set(
+                    place.ok_or_else(unknown)?,
+                    comment_text(value(option, rest)?.as_encoded_bytes()),
+                    option,
+                )?;
             }
         }
         Ok(())
@@ -92,10 +82,8 @@ impl Words {
 
     /// What belongs to a report stands beside `--report` alone.
     fn call(self) -> Result<Call, String> {
-        let Words { paths, has_table, finds_all, is_forced, served, report, date, matter, origin } =
-            self;
-        let texts = [&date, &matter.case, &matter.examiner, &matter.exhibit];
-        if report.is_none() && (is_forced || texts.into_iter().any(Option::is_some)) {
+        let Words { paths, has_table, finds_all, served, page, origin } = self;
+        if page.are_without_page() {
             return Err(
                 "--force, --date, --case, --examiner and --exhibit go with --report".to_string()
             );
@@ -115,9 +103,9 @@ impl Words {
         if log.as_os_str().is_empty() {
             return Err("the name of the log is empty".to_string());
         }
-        let night = Night { table, log, served, finds_all, sums: report.is_some() };
-        let report = report.map(|path| Report { path, is_forced, date, matter });
-        Ok(Call { night, has_table, report, origin })
+        let page = page.page();
+        let night = Night { table, log, served, finds_all, sums: page.is_some() };
+        Ok(Call { night, has_table, page, origin })
     }
 }
 

@@ -1,11 +1,12 @@
 //! A command whose recorded answer is not what the library answers now.
 
-use child::SentFrame;
-use second::frames::{hex_of, Frame, Program, ANSWER, REFUSAL};
-use second::replay::{Exchange, Recorded};
-use second::Refusal;
-use session::{counted, line_text, second_says, show_frame, Apart};
+use formats::frames::{Frame, SentFrame};
+use formats::log::{Exchange, Recorded};
+use formats::show::{counted, refusal_text, show_frame};
+use formats::text::line_text;
+use session::Apart;
 
+use crate::second_program::explained;
 use crate::served::Logged;
 use crate::table::KeptTable;
 
@@ -35,21 +36,17 @@ impl Difference {
     /// recorded.
     pub fn of(
         exchange: &Exchange,
-        mut before: KeptTable,
+        before: &KeptTable,
         rows: &[u8],
         namespaces: &[u8],
     ) -> Option<Difference> {
         let Exchange { frame, reader, line, recorded } = exchange;
-        let store = before.second();
-        // Rows that do not pass are packed still.
-        let table = if store.is_none() { rows.to_vec() } else { Vec::new() };
-        let program = Program { table, namespaces: namespaces.to_vec(), store };
-        let now = before.answer(*reader, namespaces, line);
+        let now = before.clone().answer(*reader, namespaces, line);
         if now == *recorded {
             return None;
         }
         let command = Frame::Command { reader: *reader, line: line.clone() }.encode();
-        let explained = second_says(program, &command, &frame_of(&now), &frame_of(recorded));
+        let explained = explained(before, (rows, namespaces), &command, (&now, recorded));
         let Apart { missing, added } = Apart::between(lines_of(recorded), lines_of(&now));
         let shown = show_frame(&SentFrame { text: command, is_cut: false });
         Some(Difference {
@@ -73,14 +70,6 @@ impl Difference {
     }
 }
 
-/// The frame of an answer, without LF.
-fn frame_of(answer: &Recorded) -> Vec<u8> {
-    match answer {
-        Recorded::Lines(lines) => hex_of(&[&[ANSWER], lines.as_slice()].concat()),
-        Recorded::Refused(number) => hex_of(&[REFUSAL, *number]),
-    }
-}
-
 fn lines_of(answer: &Recorded) -> &[u8] {
     match answer {
         Recorded::Lines(lines) => lines,
@@ -98,11 +87,6 @@ fn shown_lines(answer: &Recorded) -> Vec<String> {
         }
         Recorded::Refused(number) => vec![format!("refused with {}", refusal_text(*number))],
     }
-}
-
-fn refusal_text(number: u8) -> String {
-    let meaning = Refusal::from_number(number).map_or("no number of document 01", Refusal::meaning);
-    format!("{number}: {meaning}")
 }
 
 fn short_text(recorded: &Recorded, now: &Recorded, missing: &[String], added: &[String]) -> String {

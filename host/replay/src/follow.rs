@@ -1,13 +1,14 @@
-//! The log fed to the library, exchange by exchange. The verdict is the library's; the second program's turns say only where
-//! an exchange ends and what it is.
+//! The log fed to the library, exchange by exchange. The verdict is the library's; this tool reads only where an exchange
+//! ends and what it is, and the two are compared at the end.
 
 use std::io;
 
+use formats::log::{Exchange, Recorded, Turns, MAX_ANSWER_DIGITS};
 use luspemaro::{Replay, Verdict};
-use second::replay::{Exchange, Recorded, Turns, MAX_ANSWER_DIGITS};
 
 use crate::difference::Difference;
-use crate::followed::{Followed, Now, Sent};
+use crate::followed::{Followed, Now, SentCommand, Stopped};
+use crate::second_program::Cause;
 use crate::served::{Cursor, Logged};
 use crate::start::Start;
 use crate::table::KeptTable;
@@ -110,12 +111,15 @@ impl<'n> Following<'n> {
         self.feed()?;
         self.followed.counts.frames = self.replay.frames() as u64;
         if !self.is_stopped {
-            let cut = (!self.line.is_empty()).then(|| self.turns.cut());
-            let stop = cut.or(self.turns.end().err());
-            self.followed.counts.frames += u64::from(cut.is_some());
-            self.followed.stop = stop.map(|stop| (stop, self.line.clone()));
+            let is_cut = !self.line.is_empty();
+            let (stop, cause) = match is_cut {
+                true => (Some(self.turns.cut()), Cause::NoLf),
+                false => (self.turns.end().err(), Cause::NoAnswer),
+            };
+            self.followed.counts.frames += u64::from(is_cut);
+            self.followed.stop = stop.map(|stop| Stopped::new(stop, &self.line, cause));
         }
-        let stopped = self.followed.stop.as_ref().map(|(stop, _)| stop.frame);
+        let stopped = self.followed.stop.as_ref().map(|stop| stop.frame);
         let (told, first) = (self.verdict, self.followed.differences.first().map(|one| one.frame));
         let expected = match (stopped, first) {
             (Some(frame), _) => Verdict::Refused(frame as usize),
@@ -150,7 +154,7 @@ impl<'n> Following<'n> {
             Err(stop) => {
                 self.feed()?;
                 self.is_stopped = true;
-                self.followed.stop = Some((stop, self.line.clone()));
+                self.followed.stop = Some(Stopped::new(stop, &self.line, Cause::Frame(&self.line)));
                 Ok(())
             }
         }
@@ -174,7 +178,7 @@ impl<'n> Following<'n> {
         }
         let has_room = self.followed.sent.len() < MOST_LISTED;
         if has_room || logged.is_some() {
-            let sent = Sent::of(&exchange, line, now, logged);
+            let sent = SentCommand::of(&exchange, line, now, logged);
             self.followed.contradicted.note(&sent);
             self.followed.sent.extend(Some(sent).filter(|_| has_room));
         }
@@ -217,7 +221,7 @@ impl<'n> Following<'n> {
             return Ok(());
         }
         let Start { rows, entries, .. } = self.start;
-        let difference = Difference::of(exchange, self.before.clone(), rows, entries);
+        let difference = Difference::of(exchange, &self.before, rows, entries);
         let difference = difference.ok_or_else(|| {
             let frame = exchange.frame;
             Lost(format!("frame {frame} differs in the replay, and the command entry answers what was recorded"))

@@ -1,10 +1,11 @@
 //! What is kept of a log that was followed: the verdict, counts, the first differences and commands.
 
+use formats::log::{Exchange, LogStop, Recorded};
 use luspemaro::Verdict;
-use second::replay::{Exchange, Recorded, Stop};
 use serve::word_text;
 
 use crate::difference::Difference;
+use crate::second_program::{stop_rule, Cause};
 use crate::served::Logged;
 use crate::table::KeptTable;
 
@@ -39,7 +40,7 @@ pub enum Now {
 
 /// A command of the night, for a page.
 #[derive(Clone, Debug, PartialEq, Eq)]
-pub struct Sent {
+pub struct SentCommand {
     pub frame: u64,
     pub line: u64,
     pub reader: u8,
@@ -57,16 +58,33 @@ pub struct Followed {
     pub counts: Counts,
     /// The first, or the first ones of all.
     pub differences: Vec<Difference>,
-    /// Why the log was stopped, in the second program's words, and the frame that did it.
-    pub stop: Option<(Stop, Vec<u8>)>,
+    /// Where and why the log was stopped, if it was.
+    pub stop: Option<Stopped>,
     /// The first commands, as many as are kept.
-    pub sent: Vec<Sent>,
+    pub sent: Vec<SentCommand>,
     /// The table at the end.
     pub table: KeptTable,
     /// Of the server's log: commands that it has and the record has not. Not known of a log that was stopped.
     pub unrecorded: u64,
     /// Commands of which the server's log says otherwise than the record.
     pub contradicted: Contradicted,
+}
+
+/// A frame with which a log was stopped.
+#[derive(Clone, Debug, PartialEq, Eq)]
+pub struct Stopped {
+    pub frame: u64,
+    /// Its text, without LF; empty where the log ends after a command.
+    pub text: Vec<u8>,
+    /// The rule that it breaks, in the second program's words.
+    pub rule: &'static str,
+}
+
+impl Stopped {
+    pub fn new(stop: LogStop, text: &[u8], cause: Cause) -> Stopped {
+        let rule = stop_rule(stop.is_answer_due, cause);
+        Stopped { frame: stop.frame, text: text.to_vec(), rule }
+    }
 }
 
 /// Where the server's log and the record do not say the same.
@@ -95,7 +113,7 @@ impl Followed {
 
 impl Contradicted {
     /// What the log has of a command is its word and what was recorded, and then perhaps what the server answered by itself.
-    pub fn note(&mut self, sent: &Sent) {
+    pub fn note(&mut self, sent: &SentCommand) {
         let Some(logged) = &sent.logged else {
             return;
         };
@@ -109,13 +127,13 @@ impl Contradicted {
     }
 }
 
-impl Sent {
-    pub fn of(exchange: &Exchange, line: u64, now: Now, logged: Option<Logged>) -> Sent {
+impl SentCommand {
+    pub fn of(exchange: &Exchange, line: u64, now: Now, logged: Option<Logged>) -> SentCommand {
         let recorded = match &exchange.recorded {
             Recorded::Lines(lines) => format!("answered {} bytes", lines.len()),
             Recorded::Refused(number) => format!("refused {number}"),
         };
         let (frame, reader) = (exchange.frame, exchange.reader);
-        Sent { frame, line, reader, word: word_text(&exchange.line), recorded, now, logged }
+        SentCommand { frame, line, reader, word: word_text(&exchange.line), recorded, now, logged }
     }
 }

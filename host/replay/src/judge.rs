@@ -1,7 +1,7 @@
 //! The verdict on a night for a page: green only where nothing is left to doubt, else with its reasons.
 
+use formats::show::counted;
 use luspemaro::Verdict;
-use session::counted;
 
 use crate::account::{served_doubts, verdict_text};
 use crate::night::Account;

@@ -9,7 +9,7 @@ use crate::account::verdict_text;
 use crate::judge::{against, what_agrees};
 use crate::night::{Account, Failure, Night};
 use crate::page::{differences_html, facts_table, night_rows, verdict_html};
-use crate::proof::{CrateProof, FileSum, Proof, State, TRUSTED};
+use crate::proof::{CrateProof, CrateState, FileSum, Proof, TRUSTED};
 
 const VERIFIED: &str = "Verified: everything is proved, and every recorded answer is what the proved library answers now.";
 const NOT_VERIFIED: &str = "Not verified.";
@@ -22,13 +22,13 @@ const REFUSED: u8 = 3;
 const TROUBLE: u8 = 4;
 
 /// A night and what came of it.
-pub type Replayed = (Night, Result<Account, Failure>);
+pub type ReplayedNight = (Night, Result<Account, Failure>);
 
 /// All that was found.
 pub struct Verified {
     pub proof: Proof,
     /// None was replayed where something is not proved.
-    pub nights: Vec<Replayed>,
+    pub nights: Vec<ReplayedNight>,
     pub clock: String,
     pub tool: &'static str,
 }
@@ -105,13 +105,14 @@ fn status_of(replayed: &Result<Account, Failure>) -> u8 {
 pub fn kit_text(verified: &Verified) -> String {
     let Verified { proof, nights, .. } = verified;
     let count = |state| proof.crates.iter().filter(|one| one.state == state).count();
-    let [now, before, not] = [State::Proved, State::Unchanged, State::NotProved].map(count);
+    let [now, before, not] =
+        [CrateState::Proved, CrateState::Unchanged, CrateState::NotProved].map(count);
     let all = proof.crates.len();
     let mut text = format!(
         "Crates     {all}: {now} proved in this run, {before} proved before and unchanged since, {not} not proved\n"
     );
     for CrateProof { name, sum, state } in &proof.crates {
-        let label = if *state == State::NotProved { "Not proved" } else { "Proved" };
+        let label = if *state == CrateState::NotProved { "Not proved" } else { "Proved" };
         text += &format!("{label:11}{sum}  {name}\n");
     }
     text += &format!("Kit        {}\n", proof.kit);
@@ -169,7 +170,7 @@ fn proved_html(verified: &Verified) -> Html {
     let mut section = Html::of_text("h2", &[], "What is proved");
     section.push(facts_table(rows));
     let row = |one: &CrateProof| {
-        let class = if one.state == State::NotProved { "wrong" } else { "well" };
+        let class = if one.state == CrateState::NotProved { "wrong" } else { "well" };
         let state = Html::of_text("span", &[("class", class)], one.state.text());
         let cells = [cell(&one.name), Html::element("td", &[], state), code_cell(&one.sum)];
         Html::element("tr", &[("data-crate", &one.name)], Html::joined(cells))
@@ -191,7 +192,7 @@ fn trusted_html() -> Html {
     section
 }
 
-fn night_html(verified: &Verified, number: usize, (night, replayed): &Replayed) -> Html {
+fn night_html(verified: &Verified, number: usize, (night, replayed): &ReplayedNight) -> Html {
     let path = night.log_text();
     let mut section = Html::of_text("h2", &[], format!("The night {path}"));
     let (is_well, word) = verified.word_of(replayed);

@@ -8,10 +8,12 @@ use std::ffi::OsString;
 use std::io::{self, Read, Write};
 use std::path::{Path, PathBuf};
 
+use formats::date::now;
+use formats::text::path_text;
 use replay::{
     in_stack, kit_page, kit_text, replay_night, Failure, Night, Progress, Proof, Verified,
 };
-use session::{is_same_file, now, path_text, NewFile};
+use session::{is_same_file, NewFile};
 
 use crate::messages::tell;
 

@@ -21,6 +21,7 @@
 //! | `page` | the account as a page |
 //! | `proof` | what `./verify` found proved, with the sums |
 //! | `kit` | the page of `./verify` |
+//! | `second_program` | what the second program says of a difference or a stop, which is not proved |
 //! | `rooms` | the stack that the library needs |
 //!
 //! Memory does not grow with the log: of differences and commands the first are kept, and all are counted.
@@ -36,6 +37,7 @@ mod page;
 mod pieces;
 mod proof;
 mod rooms;
+mod second_program;
 mod served;
 mod start;
 mod table;
@@ -43,12 +45,13 @@ mod table;
 pub use account::{text, verdict_text};
 pub use difference::Difference;
 pub use follow::Following;
-pub use followed::{Contradicted, Counts, Followed, Now, Sent};
+pub use followed::{Contradicted, Counts, Followed, Now, SentCommand, Stopped};
 pub use kit::{kit_page, kit_text, Verified};
 pub use night::{in_stack, replay_night, Account, Failure, Night, Progress};
-pub use page::{page, Origin, PageFacts};
+pub use page::{page, LibraryBuild, PageFacts};
 pub use pieces::Pieces;
 pub use proof::{CrateProof, Proof};
+pub use second_program::store_of;
 pub use served::ServedLog;
 pub use start::{LogStart, Start};
 pub use table::KeptTable;

@@ -10,14 +10,14 @@ mod messages;
 
 use std::env;
 use std::io::{self, Write};
-use std::path::PathBuf;
 use std::process::ExitCode;
 
+use formats::date::now;
 use luspemaro::Verdict;
-use replay::{in_stack, page, replay_night, text, Account, Failure, PageFacts, Progress};
-use session::{is_same_file, now, path_text, sum_of_file, NewFile};
+use replay::{in_stack, page, replay_night, text, Account, Failure, Night, PageFacts, Progress};
+use session::{sum_of_file, NewFile, Page};
 
-use crate::call::{Call, Report};
+use crate::call::Call;
 use crate::kit_call::verify;
 use crate::messages::tell;
 
@@ -28,9 +28,6 @@ const DIFFERS: u8 = 1;
 const NOT_RUN: u8 = 2;
 const REFUSED: u8 = 3;
 const TROUBLE: u8 = 4;
-
-/// What the streams of this tool are, by the paths that the system has for them.
-const STREAMS: [&str; 3] = ["/dev/stdin", "/dev/stdout", "/dev/stderr"];
 
 fn main() -> ExitCode {
     match run() {
@@ -52,13 +49,13 @@ fn run() -> Result<u8, Failure> {
         return verify(words);
     }
     let call = Call::read(words).map_err(Failure::NotRun)?;
-    let report = call.report.as_ref().map(|report| open_report(&call, report)).transpose();
-    let report = report.map_err(Failure::NotRun)?;
+    let paged = call.page.as_ref().map(|page| start_page(&call, page)).transpose();
+    let paged = paged.map_err(Failure::NotRun)?;
     let account = in_stack(|| replay_night(&call.night, &mut tell_progress))?;
     let mut output = io::stdout().lock();
     let written =
         output.write_all(text(&account, call.has_table).as_bytes()).and_then(|()| output.flush());
-    if let (Some((file, facts)), Ok(())) = (report, &written) {
+    if let (Some((file, facts)), Ok(())) = (paged, &written) {
         file.write(&page(&account, &facts)).map_err(Failure::Trouble)?;
     }
     written.map_err(|error| Failure::Trouble(format!("cannot write the output: {error}")))?;
@@ -74,30 +71,19 @@ fn status_of(account: &Account) -> u8 {
 }
 
 /// The file of a report and what its page names; told before anything is run where it cannot be written, or must not be.
-fn open_report(call: &Call, report: &Report) -> Result<(NewFile, PageFacts), String> {
-    let night = &call.night;
-    let named = [
-        Some(night.log.clone()),
-        night.table.clone(),
-        night.served.clone(),
-        env::current_exe().ok(),
-    ];
-    let beside = Some(night.log.with_extension("log"));
-    let streams = STREAMS.map(|stream| Some(PathBuf::from(stream)));
-    let mut in_use = named.into_iter().chain([beside]).chain(streams).flatten();
-    if in_use.any(|file| is_same_file(&file, &report.path)) {
-        let path = path_text(&report.path);
-        return Err(format!("{path} is read or written here, so no report is written there"));
-    }
+fn start_page(call: &Call, page: &Page) -> Result<(NewFile, PageFacts), String> {
+    let Night { log, table, served, .. } = &call.night;
+    let beside = Some(log.with_extension("log"));
+    let in_use = [Some(log.clone()), table.clone(), served.clone(), beside];
     let facts = PageFacts {
-        matter: report.matter.clone(),
+        matter: page.matter.clone(),
         clock: now(),
-        date: report.date.clone(),
+        date: page.date.clone(),
         origin: call.origin.clone(),
         tool: env!("CARGO_PKG_VERSION"),
         tool_sum: env::current_exe().and_then(|path| sum_of_file(&path)).ok(),
     };
-    Ok((NewFile::create(&report.path, report.is_forced)?, facts))
+    Ok((page.create(in_use.into_iter().flatten())?, facts))
 }
 
 fn tell_progress(Progress { bytes, of, commands }: Progress) {

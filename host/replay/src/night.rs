@@ -6,7 +6,9 @@ use std::path::{Path, PathBuf};
 use std::thread;
 use std::time::{Duration, Instant};
 
-use session::{is_same_file, path_text, Sum};
+use formats::sha256::Sum;
+use formats::text::path_text;
+use session::is_same_file;
 
 use crate::follow::{Following, Lost};
 use crate::followed::Followed;
@@ -63,7 +65,7 @@ pub struct Account {
     /// Of the log, all bytes that were read; none where it was not wanted.
     pub log_sum: Option<Sum>,
     /// The server's log that was found, and why it is of no use, if so.
-    pub served: Found,
+    pub served: FoundLog,
 }
 
 /// Why there is no account.
@@ -168,10 +170,10 @@ fn open(path: &Path) -> io::Result<(Box<dyn Read>, Option<u64>)> {
 }
 
 /// A server's log that was found, and why it is of no use, if so.
-pub type Found = Option<(PathBuf, Option<LeftOut>)>;
+pub type FoundLog = Option<(PathBuf, Option<LeftOut>)>;
 
 /// The server's log: the one that is named, or the one beside the log. One that is named has to be there.
-fn served_of(night: &Night, start: &Start) -> Result<(Found, Option<Cursor>), Failure> {
+fn served_of(night: &Night, start: &Start) -> Result<(FoundLog, Option<Cursor>), Failure> {
     let beside = night.log.with_extension(LOG_EXTENSION);
     let is_plain = !night.is_input() && night.log.is_file();
     let is_beside = is_plain && beside.is_file() && !is_same_file(&beside, &night.log);

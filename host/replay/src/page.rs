@@ -1,13 +1,17 @@
 //! The account of a replay as a page: one file that loads nothing and runs nothing.
 
+use formats::sha256::Sum;
+use formats::show::{counted, show_table};
+use formats::text::path_text;
 use session::html::{cell, code_cell, fact, table, Html};
-use session::{counted, page_of, path_text, show_table, Matter, Sum, UNPROVED};
+use session::{page_of, Matter};
 
 use crate::account::{counts_text, numbers_text, shown_difference, verdict_text};
 use crate::difference::Difference;
-use crate::followed::{Now, Sent};
+use crate::followed::{Now, SentCommand};
 use crate::judge::{against, what_agrees};
 use crate::night::Account;
+use crate::second_program::UNPROVED;
 use crate::start::LogStart;
 
 const NOT_GIVEN: &str = "not given";
@@ -22,7 +26,7 @@ const ABOUT: &str = "The verdict is the library's: it runs each command of the l
 
 /// Who built the library, as the call says it.
 #[derive(Clone, Debug, Default)]
-pub struct Origin {
+pub struct LibraryBuild {
     pub archive_sum: Option<String>,
     pub is_built_by_proof: bool,
     pub sources_sum: Option<String>,
@@ -35,7 +39,7 @@ pub struct PageFacts {
     /// From this machine's clock, and from the call.
     pub clock: String,
     pub date: Option<String>,
-    pub origin: Origin,
+    pub origin: LibraryBuild,
     /// This tool's version and sum.
     pub tool: &'static str,
     pub tool_sum: Option<Sum>,
@@ -132,7 +136,7 @@ pub fn night_rows(account: &Account, prefix: &str) -> Vec<Html> {
             left_out.as_ref().map_or("read".to_string(), |one| format!("left out: {}", one.why));
         rows.push(fact("served", "The server's own log", &format!("{}: {text}", path_text(path))));
     }
-    rows.extend(followed.stop.as_ref().map(|(stop, _)| {
+    rows.extend(followed.stop.as_ref().map(|stop| {
         let line = stop.frame + start.lines();
         let text = format!("frame {}, line {line}: {} ({UNPROVED})", stop.frame, stop.rule);
         fact("stop", "What stopped it", &text)
@@ -198,8 +202,8 @@ fn sent_html(account: &Account) -> Html {
     section
 }
 
-fn sent_row(sent: &Sent) -> Html {
-    let Sent { frame, line, reader, word, recorded, now, logged } = sent;
+fn sent_row(sent: &SentCommand) -> Html {
+    let SentCommand { frame, line, reader, word, recorded, now, logged } = sent;
     let (time, from) = match logged {
         Some(logged) => (logged.time.clone(), format!("{}, reader {reader}", logged.peer)),
         None => (String::new(), format!("reader {reader}")),

@@ -2,7 +2,7 @@
 
 use std::io::{self, Read};
 
-use session::{Sum, Summing};
+use formats::sha256::{Sum, Summing};
 
 /// The size of the buffer.
 const PIECE: usize = 1 << 16;
@@ -73,7 +73,7 @@ impl<R: Read> Pieces<R> {
 #[cfg(test)]
 mod tests {
     use crate::pieces::*;
-    use session::sum_of_bytes;
+    use formats::sha256::sum_of_bytes;
 
     /// Gives few bytes at a time, and is interrupted.
     struct Slow<'b>(&'b [u8], bool);

@@ -12,7 +12,7 @@
 
 /// What a crate is.
 #[derive(Clone, Copy, Debug, PartialEq, Eq)]
-pub enum State {
+pub enum CrateState {
     /// In this run.
     Proved,
     /// Before, and none of its files has changed since.
@@ -25,7 +25,7 @@ pub enum State {
 pub struct CrateProof {
     pub name: String,
     pub sum: String,
-    pub state: State,
+    pub state: CrateState,
 }
 
 /// Another file that counts.
@@ -48,21 +48,21 @@ pub struct Proof {
     pub troubles: Vec<String>,
 }
 
-impl State {
-    fn of_word(word: &str) -> Option<State> {
+impl CrateState {
+    fn of_word(word: &str) -> Option<CrateState> {
         Some(match word {
-            "proved" => State::Proved,
-            "unchanged" => State::Unchanged,
-            "not-proved" => State::NotProved,
+            "proved" => CrateState::Proved,
+            "unchanged" => CrateState::Unchanged,
+            "not-proved" => CrateState::NotProved,
             _ => return None,
         })
     }
 
     pub fn text(self) -> &'static str {
         match self {
-            State::Proved => "proved in this run",
-            State::Unchanged => "proved before on this machine, unchanged since",
-            State::NotProved => "not proved",
+            CrateState::Proved => "proved in this run",
+            CrateState::Unchanged => "proved before on this machine, unchanged since",
+            CrateState::NotProved => "not proved",
         }
     }
 }
@@ -81,7 +81,7 @@ impl Proof {
                 ["rust", rust] => proof.rust = Some(rust.to_string()),
                 ["commit", commit] => proof.commit = Some(commit.to_string()),
                 ["crate", name, sum, state] => {
-                    let state = State::of_word(state).ok_or_else(bad)?;
+                    let state = CrateState::of_word(state).ok_or_else(bad)?;
                     proof.crates.push(CrateProof {
                         name: name.to_string(),
                         sum: sum.to_string(),
@@ -115,7 +115,7 @@ impl Proof {
         let not_proved: Vec<&str> = self
             .crates
             .iter()
-            .filter(|one| one.state == State::NotProved)
+            .filter(|one| one.state == CrateState::NotProved)
             .map(|one| one.name.as_str())
             .collect();
         if !not_proved.is_empty() {

@@ -8,9 +8,11 @@ use std::fs::File;
 use std::io::{self, BufReader, Seek, SeekFrom};
 use std::path::{Path, PathBuf};
 
-use second::frames::{Frame, MAX_DIGITS};
+use formats::frames::{Frame, MAX_DIGITS};
+use formats::sha256::Sum;
+use formats::source::next_line;
+use formats::text::line_text;
 use serve::word_text;
-use session::{line_text, next_line, Sum};
 
 /// More of a line is not looked at.
 const LONGEST_LINE: usize = 4_096;

@@ -3,11 +3,13 @@
 use std::io::{self, Read};
 use std::path::Path;
 
-use second::frames::{Frame, MAX_DIGITS};
-use serve::{load, namespaces_fault, table_fault};
-use session::{sum_of_bytes, sum_of_file, Sum};
+use formats::frames::{Frame, MAX_DIGITS};
+use formats::sha256::{sum_of_bytes, Sum};
+use serve::load;
+use session::sum_of_file;
 
 use crate::pieces::Pieces;
+use crate::second_program::{namespaces_fault, table_fault};
 use crate::table::KeptTable;
 
 /// Packed rows and entries, not judged.

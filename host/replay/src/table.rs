@@ -1,16 +1,13 @@
 //! The table as the program of frames lays it out, lent to the library, passing or not.
 
+use formats::log::Recorded;
+use formats::rows::{split_rows, Row};
+use formats::sizes::{PROGRAM_ANSWER, PROGRAM_AREA, PROGRAM_TABLE};
 use luspemaro::{
-    answer_from, check_table, replay, summarize, Record, RecordsMut, Refusal, Replay, Replayed,
-    Summary,
+    answer_from, check_table, replay, summarize, Record, Records, RecordsMut, Refusal, Replay,
+    Replayed, Summary,
 };
-use second::frames::{ANSWER_ROOM, TABLE_ROOM};
-use second::packed::split_rows;
-use second::replay::Recorded;
-use second::rows::{Flags, Row};
-use second::store::STORE_AREA;
-use second::{Readers, Store};
-use serve::{records_of, MAX_ROWS};
+use serve::{records_of, rows_of, MAX_ROWS};
 
 /// "512 records, names at first in row order without gaps from the start of 16,384 bytes", with their summary.
 #[derive(Clone, Debug, PartialEq, Eq)]
@@ -27,10 +24,10 @@ impl KeptTable {
     /// The table of packed rows, or why the program has none of them. Rows that do not pass are laid out too: of one that is
     /// cut short what is missing is zero, and every command over them is answered 1.
     pub fn of_packed(rows: &[u8]) -> Result<KeptTable, String> {
-        if rows.len() > TABLE_ROOM {
+        if rows.len() > PROGRAM_TABLE {
             let length = rows.len();
             return Err(format!(
-                "the rows have {length} bytes; a table that is replayed has at most {TABLE_ROOM}"
+                "the rows have {length} bytes; a table that is replayed has at most {PROGRAM_TABLE}"
             ));
         }
         let (held, rest) = split_rows(rows);
@@ -48,7 +45,7 @@ impl KeptTable {
             ));
         }
         records.resize(MAX_ROWS, Record::default());
-        area.resize(STORE_AREA, 0);
+        area.resize(PROGRAM_AREA, 0);
         let mut summary = vec![Summary::default(); MAX_ROWS];
         // Rows that do not pass have no summary, and the numbers stay zero.
         let counted = summarize(&records, count, &area, &mut summary);
@@ -91,7 +88,7 @@ impl KeptTable {
 
     /// What the library answers to one command. The table is changed by it.
     pub fn answer(&mut self, reader: u8, namespaces: &[u8], line: &[u8]) -> Recorded {
-        let mut out = vec![0; ANSWER_ROOM];
+        let mut out = vec![0; PROGRAM_ANSWER];
         match self.answer_into(reader, namespaces, line, &mut out) {
             Ok(length) => {
                 out.truncate(length);
@@ -122,37 +119,14 @@ impl KeptTable {
                 let rest = Some(rest.to_vec()).filter(|rest| !rest.is_empty());
                 held.iter().filter_map(Row::to_bytes).chain(rest).collect()
             }
-            None => self.rows().iter().filter_map(Row::to_bytes).collect(),
+            None => rows_of(self.records()).filter_map(|row| row.to_bytes()).collect(),
         }
     }
 
-    fn rows(&self) -> Vec<Row<'_>> {
-        let row = |record: &Record| {
-            let start = usize::from(record.start);
-            let name = self.area.get(start..start + usize::from(record.len))?;
-            let (flags, readers) =
-                (Flags::from_bits(record.flags), Readers::from_bits(record.readers));
-            Some(Row { flags, readers, name })
-        };
-        self.records.iter().take(self.count).filter_map(row).collect()
-    }
-
-    /// The same as the second program keeps it; none where the rows do not pass.
-    pub fn second(&self) -> Option<Store> {
-        let record = |record: &Record| {
-            let Record { flags, start, len, readers } = *record;
-            second::Record { flags, start, len, readers }
-        };
-        self.passes().then(|| Store {
-            records: self.records.iter().map(record).collect(),
-            count: self.count,
-            area: self.area.clone(),
-            summary: self
-                .summary
-                .iter()
-                .map(|&Summary(number)| second::Summary::from_number(number))
-                .collect(),
-        })
+    /// What is lent for a call that reads.
+    pub fn records(&self) -> Records<'_> {
+        let KeptTable { records, count, area, summary, .. } = self;
+        Records { records, count: *count, area, summary }
     }
 }
 
@@ -173,10 +147,6 @@ mod tests {
             assert_eq!(table.packed_rows().concat(), &rows[..length]);
             let answered = table.answer(0, b"", b"a NAMESPACE\r\n");
             assert_eq!(matches!(answered, Recorded::Lines(_)), is_whole, "{length}");
-            assert_eq!(table.second().is_some(), is_whole);
-            if let Some(store) = table.second() {
-                assert_eq!(store, Store::of_rows(&split_rows(&rows[..length]).0));
-            }
         }
     }
 
@@ -187,7 +157,7 @@ mod tests {
         assert_eq!(KeptTable::of_packed(&rows).map(|table| table.count()), Ok(512));
         let told = KeptTable::of_packed(&[&rows[..], FOO].concat()).expect_err("too many");
         assert_eq!(told, "there are 513 rows; a table that is replayed has at most 512");
-        let told = KeptTable::of_packed(&[0; TABLE_ROOM + 1]).expect_err("too many");
+        let told = KeptTable::of_packed(&[0; PROGRAM_TABLE + 1]).expect_err("too many");
         assert_eq!(told, "the rows have 16385 bytes; a table that is replayed has at most 16384");
     }
 }

@@ -1,4 +1,4 @@
-//! Quoted strings, as commands, answers and session files write them.
+//! Quoted strings, as commands and answers write them.
 
 /// "In quotes, `"` and `\` take a backslash."
 pub fn push_quoted(text: &mut Vec<u8>, bytes: &[u8]) {

@@ -36,24 +36,6 @@ impl Flags {
     /// Bits 7 and 15 "must be 0".
     const UNNAMED: Flags = Flags(1 << 7 | 1 << 15);
 
-    /// The members, each with a word for it, in the order of their bits.
-    pub const NAMED: [(&'static str, Flags); 14] = [
-        ("exists", Flags::EXISTS),
-        ("subscribed", Flags::SUBSCRIBED),
-        ("remote", Flags::REMOTE),
-        ("noselect", Flags::NO_SELECT),
-        ("noinferiors", Flags::NO_INFERIORS),
-        ("marked", Flags::MARKED),
-        ("unmarked", Flags::UNMARKED),
-        ("all", Flags::ALL),
-        ("archive", Flags::ARCHIVE),
-        ("drafts", Flags::DRAFTS),
-        ("flagged", Flags::FLAGGED),
-        ("junk", Flags::JUNK),
-        ("sent", Flags::SENT),
-        ("trash", Flags::TRASH),
-    ];
-
     pub const fn from_bits(bits: u16) -> Flags {
         Flags(bits)
     }

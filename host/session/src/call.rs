@@ -4,7 +4,8 @@ use std::env;
 use std::ffi::OsString;
 use std::path::PathBuf;
 
-use session::{comment_text, path_text, Form, Matter};
+use formats::text::{comment_text, path_text};
+use session::{Form, Page, PageWords};
 
 const USAGE: &str =
     "usage: session --program PATH [FILE] [--frames | --json | --csv] [--walker PATH] [--report \
@@ -18,21 +19,12 @@ pub struct Call {
     pub file: Option<PathBuf>,
     pub form: Form,
     pub page: Option<Page>,
-    pub origin: Origin,
-}
-
-/// The page of a report, and what the call says of it.
-pub struct Page {
-    pub path: PathBuf,
-    /// Whether a file that is there may be written over.
-    pub is_forced: bool,
-    pub date: Option<String>,
-    pub matter: Matter,
+    pub origin: ProgramBuild,
 }
 
 /// What `./run` knows of the program.
 #[derive(Default)]
-pub struct Origin {
+pub struct ProgramBuild {
     /// The sum of the program that the proof built.
     pub proved_sum: Option<String>,
     /// The sum of the files that the proof is about.
@@ -42,22 +34,19 @@ pub struct Origin {
 
 /// The call as it comes, each option at most once.
 #[derive(Default)]
-struct Read {
+struct Words {
     program: Option<PathBuf>,
     walker: Option<PathBuf>,
     file: Option<PathBuf>,
     form: Option<Form>,
-    report: Option<PathBuf>,
-    is_forced: bool,
-    date: Option<String>,
-    matter: Matter,
-    origin: Origin,
+    page: PageWords,
+    origin: ProgramBuild,
 }
 
 impl Call {
     /// The call, or how it is used.
     pub fn read() -> Result<Call, &'static str> {
-        let mut read = Read::default();
+        let mut read = Words::default();
         let mut arguments = env::args_os().skip(1);
         while let Some(argument) = arguments.next() {
             read.take(argument, &mut arguments).ok_or(USAGE)?;
@@ -66,7 +55,7 @@ impl Call {
     }
 }
 
-impl Read {
+impl Words {
     fn take(
         &mut self,
         argument: OsString,
@@ -76,10 +65,10 @@ impl Read {
             Some("--frames") => set(&mut self.form, Form::Frames)?,
             Some("--json") => set(&mut self.form, Form::Json)?,
             Some("--csv") => set(&mut self.form, Form::Csv)?,
-            Some("--force") => self.is_forced = true,
+            Some("--force") => self.page.is_forced = true,
             Some("--program") => set(&mut self.program, PathBuf::from(rest.next()?))?,
             Some("--walker") => set(&mut self.walker, PathBuf::from(rest.next()?))?,
-            Some("--report") => set(&mut self.report, PathBuf::from(rest.next()?))?,
+            Some("--report") => set(&mut self.page.path, PathBuf::from(rest.next()?))?,
             Some(option) if option.starts_with("--") => {
                 let text = comment_text(rest.next()?.as_encoded_bytes());
                 set(self.text_option(option)?, text)?;
@@ -91,29 +80,22 @@ impl Read {
 
     /// Where the text of an option goes.
     fn text_option(&mut self, option: &str) -> Option<&mut Option<String>> {
-        Some(match option {
-            "--date" => &mut self.date,
-            "--case" => &mut self.matter.case,
-            "--examiner" => &mut self.matter.examiner,
-            "--exhibit" => &mut self.matter.exhibit,
-            "--proved-sum" => &mut self.origin.proved_sum,
-            "--sources-sum" => &mut self.origin.sources_sum,
-            "--commit" => &mut self.origin.commit,
-            _ => return None,
-        })
+        match option {
+            "--proved-sum" => Some(&mut self.origin.proved_sum),
+            "--sources-sum" => Some(&mut self.origin.sources_sum),
+            "--commit" => Some(&mut self.origin.commit),
+            _ => self.page.text_option(option),
+        }
     }
 
     /// What belongs to a report stands beside `--report` alone.
     fn call(self) -> Option<Call> {
-        let Read { program, walker, file, form, report, is_forced, date, matter, origin } = self;
-        let Matter { case, examiner, exhibit } = &matter;
-        let texts = [&date, case, examiner, exhibit];
-        if report.is_none() && (is_forced || texts.into_iter().any(Option::is_some)) {
+        let Words { program, walker, file, form, page, origin } = self;
+        if page.are_without_page() {
             return None;
         }
         let form = form.unwrap_or(Form::Text);
-        let page = report.map(|path| Page { path, is_forced, date, matter });
-        Some(Call { program: program?, walker, file, form, page, origin })
+        Some(Call { program: program?, walker, file, form, page: page.page(), origin })
     }
 }
 
@@ -126,6 +108,12 @@ fn set<T>(place: &mut Option<T>, value: T) -> Option<()> {
             Some(())
         }
     }
+}
+
+/// The programs and the session.
+pub fn files_in_use(call: &Call) -> impl Iterator<Item = PathBuf> {
+    let named = [Some(call.program.clone()), call.walker.clone(), call.file.clone()];
+    named.into_iter().flatten()
 }
 
 /// A path, or that the session is on standard input.

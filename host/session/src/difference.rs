@@ -2,25 +2,25 @@
 
 use std::collections::BTreeMap;
 
-use crate::reply::Reply;
-use crate::show::{beside, beside_line, came_text, counted};
-use crate::text::{line_text, name_text};
+use formats::reply::Reply;
+use formats::show::{beside, beside_line, came_text, counted};
+use formats::text::{line_text, name_text};
 
 /// Beside every difference.
 pub const SECOND: &str = "the second program is not proved";
 
 /// Where an answer is not the second program's.
 #[derive(Clone, Debug, PartialEq, Eq)]
-pub struct Difference {
+pub struct Disagreement {
     /// In a few words.
     pub short: String,
     /// Each line or name that one of the two gives and the other does not.
     pub lines: Vec<String>,
 }
 
-impl Difference {
+impl Disagreement {
     /// None where the two are the same, byte by byte.
-    pub fn between(reply: &Reply, second: &Reply) -> Option<Difference> {
+    pub fn between(reply: &Reply, second: &Reply) -> Option<Disagreement> {
         if reply == second {
             return None;
         }
@@ -49,7 +49,7 @@ impl Difference {
             _ => {
                 let (came, due) = (came_text(Some(reply)), came_text(Some(second)));
                 let short = format!("it was {came}, and by the second program {due}");
-                Difference { short, lines: lost_lines(second) }
+                Disagreement { short, lines: lost_lines(second) }
             }
         })
     }
@@ -102,7 +102,7 @@ fn of_lists(
     due: &[Vec<u8>],
     kind: [&str; 2],
     shown: impl Fn(&[u8]) -> String,
-) -> Difference {
+) -> Disagreement {
     let lost = those_only_in(due, given);
     let added = those_only_in(given, due);
     let kinds = |count: usize| counted(count, kind[0], kind[1]);
@@ -114,7 +114,7 @@ fn of_lists(
     };
     let lost = lost.into_iter().map(|line| missing(shown(line)));
     let added = added.into_iter().map(|line| format!("added: {}", shown(line)));
-    Difference { short, lines: lost.chain(added).collect() }
+    Disagreement { short, lines: lost.chain(added).collect() }
 }
 
 fn missing(text: String) -> String {

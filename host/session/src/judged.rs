@@ -3,10 +3,10 @@
 //! A command from a reader up to 7 has the table looked at first (refusal 1) and then the list
 //! (refusal 2), and a walk the table; so any other answer says that what was looked at passes.
 
-use second::frames::Frame;
-use second::{Reader, Refusal};
-
-use crate::reply::Reply;
+use formats::frames::Frame;
+use formats::readers::Reader;
+use formats::refusal::Refusal;
+use formats::reply::Reply;
 
 /// What was said last of each. One without rows or entries passes.
 #[derive(Clone, Copy, Debug, Default, PartialEq, Eq)]
@@ -32,8 +32,8 @@ impl Judged {
             (Some(Frame::Entry(_)), None) => self.namespaces = Standing::NotAsked,
             (Some(Frame::Command { reader, .. }), Some(reply)) if is_looked_at(*reader, reply) => {
                 match refusal_of(reply) {
-                    Some(Refusal::Table) => self.table = Standing::Refused,
-                    Some(Refusal::Namespaces) => {
+                    Some(Refusal::TABLE) => self.table = Standing::Refused,
+                    Some(Refusal::NAMESPACES) => {
                         (self.table, self.namespaces) = (Standing::Passes, Standing::Refused);
                     }
                     _ => *self = Judged::default(),
@@ -41,7 +41,7 @@ impl Judged {
             }
             (Some(Frame::Walk { reader, .. }), Some(reply)) if is_looked_at(*reader, reply) => {
                 self.table = match refusal_of(reply) {
-                    Some(Refusal::Table) => Standing::Refused,
+                    Some(Refusal::TABLE) => Standing::Refused,
                     _ => Standing::Passes,
                 };
             }
@@ -52,8 +52,8 @@ impl Judged {
 
 /// Whether the table was looked at before this answer was given.
 fn is_looked_at(reader: u8, reply: &Reply) -> bool {
-    let is_bad = matches!(reply, Reply::Unreadable(_)) || refusal_of(reply) == Some(Refusal::Frame);
-    Reader::checked(reader).is_ok() && !is_bad
+    let is_bad = matches!(reply, Reply::Unreadable(_)) || refusal_of(reply) == Some(Refusal::FRAME);
+    Reader::of(reader).is_some() && !is_bad
 }
 
 fn refusal_of(reply: &Reply) -> Option<Refusal> {

@@ -10,10 +10,10 @@ use std::path::Path;
 use std::process::{Command, Stdio};
 
 use child::{Running, PATIENCE};
-use second::frames::{Frame, MAX_DIGITS};
+use formats::frames::{Frame, MAX_DIGITS};
+use formats::text::path_text;
 
 use crate::ran::Library;
-use crate::text::path_text;
 
 /// With this word alone the walker makes itself ready, and walks nothing.
 pub const BUILD: &str = "--build";

@@ -7,7 +7,6 @@
 //! library. Its statuses are those of `./run`.
 
 mod call;
-mod page_file;
 
 use std::env;
 use std::fmt::Display;
@@ -15,13 +14,17 @@ use std::io::{self, BufWriter, Write};
 use std::process::ExitCode;
 
 use child::find_program;
+use formats::date::now;
+use formats::error::SessionError;
+use formats::session::Session;
+use formats::source::Source;
+use formats::text::path_text;
 use session::{
-    make_ready, now, path_text, run_reported, run_session, sum_of_file, Facts, Form, Library,
-    NewFile, Programs, Report, RunError, Session, SessionError, Source, Summary, Versions,
+    make_ready, run_reported, run_session, sum_of_file, Facts, Form, Library, NewFile, Page,
+    Programs, Report, RunError, RunSummary, Versions,
 };
 
-use crate::call::{source_name, Call, Page};
-use crate::page_file::open_page;
+use crate::call::{files_in_use, source_name, Call};
 
 const NO_WALKER: &str = "walk large needs the walker of ./run, and none is given";
 const CR_FRAMES: &str =
@@ -93,7 +96,7 @@ fn run() -> Result<u8, Failure> {
     }
 }
 
-fn stopped_text(call: &Call, session: &Session, summary: &Summary, error: RunError) -> String {
+fn stopped_text(call: &Call, session: &Session, summary: &RunSummary, error: RunError) -> String {
     match error {
         RunError::Output(error) => format!("cannot write the output: {error}"),
         RunError::Program(error) => {
@@ -121,12 +124,12 @@ fn start_page(call: &Call, page: &Page, session: &Session) -> Result<(NewFile, F
             tool_sum,
         },
     };
-    let file = open_page(call, page).map_err(Failure::not_run)?;
+    let file = page.create(files_in_use(call)).map_err(Failure::not_run)?;
     Ok((file, facts))
 }
 
 /// Tells what was refused.
-fn tell_summary(call: &Call, summary: &Summary) {
+fn tell_summary(call: &Call, summary: &RunSummary) {
     if call.form == Form::Frames {
         tell(summary);
     }

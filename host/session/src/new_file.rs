@@ -9,7 +9,7 @@ use std::io::{self, Write};
 use std::os::unix::fs::MetadataExt;
 use std::path::{Path, PathBuf};
 
-use crate::text::path_text;
+use formats::text::path_text;
 
 /// A file under way. One that is not finished does not stay.
 pub struct NewFile {

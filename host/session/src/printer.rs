@@ -2,16 +2,18 @@
 
 use std::io::{self, Write};
 
+use formats::item::{Origin, Sent};
+use formats::reply::Reply;
+use formats::show::{came_text, refusal_text, show_reply, show_sent, shown_start, Shown};
+use formats::text::line_text;
+
 use crate::data::{Data, End, Remark};
-use crate::difference::{Difference, SECOND};
-use crate::explain::UNPROVED;
+use crate::difference::{Disagreement, SECOND};
 use crate::form::Form;
-use crate::item::{Origin, Sent, OWN};
-use crate::reply::Reply;
 use crate::report::Came;
-use crate::show::{came_text, refusal_text, show_reply, show_sent, shown_start, Shown};
-use crate::summary::{Summary, Verdict};
-use crate::text::line_text;
+use crate::second_program::UNPROVED;
+use crate::summary::{ItemVerdict, RunSummary};
+use crate::turn::OWN;
 
 /// What an item is to whoever reads the session.
 #[derive(Clone, Copy, Debug, PartialEq, Eq)]
@@ -93,9 +95,9 @@ impl<'o, W: Write> Printer<'o, W> {
         reply: Option<&Reply>,
         explanation: Option<&str>,
     ) -> io::Result<()> {
-        let verdict = Verdict::of(sent, reply);
+        let verdict = ItemVerdict::of(sent, reply);
         match reply {
-            Some(Reply::Refused(number)) if verdict == Verdict::AsExpected => {
+            Some(Reply::Refused(number)) if verdict == ItemVerdict::AsExpected => {
                 let text = format!("{} (as expected)", refusal_text(*number));
                 self.print_shown(&Shown::one_line("Refused", text))?;
             }
@@ -107,7 +109,7 @@ impl<'o, W: Write> Printer<'o, W> {
             self.print_shown(&Shown::new("Explained", lines))?;
         }
         match sent.expected {
-            Some(expected) if verdict == Verdict::Unmet => {
+            Some(expected) if verdict == ItemVerdict::Unmet => {
                 let text = format!("{expected}; and it was {}", came_text(reply));
                 self.print_shown(&Shown::one_line("Expected", text))
             }
@@ -128,8 +130,8 @@ impl<'o, W: Write> Printer<'o, W> {
     }
 
     /// Where an answer is not the second program's.
-    pub fn print_difference(&mut self, difference: &Difference) -> io::Result<()> {
-        let Difference { short, lines } = difference;
+    pub fn print_difference(&mut self, difference: &Disagreement) -> io::Result<()> {
+        let Disagreement { short, lines } = difference;
         let short = format!("from the second program: {short}");
         let lines = [vec![short], lines.clone(), vec![format!("({SECOND})")]].concat();
         self.print_shown(&Shown::new("Differs", lines))
@@ -146,7 +148,7 @@ impl<'o, W: Write> Printer<'o, W> {
     }
 
     /// The last line of the text.
-    pub fn print_summary(&mut self, summary: &Summary) -> io::Result<()> {
+    pub fn print_summary(&mut self, summary: &RunSummary) -> io::Result<()> {
         if self.form == Form::Text && self.previous.is_some() {
             writeln!(self.output)?;
         }

@@ -4,8 +4,8 @@ use std::fs::File;
 use std::io;
 use std::path::{Path, PathBuf};
 
-use crate::sha256::{sum_of, Sum};
-use crate::text::path_text;
+use formats::sha256::{sum_of, Sum};
+use formats::text::path_text;
 
 /// The programs that a session is run in.
 #[derive(Clone, Debug)]

@@ -3,24 +3,26 @@
 use std::io::{self, Write};
 
 use child::{Running, PATIENCE};
-use second::frames::Frame;
+use formats::error::SessionError;
+use formats::frames::Frame;
+use formats::item::{Content, Item, Origin, Sent};
+use formats::reply::Reply;
+use formats::session::{own_command, EndCheck, Session};
+use formats::sha256::Sum;
+use formats::show::counted;
+use formats::text::path_text;
 
 use crate::data::End;
-use crate::difference::Difference;
-use crate::error::SessionError;
-use crate::explain::Stored;
+use crate::difference::Disagreement;
 use crate::form::Form;
-use crate::item::{Content, Item, Origin, Sent, Turn};
+use crate::kept::Kept;
 use crate::large::walk_large;
 use crate::printer::{Part, Printer};
 use crate::ran::{Programs, Ran};
-use crate::reply::Reply;
 use crate::report::{Came, Report};
-use crate::session::{own_command, EndCheck, Session};
-use crate::sha256::Sum;
-use crate::show::counted;
-use crate::summary::Summary;
-use crate::text::path_text;
+use crate::second_program::Stored;
+use crate::summary::RunSummary;
+use crate::turn::Turn;
 
 /// A session of more items shows its progress on standard error.
 const LONG_SESSION: u64 = 2_000;
@@ -47,7 +49,7 @@ pub fn run_session(
     session: &Session,
     form: Form,
     output: &mut impl Write,
-) -> (Summary, Result<(), RunError>) {
+) -> (RunSummary, Result<(), RunError>) {
     run_printing(programs.into(), session, Printer::new(output, form), None)
 }
 
@@ -58,7 +60,7 @@ pub fn run_reported(
     form: Form,
     output: &mut impl Write,
     report: &mut Report,
-) -> (Summary, Result<(), RunError>) {
+) -> (RunSummary, Result<(), RunError>) {
     run_printing(programs.into(), session, Printer::new(output, form), Some(report))
 }
 
@@ -67,8 +69,8 @@ fn run_printing(
     session: &Session,
     printer: Printer<impl Write>,
     report: Option<&mut Report>,
-) -> (Summary, Result<(), RunError>) {
-    let mut summary = Summary::default();
+) -> (RunSummary, Result<(), RunError>) {
+    let mut summary = RunSummary::default();
     let result = run_items(programs, session, printer, &mut summary, report);
     (summary, result)
 }
@@ -77,20 +79,20 @@ fn run_items(
     programs: Programs,
     session: &Session,
     printer: Printer<impl Write>,
-    summary: &mut Summary,
+    summary: &mut RunSummary,
     report: Option<&mut Report>,
 ) -> Result<(), RunError> {
     let send = session.sender().map_err(RunError::Session)?;
     *summary.ran_mut() = Ran::before(&programs);
     let running = Running::start(&programs.frames, PATIENCE, send).map_err(RunError::Program)?;
     let progress = Progress { done: 0, length: session.length };
-    let stored = Stored::default();
+    let (kept, stored) = (Kept::default(), Stored::default());
     let session_sum = session.sum();
     let mut run =
-        Run { running, programs, session_sum, printer, stored, summary, report, progress };
+        Run { running, programs, session_sum, printer, kept, stored, summary, report, progress };
     let result = run.take_all(session).and_then(|()| run.check_end(session.end_check()));
     if let Some(report) = &mut run.report {
-        report.record_end(run.stored.program());
+        report.record_end(&run.kept, &run.stored);
     }
     run.finish(result)
 }
@@ -101,15 +103,17 @@ struct Run<'o, 's, W> {
     programs: Programs,
     session_sum: Sum,
     printer: Printer<'o, W>,
+    /// What the program keeps, and what the second program does.
+    kept: Kept,
     stored: Stored,
-    summary: &'s mut Summary,
+    summary: &'s mut RunSummary,
     report: Option<&'s mut Report>,
     progress: Progress,
 }
 
 /// What is told of an answer beside it.
 #[derive(Default)]
-struct Told {
+struct Annotations {
     /// Why it is a refusal.
     explanation: Option<String>,
     /// What an edit does.
@@ -117,7 +121,7 @@ struct Told {
     /// What its reader does not see.
     hidden: Option<Vec<String>>,
     /// Where it is not the second program's.
-    difference: Option<Difference>,
+    difference: Option<Disagreement>,
 }
 
 impl<W: Write> Run<'_, '_, W> {
@@ -138,9 +142,9 @@ impl<W: Write> Run<'_, '_, W> {
             // Nothing more can be written.
             Err(RunError::Output(_)) => return result,
         };
-        let (summary, program) = (&*self.summary, self.stored.program());
+        let (summary, kept, stored) = (&*self.summary, &self.kept, &self.stored);
         let (session_sum, stopped) = (self.session_sum, stopped.as_deref());
-        let end = End { summary, program, session_sum, stopped };
+        let end = End { summary, kept, stored, session_sum, stopped };
         self.printer.print_end(end).map_err(RunError::Output)?;
         result
     }
@@ -198,7 +202,8 @@ impl<W: Write> Run<'_, '_, W> {
     fn exchange(&mut self, line: u64, sent: &Sent) -> Result<(), RunError> {
         let whole = Some(&sent.frame).filter(|frame| !frame.is_cut);
         let frame = whole.and_then(|frame| Frame::decode(&frame.text).ok());
-        let is_kept = self.stored.store(line, frame.as_ref());
+        let is_kept = self.kept.keep(frame.as_ref());
+        self.stored.store(line, frame.as_ref());
         let part = if is_kept { Part::SetUp } else { Part::Exchange };
         self.summary.count_sent(frame.as_ref(), is_kept, sent.origin == Origin::LargeWalk);
         self.printer.print_sent(sent, part).map_err(RunError::Output)?;
@@ -235,11 +240,11 @@ impl<W: Write> Run<'_, '_, W> {
         if reply.is_some_and(|reply| !matches!(reply, Reply::Unreadable(_))) {
             self.summary.count_compared(turn, told.difference.as_ref());
         }
-        let program = self.stored.program();
+        let stored = &self.stored;
         let (effect, hidden) = (told.effect.as_deref(), told.hidden.as_deref());
         let difference = told.difference.as_ref();
         let came =
-            Came { turn, sent, frame, reply, explanation, effect, hidden, difference, program };
+            Came { turn, sent, frame, reply, explanation, effect, hidden, difference, stored };
         if let Some(report) = &mut self.report {
             report.record(&came);
         }
@@ -247,19 +252,20 @@ impl<W: Write> Run<'_, '_, W> {
         self.print_reply(sent, reply, &told).map_err(RunError::Output)
     }
 
-    fn told(&mut self, sent: &Sent, frame: Option<&Frame>, reply: Option<&Reply>) -> Told {
+    fn told(&mut self, sent: &Sent, frame: Option<&Frame>, reply: Option<&Reply>) -> Annotations {
         let Some(reply) = reply.filter(|reply| !matches!(reply, Reply::Unreadable(_))) else {
-            return Told::default();
+            return Annotations::default();
         };
         let second = self.stored.answer(sent);
-        let difference = Difference::between(reply, &second.0);
-        let mut told = Told { difference, ..Told::default() };
+        let difference = Disagreement::between(reply, &second.0);
+        let mut told = Annotations { difference, ..Annotations::default() };
         match reply {
             Reply::Refused(number) => {
                 told.explanation = Some(self.stored.explanation(sent, *number));
             }
             Reply::Lines(_) => {
-                told.effect = self.stored.follow(sent, frame, second);
+                self.kept.follow(&sent.frame.text, frame);
+                told.effect = self.stored.follow(frame, second);
                 told.hidden = self.stored.hidden(frame);
             }
             Reply::Walked { .. } => told.hidden = self.stored.hidden(frame),
@@ -268,7 +274,12 @@ impl<W: Write> Run<'_, '_, W> {
         told
     }
 
-    fn print_reply(&mut self, sent: &Sent, reply: Option<&Reply>, told: &Told) -> io::Result<()> {
+    fn print_reply(
+        &mut self,
+        sent: &Sent,
+        reply: Option<&Reply>,
+        told: &Annotations,
+    ) -> io::Result<()> {
         self.printer.print_reply(sent, reply, told.explanation.as_deref())?;
         if let Some(effect) = &told.effect {
             self.printer.print_effect(effect)?;
@@ -303,7 +314,7 @@ impl<W: Write> Run<'_, '_, W> {
         let walker = self.programs.walker.as_ref();
         let walker = walker.ok_or_else(|| program_error("there is no walker for walk large"))?;
         let failed = |error: io::Error| program_error(&format!("{}: {error}", path_text(walker)));
-        let (rows, edits) = (&self.stored.program().table, self.stored.edits());
+        let (rows, edits) = (self.kept.rows(), self.kept.edits());
         walk_large(walker, rows, edits, &sent.frame.text).map_err(failed)
     }
 }

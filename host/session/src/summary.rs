@@ -3,22 +3,23 @@
 
 use std::fmt;
 
-use second::frames::Frame;
+use formats::frames::Frame;
+use formats::item::{Origin, Sent};
+use formats::reply::Reply;
+use formats::show::{came_text, counted};
 
-use crate::difference::Difference;
-use crate::explain::UNPROVED;
-use crate::item::{Origin, Sent, Turn};
+use crate::difference::Disagreement;
 use crate::judged::Judged;
 use crate::ran::Ran;
-use crate::reply::Reply;
-use crate::show::{came_text, counted};
+use crate::second_program::UNPROVED;
+use crate::turn::Turn;
 
 /// Of what is not as it should be no more is kept.
 const MOST_TROUBLES: usize = 100;
 
 /// What came of a session.
 #[derive(Debug, Default)]
-pub struct Summary {
+pub struct RunSummary {
     rows: Given,
     entries: Given,
     commands: usize,
@@ -62,7 +63,7 @@ struct Given {
 
 /// What came of a frame beside what the session says of it.
 #[derive(Clone, Copy, Debug, PartialEq, Eq)]
-pub enum Verdict {
+pub enum ItemVerdict {
     Answered,
     AsExpected,
     Refused,
@@ -70,23 +71,23 @@ pub enum Verdict {
     Unmet,
 }
 
-impl Verdict {
+impl ItemVerdict {
     /// Of a row or an entry that was kept there is no reply.
-    pub fn of(sent: &Sent, reply: Option<&Reply>) -> Verdict {
+    pub fn of(sent: &Sent, reply: Option<&Reply>) -> ItemVerdict {
         let number = match reply {
             Some(Reply::Refused(number)) => Some(*number),
             _ => None,
         };
         match (sent.expected.map(|refusal| refusal.number()), number) {
-            (None, None) => Verdict::Answered,
-            (None, Some(_)) => Verdict::Refused,
-            (expected, number) if expected == number => Verdict::AsExpected,
-            _ => Verdict::Unmet,
+            (None, None) => ItemVerdict::Answered,
+            (None, Some(_)) => ItemVerdict::Refused,
+            (expected, number) if expected == number => ItemVerdict::AsExpected,
+            _ => ItemVerdict::Unmet,
         }
     }
 }
 
-impl Summary {
+impl RunSummary {
     /// Whether each item was answered, or refused as it said, with the second program's answers, and
     /// the table was not left unjudged or refused at the end.
     pub fn is_all_answered(&self) -> bool {
@@ -180,7 +181,7 @@ impl Summary {
         if sent.origin != Origin::LargeWalk {
             self.judged.take(frame, reply);
         }
-        let verdict = Verdict::of(sent, reply);
+        let verdict = ItemVerdict::of(sent, reply);
         let number = match reply {
             Some(Reply::Refused(number)) => Some(*number),
             _ => None,
@@ -189,12 +190,12 @@ impl Summary {
             Turn::Own => self.own = Some(number.map_or(OwnCheck::Passed, OwnCheck::Refused)),
             Turn::Line(_) => {
                 self.refused += usize::from(number.is_some());
-                self.expected += usize::from(verdict == Verdict::AsExpected);
+                self.expected += usize::from(verdict == ItemVerdict::AsExpected);
                 self.unexpected +=
-                    usize::from(matches!(verdict, Verdict::Refused | Verdict::Unmet));
+                    usize::from(matches!(verdict, ItemVerdict::Refused | ItemVerdict::Unmet));
             }
         }
-        if matches!(verdict, Verdict::Answered | Verdict::AsExpected) {
+        if matches!(verdict, ItemVerdict::Answered | ItemVerdict::AsExpected) {
             return;
         }
         let explained = explanation.map(|text| format!("; {text} ({UNPROVED})"));
@@ -209,7 +210,7 @@ impl Summary {
     }
 
     /// Counts an answer beside the second program's.
-    pub fn count_compared(&mut self, turn: Turn, difference: Option<&Difference>) {
+    pub fn count_compared(&mut self, turn: Turn, difference: Option<&Disagreement>) {
         self.answers += 1;
         if let Some(difference) = difference {
             self.differing += 1;
@@ -239,9 +240,9 @@ impl Given {
 }
 
 /// In one line.
-impl fmt::Display for Summary {
+impl fmt::Display for RunSummary {
     fn fmt(&self, formatter: &mut fmt::Formatter) -> fmt::Result {
-        let Summary { rows, entries, .. } = self;
+        let RunSummary { rows, entries, .. } = self;
         let kept = |given: &Given| format!("{} of {}", given.kept, given.given);
         let mut sent = vec![
             counted(self.commands, "command", "commands"),

@@ -1,10 +1,11 @@
 //! The verdict on a session as a whole: green only where nothing is left to doubt, else with its reasons.
 //! A page and the forms that are data have the same.
 
+use formats::show::counted;
+
 use crate::judged::{Judged, Standing};
 use crate::ran::{library_text, Built, Library};
-use crate::show::counted;
-use crate::summary::Summary;
+use crate::summary::RunSummary;
 
 const PASSED: &str = "All checks passed.";
 const NOT_PASSED: &str = "Not everything was checked or agreed.";
@@ -18,7 +19,7 @@ pub struct Conclusion {
 
 impl Conclusion {
     /// `stopped` says why the session was not run to its end, if it was not.
-    pub fn of(summary: &Summary, stopped: Option<&str>) -> Conclusion {
+    pub fn of(summary: &RunSummary, stopped: Option<&str>) -> Conclusion {
         let against = against(summary, stopped);
         match against.is_empty() {
             true => Conclusion { is_green: true, reasons: what_passed(summary) },
@@ -36,7 +37,7 @@ impl Conclusion {
 }
 
 /// What stands against a green verdict.
-fn against(summary: &Summary, stopped: Option<&str>) -> Vec<String> {
+fn against(summary: &RunSummary, stopped: Option<&str>) -> Vec<String> {
     let mut reasons = Vec::new();
     if let Some(reason) = stopped {
         reasons.push(format!("The session was not run to its end: {reason}."));
@@ -76,7 +77,7 @@ fn standing_text(standing: Standing, what: &str, refusal: u8) -> Option<String> 
 }
 
 /// What a green verdict says.
-fn what_passed(summary: &Summary) -> Vec<String> {
+fn what_passed(summary: &RunSummary) -> Vec<String> {
     let answers = counted(summary.compared().0, "answer is", "answers are");
     let library: Option<&Library> = summary.ran().library.as_ref();
     let large = library.filter(|_| summary.large_walks() > 0);

@@ -4,7 +4,7 @@ use std::ffi::{OsStr, OsString};
 use std::os::unix::ffi::{OsStrExt, OsStringExt};
 use std::path::PathBuf;
 
-use session::comment_text;
+use formats::text::comment_text;
 
 use crate::kind::Kind;
 

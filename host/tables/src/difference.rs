@@ -2,10 +2,10 @@
 
 use std::collections::BTreeMap;
 
-use second::rows::Flags;
-use second::Readers;
+use formats::readers::Readers;
+use formats::rows::Flags;
 
-use crate::order::Place;
+use crate::order::WalkPlace;
 use crate::side::Side;
 
 /// What a row says beside its name.
@@ -14,7 +14,7 @@ pub type Said = (Flags, Readers);
 /// A name that the two tables do not have alike. A table that does not pass may have several rows of one
 /// name; one that does not have the name has none.
 #[derive(Clone, Debug, PartialEq, Eq)]
-pub struct Difference {
+pub struct NameDifference {
     pub name: Vec<u8>,
     pub a: Vec<Said>,
     pub b: Vec<Said>,
@@ -26,7 +26,7 @@ pub struct Comparison {
     pub a: Side,
     pub b: Side,
     /// In walk order.
-    pub differences: Vec<Difference>,
+    pub differences: Vec<NameDifference>,
     /// How many names both have alike.
     pub alike: usize,
     /// Whether the namespace lists differ; none where one of the two kinds has none.
@@ -42,17 +42,17 @@ pub struct Counts {
 }
 
 pub fn compare(a: Side, b: Side) -> Comparison {
-    let mut names: BTreeMap<Place, Difference> = BTreeMap::new();
+    let mut names: BTreeMap<WalkPlace, NameDifference> = BTreeMap::new();
     for (side, is_a) in [(&a, true), (&b, false)] {
         for row in &side.rows {
-            let empty = || Difference { name: row.name.clone(), a: Vec::new(), b: Vec::new() };
-            let both = names.entry(Place::of(&row.name)).or_insert_with(empty);
+            let empty = || NameDifference { name: row.name.clone(), a: Vec::new(), b: Vec::new() };
+            let both = names.entry(WalkPlace::of(&row.name)).or_insert_with(empty);
             let said = if is_a { &mut both.a } else { &mut both.b };
             said.push((row.flags, row.readers));
         }
     }
     let all = names.len();
-    let differences: Vec<Difference> =
+    let differences: Vec<NameDifference> =
         names.into_values().filter(|both| both.a != both.b).collect();
     let lists = a.namespaces.as_ref().zip(b.namespaces.as_ref());
     let namespaces_differ = lists.map(|(a, b)| a != b);

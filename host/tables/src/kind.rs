@@ -1,10 +1,15 @@
 //! The kinds of tables, and which of them a file is, by its content.
 
+use formats::error::SessionError;
+use formats::frames::Frame;
+use formats::item::Content;
+use formats::rows::{split_rows, MAX_TABLE};
+use formats::session::Session;
+use formats::source::Source;
 use import::answer::read_answer;
 use import::{ListForm, TextForm, Told};
-use second::frames::Frame;
-use second::packed::{split_rows, MAX_TABLE};
-use session::{Content, Session, SessionError, Source};
+
+use crate::second_program::passes;
 
 /// What a table is read from.
 #[derive(Clone, Copy, Debug, PartialEq, Eq)]
@@ -145,5 +150,5 @@ fn has_mailbox_line(bytes: &[u8]) -> bool {
 /// Rows that fill the file, and that pass or hold a byte 00, which no text has.
 fn is_packed(bytes: &[u8]) -> bool {
     let is_filled = bytes.len() <= MAX_TABLE && split_rows(bytes).1.is_empty();
-    is_filled && (bytes.contains(&0) || session::table_fault(bytes).is_none())
+    is_filled && (bytes.contains(&0) || passes(bytes))
 }

@@ -12,13 +12,14 @@ mod call;
 mod difference;
 mod kind;
 mod order;
+mod second_program;
 mod sent;
 mod show;
 mod side;
 
 pub use call::{read_call, Call, Input, USAGE};
-pub use difference::{compare, Comparison, Difference, Said};
+pub use difference::{compare, Comparison, NameDifference, Said};
 pub use kind::Kind;
-pub use order::Place;
+pub use order::WalkPlace;
 pub use show::{json_text, text};
 pub use side::{read_side, OwnRow, Side};

@@ -3,15 +3,17 @@
 //! Rows are taken however many bytes they have, as the library takes more than the program of frames.
 //! Edits are made as the program makes them, by the second program.
 
-use second::command::{read_command, Request};
-use second::fault::Fault;
-use second::frames::{bytes_of_hex, Answer, Frame, Program, ANSWER, REFUSAL, TABLE_ROOM};
-use second::rows::Row;
-use second::table::checked_rows;
-use second::Table;
-use session::{Content, Sent, Session, Source};
+use formats::frames::{Frame, ANSWER, REFUSAL};
+use formats::hex::bytes_of_hex;
+use formats::item::{Content, Sent};
+use formats::refusal::Refusal;
+use formats::session::Session;
+use formats::show::{counted, refusal_text};
+use formats::sizes::PROGRAM_TABLE;
+use formats::source::Source;
 
 use crate::kind::Kind;
+use crate::second_program::EditedTable;
 
 /// What was taken of a session.
 #[derive(Debug, Default)]
@@ -45,7 +47,7 @@ pub fn read_sent(bytes: &[u8], kind: Kind) -> Result<Taken, String> {
 /// A session as far as it was read.
 #[derive(Default)]
 struct Reading {
-    program: Program,
+    table: EditedTable,
     edits: usize,
     answers: usize,
     left_out: Vec<String>,
@@ -59,7 +61,6 @@ impl Reading {
             false => Frame::decode(&sent.frame.text),
         };
         let is_expected = self.is_refused_as_expected(sent);
-        let program = &mut self.program;
         let left_out = match frame {
             Err(_) if is_answer(sent) => {
                 self.answers += 1;
@@ -70,10 +71,10 @@ impl Reading {
                 return self.notes.push(format!("line {line}: {text}"));
             }
             Err(rule) => format!("a bad frame, which may have been a row: {rule}"),
-            Ok(Frame::Row(_)) if program.store.is_some() => AFTER_EDIT.to_string(),
-            Ok(Frame::Row(row)) => return program.table.extend(row),
-            Ok(Frame::Entry(entry)) => return program.namespaces.extend(entry),
-            Ok(Frame::Command { line: text, .. }) if is_edit(&text) => {
+            Ok(Frame::Row(_)) if self.table.is_edited() => AFTER_EDIT.to_string(),
+            Ok(Frame::Row(row)) => return self.table.add_row(&row),
+            Ok(Frame::Entry(entry)) => return self.table.add_entry(&entry),
+            Ok(Frame::Command { line: text, .. }) if EditedTable::is_edit(&text) => {
                 match self.edit(line, sent) {
                     true => return,
                     false => NO_ROOM.to_string(),
@@ -90,43 +91,41 @@ impl Reading {
             Frame::decode(&sent.frame.text),
             Ok(Frame::Command { .. } | Frame::Walk { .. })
         );
-        let refusal = || self.program.fault(&sent.frame.text).map(Fault::refusal);
-        !is_question && sent.expected.is_some() && refusal() == sent.expected
+        let expected = sent.expected.map(Refusal::number);
+        let refusal = || self.table.refusal_of(&sent.frame.text);
+        !is_question && expected.is_some() && refusal() == expected
     }
 
     /// Makes an edit, or notes that it is refused; false where the program could not have the table.
     fn edit(&mut self, line: u64, sent: &Sent) -> bool {
-        if self.program.store.is_none() && self.program.table.len() > TABLE_ROOM {
+        if !self.table.is_edited() && self.table.added() > PROGRAM_TABLE {
             return false;
         }
-        match self.program.answer(&sent.frame.text) {
-            Some(Answer::Refused(refusal)) => {
+        match self.table.edit(&sent.frame.text) {
+            Ok(()) => self.edits += 1,
+            Err(number) => {
+                let refusal = refusal_text(number);
                 self.notes.push(format!("line {line}: an edit that is refused with {refusal}"));
             }
-            _ => self.edits += 1,
         }
         true
     }
 
     fn finish(self) -> Taken {
-        let Reading { program, edits, answers, left_out, mut notes } = self;
+        let Reading { table, edits, answers, left_out, mut notes } = self;
         if answers > 0 {
-            let count = session::counted(answers, "frame is", "frames are");
+            let count = counted(answers, "frame is", "frames are");
             notes.push(format!("{count} recorded answers, not looked at"));
         }
         if edits > 0 {
-            let count = session::counted(edits, "edit", "edits");
+            let count = counted(edits, "edit", "edits");
             notes.push(format!("{count} made, by the second program, not proved"));
         }
-        let edited = program.store.as_ref().and_then(|store| {
-            let rows = checked_rows(Table::Records(store.as_records())).ok()?;
-            Some(rows.iter().filter_map(Row::to_bytes).flatten().collect())
-        });
-        let rows: Vec<u8> = edited.unwrap_or(program.table);
-        if rows.len() > TABLE_ROOM {
+        let (rows, namespaces) = table.into_parts();
+        if rows.len() > PROGRAM_TABLE {
             notes.push("over 16,384 bytes of rows, which ./run does not keep".to_string());
         }
-        Taken { rows, namespaces: program.namespaces, left_out, notes }
+        Taken { rows, namespaces, left_out, notes }
     }
 }
 
@@ -134,8 +133,4 @@ impl Reading {
 fn is_answer(sent: &Sent) -> bool {
     let bytes = bytes_of_hex(&sent.frame.text).filter(|_| !sent.frame.is_cut);
     matches!(bytes.as_deref(), Some([ANSWER | REFUSAL, ..]))
-}
-
-fn is_edit(line: &[u8]) -> bool {
-    read_command(line).is_ok_and(|command| matches!(command.request, Request::Edit(_)))
 }

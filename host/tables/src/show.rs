@@ -1,12 +1,12 @@
 //! A comparison as text, and as JSON for other tools.
 
-use second::rows::Row;
-use session::{
-    beside, comment_text, counted, name_members, name_text, row_members, row_text, said_text,
-    show_namespaces, Json, Shown,
-};
+use formats::json::Json;
+use formats::rows::Row;
+use formats::show::{beside, counted, row_text, said_text, show_namespaces, Shown};
+use formats::text::{comment_text, name_text};
+use session::{name_members, row_members};
 
-use crate::difference::{Comparison, Difference, Said};
+use crate::difference::{Comparison, NameDifference, Said};
 use crate::side::Side;
 
 /// The words for the two tables, in labels.
@@ -61,8 +61,8 @@ fn side_line(side: &Side, labels: &Labels) -> String {
     line(labels.table, format!("{}, {kind}: {rows}", comment_text(&side.path)))
 }
 
-fn difference_lines(difference: &Difference) -> String {
-    let Difference { name, a, b } = difference;
+fn difference_lines(difference: &NameDifference) -> String {
+    let NameDifference { name, a, b } = difference;
     let only = |labels: &Labels, said: &[Said]| -> String {
         let rows = said.iter().map(|&(flags, readers)| Row { flags, readers, name });
         rows.map(|row| line(labels.only, row_text(&row))).collect()
@@ -154,7 +154,7 @@ fn side_json(side: &Side) -> Json {
     ])
 }
 
-fn difference_json(difference: &Difference) -> Json {
+fn difference_json(difference: &NameDifference) -> Json {
     let said = |said: &[Said]| {
         Json::list(said.iter().map(|&(flags, readers)| Json::Object(row_members(flags, readers))))
     };

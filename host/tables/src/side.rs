@@ -1,13 +1,14 @@
 //! One of the two tables: its rows, and what could not be taken.
 
+use formats::readers::Readers;
+use formats::rows::{split_rows, Flags, Row};
+use formats::show::counted;
+use formats::text::path_text;
 use import::{read_bytes, read_store, read_text, Found, Gathered, Room, Store, Told};
-use second::packed::split_rows;
-use second::rows::{Flags, Row};
-use second::Readers;
-use session::{counted, path_text, table_fault};
 
 use crate::call::Input;
 use crate::kind::Kind;
+use crate::second_program::table_fault;
 use crate::sent::{read_sent, Taken};
 
 /// A row with its own name.
@@ -101,7 +102,7 @@ fn of_found(kind: Kind, found: &[Found], mut told: Told) -> Side {
         told.not_taken("the store", "no mailbox was found in it");
     }
     let own_row =
-        |row: import::Row| OwnRow { name: row.name, flags: row.flags, readers: Readers::ALL };
+        |row: import::StoreRow| OwnRow { name: row.name, flags: row.flags, readers: Readers::ALL };
     Side {
         kind,
         path: Vec::new(),

@@ -10,14 +10,14 @@
 use std::error::Error;
 use std::fmt;
 
+use formats::frames::Frame;
+use formats::sizes::{PROGRAM_ANSWER, ROOM_FOUND, ROOM_PENDING, ROOM_SCRATCH};
 use luspemaro::{collect_from, collect_packed_from, Reader, Refusal, WalkRefusal, Walked};
-use second::frames::{Frame, ANSWER_ROOM};
 use serve::{Rooms, Table, TableError};
-use session::{ROOM_FOUND, ROOM_PENDING, ROOM_SCRATCH};
 
 /// What a walk gives.
 #[derive(Debug, PartialEq, Eq)]
-pub struct Found {
+pub struct WalkFound {
     /// The commands that it sent.
     pub commands: usize,
     /// The names that it found, each with a length byte.
@@ -45,7 +45,7 @@ struct Input {
 }
 
 /// Walks as the frames say, one a line. The walk itself may be refused.
-pub fn walk(input: &[u8]) -> Result<Result<Found, WalkRefusal>, InputError> {
+pub fn walk(input: &[u8]) -> Result<Result<WalkFound, WalkRefusal>, InputError> {
     let Input { rows, edits, walk } = Input::read(input)?;
     let (reader, option) = walk.ok_or(InputError::NoWalk)?;
     let [mut scratch, mut found, mut pending] =
@@ -59,14 +59,14 @@ pub fn walk(input: &[u8]) -> Result<Result<Found, WalkRefusal>, InputError> {
     };
     Ok(walked.map(|Walked { commands, found: length }| {
         found.truncate(length);
-        Found { commands, names: found }
+        WalkFound { commands, names: found }
     }))
 }
 
 /// The table after the edits, which come from reader 0, as the program keeps it.
 fn edited(rows: &[u8], edits: &[Vec<u8>]) -> Result<Table, InputError> {
     let mut table = Table::new(rows, &[], Rooms::PROGRAM).map_err(InputError::Table)?;
-    let mut out = vec![0; ANSWER_ROOM];
+    let mut out = vec![0; PROGRAM_ANSWER];
     for (number, line) in (1..).zip(edits) {
         let answered = table.answer(Reader::EDITOR, line, &mut out);
         answered.map_err(|refusal| InputError::Edit(number, refusal))?;

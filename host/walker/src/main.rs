@@ -9,9 +9,10 @@ use std::io::{self, Read, Write};
 use std::process::ExitCode;
 use std::thread;
 
-use second::frames::{hex_of, REFUSAL, WALK};
+use formats::frames::{REFUSAL, WALK};
+use formats::hex::hex_of;
 use serve::THREAD_STACK;
-use walker::{walk, Found};
+use walker::{walk, WalkFound};
 
 fn main() -> ExitCode {
     let mut words = env::args_os().skip(1);
@@ -40,7 +41,7 @@ fn run() -> Result<(), String> {
     let thread = thread.map_err(|error| error.to_string())?;
     let walked = thread.join().map_err(|_| "the walk has failed".to_string())?;
     let bytes = match walked.map_err(|error| error.to_string())? {
-        Ok(Found { commands, names }) => {
+        Ok(WalkFound { commands, names }) => {
             // One more than the ancestors of 512 names, which have 15 each at most.
             let count = u16::try_from(commands).map_err(|_| format!("{commands} commands"))?;
             [&[WALK], &count.to_be_bytes()[..], &names].concat()

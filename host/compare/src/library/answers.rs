@@ -1,7 +1,7 @@
 //! The command entry.
 
+use formats::show::show_namespaces;
 use second::{answer_reading, Refusal, Table};
-use session::show_namespaces;
 
 use super::both::{Asked, Lent, Mailboxes, ANSWER, PROVED, SECOND};
 use super::compared::Compared;

@@ -3,10 +3,10 @@
 
 use std::fmt;
 
+use formats::show::show_table;
 use luspemaro::{Answered, ListOptions, RecordsMut, Replay, Replayed, Verdict, WalkRefusal};
 use second::replay::Stop;
 use second::{Refusal, Table};
-use session::show_table;
 
 use crate::records::{set_count, Layout};
 use crate::report::show_layout;

@@ -1,6 +1,6 @@
 //! Names moved together over lent records and areas, and what is answered straight after it.
 
-use second::rows::MAX_ROWS;
+use formats::rows::MAX_ROWS;
 
 use super::answers::{answer_both, call_text};
 use super::both::{Asked, Change, Lent, Mailboxes, ANSWER, COMPACT, PROVED, SECOND};

@@ -2,8 +2,8 @@
 
 use std::ops::RangeInclusive;
 
+use formats::rows::{Flags, MAX_ROWS};
 use second::records::{Record, MAX_AREA};
-use second::rows::{Flags, MAX_ROWS};
 
 use super::answers::{answer_in_rooms, answer_over};
 use super::both::Asked;

@@ -1,9 +1,9 @@
 //! Replays of logs (document 02, W14): whole, and cut anywhere. Of each the report, the count, every record, every
 //! number of the summary and every byte of the area are compared.
 
+use formats::show::show_namespaces;
 use luspemaro::Replay;
 use second::replay::Recorded;
-use session::show_namespaces;
 
 use super::both::{feed_replay, Lent, Mailboxes, PROVED, REPLAY, SECOND};
 use super::tally::{shown, Tally, SEED};

@@ -1,7 +1,7 @@
 //! The summary beside the records (document 02, W13): series of edits that keep it up to date, and summaries that are
 //! wrong, too short or too long.
 
-use second::rows::Flags;
+use formats::rows::Flags;
 use second::{check_table, Table};
 
 use super::answers::answer_both;

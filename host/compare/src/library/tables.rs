@@ -1,8 +1,7 @@
 //! The two checks.
 
-use second::packed::{MAX_TABLE, ROW_HEAD};
-use second::rows::{Flags, MAX_ROWS};
-use session::show_namespaces;
+use formats::rows::{Flags, MAX_ROWS, MAX_TABLE, ROW_HEAD};
+use formats::show::show_namespaces;
 
 use super::both::{Lent, CHECK_NAMESPACES, CHECK_TABLE, PROVED, SECOND};
 use super::tally::{Tally, SEED};

@@ -3,8 +3,8 @@
 use compare::compactions::{free_bytes, name_near_the_room, some_table};
 use compare::edits::free_runs;
 use compare::random::Random;
+use formats::rows::MAX_ROWS;
 use second::records::MAX_AREA;
-use second::rows::MAX_ROWS;
 use second::table::checked_rows;
 use second::{answer, compact, Refusal, Store, Table};
 

@@ -6,8 +6,8 @@ use compare::edit_series::{
 use compare::edits::free_runs;
 use compare::random::Random;
 use compare::records::set_count;
+use formats::rows::MAX_ROWS;
 use second::records::MAX_AREA;
-use second::rows::MAX_ROWS;
 use second::{answer, Refusal, Store};
 
 use crate::reached::Reached;

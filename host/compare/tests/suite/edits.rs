@@ -1,7 +1,8 @@
 //! What the sessions with edits reach (document 02, W6), and the free runs of an area.
 
 use compare::edits::free_runs;
-use second::frames::{Answer, Frame, Program};
+use formats::frames::Frame;
+use second::frames::{Answer, Program};
 use second::{Record, Store};
 
 use crate::reached::check_often;

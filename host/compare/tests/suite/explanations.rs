@@ -2,7 +2,9 @@
 
 use child::sender_of;
 use compare::kinds;
-use session::{run_session, Form, Session, Source};
+use formats::session::Session;
+use formats::source::Source;
+use session::{run_session, Form};
 
 use crate::common::second;
 use crate::reached::Reached;

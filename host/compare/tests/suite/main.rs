@@ -1,5 +1,6 @@
 //! The tests of the comparison.
 
+mod alike;
 mod common;
 mod compactions;
 mod comparison;

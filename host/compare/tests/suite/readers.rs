@@ -9,9 +9,12 @@ use compare::random::Random;
 use compare::readers::{seen_alike, some_reader, some_set, veil};
 use compare::records::laid_out;
 use compare::tables::{names_of, NewRow};
-use second::frames::{Answer, Frame, Program};
-use second::rows::Flags;
-use second::{answer_reading, check_table, collect, name, Reader, Readers, Table};
+use formats::frames::Frame;
+use formats::name;
+use formats::readers::{Reader, Readers};
+use formats::rows::Flags;
+use second::frames::{Answer, Program};
+use second::{answer_reading, check_table, collect, Table};
 
 use crate::reached::{check_often, Reached};
 
@@ -88,13 +91,15 @@ fn hidden_parents_are_listed() {
         for frame in kind.session(seed) {
             let answer = program.answer(&frame.text);
             let Ok(Frame::Command { reader, .. }) = Frame::decode(&frame.text) else { continue };
-            let (Some(Answer::Lines(lines)), Ok(reader)) = (answer, Reader::checked(reader)) else {
+            let (Some(Answer::Lines(lines)), Some(reader)) = (answer, Reader::of(reader)) else {
                 continue;
             };
             let store = program.records().expect("a table that passes");
             let table = Table::Records(store.as_records());
             let rows = second::table::checked_rows(table).expect("rows");
-            for row in rows.iter().filter(|row| !row.readers.has(reader)) {
+            let is_hidden =
+                |row: &&second::rows::Row| !Readers::from_bits(row.readers.bits()).has(reader);
+            for row in rows.iter().filter(is_hidden) {
                 let quoted = [b" \"", row.name, b"\"\r\n"].concat();
                 let is_listed = lines.windows(quoted.len()).any(|window| window == quoted);
                 reached.add_held([("a hidden row whose name is listed", is_listed)]);

@@ -6,9 +6,10 @@ use compare::log_frames::{
 use compare::random::Random;
 use compare::records::Layout;
 use compare::replays::{nights_at_the_buffer, small_night, some_night, Night};
-use second::frames::{ANSWER_ROOM, MAX_DIGITS};
+use formats::frames::MAX_DIGITS;
+use formats::rows::MAX_ROWS;
+use second::frames::ANSWER_ROOM;
 use second::replay::{replay, Exchange, LogFrame, Recorded, Stop, Turns, Verdict};
-use second::rows::MAX_ROWS;
 use second::{answer, check_table, Table};
 
 use crate::reached::Reached;

@@ -2,7 +2,7 @@
 
 use compare::random::Random;
 use compare::summaries::{some_edit, some_table, Damage};
-use second::rows::MAX_ROWS;
+use formats::rows::MAX_ROWS;
 use second::table::checked_rows;
 use second::{answer, check_table, summarize, Store, Summary, Table};
 

@@ -5,9 +5,10 @@ use std::collections::BTreeSet;
 use compare::kinds;
 use compare::own_commands::longest_rows;
 use compare::random::Random;
+use formats::frames::Frame;
+use formats::name::{ancestors, MAX_LEVELS, MAX_NAME};
 use second::collector::WALK_REFUSALS;
-use second::frames::{Answer, Frame, Program};
-use second::name::{ancestors, MAX_LEVELS, MAX_NAME};
+use second::frames::{Answer, Program};
 use second::{check_table, Table};
 
 use crate::reached::Reached;

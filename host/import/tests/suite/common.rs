@@ -1,9 +1,11 @@
 //! From a store to a session file, and back to the table that it is.
 
+use formats::frames::Frame;
+use formats::item::Content;
+use formats::session::Session;
+use formats::source::Source;
 use import::{mailbox_lines, Found, Gathered, Room, Told};
-use second::frames::Frame;
 use second::{check_table, Table};
-use session::{Content, Session, Source};
 
 /// What came of a store.
 pub struct Came {

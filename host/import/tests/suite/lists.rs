@@ -1,10 +1,10 @@
 //! Lists of doveadm and of Cyrus.
 
+use formats::utf7::{decoded, encoded};
 use import::cyrus::read_cyrus;
 use import::doveadm::read_doveadm;
 use import::names::{EXISTS, SUBSCRIBED};
-use import::{encoded, Room, Told};
-use session::decoded;
+use import::{Room, Told};
 
 use crate::calls::{file, run, text};
 use crate::common::{came, Came};

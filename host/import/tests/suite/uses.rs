@@ -1,9 +1,9 @@
 //! Special uses and automatic subscriptions that the call adds.
 
+use formats::rows::Flags;
 use import::answer::read_answer;
 use import::names::{read_names, EXISTS};
 use import::{read_uses, Found, Room, Said, Told};
-use second::rows::Flags;
 
 use crate::calls::{file, run, text};
 use crate::common::{came, Came};

@@ -42,18 +42,18 @@ fn an_account_that_agrees() {
     let mut program = second::frames::Program::default();
     sent.lines().for_each(|line| drop(program.answer(line.as_bytes())));
     let store = program.store.expect("edits");
-    assert_eq!(replayed(&log).followed.table.second(), Some(store));
+    assert_eq!(replay::store_of(&replayed(&log).followed.table), Some(store));
 }
 
 /// A line that is left out, one that is put in, one that is changed, and a refusal in place of an answer.
 #[test]
 fn an_account_that_differs() {
     let (log, lines) = changed(|frames| {
-        let answer = second::frames::bytes_of_hex(frames[1].as_bytes()).expect("bytes");
+        let answer = formats::hex::bytes_of_hex(frames[1].as_bytes()).expect("bytes");
         let answer = text(&answer)
             .replace("* LIST () \"/\" \"Customers/ABC\"\r\n", "")
             .replace("\\Marked", "\\Unmarked");
-        frames[1] = text(&second::frames::hex_of(answer.as_bytes()));
+        frames[1] = text(&formats::hex::hex_of(answer.as_bytes()));
         frames[7] = "520E".to_string();
     });
     let (status, first, all) = came(&run(&[word(&log)]));
@@ -173,7 +173,7 @@ fn deep_commands() {
         let line = format!("a LIST {}", middle.repeat(2_000 / middle.len()));
         for ending in ["\r\n", ""] {
             let command = [&[0x43, 0], line.as_bytes(), ending.as_bytes()].concat();
-            let log = [second::frames::hex_of(&command), b"\n4161\n".to_vec()].concat();
+            let log = [formats::hex::hex_of(&command), b"\n4161\n".to_vec()].concat();
             let (status, first, all) = came(&run(&["--all", word(&file("log", log))]));
             assert_eq!((status, first.as_str()), (Some(1), "differs 1"), "{all}");
             assert!(all.contains("\nExplained  "), "{all}");

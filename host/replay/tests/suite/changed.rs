@@ -1,8 +1,8 @@
 //! A log with something changed: it is found, with the right number.
 
+use formats::hex::bytes_of_hex;
 use luspemaro::Verdict;
-use replay::{in_stack, KeptTable, Start};
-use second::frames::bytes_of_hex;
+use replay::{in_stack, store_of, KeptTable, Start};
 use second::replay::Verdict as SecondVerdict;
 use second::Store;
 
@@ -37,13 +37,13 @@ fn verdict_of(start: &Start, log: &[u8]) -> Verdict {
     assert_eq!(followed.verdict, verdict, "{}", text(log));
     assert_eq!(followed.table, table);
     let (second, store) = second_of(start, log);
-    assert_eq!((second, store.as_ref()), (verdict, table.second().as_ref()), "{}", text(log));
+    assert_eq!((second, store.as_ref()), (verdict, store_of(&table).as_ref()), "{}", text(log));
     verdict
 }
 
 fn second_of(start: &Start, log: &[u8]) -> (Verdict, Option<Store>) {
-    let mut store =
-        KeptTable::of_packed(&start.rows).expect("a table").second().expect("a table that passes");
+    let table = KeptTable::of_packed(&start.rows).expect("a table");
+    let mut store = store_of(&table).expect("a table that passes");
     let verdict = match store.lend(|lent| second::replay(lent, &start.entries, log)) {
         SecondVerdict::Agree => Verdict::Agree,
         SecondVerdict::Differs(frame) => Verdict::Differs(frame as usize),

@@ -4,18 +4,18 @@ use std::fs;
 use std::io;
 use std::path::{Path, PathBuf};
 use std::process::{Command, Output};
-use std::sync::atomic::{AtomicUsize, Ordering};
 use std::time::Duration;
 
-use child::testing::output_for;
+use child::testing::{new_file, new_path, output_for};
 use luspemaro::{Reader, Verdict};
 use replay::{in_stack, replay_night, Account, Night};
 use serve::{
-    converse, load, start_text, Account as Served, Client, Keeping, Log, Peer, Record, Rooms,
+    converse, load, start_text, Account as Served, Client, FrameLog, Keeping, Log, Peer, Rooms,
     Table, Woken,
 };
 
 pub const REPLAY: &str = env!("CARGO_BIN_EXE_replay");
+const FOLDER: &str = env!("CARGO_TARGET_TMPDIR");
 /// The bundled night and the session that it was recorded over.
 pub const BUNDLED: &str = concat!(env!("CARGO_MANIFEST_DIR"), "/../nights/customers.frames");
 pub const CUSTOMERS: &str = concat!(env!("CARGO_MANIFEST_DIR"), "/../sessions/customers.session");
@@ -39,19 +39,12 @@ pub const COMMANDS: &[u8] = b"a LIST \"\" *\r\nb LSUB \"\" %\r\nc SUBSCRIBE Sent
 
 /// A new path in the folder of the tests.
 pub fn path(name: &str) -> PathBuf {
-    static NUMBER: AtomicUsize = AtomicUsize::new(0);
-    let number = NUMBER.fetch_add(1, Ordering::SeqCst);
-    let folder = Path::new(env!("CARGO_TARGET_TMPDIR"));
-    let path = folder.join(format!("{}-{number}-{name}", std::process::id()));
-    let _ = fs::remove_file(&path);
-    path
+    new_path(FOLDER, name)
 }
 
 /// A new file.
 pub fn file(name: &str, text: impl AsRef<[u8]>) -> PathBuf {
-    let path = path(name);
-    fs::write(&path, text).expect("a file");
-    path
+    new_file(FOLDER, name, text)
 }
 
 pub fn word(path: &Path) -> &str {
@@ -71,7 +64,7 @@ pub fn account_of(session: &str, record: &Path, log: Option<&Path>) -> Served {
     let loaded = load(&file("table.session", session)).expect("a session");
     let table = Table::new(&loaded.rows, &loaded.entries, Rooms::PROGRAM).expect("a table");
     let mut keeping = Keeping {
-        record: Some(Record::create(record, &table).expect("a record")),
+        record: Some(FrameLog::create(record, &table).expect("a record")),
         ..Keeping::default()
     };
     if let Some(log) = log {

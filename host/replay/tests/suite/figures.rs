@@ -2,9 +2,10 @@
 
 use std::time::Instant;
 
+use formats::frames::Frame;
+use formats::sizes::PROGRAM_ANSWER;
 use luspemaro::{Replay, Verdict};
 use replay::{in_stack, Following, Pieces, Start};
-use second::frames::{Frame, ANSWER_ROOM};
 
 use crate::common::*;
 
@@ -70,7 +71,7 @@ fn measure(rows: usize) {
     let table = || start.table().expect("a table");
     let (mut replay, mut fed_table) = (Replay::new(), table());
     let mut following = Following::new(&start, table(), false, None);
-    let (mut alone, mut out) = (table(), vec![0; ANSWER_ROOM]);
+    let (mut alone, mut out) = (table(), vec![0; PROGRAM_ANSWER]);
     let mut times = [0.0; 3];
     for _ in 0..ROUNDS {
         times[0] += timed(|| {

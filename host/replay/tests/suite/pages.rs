@@ -95,7 +95,7 @@ fn what_a_page_has() {
         ["the same", "differs"].map(|word| page.matches(&format!(">{word}<")).count()),
         [13, 2]
     );
-    let year = &session::now()[..4];
+    let year = &formats::date::now()[..4];
     assert!(page.contains(&format!("<td>{year}-")) && page.contains(">SUBSCRIBE<"), "{page}");
     let end = page.split("id=\"end\">").nth(1).expect("a table");
     assert!(end.contains("New") && !end.contains("Gone"), "{end}");

@@ -5,7 +5,7 @@ use std::path::{Path, PathBuf};
 use std::process::{Command, Output};
 
 use child::testing::write_program;
-use session::sum_of_bytes;
+use formats::sha256::sum_of_bytes;
 
 use crate::common::*;
 

@@ -82,7 +82,7 @@ fn more_than_the_program_keeps() {
         .map(|number| {
             format!(
                 "4D0001FF03{}\n",
-                text(&second::frames::hex_of(format!("{number:03}").as_bytes()))
+                text(&formats::hex::hex_of(format!("{number:03}").as_bytes()))
             )
         })
         .collect();

@@ -237,11 +237,29 @@ fn split_readers(words: &str) -> (&str, Readers) {
     (words, readers)
 }
 
+/// The words for flags, in the order of their bits.
+const FLAG_WORDS: [(&str, Flags); 14] = [
+    ("exists", Flags::EXISTS),
+    ("subscribed", Flags::SUBSCRIBED),
+    ("remote", Flags::REMOTE),
+    ("noselect", Flags::NO_SELECT),
+    ("noinferiors", Flags::NO_INFERIORS),
+    ("marked", Flags::MARKED),
+    ("unmarked", Flags::UNMARKED),
+    ("all", Flags::ALL),
+    ("archive", Flags::ARCHIVE),
+    ("drafts", Flags::DRAFTS),
+    ("flagged", Flags::FLAGGED),
+    ("junk", Flags::JUNK),
+    ("sent", Flags::SENT),
+    ("trash", Flags::TRASH),
+];
+
 /// Flags from their words, or from four digits.
 fn flags_of(words: &str) -> Flags {
     let mut flags = Flags::IMPLIED;
     for word in words.split(' ') {
-        let named = Flags::NAMED.iter().find(|(name, _)| *name == word).map(|(_, flag)| *flag);
+        let named = FLAG_WORDS.iter().find(|(name, _)| *name == word).map(|(_, flag)| *flag);
         let number = || Flags::from_bits(u16::from_str_radix(word, 16).expect("four digits"));
         flags.add(named.unwrap_or_else(number));
     }

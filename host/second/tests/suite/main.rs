@@ -4,6 +4,7 @@ mod checks;
 mod commands;
 mod common;
 mod compaction;
+mod dependencies;
 mod expert_sheet;
 mod faults;
 mod feeder;

@@ -1,25 +1,25 @@
-//! A session as CSV: a record for each row, command, line, find and refusal. README.md says what the
+//! A session as CSV: a record for each row, command, line, find and refusal. docs/REPORTS.md says what the
 //! columns are.
 
-use second::frames::Frame;
-use second::namespaces::split_entries;
-use second::packed::split_rows;
-use second::rows::Row;
-use second::Refusal;
+use formats::csv::record;
+use formats::frames::Frame;
+use formats::item::{Origin, Sent};
+use formats::list_line::ListLine;
+use formats::namespaces::split_entries;
+use formats::refusal::Refusal;
+use formats::reply::Reply;
+use formats::rows::{split_rows, Row};
+use formats::show::{refusal_meaning, BY_LIBRARY};
+use formats::words::{word_of_class, word_of_readers, words_of_flags};
 
-use crate::csv::record;
-use crate::data::list_line::ListLine;
 use crate::data::parts::{End, Remark};
 use crate::difference::SECOND;
-use crate::explain::UNPROVED;
-use crate::item::{Origin, Sent, Turn};
 use crate::ran::{library_text, Ran};
-use crate::reply::Reply;
 use crate::report::{Came, Tables};
-use crate::show::{refusal_meaning, BY_LIBRARY};
-use crate::summary::Verdict;
+use crate::second_program::UNPROVED;
+use crate::summary::ItemVerdict;
+use crate::turn::Turn;
 use crate::verdict::Conclusion;
-use crate::words::{word_of_class, word_of_readers, words_of_flags};
 
 const COLUMNS: [&str; 9] =
     ["line", "item", "reader", "part", "number", "name", "flags", "readers", "text"];
@@ -37,7 +37,7 @@ struct Fields {
 
 /// The first three fields of a record.
 #[derive(Clone, Debug, Default)]
-struct Place {
+struct Head {
     line: String,
     item: &'static str,
     reader: String,
@@ -49,50 +49,48 @@ pub fn start() -> String {
 
 pub fn remark(remark: Remark) -> String {
     let (item, text) = remark.kind_and_text();
-    Place { item, ..Place::default() }.record(Fields::text("text", text))
+    Head { item, ..Head::default() }.record(Fields::text("text", text))
 }
 
 /// An item that was sent, or walked by the library.
 pub fn came(came: &Came) -> String {
-    let reader = match came.frame {
-        Some(Frame::Command { reader, .. } | Frame::Walk { reader, .. }) => reader.to_string(),
-        _ => String::new(),
-    };
+    let reader = came.frame.and_then(Frame::reader);
+    let reader = reader.map(|number| number.to_string()).unwrap_or_default();
     let line = match came.turn {
         Turn::Line(line) => line.to_string(),
         Turn::Own => String::new(),
     };
-    let place = Place { line, item: came.kind(), reader };
+    let head = Head { line, item: came.kind(), reader };
     let fields =
         [sent(came), reply(came.reply), expected(came), differs(came), second_program(came)];
-    place.records(fields.concat())
+    head.records(fields.concat())
 }
 
 /// The table, the counts and the verdict.
-pub fn end(End { summary, program, session_sum, stopped }: End, tables: &Tables) -> String {
-    let place = |item| Place { item, ..Place::default() };
-    let mut text = place("table").records(rows(tables.packed_given()));
+pub fn end(End { summary, kept, session_sum, stopped, .. }: End, tables: &Tables) -> String {
+    let head = |item| Head { item, ..Head::default() };
+    let mut text = head("table").records(rows(tables.packed_given()));
     if let Some(bytes) = tables.packed_at_end() {
-        text += &place("table after edits").records(rows(bytes));
+        text += &head("table after edits").records(rows(bytes));
     }
-    text += &place("namespaces").records(entries(&program.namespaces));
+    text += &head("namespaces").records(entries(kept.namespaces()));
     for (what, count) in summary.counts() {
         let number = count.to_string();
-        text += &place("summary").record(Fields { number, ..Fields::text("count", what) });
+        text += &head("summary").record(Fields { number, ..Fields::text("count", what) });
     }
-    text += &place("session").record(Fields::text("sha256", session_sum.to_string()));
-    text += &place("program").records(program_run(summary.ran()));
+    text += &head("session").record(Fields::text("sha256", session_sum.to_string()));
+    text += &head("program").records(program_run(summary.ran()));
     if summary.large_walks() > 0 {
-        text += &place("library").records(library(summary.ran()));
+        text += &head("library").records(library(summary.ran()));
     }
     let (troubles, more) = summary.troubles();
     let more = (more > 0).then(|| format!("and {more} more"));
     let troubles = troubles.iter().cloned().chain(more);
-    text += &place("trouble").records(troubles.map(|text| Fields::text("text", text)).collect());
+    text += &head("trouble").records(troubles.map(|text| Fields::text("text", text)).collect());
     if let Some(reason) = stopped {
-        text += &place("stopped").record(Fields::text("text", reason));
+        text += &head("stopped").record(Fields::text("text", reason));
     }
-    text + &place("verdict").records(verdict(&Conclusion::of(summary, stopped)))
+    text + &head("verdict").records(verdict(&Conclusion::of(summary, stopped)))
 }
 
 fn program_run(ran: &Ran) -> Vec<Fields> {
@@ -115,7 +113,7 @@ fn verdict(conclusion: &Conclusion) -> Vec<Fields> {
     [text].into_iter().chain(reasons).collect()
 }
 
-impl Place {
+impl Head {
     fn records(&self, fields: Vec<Fields>) -> String {
         fields.into_iter().map(|fields| self.record(fields)).collect()
     }
@@ -220,9 +218,9 @@ fn answer_line(line: &[u8]) -> Fields {
 }
 
 fn expected(came: &Came) -> Vec<Fields> {
-    let met = match Verdict::of(came.sent, came.reply) {
-        Verdict::AsExpected => "as expected",
-        Verdict::Answered | Verdict::Refused | Verdict::Unmet => "not as expected",
+    let met = match ItemVerdict::of(came.sent, came.reply) {
+        ItemVerdict::AsExpected => "as expected",
+        ItemVerdict::Answered | ItemVerdict::Refused | ItemVerdict::Unmet => "not as expected",
     };
     let fields = |refusal: Refusal| Fields {
         number: refusal.number().to_string(),

@@ -1,25 +1,25 @@
-//! A session as one JSON document. README.md says what its members are.
+//! A session as one JSON document. docs/REPORTS.md says what its members are.
 
-use second::frames::Frame;
-use second::namespaces::{split_entries, Entry};
-use second::packed::split_rows;
-use second::rows::{Flags, Row};
-use second::{Reader, Readers};
+use formats::frames::Frame;
+use formats::item::{Origin, Sent};
+use formats::json::Json;
+use formats::list_line::ListLine;
+use formats::namespaces::{split_entries, Entry};
+use formats::readers::{Reader, Readers};
+use formats::reply::Reply;
+use formats::rows::{split_rows, Flags, Row};
+use formats::show::{refusal_meaning, BY_LIBRARY};
+use formats::utf7::decoded;
+use formats::words::word_of_class;
 
-use crate::data::list_line::ListLine;
 use crate::data::parts::{End, Remark};
-use crate::difference::{Difference, SECOND};
-use crate::explain::UNPROVED;
-use crate::item::{Origin, Sent, Turn};
-use crate::json::Json;
+use crate::difference::{Disagreement, SECOND};
 use crate::ran::{library_text, Built};
-use crate::reply::Reply;
 use crate::report::{Came, Tables};
-use crate::show::{refusal_meaning, BY_LIBRARY};
-use crate::summary::{OwnCheck, Summary, Verdict};
-use crate::utf7::decoded;
+use crate::second_program::UNPROVED;
+use crate::summary::{ItemVerdict, OwnCheck, RunSummary};
+use crate::turn::Turn;
 use crate::verdict::Conclusion;
-use crate::words::word_of_class;
 
 type Members = Vec<(&'static str, Json)>;
 
@@ -41,8 +41,8 @@ pub fn came(came: &Came) -> Json {
     members.push(("reply", reply(came.reply)));
     let expected = came.sent.expected.map(|refusal| Json::Number(refusal.number().into()));
     members.push(("expected", Json::or_null(expected)));
-    let verdict = Verdict::of(came.sent, came.reply);
-    let as_expected = matches!(verdict, Verdict::Answered | Verdict::AsExpected);
+    let verdict = ItemVerdict::of(came.sent, came.reply);
+    let as_expected = matches!(verdict, ItemVerdict::Answered | ItemVerdict::AsExpected);
     members.push(("as_expected", Json::Bool(as_expected)));
     members.push(("differs", differs(came.difference)));
     members.extend(second_program(came));
@@ -50,8 +50,8 @@ pub fn came(came: &Came) -> Json {
 }
 
 /// How an answer is not the second program's, line by line; null where it is.
-fn differs(difference: Option<&Difference>) -> Json {
-    Json::or_null(difference.map(|Difference { short, lines }| {
+fn differs(difference: Option<&Disagreement>) -> Json {
+    Json::or_null(difference.map(|Disagreement { short, lines }| {
         Json::Object(vec![
             ("short", Json::text(short)),
             ("lines", Json::texts(lines.iter().cloned())),
@@ -62,7 +62,7 @@ fn differs(difference: Option<&Difference>) -> Json {
 
 /// The table, the counts, the verdict, and the end of the document.
 pub fn end(end: End, tables: &Tables) -> String {
-    let End { summary, program, session_sum, stopped } = end;
+    let End { summary, kept, session_sum, stopped, .. } = end;
     let counts = summary.counts();
     let counts = counts.map(|(what, count)| (what, Json::number(count))).to_vec();
     let at_end = tables.packed_at_end().map(|rows| {
@@ -72,7 +72,7 @@ pub fn end(end: End, tables: &Tables) -> String {
     let members = [
         ("table", Json::Object([table(tables.packed_given()), vec![passes(tables)]].concat())),
         ("table_after_edits", Json::or_null(at_end)),
-        ("namespaces", Json::Object(entries(&program.namespaces))),
+        ("namespaces", Json::Object(entries(kept.namespaces()))),
         ("counts", Json::Object(counts)),
         ("session_sha256", Json::text(session_sum.to_string())),
         ("program", program_run(summary)),
@@ -86,7 +86,7 @@ pub fn end(end: End, tables: &Tables) -> String {
     format!("\n]{}}}\n", members.concat())
 }
 
-fn program_run(summary: &Summary) -> Json {
+fn program_run(summary: &RunSummary) -> Json {
     let ran = summary.ran();
     Json::Object(vec![
         ("path", Json::text(&ran.path)),
@@ -97,7 +97,7 @@ fn program_run(summary: &Summary) -> Json {
 }
 
 /// The library of the large walks; null where there were none.
-fn library(summary: &Summary) -> Json {
+fn library(summary: &RunSummary) -> Json {
     if summary.large_walks() == 0 {
         return Json::Null;
     }
@@ -110,7 +110,7 @@ fn library(summary: &Summary) -> Json {
 }
 
 /// Null where the session itself asked.
-fn own_check(summary: &Summary) -> Json {
+fn own_check(summary: &RunSummary) -> Json {
     Json::or_null(summary.own_check().map(|own| match own {
         OwnCheck::Passed => Json::text("passed"),
         OwnCheck::Refused(number) => Json::Number(number.into()),
@@ -118,7 +118,7 @@ fn own_check(summary: &Summary) -> Json {
 }
 
 /// What is reported on standard error.
-fn troubles(summary: &Summary) -> Json {
+fn troubles(summary: &RunSummary) -> Json {
     let (troubles, more) = summary.troubles();
     Json::Object(vec![
         ("texts", Json::texts(troubles.iter().cloned())),
@@ -226,7 +226,7 @@ fn reply(reply: Option<&Reply>) -> Json {
 fn answer_line(line: &[u8]) -> Json {
     let mut members = vec![("text", Json::bytes(line))];
     if let Some(ListLine { word, attributes, name, childinfo }) = ListLine::of(line) {
-        members.push(("word", Json::text(word)));
+        members.push(("word", Json::text(word.word())));
         members.extend(name_members(&name));
         members.push(("attributes", Json::texts(attributes)));
         members.push(("childinfo", Json::texts(childinfo)));

@@ -3,7 +3,6 @@
 
 mod as_csv;
 mod as_json;
-mod list_line;
 mod parts;
 
 pub use as_json::{name_members, row_members};
@@ -45,7 +44,7 @@ impl Data {
     /// The table and the counts. Nothing comes after it.
     pub fn end(&mut self, end: End) -> String {
         let before = if self.has_items { String::new() } else { self.before_item() };
-        let tables = Tables::of(end.program);
+        let tables = Tables::of(end.kept, end.stored);
         match self.form {
             Form::Json => before + &as_json::end(end, &tables),
             Form::Csv => before + &as_csv::end(end, &tables),

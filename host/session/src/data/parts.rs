@@ -1,9 +1,10 @@
 //! What the data of a session has beside its items.
 
-use second::frames::Program;
+use formats::sha256::Sum;
 
-use crate::sha256::Sum;
-use crate::summary::Summary;
+use crate::kept::Kept;
+use crate::second_program::Stored;
+use crate::summary::RunSummary;
 
 /// A line for whoever reads the session.
 #[derive(Clone, Copy, Debug)]
@@ -25,9 +26,10 @@ impl Remark<'_> {
 /// What came of a session.
 #[derive(Clone, Copy)]
 pub struct End<'e> {
-    pub summary: &'e Summary,
-    /// The second program, which follows what was stored.
-    pub program: &'e Program,
+    pub summary: &'e RunSummary,
+    pub kept: &'e Kept,
+    /// The same, as the second program has it.
+    pub stored: &'e Stored,
     pub session_sum: Sum,
     /// Why the session was not run to its end, if it was not.
     pub stopped: Option<&'e str>,

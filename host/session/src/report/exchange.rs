@@ -1,17 +1,17 @@
 //! One exchange of a report: what was sent, what it saw, and why.
 
-use second::frames::{Frame, Program};
+use formats::frames::Frame;
+use formats::item::{Origin, Sent};
+use formats::reply::Reply;
+use formats::show::{beside_line, came_text, refusal_text, show_sent, BY_LIBRARY};
+use formats::text::line_text;
 
-use crate::difference::{Difference, SECOND};
-use crate::explain::UNPROVED;
-use crate::item::{Origin, Sent, Turn, OWN};
-use crate::reply::Reply;
+use crate::difference::{Disagreement, SECOND};
 use crate::report::html::{cell, table, Html};
 use crate::report::walk::{purpose_text, Walk};
-use crate::report::why::{explained_lines, Explained};
-use crate::show::{beside_line, came_text, refusal_text, show_sent, BY_LIBRARY};
-use crate::summary::Verdict;
-use crate::text::line_text;
+use crate::second_program::{Explained, Stored, UNPROVED};
+use crate::summary::ItemVerdict;
+use crate::turn::{Turn, OWN};
 
 /// What was sent and what came of it.
 pub struct Came<'c> {
@@ -25,19 +25,19 @@ pub struct Came<'c> {
     pub effect: Option<&'c str>,
     pub hidden: Option<&'c [String]>,
     /// Where the answer is not the second program's.
-    pub difference: Option<&'c Difference>,
-    /// What the program had stored when it answered a command that is no edit.
-    pub program: &'c Program,
+    pub difference: Option<&'c Disagreement>,
+    /// What was stored when it answered a command that is no edit.
+    pub stored: &'c Stored,
 }
 
 impl Came<'_> {
     /// Whether there is more to show than a row or an entry that was kept.
     pub fn is_shown(&self) -> bool {
-        self.reply.is_some() || self.verdict() == Verdict::Unmet
+        self.reply.is_some() || self.verdict() == ItemVerdict::Unmet
     }
 
-    fn verdict(&self) -> Verdict {
-        Verdict::of(self.sent, self.reply)
+    fn verdict(&self) -> ItemVerdict {
+        ItemVerdict::of(self.sent, self.reply)
     }
 
     pub fn kind(&self) -> &'static str {
@@ -71,7 +71,7 @@ fn link_cell(turn: Turn) -> Html {
 /// An answer that is not the second program's, for the list of them all.
 pub struct Differing {
     turn: Turn,
-    difference: Difference,
+    difference: Disagreement,
 }
 
 impl Differing {
@@ -88,7 +88,7 @@ impl Differing {
 }
 
 /// How an answer differs, with each line that is missing or added.
-fn difference_html(Difference { short, lines }: &Difference) -> Html {
+fn difference_html(Disagreement { short, lines }: &Disagreement) -> Html {
     let item = |line: &String| {
         let code = Html::of_text("code", &[], line);
         Html::element("li", &[("data-difference", line)], code)
@@ -115,7 +115,7 @@ impl Refused {
         };
         let expected = match (came.sent.expected, came.verdict()) {
             (None, _) => "no",
-            (Some(_), Verdict::AsExpected) => "yes",
+            (Some(_), ItemVerdict::AsExpected) => "yes",
             (Some(_), _) => "another number",
         };
         let explanation = came.explanation.map(explained_text).unwrap_or_default();
@@ -141,8 +141,8 @@ pub fn exchange_html(came: &Came) -> Html {
     let id = format!("line-{line}");
     let class = match (came.reply, came.verdict()) {
         _ if came.difference.is_some() => "exchange refused",
-        (_, Verdict::AsExpected) => "exchange expected",
-        (Some(Reply::Refused(_)), _) | (_, Verdict::Unmet) => "exchange refused",
+        (_, ItemVerdict::AsExpected) => "exchange expected",
+        (Some(Reply::Refused(_)), _) | (_, ItemVerdict::Unmet) => "exchange refused",
         _ => "exchange",
     };
     let head = match came.turn {
@@ -174,7 +174,7 @@ fn beside_html(came: &Came) -> Html {
     if let Some(lines) = came.hidden {
         small(format!("Hidden {}", explained_text(&lines.join("; "))));
     }
-    if let (Some(expected), Verdict::Unmet) = (came.sent.expected, came.verdict()) {
+    if let (Some(expected), ItemVerdict::Unmet) = (came.sent.expected, came.verdict()) {
         let text = format!("Expected was {expected}; and it was {}.", came_text(came.reply));
         html.push(Html::of_text("p", &[("class", "wrong")], text));
     }
@@ -187,12 +187,8 @@ fn beside_html(came: &Came) -> Html {
 }
 
 fn sender_text(came: &Came) -> String {
-    match came.frame {
-        Some(Frame::Command { reader, .. } | Frame::Walk { reader, .. }) => {
-            format!(", from reader {reader}")
-        }
-        _ => String::new(),
-    }
+    let reader = came.frame.and_then(Frame::reader);
+    reader.map(|reader| format!(", from reader {reader}")).unwrap_or_default()
 }
 
 fn sent_html(came: &Came) -> Html {
@@ -217,14 +213,14 @@ fn reply_html(came: &Came) -> Html {
     match came.reply {
         None => Html::default(),
         Some(Reply::Lines(answer)) => {
-            let lines = explained_lines(came.program, came.frame, answer);
+            let lines = came.stored.explained_lines(came.frame, answer);
             table("answer", &["Line", "Why it is there"], lines.iter().map(line_html))
         }
         Some(Reply::Walked { count, found }) => Walk { count: *count, found }.html(),
         Some(Reply::Refused(number)) => {
             let text = format!("Refused with {}", refusal_text(*number));
             let (class, text) = match came.verdict() {
-                Verdict::AsExpected => ("as-expected", text + ", as expected"),
+                ItemVerdict::AsExpected => ("as-expected", text + ", as expected"),
                 _ => ("wrong", text),
             };
             let number = number.to_string();

@@ -1,10 +1,11 @@
 //! What a report rests on: the session, the program and the library and who built them, the versions, and
 //! the case that it was made for.
 
+use formats::sha256::Sum;
+
 use crate::ran::{library_text, Built, Ran};
 use crate::report::html::{fact, Html};
-use crate::sha256::Sum;
-use crate::summary::Summary;
+use crate::summary::RunSummary;
 
 /// What a report names beside the session's own answers.
 pub struct Facts {
@@ -44,7 +45,7 @@ const NOT_KNOWN: &str = "not known";
 
 impl Facts {
     /// The rows of the table at the head of a page.
-    pub fn rows(&self, summary: &Summary) -> Vec<Html> {
+    pub fn rows(&self, summary: &RunSummary) -> Vec<Html> {
         let or = |text: &Option<String>, otherwise: &str| {
             text.clone().unwrap_or_else(|| otherwise.to_string())
         };

@@ -5,7 +5,6 @@
 //! one, the page says that too. A [`Report`] is filled while a session runs and makes its page at the
 //! end.
 
-mod date;
 mod exchange;
 mod facts;
 mod glossary;
@@ -13,22 +12,21 @@ pub mod html;
 mod tree;
 mod verdict;
 mod walk;
-pub(crate) mod why;
 
-pub use date::{date_text, now};
 pub use exchange::Came;
 pub use facts::{Facts, Matter, Versions};
 pub(crate) use tree::Tables;
 
-use second::frames::Program;
+use formats::show::{counted, show_namespaces};
 
+use crate::kept::Kept;
 use crate::report::exchange::{exchange_html, Differing, Refused};
 use crate::report::glossary::{glossary_html, glossary_link};
 use crate::report::html::{cell, code_cell, fact, table, Html};
 use crate::report::tree::Packed;
 use crate::report::verdict::verdict_html;
-use crate::show::{counted, show_namespaces};
-use crate::summary::Summary;
+use crate::second_program::Stored;
+use crate::summary::RunSummary;
 use crate::verdict::Conclusion;
 
 /// No more exchanges than these are shown one by one, and no more than these bytes of them.
@@ -109,10 +107,10 @@ impl Report {
         }
     }
 
-    /// What the program has stored at the end.
-    pub fn record_end(&mut self, program: &Program) {
-        self.tables = Tables::of(program);
-        self.namespaces = program.namespaces.clone();
+    /// What the program and the second program keep at the end.
+    pub fn record_end(&mut self, kept: &Kept, stored: &Stored) {
+        self.tables = Tables::of(kept, stored);
+        self.namespaces = kept.namespaces().to_vec();
     }
 
     fn has_room(&self) -> bool {
@@ -120,7 +118,7 @@ impl Report {
     }
 
     /// The page. `stopped` says why the session was not run to its end, if it was not.
-    pub fn page(self, facts: &Facts, summary: &Summary, stopped: Option<&str>) -> String {
+    pub fn page(self, facts: &Facts, summary: &RunSummary, stopped: Option<&str>) -> String {
         let title = "Report of a session";
         let body = [
             Html::of_text("h1", &[], title),
@@ -138,7 +136,7 @@ impl Report {
         page_of(&format!("{title}: {}", facts.session), body)
     }
 
-    fn facts(&self, facts: &Facts, summary: &Summary) -> Html {
+    fn facts(&self, facts: &Facts, summary: &RunSummary) -> Html {
         let given = self.tables.given();
         let mut rows = facts.rows(summary);
         let (answers, differing) = summary.compared();
@@ -190,7 +188,7 @@ impl Report {
         section
     }
 
-    fn differences_section(&self, summary: &Summary) -> Html {
+    fn differences_section(&self, summary: &RunSummary) -> Html {
         let mut section = Html::of_text("h2", &[], "Where the second program answers otherwise");
         let (answers, differing) = summary.compared();
         if differing == 0 {
@@ -232,7 +230,7 @@ fn packed_text(packed: &Packed) -> String {
     format!("{rows}, {}", counted(packed.bytes, "byte", "bytes"))
 }
 
-fn counts(summary: &Summary) -> Html {
+fn counts(summary: &RunSummary) -> Html {
     let mut section = Html::of_text("h2", &[], "Counts");
     let row = |(what, count): (&'static str, usize)| {
         let count = count.to_string();

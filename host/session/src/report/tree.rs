@@ -2,18 +2,17 @@
 
 use std::collections::BTreeMap;
 
-use second::frames::Program;
-use second::name::{ancestors, DELIMITER};
-use second::packed::split_rows;
-use second::rows::{Flags, Row};
-use second::table::checked_rows;
-use second::{Readers, Table};
+use formats::name::{ancestors, levels, DELIMITER};
+use formats::readers::Readers;
+use formats::rows::{split_rows, Flags, Row};
+use formats::sha256::{sum_of_bytes, Sum};
+use formats::show::beside;
+use formats::text::line_text;
+use formats::words::{word_of_readers, words_of_flags};
 
+use crate::kept::Kept;
 use crate::report::html::{cell, table, Html};
-use crate::sha256::{sum_of_bytes, Sum};
-use crate::show::beside;
-use crate::text::line_text;
-use crate::words::{word_of_readers, words_of_flags};
+use crate::second_program::Stored;
 
 /// Deeper names are indented no further, so that flags and readers keep their place.
 const MOST_INDENTED: usize = 8;
@@ -39,14 +38,10 @@ pub struct Packed {
 }
 
 impl Tables {
-    pub fn of(program: &Program) -> Tables {
-        let edited = program.store.as_ref();
-        let edited = edited.and_then(|store| {
-            let rows = checked_rows(Table::Records(store.as_records())).ok()?;
-            Some(rows.iter().filter_map(Row::to_bytes).flatten().collect())
-        });
-        let passes = checked_rows(Table::Packed(&program.table)).is_ok();
-        Tables { given: program.table.clone(), at_end: edited, passes }
+    /// The rows that the program kept; whether they pass, and what the edits made of them, as the second program sees it.
+    pub fn of(kept: &Kept, stored: &Stored) -> Tables {
+        let (given, at_end) = (kept.rows().to_vec(), stored.rows_after_edits());
+        Tables { given, at_end, passes: stored.passes() }
     }
 
     pub fn given(&self) -> Packed {
@@ -87,9 +82,9 @@ impl Tables {
         for (side, bytes) in [&self.given, at_end].into_iter().enumerate() {
             for Row { flags, readers, name } in split_rows(bytes).0 {
                 for ancestor in ancestors(name) {
-                    nodes.entry(levels(ancestor)).or_default();
+                    nodes.entry(levels(ancestor).collect()).or_default();
                 }
-                nodes.entry(levels(name)).or_default()[side] = Some((flags, readers));
+                nodes.entry(levels(name).collect()).or_default()[side] = Some((flags, readers));
             }
         }
         let rows = nodes.iter().map(|(levels, said)| self.node(levels, *said));
@@ -140,10 +135,6 @@ impl Tables {
 
 fn packed(bytes: &[u8]) -> Packed {
     Packed { rows: split_rows(bytes).0.len(), bytes: bytes.len(), sum: sum_of_bytes(bytes) }
-}
-
-fn levels(name: &[u8]) -> Vec<&[u8]> {
-    name.split(|&byte| byte == DELIMITER).collect()
 }
 
 /// The text of a name before its last level, and of that level.

@@ -6,12 +6,14 @@
 
 use std::collections::{BTreeMap, BTreeSet};
 
-use second::collector::{MAX_OPTION, OPTION_REMOTE, OPTION_SPECIAL_USE, OPTION_WITHOUT_SUBSCRIBED};
-use second::name::{ancestors, DELIMITER};
+use formats::name::{ancestors, DELIMITER};
+use formats::show::{beside, counted};
+use formats::text::{line_text, name_text, shortened};
+use formats::walk_options::{
+    MAX_OPTION, OPTION_REMOTE, OPTION_SPECIAL_USE, OPTION_WITHOUT_SUBSCRIBED,
+};
 
 use crate::report::html::{cell, code_cell, table, Html};
-use crate::show::{beside, counted};
-use crate::text::{line_text, name_text, shortened};
 
 const ROW_HEIGHT: usize = 24;
 const COLUMN: usize = 28;

@@ -1,11 +1,13 @@
 //! Running sessions in the second program.
 
-use std::io::Write;
 use std::path::{Path, PathBuf};
-use std::process::{Command, Output, Stdio};
+use std::process::{Command, Output};
 
-use child::testing::example;
-use session::{run_session, Form, Session, SessionError, Source};
+use child::testing::{example, output_for};
+use formats::error::SessionError;
+use formats::session::Session;
+use formats::source::Source;
+use session::{run_session, Form};
 
 /// The reader of sessions.
 pub const SESSION: &str = env!("CARGO_BIN_EXE_session");
@@ -56,13 +58,8 @@ pub fn run_on(source: impl AsRef<[u8]>) -> Output {
 /// The same with another program of frames.
 pub fn run_with(program: &Path, source: impl AsRef<[u8]>) -> Output {
     let mut command = Command::new(SESSION);
-    command.arg("--program").arg(program).stdin(Stdio::piped());
-    let mut child = command.stdout(Stdio::piped()).stderr(Stdio::piped()).spawn().expect("a start");
-    let mut stdin = child.stdin.take().expect("an input");
-    // A reader that ends before it has read all is one of the things that are tested.
-    let _ = stdin.write_all(source.as_ref());
-    drop(stdin);
-    child.wait_with_output().expect("an end")
+    command.arg("--program").arg(program);
+    output_for(command, source.as_ref())
 }
 
 /// What was told on standard error.

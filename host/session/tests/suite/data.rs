@@ -5,8 +5,10 @@ use std::path::Path;
 use std::process::{Command, Stdio};
 
 use child::testing::script;
-use second::frames::{bytes_of_hex, ANSWER, REFUSAL, WALK};
-use session::{Form, Json};
+use formats::frames::{ANSWER, REFUSAL, WALK};
+use formats::hex::bytes_of_hex;
+use formats::json::Json;
+use session::Form;
 
 use crate::common::{second, told, whole_text, SESSION};
 use crate::json::Value;

@@ -1,6 +1,8 @@
 //! What is printed cannot be taken for anything else.
 
-use session::{comment_text, decoded, line_text, name_text, Form};
+use formats::text::{comment_text, line_text, name_text};
+use formats::utf7::decoded;
+use session::Form;
 
 use crate::common::{printed, run_on, whole_text};
 

@@ -108,3 +108,18 @@ fn programs_that_differ_in_an_edit() {
     let differs = format!("Differs    from the second program: {differ}\n");
     assert!(text.contains(&differs), "{text}");
 }
+
+/// What a program keeps is known from its own answers: after an edit that it accepts it takes no row, whatever the second
+/// program says of the edit.
+#[test]
+fn edits_that_the_second_program_refuses() {
+    let answers = ["4161204F4B20646F6E650D0A", "520D", "416F6B0D0A"];
+    let text = answers.map(|answer| format!("read x; echo {answer}")).join("; ");
+    let program = script(FOLDER, "accepts", &text);
+    let output = run_with(&program, "command a SUBSCRIBE a//b\nmailbox Foo exists\nexpect 13\n");
+    assert_eq!(output.status.code(), Some(3), "{}", told(&output));
+    let text = String::from_utf8_lossy(&output.stdout);
+    assert!(text.contains("the programs differ: the second one refuses this"), "{text}");
+    assert!(text.contains("Refused    13: bad frame (as expected)"), "{text}");
+    assert!(text.contains("Summary    0 of 1 rows"), "{text}");
+}

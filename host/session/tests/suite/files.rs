@@ -3,7 +3,12 @@
 use std::fs;
 use std::path::Path;
 
-use session::{sum_of_bytes, Content, Form, Item, Sent, Session, SessionError, Source};
+use formats::error::SessionError;
+use formats::item::{Content, Item, Sent};
+use formats::session::Session;
+use formats::sha256::sum_of_bytes;
+use formats::source::Source;
+use session::Form;
 
 use crate::common::{check, printed, run_on, told};
 

@@ -5,7 +5,8 @@ use std::path::{Path, PathBuf};
 use std::process::{Command, Output, Stdio};
 
 use child::testing::script;
-use session::{sum_of_bytes, Content, Origin};
+use formats::item::{Content, Origin};
+use formats::sha256::sum_of_bytes;
 
 use crate::common::{check, second, told, SESSION};
 use crate::page::Element;

@@ -7,9 +7,13 @@ use std::path::Path;
 use std::process::{Command, Output};
 
 use child::testing::script;
-use second::frames::{Answer, Frame, Program};
-use second::packed::split_rows;
-use session::{sum_of_bytes, Content, Sent, Session, Source};
+use formats::frames::Frame;
+use formats::item::{Content, Sent};
+use formats::rows::split_rows;
+use formats::session::Session;
+use formats::sha256::sum_of_bytes;
+use formats::source::Source;
+use second::frames::{Answer, Program};
 
 use crate::common::{second, told, SESSION};
 use crate::page::Element;

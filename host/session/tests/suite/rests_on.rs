@@ -5,7 +5,7 @@ use std::fs;
 use std::path::Path;
 
 use child::testing::script;
-use session::sum_of_bytes;
+use formats::sha256::sum_of_bytes;
 
 use crate::building::Tree;
 use crate::common::{second, told};

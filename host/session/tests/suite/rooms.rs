@@ -1,6 +1,7 @@
 //! Buffers that are too small: what was too long, and what can be done.
 
-use session::{Form, ROOM_ANSWER, ROOM_FOUND, ROOM_PENDING, ROOM_SCRATCH};
+use formats::sizes::{ROOM_ANSWER, ROOM_FOUND, ROOM_PENDING, ROOM_SCRATCH};
+use session::Form;
 
 use crate::common::printed;
 

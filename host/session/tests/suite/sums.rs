@@ -1,6 +1,7 @@
 //! SHA-256, and dates.
 
-use session::{date_text, sum_of, sum_of_bytes};
+use formats::date::date_text;
+use formats::sha256::{sum_of, sum_of_bytes};
 
 /// The examples of FIPS 180-4 and of the NIST's test vectors, and lengths around the ends of blocks.
 #[test]

@@ -6,7 +6,8 @@ use std::path::Path;
 use std::process::Command;
 
 use child::testing::script;
-use session::{sum_of_bytes, Form};
+use formats::sha256::sum_of_bytes;
+use session::Form;
 
 use crate::common::{second, whole_text, SESSION};
 use crate::json::Value;

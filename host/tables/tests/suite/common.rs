@@ -4,9 +4,9 @@ use std::fs;
 use std::path::Path;
 use std::process::{Command, Output, Stdio};
 
-use second::frames::Frame;
-use second::rows::{Flags, Row};
-use second::Readers;
+use formats::frames::Frame;
+use formats::readers::Readers;
+use formats::rows::{Flags, Row};
 
 pub const TABLES: &str = env!("CARGO_BIN_EXE_tables");
 

@@ -1,6 +1,6 @@
 //! What differs, in walk order, as text and as JSON.
 
-use tables::Place;
+use tables::WalkPlace;
 
 use crate::common::{body, file, run};
 
@@ -65,7 +65,8 @@ fn alike() {
 fn walk_order() {
     let ascending =
         ["B", "a", "a b", "a-", "ab", "z", "A/z", "a/b", "a/b c", "a b/a", "a-/a", "a/a/a"];
-    let places: Vec<Place> = ascending.iter().map(|name| Place::of(name.as_bytes())).collect();
+    let places: Vec<WalkPlace> =
+        ascending.iter().map(|name| WalkPlace::of(name.as_bytes())).collect();
     for (at, pair) in places.windows(2).enumerate() {
         assert!(pair[0] < pair[1], "{} {}", ascending[at], ascending[at + 1]);
     }

@@ -1,11 +1,12 @@
 //! What a walk gives, and what is no input.
 
+use formats::frames::Frame;
+use formats::readers::Readers;
+use formats::rows::{Flags, Row};
+use formats::sizes::{ROOM_FOUND, ROOM_PENDING, ROOM_SCRATCH};
 use luspemaro::{Refusal, WalkRefusal};
-use second::frames::Frame;
-use second::rows::{Flags, Row};
-use second::{collect, Readers, Table};
-use session::{ROOM_FOUND, ROOM_PENDING, ROOM_SCRATCH};
-use walker::{walk, Found, InputError};
+use second::{collect, Table};
+use walker::{walk, InputError, WalkFound};
 
 /// Frames, one a line.
 fn input(frames: impl IntoIterator<Item = Frame>) -> Vec<u8> {
@@ -41,7 +42,7 @@ fn large_tables() {
             [ROOM_SCRATCH, ROOM_FOUND, ROOM_PENDING].map(|room| vec![0; room]);
         let walked = collect(0, Table::Packed(&table), 0, &mut scratch, &mut found, &mut pending);
         let (commands, length) = walked.expect("a walk");
-        assert_eq!(given, Found { commands, names: found[..length].to_vec() });
+        assert_eq!(given, WalkFound { commands, names: found[..length].to_vec() });
     }
 }
 
@@ -50,7 +51,7 @@ fn edits_are_made() {
     let row = Frame::Row(subscribed("a", Readers::ALL));
     let frames = [row, edit("s SUBSCRIBE b/c"), edit("u UNSUBSCRIBE a"), WALK];
     let found = walk(&input(frames)).expect("an input");
-    assert_eq!(found, Ok(Found { commands: 2, names: b"\x03b/c".to_vec() }));
+    assert_eq!(found, Ok(WalkFound { commands: 2, names: b"\x03b/c".to_vec() }));
 }
 
 #[test]
@@ -59,7 +60,7 @@ fn readers_and_options() {
     for (reader, names) in [(0, b"".as_slice()), (3, b"\x01a")] {
         let frames = [Frame::Row(hidden.clone()), Frame::Walk { reader, option: 0 }];
         let found = walk(&input(frames)).expect("an input");
-        assert_eq!(found, Ok(Found { commands: 1, names: names.to_vec() }), "{reader}");
+        assert_eq!(found, Ok(WalkFound { commands: 1, names: names.to_vec() }), "{reader}");
     }
     for (reader, option, row, refusal) in [
         (8, 9, "?", WalkRefusal::Reader),

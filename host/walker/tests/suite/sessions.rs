@@ -4,7 +4,9 @@ use std::path::Path;
 use std::process::Command;
 
 use child::testing::example;
-use session::{make_ready, run_session, Form, Programs, Session, Source};
+use formats::session::Session;
+use formats::source::Source;
+use session::{make_ready, run_session, Form, Programs};
 
 const WALKER: &str = env!("CARGO_BIN_EXE_walker");
 const WIDE: &str = include_str!("../../wide.session");

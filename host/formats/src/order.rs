@@ -13,16 +13,16 @@ use crate::item::{Content, Item, Origin};
 /// rows of four bytes.
 const MOST_ROWS: usize = 6_000;
 
-type Read = Result<Item, SessionError>;
+type ReadItem = Result<Item, SessionError>;
 
 /// Items with their rows in order, unless the session wants them as given.
 pub struct Ordered<I> {
     items: I,
     as_given: bool,
-    ready: VecDeque<Read>,
+    ready: VecDeque<ReadItem>,
 }
 
-impl<I: Iterator<Item = Read>> Ordered<I> {
+impl<I: Iterator<Item = ReadItem>> Ordered<I> {
     pub fn new(items: I) -> Ordered<I> {
         Ordered { items, as_given: false, ready: VecDeque::new() }
     }
@@ -49,10 +49,10 @@ impl<I: Iterator<Item = Read>> Ordered<I> {
     }
 }
 
-impl<I: Iterator<Item = Read>> Iterator for Ordered<I> {
-    type Item = Read;
+impl<I: Iterator<Item = ReadItem>> Iterator for Ordered<I> {
+    type Item = ReadItem;
 
-    fn next(&mut self) -> Option<Read> {
+    fn next(&mut self) -> Option<ReadItem> {
         if self.ready.is_empty() {
             self.read_group();
         }
@@ -62,8 +62,8 @@ impl<I: Iterator<Item = Read>> Iterator for Ordered<I> {
 
 /// Puts the rows of a group in order, each in a place where a row stood, and says so before the
 /// first. Rows of one name stay in the order in which they stand.
-fn sort_rows(group: &mut VecDeque<Read>) {
-    let is_place = |read: &Read| read.as_ref().is_ok_and(is_row);
+fn sort_rows(group: &mut VecDeque<ReadItem>) {
+    let is_place = |read: &ReadItem| read.as_ref().is_ok_and(is_row);
     let places: Vec<usize> = (0..group.len()).filter(|&at| is_place(&group[at])).collect();
     let name_at = |at: &usize| group[*at].as_ref().map_or(b"".as_slice(), row_name);
     let mut sorted = places.clone();

@@ -1,6 +1,7 @@
 //! What a program answers.
 
-use second::frames::{bytes_of_hex, Frame, ANSWER, REFUSAL, WALK};
+use crate::frames::{Frame, ANSWER, REFUSAL, WALK};
+use crate::hex::bytes_of_hex;
 
 /// An answer line, read.
 #[derive(Clone, Debug, PartialEq, Eq)]

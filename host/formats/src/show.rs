@@ -3,16 +3,15 @@
 use std::fmt;
 use std::iter;
 
-use child::SentFrame;
-use second::frames::{hex_of, Frame};
-use second::line::{read_line, CRLF};
-use second::namespaces::{split_entries, Entry};
-use second::packed::split_rows;
-use second::rows::{Flags, Row};
-use second::{Reader, Readers, Refusal};
-
+use crate::frames::{Frame, SentFrame};
+use crate::hex::hex_of;
 use crate::item::{Origin, Sent};
+use crate::list_line::{LineWord, ListLine, CRLF};
+use crate::namespaces::{split_entries, Entry};
+use crate::readers::{Reader, Readers};
+use crate::refusal::Refusal;
 use crate::reply::Reply;
+use crate::rows::{split_rows, Flags, Row};
 use crate::text::{line_text, name_text, quoted, quoted_text, shortened};
 use crate::utf7::decoded;
 use crate::words::{word_of_class, word_of_readers, words_of_flags, words_of_walk_option, READERS};
@@ -47,7 +46,7 @@ impl Shown {
         self.0.iter().map(|(label, line)| (*label, line.as_str()))
     }
 
-    /// What comes from a reader, who is told but for reader 0.
+    /// With the reader that sends it, but for reader 0.
     fn and_reader(mut self, reader: u8) -> Shown {
         if reader != Reader::EDITOR.number() {
             self.0.push(("From", reader_text(reader)));
@@ -245,7 +244,8 @@ fn answer_lines(text: &[u8]) -> Vec<String> {
 
 /// What the name of a LIST line without its CR LF says in modified UTF-7, to stand beside the line.
 pub fn beside_line(line: &[u8]) -> String {
-    read_line(&[line, CRLF].concat()).map(|line| beside(&line.name)).unwrap_or_default()
+    let read = ListLine::of(&[line, CRLF].concat()).filter(|line| line.word == LineWord::List);
+    read.map(|line| beside(&line.name)).unwrap_or_default()
 }
 
 fn walk_lines(count: u16, found: &[Vec<u8>]) -> Vec<String> {

@@ -1,13 +1,13 @@
 //! Reading one line of a session file.
 
-use second::frames::Frame;
-use second::line::CRLF;
-use second::namespaces::Entry;
-use second::quoted::{push_quoted, read_quoted};
-use second::rows::Row;
-use second::{Readers, Refusal};
-
+use crate::frames::Frame;
 use crate::item::Origin;
+use crate::list_line::CRLF;
+use crate::namespaces::Entry;
+use crate::quoted::{push_quoted, read_quoted};
+use crate::readers::Readers;
+use crate::refusal::Refusal;
+use crate::rows::Row;
 use crate::text::{comment_text, line_text, shortened};
 use crate::words::{
     class_of_word, class_words, flag_words, flags_of_words, readers_of_word, walk_option_of_words,

@@ -5,7 +5,7 @@
 //! the same way. A field that would start with `=`, `+`, `-` or `@` starts with that byte as `\x` and two
 //! digits, so that no spreadsheet takes it for a formula.
 
-use second::name::is_printable;
+use crate::name::is_printable;
 
 /// What a spreadsheet takes for the start of a formula.
 const FORMULA_STARTS: &[u8] = b"=+-@";

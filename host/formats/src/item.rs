@@ -1,9 +1,7 @@
 //! What a session is made of.
 
-use std::fmt;
-
-use child::SentFrame;
-use second::Refusal;
+use crate::frames::SentFrame;
+use crate::refusal::Refusal;
 
 /// One item, in the order in which it is sent and printed.
 #[derive(Clone, Debug)]
@@ -34,27 +32,6 @@ pub struct Sent {
     /// What the item says that it is refused with.
     pub expected: Option<Refusal>,
 }
-
-/// Whose a frame is.
-#[derive(Clone, Copy, Debug, PartialEq, Eq)]
-pub enum Turn {
-    /// The session's, by its line.
-    Line(u64),
-    /// This tool's own command at the end.
-    Own,
-}
-
-impl fmt::Display for Turn {
-    fn fmt(&self, formatter: &mut fmt::Formatter) -> fmt::Result {
-        match self {
-            Turn::Line(line) => write!(formatter, "line {line}"),
-            Turn::Own => write!(formatter, "at the end, this tool's own command"),
-        }
-    }
-}
-
-/// What this tool's own command is for.
-pub const OWN: &str = "sent by this tool: after the last row or entry the session asks nothing";
 
 /// What a frame was made from.
 #[derive(Clone, Debug, PartialEq, Eq)]

@@ -1,22 +1,14 @@
 //! What was too long where a buffer of the program is too small (9, 10 and 11), and what can be done
-//! about it; and the sizes of buffers that are never too small.
+//! about it.
 
+use formats::frames::Frame;
+use formats::reply::Reply;
+use formats::sizes::{ROOM_ANSWER, ROOM_FOUND, ROOM_PENDING, ROOM_SCRATCH};
+use formats::text::line_text;
 use second::collector::walk_command;
 use second::fault::Fault;
-use second::frames::{Frame, Program, ANSWER_ROOM, FOUND_ROOM, PENDING_ROOM, SCRATCH_ROOM};
+use second::frames::{Program, ANSWER_ROOM, FOUND_ROOM, PENDING_ROOM, SCRATCH_ROOM};
 use second::{answer_reading, collect, Refusal, Table};
-
-use crate::reply::Reply;
-use crate::text::line_text;
-
-/// `LUSPEMARO_ROOM_ANSWER` of `include/luspemaro.h`: no answer is longer.
-pub const ROOM_ANSWER: usize = 1_572_864;
-/// `LUSPEMARO_ROOM_SCRATCH`: no answer to a command of a walk is longer.
-pub const ROOM_SCRATCH: usize = 147_456;
-/// `LUSPEMARO_ROOM_FOUND`: no walk finds more.
-pub const ROOM_FOUND: usize = 33_280;
-/// `LUSPEMARO_ROOM_PENDING`: no walk has more names to ask below.
-pub const ROOM_PENDING: usize = 491_520;
 
 const FOR_COMMANDS: &str =
     "what can be done: ask for fewer names at a time, by a longer reference \

@@ -1,13 +1,13 @@
 //! The words of a session file for flags, readers, classes of namespaces and options of a walk.
 
-use second::collector::{OPTION_REMOTE, OPTION_SPECIAL_USE, OPTION_WITHOUT_SUBSCRIBED};
-use second::rows::Flags;
-use second::{Reader, Readers};
+use crate::readers::{Reader, Readers};
+use crate::rows::Flags;
+use crate::walk_options::{OPTION_REMOTE, OPTION_SPECIAL_USE, OPTION_WITHOUT_SUBSCRIBED};
 
 /// Words, each with the bits that it stands for.
-type Words = [(&'static str, u16)];
+type WordBits = [(&'static str, u16)];
 
-const WALK_WORDS: &Words = &[
+const WALK_WORDS: &WordBits = &[
     ("remote", OPTION_REMOTE as u16),
     ("special-use", OPTION_SPECIAL_USE as u16),
     ("without-subscribed", OPTION_WITHOUT_SUBSCRIBED as u16),
@@ -52,7 +52,7 @@ pub fn readers_of_word(word: &str) -> Option<Readers> {
     for number in word.split(',') {
         let is_digit = number.len() == 1 && number.as_bytes()[0].is_ascii_digit();
         let number = number.parse().ok().filter(|_| is_digit)?;
-        readers.add(Reader::checked(number).ok()?);
+        readers.add(Reader::of(number)?);
     }
     Some(readers)
 }
@@ -112,15 +112,15 @@ fn flag_bits() -> [(&'static str, u16); Flags::NAMED.len()] {
     Flags::NAMED.map(|(word, flag)| (word, flag.bits()))
 }
 
-fn listed(words: &Words) -> String {
+fn listed(words: &WordBits) -> String {
     words.iter().map(|(word, _)| *word).collect::<Vec<_>>().join(", ")
 }
 
-fn bits_of_word(words: &Words, word: &str) -> Option<u16> {
+fn bits_of_word(words: &WordBits, word: &str) -> Option<u16> {
     words.iter().find(|(name, _)| *name == word).map(|(_, bits)| *bits)
 }
 
-fn words_of_bits(words: &Words, bits: u16) -> Option<String> {
+fn words_of_bits(words: &WordBits, bits: u16) -> Option<String> {
     let named = words.iter().filter(|(_, bit)| bits & bit != 0);
     let (names, named_bits): (Vec<_>, Vec<_>) = named.copied().unzip();
     let all_named = !names.is_empty() && named_bits.iter().sum::<u16>() == bits;

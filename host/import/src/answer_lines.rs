@@ -4,15 +4,15 @@ use crate::marks::Marked;
 use crate::response::literal_length;
 
 /// All lines of a record.
-pub struct Record<'t> {
+pub struct AnswerLines<'t> {
     bytes: &'t [u8],
     /// Each with its end.
     lines: Vec<&'t [u8]>,
 }
 
-impl<'t> Record<'t> {
-    pub fn of(bytes: &'t [u8]) -> Record<'t> {
-        Record { bytes, lines: bytes.split_inclusive(|&byte| byte == b'\n').collect() }
+impl<'t> AnswerLines<'t> {
+    pub fn of(bytes: &'t [u8]) -> AnswerLines<'t> {
+        AnswerLines { bytes, lines: bytes.split_inclusive(|&byte| byte == b'\n').collect() }
     }
 
     pub fn length(&self) -> usize {

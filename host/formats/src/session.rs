@@ -1,15 +1,45 @@
 //! A session: a file of items or of frames, checked whole before anything is run.
+//!
+//! A session file has one item a line, its words parted by spaces or tabs; empty lines and lines that
+//! start with `#` are no items.
+//!
+//! | Item | Example |
+//! |---|---|
+//! | a row of the table | `mailbox Foo/Baz exists subscribed`, `mailbox "a b" 0003` |
+//! | a row that some readers see | `mailbox Foo exists readers 0,3`, `readers none`, `readers all` |
+//! | who sends what comes after | `reader 3` |
+//! | a namespace entry | `namespace personal "" "/"`, `namespace shared "#mh/" NIL` |
+//! | a command; CR LF is added | `command a LIST "" "*"` |
+//! | a command with literals | `command a LIST "" {3}`, and in the next line `+ Foo RETURN ()` |
+//! | an edit, sent as a command | `subscribe Foo/Baz`, `unsubscribe "a b"` |
+//! | a walk | `walk`, `walk remote`, `walk special-use without-subscribed`, `walk 6` |
+//! | a walk by the library, with larger buffers | `walk large`, `walk large remote` |
+//! | a frame as it is sent | `frame 5700FF` |
+//! | what the item before is refused with | `expect 7` |
+//! | mailbox lines stay as they stand | `order as-given` |
+//!
+//! A command goes on in each line that starts with `+` and follows it at once: CR LF and what comes
+//! after `+` and one space are added, whatever that is. So `{3}` at the end of a line makes a literal
+//! of the first three bytes after the next `+`, and without such a line the literal is cut short. A
+//! literal that has CR LF in it has several such lines.
+//!
+//! Rows are sent by the bytes of their names, among those that stand between two items which are
+//! answered; entries in the order in which they stand. After an edit that was answered, the program
+//! takes no row.
+//!
+//! All readers see a row that does not say who does. Commands, edits and walks come from reader 0 up to
+//! the first `reader`, and then from the one that the last `reader` before them names.
+//!
+//! A file whose first line is a frame is a file of frames, and its lines are sent as they stand.
 
 use std::io::{self, Write};
 
-use child::SentFrame;
-use second::frames::Frame;
-use second::Reader;
-
 use crate::error::SessionError;
+use crate::frames::{Frame, SentFrame};
 use crate::item::{Content, Item, Origin, Sent};
 use crate::items::{lines_of, Items, Lines};
 use crate::order::Ordered;
+use crate::readers::Reader;
 use crate::sha256::{sum_of_bytes, Sum};
 use crate::source::Source;
 
@@ -146,10 +176,10 @@ impl Asked {
             Ok(Frame::Row(_)) => self.has_new_rows = true,
             Ok(Frame::Entry(_)) => self.has_new_entries = true,
             // A reader above 7 is refused before anything is looked at.
-            Ok(Frame::Command { reader, .. }) if Reader::checked(reader).is_ok() => {
+            Ok(Frame::Command { reader, .. }) if Reader::of(reader).is_some() => {
                 *self = Asked::default();
             }
-            Ok(Frame::Walk { reader, .. }) if Reader::checked(reader).is_ok() => {
+            Ok(Frame::Walk { reader, .. }) if Reader::of(reader).is_some() => {
                 self.has_new_rows = false;
             }
             Ok(Frame::Command { .. } | Frame::Walk { .. }) | Err(_) => {}

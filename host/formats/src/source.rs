@@ -48,7 +48,7 @@ impl Source {
 }
 
 /// One line, without its LF.
-pub struct Line {
+pub struct SourceLine {
     /// The line, or the start of a longer one.
     pub text: Vec<u8>,
     pub length: u64,
@@ -56,7 +56,7 @@ pub struct Line {
     pub is_cut: bool,
 }
 
-impl Line {
+impl SourceLine {
     /// Whether `text` is the start alone.
     pub fn is_overlong(&self) -> bool {
         self.length > self.text.len() as u64
@@ -64,8 +64,8 @@ impl Line {
 }
 
 /// The next line, of which at most `most` bytes are kept, or none at the end.
-pub fn next_line(input: &mut impl BufRead, most: usize) -> io::Result<Option<Line>> {
-    let mut line = Line { text: Vec::new(), length: 0, is_cut: true };
+pub fn next_line(input: &mut impl BufRead, most: usize) -> io::Result<Option<SourceLine>> {
+    let mut line = SourceLine { text: Vec::new(), length: 0, is_cut: true };
     loop {
         let block = input.fill_buf()?;
         if block.is_empty() {

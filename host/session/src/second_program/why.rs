@@ -1,16 +1,15 @@
 //! Why each line of an answer is there, as the second program sees it. The proved program decides.
 
+use formats::frames::Frame;
+use formats::list_line::{LineWord, ListLine};
+use formats::show::beside;
+use formats::text::name_text;
+use formats::words::words_of_flags;
 use second::command::{read_command, ListRequest, LsubRequest, Request, Selection};
-use second::frames::{Frame, Program};
-use second::line::{Criteria, Line};
+use second::frames::Program;
 use second::rows::{rows_below, Flags, Row};
 use second::table::checked_rows;
 use second::{ends_in_percent, matches, meets_criteria, Reader, Records, Table};
-
-use crate::listed::read_listed;
-use crate::show::beside;
-use crate::text::name_text;
-use crate::words::words_of_flags;
 
 /// One line of an answer, without its CR LF, and why it is there.
 pub struct Explained {
@@ -57,7 +56,7 @@ impl Kind {
 }
 
 /// What a command asks, over the rows that its reader sees.
-struct Asked<'t> {
+struct Question<'t> {
     rows: Vec<Row<'t>>,
     request: Request,
 }
@@ -65,7 +64,7 @@ struct Asked<'t> {
 /// The lines of an answer to a command, over what the program has stored.
 pub fn explained_lines(program: &Program, frame: Option<&Frame>, answer: &[u8]) -> Vec<Explained> {
     let store = program.records().ok();
-    let asked = store.as_ref().and_then(|store| Asked::by(frame?, store.as_records()));
+    let asked = store.as_ref().and_then(|store| Question::by(frame?, store.as_records()));
     let explained = |line: &[u8]| {
         let why = asked.as_ref().and_then(|asked| asked.why(line));
         Explained {
@@ -81,15 +80,15 @@ fn unexplained() -> Why {
     Why { kind: Kind::Unexplained, text }
 }
 
-impl<'t> Asked<'t> {
-    fn by(frame: &Frame, records: Records<'t>) -> Option<Asked<'t>> {
+impl<'t> Question<'t> {
+    fn by(frame: &Frame, records: Records<'t>) -> Option<Question<'t>> {
         let Frame::Command { reader, line } = frame else {
             return None;
         };
         let reader = Reader::checked(*reader).ok()?;
         let mut rows = checked_rows(Table::Records(records)).ok()?;
         rows.retain(|row| row.readers.has(reader));
-        Some(Asked { rows, request: read_command(line).ok()?.request })
+        Some(Question { rows, request: read_command(line).ok()?.request })
     }
 
     fn why(&self, line: &[u8]) -> Option<Why> {
@@ -99,19 +98,23 @@ impl<'t> Asked<'t> {
             Request::Root => {
                 why(Kind::Root, "the root: the pattern is empty and the command is not extended")
             }
-            Request::List(request) => why_listed(&self.rows, request, &listed("LIST", line)?),
-            Request::Lsub(request) => why_lsub(&self.rows, request, &listed("LSUB", line)?.name),
+            Request::List(request) => {
+                why_listed(&self.rows, request, &listed(LineWord::List, line)?)
+            }
+            Request::Lsub(request) => {
+                why_lsub(&self.rows, request, &listed(LineWord::Lsub, line)?.name)
+            }
             Request::Edit(_) => None,
         }
     }
 }
 
 /// The parts of a line that has this word.
-fn listed(word: &str, line: &[u8]) -> Option<Line> {
-    read_listed(line).filter(|(own, _)| *own == word).map(|(_, line)| line)
+fn listed(word: LineWord, line: &[u8]) -> Option<ListLine> {
+    ListLine::of(line).filter(|line| line.word == word)
 }
 
-fn why_listed(rows: &[Row], request: &ListRequest, line: &Line) -> Option<Why> {
+fn why_listed(rows: &[Row], request: &ListRequest, line: &ListLine) -> Option<Why> {
     let selection = request.selection;
     let patterns = &request.canonical_patterns;
     let is_matched = |name: &[u8]| patterns.iter().any(|pattern| matches(pattern, name));
@@ -140,7 +143,7 @@ fn why_listed(rows: &[Row], request: &ListRequest, line: &Line) -> Option<Why> {
         );
         (Kind::Level, text)
     };
-    let childinfo = met_below.filter(|_| line.childinfo != Criteria::NONE);
+    let childinfo = met_below.filter(|_| !line.childinfo.is_empty());
     let childinfo = childinfo
         .map(|row| format!("; CHILDINFO: {} below it meets the criteria", shown(row.name)));
     let text = format!("{text}; it matches {}{}", shown(pattern), childinfo.unwrap_or_default());
@@ -162,7 +165,7 @@ fn criteria_text(flags: Flags, selection: Selection) -> String {
         (false, false) => met.push("it is local".to_string()),
     }
     if selection.special_use {
-        let uses = Flags::from_bits(flags.bits() & Flags::USES.bits());
+        let uses = formats::rows::Flags::from_bits(flags.bits() & Flags::USES.bits());
         met.push(format!("it has a special use ({})", words_of_flags(uses)));
     }
     met.join(", ")

@@ -1,29 +1,32 @@
 //! Why a frame is refused, what an edit does, and what is hidden from a reader, as the second program
 //! sees it: the proved program decides, and says no more than the number, or its answer.
 
+use formats::frames::Frame;
+use formats::hex::hex_of;
+use formats::item::{Origin, Sent};
+use formats::reply::Reply;
+use formats::session::own_command;
+use formats::show::{beside, counted, reader_text, refusal_text};
+use formats::text::{line_text, name_text, shortened};
+use formats::words::word_of_readers;
 use second::command::{read_command, Request};
 use second::fault::{EditFault, Fault, LineFault, RoomFault};
-use second::frames::{hex_of, Answer, Frame, Program};
-use second::name;
+use second::frames::{Answer, Program};
 use second::namespaces::entry_at;
 use second::packed::row_at;
 use second::rows::{rows_below, Flags, Row};
 use second::table::checked_rows;
-use second::{Reader, Readers, Refusal, Table};
+use second::{name, Reader, Readers, Refusal, Table};
 
-use crate::faults::list_fault_text;
-use crate::item::{Origin, Sent};
-use crate::reply::Reply;
-use crate::rooms::{collect_large, short_buffer_text};
-use crate::session::own_command;
-use crate::show::{beside, counted, reader_text, refusal_text};
-use crate::text::{line_text, name_text, shortened};
-use crate::words::word_of_readers;
+use crate::second_program::faults::list_fault_text;
+use crate::second_program::short_buffers::{collect_large, short_buffer_text};
+use crate::second_program::why::{explained_lines, Explained};
 
 /// Beside every explanation.
 pub const UNPROVED: &str = "explained by the second program, not proved";
 
-const NOT_REFUSED: &str = "the programs differ: the second one does not refuse this";
+/// In place of an explanation.
+pub const NOT_REFUSED: &str = "the programs differ: the second one does not refuse this";
 /// The sizes are counted from the rules, and no promise names them.
 const NEVER_SHORT: &str = "the buffers had the sizes of include/luspemaro.h, with which this is \
                            never to be given";
@@ -37,8 +40,6 @@ const MOST_HIDDEN: usize = 12;
 #[derive(Default)]
 pub struct Stored {
     program: Program,
-    /// The frames of the edits that the proved program accepted.
-    edits: Vec<Vec<u8>>,
     rows: Origins,
     entries: Origins,
 }
@@ -52,29 +53,35 @@ impl Stored {
         Stored { program, ..Stored::default() }
     }
 
-    /// The second program, with what it has stored.
-    pub fn program(&self) -> &Program {
-        &self.program
+    /// The rows after the last edit, packed; none where no edit was accepted.
+    pub fn rows_after_edits(&self) -> Option<Vec<u8>> {
+        rows_after_edits(&self.program)
     }
 
-    /// The frames of the edits that were accepted, in their order.
-    pub fn edits(&self) -> &[Vec<u8>] {
-        &self.edits
+    /// Whether the rows that were kept pass.
+    pub fn passes(&self) -> bool {
+        checked_rows(Table::Packed(&self.program.table)).is_ok()
     }
 
-    /// Stores what a frame adds; false if it adds nothing, and then it is answered.
-    pub fn store(&mut self, line: u64, frame: Option<&Frame>) -> bool {
+    /// The lines of an answer to a command, each with why it is there.
+    pub fn explained_lines(&self, frame: Option<&Frame>, answer: &[u8]) -> Vec<Explained> {
+        explained_lines(&self.program, frame, answer)
+    }
+
+    /// Stores what a frame of this line adds, where the second program takes it.
+    pub fn store(&mut self, line: u64, frame: Option<&Frame>) {
         let program = &mut self.program;
+        // What has no room is answered, and then explained.
         match frame {
             Some(Frame::Row(row)) => {
                 self.rows.push((program.table.len(), line));
-                program.store_row(row).is_ok()
+                let _ = program.store_row(row);
             }
             Some(Frame::Entry(entry)) => {
                 self.entries.push((program.namespaces.len(), line));
-                program.store_entry(entry).is_ok()
+                let _ = program.store_entry(entry);
             }
-            _ => false,
+            _ => {}
         }
     }
 
@@ -111,10 +118,9 @@ impl Stored {
     }
 
     /// Follows a command that was answered: an edit is made here too, as the second program made it,
-    /// and what it does is told.
+    /// and its effect is returned as text.
     pub fn follow(
         &mut self,
-        sent: &Sent,
         frame: Option<&Frame>,
         (reply, after): (Reply, Program),
     ) -> Option<String> {
@@ -124,7 +130,6 @@ impl Stored {
         let Request::Edit(edit) = read_command(line).ok()?.request else {
             return None;
         };
-        self.edits.push(sent.frame.text.clone());
         let name = name::spelled(&edit.name);
         let before = self.row_of(&name);
         self.program = after;
@@ -179,7 +184,7 @@ impl Stored {
         }
     }
 
-    /// What had no room, where a number says that a buffer is too small.
+    /// What did not fit, where a number says that a buffer is too small.
     fn short_buffer_text(&self, sent: &Sent, number: u8) -> Option<String> {
         let rooms = [Refusal::AnswerRoom, Refusal::FoundRoom, Refusal::PendingRoom];
         let refusal = rooms.into_iter().find(|room| room.number() == number)?;
@@ -241,6 +246,13 @@ impl Stored {
     }
 }
 
+/// The rows that a program has after the last edit, packed; none where it has accepted none.
+pub fn rows_after_edits(program: &Program) -> Option<Vec<u8>> {
+    let store = program.store.as_ref()?;
+    let rows = checked_rows(Table::Records(store.as_records())).ok()?;
+    Some(rows.iter().filter_map(Row::to_bytes).flatten().collect())
+}
+
 /// The rows that a reader does not see, and which of them lie above one that it sees.
 fn hidden_text(rows: &[Row], reader: Reader) -> Option<Vec<String>> {
     let hidden: Vec<&Row> = rows.iter().filter(|row| !row.readers.has(reader)).collect();
@@ -272,12 +284,8 @@ fn names_text(rows: &[&Row]) -> String {
 
 /// Who sent a command or a walk, before what is wrong with that.
 fn sender_text(frame: &[u8]) -> String {
-    match Frame::decode(frame) {
-        Ok(Frame::Command { reader, .. } | Frame::Walk { reader, .. }) => {
-            format!("it comes from {}: ", reader_text(reader))
-        }
-        _ => String::new(),
-    }
+    let reader = Frame::decode(frame).ok().and_then(|frame| frame.reader());
+    reader.map(|reader| format!("it comes from {}: ", reader_text(reader))).unwrap_or_default()
 }
 
 /// What an edit does to the subscription of a name, and to its row; and who sees a row that not all
@@ -295,7 +303,7 @@ fn effect_text(
 }
 
 fn who_sees_text(readers: Readers) -> String {
-    let word = word_of_readers(readers);
+    let word = word_of_readers(formats::readers::Readers::from_bits(readers.bits()));
     match Reader::all().filter(|&reader| readers.has(reader)).count() {
         0 => "no reader sees".to_string(),
         1 => format!("only reader {word} sees"),

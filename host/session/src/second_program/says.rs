@@ -1,14 +1,13 @@
 //! What the second program says of one command over what is stored, for tools that run no session.
 
-use child::SentFrame;
-use second::frames::{Frame, Program};
+use formats::frames::{Frame, SentFrame};
+use formats::item::{Origin, Sent};
+use formats::reply::Reply;
+use formats::text::line_text;
+use second::frames::Program;
 
-use crate::difference::{Apart, Difference};
-use crate::explain::Stored;
-use crate::item::{Origin, Sent};
-use crate::reply::Reply;
-use crate::report::why::explained_lines;
-use crate::text::line_text;
+use crate::difference::{Apart, Disagreement};
+use crate::second_program::stored::Stored;
 
 /// What the second program says of a command: whether its own answer is another one than the one that is given, why that
 /// is a refusal, what an edit does, which rows are hidden, and why each line is there that was not recorded. All three
@@ -25,7 +24,7 @@ pub fn second_says(program: Program, command: &[u8], given: &[u8], recorded: &[u
         Reply::Lines(answer) => {
             let whys = whys(&stored, frame.as_ref(), answer, &Reply::of(recorded));
             let hidden = stored.hidden(frame.as_ref()).unwrap_or_default();
-            lines.extend(stored.follow(&sent, frame.as_ref(), second));
+            lines.extend(stored.follow(frame.as_ref(), second));
             lines.extend(hidden.into_iter().map(|row| format!("hidden: {row}")));
             lines.extend(whys);
         }
@@ -36,8 +35,8 @@ pub fn second_says(program: Program, command: &[u8], given: &[u8], recorded: &[u
 
 /// How the second program's own answer is another one, if it is.
 fn differing(given: &Reply, second: &Reply) -> Vec<String> {
-    let difference = Difference::between(given, second);
-    difference.map_or(Vec::new(), |Difference { short, lines }| {
+    let difference = Disagreement::between(given, second);
+    difference.map_or(Vec::new(), |Disagreement { short, lines }| {
         let short = format!("the programs differ: {short}");
         [short].into_iter().chain(lines).collect()
     })
@@ -50,7 +49,7 @@ fn whys(stored: &Stored, frame: Option<&Frame>, answer: &[u8], recorded: &Reply)
         _ => b"",
     };
     let missing = Apart::between(recorded, answer).missing;
-    let explained = explained_lines(stored.program(), frame, answer).into_iter();
+    let explained = stored.explained_lines(frame, answer).into_iter();
     let text = explained.filter_map(|one| Some((line_text(&one.line), one.why?.text)));
     let is_missing = |line: &String| missing.iter().any(|other| other.starts_with(line.as_str()));
     text.filter(|(line, _)| is_missing(line)).map(|(line, why)| format!("{line}: {why}")).collect()

@@ -2,15 +2,13 @@
 
 use std::io::{self, BufRead, Cursor};
 
-use child::SentFrame;
-use second::frames::MAX_DIGITS;
-use second::line::CRLF;
-use second::Refusal;
-
 use crate::error::{BadLine, SessionError};
+use crate::frames::{SentFrame, MAX_DIGITS};
 use crate::item::{Content, Item, Origin, Sent};
+use crate::list_line::CRLF;
 use crate::parse::{continuation_of, expectation_of, is_command, parse_line, Parsed};
-use crate::source::{next_line, Line, Source};
+use crate::refusal::Refusal;
+use crate::source::{next_line, Source, SourceLine};
 
 /// The most bytes of an item of a session file; none needs as many.
 const MAX_ITEM_LINE: usize = 16_384;
@@ -34,7 +32,7 @@ pub struct Items {
     /// How many lines were taken.
     number: u64,
     /// The next line, if it was looked at already.
-    ahead: Option<Line>,
+    ahead: Option<SourceLine>,
     has_failed: bool,
     /// Of the commands and walks to come.
     reader: u8,
@@ -64,7 +62,7 @@ impl Items {
         Items { input: source.open(), lines, number: 0, ahead: None, has_failed: false, reader: 0 }
     }
 
-    fn take_line(&mut self) -> io::Result<Option<Line>> {
+    fn take_line(&mut self) -> io::Result<Option<SourceLine>> {
         self.look_ahead()?;
         self.number += 1;
         Ok(self.ahead.take())
@@ -79,7 +77,7 @@ impl Items {
     }
 
     /// An item from its first line on, nothing for an empty line, or what is wrong with it.
-    fn item_of(&mut self, line: Line) -> Result<Option<Item>, SessionError> {
+    fn item_of(&mut self, line: SourceLine) -> Result<Option<Item>, SessionError> {
         let number = self.number;
         if self.lines == Lines::Frames {
             return Ok(Some(Item { line: number, content: Content::Sent(frame_of(line)) }));
@@ -192,14 +190,14 @@ pub fn lines_of(input: &mut impl BufRead) -> io::Result<(Lines, bool)> {
     Ok((Lines::Items, false))
 }
 
-fn frame_of(line: Line) -> Sent {
-    let Line { text, length, is_cut } = line;
+fn frame_of(line: SourceLine) -> Sent {
+    let SourceLine { text, length, is_cut } = line;
     let frame = SentFrame { text, is_cut };
     Sent { frame, length, origin: Origin::Other, expected: None }
 }
 
 /// A line of a session file without what an editor may have left before and after it.
-fn item_text(line: &Line, is_first: bool) -> &[u8] {
+fn item_text(line: &SourceLine, is_first: bool) -> &[u8] {
     let text = without_mark(&line.text, is_first);
     text.strip_suffix(b"\r").unwrap_or(text).trim_ascii_start()
 }

@@ -7,8 +7,8 @@
 
 use std::path::Path;
 
-use second::name::is_printable;
-use second::quoted::push_quoted;
+use crate::name::is_printable;
+use crate::quoted::push_quoted;
 
 /// Bytes 20 to 7E as they stand.
 pub fn line_text(bytes: &[u8]) -> String {

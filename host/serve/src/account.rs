@@ -4,43 +4,19 @@
 //! A command that reads is answered over a copy of the table, beside others, and has its place in the order when it
 //! is written. If a row was changed meanwhile, its answer may be an old one, so it is answered again.
 
-use std::fmt::{self, Display};
+use std::fmt;
 use std::io;
 use std::sync::{Mutex, MutexGuard};
-use std::time::Duration;
 
-use luspemaro::{Answered, Reader, Refusal};
+use luspemaro::{Answered, Refusal};
 
+use crate::decided::{Client, Decided};
 use crate::keeping::Keeping;
 use crate::log::Peer;
 use crate::rooms::Rooms;
 use crate::table::Table;
 use crate::turns::Turns;
-use crate::words::{is_about_line, is_edit, own_answer, Own};
-
-/// What a command comes to.
-#[derive(Debug, PartialEq, Eq)]
-pub enum Decided {
-    /// So many bytes of the buffer.
-    Answered(usize),
-    /// The library refuses its word, which the server answers by itself.
-    Own(Own),
-    /// By the library.
-    Refused(Refusal),
-    /// The edit, the record or the log cannot be written, so nothing was done.
-    NotKept(&'static str),
-}
-
-/// A client as the server knows it, and how it is served.
-#[derive(Clone, Debug)]
-pub struct Client {
-    pub peer: Peer,
-    pub reader: Reader,
-    /// Whether LOGIN is answered OK.
-    pub accepts_login: bool,
-    /// How long it may go without a whole command; none is for ever.
-    pub idle: Option<Duration>,
-}
+use crate::words::{is_about_line, is_edit, own_answer};
 
 /// What is served.
 pub struct Account {
@@ -247,20 +223,11 @@ impl State {
 }
 
 /// As the log says it.
-impl Display for Decided {
-    fn fmt(&self, formatter: &mut fmt::Formatter) -> fmt::Result {
-        match self {
-            Decided::Answered(length) => write!(formatter, "answered {length} bytes"),
-            Decided::Own(own) => write!(formatter, "refused 5, server {}", own.status()),
-            Decided::Refused(refusal) => write!(formatter, "refused {}", refusal.number()),
-            Decided::NotKept(why) => write!(formatter, "server NO: {why}"),
-        }
-    }
-}
-
 #[cfg(test)]
 mod tests {
     use std::thread;
+
+    use luspemaro::Reader;
 
     use crate::account::*;
     use crate::frame_file::tests::{Fails, Fake};

@@ -6,7 +6,8 @@ use std::time::{Duration, Instant};
 
 use luspemaro::{feed, put_go_on, FeederState, Happening, Refusal, COMMAND_ROOM};
 
-use crate::account::{Account, Client, Decided};
+use crate::account::Account;
+use crate::decided::{Client, Decided};
 use crate::log::word_text;
 use crate::rooms::command_memory;
 use crate::stop::Woken;

@@ -6,7 +6,7 @@ use std::io::{self, Write};
 
 use luspemaro::Refusal;
 
-use crate::account::{Client, Decided};
+use crate::decided::{Client, Decided};
 use crate::frame_log::FrameLog;
 use crate::log::{word_text, Log, Peer};
 use crate::review::Review;

@@ -16,6 +16,7 @@
 //! | `log` | a line for each connection, command and line of the server itself |
 //! | `keeping` | review, record and log together: a command is written where it has to be, or nowhere |
 //! | `turns` | turns that are shared or alone, in the order in which they are asked for |
+//! | `decided` | a client, and the result of one of its commands |
 //! | `account` | the table with what is kept of it: one command decided and kept |
 //! | `words` | tag and word of a line, and what is answered to words that the library does not know |
 //! | `connection` | one connection: bytes in, answers out |
@@ -32,6 +33,7 @@ mod account;
 mod activation;
 mod clock;
 mod connection;
+mod decided;
 mod frame_file;
 mod frame_log;
 mod keeping;
@@ -48,10 +50,11 @@ mod table;
 mod turns;
 mod words;
 
-pub use account::{Account, Client, Decided};
+pub use account::Account;
 pub use activation::handed_over;
 pub use clock::dated;
 pub use connection::{converse, Ending};
+pub use decided::{Client, Decided};
 pub use frame_log::FrameLog;
 pub use keeping::Keeping;
 pub use listen::{listen, Limits};

@@ -10,8 +10,9 @@ use std::time::{Duration, Instant};
 
 use luspemaro::Reader;
 
-use crate::account::{Account, Client};
+use crate::account::Account;
 use crate::connection::converse;
+use crate::decided::Client;
 use crate::keeping::tell;
 use crate::log::Peer;
 use crate::rooms::THREAD_STACK;

@@ -72,7 +72,7 @@ fn is_subscribe(kind: Kind) -> bool
     }
 }
 
-// Whether the command is an edit that its reader may make, beside a namespace list that passes: "SUBSCRIBE and UNSUBSCRIBE come from reader 0 alone".
+// Whether the command is an edit that its reader may make, beside a namespace list that passes: "edits are allowed to reader 0 only".
 pub(crate) fn may_edit(kind: Kind, reader: u8, namespaces: &[u8]) -> bool
     ensures { λ r. ⌜ r ≡ (eqb reader 0 && (editKind kind && namespacesPass (now (namespaces .entry)))) ⌝ }
 {

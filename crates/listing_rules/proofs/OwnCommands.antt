@@ -150,6 +150,10 @@ own_refusals t o scratch found pending ok lw =
         pick true = unfold number_of one_of in refl
         pick false = unfold number_of one_of in refl
 
+refused_allowed : (k : ℕ) → one_of walk_numbers k ≡ true → allowed_walk (walk_refused k) ≡ true
+unfolding allowed_walk
+refused_allowed k e = e
+
 -- "The collector's promise then allows no number but 1, 6, 9, 10, 11 and W9's 16"
 pub walk_allowed : WalksAllowed
 unfolding walk_by
@@ -172,7 +176,7 @@ walk_allowed reader t o scratch found pending = go (is_reader reader)
 
     refused : (k : ℕ) → one_of walk_numbers k ≡ true → walk t o scratch found pending ≡ walk_refused k →
         allowed_walk (walk t o scratch found pending) ≡ true
-    refused k e q = ap allowed_walk q ∙ (unfold allowed_walk in e)
+    refused k e q = ap allowed_walk q ∙ refused_allowed k e
 
     by_byte : passes t ≡ true → (c : Bool) → lawful_byte o ≡ c → allowed_walk (walk t o scratch found pending) ≡ true
     by_byte h true e = owed (walk t o scratch found pending) (demand_3_holds t o scratch found pending h e)

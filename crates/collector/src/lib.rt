@@ -3,6 +3,8 @@
 // The table serves check 1 and the calls of the server side's entry for commands that read, and nothing else: which rows the reader sees is that entry's
 // to say. A command is made from the option byte and a pending name, finds and pending names come from the answer and the option byte.
 // Who lends the records themselves calls `exports::luspemaro_collect`.
+#![tactic(auto)]
+
 mod command;
 mod indexed;
 mod lines;

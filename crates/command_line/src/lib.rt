@@ -3,6 +3,7 @@
 //
 // A command holds no bytes of its own: its tag, its reference or name and its patterns are spans of the line. `meaning` of specs/ says
 // what a command is in the terms of document 01. Absent: words other than LIST, NAMESPACE, LSUB, SUBSCRIBE and UNSUBSCRIBE.
+#![tactic(auto)]
 
 ghost use Rattle.std.specs.Prelude.{◌≡◌};
 ghost use Rattle.listing_rules.specs.Command.{parsed};

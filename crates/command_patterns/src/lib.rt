@@ -2,6 +2,8 @@
 // followed by the pattern, which are measured and put into a buffer.
 //
 // A pattern holds no bytes of its own: it is a span of the line. No function asks anything of its caller.
+#![tactic(auto)]
+
 mod canonical;
 mod places;
 

@@ -1,6 +1,7 @@
 // Check 3 of document 01, with document 02's literals: the shape of a command, one byte at a time.
 //
 // `Machine` is what is kept between two bytes; `is_one_command` runs it over a line. No public function asks anything of its caller.
+#![tactic(auto)]
 
 ghost use Rattle.std.specs.Prelude.{◌≡◌, ◌+◌, ◌-◌, ◌*◌, min};
 ghost use Rattle.listing_rules.specs.Tokens.{line_byte, digit_byte};

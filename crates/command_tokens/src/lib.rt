@@ -2,6 +2,8 @@
 //
 // A `Cursor` is a place in the line, by value. Its methods give the token that stands there and the cursor after it, or nothing. A
 // token holds no bytes of its own: it is a span of the line. No function asks anything of its caller.
+#![tactic(auto)]
+
 mod literals;
 mod spans;
 mod tokens;

@@ -3,6 +3,8 @@
 // The parts are a tag, a set of options by its number, a reference, and patterns packed one after the other, each as a length byte and
 // its bytes. `join` takes any bytes and any number: the text is defined for them too, so it is measured first, and what no server would
 // accept is refused by the server's numbers, in the server's order. Absent: a RETURN list without a word, and an option of another name.
+#![tactic(auto)]
+
 mod options;
 mod patterns;
 mod strings;

@@ -3,6 +3,8 @@
 // One pass over the area moves the bytes that rows use to its front, in place, and notes for each place how many of them lie before it:
 // that is where a name that begins there comes to lie. So the time is in proportion to area and records, and no row is looked for. Who
 // lends the records themselves calls `exports::luspemaro_compact`.
+#![tactic(auto)]
+
 mod gather;
 mod starts;
 

@@ -1,4 +1,6 @@
 // The lines that the server sends beside the library's answers, and the tag of a line. No public function asks anything of its caller.
+#![tactic(auto)]
+
 mod lines;
 mod refusals;
 mod tags;

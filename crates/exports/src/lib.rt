@@ -4,6 +4,8 @@
 // The entries over lent records, with the summary beside them, stand here and in `replaying`: each copies the records in as numbers, hands these and the
 // summary to the entry of the crate below that works on them, and copies back the records that it changed. Every other function calls the entry that it is named after and repeats its
 // promise. A slice passes as a pointer and a length, an answer as a struct of numbers (`outcomes`).
+#![tactic(auto)]
+
 pub mod feeding;
 pub mod outcomes;
 pub mod replaying;

@@ -2,6 +2,7 @@
 //
 // The command's bytes so far lie at the front of lent memory; all else is in a `Machine`, which is passed in and given back. No
 // public function asks anything of its caller.
+#![tactic(auto)]
 
 ghost use Rattle.std.specs.Prelude.{◌≡◌};
 ghost use Rattle.octets.specs.Put.{Put};

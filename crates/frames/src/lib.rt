@@ -2,6 +2,7 @@
 // from the input, a frame read, the bytes of a frame stored, the lines of answers written, and the frames of a log.
 //
 // No public function asks anything of its caller, and a refusal changes no byte of the lent memory.
+#![tactic(auto)]
 
 mod answers;
 mod gathering;

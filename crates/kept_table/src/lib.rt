@@ -4,6 +4,8 @@
 // store that the packed bytes become (`store`), and its summary, counted then. Frames, and how they are read, are not known here.
 //
 // `obey` and `walk_line` look at the sizes of the lent memory first (`sizes`), and do nothing where what is stored does not lie within it.
+#![tactic(auto)]
+
 mod commands;
 mod outcome;
 mod sizes;

@@ -2,6 +2,8 @@
 //
 // It takes exactly what the line writer of `list_line` writes; the texts of a line stand there. An LSUB line is refused. Each part has a
 // function of its own, which answers the place behind what it read; where a part is missing, the line is refused at once.
+#![tactic(auto)]
+
 ghost use Rattle.std.specs.Prelude.{◌≡◌, ◌≤◌, length, replicate};
 ghost use Rattle.listing_rules.specs.LineReader.{bad, child_info_read, read_parts, or_bad, read_line, name_bytes};
 ghost use Rattle.list_line.specs.Names.{all_names, name_places};

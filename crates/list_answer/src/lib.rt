@@ -4,6 +4,8 @@
 // the name before. Among them is every candidate, an implied Foo before Foo-x too, though only Foo/Bar implies it. What a row is
 // marked with (it meets the criteria, it meets them and matches no pattern, it counts as a child, it matches) is found once a command;
 // whether something below a name is so marked is one scan of the rows that begin with that name.
+#![tactic(auto)]
+
 mod answer;
 mod attributes;
 mod decide;

@@ -3,6 +3,8 @@
 //
 // The texts of a line stand once, in `texts`, for the writers and that reader. The server's answers and the line writer write a
 // line by the same function.
+#![tactic(auto)]
+
 pub mod attributes;
 pub mod criteria;
 pub mod texts;

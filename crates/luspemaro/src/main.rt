@@ -13,6 +13,8 @@
 // `__xpg_strerror_r` of its os, for the reason of a failure. None says which bytes it moves, or what a descriptor is: what is promised here
 // is what lies in the memory before a write and after a read, which slice and which number are handed over, and what is made of the
 // answer. That `main` calls `run`, and what stands on standard error, is tried (`tools/io-trials`). A reader that goes away ends the program by SIGPIPE, unless that is ignored.
+#![tactic(auto)]
+
 mod calls;
 mod feeding;
 mod serving;

@@ -5,6 +5,8 @@
 // in the area, its flags, and how many bytes it shares with the name before. What works on rows asks the index and never counts
 // bytes of the packed form. A record is such a number too, without what is shared: records and packed rows go through one check. Of the
 // index of a table that passes, the rows that a reader sees are an index too (`readers`), so that what works on rows knows of no readers.
+#![tactic(auto)]
+
 pub mod flags;
 mod inferiors;
 mod layout;

@@ -2,6 +2,8 @@
 //
 // Each condition is a loop over the whole name that keeps a bool or a count and never leaves early, so that it runs on many
 // bytes at a time.
+#![tactic(auto)]
+
 ghost use Rattle.std.specs.Prelude.{◌≡◌, ◌≤◌, length};
 ghost use Rattle.listing_rules.specs.Bytes.{all};
 ghost use Rattle.listing_rules.specs.Names.{lawful_name, name_byte, levels, inbox_spelled};

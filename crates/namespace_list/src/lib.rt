@@ -3,6 +3,7 @@
 // A list is entries packed one behind the other: class, prefix length, prefix, delimiter. Both public functions take
 // any bytes. The line is defined for a list that does not pass too: a prefix ends with the list at the latest, and a delimiter
 // behind the list's end is NIL.
+#![tactic(auto)]
 
 ghost use Rattle.std.specs.Prelude.{◌≡◌, ◌<◌, length};
 ghost use Rattle.listing_rules.specs.Bytes.{all, within};

@@ -2,6 +2,8 @@
 //
 // A writer never fails. It stores what lies in the buffer and counts its place on behind the buffer's end, so the same function
 // that writes an answer also measures it, over an empty buffer, before a byte is touched.
+#![tactic(auto)]
+
 pub mod refusals;
 
 ghost use Rattle.std.specs.Prelude.{◌≡◌, [], ◌∷◌, ◌+◌, ◌-◌, ◌^◌, min, length, get_or, replicate};

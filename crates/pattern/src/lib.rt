@@ -1,6 +1,8 @@
 // Whether a mailbox name matches a canonical pattern, in at most (p + 1) times (n + 1) steps for a pattern of p bytes and a name of n.
 //
 // The steps are in `front` and `steps`, what calls them in `run`.
+#![tactic(auto)]
+
 mod front;
 mod run;
 mod steps;

@@ -1,6 +1,8 @@
 // Mailboxes as records, lent by the caller (document 02, W4): a record as one number, and the ways in and out.
 //
 // What works on rows works on numbers, one for a row. `copy_in` makes them of the records, `copy_back` makes records of them.
+#![tactic(auto)]
+
 ghost use Rattle.std.specs.Prelude.{◌≡◌, map, ◌-◌, min, length, take, drop, replicate};
 ghost use Rattle.std.proofs.Math.Seq.{paste};
 ghost use Rattle.records.specs.Words.{word_of, record_of, struct_of, meant};

@@ -4,6 +4,8 @@
 // memory does not grow with the log. An answer is not decoded: its digits are compared with the bytes that are answered now.
 //
 // Records are lent as numbers (`records::word_of`), and the numbers of their summary beside them: as many records as there are of both.
+#![tactic(auto)]
+
 mod frame;
 mod gathering;
 mod piece;

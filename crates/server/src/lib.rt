@@ -6,6 +6,8 @@
 // than 0 16, an edit 14 and 15, the length of the answer 9.
 // An answer is measured before a byte is written, and an edit is decided before it is done, so a refusal changes no byte and no record. An edit makes
 // check 1 itself (`subscriptions::edit`); for every other command it is made here.
+#![tactic(auto)]
+
 mod edit;
 mod packed;
 mod reading;

@@ -5,6 +5,8 @@
 //
 // A call of `feed` takes a piece through its first line feed and no further, so it has at most one line of output; the caller
 // goes on with the rest of the piece. Of a frame too long to be one nothing is kept but that it is.
+#![tactic(auto)]
+
 mod carrying;
 mod gathering;
 

@@ -3,6 +3,8 @@
 // `edit` is the one entry. `decide` touches nothing: it returns what is to be done as a plan, by value, so that every refusal is known before a
 // record or a byte changes. `carry_out` does it on the summary, on the words and on the area of name bytes, and returns which words changed or
 // moved: only those are to be copied back. A word that is put in does not say what its name shares with the name before: an index is made anew.
+#![tactic(auto)]
+
 mod apply;
 pub mod free;
 mod inferiors;

@@ -3,6 +3,8 @@
 //
 // The names ascend, so those that begin with a row's name stand together after it; the shared lengths of the index say where they end. Among
 // them "Foo-x" stands between "Foo" and "Foo/x": it is passed over, and all that stands after "Foo/x" without a slash there ends the count.
+#![tactic(auto)]
+
 ghost use Rattle.std.specs.Prelude.{◌≡◌, cond, map, ◌+◌, ◌<◌, ◌≤◌, length, take, drop};
 ghost use Rattle.std.proofs.Math.Seq.{paste};
 ghost use Rattle.listing_rules.specs.Table.{passes};

@@ -26,7 +26,7 @@ use records::no_words;
 use summary::index_summed;
 
 // What a walk answers: how many commands were sent, and the length of what lies in found; or the number of the refusal.
-#[derive(Drop)]
+#[derive(Clone, Copy)]
 pub enum Collected {
     Done(usize, usize),
     Refused(u8),

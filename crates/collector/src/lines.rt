@@ -13,7 +13,7 @@ use list_line::Attributes;
 use octets::{LF, refusals};
 
 // How far a walk is: the commands sent, and the lengths of what lies in found and in pending.
-#[derive(Drop)]
+#[derive(Clone, Copy)]
 pub(crate) struct Progress {
     pub count: usize,
     pub found: usize,
@@ -30,7 +30,7 @@ impl Progress {
 }
 
 // How far it is after a line, an answer or a command; or the number of the refusal.
-#[derive(Drop)]
+#[derive(Clone, Copy)]
 pub(crate) enum Taken {
     All(Progress),
     Refused(u8),

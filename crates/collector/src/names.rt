@@ -5,7 +5,7 @@ ghost use Rattle.collector.specs.Names.{Keeps};
 use octets::{put, put_all};
 
 // The place after the names, one more among them if it was wanted; or that it does not fit.
-#[derive(Drop)]
+#[derive(Clone, Copy)]
 pub(crate) enum Kept {
     To(usize),
     Full,

@@ -6,13 +6,13 @@ ghost use Rattle.octets.specs.Sets.{contains};
 ghost use Rattle.collector.specs.Options.{with_subscribed, with_special_use, criteria_of, asked_by};
 
 // The option byte: a set with named members.
-#[derive(Drop)]
+#[derive(Clone, Copy)]
 pub(crate) struct OptionByte {
     pub bits: u8,
 }
 
 // The criteria of a walk. RECURSIVEMATCH is never alone: one criterion at least stands beside it.
-#[derive(Drop)]
+#[derive(Clone, Copy)]
 pub(crate) enum WalkCriteria {
     Subscribed,
     Both,
@@ -20,14 +20,14 @@ pub(crate) enum WalkCriteria {
 }
 
 // What a walk selects beside RECURSIVEMATCH: one of six, as there are six lawful option bytes.
-#[derive(Drop)]
+#[derive(Clone, Copy)]
 pub(crate) struct WalkOptions {
     pub criteria: WalkCriteria,
     pub remote: bool,
 }
 
 // What an option byte asks for.
-#[derive(Drop)]
+#[derive(Clone, Copy)]
 pub(crate) enum Asked {
     Of(WalkOptions),
     Unlawful,

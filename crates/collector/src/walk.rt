@@ -20,14 +20,14 @@ use octets::{Written, refusals, wide};
 use server::read_words;
 
 // Where a name lies in pending: its first byte, and the place after its last.
-#[derive(Drop)]
+#[derive(Clone, Copy)]
 pub(crate) struct NamePlace {
     pub from: usize,
     pub end: usize,
 }
 
 // What a command is made for: the reader and the options of the walk, and how far it is before the command.
-#[derive(Drop)]
+#[derive(Clone, Copy)]
 pub(crate) struct Asking {
     pub reader: u8,
     pub options: WalkOptions,

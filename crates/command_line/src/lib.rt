@@ -24,13 +24,13 @@ use octets::refusals::LINE_SHAPE;
 use reading::{read_text, refused};
 
 // The options of a command: a set of bits, one for each named member.
-#[derive(Drop)]
+#[derive(Clone, Copy)]
 pub struct Options {
     pub bits: u8,
 }
 
 // What a command asks for, or the number of its refusal.
-#[derive(Drop)]
+#[derive(Clone, Copy)]
 pub enum Kind {
     List,
     Root,
@@ -43,7 +43,7 @@ pub enum Kind {
 
 // A command that was read: its options, its reference and up to eight pattern places, of which the first count hold a pattern. Of an
 // edit, SUBSCRIBE or UNSUBSCRIBE, the mailbox name stands in the place of the reference.
-#[derive(Drop)]
+#[derive(Clone, Copy)]
 pub struct Command {
     pub kind: Kind,
     pub tag: Span,

@@ -15,7 +15,7 @@ use octets::byte_at;
 use octets::refusals::{GRAMMAR, OPTION, PATTERNS, RECURSIVEMATCH_ALONE};
 
 // What is kept of the words after LIST.
-#[derive(Drop)]
+#[derive(Clone, Copy)]
 pub(crate) struct Arguments {
     known: bool,
     options: Options,

@@ -54,7 +54,7 @@ impl Options {
 }
 
 // The list that an option stands in.
-#[derive(Drop)]
+#[derive(Clone, Copy)]
 pub(crate) enum Place {
     Selection,
     Return,
@@ -108,14 +108,14 @@ impl Place {
 }
 
 // An option as it is written: its word, whether a value stands after it, and the cursor after both.
-#[derive(Drop)]
+#[derive(Clone, Copy)]
 pub(crate) enum Written {
     Word(Span, bool, Cursor),
     Absent,
 }
 
 // A list of options: the set of those it names, whether each is known and has no value, and the cursor after the list.
-#[derive(Drop)]
+#[derive(Clone, Copy)]
 pub(crate) enum Listed {
     Read(Options, bool, Cursor),
     Broken,

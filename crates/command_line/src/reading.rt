@@ -16,7 +16,7 @@ use octets::refusals::{GRAMMAR, WORD};
 use octets::spells_word;
 
 // The words that a command may begin with.
-#[derive(Drop)]
+#[derive(Clone, Copy)]
 pub(crate) enum Word {
     List,
     Namespace,

@@ -15,21 +15,21 @@ pub use places::read_patterns;
 pub const MAX_PATTERNS: usize = 8;
 
 // The places of the patterns that were read, and how many they are: nine where there are more than eight.
-#[derive(Drop)]
+#[derive(Clone, Copy)]
 pub struct Patterns {
     pub spans: [Span; 8],
     pub count: usize,
 }
 
 // The patterns, and what stands after them.
-#[derive(Drop)]
+#[derive(Clone, Copy)]
 pub struct PatternList {
     pub behind: Behind,
     pub patterns: Patterns,
 }
 
 // How many canonical patterns a command has, and whether each is short enough.
-#[derive(Drop)]
+#[derive(Clone, Copy)]
 pub struct Measured {
     pub count: usize,
     pub fit: bool,

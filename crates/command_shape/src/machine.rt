@@ -14,7 +14,7 @@ pub const MAX_COMMAND: usize = 2048;
 
 // How a line outside literals ends so far: with no byte that matters; with a CR; with "{"; with digits after it; with the "}" after
 // those; with the CR after that. Digits are kept by their value, at most 1,025.
-#[derive(Drop)]
+#[derive(Clone, Copy)]
 pub enum Tail {
     Text,
     Cr,
@@ -25,7 +25,7 @@ pub enum Tail {
 }
 
 // Where the next byte stands: in a line outside literals; in a literal of which so many bytes are to come; or it is dropped.
-#[derive(Drop)]
+#[derive(Clone, Copy)]
 pub enum Place {
     Line(Tail),
     Literal(usize),
@@ -33,7 +33,7 @@ pub enum Place {
 }
 
 // The place, the number of the command's bytes so far, and whether the last byte is CR, wherever it stands.
-#[derive(Drop)]
+#[derive(Clone, Copy)]
 pub struct Machine {
     pub place: Place,
     pub size: usize,
@@ -41,7 +41,7 @@ pub struct Machine {
 }
 
 // What comes of a byte: nothing yet; the continuation line; a whole command; a refusal.
-#[derive(Drop)]
+#[derive(Clone, Copy)]
 pub enum Signal {
     Quiet,
     GoOn,
@@ -49,7 +49,7 @@ pub enum Signal {
     Refused,
 }
 
-#[derive(Drop)]
+#[derive(Clone, Copy)]
 pub struct Stepped {
     pub machine: Machine,
     pub signal: Signal,

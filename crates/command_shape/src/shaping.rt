@@ -7,7 +7,7 @@ use crate::{Machine, Place, Signal, is_line_byte};
 use octets::{CR, LF};
 
 // The byte may not stand there; the line ends with it, and a whole command with the line; the line goes on.
-#[derive(Drop)]
+#[derive(Clone, Copy)]
 pub(crate) enum Shaping {
     Bad,
     Last,

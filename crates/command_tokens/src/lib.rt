@@ -13,7 +13,7 @@ pub use spans::{put_span, raw, span_len};
 
 // A part of the line, from start up to end. The span of a quoted string is what stands between its quotes, escapes and all; that of a
 // literal is its bytes after the header.
-#[derive(Drop)]
+#[derive(Clone, Copy)]
 pub struct Span {
     pub start: usize,
     pub end: usize,
@@ -21,20 +21,20 @@ pub struct Span {
 }
 
 // A place in the line.
-#[derive(Drop)]
+#[derive(Clone, Copy)]
 pub struct Cursor {
     pub at: usize,
 }
 
 // A token and the cursor after it.
-#[derive(Drop)]
+#[derive(Clone, Copy)]
 pub enum Token {
     Found(Span, Cursor),
     Missing,
 }
 
 // The cursor after something that is not kept: a space, a parenthesis, an option's value.
-#[derive(Drop)]
+#[derive(Clone, Copy)]
 pub enum Behind {
     At(Cursor),
     Nothing,

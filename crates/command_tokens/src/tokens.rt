@@ -13,7 +13,7 @@ use command_shape::{is_digit, is_line_byte};
 use octets::{BACKSLASH, QUOTE, byte_at};
 
 // The classes of bytes of which a bare token is a run.
-#[derive(Drop)]
+#[derive(Clone, Copy)]
 pub(crate) enum Class {
     Tag,
     Atom,
@@ -54,7 +54,7 @@ impl Class {
 }
 
 // What a byte of a quoted string does: the string goes on, and whether the byte escapes the next one; it ends; it is off the grammar.
-#[derive(Drop)]
+#[derive(Clone, Copy)]
 pub(crate) enum Quote {
     More(bool),
     End,

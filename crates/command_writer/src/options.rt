@@ -5,7 +5,7 @@ ghost use Rattle.listing_rules.specs.Joining.{lawful_set, options_from, returns_
 ghost use Rattle.octets.specs.Sets.{contains};
 
 // Member k is 2 to the k: the four of the selection, then the three of the return options.
-#[derive(Drop)]
+#[derive(Clone, Copy)]
 pub(crate) struct Options {
     pub bits: u8,
 }

@@ -18,7 +18,7 @@ const MAX_PATTERNS: usize = 8;
 const MAX_CANONICAL: usize = 255;
 
 // A pattern as it lies in a list: from start up to end, and the next one begins at next.
-#[derive(Drop)]
+#[derive(Clone, Copy)]
 struct Pattern {
     start: usize,
     end: usize,

@@ -10,7 +10,7 @@ use crate::options::Options;
 use octets::{put, put_all};
 
 // A list of words that is being written: the place after it, and whether it has no word yet.
-#[derive(Drop)]
+#[derive(Clone, Copy)]
 struct Words {
     to: usize,
     first: bool,

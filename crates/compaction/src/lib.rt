@@ -22,7 +22,7 @@ use starts::restart;
 use summary::check_summed;
 
 // The result: 0 or the number of its refusal, and the words that changed, `from` up to `to`.
-#[derive(Drop)]
+#[derive(Clone, Copy)]
 pub struct Compacted {
     pub number: u8,
     pub from: usize,

@@ -14,7 +14,7 @@ use feeder::{Event, Fed};
 // specs/); whether the last byte is CR, 0 for no and any other number for yes; the number of the command's bytes so far, at the front of
 // the lent memory. All zero before the first byte of a command.
 #[repr(C)]
-#[derive(Drop)]
+#[derive(Clone, Copy)]
 pub struct FeederState {
     pub place: u8,
     pub cr: u8,
@@ -25,7 +25,7 @@ pub struct FeederState {
 // What comes of a chunk: the event's number (`event_numbers` of specs/); of a refusal its number, else 0; of a whole command its length,
 // else 0; how many bytes of the chunk were taken; and the state then.
 #[repr(C)]
-#[derive(Drop)]
+#[derive(Clone, Copy)]
 pub struct FedChunk {
     pub event: u8,
     pub number: u8,
@@ -35,14 +35,14 @@ pub struct FedChunk {
 }
 
 // A place in numbers.
-#[derive(Drop)]
+#[derive(Clone, Copy)]
 pub(crate) struct PlaceNumbers {
     place: u8,
     value: usize,
 }
 
 // An event in numbers.
-#[derive(Drop)]
+#[derive(Clone, Copy)]
 pub(crate) struct EventNumbers {
     event: u8,
     number: u8,

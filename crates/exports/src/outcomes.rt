@@ -13,7 +13,7 @@ use server::Stored;
 // sent; or the number of the refusal, length 0 and count 0. Of a command the count is the number of rows, on a refusal too, and `changed` is 1 where it
 // changed a row, else 0; of all others it is 0.
 #[repr(C)]
-#[derive(Drop)]
+#[derive(Clone, Copy)]
 pub struct Outcome {
     pub number: u8,
     pub changed: u8,
@@ -24,7 +24,7 @@ pub struct Outcome {
 // What a line says: 0, its attributes (member k is 2 to the k), the criteria that CHILDINFO names (1 SUBSCRIBED, 2 SPECIAL-USE; 0
 // without CHILDINFO), and its name, zero behind it; or the number of the refusal, with no attributes and an empty name.
 #[repr(C)]
-#[derive(Drop)]
+#[derive(Clone, Copy)]
 pub struct LineParts {
     pub number: u8,
     pub criteria: u8,
@@ -34,7 +34,7 @@ pub struct LineParts {
 }
 
 // What a command over words comes to: its outcome, and the words that changed or moved, `from` up to `to`.
-#[derive(Drop)]
+#[derive(Clone, Copy)]
 pub(crate) struct Done {
     pub outcome: Outcome,
     pub from: usize,

@@ -17,7 +17,7 @@ use replay::{Piece, Replayed, Replaying, replay_piece};
 // What a replay reports: 0, or 13 where it was stopped; the number of the frame that stopped it, of the first frame of 43 whose answer differs, or 0 where all
 // agree; and how many records are rows at the end.
 #[repr(C)]
-#[derive(Drop)]
+#[derive(Clone, Copy)]
 pub struct Report {
     pub number: u8,
     pub frame: usize,
@@ -28,7 +28,7 @@ pub struct Report {
 // answer is due, or 0; the characters of the frame so far that `line` holds; and whether the last frame stopped it, 0 for no and any other number for
 // yes. All zero before the first byte.
 #[repr(C)]
-#[derive(Drop)]
+#[derive(Clone, Copy)]
 pub struct ReplayState {
     pub frames: usize,
     pub first: usize,
@@ -39,7 +39,7 @@ pub struct ReplayState {
 
 // What comes of a piece: 1 where it was taken, else 0; what is reported if the log ends with it; and the state for the next one.
 #[repr(C)]
-#[derive(Drop)]
+#[derive(Clone, Copy)]
 pub struct FedPiece {
     pub taken: u8,
     pub number: u8,
@@ -49,14 +49,14 @@ pub struct FedPiece {
 }
 
 // A report, or what comes of a piece, over words, and the words that may have changed, `from` up to `to`.
-#[derive(Drop)]
+#[derive(Clone, Copy)]
 pub(crate) struct ReportDone {
     pub report: Report,
     pub from: usize,
     pub to: usize,
 }
 
-#[derive(Drop)]
+#[derive(Clone, Copy)]
 pub(crate) struct PieceDone {
     pub fed: FedPiece,
     pub from: usize,

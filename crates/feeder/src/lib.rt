@@ -14,7 +14,7 @@ use octets::refusals::LINE_SHAPE;
 
 // What comes of bytes: nothing yet; a whole command, so many bytes at the front of the lent memory; that the continuation line is
 // due; a refusal's number. Or that the lent memory is too small.
-#[derive(Drop)]
+#[derive(Clone, Copy)]
 pub enum Event {
     Quiet,
     Command(usize),
@@ -24,7 +24,7 @@ pub enum Event {
 }
 
 // The state then, how many bytes of the chunk were taken, and what came of them.
-#[derive(Drop)]
+#[derive(Clone, Copy)]
 pub struct Fed {
     pub state: Machine,
     pub used: usize,

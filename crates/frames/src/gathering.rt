@@ -6,7 +6,7 @@ ghost use Rattle.frames.specs.Gathering.{Gathers, IsEmpty, GatheredRead};
 use crate::reading::{Frame, MAX_DIGITS, read_frame};
 
 // How many characters lie at the front of the line, and whether there were more than a frame may have.
-#[derive(Drop)]
+#[derive(Clone, Copy)]
 pub struct Gathered {
     pub len: usize,
     pub over: bool,

@@ -6,7 +6,7 @@ ghost use Rattle.octets.specs.Put.{Put};
 ghost use Rattle.frames.specs.Hexadecimal.{digit_is, is_some, value_of, pair_of, decoded};
 
 // A character as a hexadecimal digit: its value, 0 to 15.
-#[derive(Drop)]
+#[derive(Clone, Copy)]
 pub(crate) enum Digit {
     Value(u8),
     Other,

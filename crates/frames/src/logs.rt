@@ -18,7 +18,7 @@ const MAX_ANSWER_DIGITS: usize = 32770;
 pub const MAX_COMMAND: usize = 2050;
 
 // What a frame of a log records as answered: 41, whose bytes stay in the digits after its first two; 52 and its number; or nothing.
-#[derive(Drop)]
+#[derive(Clone, Copy)]
 pub enum Recorded {
     Answer,
     Number(u8),

@@ -11,7 +11,7 @@ pub const MAX_DIGITS: usize = 4102;
 
 // What a frame says. The bytes behind its first byte lie at the front of the lent bytes: of a row or an entry, how many. Of a command its
 // reader, which is the first of them, and how many are its line behind that; of a walk its reader and option byte.
-#[derive(Drop)]
+#[derive(Clone, Copy)]
 pub enum Frame {
     Table(usize),
     Namespaces(usize),

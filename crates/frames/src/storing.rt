@@ -3,7 +3,7 @@
 ghost use Rattle.frames.specs.Storing.{Stores};
 
 // How many bytes are stored now, or that there was no room and nothing was added.
-#[derive(Drop)]
+#[derive(Clone, Copy)]
 pub enum Stored {
     Now(usize),
     NoRoom,

@@ -42,7 +42,7 @@ pub fn obey(
         (lent table.old records.old namespaces.now out.old)
         (lent table.new records.new namespaces.now out.new) result }
 {
-    let within = is_within_lem(stored, table.len(), records.len(), namespaces.len());
+    let within = is_within(stored, table.len(), records.len(), namespaces.len());
     if !within {
         return said(stored, 0);
     }

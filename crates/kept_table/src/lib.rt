@@ -18,7 +18,7 @@ pub use store::MAX_NUMBERS;
 pub use walks::walk_line;
 
 // How many bytes are stored of the table and of the namespace list. Once an edit was accepted, `table` is how many records are rows.
-#[derive(Drop)]
+#[derive(Clone, Copy)]
 pub struct Lengths {
     pub table: usize,
     pub namespaces: usize,

@@ -10,7 +10,7 @@ pub const MAX_TABLE: usize = 16384;
 // "added behind the stored bytes (.. and 1,024; no room: .. 2, nothing added)"
 pub const MAX_NAMESPACES: usize = 1024;
 
-#[derive(Drop)]
+#[derive(Clone, Copy)]
 pub struct Outcome {
     pub stored: Lengths,
     pub written: usize,

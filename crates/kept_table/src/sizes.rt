@@ -14,7 +14,7 @@ pub(crate) fn is_held(stored: Lengths, table: usize, records: usize) -> bool
 }
 
 // Of the table and of the namespace list.
-pub(crate) fn is_within_lem(
+pub(crate) fn is_within(
     stored: Lengths,
     table: usize,
     records: usize,

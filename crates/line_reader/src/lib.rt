@@ -16,35 +16,35 @@ use octets::refusals::NOT_SUCH_LINE;
 use octets::{BACKSLASH, QUOTE, byte_at, same_bytes};
 
 // What a line says: its attributes, the length of its name and the criteria that its CHILDINFO names; or the number of the refusal.
-#[derive(Drop)]
+#[derive(Clone, Copy)]
 pub enum Line {
     Parts(Attributes, usize, Criteria),
     Refused(u8),
 }
 
 // The line, and beside it the bytes of the name, zero behind them.
-#[derive(Drop)]
+#[derive(Clone, Copy)]
 pub struct Read {
     pub line: Line,
     pub name: [u8; 200],
 }
 
 // The place behind what was looked for, if it stands there.
-#[derive(Drop)]
+#[derive(Clone, Copy)]
 enum Place {
     At(usize),
     Missing,
 }
 
 // The attributes read, and the place behind them.
-#[derive(Drop)]
+#[derive(Clone, Copy)]
 struct Chosen {
     bits: u16,
     at: usize,
 }
 
 // What stands next in a quoted name: a byte and the place behind it; or the place behind the last quote.
-#[derive(Drop)]
+#[derive(Clone, Copy)]
 enum Piece {
     Byte(u8, usize),
     End(usize),
@@ -52,14 +52,14 @@ enum Piece {
 }
 
 // The length of the name, and the place behind its last quote.
-#[derive(Drop)]
+#[derive(Clone, Copy)]
 enum Name {
     Of(usize, usize),
     Missing,
 }
 
 // What stands behind the name: the criteria that CHILDINFO names, none where it is not there.
-#[derive(Drop)]
+#[derive(Clone, Copy)]
 enum Tail {
     ChildInfo(Criteria),
     Missing,

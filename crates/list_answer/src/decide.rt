@@ -17,21 +17,21 @@ use octets::least;
 use pattern::matches_any;
 
 // A name to look at: the first `len` bytes of a row's name.
-#[derive(Drop)]
+#[derive(Clone, Copy)]
 pub(crate) struct Beginning {
     pub(crate) row: usize,
     pub(crate) len: usize,
 }
 
 // A line with these attributes and the criteria that its CHILDINFO names; or nothing.
-#[derive(Drop)]
+#[derive(Clone, Copy)]
 pub(crate) enum Shown {
     Line(Attributes, Criteria),
     Nothing,
 }
 
 // What the rows say of a name before it is matched: its flags, whether it can be a level, and whether it is listed if it matches.
-#[derive(Drop)]
+#[derive(Clone, Copy)]
 struct Standing {
     flags: Flags,
     level: bool,

@@ -17,7 +17,7 @@ use mailbox_table::scan::{marks_of, with_marks};
 use pattern::matches_any;
 
 // A set with named members, bit by bit as `row_marks` of specs/ numbers them.
-#[derive(Drop)]
+#[derive(Clone, Copy)]
 pub(crate) struct Marks {
     pub(crate) bits: u16,
 }

@@ -13,7 +13,7 @@ use octets::{byte_at, wide};
 use pattern::some_level;
 
 // The options; whether the command lists levels, names that do not exist above those that meet the criteria; and the word of its lines.
-#[derive(Drop)]
+#[derive(Clone, Copy)]
 pub(crate) struct Question {
     pub(crate) options: Options,
     pub(crate) levels: bool,

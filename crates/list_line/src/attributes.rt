@@ -4,7 +4,7 @@ ghost use Rattle.octets.specs.Sets.{contains, union};
 ghost use Rattle.list_line.specs.Members.{set_of};
 
 // Member k is 2 to the k, in the order of document 01.
-#[derive(Drop)]
+#[derive(Clone, Copy)]
 pub struct Attributes {
     pub bits: u16,
 }

@@ -5,7 +5,7 @@ ghost use Rattle.octets.specs.Sets.{contains, union};
 ghost use Rattle.list_line.specs.CriteriaSets.{these};
 
 // Member k is 2 to the k. A set with another bit is not lawful, and no line has it: the line writer refuses it.
-#[derive(Drop)]
+#[derive(Clone, Copy)]
 pub struct Criteria {
     pub bits: u8,
 }

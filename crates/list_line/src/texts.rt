@@ -41,7 +41,7 @@ pub const PLACES: [u8; 17] = [
 ];
 
 // A part of NAMES.
-#[derive(Drop)]
+#[derive(Clone, Copy)]
 pub struct Span {
     pub start: usize,
     pub end: usize,

@@ -1,5 +1,5 @@
 // The word of a line: LIST, or LSUB on the lines of an LSUB answer.
-#[derive(Drop)]
+#[derive(Clone, Copy)]
 pub enum LineWord {
     List,
     Lsub,

@@ -10,7 +10,7 @@ use libc::types::timespec;
 use libc::{EAGAIN, EINTR, STDIN_FILENO, STDOUT_FILENO};
 
 // What came of a read: so many bytes, the end of the input, or a failure.
-#[derive(Drop)]
+#[derive(Clone, Copy)]
 pub(crate) enum Got {
     Bytes(usize),
     End,
@@ -18,7 +18,7 @@ pub(crate) enum Got {
 }
 
 // How many bytes the system took of those to be written, and whether they were all.
-#[derive(Drop)]
+#[derive(Clone, Copy)]
 pub(crate) struct Sent {
     pub bytes: usize,
     pub whole: bool,

@@ -10,7 +10,7 @@ use session::{Fed, MAX_LINE, State, feed};
 
 // The state after the bytes that were taken, how many they were, how many frames ended in them, and how many bytes of output lie at
 // the front of `out`.
-#[derive(Drop)]
+#[derive(Clone, Copy)]
 pub(crate) struct Turn {
     pub state: State,
     pub used: usize,

@@ -11,7 +11,7 @@ use session::{State, finish};
 
 // Where the program stands: the session's state, how many frames have ended, whether there is more to read, and whether a call
 // failed.
-#[derive(Drop)]
+#[derive(Clone, Copy)]
 pub(crate) struct Place {
     pub state: State,
     pub frames: usize,
@@ -29,7 +29,7 @@ impl Place {
 }
 
 // What came of some bytes of a read: the state after them, how many were fed, how many frames ended in them, and what was sent.
-#[derive(Drop)]
+#[derive(Clone, Copy)]
 struct Round {
     state: State,
     used: usize,

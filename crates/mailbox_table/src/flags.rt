@@ -3,7 +3,7 @@ ghost use Rattle.std.specs.Prelude.{◌≡◌};
 ghost use Rattle.listing_rules.specs.Flags.{lawful_flags, has_use};
 ghost use Rattle.octets.specs.Sets.{contains, union, touches};
 
-#[derive(Drop)]
+#[derive(Clone, Copy)]
 pub struct Flags {
     pub bits: u16,
 }

@@ -31,7 +31,7 @@ pub use records::{MAX_ROWS, no_words};
 
 // What an index of a table answers: the number of its rows, or that the table does not pass (or has more rows than there is
 // room for).
-#[derive(Drop)]
+#[derive(Clone, Copy)]
 pub enum Indexing {
     Rows(usize),
     Fails,

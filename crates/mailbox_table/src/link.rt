@@ -14,7 +14,7 @@ use names::lawful_name;
 use octets::least;
 
 // Check 1 of rows, whatever form they come from; where they pass, the words become their index.
-pub(crate) fn rows_pass_lem(area: &[u8], words: &mut [u64]) -> bool
+pub(crate) fn rows_pass(area: &[u8], words: &mut [u64]) -> bool
     requires { length words.old ≤ 512 }
     ensures { Links area.now words.old words.new (words_pass area.now words.old) result }
 {

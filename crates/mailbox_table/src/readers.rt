@@ -16,7 +16,7 @@ const MOST_SHARED: usize = 255;
 pub const MAX_READER: u8 = 7;
 
 // The readers that see a row: a set with eight members, bit by bit as document 02 numbers them.
-#[derive(Drop)]
+#[derive(Clone, Copy)]
 pub struct Readers {
     pub bits: u8,
 }

@@ -5,7 +5,7 @@ ghost use Rattle.mailbox_table.specs.Words.{word_of, row_of_word, Packs};
 use super::flags::Flags;
 
 // The flags, where the name lies in the area of name bytes, and how many bytes it shares with the name of the row before.
-#[derive(Drop)]
+#[derive(Clone, Copy)]
 pub struct Row {
     pub flags: Flags,
     pub start: usize,
@@ -14,7 +14,7 @@ pub struct Row {
 }
 
 // A row that stands where it should, or none.
-#[derive(Drop)]
+#[derive(Clone, Copy)]
 pub(crate) enum Step {
     Next(Row),
     Bad,

@@ -30,7 +30,7 @@ const FIRST_DELIMITER: u8 = 33;
 const LAST_PRINTED: u8 = 126;
 
 // An entry as it lies in a list: its prefix goes from start up to end, the next entry begins at next.
-#[derive(Drop)]
+#[derive(Clone, Copy)]
 struct Entry {
     class: u8,
     start: usize,

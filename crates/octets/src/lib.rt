@@ -14,7 +14,7 @@ ghost use Rattle.octets.specs.Escape.{escape_of};
 
 // What a call that writes into a lent buffer answers: the length of what it wrote at the front, or the number of its refusal,
 // which changed no byte.
-#[derive(Drop)]
+#[derive(Clone, Copy)]
 pub enum Written {
     Done(usize),
     Refused(u8),

@@ -12,7 +12,7 @@ use crate::steps::{Counted, Kind, one_more};
 use octets::SLASH;
 
 // Where the last step led: to the same place of both; after a "%" or a "*" that stands at this place; to the end.
-#[derive(Drop)]
+#[derive(Clone, Copy)]
 pub(crate) enum Next {
     Front,
     Level,
@@ -22,7 +22,7 @@ pub(crate) enum Next {
 }
 
 // The place of both, and the steps so far.
-#[derive(Drop)]
+#[derive(Clone, Copy)]
 pub(crate) struct Front {
     pub i: usize,
     pub steps: usize,

@@ -15,7 +15,7 @@ use crate::letter;
 use octets::SLASH;
 
 // What the bytes that are compared began after: nothing that moves; a "%"; a "*".
-#[derive(Drop)]
+#[derive(Clone, Copy)]
 pub(crate) enum Kind {
     Plain,
     Level,
@@ -23,14 +23,14 @@ pub(crate) enum Kind {
 }
 
 // The run of bytes that is compared: after a wildcard, it began at this place of the pattern.
-#[derive(Drop)]
+#[derive(Clone, Copy)]
 pub(crate) struct Run {
     pub kind: Kind,
     pub back: usize,
 }
 
 // Whether there is a "*" to go back to, and whether it is known where it begins again: after the next "/", or at a place of the name.
-#[derive(Drop)]
+#[derive(Clone, Copy)]
 pub(crate) enum Known {
     Gone,
     Pending,
@@ -38,14 +38,14 @@ pub(crate) enum Known {
 }
 
 // The "*" that a "%" is given up for: it stands before this place of the pattern, and begins again at that place of the name.
-#[derive(Drop)]
+#[derive(Clone, Copy)]
 pub(crate) struct Star {
     pub known: Known,
     pub place: usize,
     pub from: usize,
 }
 
-#[derive(Drop)]
+#[derive(Clone, Copy)]
 pub(crate) enum Going {
     On,
     Matched,
@@ -53,7 +53,7 @@ pub(crate) enum Going {
 }
 
 // The places of the pattern and of the name that are looked at next, and the steps so far.
-#[derive(Drop)]
+#[derive(Clone, Copy)]
 pub(crate) struct At {
     pub i: usize,
     pub j: usize,
@@ -64,7 +64,7 @@ pub(crate) struct At {
 }
 
 // Whether the name matches, and the steps that it took.
-#[derive(Drop)]
+#[derive(Clone, Copy)]
 pub struct Counted {
     pub matched: bool,
     pub steps: usize,

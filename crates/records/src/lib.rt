@@ -11,7 +11,7 @@ use octets::least;
 
 // "records, each with flags, name start and name length", and "a set of eight readers" (W9), bit r for reader r
 #[repr(C)]
-#[derive(Drop)]
+#[derive(Clone, Copy)]
 pub struct Record {
     pub flags: u16,
     pub start: u16,

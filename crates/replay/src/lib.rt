@@ -27,7 +27,7 @@ pub use whole::{Replayed, replay_words};
 // A replay between two pieces of its log: how many frames have ended; the number of the first frame of 43 whose answer differs, or 0; how many
 // bytes of `pending` are the command whose answer is due, its reader first, or 0; whether the last frame stopped it; how many characters of the
 // frame so far `line` holds; and how many records are rows.
-#[derive(Drop)]
+#[derive(Clone, Copy)]
 pub struct Replaying {
     pub frames: usize,
     pub first: usize,
@@ -55,7 +55,7 @@ impl Replaying {
 
 // What feeding answers: the state after the piece; or that it is refused, and no byte changed, where the lent memory is too short, the state is
 // invalid, or there may be more frames than a number can count.
-#[derive(Drop)]
+#[derive(Clone, Copy)]
 pub enum Fed {
     Taken(Replaying),
     Refused,

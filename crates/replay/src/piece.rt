@@ -7,7 +7,7 @@ ghost use Rattle.replay.specs.Resuming.{Resumes};
 use crate::{Fed, Replaying, Verdict, feed, finish};
 
 // What comes of a piece: whether it was taken; the report if the log ends with it; and the state then, of which `rows` is the number of rows.
-#[derive(Drop)]
+#[derive(Clone, Copy)]
 pub struct Piece {
     pub taken: bool,
     pub verdict: Verdict,

@@ -8,7 +8,7 @@ use octets::Written;
 use server::answer_words;
 
 // How many records are rows after a command, and whether it was answered as recorded.
-#[derive(Drop)]
+#[derive(Clone, Copy)]
 pub(crate) struct Ran {
     pub rows: usize,
     pub same: bool,

@@ -12,7 +12,7 @@ use octets::refusals::BAD_FRAME;
 const NO_FRAME: usize = 0;
 
 // That all agree, the number of the first frame of 43 whose recorded answer differs, or that 13 stopped it and the number of the frame.
-#[derive(Drop)]
+#[derive(Clone, Copy)]
 pub enum Verdict {
     Agrees,
     Differs(usize),

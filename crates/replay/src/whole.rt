@@ -7,7 +7,7 @@ ghost use Rattle.replay.specs.Whole.{Replays};
 use crate::{Fed, Replaying, Verdict, feed, finish};
 
 // The report, and how many records are rows at the end.
-#[derive(Drop)]
+#[derive(Clone, Copy)]
 pub struct Replayed {
     pub verdict: Verdict,
     pub count: usize,

@@ -28,7 +28,7 @@ use summary::index_summed;
 
 // What a command comes to: the length of its answer or the number of its refusal, how many words are rows now, and the
 // words that changed or moved, `from` up to `to`.
-#[derive(Drop)]
+#[derive(Clone, Copy)]
 pub struct Stored {
     pub written: Written,
     pub count: usize,

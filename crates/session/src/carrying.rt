@@ -11,7 +11,7 @@ use kept_table::{
 use octets::refusals::{BAD_FRAME, NAMESPACES, TABLE};
 
 // How many bytes of one area are stored after some were to be added, and how many bytes of output lie at the front of `out`.
-#[derive(Drop)]
+#[derive(Clone, Copy)]
 struct Added {
     len: usize,
     written: usize,
@@ -47,7 +47,7 @@ fn keep(
 }
 
 // A row: added after the stored bytes, or 13 where records are kept.
-fn add_row_lem(stored: Lengths, row: &[u8], table: &mut [u8], out: &mut [u8]) -> Outcome
+fn add_row(stored: Lengths, row: &[u8], table: &mut [u8], out: &mut [u8]) -> Outcome
     requires table_bound { stored.table ≤ 16384 }
     requires in_bounds { 16384 ≤ length table.old }
     ensures { AddsRow stored row.now table.old table.new out.old out.new result }
@@ -77,7 +77,7 @@ fn carry_out(
 {
     let entries = stored.namespaces;
     match frame {
-        Frame::Table(n) => add_row_lem(stored, &bytes[..n], table, out),
+        Frame::Table(n) => add_row(stored, &bytes[..n], table, out),
         Frame::Namespaces(n) => {
             let part = &bytes[..n];
             let added = keep(namespaces, entries, MAX_NAMESPACES, NAMESPACES, part, out);

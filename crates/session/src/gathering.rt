@@ -6,7 +6,7 @@ use frames::{Gathered, gather};
 use octets::LF;
 
 // What is gathered after the characters of a piece before its first line feed, and how many they were.
-#[derive(Drop)]
+#[derive(Clone, Copy)]
 pub(crate) struct Run {
     pub gathered: Gathered,
     pub used: usize,

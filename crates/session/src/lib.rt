@@ -24,7 +24,7 @@ use octets::refusals::BAD_FRAME;
 pub const MAX_LINE: usize = 32771;
 
 // What is stored between two pieces of input, and what is gathered of the frame so far.
-#[derive(Drop)]
+#[derive(Clone, Copy)]
 pub struct State {
     pub stored: Lengths,
     pub gathered: Gathered,
@@ -47,7 +47,7 @@ impl State {
 }
 
 // The state after the bytes that were taken, how many they were, and how many bytes of output lie at the front of `out`.
-#[derive(Drop)]
+#[derive(Clone, Copy)]
 pub struct Taken {
     pub state: State,
     pub used: usize,
@@ -55,7 +55,7 @@ pub struct Taken {
 }
 
 // What feeding answers. It is refused, and no byte changed, where the lent memory is too short or the state is none.
-#[derive(Drop)]
+#[derive(Clone, Copy)]
 pub enum Fed {
     Taken(Taken),
     Refused,

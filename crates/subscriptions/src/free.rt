@@ -9,7 +9,7 @@ use octets::least;
 use records::MAX_BYTES;
 
 // Where a free run begins, or that there is none.
-#[derive(Drop)]
+#[derive(Clone, Copy)]
 pub(crate) enum Run {
     At(usize),
     Missing,

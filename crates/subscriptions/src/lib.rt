@@ -35,7 +35,7 @@ use sums::carry_sums;
 
 // What an edit is to do: nothing; row k gets these flags; a row 0002 is put in at place k, its name at an offset; row k goes; or the number of its
 // refusal.
-#[derive(Drop)]
+#[derive(Clone, Copy)]
 pub enum Plan {
     Keep,
     Flag(usize, u16),
@@ -45,7 +45,7 @@ pub enum Plan {
 }
 
 // The words that changed or moved, `from` up to `to`, and how many words are rows now.
-#[derive(Drop)]
+#[derive(Clone, Copy)]
 pub struct Change {
     pub from: usize,
     pub to: usize,
@@ -53,7 +53,7 @@ pub struct Change {
 }
 
 // The result of an edit: the change that was made, or the number of its refusal.
-#[derive(Drop)]
+#[derive(Clone, Copy)]
 pub enum Edited {
     Done(Change),
     Refused(u8),

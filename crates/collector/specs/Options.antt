@@ -9,12 +9,12 @@ use Rattle.collector.specs.declared.options.WalkOptions.{WalkOptions}
 
 -- what the criteria select
 abbrev pub with_subscribed : WalkCriteria → Bool
-with_subscribed subscribed = true
+with_subscribed Subscribed = true
 with_subscribed Both = true
 with_subscribed SpecialUse = false
 
 abbrev pub with_special_use : WalkCriteria → Bool
-with_special_use subscribed = false
+with_special_use Subscribed = false
 with_special_use Both = true
 with_special_use SpecialUse = true
 

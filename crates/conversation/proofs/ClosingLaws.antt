@@ -130,6 +130,19 @@ module _ (l : List ℕ) where
       go true = over (summed_compaction m).left
       go false = over m
 
+  -- a word that the server does not know
+  unknown_closes : (w : Setting) (s : Summed) → Closes (tag_of l) (own_word none) (worded w.accepts_login s l none).bytes
+  unfolding worded says
+  unknown_closes w s = refusal_line_lem (tag_of l) (own_word none) 5
+
+  -- a word of the server's own
+  own_word_closes : (w : Setting) (s : Summed) (x : Started) → started l ≡ some x
+      → Closes (tag_of l) (own_word (some x)) (worded w.accepts_login s l (some x)).bytes
+  unfolding worded
+  own_word_closes w s x e =
+      subst (λ (t : List ℕ). Closes t (own_word (some x)) (own_answer w.accepts_login x).lines) (started_tag l x e)
+      (own_closes w.accepts_login x)
+
   -- a reply to a command, of what it was decided to be
   replied_closes : (w : Setting) (c : SummedCommand) → AnswerCloses l c.reply → Closes (tag_of l) (untagged_word l) (replied w l c).bytes
   replied_closes w c h = go c.reply h
@@ -138,10 +151,8 @@ module _ (l : List ℕ) where
       says_this r = replied w l (record { reply = r; left = c.left })
 
       word : (o : Option Started) → started l ≡ o → Closes (tag_of l) (own_word o) (worded w.accepts_login c.left l o).bytes
-      word none e = unfold worded says in refusal_line_lem (tag_of l) (own_word none) 5
-      word (some x) e = unfold worded in
-          subst (λ (t : List ℕ). Closes t (own_word (some x)) (own_answer w.accepts_login x).lines) (started_tag l x e)
-          (own_closes w.accepts_login x)
+      word none e = unknown_closes w c.left
+      word (some x) e = own_word_closes w c.left x e
 
       own_word_lem : (k : ℕ) → word_for (started l) (refused k) ≡ own_word (started l)
       own_word_lem k = unfold word_for in refl

@@ -1,0 +1,73 @@
+-- `ask_pending` meets its contract. The loop's invariant is `Walking`: what is left of the walk gives what the whole gives (`WalkLaws`).
+use Rattle.listing_rules.proofs.Prelude.{◌≡◌, ap, ◌+◌, ℕ, arith, get_or}
+use Rattle.listing_rules.specs.Walk.{collected}
+use Rattle.collector.proofs.WalkLaws.{name_inside, name_lies, count_fits, walking_ends, walking_refused, walking_step}
+use Rattle.listing_rules.proofs.Prelude.{◌≡◌, ◌-◌}
+use Rattle.collector.proofs.walk.ask_pending.Goals as goal
+
+pub loop-at-init : goal.loop-at-init
+loop-at-init c =
+    c.requires.1
+
+pub overflow_add-from : goal.overflow_add-from
+overflow_add-from c =
+    omega
+    (arith, c.loop-at.invariant.holds.asks.room, c.loop-at.invariant.pending_long, c.requires)
+
+pub bounds-pending-at : goal.bounds-pending-at
+bounds-pending-at c =
+    omega (arith, c.loop-at-test.true, c.loop-at.invariant.holds.asks.room)
+
+pub overflow_add-end : goal.overflow_add-end
+overflow_add-end c =
+    let end_is : let at = c.loop-at.at in at + 1 + c.wide.result ≡ at + 1 + get_or
+    c.loop-at.pending at 0 = ap (λ (n : ℕ). c.loop-at.at + 1 + n) c.wide.ensures in
+    omega (
+      arith,
+      name_inside c.loop-at.invariant c.loop-at-test.true end_is,
+      c.loop-at.invariant.holds.asks.room,
+      c.loop-at.invariant.pending_long,
+      c.requires,
+    )
+
+pub ask_below-requires : goal.ask_below-requires
+ask_below-requires c =
+    let end_is : let at = c.loop-at.at in at + 1 + c.wide.result ≡ at + 1 + get_or
+    c.loop-at.pending at 0 = ap (λ (n : ℕ). c.loop-at.at + 1 + n) c.wide.ensures in
+    let inv = c.loop-at.invariant in
+    let more = c.loop-at-test.true in (
+      c.requires.0,
+      (
+        name_lies inv more end_is (omega (arith, c.slice_known-in-loop-at-1.given c.loop-at.at)),
+        (record { finds = inv.holds.finds.room; asks = inv.holds.asks.room }, count_fits inv more end_is),
+      ),
+    )
+
+pub loop-at-smaller : goal.loop-at-smaller
+loop-at-smaller c =
+    omega (arith, c.loop-at-test.true, c.loop-at.invariant.holds.asks.room, c.ask_below.kept.1.1.1.1.1.1.0)
+
+pub loop-at-preserved : goal.loop-at-preserved
+loop-at-preserved c =
+    let end_is : let at = c.loop-at.at in at + 1 + c.wide.result ≡ at + 1 + get_or
+    c.loop-at.pending at 0 = ap (λ (n : ℕ). c.loop-at.at + 1 + n) c.wide.ensures in
+    let kept = c.ask_below.kept.1.1.1.1 in
+    walking_step c.loop-at.invariant c.loop-at-test.true end_is
+    c.ask_below.last.1.1.1.1.0
+    (rw c.further-1.given.1 at c.ask_below.ensures)
+    kept.0
+    kept.1.0
+    kept.1.1.0
+
+pub returns-in-Refused : goal.returns-in-Refused
+unfolding collected
+returns-in-Refused c =
+    let end_is : let at = c.loop-at.at in at + 1 + c.wide.result ≡ at + 1 + get_or
+    c.loop-at.pending at 0 = ap (λ (n : ℕ). c.loop-at.at + 1 + n) c.wide.ensures in
+    walking_refused c.loop-at.invariant c.loop-at-test.true end_is
+    (rw c.number-1.given.1 at c.ask_below.ensures)
+
+pub returns : goal.returns
+unfolding collected
+returns c =
+    walking_ends c.loop-at.invariant c.loop-at-test.false

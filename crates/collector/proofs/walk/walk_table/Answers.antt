@@ -1,0 +1,46 @@
+-- `walk_table` meets its contract: the first command begins the walk, and `ask_pending` ends it (`WalkLaws`).
+use Rattle.listing_rules.proofs.Prelude.{subst, arith, length}
+use Rattle.listing_rules.specs.Walk.{WalkReply}
+use Rattle.collector.specs.Options.{byte_of}
+use Rattle.collector.specs.Walking.{Walking}
+use Rattle.collector.specs.Ends.{Ends}
+use Rattle.collector.specs.Held.{held_seen}
+use Rattle.collector.proofs.WalkLaws.{collected_long, walk_refused_lem, walking_begins}
+use Rattle.collector.proofs.walk.walk_table.Goals as goal
+
+pub ask-requires : goal.ask-requires
+ask-requires c =
+    (c.requires.0.0, (omega arith, (record { finds = omega arith; asks = omega arith }, omega arith)))
+
+pub ask_pending-requires : goal.ask_pending-requires
+ask_pending-requires c =
+    let begins : let scratch = c.ask.last.1.1.1.1.0 in
+    let found = c.ask.last.1.1.1.1.1.0 in
+    let pending = c.ask.last.1.1.1.1.1.1.0 in
+    Walking (held_seen c.args.reader c.args.area.now c.args.words.now) c.args.options (length scratch) (length found)
+    (length pending) scratch found pending c.first-1.given.0.0 0 = let kept = c.ask.kept.1.1.1.1 in
+    walking_begins (held_seen c.args.reader c.args.area.now c.args.words.now) c.args.options
+    c.args.scratch.now c.requires.0.1 c.requires.1.0 c.requires.1.1
+    c.ask.last.1.1.1.1.0
+    (rw c.first-1.given.1 at c.ask.ensures)
+    kept.0
+    kept.1.0
+    kept.1.1.0 in
+    (c.requires.0.0, begins)
+
+pub returns-in-All : goal.returns-in-All
+returns-in-All c =
+    let kept = c.ask.kept.1.1.1.1 in
+    let first = c.ask.last.1.1.1.1 in
+    let last = c.ask_pending.last.1.1.1.1 in
+    subst (λ (w : WalkReply). Ends w last.0 last.1.0 c.ask_pending.result)
+    (collected_long (held_seen c.args.reader c.args.area.now c.args.words.now) (byte_of c.args.options)
+    c.args.scratch.now
+    c.args.found.now c.args.pending.now first.0 first.1.0 first.1.1.0 kept.0 kept.1.0 kept.1.1.0)
+    c.ask_pending.ensures
+
+pub returns-in-Refused : goal.returns-in-Refused
+returns-in-Refused c =
+    walk_refused_lem (held_seen c.args.reader c.args.area.now c.args.words.now) c.args.options
+    c.args.scratch.now c.requires.0.1 c.requires.1.0 c.requires.1.1
+    (rw c.number-1.given.1 at c.ask.ensures)

@@ -1,0 +1,44 @@
+-- `read_option`: a word, and perhaps a value after it. Rests on Listing, and on Binds of command_tokens.
+use Rattle.listing_rules.proofs.Prelude.{sym, arith}
+use Rattle.command_tokens.proofs.Binds.{token_found, token_missing, bare_ahead, behind_at, behind_nothing, behind_ahead}
+use Rattle.command_line.specs.OptionSets.{written_is, WrittenIn}
+use Rattle.command_line.proofs.Listing.{option_off, option_bare, option_broken, option_valued}
+use Rattle.command_line.proofs.option_list.read_option.Goals as goal
+
+pub returns-in_default : goal.returns-in_default
+unfolding written_is WrittenIn
+returns-in_default c = record { result_value = sym (option_off _ (token_missing _ c.atom.ensures.result_value c.enum_told-1.given.1)); written_in = tt }
+
+-- no value
+pub returns-in_default-opening : goal.returns-in_default-opening
+unfolding written_is WrittenIn
+returns-in_default-opening c =
+    let atom = c.atom.ensures in
+    let word = c.word-1.given.1 in
+    let w = bare_ahead _ _ atom.1 word in (
+      sym (option_bare _ _ _ (token_found _ atom.0 word) (behind_nothing _ c.opening.ensures.result_value c.enum_told-in_default-opening-1.given.1)),
+      (w.bare, w.ahead.past, w.ahead.inside),
+    )
+
+-- a value off the grammar
+pub returns-in_default-value : goal.returns-in_default-value
+unfolding written_is WrittenIn
+returns-in_default-value c =
+    let word = token_found _ c.atom.ensures.result_value c.word-1.given.1 in
+    let inside = behind_at _ c.opening.ensures.result_value c.inside-1.given.1 in
+ record { result_value = sym (option_broken _ _ _ word _ inside (behind_nothing _ c.value.ensures.result_value c.enum_told-in_default-value-1.given.1)); written_in = tt }
+
+-- a value
+pub returns : goal.returns
+unfolding written_is WrittenIn
+returns c =
+    let atom = c.atom.ensures in
+    let word = c.word-1.given.1 in
+    let opening = c.opening.ensures in
+    let inside = c.inside-1.given.1 in
+    let value = c.value.ensures in
+    let rest = c.rest-1.given.1 in
+    let w = bare_ahead _ _ atom.1 word in
+    let o = behind_ahead _ _ opening.1 inside in
+    let v = behind_ahead _ _ value.1 rest in
+ record { result_value = sym (option_valued _ _ _ (token_found _ atom.0 word) _ (behind_at _ opening.0 inside) _ (behind_at _ value.0 rest)); written_in = (w.bare, omega (arith, w.ahead.past), v.1) }

@@ -1,0 +1,17 @@
+-- `Cursor::argument`: a space, and the astring after it. Rests on Binds.
+use Rattle.listing_rules.proofs.Prelude.{◌∙◌, sym}
+use Rattle.command_tokens.specs.Tokens.{token_is, TokenIn, argument}
+use Rattle.command_tokens.proofs.Binds.{bind_none, bind_go, behind_at, behind_nothing, behind_ahead}
+use Rattle.command_tokens.proofs.Bytes.{token_later}
+use Rattle.command_tokens.proofs.Cursor.argument.Goals as goal
+
+pub returns-in_default : goal.returns-in_default
+unfolding token_is TokenIn argument
+returns-in_default c = record { result_value = sym (bind_none _ (behind_nothing _ c.space.ensures.result_value c.enum_told-1.given.1)); token_in = tt }
+
+pub returns : goal.returns
+unfolding argument
+returns c =
+    let space = c.space.ensures in
+    let next = c.next-1.given.1 in
+ record { result_value = c.astring.ensures.result_value ∙ sym (bind_go _ (behind_at _ space.0 next)); token_in = token_later _ _ _ _ (behind_ahead _ _ space.1 next).0 c.astring.ensures.token_in }

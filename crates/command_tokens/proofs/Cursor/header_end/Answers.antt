@@ -1,0 +1,32 @@
+-- `Cursor::header_end`: a closing brace, CR and LF, one byte after the other. Rests on Binds and Bytes.
+use Rattle.listing_rules.proofs.Prelude.{◌∙◌, sym, [], ◌∷◌, arith}
+use Rattle.listing_rules.specs.Bytes.{text, crlf}
+use Rattle.command_tokens.specs.Tokens.{behind_is, BehindIn}
+use Rattle.command_tokens.proofs.Binds.{bind_none, bind_go, behind_at, behind_nothing, behind_ahead}
+use Rattle.command_tokens.proofs.Bytes.{after_then, behind_later}
+use Rattle.command_tokens.proofs.Cursor.header_end.Goals as goal
+
+pub returns-in_default : goal.returns-in_default
+unfolding text crlf behind_is BehindIn
+returns-in_default c = record { result_value = sym (after_then 125 (13 ∷ 10 ∷ []) _ ∙ bind_none _ (behind_nothing _ c.byte.ensures.result_value c.enum_told-1.given.1)); behind_in = tt }
+
+pub returns-in_default-byte : goal.returns-in_default-byte
+unfolding text crlf behind_is BehindIn
+returns-in_default-byte c =
+    (
+      sym (after_then 125 (13 ∷ 10 ∷ []) _ ∙ bind_go _ (behind_at _ c.byte.ensures.result_value c.second-1.given.1) ∙ after_then 13
+          (10 ∷ []) _ ∙ bind_none _ (behind_nothing _ c.byte-2.ensures.result_value c.enum_told-in_default-byte-1.given.1)),
+      tt,
+    )
+
+pub returns : goal.returns
+unfolding text crlf
+returns c =
+    let s = c.args.text.now in
+    let two = behind_ahead s _ c.byte.ensures.behind_in c.second-1.given.1 in
+    let three = behind_ahead s _ c.byte-2.ensures.behind_in c.third-1.given.1 in (
+      c.byte-3.ensures.result_value ∙ sym (after_then 125 (13 ∷ 10 ∷ []) _ ∙ bind_go _
+          (behind_at s c.byte.ensures.result_value c.second-1.given.1) ∙ after_then 13 (10 ∷ []) _ ∙ bind_go _
+          (behind_at s c.byte-2.ensures.result_value c.third-1.given.1)),
+      behind_later s _ _ _ (omega (arith, two.0, three.0)) c.byte-3.ensures.behind_in,
+    )

@@ -1,0 +1,24 @@
+-- `all_of_tag` meets its contract: the bytes from `i` on decide. By octets' laws of Every.
+use Rattle.listing_rules.proofs.Prelude.{◌∙◌, refl, sym, not-false, not-true}
+use Rattle.listing_rules.specs.Tokens.{tag_byte}
+use Rattle.octets.proofs.Every.{all_step, all_stop, all_end}
+use Rattle.listing_rules.proofs.Prelude.{◌-◌}
+use Rattle.listing_rules.specs.Tokens.{tag_byte}
+use Rattle.command_writer.proofs.strings.all_of_tag.Goals as goal
+
+pub loop-i-init : goal.loop-i-init
+loop-i-init c = refl
+
+pub returns-then-not-is_tag_byte : goal.returns-then-not-is_tag_byte
+returns-then-not-is_tag_byte c =
+    sym (all_stop tag_byte _ _ c.loop-i-test.true (sym c.is_tag_byte.ensures ∙ not-true _ c.if-not-is_tag_byte.true)) ∙
+    c.loop-i.invariant
+
+pub loop-i-preserved : goal.loop-i-preserved
+loop-i-preserved c =
+    sym (all_step tag_byte _ _ c.loop-i-test.true (sym c.is_tag_byte.ensures ∙ not-false _ c.if-not-is_tag_byte.false)) ∙
+    c.loop-i.invariant
+
+pub returns : goal.returns
+returns c =
+    sym (all_end tag_byte _ _ c.loop-i-test.false) ∙ c.loop-i.invariant

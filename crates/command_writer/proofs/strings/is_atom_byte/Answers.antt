@@ -1,0 +1,11 @@
+-- `is_atom_byte`: printable, and none of the special bytes. Rests on Bytes.
+use Rattle.listing_rules.proofs.Prelude.{ap, Bool, ◌&&◌, not, leb}
+use Rattle.listing_rules.specs.Tokens.{atom_byte}
+use Rattle.listing_rules.specs.Bytes.{within}
+use Rattle.command_writer.proofs.Bytes.{special_is}
+use Rattle.command_writer.proofs.strings.is_atom_byte.Goals as goal
+
+pub returns : goal.returns
+unfolding atom_byte within
+returns c =
+    ap (λ (o : Bool). (leb 0x21 c.args.b && leb c.args.b 0x7E) && not o) (special_is _)

@@ -1,0 +1,36 @@
+-- `frames::logs::same_digits` meets its contract: the digits from `at` on and the bytes from i on decide. By LogLaws.
+use Rattle.listing_rules.proofs.Prelude.{◌∙◌, refl, sym, arith}
+use Rattle.frames.proofs.LogLaws.{digits_lengths, digits_differ, digits_step, digits_end}
+use Rattle.listing_rules.proofs.Prelude.{◌-◌}
+use Rattle.frames.proofs.logs.same_digits.Goals as goal
+
+pub returns-then-digits-bytes : goal.returns-then-digits-bytes
+returns-then-digits-bytes c =
+    sym (digits_lengths c.args.digits.now c.args.bytes.now c.if-digits-bytes.true)
+
+pub loop-i-init : goal.loop-i-init
+loop-i-init c = (c.if-digits-bytes.false, omega arith, omega arith, refl)
+
+pub returns-then-pair_value-bytes : goal.returns-then-pair_value-bytes
+returns-then-pair_value-bytes c =
+    let turn = c.loop-i in
+    let args = c.args in
+    sym (digits_differ args.digits.now args.bytes.now turn.at turn.i turn.inv.2 turn.inv.0 c.loop-i-test.true
+    (λ e. c.if-pair_value-bytes.true (c.pair_value.ensures ∙ e))) ∙ turn.inv.3
+
+pub loop-i-preserved : goal.loop-i-preserved
+loop-i-preserved c =
+    let turn = c.loop-i in
+    let args = c.args in (
+      turn.inv.0,
+      omega (arith, c.loop-i-test.true),
+      omega (arith, turn.inv.2),
+      sym (digits_step args.digits.now args.bytes.now turn.at turn.i turn.inv.2 turn.inv.0 c.loop-i-test.true
+          (sym c.pair_value.ensures ∙ c.if-pair_value-bytes.false)) ∙ turn.inv.3,
+    )
+
+pub returns : goal.returns
+returns c =
+    let turn = c.loop-i in
+    let args = c.args in
+    sym (digits_end args.digits.now args.bytes.now turn.at turn.i turn.inv.2 turn.inv.0 c.loop-i-test.false) ∙ turn.inv.3

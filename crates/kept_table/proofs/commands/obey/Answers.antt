@@ -1,0 +1,24 @@
+-- `kept_table::commands::obey` meets its contract: nothing where the sizes are others, else the command. Rests on ObeyLaws.
+use Rattle.listing_rules.proofs.Prelude.{◌∙◌, ◌≡◌, sym, true, not-false, not-true}
+use Rattle.kept_table.specs.Kept.{Lent, lent, is_within}
+use Rattle.kept_table.proofs.LentLaws.{within_so}
+use Rattle.kept_table.proofs.ObeyLaws.{lent_obeyed, lent_refused}
+use Rattle.kept_table.proofs.commands.obey.Goals as goal
+
+-- the memory at the start
+abbrev memory : tie.Start → Lent
+memory start = lent start.args.table.now start.args.records.now start.args.namespaces.now start.args.out.now
+
+pub returns-then-not-within : goal.returns-then-not-within
+returns-then-not-within c =
+    lent_refused (memory c) _ _ _ (sym c.is_within-within.ensures ∙ not-true _ c.if-not-within.true) c.said.ensures
+
+pub obey_within-requires : goal.obey_within-requires
+obey_within-requires c =
+    let is-so : is_within c.args.stored c.args.table.now c.args.records.now c.args.namespaces.now ≡ true = sym c.is_within-within.ensures ∙ not-false _ c.if-not-within.false in
+    within_so _ _ _ _ is-so
+
+pub returns : goal.returns
+returns c =
+    let is-so : is_within c.args.stored c.args.table.now c.args.records.now c.args.namespaces.now ≡ true = sym c.is_within-within.ensures ∙ not-false _ c.if-not-within.false in
+    lent_obeyed (memory c) _ _ _ is-so c.obey_within.ensures

@@ -1,0 +1,36 @@
+-- `kept_table::store::lay_out` meets its contract: the table does not pass, or its names are placed. Rests on LayLaws and mailbox_table's HeldLaws.
+use Rattle.listing_rules.proofs.Prelude.{◌∙◌, ◌≡◌, ap, ℕ, length, length-replicate}
+use Rattle.mailbox_table.proofs.HeldLaws.{index_held, index_refused}
+use Rattle.kept_table.proofs.LayLaws.{rows_short, rows_inside, lays_rows}
+use Rattle.kept_table.proofs.store.lay_out.Goals as goal
+
+-- room for 512 rows
+sized : (start : tie.Start) → length start.args.words.now ≡ 512
+sized start = ap length start.requires.words ∙ length-replicate {A = ℕ} 512 0
+
+pub returns-in_default : goal.returns-in_default
+returns-in_default c =
+    index_refused c.index.ensures (sized c)
+    c.enum_told-1.given.1
+
+pub slice_bounds-place_names-end : goal.slice_bounds-place_names-end
+slice_bounds-place_names-end c =
+    (index_held c.index.ensures _ c.n-1.given.1).inside
+
+pub slice_bounds-place_names-end-2 : goal.slice_bounds-place_names-end-2
+slice_bounds-place_names-end-2 c =
+    (index_held c.index.ensures _ c.n-1.given.1).size
+
+pub place_names-requires : goal.place_names-requires
+place_names-requires c =
+    let start =
+    c in (
+      rows_short c.index.ensures (sized start) _ c.n-1.given.1 start.pre.table,
+      rows_inside c.index.ensures (sized start) _ c.n-1.given.1,
+    )
+
+pub returns : goal.returns
+returns c =
+    let placed = c.place_names.ensures in
+    lays_rows c.index.ensures (sized c) _ c.n-1.given.1 _ _ c.place_names.new.area.0 c.requires
+    placed.0 placed.1 placed.2

@@ -1,0 +1,16 @@
+-- `read_line` meets its contract: the root line, or `read_parts` (`read-root`, `read-other` of `Reading`).
+use Rattle.listing_rules.proofs.Prelude.{◌∙◌, sym}
+use Rattle.listing_rules.proofs.Keys.{open_bytes}
+use Rattle.listing_rules.specs.Lines.{root_line}
+use Rattle.line_reader.proofs.Reading.{read_root, read_other}
+use Rattle.line_reader.proofs.read_line.Goals as goal
+
+pub returns-then-same_bytes : goal.returns-then-same_bytes
+unfolding open_bytes root_line
+returns-then-same_bytes c =
+    let r = read_root _ (sym c.same_bytes.ensures ∙ c.if-same_bytes.true) in record { result = r.0; bytes = c.no_name.ensures ∙ r.1 }
+
+pub returns : goal.returns
+unfolding open_bytes root_line
+returns c =
+    rw (read_other _ (sym c.same_bytes.ensures ∙ c.if-same_bytes.false)) c.read_parts.ensures

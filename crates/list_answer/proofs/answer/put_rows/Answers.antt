@@ -1,0 +1,34 @@
+-- `list_answer::answer::put_rows` meets its contract: the text of the rows before row i is put. By RowTexts and Putting.
+use Rattle.listing_rules.proofs.Prelude.{◌∙◌, refl, arith, rules}
+use Rattle.list_answer.specs.Prefixes.{prefixes}
+use Rattle.list_answer.specs.Shown.{text_of}
+use Rattle.list_answer.proofs.RowTexts.{rows_step, rows_end}
+use Rattle.list_answer.proofs.Putting.{putting_none, putting_more, putting_end}
+use Rattle.listing_rules.proofs.Prelude.{◌-◌}
+use Rattle.list_answer.specs.Shown.{text_of}
+use Rattle.list_answer.proofs.answer.put_rows.Goals as goal
+
+pub loop-i-init : goal.loop-i-init
+unfolding prefixes
+loop-i-init c = (omega arith, refl, λ ready. putting_none _ _ (search rules) (search rules) refl)
+
+pub loop-i-preserved : goal.loop-i-preserved
+loop-i-preserved c =
+    let area = c.args.area.now in
+    let words = c.args.words.now in
+    let text = text_of area words c.args.patterns.now c.args.question in
+    let put_row = c.put_row-to in
+    let inv = c.loop-i.invariant in (
+      omega arith,
+      put_row.kept.0 ∙ inv.1,
+      λ ready.
+          let step = rows_step area words ready.index.indexed text _ c.loop-i-test.true in
+          putting_more (inv.2 ready) _ _ step (put_row.ensures ready),
+    )
+
+pub returns : goal.returns
+returns c =
+    let a = c.args in
+    let done = c.loop-i in
+    let text = text_of _ a.words.now _ a.question in
+    λ ready. putting_end (done.inv.2 ready) (rows_end _ _ ready.index.indexed text done.i (omega arith))

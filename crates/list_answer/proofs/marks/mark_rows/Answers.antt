@@ -1,0 +1,32 @@
+-- `list_answer::marks::mark_rows` meets its contract: the first i words are marked. By Marking.
+use Rattle.listing_rules.proofs.Prelude.{◌∙◌, ◌≡◌, ap, refl, subst, sym, map, ◌+◌, ℕ, arith, get_or, length-set, set, take}
+use Rattle.mailbox_table.specs.Below.{with_marks}
+use Rattle.list_answer.specs.Marks.{marked_word}
+use Rattle.list_answer.proofs.Marking.{words_more, words_all}
+use Rattle.listing_rules.proofs.Prelude.{◌≡◌, map, ◌-◌, take}
+use Rattle.list_answer.specs.Marks.{marked_word}
+use Rattle.list_answer.proofs.marks.mark_rows.Goals as goal
+
+pub loop-i-init : goal.loop-i-init
+loop-i-init c =
+    (omega arith, refl, c.requires.1, refl)
+
+pub loop-i-preserved : goal.loop-i-preserved
+unfolding marked_word
+loop-i-preserved c =
+    let turn = c.loop-i in
+    let a = c.args in
+    let mark = marked_word _ _ a.question in
+    let w = get_or a.words.now _ 0 in
+    let e : c.with_marks.result ≡ mark w = c.with_marks.ensures ∙ ap (λ (m : ℕ). with_marks m w) c.marks_for-marks.ensures in (
+      omega arith,
+      simp length-set turn.inv.1,
+      turn.inv.2,
+      subst (λ (v : ℕ). take (turn.i + 1) (set turn.marked turn.i v) ≡ map mark (take (turn.i + 1) a.words.now)) (sym e)
+          (words_more mark _ turn.marked turn.i (omega arith) (omega arith) turn.inv.3),
+    )
+
+pub returns : goal.returns
+returns c =
+    let done = c.loop-i in
+    words_all _ _ _ done.i (omega arith) done.inv.3

@@ -1,0 +1,9 @@
+-- `list_answer::question::Question::is_recursive` meets its contract: the bit of the member.
+use Rattle.listing_rules.proofs.Prelude.{◌∙◌}
+use Rattle.octets.proofs.Sets.{contains_bit}
+use Rattle.command_line.specs.OptionSets.{options_is}
+use Rattle.list_answer.proofs.question.Question.is_recursive.Goals as goal
+
+pub returns : goal.returns
+unfolding options_is
+returns c = c.has.ensures ∙ contains_bit 2 _

@@ -1,0 +1,18 @@
+-- `list_line::texts::name_span` meets its contract: the places are read from the table. By `spanIn` itself.
+use Rattle.listing_rules.proofs.Prelude.{arith, le-leb, lt-leb}
+use Rattle.list_line.proofs.texts.name_span.Goals as goal
+
+pub returns-then-places-k : goal.returns-then-places-k
+returns-then-places-k c = rw (le-leb _ _ c.if-places-k.true)
+
+pub overflow_add-result : goal.overflow_add-result
+overflow_add-result c =
+    omega (arith, c.wide-start.ensures, c.shared_slice_known-2-1.given c.args.k)
+
+pub returns-then-first : goal.returns-then-first
+returns-then-first c =
+    rw (c.wide-start.ensures, c.wide-end.ensures, c.byte_at.ensures, lt-leb _ _ c.if-places-k.false, c.if-first.true)
+
+pub returns : goal.returns
+returns c =
+    rw (c.wide-start.ensures, c.wide-end.ensures, c.byte_at.ensures, lt-leb _ _ c.if-places-k.false, c.if-first.false)

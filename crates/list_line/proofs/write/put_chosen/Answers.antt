@@ -1,0 +1,40 @@
+-- `put_chosen` meets its contract. The loop's invariant is `Spelled` of `Writing`: what is written, and what is left of the names.
+use Rattle.listing_rules.proofs.Prelude.{ap, subst, ⊎_elim, List, ℕ, arith, length, rules}
+use Rattle.octets.specs.Put.{Put}
+use Rattle.list_line.proofs.Names.{span_text, span_named}
+use Rattle.list_line.specs.Names.{NameSpan}
+use Rattle.list_line.proofs.Writing.{spelled_none, spelled_in, spelled_out, spelled_all}
+use Rattle.listing_rules.proofs.Prelude.{◌-◌}
+use Rattle.list_line.proofs.write.put_chosen.Goals as goal
+
+pub loop-k-init : goal.loop-k-init
+loop-k-init c = spelled_none _ _ _ (search rules) (search rules)
+
+pub slice_bounds-put_all-count : goal.slice_bounds-put_all-count
+slice_bounds-put_all-count c =
+    let spanned : NameSpan c.loop-k.k c.loop-k.first c.name_span-span.result = span_named _ _ _ c.requires.1 c.loop-k-test.true c.name_span-span.ensures in
+    spanned.order
+
+pub slice_bounds-put_all-start : goal.slice_bounds-put_all-start
+slice_bounds-put_all-start c =
+    let spanned : NameSpan c.loop-k.k c.loop-k.first c.name_span-span.result = span_named _ _ _ c.requires.1 c.loop-k-test.true c.name_span-span.ensures in
+    spanned.order
+
+pub slice_bounds-put_all-end : goal.slice_bounds-put_all-end
+slice_bounds-put_all-end c =
+    let spanned : NameSpan c.loop-k.k c.loop-k.first c.name_span-span.result = span_named _ _ _ c.requires.1 c.loop-k-test.true c.name_span-span.ensures in
+    omega (arith, spanned.inside, ap length c.requires.0)
+
+pub loop-k-preserved : goal.loop-k-preserved
+loop-k-preserved c =
+    ⊎_elim
+    (λ w.
+    let name = span_text _ c.requires.0 (span_named _ _ _ c.requires.1 c.loop-k-test.true w.1.ensures) in
+    let put = subst (λ (x : List ℕ). Put c.loop-k.buf w.4.last.0 c.loop-k.to x w.4.result) name w.4.ensures in
+    rw (w.7, w.8, w.9) (spelled_in c.loop-k.invariant c.loop-k-test.true w.0.taken put))
+    (λ w. rw (w.1, w.2, w.3) (spelled_out c.loop-k.invariant c.loop-k-test.true w.0.left))
+    c.if-left-eq1.came
+
+pub returns : goal.returns
+returns c =
+    spelled_all c.loop-k.invariant c.loop-k-test.false

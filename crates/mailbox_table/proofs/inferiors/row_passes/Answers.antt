@@ -1,0 +1,35 @@
+-- `mailbox_table::inferiors::row_passes` meets its contract: every row counts, and the scan from row i finds all. By InferiorLaws.
+use Rattle.listing_rules.proofs.Prelude.{◌∙◌, ◌≡◌, ap, sym, not, le_refl, get_or, not-false, not-true}
+use Rattle.listing_rules.specs.Bytes.{bit}
+use Rattle.listing_rules.specs.Lists.{any_of}
+use Rattle.listing_rules.specs.Names.{below}
+use Rattle.listing_rules.specs.Flags.{no_inferiors}
+use Rattle.octets.proofs.Sets.{contains_bit}
+use Rattle.mailbox_table.specs.declared.rows.Row.{Row}
+use Rattle.mailbox_table.specs.Words.{row_of_word}
+use Rattle.mailbox_table.specs.Index.{name_at, row_at_word, rows_at}
+use Rattle.mailbox_table.specs.Below.{Begins}
+use Rattle.mailbox_table.proofs.InferiorLaws.{none_any, none_some, below_anywhere}
+use Rattle.mailbox_table.proofs.inferiors.row_passes.Goals as goal
+
+pub returns-then-not-has : goal.returns-then-not-has
+returns-then-not-has c =
+    let flag : let a = c.args in c.has.result ≡ no_inferiors
+    (row_of_word (get_or a.words.now a.i 0)).flags.bits = unfold no_inferiors in c.has.ensures ∙ contains_bit 4 _ ∙ ap (λ (r : Row). bit 4 r.flags.bits) c.of_word-row.ensures in
+    let table = rows_at _ c.args.words.now in
+    sym (none_any table _ (sym flag ∙ not-true _ c.if-not-has.true))
+
+pub returns : goal.returns
+returns c =
+    let flag : let a = c.args in c.has.result ≡ no_inferiors
+    (row_of_word (get_or a.words.now a.i 0)).flags.bits = unfold no_inferiors in c.has.ensures ∙ contains_bit 4 _ ∙ ap (λ (r : Row). bit 4 r.flags.bits) c.of_word-row.ensures in
+    let area = c.args.area.now in
+    let words = c.args.words.now in
+    let i = c.args.i in
+    let row = c.of_word-row in
+    let from-i : Begins area words i row.result.len
+    = record { indexed = c.requires.0; row = c.requires.1; within = rw row.ensures (le_refl _) } in
+    let e : c.some_below.result ≡ any_of (λ q. below (name_at area (get_or words i 0)) q.name) (rows_at area words)
+    = c.some_below.ensures from-i ∙ rw row.ensures (below_anywhere c.requires.0 i c.requires.1) in
+    ap not e
+    ∙ sym (none_some (rows_at area words) (row_at_word area (get_or words i 0)) (sym flag ∙ not-false _ c.if-not-has.false))

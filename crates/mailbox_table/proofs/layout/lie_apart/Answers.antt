@@ -1,0 +1,40 @@
+-- `mailbox_table::layout::lie_apart` meets its contract. The invariant is the record `Laying`: the names passed lie without overlap, and
+-- the map has their bytes. By LayoutLaws.
+use Rattle.listing_rules.proofs.Prelude.{subst, sym, Bool, ◌-◌, not-false, not-true}
+use Rattle.mailbox_table.specs.Index.{nth_row}
+use Rattle.mailbox_table.specs.Layout.{Marked}
+use Rattle.mailbox_table.proofs.LayoutLaws.{laying_none, laying_maps, laying_hit, laying_more, laying_done}
+use Rattle.mailbox_table.proofs.layout.lie_apart.Goals as goal
+
+pub loop-i-init : goal.loop-i-init
+loop-i-init c = laying_none _ _ c.no_marks-used.ensures
+
+pub mark_name-requires : goal.mark_name-requires
+mark_name-requires c =
+    rw c.of_word-row.ensures (laying_maps c.loop-i.invariant c.requires c.loop-i-test.true)
+
+pub returns-then-not-mark_name : goal.returns-then-not-mark_name
+returns-then-not-mark_name c =
+    let marked : let words = c.args.words.now in
+    let turn = c.loop-i in
+    Marked turn.used c.mark_name.new.used (nth_row words turn.i).start (nth_row words turn.i).len c.mark_name.result = rw c.of_word-row.ensures at c.mark_name.ensures in
+    let turn = c.loop-i in
+    let row = nth_row c.args.words.now _ in
+    let after = c.mark_name.new.used in
+    sym
+    (laying_hit turn.invariant c.requires c.loop-i-test.true after
+    (subst (λ (r : Bool). Marked turn.used after row.start row.len r) (not-true c.mark_name.result c.if-not-mark_name.true) marked))
+
+pub loop-i-preserved : goal.loop-i-preserved
+loop-i-preserved c =
+    let marked : let words = c.args.words.now in
+    let turn = c.loop-i in
+    Marked turn.used c.mark_name.new.used (nth_row words turn.i).start (nth_row words turn.i).len c.mark_name.result = rw c.of_word-row.ensures at c.mark_name.ensures in
+    let turn = c.loop-i in
+    let row = nth_row c.args.words.now _ in
+    let after = c.mark_name.new.used in
+    laying_more turn.invariant c.requires c.loop-i-test.true after
+    (subst (λ (r : Bool). Marked turn.used after row.start row.len r) (not-false c.mark_name.result c.if-not-mark_name.false) marked)
+
+pub returns : goal.returns
+returns c = sym (laying_done c.loop-i.invariant c.loop-i-test.false)

@@ -1,0 +1,39 @@
+-- `mailbox_table::link::link_rows` meets its contract. The invariant is the record `Linking`: words passed are linked and tell the same
+-- records, and the words that are left decide. By LinkLaws.
+use Rattle.listing_rules.proofs.Prelude.{◌∙◌, ◌≡◌, sym, ◌-◌, arith, get_or, length-set}
+use Rattle.mailbox_table.specs.declared.rows.Step.TheVariants.{Next}
+use Rattle.mailbox_table.specs.Link.{name_in, step_of}
+use Rattle.mailbox_table.proofs.LinkLaws.{linking_none, linking_bad, linking_more, links_fails, links_rows, step_packs}
+use Rattle.mailbox_table.proofs.link.link_rows.Goals as goal
+
+pub loop-i-init : goal.loop-i-init
+loop-i-init c = linking_none _ _ _ c.of_word-previous.ensures
+
+pub returns-in_default : goal.returns-in_default
+returns-in_default c =
+    let turn = c.loop-i in
+    links_fails (linking_bad turn.invariant (omega (arith, turn.invariant.size, c.loop-i-test.true))
+    (sym c.next_row.ensures ∙ c.enum_told-1.given.1)) turn.invariant.size
+
+pub relinked-requires : goal.relinked-requires
+relinked-requires c =
+    let stepped : let area = c.args.area.now in
+    let turn = c.loop-i in
+    step_of area (name_in area turn.previous) (get_or turn.words turn.i 0) ≡ Next c.row-1.given.0.0 = sym c.next_row.ensures ∙ c.row-1.given.1 in
+    step_packs c.args.area.now _ _ _ stepped
+
+pub loop-i-smaller : goal.loop-i-smaller
+loop-i-smaller c =
+    simp length-set (omega (arith, c.loop-i-test.true))
+
+pub loop-i-preserved : goal.loop-i-preserved
+loop-i-preserved c =
+    let stepped : let area = c.args.area.now in
+    let turn = c.loop-i in
+    step_of area (name_in area turn.previous) (get_or turn.words turn.i 0) ≡ Next c.row-1.given.0.0 = sym c.next_row.ensures ∙ c.row-1.given.1 in
+    let turn = c.loop-i in
+    rw c.relinked.ensures (linking_more turn.invariant (omega (arith, turn.invariant.size, c.loop-i-test.true)) _ stepped
+    (omega (arith, c.slice_known-in-loop-i-1.given turn.i)))
+
+pub returns : goal.returns
+returns c = links_rows c.loop-i.invariant c.loop-i-test.false

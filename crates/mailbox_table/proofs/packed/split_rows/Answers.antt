@@ -1,0 +1,85 @@
+-- `mailbox_table::packed::split_rows` meets its contract. The invariant is the record `Splitting`: rows passed are kept as words, and the
+-- bytes that are left decide. By PackedLaws.
+use Rattle.listing_rules.proofs.Prelude.{◌∙◌, ◌≡◌, refl, sym, ◌-◌, ◌<◌, ℕ, arith, get_or}
+use Rattle.mailbox_table.specs.declared.rows.Step.TheVariants.{Next}
+use Rattle.mailbox_table.specs.Packed.{step_at}
+use Rattle.mailbox_table.proofs.PackedLaws.{splitting_none, splitting_full, splitting_bad, splitting_more, splits_fails}
+use Rattle.mailbox_table.proofs.PackedLaws.{splits_rows, unpacking_long, step_packs, step_inside, step_start}
+use Rattle.mailbox_table.proofs.packed.split_rows.Goals as goal
+
+byte : (c : tie.After-known-told invariant-loop decreases-loop) (k : ℕ) →
+    let start = c.before.before.before.before.before.before.before.before.before.before.before in
+    get_or start.args.table.now k 0 < 256
+byte c k =
+    let after-shared-slice-known = c.before.before.before.before.before.before.before.before.before.before in
+    (after-shared-slice-known.shared-slice-known.given k).fits
+
+pub returns-then-table-gt-MAX_BYTES : goal.returns-then-table-gt-MAX_BYTES
+returns-then-table-gt-MAX_BYTES c =
+    record {
+      answer = sym (unpacking_long _ _ c.if-table-gt-MAX_BYTES.true);
+      room = refl;
+      records = tt;
+      stays = tt;
+    }
+
+pub loop-at-init : goal.loop-at-init
+loop-at-init c = splitting_none _ _ _
+
+pub returns-then-limit-n : goal.returns-then-limit-n
+returns-then-limit-n c =
+    let limit = c.least-limit in
+    let turn = c.loop-at in
+    splits_fails _ limit.ensures c.if-table-gt-MAX_BYTES.false (splitting_full turn.invariant c.loop-at-test.true c.if-limit-n.true)
+    turn.invariant.size
+
+pub row_at-requires : goal.row_at-requires
+row_at-requires c =
+    record { inside = c.loop-at-test.true; bound = c.if-table-gt-MAX_BYTES.false }
+
+pub returns-in_default : goal.returns-in_default
+returns-in_default c =
+    let turn = c.loop-at in
+    splits_fails _ c.least-limit.ensures c.if-table-gt-MAX_BYTES.false
+    (splitting_bad turn.invariant c.loop-at-test.true (sym c.row_at.ensures ∙ c.enum_told-1.given.1))
+    turn.invariant.size
+
+pub word_at-requires : goal.word_at-requires
+word_at-requires c =
+    let stepped : let turn = c.loop-at in
+    step_at c.args.table.now turn.at ≡ Next c.row-1.given.0.0 = sym c.row_at.ensures ∙ c.row-1.given.1 in
+    (
+      record { inside = c.loop-at-test.true; bound = c.if-table-gt-MAX_BYTES.false },
+      step_packs _ _ _ stepped c.if-table-gt-MAX_BYTES.false (λ k. byte c k),
+    )
+
+pub offset_bounds-words-n : goal.offset_bounds-words-n
+offset_bounds-words-n c =
+    omega (arith, c.least-limit.ensures)
+
+pub bounds-words-n : goal.bounds-words-n
+bounds-words-n c =
+    omega (arith, c.loop-at.invariant.size, c.least-limit.ensures)
+
+pub overflow_add-at : goal.overflow_add-at
+overflow_add-at c =
+    let stepped : let turn = c.loop-at in
+    step_at c.args.table.now turn.at ≡ Next c.row-1.given.0.0 = sym c.row_at.ensures ∙ c.row-1.given.1 in
+    omega (arith, step_inside _ _ _ stepped)
+
+pub loop-at-smaller : goal.loop-at-smaller
+loop-at-smaller c =
+    let stepped : let turn = c.loop-at in
+    step_at c.args.table.now turn.at ≡ Next c.row-1.given.0.0 = sym c.row_at.ensures ∙ c.row-1.given.1 in
+    omega (arith, step_start _ _ _ stepped)
+
+pub loop-at-preserved : goal.loop-at-preserved
+loop-at-preserved c =
+    let stepped : let turn = c.loop-at in
+    step_at c.args.table.now turn.at ≡ Next c.row-1.given.0.0 = sym c.row_at.ensures ∙ c.row-1.given.1 in
+    rw c.word_at.ensures
+    (splitting_more c.loop-at.invariant c.loop-at-test.true c.if-table-gt-MAX_BYTES.false (λ k. byte c k) c.if-limit-n.false
+    (omega (arith, c.least-limit.ensures)) _ stepped)
+
+pub returns : goal.returns
+returns c = splits_rows _ c.least-limit.ensures c.if-table-gt-MAX_BYTES.false c.loop-at.invariant c.loop-at-test.false

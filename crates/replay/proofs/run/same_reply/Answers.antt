@@ -1,0 +1,42 @@
+-- `replay::run::same_reply` meets its contract, case by case. By RunLaws.
+use Rattle.listing_rules.proofs.Prelude.{refl, subst, ◌≤◌, arith, length, length-take}
+use Rattle.octets.specs.declared.Written.{Written}
+use Rattle.replay.specs.Running.{agreeing, said_so, answer_length}
+use Rattle.replay.proofs.RunLaws.{said_by_lem}
+use Rattle.replay.proofs.run.same_reply.Goals as goal
+
+pub slice_bounds-same_digits-end : goal.slice_bounds-same_digits-end
+unfolding answer_length
+slice_bounds-same_digits-end c =
+    let inside = subst (λ (w : Written). answer_length w ≤ length c.args.answer.now) c.written-1.given.1 c.requires in
+    simp length-take (omega (arith, inside))
+
+pub returns-in-Answer : goal.returns-in-Answer
+unfolding said_so agreeing
+returns-in-Answer c =
+    said_by_lem _ _ c.written-1.given.1 c.enum_told-1.given.1 c.same_digits.ensures
+
+pub returns-in-Number : goal.returns-in-Number
+unfolding said_so agreeing
+returns-in-Number c =
+    said_by_lem _ _ c.written-1.given.1 c.enum_told-in-Number-1.given.1 refl
+
+pub returns-in-Other : goal.returns-in-Other
+unfolding said_so agreeing
+returns-in-Other c =
+    said_by_lem _ _ c.written-1.given.1 c.enum_told-in-Other-1.given.1 refl
+
+pub returns-in-Number-recorded : goal.returns-in-Number-recorded
+unfolding said_so agreeing
+returns-in-Number-recorded c =
+    said_by_lem _ _ c.written-in-Refused-1.given.1 c.recorded-1.given.1 refl
+
+pub returns-in-Answer-recorded : goal.returns-in-Answer-recorded
+unfolding said_so agreeing
+returns-in-Answer-recorded c =
+    said_by_lem _ _ c.written-in-Refused-1.given.1 c.enum_told-in-Answer-recorded-1.given.1 refl
+
+pub returns-in-Other-recorded : goal.returns-in-Other-recorded
+unfolding said_so agreeing
+returns-in-Other-recorded c =
+    said_by_lem _ _ c.written-in-Refused-1.given.1 c.enum_told-in-Other-recorded-1.given.1 refl

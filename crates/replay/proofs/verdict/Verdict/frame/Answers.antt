@@ -1,0 +1,18 @@
+-- `replay::Verdict::frame` meets its contract, case by case.
+use Rattle.listing_rules.proofs.Prelude.{ap, sym}
+use Rattle.listing_rules.specs.Replay.{replay_frame}
+use Rattle.replay.specs.declared.verdict.Verdict.{Verdict}
+use Rattle.replay.specs.Reports.{meant_by}
+use Rattle.replay.proofs.verdict.Verdict.frame.Goals as goal
+
+pub returns-in-Agrees : goal.returns-in-Agrees
+unfolding replay_frame meant_by
+returns-in-Agrees c = sym (ap (λ (v : Verdict). replay_frame (meant_by v)) c.enum_told-1.given.1)
+
+pub returns-in-Differs : goal.returns-in-Differs
+unfolding replay_frame meant_by
+returns-in-Differs c = sym (ap (λ (v : Verdict). replay_frame (meant_by v)) c.self-1.given.1)
+
+pub returns-in-Stopped : goal.returns-in-Stopped
+unfolding replay_frame meant_by
+returns-in-Stopped c = sym (ap (λ (v : Verdict). replay_frame (meant_by v)) c.self-in-Stopped-1.given.1)

@@ -1,0 +1,40 @@
+-- `server::edit::edit_line` meets its contract: the name is spelled in its buffer, and what `edit` returns is answered. By EditAnswers.
+use Rattle.listing_rules.proofs.Prelude.{◌∙◌, ◌≡◌, ap, sym, ℕ, arith, length, length-replicate}
+use Rattle.listing_rules.proofs.LineLength.{edit_short}
+use Rattle.command_line.specs.Spans.{span_bytes}
+use Rattle.command_line.proofs.Edits.{name_short}
+use Rattle.command_tokens.proofs.Binds.{bare_bytes}
+use Rattle.server.proofs.EditLaws.{kind_is_lem}
+use Rattle.server.proofs.EditAnswers.{line_refused, line_done}
+use Rattle.server.proofs.edit.edit_line.Goals as goal
+
+-- the function's entry, from the place where the tag is known
+abbrev start_of : tie.After-raw → tie.Start
+start_of c = c.before.before.before.before.before.before.before.before.before.before.before
+
+pub put_spelled-n-requires : goal.put_spelled-n-requires
+put_spelled-n-requires c =
+    let a = c.args in
+    let reads = c.requires in
+    omega
+    (arith, name_short a.line.now a.command, edit_short _ (sym (kind_is_lem _ _ reads.0) ∙ reads.1), ap length c.no_name-name.ensures ∙ length-replicate {A = ℕ} 2048 0)
+
+pub returns-in-Refused : goal.returns-in-Refused
+returns-in-Refused c =
+    let tag_is : c.raw-tag.result.now ≡ span_bytes (start_of c).args.line.now (start_of c).args.command.tag = c.raw-tag.ensures ∙ sym (bare_bytes _ _ (start_of c).requires.0.inside.bare) in
+    let start = start_of c in
+    let number = c.number-1.given in
+    λ spaces listed.
+    line_refused _ _ _ _ _ _ start.args.out.now start.pre.0 start.pre.1 spaces listed _ _ _ _ c.is_subscribe-subscribe.ensures
+    c.put_spelled-n.ensures.bytes tag_is c.ok_fits-fits.ensures number.0.0 _ c.edit.result _
+    c.edit.ensures number.1 c.unchanged.ensures
+
+pub returns-in-Done : goal.returns-in-Done
+returns-in-Done c =
+    let tag_is : c.raw-tag.result.now ≡ span_bytes (start_of c).args.line.now (start_of c).args.command.tag = c.raw-tag.ensures ∙ sym (bare_bytes _ _ (start_of c).requires.0.inside.bare) in
+    let start = start_of c in
+    let change = c.change-1.given in
+    λ spaces listed.
+    line_done _ _ _ _ _ _ start.args.out.now start.pre.0 start.pre.1 spaces listed _ _ _ _ c.is_subscribe-subscribe.ensures
+    c.put_spelled-n.ensures.bytes tag_is c.ok_fits-fits.ensures change.0.0 _ c.edit.result _ _
+    c.edit.ensures change.1 c.put_ok_line-end.ensures

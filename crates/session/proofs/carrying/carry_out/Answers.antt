@@ -1,0 +1,54 @@
+-- `session::carrying::carry_out` meets its contract: one law for each kind of frame. Rests on CarryLaws.
+use Rattle.listing_rules.proofs.Prelude.{◌+◌, ◌-◌, arith}
+use Rattle.kept_table.specs.Kept.{Lent, lent}
+use Rattle.session.proofs.CarryLaws.{whole_row, whole_entry, whole_command, kind_row, kind_entry, kind_command, kind_walk, kind_bad}
+use Rattle.session.proofs.carrying.carry_out.Goals as goal
+
+-- the memory at the start
+abbrev memory : tie.Start → Lent
+memory start = lent start.args.table.now start.args.records.now start.args.namespaces.now start.args.out.now
+
+pub slice_bounds-add_row-end : goal.slice_bounds-add_row-end
+slice_bounds-add_row-end c =
+    whole_row _ c.requires.0
+    c.frame-1.given.1
+
+pub slice_bounds-part-end : goal.slice_bounds-part-end
+slice_bounds-part-end c =
+    whole_entry _ c.requires.0
+    c.frame-in-Namespaces-1.given.1
+
+pub overflow_add-line : goal.overflow_add-line
+overflow_add-line c =
+    omega
+    (arith, whole_command c.args.bytes.now c.requires.0 c.frame-in-Command-1.given.1)
+
+pub slice_bounds-line-end : goal.slice_bounds-line-end
+slice_bounds-line-end c =
+    whole_command c.args.bytes.now c.requires.0
+    c.frame-in-Command-1.given.1
+
+pub returns-in-Table : goal.returns-in-Table
+returns-in-Table c =
+    kind_row (memory c) _ c.requires.1 _ _ _ _ _ _ c.frame-1.given.1 c.add_row.ensures
+
+pub returns-in-Namespaces : goal.returns-in-Namespaces
+returns-in-Namespaces c =
+    rw c.with_entries.ensures (kind_entry (memory c) _ c.requires.1 _ _ _ _
+    _ _ c.frame-in-Namespaces-1.given.1 c.keep-added.ensures)
+
+pub returns-in-Command : goal.returns-in-Command
+returns-in-Command c =
+    let size = c.frame-in-Command-1.given.0.1.0 in
+    kind_command (memory c) _ c.requires.1 _ _ _ size (size + 1 - 1) _ _ _ _
+    c.frame-in-Command-1.given.1 c.obey.ensures (omega arith)
+
+pub returns-in-Walk : goal.returns-in-Walk
+returns-in-Walk c =
+    rw c.said.ensures (kind_walk (memory c) _ c.requires.1 _ _ _ _ _ _
+    c.frame-in-Walk-1.given.1 c.walk_line.ensures)
+
+pub returns-in-Bad : goal.returns-in-Bad
+returns-in-Bad c =
+    rw c.said-in-Bad.ensures (kind_bad (memory c) _ c.requires.1 _ _ _ _
+    c.enum_told-1.given.1 c.put_refusal.ensures)

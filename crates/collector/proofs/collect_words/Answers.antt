@@ -28,7 +28,7 @@ returns-in_default c =
     let ends = c.refuse-in_default.ensures in
     let t = words_seen a.reader a.words.now a.count a.area.now a.sums.now in
     let alike = summed_seen_passes a.reader (words_summed a.words.now a.count a.area.now a.sums.now) in
-    let fails = index_refused c.index_summed.ensures (ap length c.no_words-rows.ensures) c.enum_told-1.given.1 in
+    let fails = index_refused c.index_summed.ensures (ap length c.no_words-rows.ensures) c.in_default.is in
     promised a.reader (words_table a.words.now a.count a.area.now a.sums.now) t a.option a.scratch.now a.found.now
     a.pending.now alike _ _ _ _
     (collects_refused a.reader t a.option a.scratch.now a.found.now a.pending.now ends.1 ends.0
@@ -37,35 +37,35 @@ returns-in_default c =
 
 pub slice_bounds-rows-end : goal.slice_bounds-rows-end
 slice_bounds-rows-end c =
-    let known : Held c.index_summed.ensures c.n-1.given.0.0 = index_held c.index_summed.ensures c.n-1.given.0.0 c.n-1.given.1 in
+    let known : Held c.index_summed.ensures c.in-Rows.n = index_held c.index_summed.ensures c.in-Rows.n c.in-Rows.is in
     known.inside
 
 pub slice_bounds-collect_index-end : goal.slice_bounds-collect_index-end
 slice_bounds-collect_index-end c =
-    let known : Held c.index_summed.ensures c.n-1.given.0.0 = index_held c.index_summed.ensures c.n-1.given.0.0 c.n-1.given.1 in
+    let known : Held c.index_summed.ensures c.in-Rows.n = index_held c.index_summed.ensures c.in-Rows.n c.in-Rows.is in
     known.size
 
 pub collect_index-requires : goal.collect_index-requires
 unfolding is_reader
 collect_index-requires c =
-    let known : Held c.index_summed.ensures c.n-1.given.0.0 = index_held c.index_summed.ensures c.n-1.given.0.0 c.n-1.given.1 in
+    let known : Held c.index_summed.ensures c.in-Rows.n = index_held c.index_summed.ensures c.in-Rows.n c.in-Rows.is in
     let seen : let a = c.args in
-    held_seen a.reader a.area.now (take c.n-1.given.0.0 c.index_summed.last.1.1.1.1.0)
+    held_seen a.reader a.area.now (take c.in-Rows.n c.index_summed.last.1.1.1.1.0)
     ≡ words_seen a.reader a.words.now a.count a.area.now a.sums.now = let a = c.args in
     summed_held a.reader a.words.now a.count a.area.now a.sums.now
-    (take c.n-1.given.0.0 c.index_summed.last.1.1.1.1.0) known.table_passes known.told in
+    (take c.in-Rows.n c.index_summed.last.1.1.1.1.0) known.table_passes known.told in
     let a = c.args in
     let alike = summed_seen_passes a.reader (words_summed a.words.now a.count a.area.now a.sums.now) in
     (le-leb a.reader 7 c.if-reader-gt-MAX_READER.false, ap passes seen ∙ alike ∙ known.table_passes)
 
 pub returns : goal.returns
 returns c =
-    let known : Held c.index_summed.ensures c.n-1.given.0.0 = index_held c.index_summed.ensures c.n-1.given.0.0 c.n-1.given.1 in
+    let known : Held c.index_summed.ensures c.in-Rows.n = index_held c.index_summed.ensures c.in-Rows.n c.in-Rows.is in
     let seen : let a = c.args in
-    held_seen a.reader a.area.now (take c.n-1.given.0.0 c.index_summed.last.1.1.1.1.0)
+    held_seen a.reader a.area.now (take c.in-Rows.n c.index_summed.last.1.1.1.1.0)
     ≡ words_seen a.reader a.words.now a.count a.area.now a.sums.now = let a = c.args in
     summed_held a.reader a.words.now a.count a.area.now a.sums.now
-    (take c.n-1.given.0.0 c.index_summed.last.1.1.1.1.0) known.table_passes known.told in
+    (take c.in-Rows.n c.index_summed.last.1.1.1.1.0) known.table_passes known.told in
     let a = c.args in
     let last = c.collect_index.last.1.1.1.1 in
     promised_same a.reader (words_table a.words.now a.count a.area.now a.sums.now)

@@ -9,15 +9,15 @@ loop-i-init c = shaped_first _
 
 pub returns-in-Bad : goal.returns-in-Bad
 returns-in-Bad c =
-    shaped_bad _ _ _ c.loop-i.invariant c.loop-i-test.true (sym c.shapes.ensures ∙ c.enum_told-1.given.1)
+    shaped_bad _ _ _ c.loop-i.invariant c.loop-i-test.true (sym c.shapes.ensures ∙ c.in-Bad.is)
 
 pub returns-in-Last : goal.returns-in-Last
 returns-in-Last c =
-    shaped_last _ _ _ c.loop-i.invariant c.loop-i-test.true (sym c.shapes.ensures ∙ c.enum_told-in-Last-1.given.1)
+    shaped_last _ _ _ c.loop-i.invariant c.loop-i-test.true (sym c.shapes.ensures ∙ c.in-Last.is)
 
 pub loop-i-preserved : goal.loop-i-preserved
 loop-i-preserved c =
-    shaped_on _ _ _ c.loop-i.invariant c.loop-i-test.true _ (sym c.shapes.ensures ∙ c.next-1.given.1)
+    shaped_on _ _ _ c.loop-i.invariant c.loop-i-test.true _ (sym c.shapes.ensures ∙ c.in-Further.is)
 
 pub returns : goal.returns
 returns c =

@@ -1,6 +1,6 @@
 -- `join` meets its contract: the first pass measures the line, the tests come in the order of Refusals, and the second pass writes
 -- (`written-fits`, `written-short`).
-use Rattle.listing_rules.proofs.Prelude.{◌∙◌, ◌≡◌, refl, sym, true, ◌≤◌, arith, length, not-false, not-true}
+use Rattle.listing_rules.proofs.Prelude.{◌∙◌, ◌≡◌, refl, sym, true, ◌≤◌, arith, length}
 use Rattle.listing_rules.specs.Options.{lawful_options}
 use Rattle.listing_rules.specs.Joining.{lawful_set, options_from}
 use Rattle.listing_rules.specs.Server.{limited, buffer_after}
@@ -45,7 +45,7 @@ returns-then-not-all_stand c =
     rw
     (line_unheld s.args.tag.now s.args.options s.args.reference.now s.args.patterns.now
     measured
-    (sym c.all_stand.ensures ∙ not-true _ c.if-not-all_stand.true))
+    (sym c.all_stand.ensures ∙ c.if-not-all_stand.true))
     (refl, refl)
 
 pub returns-then-not-is_grammatical : goal.returns-then-not-is_grammatical
@@ -53,12 +53,12 @@ unfolding limited written_is buffer_after
 returns-then-not-is_grammatical c =
     let measured : let s = entry1 c in length (joined s.args.tag.now s.args.options s.args.reference.now
     s.args.patterns.now) ≤ 2048 = omega (arith, c.put_join-need.ensures.place) in
-    let held : let s = entry2 c in stands s.args.tag.now s.args.options s.args.reference.now s.args.patterns.now ≡ true = sym c.all_stand.ensures ∙ not-false _ c.if-not-all_stand.false in
+    let held : let s = entry2 c in stands s.args.tag.now s.args.options s.args.reference.now s.args.patterns.now ≡ true = sym c.all_stand.ensures ∙ c.if-not-all_stand.false in
     let s = entry1 c in
     rw
     (line_off s.args.tag.now s.args.options s.args.reference.now s.args.patterns.now
     measured held
-    (sym c.is_grammatical.ensures ∙ not-true _ c.if-not-is_grammatical.true))
+    (sym c.is_grammatical.ensures ∙ c.if-not-is_grammatical.true))
     (refl, refl)
 
 pub returns-then-not-is_known : goal.returns-then-not-is_known
@@ -66,14 +66,14 @@ unfolding limited written_is buffer_after
 returns-then-not-is_known c =
     let measured : let s = entry1 c in length (joined s.args.tag.now s.args.options s.args.reference.now
     s.args.patterns.now) ≤ 2048 = omega (arith, c.put_join-need.ensures.place) in
-    let held : let s = entry2 c in stands s.args.tag.now s.args.options s.args.reference.now s.args.patterns.now ≡ true = sym c.all_stand.ensures ∙ not-false _ c.if-not-all_stand.false in
+    let held : let s = entry2 c in stands s.args.tag.now s.args.options s.args.reference.now s.args.patterns.now ≡ true = sym c.all_stand.ensures ∙ c.if-not-all_stand.false in
     let read : let s = entry3 c in grammatical s.args.tag.now s.args.options s.args.reference.now s.args.patterns.now ≡
-    true = sym c.is_grammatical.ensures ∙ not-false _ c.if-not-is_grammatical.false in
+    true = sym c.is_grammatical.ensures ∙ c.if-not-is_grammatical.false in
     let s = entry1 c in
     rw
     (line_unknown s.args.tag.now s.args.options s.args.reference.now s.args.patterns.now
     measured held read
-    (sym c.is_Known.ensures ∙ not-true _ c.if-not-is_known.true))
+    (sym c.is_Known.ensures ∙ c.if-not-is_known.true))
     (refl, refl)
 
 pub returns-then-not-is_lawful : goal.returns-then-not-is_lawful
@@ -81,15 +81,15 @@ unfolding limited written_is buffer_after
 returns-then-not-is_lawful c =
     let measured : let s = entry1 c in length (joined s.args.tag.now s.args.options s.args.reference.now
     s.args.patterns.now) ≤ 2048 = omega (arith, c.put_join-need.ensures.place) in
-    let held : let s = entry2 c in stands s.args.tag.now s.args.options s.args.reference.now s.args.patterns.now ≡ true = sym c.all_stand.ensures ∙ not-false _ c.if-not-all_stand.false in
+    let held : let s = entry2 c in stands s.args.tag.now s.args.options s.args.reference.now s.args.patterns.now ≡ true = sym c.all_stand.ensures ∙ c.if-not-all_stand.false in
     let read : let s = entry3 c in grammatical s.args.tag.now s.args.options s.args.reference.now s.args.patterns.now ≡
-    true = sym c.is_grammatical.ensures ∙ not-false _ c.if-not-is_grammatical.false in
-    let known : let s = entry4 c in lawful_set s.args.options ≡ true = sym c.is_Known.ensures ∙ not-false _ c.if-not-is_known.false in
+    true = sym c.is_grammatical.ensures ∙ c.if-not-is_grammatical.false in
+    let known : let s = entry4 c in lawful_set s.args.options ≡ true = sym c.is_Known.ensures ∙ c.if-not-is_known.false in
     let s = entry1 c in
     rw
     (line_alone s.args.tag.now s.args.options s.args.reference.now s.args.patterns.now
     measured held read known
-    (sym c.is_lawful.ensures ∙ not-true _ c.if-not-is_lawful.true))
+    (sym c.is_lawful.ensures ∙ c.if-not-is_lawful.true))
     (refl, refl)
 
 pub returns-then-not-few_patterns : goal.returns-then-not-few_patterns
@@ -97,28 +97,28 @@ unfolding limited written_is buffer_after
 returns-then-not-few_patterns c =
     let measured : let s = entry1 c in length (joined s.args.tag.now s.args.options s.args.reference.now
     s.args.patterns.now) ≤ 2048 = omega (arith, c.put_join-need.ensures.place) in
-    let held : let s = entry2 c in stands s.args.tag.now s.args.options s.args.reference.now s.args.patterns.now ≡ true = sym c.all_stand.ensures ∙ not-false _ c.if-not-all_stand.false in
+    let held : let s = entry2 c in stands s.args.tag.now s.args.options s.args.reference.now s.args.patterns.now ≡ true = sym c.all_stand.ensures ∙ c.if-not-all_stand.false in
     let read : let s = entry3 c in grammatical s.args.tag.now s.args.options s.args.reference.now s.args.patterns.now ≡
-    true = sym c.is_grammatical.ensures ∙ not-false _ c.if-not-is_grammatical.false in
-    let known : let s = entry4 c in lawful_set s.args.options ≡ true = sym c.is_Known.ensures ∙ not-false _ c.if-not-is_known.false in
-    let lawful : let s = entry5 c in lawful_options (options_from s.args.options) ≡ true = sym c.is_lawful.ensures ∙ not-false _ c.if-not-is_lawful.false in
+    true = sym c.is_grammatical.ensures ∙ c.if-not-is_grammatical.false in
+    let known : let s = entry4 c in lawful_set s.args.options ≡ true = sym c.is_Known.ensures ∙ c.if-not-is_known.false in
+    let lawful : let s = entry5 c in lawful_options (options_from s.args.options) ≡ true = sym c.is_lawful.ensures ∙ c.if-not-is_lawful.false in
     let s = entry1 c in
     rw
     (line_many s.args.tag.now s.args.options s.args.reference.now s.args.patterns.now
     measured held read known lawful
-    (sym c.few_patterns.ensures ∙ not-true _ c.if-not-few_patterns.true))
+    (sym c.few_patterns.ensures ∙ c.if-not-few_patterns.true))
     (refl, refl)
 
 pub returns-then-out-need : goal.returns-then-out-need
 returns-then-out-need c =
     let measured : let s = entry1 c in length (joined s.args.tag.now s.args.options s.args.reference.now
     s.args.patterns.now) ≤ 2048 = omega (arith, c.put_join-need.ensures.place) in
-    let held : let s = entry2 c in stands s.args.tag.now s.args.options s.args.reference.now s.args.patterns.now ≡ true = sym c.all_stand.ensures ∙ not-false _ c.if-not-all_stand.false in
+    let held : let s = entry2 c in stands s.args.tag.now s.args.options s.args.reference.now s.args.patterns.now ≡ true = sym c.all_stand.ensures ∙ c.if-not-all_stand.false in
     let read : let s = entry3 c in grammatical s.args.tag.now s.args.options s.args.reference.now s.args.patterns.now ≡
-    true = sym c.is_grammatical.ensures ∙ not-false _ c.if-not-is_grammatical.false in
-    let known : let s = entry4 c in lawful_set s.args.options ≡ true = sym c.is_Known.ensures ∙ not-false _ c.if-not-is_known.false in
-    let lawful : let s = entry5 c in lawful_options (options_from s.args.options) ≡ true = sym c.is_lawful.ensures ∙ not-false _ c.if-not-is_lawful.false in
-    let short : let s = entry6 c in few s.args.tag.now s.args.options s.args.reference.now s.args.patterns.now ≡ true = sym c.few_patterns.ensures ∙ not-false _ c.if-not-few_patterns.false in
+    true = sym c.is_grammatical.ensures ∙ c.if-not-is_grammatical.false in
+    let known : let s = entry4 c in lawful_set s.args.options ≡ true = sym c.is_Known.ensures ∙ c.if-not-is_known.false in
+    let lawful : let s = entry5 c in lawful_options (options_from s.args.options) ≡ true = sym c.is_lawful.ensures ∙ c.if-not-is_lawful.false in
+    let short : let s = entry6 c in few s.args.tag.now s.args.options s.args.reference.now s.args.patterns.now ≡ true = sym c.few_patterns.ensures ∙ c.if-not-few_patterns.false in
     let s = entry1 c in
     rw
     (line_joined s.args.tag.now s.args.options s.args.reference.now s.args.patterns.now
@@ -129,12 +129,12 @@ pub returns : goal.returns
 returns c =
     let measured : let s = entry1 c in length (joined s.args.tag.now s.args.options s.args.reference.now
     s.args.patterns.now) ≤ 2048 = omega (arith, c.put_join-need.ensures.place) in
-    let held : let s = entry2 c in stands s.args.tag.now s.args.options s.args.reference.now s.args.patterns.now ≡ true = sym c.all_stand.ensures ∙ not-false _ c.if-not-all_stand.false in
+    let held : let s = entry2 c in stands s.args.tag.now s.args.options s.args.reference.now s.args.patterns.now ≡ true = sym c.all_stand.ensures ∙ c.if-not-all_stand.false in
     let read : let s = entry3 c in grammatical s.args.tag.now s.args.options s.args.reference.now s.args.patterns.now ≡
-    true = sym c.is_grammatical.ensures ∙ not-false _ c.if-not-is_grammatical.false in
-    let known : let s = entry4 c in lawful_set s.args.options ≡ true = sym c.is_Known.ensures ∙ not-false _ c.if-not-is_known.false in
-    let lawful : let s = entry5 c in lawful_options (options_from s.args.options) ≡ true = sym c.is_lawful.ensures ∙ not-false _ c.if-not-is_lawful.false in
-    let short : let s = entry6 c in few s.args.tag.now s.args.options s.args.reference.now s.args.patterns.now ≡ true = sym c.few_patterns.ensures ∙ not-false _ c.if-not-few_patterns.false in
+    true = sym c.is_grammatical.ensures ∙ c.if-not-is_grammatical.false in
+    let known : let s = entry4 c in lawful_set s.args.options ≡ true = sym c.is_Known.ensures ∙ c.if-not-is_known.false in
+    let lawful : let s = entry5 c in lawful_options (options_from s.args.options) ≡ true = sym c.is_lawful.ensures ∙ c.if-not-is_lawful.false in
+    let short : let s = entry6 c in few s.args.tag.now s.args.options s.args.reference.now s.args.patterns.now ≡ true = sym c.few_patterns.ensures ∙ c.if-not-few_patterns.false in
     let s = entry1 c in
     rw
     (line_joined s.args.tag.now s.args.options s.args.reference.now s.args.patterns.now

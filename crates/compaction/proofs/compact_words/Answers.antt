@@ -1,5 +1,5 @@
 -- `compaction::compact_words` meets its contract: 1 for a table that does not pass, else its names are moved. By MoveLaws.
-use Rattle.listing_rules.proofs.Prelude.{◌∙◌, ◌≡◌, ap, sym, true, min, take, not-false, not-true}
+use Rattle.listing_rules.proofs.Prelude.{◌∙◌, ◌≡◌, ap, sym, true, min, take}
 use Rattle.listing_rules.specs.Table.{passes}
 use Rattle.records.specs.Lent.{lent_of, words_table}
 use Rattle.compaction.proofs.MoveLaws.{front_size, front_inside, sums_size, refused, count_inside, count_size, rows_within, good, done}
@@ -26,14 +26,14 @@ slice_bounds-check_summed-end-3 c =
 pub returns-then-not-check_summed : goal.returns-then-not-check_summed
 returns-then-not-check_summed c =
     let number : let a = c.args in c.least-n.result ≡ lent_of a.words.now a.lent a.sums.now = let a = c.args in c.least-n.ensures ∙ ap (min a.lent) c.least.ensures in
-    refused _ _ _ _ _ _ number (sym c.check_summed.ensures ∙ not-true _ c.if-not-check_summed.true)
+    refused _ _ _ _ _ _ number (sym c.check_summed.ensures ∙ c.if-not-check_summed.true)
 
 pub slice_bounds-move_names-end : goal.slice_bounds-move_names-end
 slice_bounds-move_names-end c =
     let number : let a = c.args in c.least-n.result ≡ lent_of a.words.now a.lent a.sums.now = let a = c.args in c.least-n.ensures ∙ ap (min a.lent) c.least.ensures in
     let passed : let a = c.args in
     let n = c.least-n.result in
-    passes (words_table (take n a.words.now) a.count a.area.now (take n a.sums.now)) ≡ true = sym c.check_summed.ensures ∙ not-false _ c.if-not-check_summed.false in
+    passes (words_table (take n a.words.now) a.count a.area.now (take n a.sums.now)) ≡ true = sym c.check_summed.ensures ∙ c.if-not-check_summed.false in
     let a = c.args in
     count_inside a.words.now c.least-n.result a.count a.area.now
     (front_inside a.words.now a.lent a.count a.area.now a.sums.now _ number)
@@ -44,7 +44,7 @@ slice_bounds-move_names-end-2 c =
     let number : let a = c.args in c.least-n.result ≡ lent_of a.words.now a.lent a.sums.now = let a = c.args in c.least-n.ensures ∙ ap (min a.lent) c.least.ensures in
     let passed : let a = c.args in
     let n = c.least-n.result in
-    passes (words_table (take n a.words.now) a.count a.area.now (take n a.sums.now)) ≡ true = sym c.check_summed.ensures ∙ not-false _ c.if-not-check_summed.false in
+    passes (words_table (take n a.words.now) a.count a.area.now (take n a.sums.now)) ≡ true = sym c.check_summed.ensures ∙ c.if-not-check_summed.false in
     let a = c.args in
     count_size a.words.now c.least-n.result a.count a.area.now
     (front_inside a.words.now a.lent a.count a.area.now a.sums.now _ number)
@@ -55,7 +55,7 @@ move_names-requires c =
     let number : let a = c.args in c.least-n.result ≡ lent_of a.words.now a.lent a.sums.now = let a = c.args in c.least-n.ensures ∙ ap (min a.lent) c.least.ensures in
     let passed : let a = c.args in
     let n = c.least-n.result in
-    passes (words_table (take n a.words.now) a.count a.area.now (take n a.sums.now)) ≡ true = sym c.check_summed.ensures ∙ not-false _ c.if-not-check_summed.false in
+    passes (words_table (take n a.words.now) a.count a.area.now (take n a.sums.now)) ≡ true = sym c.check_summed.ensures ∙ c.if-not-check_summed.false in
     let a = c.args in
     rows_within a.words.now c.least-n.result a.count a.area.now
     (front_inside a.words.now a.lent a.count a.area.now a.sums.now _ number)
@@ -66,5 +66,5 @@ returns c =
     let number : let a = c.args in c.least-n.result ≡ lent_of a.words.now a.lent a.sums.now = let a = c.args in c.least-n.ensures ∙ ap (min a.lent) c.least.ensures in
     let passed : let a = c.args in
     let n = c.least-n.result in
-    passes (words_table (take n a.words.now) a.count a.area.now (take n a.sums.now)) ≡ true = sym c.check_summed.ensures ∙ not-false _ c.if-not-check_summed.false in
+    passes (words_table (take n a.words.now) a.count a.area.now (take n a.sums.now)) ≡ true = sym c.check_summed.ensures ∙ c.if-not-check_summed.false in
     done _ _ _ _ _ _ number passed _ _ c.move_names.ensures

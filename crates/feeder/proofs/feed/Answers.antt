@@ -24,7 +24,7 @@ pub loop-i-preserved : goal.loop-i-preserved
 loop-i-preserved c =
     (
       c.feed_byte-fed.kept.1.0 ∙ c.loop-i.invariant.0,
-      sym (feed_on _ _ _ _ _ _ c.loop-i-test.true c.feed_byte-fed.ensures c.enum_told-1.given.1) ∙ c.loop-i.invariant.1,
+      sym (feed_on _ _ _ _ _ _ c.loop-i-test.true c.feed_byte-fed.ensures c.in-Quiet.is) ∙ c.loop-i.invariant.1,
     )
 
 pub returns-in_default : goal.returns-in_default

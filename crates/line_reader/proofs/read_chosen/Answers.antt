@@ -10,22 +10,22 @@ use Rattle.listing_rules.proofs.Prelude.{◌-◌}
 use Rattle.line_reader.proofs.read_chosen.Goals as goal
 
 pub loop-k-init : goal.loop-k-init
-loop-k-init c = choosing_none _ _ c.requires.0
+loop-k-init c = choosing_none _ _ c.requires.from_in_bounds
 
 pub slice_bounds-skip-count : goal.slice_bounds-skip-count
 slice_bounds-skip-count c =
-    let spanned : NameSpan c.loop-k.k c.loop-k.first c.name_span-span.result = span_named _ _ _ c.requires.1.1 c.loop-k-test.true c.name_span-span.ensures in
+    let spanned : NameSpan c.loop-k.k c.loop-k.first c.name_span-span.result = span_named _ _ _ c.requires.names_value.1 c.loop-k-test.true c.name_span-span.ensures in
     spanned.order
 
 pub slice_bounds-skip-start : goal.slice_bounds-skip-start
 slice_bounds-skip-start c =
-    let spanned : NameSpan c.loop-k.k c.loop-k.first c.name_span-span.result = span_named _ _ _ c.requires.1.1 c.loop-k-test.true c.name_span-span.ensures in
+    let spanned : NameSpan c.loop-k.k c.loop-k.first c.name_span-span.result = span_named _ _ _ c.requires.names_value.1 c.loop-k-test.true c.name_span-span.ensures in
     spanned.order
 
 pub slice_bounds-skip-end : goal.slice_bounds-skip-end
 slice_bounds-skip-end c =
-    let spanned : NameSpan c.loop-k.k c.loop-k.first c.name_span-span.result = span_named _ _ _ c.requires.1.1 c.loop-k-test.true c.name_span-span.ensures in
-    omega (arith, spanned.inside, ap length c.requires.1.0)
+    let spanned : NameSpan c.loop-k.k c.loop-k.first c.name_span-span.result = span_named _ _ _ c.requires.names_value.1 c.loop-k-test.true c.name_span-span.ensures in
+    omega (arith, spanned.inside, ap length c.requires.names_value.0)
 
 pub skip-requires : goal.skip-requires
 skip-requires c = c.loop-k.invariant.inside
@@ -40,15 +40,15 @@ overflow_mul-member c =
 
 pub loop-k-preserved : goal.loop-k-preserved
 loop-k-preserved c =
-    let spanned : NameSpan c.loop-k.k c.loop-k.first c.name_span-span.result = span_named _ _ _ c.requires.1.1 c.loop-k-test.true c.name_span-span.ensures in
-    let skipped : Skips c.args.line.now c.loop-k.at (separated c.loop-k.first (name_of c.loop-k.k)) c.skip.result = subst (λ (x : List ℕ). Skips c.args.line.now c.loop-k.at x c.skip.result) (span_text _ c.requires.1.0 spanned) c.skip.ensures in
+    let spanned : NameSpan c.loop-k.k c.loop-k.first c.name_span-span.result = span_named _ _ _ c.requires.names_value.1 c.loop-k-test.true c.name_span-span.ensures in
+    let skipped : Skips c.args.line.now c.loop-k.at (separated c.loop-k.first (name_of c.loop-k.k)) c.skip.result = subst (λ (x : List ℕ). Skips c.args.line.now c.loop-k.at x c.skip.result) (span_text _ c.requires.names_value.0 spanned) c.skip.ensures in
     let inv = c.loop-k.invariant in
     let h = c.loop-k-test.true in
     let reading = Skips _ _ _ in
     ⊎_elim
     (λ w. let s = subst reading w.1.given.1 skipped in rw (w.3, w.4, w.5) (choosing_in inv _ h s.0 s.1))
     (λ w. rw (w.2, w.3, w.4) (choosing_out inv h (subst reading w.1.given.1 skipped)))
-    c.in-At.came
+    c.in-At.branch
 
 pub overflow_cast-result : goal.overflow_cast-result
 overflow_cast-result c = omega (arith, choosing_fits c.loop-k.invariant)

@@ -11,23 +11,23 @@ loop-b-init c = naming_none _ _ _
 
 pub returns-then-name-len : goal.returns-then-name-len
 returns-then-name-len c =
-    let told : Next c.args.line.now c.loop-b.i (Byte c.b-1.given.0.0 c.b-1.given.0.1.0) = subst (Next _ _) c.b-1.given.1 c.next_piece.ensures in
+    let told : Next c.args.line.now c.loop-b.i (Byte c.in-Byte.b c.in-Byte.next) = subst (Next _ _) c.in-Byte.is c.next_piece.ensures in
     naming_full c.loop-b.invariant _ _ told c.if-name-len.true
 
 pub loop-b-smaller : goal.loop-b-smaller
 loop-b-smaller c =
-    let told : Next c.args.line.now c.loop-b.i (Byte c.b-1.given.0.0 c.b-1.given.0.1.0) = subst (Next _ _) c.b-1.given.1 c.next_piece.ensures in
+    let told : Next c.args.line.now c.loop-b.i (Byte c.in-Byte.b c.in-Byte.next) = subst (Next _ _) c.in-Byte.is c.next_piece.ensures in
     omega (arith, told)
 
 pub loop-b-preserved : goal.loop-b-preserved
 loop-b-preserved c =
-    let told : Next c.args.line.now c.loop-b.i (Byte c.b-1.given.0.0 c.b-1.given.0.1.0) = subst (Next _ _) c.b-1.given.1 c.next_piece.ensures in
+    let told : Next c.args.line.now c.loop-b.i (Byte c.in-Byte.b c.in-Byte.next) = subst (Next _ _) c.in-Byte.is c.next_piece.ensures in
     naming_byte c.loop-b.invariant _ _ told c.if-name-len.false
 
 pub returns-in-End : goal.returns-in-End
 returns-in-End c =
-    naming_end c.loop-b.invariant _ (subst (Next _ _) c.next-1.given.1 c.next_piece.ensures)
+    naming_end c.loop-b.invariant _ (subst (Next _ _) c.in-End.is c.next_piece.ensures)
 
 pub returns-in-Missing : goal.returns-in-Missing
 returns-in-Missing c =
-    naming_torn c.loop-b.invariant (subst (Next _ _) c.enum_told-1.given.1 c.next_piece.ensures)
+    naming_torn c.loop-b.invariant (subst (Next _ _) c.in-Missing.is c.next_piece.ensures)

@@ -1,5 +1,5 @@
 -- `skip` meets its contract: a text that has room is compared at once (`Skipping`).
-use Rattle.listing_rules.proofs.Prelude.{◌∙◌, sym, arith, not-false, not-true}
+use Rattle.listing_rules.proofs.Prelude.{◌∙◌, sym, arith}
 use Rattle.line_reader.proofs.Skipping.{skip_short, skip_other, skip_found}
 use Rattle.line_reader.proofs.skip.Goals as goal
 
@@ -9,8 +9,8 @@ returns-then-line-at c =
 
 pub returns-then-not-same_bytes : goal.returns-then-not-same_bytes
 returns-then-not-same_bytes c =
-    skip_other _ _ _ c.if-line-at.false (sym c.same_bytes.ensures ∙ not-true _ c.if-not-same_bytes.true)
+    skip_other _ _ _ c.if-line-at.false (sym c.same_bytes.ensures ∙ c.if-not-same_bytes.true)
 
 pub returns : goal.returns
 returns c =
-    (skip_found _ _ _ c.if-line-at.false (sym c.same_bytes.ensures ∙ not-false _ c.if-not-same_bytes.false), omega arith)
+    (skip_found _ _ _ c.if-line-at.false (sym c.same_bytes.ensures ∙ c.if-not-same_bytes.false), omega arith)

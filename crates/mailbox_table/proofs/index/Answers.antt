@@ -14,7 +14,7 @@ returns-in_default c =
     let t = c.args.table.now in
     indexes_fails (subst (λ (r : Indexing). Finds t (packed_table t) (packed_records t) (map cell_of (packed_records t)) c.args.words.now
     found.new.1.0 r)
-    c.enum_told-1.given.1 found.ensures) c.clear_words.ensures
+    c.in_default.is found.ensures) c.clear_words.ensures
 
 pub returns : goal.returns
 returns c =
@@ -22,4 +22,4 @@ returns c =
     let t = c.args.table.now in
     indexes_rows (subst (λ (r : Indexing). Finds t (packed_table t) (packed_records t) (map cell_of (packed_records t)) c.args.words.now
     found.new.1.0 r)
-    c.n-1.given.1 found.ensures)
+    c.in-Rows.is found.ensures)

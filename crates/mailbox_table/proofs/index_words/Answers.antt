@@ -14,7 +14,7 @@ returns-in_default c =
     let t = word_table _ a.raw.now _ in
     indexes_fails (subst (λ (r : Indexing). Finds a.area.now t (take a.count (map record_of a.raw.now)) (take a.count a.raw.now)
     a.words.now
-    found.new.1.1.1.0 r) c.enum_told-1.given.1 found.ensures) c.clear_words.ensures
+    found.new.1.1.1.0 r) c.in_default.is found.ensures) c.clear_words.ensures
 
 pub returns : goal.returns
 returns c =
@@ -23,4 +23,4 @@ returns c =
     let t = word_table _ a.raw.now _ in
     indexes_rows (subst (λ (r : Indexing). Finds a.area.now t (take a.count (map record_of a.raw.now)) (take a.count a.raw.now)
     a.words.now
-    found.new.1.1.1.0 r) c.n-1.given.1 found.ensures)
+    found.new.1.1.1.0 r) c.in-Rows.is found.ensures)

@@ -12,7 +12,7 @@ loop-i-init c = refl
 pub loop-i-preserved : goal.loop-i-preserved
 loop-i-preserved c =
     let turn = c.loop-i in
-    rw c.name_byte-ok.ensures (kept_step name_byte _ _ turn.ok c.loop-i-test.true ∙ turn.inv)
+    rw c.name_byte-ok.ensures (kept_step name_byte _ _ turn.ok c.loop-i-test.true ∙ turn.invariant)
 
 pub returns : goal.returns
 returns c =

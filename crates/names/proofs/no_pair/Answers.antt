@@ -10,7 +10,7 @@ loop-i-init c = (omega arith, refl)
 pub loop-i-preserved : goal.loop-i-preserved
 loop-i-preserved c =
     let turn = c.loop-i in
-    (omega arith, pair_more c.args.name.now turn.ok _ turn.inv.0 c.loop-i-test.true ∙ turn.inv.1)
+    (omega arith, pair_more c.args.name.now turn.ok _ turn.invariant.0 c.loop-i-test.true ∙ turn.invariant.1)
 
 pub returns : goal.returns
 returns c =

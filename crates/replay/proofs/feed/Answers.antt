@@ -1,5 +1,5 @@
 -- `replay::feed` meets its contract: each turn of its loop takes the characters before the next line feed, and the line feed. By FeedLaws.
-use Rattle.listing_rules.proofs.Prelude.{◌∙◌, refl, sym, arith, not-false, not-true}
+use Rattle.listing_rules.proofs.Prelude.{◌∙◌, refl, sym, arith}
 use Rattle.replay.proofs.GatherLaws.{gathered_stopped}
 use Rattle.replay.proofs.FeedLaws.{part_start, part_end, part_stopped, line_inside, part_some, part_line, part_counted, feed_taken}
 use Rattle.listing_rules.proofs.Prelude.{◌-◌}
@@ -7,15 +7,15 @@ use Rattle.replay.proofs.feed.Goals as goal
 
 pub returns-then-not-is_ready : goal.returns-then-not-is_ready
 returns-then-not-is_ready c =
-    (sym c.is_ready.ensures ∙ not-true _ c.if-not-is_ready.true, refl)
+    (sym c.is_ready.ensures ∙ c.if-not-is_ready.true, refl)
 
 pub loop-at-init : goal.loop-at-init
 loop-at-init c =
-    part_start _ _ _ _ (sym c.is_ready.ensures ∙ not-false _ c.if-not-is_ready.false)
+    part_start _ _ _ _ (sym c.is_ready.ensures ∙ c.if-not-is_ready.false)
 
 pub returns-then-held : goal.returns-then-held
 returns-then-held c =
-    feed_taken refl (sym c.is_ready.ensures ∙ not-false _ c.if-not-is_ready.false)
+    feed_taken refl (sym c.is_ready.ensures ∙ c.if-not-is_ready.false)
     (part_stopped c.loop-at.invariant c.if-held.true)
 
 pub slice_bounds-gather-end : goal.slice_bounds-gather-end
@@ -57,5 +57,5 @@ loop-at-preserved c =
 
 pub returns : goal.returns
 returns c =
-    feed_taken refl (sym c.is_ready.ensures ∙ not-false _ c.if-not-is_ready.false)
+    feed_taken refl (sym c.is_ready.ensures ∙ c.if-not-is_ready.false)
     (part_end c.loop-at.invariant c.loop-at-test.false)

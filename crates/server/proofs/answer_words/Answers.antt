@@ -1,6 +1,6 @@
 -- `server::answer_words` meets its contract: refusals 16, 1 and 2, an edit, or what `respond` gives over the rows that the reader sees. By AnswerLaws;
 -- the index by HeldLaws, the rows seen by SeenLaws of mailbox_table.
-use Rattle.listing_rules.proofs.Prelude.{◌∙◌, ◌≡◌, ap, subst, sym, true, drop, length, take, eqb, eqb-true, le-leb, lt-leb, not-false, not-true}
+use Rattle.listing_rules.proofs.Prelude.{◌∙◌, ◌≡◌, ap, subst, sym, true, drop, length, take, eqb, eqb-true, le-leb, lt-leb}
 use Rattle.listing_rules.specs.Table.{passes}
 use Rattle.listing_rules.specs.Namespaces.{namespaces_pass}
 use Rattle.listing_rules.specs.Readers.{is_reader}
@@ -75,23 +75,23 @@ slice_bounds-index_summed-end-4 c =
 pub returns-in_default : goal.returns-in_default
 returns-in_default c =
     let known-reader : is_reader (entry_of c).args.reader ≡ true = unfold is_reader in le-leb _ 7 (read_of c).if1.false in
-    let fails = index_refused c.index_summed.ensures (ap length c.no_words-rows.ensures) c.enum_told-1.given.1 in
+    let fails = index_refused c.index_summed.ensures (ap length c.no_words-rows.ensures) c.in_default.is in
     refused_1 _ _ _ _ _ _ _ _ _ c.least-n.ensures known-reader _ fails c.unchanged-in_default.ensures
 
 pub returns-then-not-check : goal.returns-then-not-check
 returns-then-not-check c =
-    let known : Held c.index_summed.ensures c.m-1.given.0.0 = index_held c.index_summed.ensures _ c.m-1.given.1 in
+    let known : Held c.index_summed.ensures c.in-Rows.m = index_held c.index_summed.ensures _ c.in-Rows.is in
     let passed : let counted = counted_of c in
     let a = (entry_of counted).args in
     let n = counted.least.result in
     passes (words_table (take n a.words.now) a.count a.area.now (take n a.sums.now)) ≡ true = known.table_passes in
     let counted = counted_of c in
-    let bad = sym c.check.ensures ∙ not-true _ c.if-not-check.true in
+    let bad = sym c.check.ensures ∙ c.if-not-check.true in
     refused_2 _ _ _ _ _ _ _ _ _ counted.least.ensures (known-reader counted) passed _ bad c.unchanged-then-not-check.ensures
 
 pub returns-then-is_edit : goal.returns-then-is_edit
 returns-then-is_edit c =
-    let listed : namespaces_pass (entry_of (counted_of (found_of c))).args.namespaces.now ≡ true = sym c.check.ensures ∙ not-false _ c.if-not-check.false in
+    let listed : namespaces_pass (entry_of (counted_of (found_of c))).args.namespaces.now ≡ true = sym c.check.ensures ∙ c.if-not-check.false in
     let counted = counted_of (found_of c) in
     let a = (entry_of counted).args in
     let edits = sym c.is_edit.ensures ∙ c.if-is_edit.true in
@@ -128,7 +128,7 @@ respond-written-requires c =
     let all = found.index-summed.last.1.1.1.1.0 in
     Front (entry_of (counted_of found)).args.reader (take m all) (drop m all) c.see_rows-seen.new.words c.see_rows-seen.result = seen_front _ _ c.see_rows-seen.ensures in
     let found = found_of c in
-    (subst (Index _) (sym seen.words) (seen_index _ (known found).index), told (read_of (counted_of found)))
+ record { index = subst (Index _) (sym seen.words) (seen_index _ (known found).index); reads = told (read_of (counted_of found)) }
 
 pub returns : goal.returns
 returns c =
@@ -136,7 +136,7 @@ returns c =
     let m = found.m.given.0.0 in
     let all = found.index-summed.last.1.1.1.1.0 in
     Front (entry_of (counted_of found)).args.reader (take m all) (drop m all) c.see_rows-seen.new.words c.see_rows-seen.result = seen_front _ _ c.see_rows-seen.ensures in
-    let listed : namespaces_pass (entry_of (counted_of (found_of c))).args.namespaces.now ≡ true = sym c.check.ensures ∙ not-false _ c.if-not-check.false in
+    let listed : namespaces_pass (entry_of (counted_of (found_of c))).args.namespaces.now ≡ true = sym c.check.ensures ∙ c.if-not-check.false in
     let found = found_of c in
     let counted = counted_of found in
     let read = read_of counted in

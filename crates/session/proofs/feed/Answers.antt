@@ -1,5 +1,5 @@
 -- `session::feed` meets its contract: not ready, a piece without a line feed, a piece with one. Rests on FeedLaws.
-use Rattle.listing_rules.proofs.Prelude.{◌∙◌, ◌≡◌, refl, sym, true, arith, not-false, not-true}
+use Rattle.listing_rules.proofs.Prelude.{◌∙◌, ◌≡◌, refl, sym, true, arith}
 use Rattle.kept_table.specs.Kept.{Lent, lent}
 use Rattle.session.specs.Feeding.{ready_in}
 use Rattle.session.proofs.FeedLaws.{within, feeds_part, feeds_line, feed_taken}
@@ -10,12 +10,12 @@ abbrev memory : tie.Start → Lent
 memory start = lent start.args.table.now start.args.records.now start.args.namespaces.now start.args.out.now
 
 pub returns-then-not-sized : goal.returns-then-not-sized
-returns-then-not-sized c = (sym c.is_ready-sized.ensures ∙ not-true _ c.if-not-sized.true, refl, refl)
+returns-then-not-sized c = (sym c.is_ready-sized.ensures ∙ c.if-not-sized.true, refl, refl)
 
 pub returns-then-chunk-used : goal.returns-then-chunk-used
 returns-then-chunk-used c =
     let is-so : ready_in (memory c)
-    c.args.line.now c.args.state ≡ true = sym c.is_ready-sized.ensures ∙ not-false _ c.if-not-sized.false in
+    c.args.line.now c.args.state ≡ true = sym c.is_ready-sized.ensures ∙ c.if-not-sized.false in
     let gathered = c.gather_line-run in
     let so = is-so in
     feed_taken _ c.answer_taken.ensures so
@@ -24,7 +24,7 @@ returns-then-chunk-used c =
 pub end_frame-done-requires : goal.end_frame-done-requires
 end_frame-done-requires c =
     let is-so : ready_in (memory c)
-    c.args.line.now c.args.state ≡ true = sym c.is_ready-sized.ensures ∙ not-false _ c.if-not-sized.false in
+    c.args.line.now c.args.state ≡ true = sym c.is_ready-sized.ensures ∙ c.if-not-sized.false in
     within (memory c) c.args.line.now c.args.state is-so
 
 pub overflow_add-used : goal.overflow_add-used
@@ -36,7 +36,7 @@ overflow_add-used c =
 pub returns : goal.returns
 returns c =
     let is-so : ready_in (memory c)
-    c.args.line.now c.args.state ≡ true = sym c.is_ready-sized.ensures ∙ not-false _ c.if-not-sized.false in
+    c.args.line.now c.args.state ≡ true = sym c.is_ready-sized.ensures ∙ c.if-not-sized.false in
     let gathered = c.gather_line-run in
     let so = is-so in
     feed_taken _ c.answer_taken-2.ensures so

@@ -4,4 +4,4 @@ use Rattle.subscriptions.proofs.carry_out.Goals as goal
 
 pub slice_bounds-carry_sums-end-2 : goal.slice_bounds-carry_sums-end-2
 slice_bounds-carry_sums-end-2 c =
-    sym (length-take-le _ _ c.requires.0.1)
+    sym (length-take-le _ _ c.requires.fits.1)

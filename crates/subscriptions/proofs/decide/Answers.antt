@@ -1,5 +1,5 @@
 -- `subscriptions::decide` meets its contract: the place, whether the name stands there, and one law for each way on. By DecideLaws.
-use Rattle.listing_rules.proofs.Prelude.{◌∙◌, ◌≡◌, ap, sym, false, true, ◌<◌, arith, length, not-false, not-true}
+use Rattle.listing_rules.proofs.Prelude.{◌∙◌, ◌≡◌, ap, sym, false, true, ◌<◌, arith, length}
 use Rattle.mailbox_table.specs.declared.rows.Row.{Row}
 use Rattle.subscriptions.specs.Plans.{setting_plan, clearing_plan, stands_at}
 use Rattle.subscriptions.proofs.DecideLaws.{stands_inside, decide_fresh, decide_none, decide_set, decide_clear}
@@ -8,33 +8,33 @@ use Rattle.subscriptions.proofs.decide.Goals as goal
 pub returns-then-subscribe : goal.returns-then-subscribe
 returns-then-subscribe c =
     let missing : let a = c.args in stands_at a.area.now a.words.now
-    c.place_of-k.result a.name.now ≡ false = sym c.stands_at.ensures ∙ not-true _ c.if-not-stands_at.true in
+    c.place_of-k.result a.name.now ≡ false = sym c.stands_at.ensures ∙ c.if-not-stands_at.true in
     rw c.if-subscribe.true (c.insertion.ensures ∙ sym (decide_fresh c.requires.0 _ _ c.place_of-k.ensures missing))
 
 pub returns-then-not-stands_at : goal.returns-then-not-stands_at
 returns-then-not-stands_at c =
     let missing : let a = c.args in stands_at a.area.now a.words.now
-    c.place_of-k.result a.name.now ≡ false = sym c.stands_at.ensures ∙ not-true _ c.if-not-stands_at.true in
+    c.place_of-k.result a.name.now ≡ false = sym c.stands_at.ensures ∙ c.if-not-stands_at.true in
     sym (rw c.if-subscribe.false (decide_none c.requires.0 _ _ c.place_of-k.ensures missing))
 
 pub offset_bounds-words-k : goal.offset_bounds-words-k
 offset_bounds-words-k c =
     let there : let a = c.args in stands_at a.area.now a.words.now
-    c.place_of-k.result a.name.now ≡ true = sym c.stands_at.ensures ∙ not-false _ c.if-not-stands_at.false in
+    c.place_of-k.result a.name.now ≡ true = sym c.stands_at.ensures ∙ c.if-not-stands_at.false in
     let inside : c.place_of-k.result < length c.args.words.now = stands_inside _ _ _ _ there in
     omega (arith, inside)
 
 pub bounds-words-k : goal.bounds-words-k
 bounds-words-k c =
     let there : let a = c.args in stands_at a.area.now a.words.now
-    c.place_of-k.result a.name.now ≡ true = sym c.stands_at.ensures ∙ not-false _ c.if-not-stands_at.false in
+    c.place_of-k.result a.name.now ≡ true = sym c.stands_at.ensures ∙ c.if-not-stands_at.false in
     let inside : c.place_of-k.result < length c.args.words.now = stands_inside _ _ _ _ there in
     inside
 
 pub returns-then-subscribe-2 : goal.returns-then-subscribe-2
 returns-then-subscribe-2 c =
     let there : let a = c.args in stands_at a.area.now a.words.now
-    c.place_of-k.result a.name.now ≡ true = sym c.stands_at.ensures ∙ not-false _ c.if-not-stands_at.false in
+    c.place_of-k.result a.name.now ≡ true = sym c.stands_at.ensures ∙ c.if-not-stands_at.false in
     c.setting.ensures
     ∙ ap (λ (r : Row). setting_plan c.place_of-k.result r.flags.bits) c.of_word-row.ensures
     ∙ sym (rw c.if-subscribe-2.true (decide_set c.requires.0 _ _ c.place_of-k.ensures there))
@@ -42,7 +42,7 @@ returns-then-subscribe-2 c =
 pub returns : goal.returns
 returns c =
     let there : let a = c.args in stands_at a.area.now a.words.now
-    c.place_of-k.result a.name.now ≡ true = sym c.stands_at.ensures ∙ not-false _ c.if-not-stands_at.false in
+    c.place_of-k.result a.name.now ≡ true = sym c.stands_at.ensures ∙ c.if-not-stands_at.false in
     c.clearing.ensures
     ∙ ap (λ (r : Row). clearing_plan c.place_of-k.result r.flags.bits) c.of_word-row.ensures
     ∙ sym (rw c.if-subscribe-2.false (decide_clear c.requires.0 _ _ c.place_of-k.ensures there))

@@ -1,5 +1,5 @@
 -- `subscriptions::edit_front` meets its contract: the plan by EditingLaws, and what `carry_out` leaves.
-use Rattle.listing_rules.proofs.Prelude.{◌∙◌, ◌≡◌, ap, sym, true, arith, length-take-le, not-false, not-true}
+use Rattle.listing_rules.proofs.Prelude.{◌∙◌, ◌≡◌, ap, sym, true, arith, length-take-le}
 use Rattle.listing_rules.specs.Table.{passes}
 use Rattle.records.specs.Lent.{words_table}
 use Rattle.subscriptions.specs.Applied.{words_after, area_after, change_of}
@@ -14,27 +14,27 @@ unfolding answer_for words_after area_after change_of numbers_after
 returns-then-not-check_summed c =
     let a = c.args in
     let p = plan_refused (cells a.words.now a.sums.now a.area.now) a.count a.subscribe a.name.now a.fits
-    (sym c.check_summed.ensures ∙ not-true _ c.if-not-check_summed.true) in
+    (sym c.check_summed.ensures ∙ c.if-not-check_summed.true) in
     (rw p, rw p)
 
 pub slice_bounds-decide-end : goal.slice_bounds-decide-end
 slice_bounds-decide-end c =
     let passed : let a = c.args in
-    passes (words_table a.words.now a.count a.area.now a.sums.now) ≡ true = sym c.check_summed.ensures ∙ not-false _ c.if-not-check_summed.false in
+    passes (words_table a.words.now a.count a.area.now a.sums.now) ≡ true = sym c.check_summed.ensures ∙ c.if-not-check_summed.false in
     let a = c.args in
     (cells_pass (cells a.words.now a.sums.now a.area.now) _ passed).counted
 
 pub slice_bounds-decide-end-2 : goal.slice_bounds-decide-end-2
 slice_bounds-decide-end-2 c =
     let passed : let a = c.args in
-    passes (words_table a.words.now a.count a.area.now a.sums.now) ≡ true = sym c.check_summed.ensures ∙ not-false _ c.if-not-check_summed.false in
+    passes (words_table a.words.now a.count a.area.now a.sums.now) ≡ true = sym c.check_summed.ensures ∙ c.if-not-check_summed.false in
     let a = c.args in
     sym (length-take-le _ _ (cells_pass (cells a.words.now a.sums.now a.area.now) _ passed).counted)
 
 pub decide-decided-requires : goal.decide-decided-requires
 decide-decided-requires c =
     let passed : let a = c.args in
-    passes (words_table a.words.now a.count a.area.now a.sums.now) ≡ true = sym c.check_summed.ensures ∙ not-false _ c.if-not-check_summed.false in
+    passes (words_table a.words.now a.count a.area.now a.sums.now) ≡ true = sym c.check_summed.ensures ∙ c.if-not-check_summed.false in
     let a = c.args in
     let k = cells_pass (cells a.words.now a.sums.now a.area.now) _ passed in
     (k.ordered, omega (arith, k.few, length-take-le _ a.words.now k.counted), k.small)
@@ -42,7 +42,7 @@ decide-decided-requires c =
 pub carry_out-change-requires : goal.carry_out-change-requires
 carry_out-change-requires c =
     let passed : let a = c.args in
-    passes (words_table a.words.now a.count a.area.now a.sums.now) ≡ true = sym c.check_summed.ensures ∙ not-false _ c.if-not-check_summed.false in
+    passes (words_table a.words.now a.count a.area.now a.sums.now) ≡ true = sym c.check_summed.ensures ∙ c.if-not-check_summed.false in
     let a = c.args in
     let d = cells a.words.now a.sums.now a.area.now in
     let pass = passed in
@@ -54,7 +54,7 @@ carry_out-change-requires c =
 pub returns : goal.returns
 returns c =
     let passed : let a = c.args in
-    passes (words_table a.words.now a.count a.area.now a.sums.now) ≡ true = sym c.check_summed.ensures ∙ not-false _ c.if-not-check_summed.false in
+    passes (words_table a.words.now a.count a.area.now a.sums.now) ≡ true = sym c.check_summed.ensures ∙ c.if-not-check_summed.false in
     let planned : let a = c.args in
     plan_over (cells a.words.now a.sums.now a.area.now) a.count a.subscribe a.name.now a.fits ≡ c.if_fits-plan.result = let a = c.args in
     plan_passed (cells a.words.now a.sums.now a.area.now) _ passed _ _ _

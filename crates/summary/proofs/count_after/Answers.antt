@@ -36,10 +36,10 @@ returns-then-b-gt-SLASH c =
 
 pub overflow_add-sum : goal.overflow_add-sum
 overflow_add-sum c =
-    let byte : c.byte_at-b.result ≡ get_or (nth_name c.args.area.now c.args.words.now c.loop-k.k) c.args.len 0 = unfold name_at in c.byte_at-b.ensures ∙ rw (c.name_of.ensures, c.of_word-row.ensures) in
     let begins : starts (prefix_of c.args.area.now c.args.words.now c.args.i c.args.len)
     (nth_name c.args.area.now c.args.words.now c.loop-k.k) ≡ true = starts_next c.requires.0 0 _ c.loop-k-test.true (omega (arith, c.loop-k.invariant.0)) c.loop-k.invariant.1
     (subst (λ (r : Row). c.args.len ≤ r.shared) c.of_word-row.ensures c.if-row-len.false) in
+    let byte : c.byte_at-b.result ≡ get_or (nth_name c.args.area.now c.args.words.now c.loop-k.k) c.args.len 0 = unfold name_at in c.byte_at-b.ensures ∙ rw (c.name_of.ensures, c.of_word-row.ensures) in
     let added : sum_below c.args.area.now (prefix_of c.args.area.now c.args.words.now c.args.i c.args.len)
     (drop c.loop-k.k c.args.words.now)
     ≡ c.if_so-sum.result

@@ -14,21 +14,21 @@ pub returns-in_default : goal.returns-in_default
 returns-in_default c =
     let a = c.args in
     first_fails a.raw.now a.count a.area.now a.sums.now c.if-sums-count.false
-    (index_refused c.index_words.ensures (ap length c.no_words-words.ensures) c.enum_told-1.given.1)
+    (index_refused c.index_words.ensures (ap length c.no_words-words.ensures) c.in_default.is)
 
 pub slice_bounds-words-end : goal.slice_bounds-words-end
 slice_bounds-words-end c =
-    let known : Held c.index_words.ensures c.n-1.given.0.0 = index_held c.index_words.ensures _ c.n-1.given.1 in
+    let known : Held c.index_words.ensures c.in-Rows.n = index_held c.index_words.ensures _ c.in-Rows.is in
     known.inside
 
 pub slice_bounds-count_all-end : goal.slice_bounds-count_all-end
 slice_bounds-count_all-end c =
-    let known : Held c.index_words.ensures c.n-1.given.0.0 = index_held c.index_words.ensures _ c.n-1.given.1 in
+    let known : Held c.index_words.ensures c.in-Rows.n = index_held c.index_words.ensures _ c.in-Rows.is in
     known.size
 
 pub count_all-requires : goal.count_all-requires
 count_all-requires c =
-    let known : Held c.index_words.ensures c.n-1.given.0.0 = index_held c.index_words.ensures _ c.n-1.given.1 in
+    let known : Held c.index_words.ensures c.in-Rows.n = index_held c.index_words.ensures _ c.in-Rows.is in
     let held = known in
     let a = c.args in (
       held.index.indexed,
@@ -38,9 +38,9 @@ count_all-requires c =
 
 pub returns : goal.returns
 returns c =
-    let known : Held c.index_words.ensures c.n-1.given.0.0 = index_held c.index_words.ensures _ c.n-1.given.1 in
+    let known : Held c.index_words.ensures c.in-Rows.n = index_held c.index_words.ensures _ c.in-Rows.is in
     let held = known in
     let a = c.args in
-    let index = take c.n-1.given.0.0 c.index_words.new.1.1.1.0 in
+    let index = take c.in-Rows.n c.index_words.new.1.1.1.0 in
     first_counted a.raw.now a.count a.area.now a.sums.now index c.if-sums-count.false held.table_passes held.same
     (sym held.size ∙ held.number) held.index.few _ c.count_all.ensures

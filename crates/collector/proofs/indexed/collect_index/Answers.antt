@@ -10,10 +10,7 @@ use Rattle.collector.proofs.indexed.collect_index.Goals as goal
 
 pub run-result-requires : goal.run-result-requires
 run-result-requires c =
-    let a = c.args in (
-      c.requires,
-      (cleared a.found.now (sym c.clear.kept.0) c.clear.ensures, cleared a.pending.now (sym c.clear-2.kept.0) c.clear-2.ensures),
-    )
+    let a = c.args in record { reader_value = c.requires; found_value = (cleared a.found.now (sym c.clear.kept.0) c.clear.ensures, cleared a.pending.now (sym c.clear-2.kept.0) c.clear-2.ensures); pending_value =  }
 
 pub returns-in-Refused : goal.returns-in-Refused
 returns-in-Refused c =
@@ -30,7 +27,7 @@ returns-in-Refused c =
     a.pending.now
     (cleared last.0 kept.0 c.clear-3.ensures)
     refl
-    (sym same_reply_lem ∙ (rw c.result-1.given.1 at c.run-result.ensures))
+    (sym same_reply_lem ∙ (rw c.in-Refused.is at c.run-result.ensures))
     (cleared last.1.0 (kept.1.0 ∙ c.clear.kept.0) c.clear-in-Refused.ensures)
     (cleared last.1.1.0 (kept.1.1.0 ∙ c.clear-2.kept.0) c.clear-in-Refused-2.ensures)
 

@@ -11,8 +11,8 @@ pub returns-in_default : goal.returns-in_default
 returns-in_default c =
     let a = c.args in
     refuses_option (held_seen a.reader a.area.now a.index.now) a.option a.scratch.now a.found.now a.pending.now
-    c.requires.0.1
-    (asked_none a.option c.of_byte.ensures c.enum_told-1.given.1)
+    c.requires.reader_value.1
+    (asked_none a.option c.of_byte.ensures c.in_default.is)
 
 pub walk_table-requires : goal.walk_table-requires
 walk_table-requires c = c.requires
@@ -20,7 +20,7 @@ walk_table-requires c = c.requires
 pub returns : goal.returns
 returns c =
     let a = c.args in
-    let byte = asked_byte a.option c.of_byte.ensures c.options-1.given.1 in
+    let byte = asked_byte a.option c.of_byte.ensures c.in-Of.is in
     subst (λ (w : WalkReply). Ends w c.walk_table.last.1.1.1.1.1.0 c.walk_table.last.1.1.1.1.1.1.0
     c.walk_table.result)
     (λ i. collected (held_seen a.reader a.area.now a.index.now) (byte i) a.scratch.now a.found.now a.pending.now)

@@ -10,7 +10,7 @@ read-before c =
 
 pub returns-in_default : goal.returns-in_default
 returns-in_default c =
-    line_skipped c.args.line.now c.args.options c.read_line-read.ensures.result c.enum_told-1.given.1 c.requires
+    line_skipped c.args.line.now c.args.options c.read_line-read.ensures.result c.in_default.is c.requires
 
 pub slice_bounds-name-end : goal.slice_bounds-name-end
 slice_bounds-name-end c =
@@ -34,7 +34,7 @@ keep-requires c =
     ReadAs c.args.line.now parts.0 parts.1.0 (parent_of parts.1.1.0) c.read_line-read.result.name = let parts = c.parts-1.given in
     read_as c.args.line.now parts.0.0 parts.0.1.0 parts.0.1.1.0 c.read_line-read.result.name
     c.read_line-read.ensures.result parts.1 c.read_line-read.ensures.bytes in
-    (omega (arith, c.requires), simp length-take (omega (arith, told.short)))
+ record { at_in_bounds = omega (arith, c.requires); name_len_bound = simp length-take (omega (arith, told.short)) }
 
 pub returns-in_default-keep : goal.returns-in_default-keep
 returns-in_default-keep c =
@@ -43,7 +43,7 @@ returns-in_default-keep c =
     read_as c.args.line.now parts.0.0 parts.0.1.0 parts.0.1.1.0 c.read_line-read.result.name
     c.read_line-read.ensures.result parts.1 c.read_line-read.ensures.bytes in
     find_full told c.args.options c.keep.last.1.0
-    c.is_find-find.ensures c.enum_told-in_default-keep-1.given.1 c.keep.ensures
+    c.is_find-find.ensures c.in_default-keep.is c.keep.ensures
 
 pub slice_bounds-name-end-2 : goal.slice_bounds-name-end-2
 slice_bounds-name-end-2 c = (told (read-before c)).inside
@@ -54,7 +54,7 @@ slice_bounds-keep-end-2 c = simp length-take (omega (arith, (told (read-before c
 pub keep-requires-2 : goal.keep-requires-2
 keep-requires-2 c =
     let read = read-before c in
-    (omega (arith, (Stages.bound-parts-known-told read).start.pre), simp length-take (omega (arith, (told read).short)))
+ record { at_in_bounds = omega (arith, (Stages.bound-parts-known-told read).start.pre); name_len_bound = simp length-take (omega (arith, (told read).short)) }
 
 pub returns-in_default-keep-2 : goal.returns-in_default-keep-2
 returns-in_default-keep-2 c =
@@ -62,12 +62,12 @@ returns-in_default-keep-2 c =
     ask_full (told read) (Stages.bound-parts-known-told read).start.args.options
     c.keep.last.1.0
     c.is_find-find.ensures
-    c.found_end-1.given.1
+    c.in-To.is
     c.keep.ensures
     c.keep.kept.1.0
     c.keep-2.last.1.0
     (ap not c.is_none-parent.ensures)
-    c.enum_told-in_default-keep-2-1.given.1
+    c.in_default-keep-2.is
     c.keep-2.ensures
 
 pub returns : goal.returns
@@ -76,11 +76,11 @@ returns c =
     line_taken (told read) (Stages.bound-parts-known-told read).start.args.options
     c.keep.last.1.0
     c.is_find-find.ensures
-    c.found_end-1.given.1
+    c.in-To.is
     c.keep.ensures
     c.keep.kept.1.0
     c.keep-2.last.1.0
     (ap not c.is_none-parent.ensures)
-    c.pending_end-1.given.1
+    c.in-To-keep.is
     c.keep-2.ensures
     c.keep-2.kept.1.0

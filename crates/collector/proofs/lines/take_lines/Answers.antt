@@ -39,11 +39,11 @@ loop-at-smaller c =
 pub loop-at-preserved : goal.loop-at-preserved
 loop-at-preserved c =
     let kept = c.take_line.kept.1.1 in
-    taking_line c.loop-at.invariant c.loop-at-test.true c.next_line-end.ensures (rw c.next-1.given.1 at c.take_line.ensures) kept.0 kept.1.0
+    taking_line c.loop-at.invariant c.loop-at-test.true c.next_line-end.ensures (rw c.in-All.is at c.take_line.ensures) kept.0 kept.1.0
 
 pub returns-in-Refused : goal.returns-in-Refused
 returns-in-Refused c =
-    taking_refused c.loop-at.invariant c.loop-at-test.true c.next_line-end.ensures (rw c.number-1.given.1 at c.take_line.ensures)
+    taking_refused c.loop-at.invariant c.loop-at-test.true c.next_line-end.ensures (rw c.in-Refused.is at c.take_line.ensures)
 
 pub returns : goal.returns
 returns c =

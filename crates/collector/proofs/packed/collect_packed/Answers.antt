@@ -26,7 +26,7 @@ returns-in_default c =
     let a = c.args in
     let ends = c.refuse-in_default.ensures in
     let t = packed_seen a.reader a.table.now in
-    let fails = index_refused c.index.ensures (ap length c.no_words-rows.ensures) c.enum_told-1.given.1 in
+    let fails = index_refused c.index.ensures (ap length c.no_words-rows.ensures) c.in_default.is in
     promised a.reader (packed_table a.table.now) t a.option a.scratch.now a.found.now a.pending.now
     (packed_seen_passes a.reader a.table.now) _ _ _ _
     (collects_refused a.reader t a.option a.scratch.now a.found.now a.pending.now ends.1 ends.0
@@ -36,33 +36,33 @@ returns-in_default c =
 
 pub slice_bounds-rows-end : goal.slice_bounds-rows-end
 slice_bounds-rows-end c =
-    let known : Held c.index.ensures c.n-1.given.0.0 = index_held c.index.ensures c.n-1.given.0.0 c.n-1.given.1 in
+    let known : Held c.index.ensures c.in-Rows.n = index_held c.index.ensures c.in-Rows.n c.in-Rows.is in
     known.inside
 
 pub slice_bounds-collect_index-end : goal.slice_bounds-collect_index-end
 slice_bounds-collect_index-end c =
-    let known : Held c.index.ensures c.n-1.given.0.0 = index_held c.index.ensures c.n-1.given.0.0 c.n-1.given.1 in
+    let known : Held c.index.ensures c.in-Rows.n = index_held c.index.ensures c.in-Rows.n c.in-Rows.is in
     known.size
 
 pub collect_index-requires : goal.collect_index-requires
 unfolding is_reader
 collect_index-requires c =
-    let known : Held c.index.ensures c.n-1.given.0.0 = index_held c.index.ensures c.n-1.given.0.0 c.n-1.given.1 in
+    let known : Held c.index.ensures c.in-Rows.n = index_held c.index.ensures c.in-Rows.n c.in-Rows.is in
     let seen : let a = c.args in
-    held_seen a.reader a.table.now (take c.n-1.given.0.0 c.index.last.1.0) ≡ packed_seen
+    held_seen a.reader a.table.now (take c.in-Rows.n c.index.last.1.0) ≡ packed_seen
     a.reader a.table.now = let a = c.args in
-    packed_held a.reader a.table.now (take c.n-1.given.0.0 c.index.last.1.0) known.table_passes
+    packed_held a.reader a.table.now (take c.in-Rows.n c.index.last.1.0) known.table_passes
     known.told in
     let a = c.args in
     (le-leb a.reader 7 c.if-reader-gt-MAX_READER.false, ap passes seen ∙ packed_seen_passes a.reader a.table.now ∙ known.table_passes)
 
 pub returns : goal.returns
 returns c =
-    let known : Held c.index.ensures c.n-1.given.0.0 = index_held c.index.ensures c.n-1.given.0.0 c.n-1.given.1 in
+    let known : Held c.index.ensures c.in-Rows.n = index_held c.index.ensures c.in-Rows.n c.in-Rows.is in
     let seen : let a = c.args in
-    held_seen a.reader a.table.now (take c.n-1.given.0.0 c.index.last.1.0) ≡ packed_seen
+    held_seen a.reader a.table.now (take c.in-Rows.n c.index.last.1.0) ≡ packed_seen
     a.reader a.table.now = let a = c.args in
-    packed_held a.reader a.table.now (take c.n-1.given.0.0 c.index.last.1.0) known.table_passes
+    packed_held a.reader a.table.now (take c.in-Rows.n c.index.last.1.0) known.table_passes
     known.told in
     let a = c.args in
     let last = c.collect_index.last.1.1.1.1 in

@@ -29,7 +29,7 @@ slice_bounds-line-end c =
     let byte = byte_of c.args.asking.options in
     let reference = c.args.reference.now in
     put_fronts made.result put.last.0 (command_line byte reference) put.result command_room made.ensures put.ensures
-    (command_fits byte reference c.requires.1.0) in
+    (command_fits byte reference c.requires.reference_len_bound.0) in
     sent.inside
 
 pub slice_bounds-read_words-end-2 : goal.slice_bounds-read_words-end-2
@@ -41,12 +41,12 @@ slice_bounds-read_words-end-2 c =
     let byte = byte_of c.args.asking.options in
     let reference = c.args.reference.now in
     put_fronts made.result put.last.0 (command_line byte reference) put.result command_room made.ensures put.ensures
-    (command_fits byte reference c.requires.1.0) in
+    (command_fits byte reference c.requires.reference_len_bound.0) in
     simp length-take (omega (arith, sent.inside))
 
 pub overflow_add-count : goal.overflow_add-count
 overflow_add-count c =
-    omega (arith, c.requires.1.1.1, c.requires)
+    omega (arith, c.requires.reference_len_bound.1.1, c.requires)
 
 pub slice_bounds-take_lines-end : goal.slice_bounds-take_lines-end
 slice_bounds-take_lines-end c =
@@ -55,11 +55,11 @@ slice_bounds-take_lines-end c =
     let table = held_seen args.asking.reader args.area.now args.words.now in
     let l = take put.result put.last.0 in
     (c.read_words.result ≡ written_is (served table [] l args.scratch.now))
-    × (c.read_words.last.1.1.1.1.1.1.0 ≡ buffer_after args.scratch.now (served table [] l args.scratch.now)) = gives_served c.args.asking.reader _ [] _ _ _ _ c.requires.0 (reads c) c.read_words.ensures in
+    × (c.read_words.last.1.1.1.1.1.1.0 ≡ buffer_after args.scratch.now (served table [] l args.scratch.now)) = gives_served c.args.asking.reader _ [] _ _ _ _ c.requires.reader_value (reads c) c.read_words.ensures in
     let answered-so : let put = c.put_command-n in
     let args =
     c.args in
-    let len = c.len-1.given.0.0 in
+    let len = c.in-Done.len in
     let scratch = c.read_words.last.1.1.1.1.1.1.0 in
     (len ≤ length scratch) × (reply (held_seen args.asking.reader args.area.now args.words.now) (take put.result put.last.0)
     args.scratch.now ≡ go (take len scratch)) = let put = c.put_command-n in
@@ -77,11 +77,11 @@ slice_bounds-take_lines-end-in-Done c =
     let table = held_seen args.asking.reader args.area.now args.words.now in
     let l = take put.result put.last.0 in
     (c.read_words.result ≡ written_is (served table [] l args.scratch.now))
-    × (c.read_words.last.1.1.1.1.1.1.0 ≡ buffer_after args.scratch.now (served table [] l args.scratch.now)) = gives_served c.args.asking.reader _ [] _ _ _ _ c.requires.0 (reads c) c.read_words.ensures in
+    × (c.read_words.last.1.1.1.1.1.1.0 ≡ buffer_after args.scratch.now (served table [] l args.scratch.now)) = gives_served c.args.asking.reader _ [] _ _ _ _ c.requires.reader_value (reads c) c.read_words.ensures in
     let answered-so : let put = c.put_command-n in
     let args =
     c.args in
-    let len = c.len-1.given.0.0 in
+    let len = c.in-Done.len in
     let scratch = c.read_words.last.1.1.1.1.1.1.0 in
     (len ≤ length scratch) × (reply (held_seen args.asking.reader args.area.now args.words.now) (take put.result put.last.0)
     args.scratch.now ≡ go (take len scratch)) = let put = c.put_command-n in
@@ -94,7 +94,7 @@ slice_bounds-take_lines-end-in-Done c =
 
 pub take_lines-requires : goal.take_lines-requires
 take_lines-requires c =
-    record { finds = c.requires.1.1.0.finds; asks = c.requires.1.1.0.asks }
+    record { finds = c.requires.reference_len_bound.1.0.finds; asks = c.requires.reference_len_bound.1.0.asks }
 
 pub returns-in-Done : goal.returns-in-Done
 returns-in-Done c =
@@ -105,17 +105,17 @@ returns-in-Done c =
     let byte = byte_of c.args.asking.options in
     let reference = c.args.reference.now in
     put_fronts made.result put.last.0 (command_line byte reference) put.result command_room made.ensures put.ensures
-    (command_fits byte reference c.requires.1.0) in
+    (command_fits byte reference c.requires.reference_len_bound.0) in
     let said : let put = c.put_command-n in
     let args = c.args in
     let table = held_seen args.asking.reader args.area.now args.words.now in
     let l = take put.result put.last.0 in
     (c.read_words.result ≡ written_is (served table [] l args.scratch.now))
-    × (c.read_words.last.1.1.1.1.1.1.0 ≡ buffer_after args.scratch.now (served table [] l args.scratch.now)) = gives_served c.args.asking.reader _ [] _ _ _ _ c.requires.0 (reads c) c.read_words.ensures in
+    × (c.read_words.last.1.1.1.1.1.1.0 ≡ buffer_after args.scratch.now (served table [] l args.scratch.now)) = gives_served c.args.asking.reader _ [] _ _ _ _ c.requires.reader_value (reads c) c.read_words.ensures in
     let answered-so : let put = c.put_command-n in
     let args =
     c.args in
-    let len = c.len-1.given.0.0 in
+    let len = c.in-Done.len in
     let scratch = c.read_words.last.1.1.1.1.1.1.0 in
     (len ≤ length scratch) × (reply (held_seen args.asking.reader args.area.now args.words.now) (take put.result put.last.0)
     args.scratch.now ≡ go (take len scratch)) = let put = c.put_command-n in
@@ -142,15 +142,15 @@ returns-in-Refused c =
     let byte = byte_of c.args.asking.options in
     let reference = c.args.reference.now in
     put_fronts made.result put.last.0 (command_line byte reference) put.result command_room made.ensures put.ensures
-    (command_fits byte reference c.requires.1.0) in
+    (command_fits byte reference c.requires.reference_len_bound.0) in
     let said : let put = c.put_command-n in
     let args = c.args in
     let table = held_seen args.asking.reader args.area.now args.words.now in
     let l = take put.result put.last.0 in
     (c.read_words.result ≡ written_is (served table [] l args.scratch.now))
-    × (c.read_words.last.1.1.1.1.1.1.0 ≡ buffer_after args.scratch.now (served table [] l args.scratch.now)) = gives_served c.args.asking.reader _ [] _ _ _ _ c.requires.0 (reads c) c.read_words.ensures in
+    × (c.read_words.last.1.1.1.1.1.1.0 ≡ buffer_after args.scratch.now (served table [] l args.scratch.now)) = gives_served c.args.asking.reader _ [] _ _ _ _ c.requires.reader_value (reads c) c.read_words.ensures in
     let args = c.args in
     λ s h.
     asked_refused (held_seen args.asking.reader args.area.now args.words.now) args.asking.options args.reference.now
     args.scratch.now sent
-    said.0 c.enum_told-1.given.1 args.found.now args.pending.now s
+    said.0 c.in-Refused.is args.found.now args.pending.now s

@@ -14,7 +14,7 @@ slice_bounds-reference-end c =
     let made = c.no_reference-reference in
     put_fronts made.result put.last.0 (name_at c.args.name c.args.pending.now ++ (slash ∷ [])) put.result reference_room
     made.ensures put.ensures
-    (simp (length-append, length-take) (omega (arith, c.requires.1.0))) in
+    (simp (length-append, length-take) (omega (arith, c.requires.lies.0))) in
     below.inside
 
 pub slice_bounds-ask-end : goal.slice_bounds-ask-end
@@ -25,7 +25,7 @@ slice_bounds-ask-end c =
     let made = c.no_reference-reference in
     put_fronts made.result put.last.0 (name_at c.args.name c.args.pending.now ++ (slash ∷ [])) put.result reference_room
     made.ensures put.ensures
-    (simp (length-append, length-take) (omega (arith, c.requires.1.0))) in
+    (simp (length-append, length-take) (omega (arith, c.requires.lies.0))) in
     simp length-take (omega (arith, below.inside))
 
 pub ask-requires : goal.ask-requires
@@ -36,8 +36,8 @@ ask-requires c =
     let made = c.no_reference-reference in
     put_fronts made.result put.last.0 (name_at c.args.name c.args.pending.now ++ (slash ∷ [])) put.result reference_room
     made.ensures put.ensures
-    (simp (length-append, length-take) (omega (arith, c.requires.1.0))) in
-    (c.requires.0, (rw below.bytes (simp (length-append, length-take) (omega (arith, c.requires.1.0))), (c.requires.1.1.0, c.requires.1.1.1)))
+    (simp (length-append, length-take) (omega (arith, c.requires.lies.0))) in
+    (c.requires.reader_value, (rw below.bytes (simp (length-append, length-take) (omega (arith, c.requires.lies.0))), (c.requires.lies.1.0, c.requires.lies.1.1)))
 
 pub returns : goal.returns
 returns c =
@@ -47,6 +47,6 @@ returns c =
     let made = c.no_reference-reference in
     put_fronts made.result put.last.0 (name_at c.args.name c.args.pending.now ++ (slash ∷ [])) put.result reference_room
     made.ensures put.ensures
-    (simp (length-append, length-take) (omega (arith, c.requires.1.0))) in
+    (simp (length-append, length-take) (omega (arith, c.requires.lies.0))) in
     rw (← below.bytes)
     c.ask.ensures

@@ -7,7 +7,7 @@ use Rattle.collector.proofs.walk.ask_pending.Goals as goal
 
 pub loop-at-init : goal.loop-at-init
 loop-at-init c =
-    c.requires.1
+    c.requires.walking
 
 pub overflow_add-from : goal.overflow_add-from
 overflow_add-from c =
@@ -36,7 +36,7 @@ ask_below-requires c =
     c.loop-at.pending at 0 = ap (λ (n : ℕ). c.loop-at.at + 1 + n) c.wide.ensures in
     let inv = c.loop-at.invariant in
     let more = c.loop-at-test.true in (
-      c.requires.0,
+      c.requires.reader_value,
       (
         name_lies inv more end_is (omega (arith, c.slice_known-in-loop-at-1.given c.loop-at.at)),
         (record { finds = inv.holds.finds.room; asks = inv.holds.asks.room }, count_fits inv more end_is),
@@ -54,7 +54,7 @@ loop-at-preserved c =
     let kept = c.ask_below.kept.1.1.1.1 in
     walking_step c.loop-at.invariant c.loop-at-test.true end_is
     c.ask_below.last.1.1.1.1.0
-    (rw c.further-1.given.1 at c.ask_below.ensures)
+    (rw c.in-All.is at c.ask_below.ensures)
     kept.0
     kept.1.0
     kept.1.1.0
@@ -65,7 +65,7 @@ returns-in-Refused c =
     let end_is : let at = c.loop-at.at in at + 1 + c.wide.result ≡ at + 1 + get_or
     c.loop-at.pending at 0 = ap (λ (n : ℕ). c.loop-at.at + 1 + n) c.wide.ensures in
     walking_refused c.loop-at.invariant c.loop-at-test.true end_is
-    (rw c.number-1.given.1 at c.ask_below.ensures)
+    (rw c.in-Refused.is at c.ask_below.ensures)
 
 pub returns : goal.returns
 unfolding collected

@@ -10,7 +10,7 @@ use Rattle.collector.proofs.walk.walk_table.Goals as goal
 
 pub ask-requires : goal.ask-requires
 ask-requires c =
-    (c.requires.0.0, (omega arith, (record { finds = omega arith; asks = omega arith }, omega arith)))
+    (c.requires.reader_value.0, (omega arith, (record { finds = omega arith; asks = omega arith }, omega arith)))
 
 pub ask_pending-requires : goal.ask_pending-requires
 ask_pending-requires c =
@@ -18,15 +18,15 @@ ask_pending-requires c =
     let found = c.ask.last.1.1.1.1.1.0 in
     let pending = c.ask.last.1.1.1.1.1.1.0 in
     Walking (held_seen c.args.reader c.args.area.now c.args.words.now) c.args.options (length scratch) (length found)
-    (length pending) scratch found pending c.first-1.given.0.0 0 = let kept = c.ask.kept.1.1.1.1 in
+    (length pending) scratch found pending c.in-All.first 0 = let kept = c.ask.kept.1.1.1.1 in
     walking_begins (held_seen c.args.reader c.args.area.now c.args.words.now) c.args.options
-    c.args.scratch.now c.requires.0.1 c.requires.1.0 c.requires.1.1
+    c.args.scratch.now c.requires.reader_value.1 c.requires.found_value.0 c.requires.found_value.1
     c.ask.last.1.1.1.1.0
-    (rw c.first-1.given.1 at c.ask.ensures)
+    (rw c.in-All.is at c.ask.ensures)
     kept.0
     kept.1.0
     kept.1.1.0 in
-    (c.requires.0.0, begins)
+ record { reader_value = c.requires.reader_value.0; walking = begins }
 
 pub returns-in-All : goal.returns-in-All
 returns-in-All c =
@@ -42,5 +42,5 @@ returns-in-All c =
 pub returns-in-Refused : goal.returns-in-Refused
 returns-in-Refused c =
     walk_refused_lem (held_seen c.args.reader c.args.area.now c.args.words.now) c.args.options
-    c.args.scratch.now c.requires.0.1 c.requires.1.0 c.requires.1.1
-    (rw c.number-1.given.1 at c.ask.ensures)
+    c.args.scratch.now c.requires.reader_value.1 c.requires.found_value.0 c.requires.found_value.1
+    (rw c.in-Refused.is at c.ask.ensures)

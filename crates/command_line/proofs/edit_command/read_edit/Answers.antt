@@ -12,7 +12,7 @@ rest s = drop s.args.first.at (line s)
 
 pub returns-in_default : goal.returns-in_default
 returns-in_default c =
-    no_name _ _ _ (name_off _ (token_missing _ c.argument.ensures.result_value c.enum_told-1.given.1)) c.refused.ensures
+    no_name _ _ _ (name_off _ (token_missing _ c.argument.ensures.result_value c.in_default.is)) c.refused.ensures
 
 pub returns-then-rest-text : goal.returns-then-rest-text
 returns-then-rest-text c =

@@ -6,10 +6,10 @@ use Rattle.command_line.proofs.list_command.is_extended.Goals as goal
 
 pub returns-in-At : goal.returns-in-At
 returns-in-At c =
-    extended_list _ c.args.text.now _ _ c.opening.ensures.result_value c.enum_told-1.given.1
+    extended_list _ c.args.text.now _ _ c.opening.ensures.result_value c.in-At.is
 
 pub returns : goal.returns
 returns c =
     let line = c.args.text.now in
     ap (λ (x : ℕ). eqb x 40 || ltb c.args.rest.at (length line)) c.byte_at.ensures
-    ∙ extended_else line c.args.first.at _ _ (behind_nothing _ c.opening.ensures.result_value c.enum_told-in_default-1.given.1)
+    ∙ extended_else line c.args.first.at _ _ (behind_nothing _ c.opening.ensures.result_value c.in_default.is)

@@ -35,39 +35,39 @@ pub returns-in_default : goal.returns-in_default
 unfolding worded_as
 returns-in_default c =
     refuses _ 4 c.refused.ensures (list_is (tag c) (rest c) ∙ read_off 4 _
-    (listed_broken _ c.read_selection.ensures c.enum_told-1.given.1))
+    (listed_broken _ c.read_selection.ensures c.in_default.is))
 
 pub returns-in_default-argument : goal.returns-in_default-argument
 unfolding after_selection got
 returns-in_default-argument c =
     refuses _ 4 c.refused-in_default-argument.ensures
     (selected c ∙ reference_off _ _
-    (token_missing _ c.argument.ensures.result_value c.enum_told-in_default-argument-1.given.1))
+    (token_missing _ c.argument.ensures.result_value c.in_default-argument.is))
 
 pub returns-in_default-space : goal.returns-in_default-space
 unfolding after_selection got
 returns-in_default-space c =
     refuses _ 4 c.refused-in_default-space.ensures (selected c ∙ reference_alone _ _ _ _ (referred c)
-    (behind_nothing _ c.space.ensures.result_value c.enum_told-in_default-space-1.given.1))
+    (behind_nothing _ c.space.ensures.result_value c.in_default-space.is))
 
 pub returns-in_default-behind : goal.returns-in_default-behind
 unfolding after_space
 returns-in_default-behind c =
     refuses _ 4 c.refused-in_default-behind.ensures (spaced c ∙ read_off 4 _
-    (patterns_nothing _ _ c.read_patterns-list.ensures.result_value c.enum_told-in_default-behind-1.given.1))
+    (patterns_nothing _ _ c.read_patterns-list.ensures.result_value c.in_default-behind.is))
 
 pub returns-in_default-read_returns : goal.returns-in_default-read_returns
 unfolding after_patterns got
 returns-in_default-read_returns c =
     refuses _ 4 c.refused-in_default-read_returns.ensures
     (listed c ∙ read_off 4 _ (listed_broken _ c.read_returns.ensures
-    c.enum_told-in_default-read_returns-1.given.1))
+    c.in_default-read_returns.is))
 
 pub returns : goal.returns
 unfolding arguments_is after_patterns got
 returns c =
     let text = line c in
-    let returned = listed_read _ c.read_returns.ensures c.returned-1.given.1 in
+    let returned = listed_read _ c.read_returns.ensures c.in-Read-read_returns.is in
     let read = listed c ∙ read_on 4 _ returned in
     answers_as c.judge.ensures (read ∙ ap (decided (tag c))
     (λ i. record {
@@ -81,7 +81,7 @@ returns c =
       tagged = h;
       seven =
           subst (λ (x : ℕ). x < 2 ^ 7) (sym c.union.ensures)
-          (both_seven _ _ _ _ _ _ (listed_read _ c.read_selection.ensures c.selected-1.given.1) returned);
-      reference = lies_ahead _ _ _ _ (token_ahead _ _ c.argument.ensures.token_in c.reference-1.given.1);
+          (both_seven _ _ _ _ _ _ (listed_read _ c.read_selection.ensures c.in-Read.is) returned);
+      reference = lies_ahead _ _ _ _ (token_ahead _ _ c.argument.ensures.token_in c.in-Found.is);
       patterns = c.read_patterns-list.ensures.placed;
     })

@@ -7,16 +7,16 @@ use Rattle.command_line.proofs.option_list.read_option.Goals as goal
 
 pub returns-in_default : goal.returns-in_default
 unfolding written_is WrittenIn
-returns-in_default c = record { result_value = sym (option_off _ (token_missing _ c.atom.ensures.result_value c.enum_told-1.given.1)); written_in = tt }
+returns-in_default c = record { result_value = sym (option_off _ (token_missing _ c.atom.ensures.result_value c.in_default.is)); written_in = tt }
 
 -- no value
 pub returns-in_default-opening : goal.returns-in_default-opening
 unfolding written_is WrittenIn
 returns-in_default-opening c =
     let atom = c.atom.ensures in
-    let word = c.word-1.given.1 in
+    let word = c.in-Found.is in
     let w = bare_ahead _ _ atom.1 word in (
-      sym (option_bare _ _ _ (token_found _ atom.0 word) (behind_nothing _ c.opening.ensures.result_value c.enum_told-in_default-opening-1.given.1)),
+      sym (option_bare _ _ _ (token_found _ atom.0 word) (behind_nothing _ c.opening.ensures.result_value c.in_default-opening.is)),
       (w.bare, w.ahead.past, w.ahead.inside),
     )
 
@@ -24,20 +24,20 @@ returns-in_default-opening c =
 pub returns-in_default-value : goal.returns-in_default-value
 unfolding written_is WrittenIn
 returns-in_default-value c =
-    let word = token_found _ c.atom.ensures.result_value c.word-1.given.1 in
-    let inside = behind_at _ c.opening.ensures.result_value c.inside-1.given.1 in
- record { result_value = sym (option_broken _ _ _ word _ inside (behind_nothing _ c.value.ensures.result_value c.enum_told-in_default-value-1.given.1)); written_in = tt }
+    let word = token_found _ c.atom.ensures.result_value c.in-Found.is in
+    let inside = behind_at _ c.opening.ensures.result_value c.in-At.is in
+ record { result_value = sym (option_broken _ _ _ word _ inside (behind_nothing _ c.value.ensures.result_value c.in_default-value.is)); written_in = tt }
 
 -- a value
 pub returns : goal.returns
 unfolding written_is WrittenIn
 returns c =
     let atom = c.atom.ensures in
-    let word = c.word-1.given.1 in
+    let word = c.in-Found.is in
     let opening = c.opening.ensures in
-    let inside = c.inside-1.given.1 in
+    let inside = c.in-At.is in
     let value = c.value.ensures in
-    let rest = c.rest-1.given.1 in
+    let rest = c.in-At-value.is in
     let w = bare_ahead _ _ atom.1 word in
     let o = behind_ahead _ _ opening.1 inside in
     let v = behind_ahead _ _ value.1 rest in

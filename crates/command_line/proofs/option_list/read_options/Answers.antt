@@ -29,12 +29,12 @@ loop-word-init c =
 pub returns-in_default : goal.returns-in_default
 unfolding listed_is
 returns-in_default c =
-    sym (parting_off option _ _ _ _ c.loop-word.invariant (written_absent _ c.read_option.ensures.result_value c.enum_told-1.given.1))
+    sym (parting_off option _ _ _ _ c.loop-word.invariant (written_absent _ c.read_option.ensures.result_value c.in_default.is))
 
 pub overflow_add-result-then-b-eq41 : goal.overflow_add-result-then-b-eq41
 overflow_add-result-then-b-eq41 c =
     let line : List ℕ = c.args.text.now in
-    let to : ℕ = c.word-1.given.0.1.1.0.at in
+    let to : ℕ = c.in-Word.next.at in
     let further : 0 < c.byte_at-b.result → to < length line = λ h. inside line _ (omega (arith, c.byte_at-b.ensures)) in
     omega (arith, further (omega arith))
 
@@ -43,20 +43,20 @@ pub returns-then-b-eq41 : goal.returns-then-b-eq41
 unfolding listed_is summed marked got
 returns-then-b-eq41 c =
     let line : List ℕ = c.args.text.now in
-    let valued : Bool = c.word-1.given.0.1.0 in
-    let word : List ℕ = span_bytes line c.word-1.given.0.0 in
+    let word : List ℕ = span_bytes line c.in-Word.word in
+    let valued : Bool = c.in-Word.valued in
     let opt : Opt = record { word = word; valued = valued } in
-    let to : ℕ = c.word-1.given.0.1.1.0.at in
-    let read : option (drop c.loop-word.at line) ≡ some (got opt (drop to line)) = written_word _ c.read_option.ensures.result_value c.word-1.given.1 in
-    let ahead : (c.word-1.given.0.0.quoted ≡ false) ×
-    (c.loop-word.at < to) × (to ≤ length line) = written_ahead _ _ c.read_option.ensures.written_in c.word-1.given.1 in
+    let to : ℕ = c.in-Word.next.at in
+    let read : option (drop c.loop-word.at line) ≡ some (got opt (drop to line)) = written_word _ c.read_option.ensures.result_value c.in-Word.is in
+    let ahead : (c.in-Word.word.quoted ≡ false) ×
+    (c.loop-word.at < to) × (to ≤ length line) = written_ahead _ _ c.read_option.ensures.written_in c.in-Word.is in
     let place : Place = c.args.place in
-    let member_is : c.member-member.result.bits ≡ member_of place word = c.member-member.ensures ∙ ap (member_of place) (c.raw.ensures ∙ sym (bare_bytes _ _ ahead.0)) in
+    let before : Marks = record { set = c.loop-word.set.bits; known = c.loop-word.known } in
     let with : Marks = record {
       set = c.union-set.result.bits;
       known = c.loop-word.known && not valued && not (eqb c.member-member.result.bits 0);
     } in
-    let before : Marks = record { set = c.loop-word.set.bits; known = c.loop-word.known } in
+    let member_is : c.member-member.result.bits ≡ member_of place word = c.member-member.ensures ∙ ap (member_of place) (c.raw.ensures ∙ sym (bare_bytes _ _ ahead.0)) in
     let kept : with ≡ marking place before opt = marking_is place before valued word _ _ member_is c.union-set.ensures in
     let last = parting_close option _ _ _ _ c.loop-word.invariant opt to
     read ahead.1 ahead.2 (sym c.byte_at-b.ensures ∙ c.if-b-eq41.true) in
@@ -66,14 +66,14 @@ returns-then-b-eq41 c =
 pub returns-then-b-ne32 : goal.returns-then-b-ne32
 unfolding listed_is
 returns-then-b-ne32 c =
-    let valued : Bool = c.word-1.given.0.1.0 in
     let line : List ℕ = c.args.text.now in
-    let word : List ℕ = span_bytes line c.word-1.given.0.0 in
+    let word : List ℕ = span_bytes line c.in-Word.word in
+    let valued : Bool = c.in-Word.valued in
     let opt : Opt = record { word = word; valued = valued } in
-    let to : ℕ = c.word-1.given.0.1.1.0.at in
-    let read : option (drop c.loop-word.at line) ≡ some (got opt (drop to line)) = written_word _ c.read_option.ensures.result_value c.word-1.given.1 in
-    let ahead : (c.word-1.given.0.0.quoted ≡ false) ×
-    (c.loop-word.at < to) × (to ≤ length line) = written_ahead _ _ c.read_option.ensures.written_in c.word-1.given.1 in
+    let to : ℕ = c.in-Word.next.at in
+    let read : option (drop c.loop-word.at line) ≡ some (got opt (drop to line)) = written_word _ c.read_option.ensures.result_value c.in-Word.is in
+    let ahead : (c.in-Word.word.quoted ≡ false) ×
+    (c.loop-word.at < to) × (to ≤ length line) = written_ahead _ _ c.read_option.ensures.written_in c.in-Word.is in
     let byte = c.byte_at-b.ensures in
     sym (parting_other option _ _ _ _ c.loop-word.invariant opt to read
     ahead.1 ahead.2 (λ e. c.if-b-eq41.false (byte ∙ e)) (λ e. c.if-b-ne32.true (byte ∙ e)))
@@ -81,16 +81,16 @@ returns-then-b-ne32 c =
 pub overflow_add-at : goal.overflow_add-at
 overflow_add-at c =
     let line : List ℕ = c.args.text.now in
-    let to : ℕ = c.word-1.given.0.1.1.0.at in
+    let to : ℕ = c.in-Word.next.at in
     let further : 0 < c.byte_at-b.result → to < length line = λ h. inside line _ (omega (arith, c.byte_at-b.ensures)) in
     omega (arith, further (omega arith))
 
 pub loop-word-smaller : goal.loop-word-smaller
 loop-word-smaller c =
     let line : List ℕ = c.args.text.now in
-    let to : ℕ = c.word-1.given.0.1.1.0.at in
-    let ahead : (c.word-1.given.0.0.quoted ≡ false) ×
-    (c.loop-word.at < to) × (to ≤ length line) = written_ahead _ _ c.read_option.ensures.written_in c.word-1.given.1 in
+    let to : ℕ = c.in-Word.next.at in
+    let ahead : (c.in-Word.word.quoted ≡ false) ×
+    (c.loop-word.at < to) × (to ≤ length line) = written_ahead _ _ c.read_option.ensures.written_in c.in-Word.is in
     let further : 0 < c.byte_at-b.result → to < length line = λ h. inside line _ (omega (arith, c.byte_at-b.ensures)) in
     omega (arith, ahead.1, further (omega arith))
 
@@ -98,19 +98,19 @@ loop-word-smaller c =
 pub loop-word-preserved : goal.loop-word-preserved
 loop-word-preserved c =
     let place : Place = c.args.place in
-    let valued : Bool = c.word-1.given.0.1.0 in
     let line : List ℕ = c.args.text.now in
-    let word : List ℕ = span_bytes line c.word-1.given.0.0 in
+    let word : List ℕ = span_bytes line c.in-Word.word in
+    let valued : Bool = c.in-Word.valued in
     let opt : Opt = record { word = word; valued = valued } in
-    let to : ℕ = c.word-1.given.0.1.1.0.at in
+    let to : ℕ = c.in-Word.next.at in
     let before : Marks = record { set = c.loop-word.set.bits; known = c.loop-word.known } in
     let with : Marks = record {
       set = c.union-set.result.bits;
       known = c.loop-word.known && not valued && not (eqb c.member-member.result.bits 0);
     } in
-    let read : option (drop c.loop-word.at line) ≡ some (got opt (drop to line)) = written_word _ c.read_option.ensures.result_value c.word-1.given.1 in
-    let ahead : (c.word-1.given.0.0.quoted ≡ false) ×
-    (c.loop-word.at < to) × (to ≤ length line) = written_ahead _ _ c.read_option.ensures.written_in c.word-1.given.1 in
+    let read : option (drop c.loop-word.at line) ≡ some (got opt (drop to line)) = written_word _ c.read_option.ensures.result_value c.in-Word.is in
+    let ahead : (c.in-Word.word.quoted ≡ false) ×
+    (c.loop-word.at < to) × (to ≤ length line) = written_ahead _ _ c.read_option.ensures.written_in c.in-Word.is in
     let member_is : c.member-member.result.bits ≡ member_of place word = c.member-member.ensures ∙ ap (member_of place) (c.raw.ensures ∙ sym (bare_bytes _ _ ahead.0)) in
     let kept : with ≡ marking place before opt = marking_is place before valued word _ _ member_is c.union-set.ensures in
     parting_space option _ (summed place with) _ _ _ c.loop-word.invariant

@@ -1,5 +1,5 @@
 -- `read_returns`: nothing, or RETURN and a list that the line ends with, part by part. Rests on Returning and Listing.
-use Rattle.listing_rules.proofs.Prelude.{◌∙◌, ◌≡◌, ap, sym, Option, some, List, ℕ, drop, drop_of_length-le, not-false, not-true}
+use Rattle.listing_rules.proofs.Prelude.{◌∙◌, ◌≡◌, ap, sym, Option, some, List, ℕ, drop, drop_of_length-le}
 use Rattle.listing_rules.specs.Bytes.{text, spells}
 use Rattle.listing_rules.specs.Tokens.{Got, got}
 use Rattle.listing_rules.specs.Command.{options, return_part}
@@ -28,85 +28,85 @@ returns-then-text-here c =
 pub returns-in_default : goal.returns-in_default
 unfolding listed_is
 returns-in_default c =
-    sym (return_is (line c) _ c.if-text-here.false ∙ bind_none _ (behind_nothing _ c.space.ensures.result_value c.enum_told-1.given.1))
+    sym (return_is (line c) _ c.if-text-here.false ∙ bind_none _ (behind_nothing _ c.space.ensures.result_value c.in_default.is))
 
 pub returns-in_default-atom : goal.returns-in_default-atom
 unfolding listed_is after_space
 returns-in_default-atom c =
-    let spaced : whole c ≡ after_space (drop c.next-1.given.0.0.at (line c)) = return_is (line c) _ c.if-text-here.false ∙ bind_go _ (behind_at _ c.space.ensures.result_value c.next-1.given.1) in
-    sym (spaced ∙ bind_none _ (token_missing _ c.atom.ensures.result_value c.enum_told-in_default-atom-1.given.1))
+    let spaced : whole c ≡ after_space (drop c.in-At.next.at (line c)) = return_is (line c) _ c.if-text-here.false ∙ bind_go _ (behind_at _ c.space.ensures.result_value c.in-At.is) in
+    sym (spaced ∙ bind_none _ (token_missing _ c.atom.ensures.result_value c.in_default-atom.is))
 
 -- another word
 pub returns-then-not-spells_word : goal.returns-then-not-spells_word
 unfolding listed_is after_return
 returns-then-not-spells_word c =
-    let rest : List ℕ = drop c.word-1.given.0.1.0.at (line c) in
-    let spaced : whole c ≡ after_space (drop c.next-1.given.0.0.at (line c)) = return_is (line c) _ c.if-text-here.false ∙ bind_go _ (behind_at _ c.space.ensures.result_value c.next-1.given.1) in
-    let word : List ℕ = span_bytes (line c) c.word-1.given.0.0 in
-    let worded : whole c ≡ after_return (got word rest) = unfold after_space in spaced ∙ bind_go _ (token_found _ c.atom.ensures.result_value c.word-1.given.1) in
-    let spelled : spells word (text "RETURN") ≡ c.spells_word.result = unfold text in let bare = (bare_ahead _ _ c.atom.ensures.bare_in c.word-1.given.1).bare in
+    let word : List ℕ = span_bytes (line c) c.in-Found.word in
+    let spaced : whole c ≡ after_space (drop c.in-At.next.at (line c)) = return_is (line c) _ c.if-text-here.false ∙ bind_go _ (behind_at _ c.space.ensures.result_value c.in-At.is) in
+    let rest : List ℕ = drop c.in-Found.rest.at (line c) in
+    let worded : whole c ≡ after_return (got word rest) = unfold after_space in spaced ∙ bind_go _ (token_found _ c.atom.ensures.result_value c.in-Found.is) in
+    let spelled : spells word (text "RETURN") ≡ c.spells_word.result = unfold text in let bare = (bare_ahead _ _ c.atom.ensures.bare_in c.in-Found.is).bare in
     ap (λ (x : List ℕ). spells x (text "RETURN")) (bare_bytes _ _ bare ∙ sym c.raw.ensures) ∙ sym c.spells_word.ensures in
-    sym (worded ∙ bind_none _ (word_other _ _ (spelled ∙ not-true _ c.if-not-spells_word.true)))
+    sym (worded ∙ bind_none _ (word_other _ _ (spelled ∙ c.if-not-spells_word.true)))
 
 -- RETURN, and no list
 pub returns-in_default-opening : goal.returns-in_default-opening
 unfolding listed_is after_return
 returns-in_default-opening c =
-    let rest : List ℕ = drop c.word-1.given.0.1.0.at (line c) in
-    let spaced : whole c ≡ after_space (drop c.next-1.given.0.0.at (line c)) = return_is (line c) _ c.if-text-here.false ∙ bind_go _ (behind_at _ c.space.ensures.result_value c.next-1.given.1) in
-    let word : List ℕ = span_bytes (line c) c.word-1.given.0.0 in
-    let worded : whole c ≡ after_return (got word rest) = unfold after_space in spaced ∙ bind_go _ (token_found _ c.atom.ensures.result_value c.word-1.given.1) in
-    let spelled : spells word (text "RETURN") ≡ c.spells_word.result = unfold text in let bare = (bare_ahead _ _ c.atom.ensures.bare_in c.word-1.given.1).bare in
+    let word : List ℕ = span_bytes (line c) c.in-Found.word in
+    let spaced : whole c ≡ after_space (drop c.in-At.next.at (line c)) = return_is (line c) _ c.if-text-here.false ∙ bind_go _ (behind_at _ c.space.ensures.result_value c.in-At.is) in
+    let rest : List ℕ = drop c.in-Found.rest.at (line c) in
+    let worded : whole c ≡ after_return (got word rest) = unfold after_space in spaced ∙ bind_go _ (token_found _ c.atom.ensures.result_value c.in-Found.is) in
+    let spelled : spells word (text "RETURN") ≡ c.spells_word.result = unfold text in let bare = (bare_ahead _ _ c.atom.ensures.bare_in c.in-Found.is).bare in
     ap (λ (x : List ℕ). spells x (text "RETURN")) (bare_bytes _ _ bare ∙ sym c.raw.ensures) ∙ sym c.spells_word.ensures in
-    sym (worded ∙ bind_none _ (word_return _ _ _ (spelled ∙ not-false _ c.if-not-spells_word.false)
-    (behind_nothing _ c.opening.ensures.result_value c.enum_told-in_default-opening-1.given.1)))
+    sym (worded ∙ bind_none _ (word_return _ _ _ (spelled ∙ c.if-not-spells_word.false)
+    (behind_nothing _ c.opening.ensures.result_value c.in_default-opening.is)))
 
 -- a list off the grammar
 pub returns-in_default-read_options : goal.returns-in_default-read_options
 unfolding listed_is
 returns-in_default-read_options c =
-    let word : List ℕ = span_bytes (line c) c.word-1.given.0.0 in
-    let spelled : spells word (text "RETURN") ≡ c.spells_word.result = unfold text in let bare = (bare_ahead _ _ c.atom.ensures.bare_in c.word-1.given.1).bare in
+    let word : List ℕ = span_bytes (line c) c.in-Found.word in
+    let spaced : whole c ≡ after_space (drop c.in-At.next.at (line c)) = return_is (line c) _ c.if-text-here.false ∙ bind_go _ (behind_at _ c.space.ensures.result_value c.in-At.is) in
+    let rest : List ℕ = drop c.in-Found.rest.at (line c) in
+    let worded : whole c ≡ after_return (got word rest) = unfold after_space in spaced ∙ bind_go _ (token_found _ c.atom.ensures.result_value c.in-Found.is) in
+    let spelled : spells word (text "RETURN") ≡ c.spells_word.result = unfold text in let bare = (bare_ahead _ _ c.atom.ensures.bare_in c.in-Found.is).bare in
     ap (λ (x : List ℕ). spells x (text "RETURN")) (bare_bytes _ _ bare ∙ sym c.raw.ensures) ∙ sym c.spells_word.ensures in
-    let rest : List ℕ = drop c.word-1.given.0.1.0.at (line c) in
-    let spaced : whole c ≡ after_space (drop c.next-1.given.0.0.at (line c)) = return_is (line c) _ c.if-text-here.false ∙ bind_go _ (behind_at _ c.space.ensures.result_value c.next-1.given.1) in
-    let worded : whole c ≡ after_return (got word rest) = unfold after_space in spaced ∙ bind_go _ (token_found _ c.atom.ensures.result_value c.word-1.given.1) in
-    let inside : whole c ≡ at_end (marks_of Return (options (drop c.inside-1.given.0.0.at (line c)))) = unfold after_return in worded ∙ bind_go _ (word_return _ _ _
-    (spelled ∙ not-false _ c.if-not-spells_word.false)
-    (behind_at _ c.opening.ensures.result_value c.inside-1.given.1)) in
-    sym (inside ∙ no_end (listed_broken _ c.read_options.ensures c.enum_told-in_default-read_options-1.given.1))
+    let inside : whole c ≡ at_end (marks_of Return (options (drop c.in-At-opening.inside.at (line c)))) = unfold after_return in worded ∙ bind_go _ (word_return _ _ _
+    (spelled ∙ c.if-not-spells_word.false)
+    (behind_at _ c.opening.ensures.result_value c.in-At-opening.is)) in
+    sym (inside ∙ no_end (listed_broken _ c.read_options.ensures c.in_default-read_options.is))
 
 -- something stands after the list
 pub returns-then-last-text : goal.returns-then-last-text
 unfolding listed_is
 returns-then-last-text c =
-    let word : List ℕ = span_bytes (line c) c.word-1.given.0.0 in
-    let spelled : spells word (text "RETURN") ≡ c.spells_word.result = unfold text in let bare = (bare_ahead _ _ c.atom.ensures.bare_in c.word-1.given.1).bare in
+    let word : List ℕ = span_bytes (line c) c.in-Found.word in
+    let spaced : whole c ≡ after_space (drop c.in-At.next.at (line c)) = return_is (line c) _ c.if-text-here.false ∙ bind_go _ (behind_at _ c.space.ensures.result_value c.in-At.is) in
+    let rest : List ℕ = drop c.in-Found.rest.at (line c) in
+    let worded : whole c ≡ after_return (got word rest) = unfold after_space in spaced ∙ bind_go _ (token_found _ c.atom.ensures.result_value c.in-Found.is) in
+    let spelled : spells word (text "RETURN") ≡ c.spells_word.result = unfold text in let bare = (bare_ahead _ _ c.atom.ensures.bare_in c.in-Found.is).bare in
     ap (λ (x : List ℕ). spells x (text "RETURN")) (bare_bytes _ _ bare ∙ sym c.raw.ensures) ∙ sym c.spells_word.ensures in
-    let rest : List ℕ = drop c.word-1.given.0.1.0.at (line c) in
-    let spaced : whole c ≡ after_space (drop c.next-1.given.0.0.at (line c)) = return_is (line c) _ c.if-text-here.false ∙ bind_go _ (behind_at _ c.space.ensures.result_value c.next-1.given.1) in
-    let worded : whole c ≡ after_return (got word rest) = unfold after_space in spaced ∙ bind_go _ (token_found _ c.atom.ensures.result_value c.word-1.given.1) in
-    let inside : whole c ≡ at_end (marks_of Return (options (drop c.inside-1.given.0.0.at (line c)))) = unfold after_return in worded ∙ bind_go _ (word_return _ _ _
-    (spelled ∙ not-false _ c.if-not-spells_word.false)
-    (behind_at _ c.opening.ensures.result_value c.inside-1.given.1)) in
-    let list = listed_read _ c.read_options.ensures c.set-1.given.1 in
+    let inside : whole c ≡ at_end (marks_of Return (options (drop c.in-At-opening.inside.at (line c)))) = unfold after_return in worded ∙ bind_go _ (word_return _ _ _
+    (spelled ∙ c.if-not-spells_word.false)
+    (behind_at _ c.opening.ensures.result_value c.in-At-opening.is)) in
+    let list = listed_read _ c.read_options.ensures c.in-Read.is in
     sym (inside ∙ not_at_end _ _ list (empty_not (line c) _ c.if-last-text.true))
 
 -- the line ends with the list
 pub returns : goal.returns
 unfolding listed_is got
 returns c =
-    let word : List ℕ = span_bytes (line c) c.word-1.given.0.0 in
-    let spelled : spells word (text "RETURN") ≡ c.spells_word.result = unfold text in let bare = (bare_ahead _ _ c.atom.ensures.bare_in c.word-1.given.1).bare in
+    let word : List ℕ = span_bytes (line c) c.in-Found.word in
+    let spaced : whole c ≡ after_space (drop c.in-At.next.at (line c)) = return_is (line c) _ c.if-text-here.false ∙ bind_go _ (behind_at _ c.space.ensures.result_value c.in-At.is) in
+    let rest : List ℕ = drop c.in-Found.rest.at (line c) in
+    let worded : whole c ≡ after_return (got word rest) = unfold after_space in spaced ∙ bind_go _ (token_found _ c.atom.ensures.result_value c.in-Found.is) in
+    let spelled : spells word (text "RETURN") ≡ c.spells_word.result = unfold text in let bare = (bare_ahead _ _ c.atom.ensures.bare_in c.in-Found.is).bare in
     ap (λ (x : List ℕ). spells x (text "RETURN")) (bare_bytes _ _ bare ∙ sym c.raw.ensures) ∙ sym c.spells_word.ensures in
-    let rest : List ℕ = drop c.word-1.given.0.1.0.at (line c) in
-    let spaced : whole c ≡ after_space (drop c.next-1.given.0.0.at (line c)) = return_is (line c) _ c.if-text-here.false ∙ bind_go _ (behind_at _ c.space.ensures.result_value c.next-1.given.1) in
-    let worded : whole c ≡ after_return (got word rest) = unfold after_space in spaced ∙ bind_go _ (token_found _ c.atom.ensures.result_value c.word-1.given.1) in
-    let inside : whole c ≡ at_end (marks_of Return (options (drop c.inside-1.given.0.0.at (line c)))) = unfold after_return in worded ∙ bind_go _ (word_return _ _ _
-    (spelled ∙ not-false _ c.if-not-spells_word.false)
-    (behind_at _ c.opening.ensures.result_value c.inside-1.given.1)) in
-    let list = listed_read _ c.read_options.ensures c.set-1.given.1 in
-    let end = c.set-1.given.0.1.1.0.at in
-    let marks : Marks = record { set = c.set-1.given.0.0.bits; known = c.set-1.given.0.1.0 } in
+    let inside : whole c ≡ at_end (marks_of Return (options (drop c.in-At-opening.inside.at (line c)))) = unfold after_return in worded ∙ bind_go _ (word_return _ _ _
+    (spelled ∙ c.if-not-spells_word.false)
+    (behind_at _ c.opening.ensures.result_value c.in-At-opening.is)) in
+    let list = listed_read _ c.read_options.ensures c.in-Read.is in
+    let end = c.in-Read.last.at in
+    let marks : Marks = record { set = c.in-Read.set.bits; known = c.in-Read.known } in
     ap (λ (x : List ℕ). some (got marks x)) (drop_of_length-le (line c) c.if-last-text.false) ∙ sym
     (inside ∙ at_end_lem _ _ list (empty_out (line c) end c.if-last-text.false))

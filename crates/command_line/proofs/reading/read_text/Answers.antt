@@ -11,40 +11,40 @@ line s = s.args.text.now
 
 pub returns-in_default : goal.returns-in_default
 returns-in_default c =
-    refuses _ 4 c.refused.ensures (tag_off (line c) (token_missing _ c.tag.ensures.result_value c.enum_told-1.given.1))
+    refuses _ 4 c.refused.ensures (tag_off (line c) (token_missing _ c.tag.ensures.result_value c.in_default.is))
 
 pub returns-in_default-space : goal.returns-in_default-space
 returns-in_default-space c =
     refuses _ 4 c.refused-in_default-space.ensures
     (space_off (line c) (tag c) (end c) (read-tag c)
-    (behind_nothing _ c.space.ensures.result_value c.enum_told-in_default-space-1.given.1))
+    (behind_nothing _ c.space.ensures.result_value c.in_default-space.is))
 
 pub returns-in_default-atom : goal.returns-in_default-atom
 returns-in_default-atom c =
     refuses _ 5 c.refused-in_default-atom.ensures
     (spaced c ∙ word_off _ _ (token_missing _ c.atom.ensures.result_value
-    c.enum_told-in_default-atom-1.given.1))
+    c.in_default-atom.is))
 
 pub returns-in-List : goal.returns-in-List
 returns-in-List c =
-    arm c _ c.enum_told-in-List-1.given.1 c.read_list.ensures
+    arm c _ c.in-List.is c.read_list.ensures
 
 pub returns-in-Namespace : goal.returns-in-Namespace
 returns-in-Namespace c =
-    arm c _ c.enum_told-in-Namespace-1.given.1 c.read_namespace.ensures
+    arm c _ c.in-Namespace.is c.read_namespace.ensures
 
 pub returns-in-Lsub : goal.returns-in-Lsub
 returns-in-Lsub c =
-    arm c _ c.enum_told-in-Lsub-1.given.1 c.read_lsub.ensures
+    arm c _ c.in-Lsub.is c.read_lsub.ensures
 
 pub returns-in-Subscribe : goal.returns-in-Subscribe
 returns-in-Subscribe c =
-    arm c _ c.enum_told-in-Subscribe-1.given.1 (asks_subscribe _ _ _ c.read_edit.ensures)
+    arm c _ c.in-Subscribe.is (asks_subscribe _ _ _ c.read_edit.ensures)
 
 pub returns-in-Unsubscribe : goal.returns-in-Unsubscribe
 returns-in-Unsubscribe c =
-    arm c _ c.enum_told-in-Unsubscribe-1.given.1 (asks_unsubscribe _ _ _ c.read_edit-in-Unsubscribe.ensures)
+    arm c _ c.in-Unsubscribe.is (asks_unsubscribe _ _ _ c.read_edit-in-Unsubscribe.ensures)
 
 pub returns-in-Other : goal.returns-in-Other
 returns-in-Other c =
-    refuses _ 5 c.refused-in-Other.ensures (by_word c _ c.enum_told-in-Other-1.given.1 ∙ other_word _ _)
+    refuses _ 5 c.refused-in-Other.ensures (by_word c _ c.in-Other.is ∙ other_word _ _)

@@ -26,18 +26,18 @@ pub returns-in_default : goal.returns-in_default
 unfolding patterns_is behind_is ◌>>=◌
 returns-in_default c =
     let inv = c.loop-span.invariant in
- record { result_value = sym (parting_off pattern _ _ _ _ inv.2 (token_missing _ c.pattern.ensures.result_value c.enum_told-1.given.1)); placed = placed_filled _ _ _ inv.1 }
+ record { result_value = sym (parting_off pattern _ _ _ _ inv.2 (token_missing _ c.pattern.ensures.result_value c.in_default.is)); placed = placed_filled _ _ _ inv.1 }
 
 -- a pattern and the closing parenthesis
 pub returns-then-b-eq41 : goal.returns-then-b-eq41
 unfolding patterns_is behind_is ◌>>=◌ join_to got
 returns-then-b-eq41 c =
     let line : List ℕ = c.args.text.now in
-    let bytes : List ℕ = span_bytes line c.span-1.given.0.0 in
-    let to : ℕ = c.span-1.given.0.1.0.at in
-    let read : pattern (drop c.loop-span.at line) ≡ some (got bytes (drop to line)) = token_found _ c.pattern.ensures.result_value c.span-1.given.1 in
-    let ahead : Ahead line c.loop-span.at c.span-1.given.0.0
-    c.span-1.given.0.1.0 = token_ahead _ _ c.pattern.ensures.token_in c.span-1.given.1 in
+    let bytes : List ℕ = span_bytes line c.in-Found.span in
+    let to : ℕ = c.in-Found.next.at in
+    let read : pattern (drop c.loop-span.at line) ≡ some (got bytes (drop to line)) = token_found _ c.pattern.ensures.result_value c.in-Found.is in
+    let ahead : Ahead line c.loop-span.at c.in-Found.span
+    c.in-Found.next = token_ahead _ _ c.pattern.ensures.token_in c.in-Found.is in
     let more : Filled line c.with-found.result (c.loop-span.invariant.0 ++ (bytes ∷ [])) = subst (λ (p : Patterns). Filled line p (c.loop-span.invariant.0 ++ (bytes ∷ []))) (sym c.with-found.ensures)
     (filled_with _ _ _ _ c.loop-span.invariant.1 (lies_ahead _ _ _ _ ahead)) in
     let inv = c.loop-span.invariant in
@@ -49,11 +49,11 @@ pub returns-then-b-ne32 : goal.returns-then-b-ne32
 unfolding patterns_is behind_is ◌>>=◌
 returns-then-b-ne32 c =
     let line : List ℕ = c.args.text.now in
-    let bytes : List ℕ = span_bytes line c.span-1.given.0.0 in
-    let to : ℕ = c.span-1.given.0.1.0.at in
-    let read : pattern (drop c.loop-span.at line) ≡ some (got bytes (drop to line)) = token_found _ c.pattern.ensures.result_value c.span-1.given.1 in
-    let ahead : Ahead line c.loop-span.at c.span-1.given.0.0
-    c.span-1.given.0.1.0 = token_ahead _ _ c.pattern.ensures.token_in c.span-1.given.1 in
+    let bytes : List ℕ = span_bytes line c.in-Found.span in
+    let to : ℕ = c.in-Found.next.at in
+    let read : pattern (drop c.loop-span.at line) ≡ some (got bytes (drop to line)) = token_found _ c.pattern.ensures.result_value c.in-Found.is in
+    let ahead : Ahead line c.loop-span.at c.in-Found.span
+    c.in-Found.next = token_ahead _ _ c.pattern.ensures.token_in c.in-Found.is in
     let more : Filled line c.with-found.result (c.loop-span.invariant.0 ++ (bytes ∷ [])) = subst (λ (p : Patterns). Filled line p (c.loop-span.invariant.0 ++ (bytes ∷ []))) (sym c.with-found.ensures)
     (filled_with _ _ _ _ c.loop-span.invariant.1 (lies_ahead _ _ _ _ ahead)) in
     let byte = c.byte_at-b.ensures in (
@@ -64,14 +64,14 @@ returns-then-b-ne32 c =
 
 pub overflow_add-result : goal.overflow_add-result
 overflow_add-result c =
-    let to : ℕ = c.span-1.given.0.1.0.at in
+    let to : ℕ = c.in-Found.next.at in
     let line : List ℕ = c.args.text.now in
     let further : 0 < c.byte_at-b.result → to < length line = λ h. inside line _ (omega (arith, c.byte_at-b.ensures)) in
     omega (arith, further (omega arith))
 
 pub overflow_add-at : goal.overflow_add-at
 overflow_add-at c =
-    let to : ℕ = c.span-1.given.0.1.0.at in
+    let to : ℕ = c.in-Found.next.at in
     let line : List ℕ = c.args.text.now in
     let further : 0 < c.byte_at-b.result → to < length line = λ h. inside line _ (omega (arith, c.byte_at-b.ensures)) in
     omega (arith, further (omega arith))
@@ -79,9 +79,9 @@ overflow_add-at c =
 pub loop-span-smaller : goal.loop-span-smaller
 loop-span-smaller c =
     let line : List ℕ = c.args.text.now in
-    let ahead : Ahead line c.loop-span.at c.span-1.given.0.0
-    c.span-1.given.0.1.0 = token_ahead _ _ c.pattern.ensures.token_in c.span-1.given.1 in
-    let to : ℕ = c.span-1.given.0.1.0.at in
+    let ahead : Ahead line c.loop-span.at c.in-Found.span
+    c.in-Found.next = token_ahead _ _ c.pattern.ensures.token_in c.in-Found.is in
+    let to : ℕ = c.in-Found.next.at in
     let further : 0 < c.byte_at-b.result → to < length line = λ h. inside line _ (omega (arith, c.byte_at-b.ensures)) in
     omega (arith, ahead.past, further (omega arith))
 
@@ -89,11 +89,11 @@ loop-span-smaller c =
 pub loop-span-preserved : goal.loop-span-preserved
 loop-span-preserved c =
     let line : List ℕ = c.args.text.now in
-    let bytes : List ℕ = span_bytes line c.span-1.given.0.0 in
-    let to : ℕ = c.span-1.given.0.1.0.at in
-    let read : pattern (drop c.loop-span.at line) ≡ some (got bytes (drop to line)) = token_found _ c.pattern.ensures.result_value c.span-1.given.1 in
-    let ahead : Ahead line c.loop-span.at c.span-1.given.0.0
-    c.span-1.given.0.1.0 = token_ahead _ _ c.pattern.ensures.token_in c.span-1.given.1 in
+    let bytes : List ℕ = span_bytes line c.in-Found.span in
+    let to : ℕ = c.in-Found.next.at in
+    let read : pattern (drop c.loop-span.at line) ≡ some (got bytes (drop to line)) = token_found _ c.pattern.ensures.result_value c.in-Found.is in
+    let ahead : Ahead line c.loop-span.at c.in-Found.span
+    c.in-Found.next = token_ahead _ _ c.pattern.ensures.token_in c.in-Found.is in
     let more : Filled line c.with-found.result (c.loop-span.invariant.0 ++ (bytes ∷ [])) = subst (λ (p : Patterns). Filled line p (c.loop-span.invariant.0 ++ (bytes ∷ []))) (sym c.with-found.ensures)
     (filled_with _ _ _ _ c.loop-span.invariant.1 (lies_ahead _ _ _ _ ahead)) in
     let inv = c.loop-span.invariant in (

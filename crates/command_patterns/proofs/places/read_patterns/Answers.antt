@@ -30,7 +30,7 @@ unfolding patterns_is behind_is ◌>>=◌
 returns-in_default c =
     let line = c.args.text.now in (
       sym (patterns_off line _ (λ e. c.if-byte_at-eq40.false (c.byte_at.ensures ∙ e))
-          (token_missing _ c.pattern.ensures.result_value c.enum_told-1.given.1)),
+          (token_missing _ c.pattern.ensures.result_value c.in_default.is)),
       rw c.none-none.ensures (placed_filled _ _ _ (filled_none line)),
     )
 
@@ -39,13 +39,13 @@ pub returns : goal.returns
 unfolding patterns_is behind_is ◌>>=◌
 returns c =
     let line = c.args.text.now in
-    let span = c.span-1.given.0.0 in
+    let span = c.in-Found.span in
     let bytes = span_bytes line span in
-    let found = c.span-1.given.1 in
+    let found = c.in-Found.is in
     let read = c.pattern.ensures in
     let with = c.with.ensures ∙ ap (λ (p : Patterns). with_span p span) c.none-none.ensures in
     let one = subst (λ (p : Patterns). Filled line p (bytes ∷ [])) (sym with) (filled_with line _ [] span (filled_none line) (lies_ahead _ _ _ _ (token_ahead _ _ read.1 found))) in (
-      ap (λ (x : Option (List (List ℕ))). some (got x (drop c.span-1.given.0.1.0.at line))) (kept_filled _ _ _ one)
+      ap (λ (x : Option (List (List ℕ))). some (got x (drop c.in-Found.next.at line))) (kept_filled _ _ _ one)
           ∙ sym (patterns_single line _ _ _ (λ e. c.if-byte_at-eq40.false (c.byte_at.ensures ∙ e)) (token_found _ read.0 found)),
       placed_filled _ _ _ one,
     )

@@ -12,17 +12,17 @@ pub returns-in-End : goal.returns-in-End
 unfolding TokenIn
 returns-in-End c =
     (
-      ap (token_is _) (sym (quoted_end _ _ _ _ (omega arith) (sym c.quoted_step.ensures ∙ c.enum_told-1.given.1)) ∙ c.loop-i.invariant.1) ∙ closed_is _ _,
+      ap (token_is _) (sym (quoted_end _ _ _ _ (omega arith) (sym c.quoted_step.ensures ∙ c.in-End.is)) ∙ c.loop-i.invariant.1) ∙ closed_is _ _,
       record { order = omega arith; within = omega arith; past = omega arith; inside = omega arith },
     )
 
 pub returns-in-Bad : goal.returns-in-Bad
 unfolding TokenIn
-returns-in-Bad c = record { result_value = ap (token_is _) (sym (quoted_bad _ _ _ _ (omega arith) (sym c.quoted_step.ensures ∙ c.enum_told-in-Bad-1.given.1)) ∙ c.loop-i.invariant.1) ∙ closed_is _ _; token_in = tt }
+returns-in-Bad c = record { result_value = ap (token_is _) (sym (quoted_bad _ _ _ _ (omega arith) (sym c.quoted_step.ensures ∙ c.in-Bad.is)) ∙ c.loop-i.invariant.1) ∙ closed_is _ _; token_in = tt }
 
 pub loop-i-preserved : goal.loop-i-preserved
 loop-i-preserved c =
-    (omega arith, sym (quoted_more _ _ _ _ (omega arith) _ (sym c.quoted_step.ensures ∙ c.e-1.given.1)) ∙ c.loop-i.invariant.1)
+    (omega arith, sym (quoted_more _ _ _ _ (omega arith) _ (sym c.quoted_step.ensures ∙ c.in-More.is)) ∙ c.loop-i.invariant.1)
 
 pub returns : goal.returns
 unfolding TokenIn

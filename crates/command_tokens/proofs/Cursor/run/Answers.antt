@@ -1,6 +1,6 @@
 -- `Cursor::run`: the loop stops at the end of the longest run of bytes of the class. Rests on Runs.
 use Rattle.command_tokens.specs.Tokens.{BareIn, class_byte, token_is, run_end}
-use Rattle.listing_rules.proofs.Prelude.{◌∙◌, ◌≡◌, refl, sym, ⊎_elim, arith, not-false, not-true}
+use Rattle.listing_rules.proofs.Prelude.{◌∙◌, ◌≡◌, refl, sym, ⊎_elim, arith, not-true}
 use Rattle.command_tokens.specs.Spans.{span_bytes}
 use Rattle.command_tokens.proofs.Runs.{run_step, run_stop, run_out, run_missing, run_found}
 use Rattle.command_tokens.specs.Tokens.{class_byte, run_end}
@@ -12,20 +12,20 @@ loop-i-init c = (omega arith, omega arith, refl)
 
 pub loop-i-preserved : goal.loop-i-preserved
 loop-i-preserved c =
-    (omega arith, omega arith, run_step _ _ _ c.loop-i-test.true (sym c.holds.ensures ∙ not-false _ c.if-not-holds.false) ∙ c.loop-i.invariant.2)
+    (omega arith, omega arith, run_step _ _ _ c.loop-i-test.true (sym c.holds.ensures ∙ c.if-not-holds.false) ∙ c.loop-i.invariant.2)
 
 pub returns-then-i-at : goal.returns-then-i-at
 unfolding token_is BareIn
 returns-then-i-at c =
     let ended : run_end (class_byte c.args.class) c.args.text.now c.args.self.at ≡ c.loop-i.i = sym c.loop-i.invariant.2
-    ∙ ⊎_elim (λ w. run_out _ _ _ w.left) (λ w. run_stop _ _ _ w.0.taken (sym w.2.ensures ∙ not-true _ w.3.taken)) c.loop-i-test.came in
+    ∙ ⊎_elim (λ w. run_out _ _ _ w.false) (λ w. run_stop _ _ _ w.0.true (sym w.2.ensures ∙ not-true _ w.3.true)) c.loop-i-test.branch in
  record { result_value = sym (run_missing _ _ _ (ended ∙ c.if-i-at.true)); bare_in = tt }
 
 pub returns : goal.returns
 unfolding token_is span_bytes BareIn
 returns c =
     let ended : run_end (class_byte c.args.class) c.args.text.now c.args.self.at ≡ c.loop-i.i = sym c.loop-i.invariant.2
-    ∙ ⊎_elim (λ w. run_out _ _ _ w.left) (λ w. run_stop _ _ _ w.0.taken (sym w.2.ensures ∙ not-true _ w.3.taken)) c.loop-i-test.came in
+    ∙ ⊎_elim (λ w. run_out _ _ _ w.false) (λ w. run_stop _ _ _ w.0.true (sym w.2.ensures ∙ not-true _ w.3.true)) c.loop-i-test.branch in
     (
   sym (run_found _ _ _ _ ended (omega arith)),
   record { bare = refl; front = refl; ahead = record { order = omega arith; within = omega arith; past = omega arith; inside = omega arith } },

@@ -1,5 +1,5 @@
 -- `all_of_tag` meets its contract: the bytes from `i` on decide. By octets' laws of Every.
-use Rattle.listing_rules.proofs.Prelude.{◌∙◌, refl, sym, not-false, not-true}
+use Rattle.listing_rules.proofs.Prelude.{◌∙◌, refl, sym}
 use Rattle.listing_rules.specs.Tokens.{tag_byte}
 use Rattle.octets.proofs.Every.{all_step, all_stop, all_end}
 use Rattle.listing_rules.proofs.Prelude.{◌-◌}
@@ -11,12 +11,12 @@ loop-i-init c = refl
 
 pub returns-then-not-is_tag_byte : goal.returns-then-not-is_tag_byte
 returns-then-not-is_tag_byte c =
-    sym (all_stop tag_byte _ _ c.loop-i-test.true (sym c.is_tag_byte.ensures ∙ not-true _ c.if-not-is_tag_byte.true)) ∙
+    sym (all_stop tag_byte _ _ c.loop-i-test.true (sym c.is_tag_byte.ensures ∙ c.if-not-is_tag_byte.true)) ∙
     c.loop-i.invariant
 
 pub loop-i-preserved : goal.loop-i-preserved
 loop-i-preserved c =
-    sym (all_step tag_byte _ _ c.loop-i-test.true (sym c.is_tag_byte.ensures ∙ not-false _ c.if-not-is_tag_byte.false)) ∙
+    sym (all_step tag_byte _ _ c.loop-i-test.true (sym c.is_tag_byte.ensures ∙ c.if-not-is_tag_byte.false)) ∙
     c.loop-i.invariant
 
 pub returns : goal.returns

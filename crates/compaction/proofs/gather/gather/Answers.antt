@@ -16,8 +16,8 @@ loop-i-preserved c =
     let v = c.loop-i.invariant in
     let here : c.loop-i.i < length c.args.area.now = omega (arith, c.loop-i-test.true, c.requires.1) in
     ⊎_elim
-    (λ w. rw (w.2, w.3) (gathering_used v c.requires.1 here c.requires.2 (not-true _ w.0.taken)))
-    (λ w. rw (w.1, w.2) (gathering_free v c.requires.1 here c.requires.2 (not-false _ w.0.left)))
+    (λ w. rw (w.2, w.3) (gathering_used v c.requires.1 here c.requires.2 (not-true _ w.0.true)))
+    (λ w. rw (w.1, w.2) (gathering_free v c.requires.1 here c.requires.2 (not-false _ w.0.false)))
     c.if-not-marks-i.branch
 
 pub returns : goal.returns

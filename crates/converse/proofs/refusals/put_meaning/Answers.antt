@@ -8,87 +8,87 @@ use Rattle.converse.proofs.refusals.put_meaning.Goals as goal
 pub returns-in-0 : goal.returns-in-0
 unfolding open_bytes open_texts
 returns-in-0 c =
-    rw c.in-0.keys1 c.put_all.ensures
+    rw c.in-0.is c.put_all.ensures
 
 pub returns-in-1 : goal.returns-in-1
 unfolding open_bytes open_texts
 returns-in-1 c =
-    rw c.in-0.keys2 c.put_all-in-1.ensures
+    rw c.in-1.is c.put_all-in-1.ensures
 
 pub returns-in-2 : goal.returns-in-2
 unfolding open_bytes open_texts
 returns-in-2 c =
-    rw c.in-0.keys3 c.put_all-in-2.ensures
+    rw c.in-2.is c.put_all-in-2.ensures
 
 pub returns-in-3 : goal.returns-in-3
 unfolding open_bytes open_texts
 returns-in-3 c =
-    rw c.in-0.keys4 c.put_all-in-3.ensures
+    rw c.in-3.is c.put_all-in-3.ensures
 
 pub returns-in-4 : goal.returns-in-4
 unfolding open_bytes open_texts
 returns-in-4 c =
-    rw c.in-0.keys5 c.put_all-in-4.ensures
+    rw c.in-4.is c.put_all-in-4.ensures
 
 pub returns-in-5 : goal.returns-in-5
 unfolding open_bytes open_texts
 returns-in-5 c =
-    rw c.in-0.keys6 c.put_all-in-5.ensures
+    rw c.in-5.is c.put_all-in-5.ensures
 
 pub returns-in-6 : goal.returns-in-6
 unfolding open_bytes open_texts
 returns-in-6 c =
-    rw c.in-0.keys7 c.put_all-in-6.ensures
+    rw c.in-6.is c.put_all-in-6.ensures
 
 pub returns-in-7 : goal.returns-in-7
 unfolding open_bytes open_texts
 returns-in-7 c =
-    rw c.in-0.keys8 c.put_all-in-7.ensures
+    rw c.in-7.is c.put_all-in-7.ensures
 
 pub returns-in-8 : goal.returns-in-8
 unfolding open_bytes open_texts
 returns-in-8 c =
-    rw c.in-0.keys9 c.put_all-in-8.ensures
+    rw c.in-8.is c.put_all-in-8.ensures
 
 pub returns-in-9 : goal.returns-in-9
 unfolding open_bytes open_texts
 returns-in-9 c =
-    rw c.in-0.keys10 c.put_all-in-9.ensures
+    rw c.in-9.is c.put_all-in-9.ensures
 
 pub returns-in-10 : goal.returns-in-10
 unfolding open_bytes open_texts
 returns-in-10 c =
-    rw c.in-0.keys11 c.put_all-in-10.ensures
+    rw c.in-10.is c.put_all-in-10.ensures
 
 pub returns-in-11 : goal.returns-in-11
 unfolding open_bytes open_texts
 returns-in-11 c =
-    rw c.in-0.keys12 c.put_all-in-11.ensures
+    rw c.in-11.is c.put_all-in-11.ensures
 
 pub returns-in-12 : goal.returns-in-12
 unfolding open_bytes open_texts
 returns-in-12 c =
-    rw c.in-0.keys13 c.put_all-in-12.ensures
+    rw c.in-12.is c.put_all-in-12.ensures
 
 pub returns-in-13 : goal.returns-in-13
 unfolding open_bytes open_texts
 returns-in-13 c =
-    rw c.in-0.keys14 c.put_all-in-13.ensures
+    rw c.in-13.is c.put_all-in-13.ensures
 
 pub returns-in-14 : goal.returns-in-14
 unfolding open_bytes open_texts
 returns-in-14 c =
-    rw c.in-0.keys15 c.put_all-in-14.ensures
+    rw c.in-14.is c.put_all-in-14.ensures
 
 pub returns-in-15 : goal.returns-in-15
 unfolding open_bytes open_texts
 returns-in-15 c =
-    rw c.in-0.keys16 c.put_all-in-15.ensures
+    rw c.in-15.is c.put_all-in-15.ensures
 
 pub returns-in-16 : goal.returns-in-16
 unfolding open_bytes open_texts
 returns-in-16 c =
-    rw c.in-0.keys17 c.put_all-in-16.ensures
+    rw c.in-16.is c.put_all-in-16.ensures
 
 pub returns-in_default : goal.returns-in_default
 returns-in_default c =

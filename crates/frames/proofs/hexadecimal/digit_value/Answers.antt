@@ -5,9 +5,9 @@ use Rattle.frames.proofs.hexadecimal.digit_value.Goals as goal
 
 pub returns-in-Value : goal.returns-in-Value
 returns-in-Value c =
-    let e = value_known _ _ (sym c.read_digit.ensures ∙ c.v-1.given.1) in
+    let e = value_known _ _ (sym c.read_digit.ensures ∙ c.in-Value.is) in
     (sym e, omega (arith, e, value_small c.args.c))
 
 pub returns-in-Other : goal.returns-in-Other
 returns-in-Other c =
-    (sym (value_none _ (sym c.read_digit.ensures ∙ c.enum_told-1.given.1)), omega arith)
+    (sym (value_none _ (sym c.read_digit.ensures ∙ c.in-Other.is)), omega arith)

@@ -18,7 +18,7 @@ loop-i-preserved c =
     let s = c.args.line.now in
     let i = turn.i in (
       omega arith,
-      pieces_more (pair_of (get_or s i 0) (get_or s (i + 1) 0) ∷ []) (decoded (drop (i + 2) s)) turn.inv.1 (decoded_at s i test.taken)
+      pieces_more (pair_of (get_or s i 0) (get_or s (i + 1) 0) ∷ []) (decoded (drop (i + 2) s)) turn.invariant.1 (decoded_at s i test.taken)
           (rw (sym c.pair_value.ensures) c.put-to.ensures),
     )
 

@@ -16,7 +16,7 @@ loop-i-preserved c =
     let turn = c.loop-i in
     let s = c.args.bytes.now in
     let i = turn.i in
-    (omega arith, pieces_more (hex (get_or s i 0 ∷ [])) (hex (drop (i + 1) s)) turn.inv.1 (hex_at s i c.loop-i-test.true) c.put_pair-to.ensures)
+    (omega arith, pieces_more (hex (get_or s i 0 ∷ [])) (hex (drop (i + 1) s)) turn.invariant.1 (hex_at s i c.loop-i-test.true) c.put_pair-to.ensures)
 
 pub returns : goal.returns
 returns c =

@@ -15,33 +15,33 @@ returns-then-pair_value-ne-COMMAND c =
 pub overflow_add-result : goal.overflow_add-result
 unfolding size_of
 overflow_add-result c =
-    omega (arith, c.read_frame.ensures.inside, ap size_of c.n-1.given.1)
+    omega (arith, c.read_frame.ensures.inside, ap size_of c.in-Command.is)
 
 pub returns-in-Command : goal.returns-in-Command
 returns-in-Command c =
-    command_read c.args.line.now c.if-line-lt2.false (sym c.pair_value.ensures ∙ c.if-pair_value-ne-COMMAND.false) _ _ _ _ c.n-1.given.1
+    command_read c.args.line.now c.if-line-lt2.false (sym c.pair_value.ensures ∙ c.if-pair_value-ne-COMMAND.false) _ _ _ _ c.in-Command.is
     c.read_frame.ensures
 
 pub returns-in-Table : goal.returns-in-Table
 returns-in-Table c =
     command_read c.args.line.now c.if-line-lt2.false
-    (sym c.pair_value.ensures ∙ c.if-pair_value-ne-COMMAND.false) _ _ _ _ c.enum_told-1.given.1
+    (sym c.pair_value.ensures ∙ c.if-pair_value-ne-COMMAND.false) _ _ _ _ c.in-Table.is
     c.read_frame.ensures
 
 pub returns-in-Namespaces : goal.returns-in-Namespaces
 returns-in-Namespaces c =
     command_read c.args.line.now c.if-line-lt2.false (sym c.pair_value.ensures ∙ c.if-pair_value-ne-COMMAND.false) _ _ _ _
-    c.enum_told-in-Namespaces-1.given.1
+    c.in-Namespaces.is
     c.read_frame.ensures
 
 pub returns-in-Walk : goal.returns-in-Walk
 returns-in-Walk c =
     command_read c.args.line.now c.if-line-lt2.false (sym c.pair_value.ensures ∙ c.if-pair_value-ne-COMMAND.false) _ _ _ _
-    c.enum_told-in-Walk-1.given.1
+    c.in-Walk.is
     c.read_frame.ensures
 
 pub returns-in-Bad : goal.returns-in-Bad
 returns-in-Bad c =
     command_read c.args.line.now c.if-line-lt2.false (sym c.pair_value.ensures ∙ c.if-pair_value-ne-COMMAND.false) _ _ _ _
-    c.enum_told-in-Bad-1.given.1
+    c.in-Bad.is
     c.read_frame.ensures

@@ -1,6 +1,5 @@
 -- `frames::reading::read_frame` meets its contract: one law for each way out. Rests on FrameLaws.
-use Rattle.listing_rules.proofs.Prelude.{◌∙◌, ◌≡◌, ap, sym, true, List, [], ◌∷◌, ◌-◌, ℕ, arith, drop, length, length-drop, sets, take_all, not-false}
-use Rattle.listing_rules.proofs.Prelude.{not-true}
+use Rattle.listing_rules.proofs.Prelude.{◌∙◌, ◌≡◌, ap, sym, true, List, [], ◌∷◌, ◌-◌, ℕ, arith, drop, length, length-drop, sets, take_all}
 use types.Run.{miss}
 use Rattle.listing_rules.specs.Frames.{bytes_of}
 use Rattle.frames.specs.Hexadecimal.{is_some, decoded}
@@ -15,16 +14,16 @@ returns-then-line-lt2 c = frame_bad _ _ (within_bad _ _ (bad_short _ c.if-line-l
 
 pub returns-then-not-is_hex : goal.returns-then-not-is_hex
 returns-then-not-is_hex c =
-    frame_bad _ _ (within_bad _ _ (bad_text _ (sym c.is_hex.ensures ∙ not-true _ c.if-not-is_hex.true)))
+    frame_bad _ _ (within_bad _ _ (bad_text _ (sym c.is_hex.ensures ∙ c.if-not-is_hex.true)))
 
 pub returns-then-bytes-n : goal.returns-then-bytes-n
 returns-then-bytes-n c =
-    let hexed : is_some (bytes_of c.args.line.now) ≡ true = sym c.is_hex.ensures ∙ not-false _ c.if-not-is_hex.false in
+    let hexed : is_some (bytes_of c.args.line.now) ≡ true = sym c.is_hex.ensures ∙ c.if-not-is_hex.false in
     frame_short _ c.if-line-gt-MAX_DIGITS.false c.if-line-lt2.false hexed _ c.if-bytes-n.true
 
 pub returns-in-Bad : goal.returns-in-Bad
 returns-in-Bad c =
-    let hexed : is_some (bytes_of c.args.line.now) ≡ true = sym c.is_hex.ensures ∙ not-false _ c.if-not-is_hex.false in
+    let hexed : is_some (bytes_of c.args.line.now) ≡ true = sym c.is_hex.ensures ∙ c.if-not-is_hex.false in
     let kinded : c.kind_of-frame.result ≡ kind_answer c.args.line.now = c.kind_of-frame.ensures ∙ rw (
       c.pair_value.ensures,
       c.pair_value-reader.ensures,
@@ -35,11 +34,11 @@ returns-in-Bad c =
       c.byte_at-4.ensures,
     ) in
     frame_other _ c.if-line-gt-MAX_DIGITS.false c.if-line-lt2.false hexed _ c.if-bytes-n.false
-    (sym kinded ∙ c.enum_told-1.given.1)
+    (sym kinded ∙ c.in-Bad.is)
 
 pub returns : goal.returns
 returns c =
-    let hexed : is_some (bytes_of c.args.line.now) ≡ true = sym c.is_hex.ensures ∙ not-false _ c.if-not-is_hex.false in
+    let hexed : is_some (bytes_of c.args.line.now) ≡ true = sym c.is_hex.ensures ∙ c.if-not-is_hex.false in
     let kinded : c.kind_of-frame.result ≡ kind_answer c.args.line.now = c.kind_of-frame.ensures ∙ rw (
       c.pair_value.ensures,
       c.pair_value-reader.ensures,

@@ -19,17 +19,17 @@ memory start = lent start.args.table.now start.args.records.now start.args.names
 pub returns-then-reader-gt-MAX_READER : goal.returns-then-reader-gt-MAX_READER
 returns-then-reader-gt-MAX_READER c =
     rw c.said.ensures
-    (first_stranger (memory c) _ c.requires.0 _ _ _ _ c.requires.1.0 c.if-reader-gt-MAX_READER.true
+    (first_stranger (memory c) _ c.requires.within _ _ _ _ c.requires.edited_value.0 c.if-reader-gt-MAX_READER.true
     c.put_refusal.ensures)
 
 pub slice_bounds-lay_out-end-2 : goal.slice_bounds-lay_out-end-2
 slice_bounds-lay_out-end-2 c =
-    whole_table c.requires.0.held
+    whole_table c.requires.within.held
 
 pub lay_out-requires : goal.lay_out-requires
 lay_out-requires c =
     record {
-      table = omega (arith, whole_table c.requires.0.held, c.requires.0.held.rows);
+      table = omega (arith, whole_table c.requires.within.held, c.requires.within.held.rows);
       words = c.no_words-words.ensures;
       area = c.no_bytes-area.ensures;
     }
@@ -37,8 +37,8 @@ lay_out-requires c =
 pub returns-in_default : goal.returns-in_default
 returns-in_default c =
     rw c.said-in_default.ensures
-    (first_fails (memory c) _ c.requires.0 _ _ _ _ c.requires.1.0 c.if-reader-gt-MAX_READER.false
-    (laid_not _ _ _ c.lay_out.ensures c.enum_told-1.given.1) c.put_refusal-in_default.ensures)
+    (first_fails (memory c) _ c.requires.within _ _ _ _ c.requires.edited_value.0 c.if-reader-gt-MAX_READER.false
+    (laid_not _ _ _ c.lay_out.ensures c.in_default.is) c.put_refusal-in_default.ensures)
 
 pub slice_bounds-answer_words-end-4 : goal.slice_bounds-answer_words-end-4
 slice_bounds-answer_words-end-4 c =
@@ -61,21 +61,21 @@ returns-in_default-reply c =
     let summed : length c.summarize_words.new.1.1.1.0 ≡ 512 = c.summarize_words.auto.1.1.1.0 ∙ ap length c.no_words-sums.ensures ∙ length-replicate {A = ℕ} 512 0 in
     let sized : length c.no_bytes-answer.result ≡ 16384 = ap length c.no_bytes-answer.ensures ∙ length-replicate {A = ℕ} 16384 0 in
     let laid : let a = c.args in
-    Lays (take a.stored.table a.table.now) c.lay_out.new.area.0 c.lay_out.new.area.1.0 (Rows c.count-1.given.0.0) = laid_rows _ _ _ c.lay_out.ensures c.count-1.given.1 in
+    Lays (take a.stored.table a.table.now) c.lay_out.new.area.0 c.lay_out.new.area.1.0 (Rows c.in-Rows.count) = laid_rows _ _ _ c.lay_out.ensures c.in-Rows.is in
     let first : let a = c.args in
     record {
-      store = word_store c.lay_out.new.area.0 512 c.count-1.given.0.0 c.lay_out.new.area.1.0;
+      store = word_store c.lay_out.new.area.0 512 c.in-Rows.count c.lay_out.new.area.1.0;
       summary = map summary_of c.summarize_words.new.1.1.1.0;
     } ≡ program_summed (take a.stored.table a.table.now) = let short : length (take c.args.stored.table c.args.table.now) ≤ 16384 = omega
-    (arith, length-take c.args.stored.table c.args.table.now, c.requires.0.held.rows) in
+    (arith, length-take c.args.stored.table c.args.table.now, c.requires.within.held.rows) in
     laid_summed _ c.lay_out.new.area.0 c.lay_out.new.area.1.0 _ short laid worded _
     c.summarize_words.new.1.1.1.0 c.no_words-sums.ensures
     c.summarize_words.ensures.summary in
     let done = c.answer_words-made in
     let outcome = came _ _ _ _ _ _ _ _ worded summed done.ensures in
     rw c.said-in_default-reply.ensures
-    (first_refused (memory c) _ c.requires.0 _ _ c.requires.1.0 c.requires.1.1 _ _ sized laid.0 first
-    done.new.0 done.new.1.0 _ _ _ _ _ _ outcome c.enum_told-in_default-reply-1.given.1 c.put_reply-written.ensures)
+    (first_refused (memory c) _ c.requires.within _ _ c.requires.edited_value.0 c.requires.edited_value.1 _ _ sized laid.0 first
+    done.new.0 done.new.1.0 _ _ _ _ _ _ outcome c.in_default-reply.is c.put_reply-written.ensures)
 
 pub keep_store-requires : goal.keep_store-requires
 keep_store-requires c =
@@ -94,16 +94,16 @@ returns c =
     let summed : length c.summarize_words.new.1.1.1.0 ≡ 512 = c.summarize_words.auto.1.1.1.0 ∙ ap length c.no_words-sums.ensures ∙ length-replicate {A = ℕ} 512 0 in
     let sized : length c.no_bytes-answer.result ≡ 16384 = ap length c.no_bytes-answer.ensures ∙ length-replicate {A = ℕ} 16384 0 in
     let laid : let a = c.args in
-    Lays (take a.stored.table a.table.now) c.lay_out.new.area.0 c.lay_out.new.area.1.0 (Rows c.count-1.given.0.0) = laid_rows _ _ _ c.lay_out.ensures c.count-1.given.1 in
-    let few : c.count-1.given.0.0 ≤ 16384 = let a = c.args in
+    Lays (take a.stored.table a.table.now) c.lay_out.new.area.0 c.lay_out.new.area.1.0 (Rows c.in-Rows.count) = laid_rows _ _ _ c.lay_out.ensures c.in-Rows.is in
+    let few : c.in-Rows.count ≤ 16384 = let a = c.args in
     omega
-    (arith, laid_few (take a.stored.table a.table.now) c.lay_out.new.area.0 c.lay_out.new.area.1.0 c.count-1.given.0.0 laid) in
+    (arith, laid_few (take a.stored.table a.table.now) c.lay_out.new.area.0 c.lay_out.new.area.1.0 c.in-Rows.count laid) in
     let first : let a = c.args in
     record {
-      store = word_store c.lay_out.new.area.0 512 c.count-1.given.0.0 c.lay_out.new.area.1.0;
+      store = word_store c.lay_out.new.area.0 512 c.in-Rows.count c.lay_out.new.area.1.0;
       summary = map summary_of c.summarize_words.new.1.1.1.0;
     } ≡ program_summed (take a.stored.table a.table.now) = let short : length (take c.args.stored.table c.args.table.now) ≤ 16384 = omega
-    (arith, length-take c.args.stored.table c.args.table.now, c.requires.0.held.rows) in
+    (arith, length-take c.args.stored.table c.args.table.now, c.requires.within.held.rows) in
     laid_summed _ c.lay_out.new.area.0 c.lay_out.new.area.1.0 _ short laid worded _
     c.summarize_words.new.1.1.1.0 c.no_words-sums.ensures
     c.summarize_words.ensures.summary in
@@ -111,7 +111,7 @@ returns c =
     let kept = c.keep_store.ensures in
     let outcome = came _ _ _ _ _ _ _ _ worded summed done.ensures in
     rw (c.with_records.ensures, kept.0, kept.1)
-    (first_accepted (memory c) _ c.requires.0 _ _ c.requires.1.0 c.requires.1.1 _ _ sized laid.0 first
+    (first_accepted (memory c) _ c.requires.within _ _ c.requires.edited_value.0 c.requires.edited_value.1 _ _ sized laid.0 first
     done.new.0 done.new.1.0 _ _ _ _ _ _ outcome _ laid.2
-    (came_words _ _ _ _ _ _ _ _ worded summed done.ensures) c.enum_told-in-Done-1.given.1 few
+    (came_words _ _ _ _ _ _ _ _ worded summed done.ensures) c.in-Done.is few
     (done.auto.1.1.1.1.0 ∙ named) (done.auto.1.0 ∙ summed) c.put_reply-written.ensures)

@@ -1,5 +1,5 @@
 -- `kept_table::commands::obey` meets its contract: nothing where the sizes are others, else the command. Rests on ObeyLaws.
-use Rattle.listing_rules.proofs.Prelude.{◌∙◌, ◌≡◌, sym, true, not-false, not-true}
+use Rattle.listing_rules.proofs.Prelude.{◌∙◌, ◌≡◌, sym, true}
 use Rattle.kept_table.specs.Kept.{Lent, lent, is_within}
 use Rattle.kept_table.proofs.LentLaws.{within_so}
 use Rattle.kept_table.proofs.ObeyLaws.{lent_obeyed, lent_refused}
@@ -11,14 +11,14 @@ memory start = lent start.args.table.now start.args.records.now start.args.names
 
 pub returns-then-not-within : goal.returns-then-not-within
 returns-then-not-within c =
-    lent_refused (memory c) _ _ _ (sym c.is_within-within.ensures ∙ not-true _ c.if-not-within.true) c.said.ensures
+    lent_refused (memory c) _ _ _ (sym c.is_within-within.ensures ∙ c.if-not-within.true) c.said.ensures
 
 pub obey_within-requires : goal.obey_within-requires
 obey_within-requires c =
-    let is-so : is_within c.args.stored c.args.table.now c.args.records.now c.args.namespaces.now ≡ true = sym c.is_within-within.ensures ∙ not-false _ c.if-not-within.false in
+    let is-so : is_within c.args.stored c.args.table.now c.args.records.now c.args.namespaces.now ≡ true = sym c.is_within-within.ensures ∙ c.if-not-within.false in
     within_so _ _ _ _ is-so
 
 pub returns : goal.returns
 returns c =
-    let is-so : is_within c.args.stored c.args.table.now c.args.records.now c.args.namespaces.now ≡ true = sym c.is_within-within.ensures ∙ not-false _ c.if-not-within.false in
+    let is-so : is_within c.args.stored c.args.table.now c.args.records.now c.args.namespaces.now ≡ true = sym c.is_within-within.ensures ∙ c.if-not-within.false in
     lent_obeyed (memory c) _ _ _ is-so c.obey_within.ensures

@@ -7,31 +7,31 @@ use Rattle.kept_table.proofs.commands.obey_records.Goals as goal
 
 pub slice_bounds-answer_words-end-2 : goal.slice_bounds-answer_words-end-2
 slice_bounds-answer_words-end-2 c =
-    whole_records c.requires.0.held
+    whole_records c.requires.within.held
 
 pub slice_bounds-answer_words-end-5 : goal.slice_bounds-answer_words-end-5
 slice_bounds-answer_words-end-5 c =
-    whole_area c.requires.0.held
+    whole_area c.requires.within.held
 
 pub slice_bounds-answer_words-end-6 : goal.slice_bounds-answer_words-end-6
 slice_bounds-answer_words-end-6 c =
-    whole_namespaces c.requires.0
+    whole_namespaces c.requires.within
 
 pub put_reply-written-requires : goal.put_reply-written-requires
 put_reply-written-requires c =
-    let summed : length c.kept_sums-sums.result ≡ 512 = ap length c.kept_sums-sums.ensures ∙ sym (whole_sums c.requires.0.held) in
+    let summed : length c.kept_sums-sums.result ≡ 512 = ap length c.kept_sums-sums.ensures ∙ sym (whole_sums c.requires.within.held) in
     let sized : length c.no_bytes-answer.result ≡ 16384 = ap length c.no_bytes-answer.ensures ∙ length-replicate {A = ℕ} 16384 0 in
     let done = c.answer_words-done in
-    let outcome = came _ _ _ _ _ _ _ _ (sym (whole_records c.requires.0.held)) summed done.ensures in
+    let outcome = came _ _ _ _ _ _ _ _ (sym (whole_records c.requires.within.held)) summed done.ensures in
     reply_fits _ _ _ outcome.written outcome.bytes (done.auto.1.1.1.1.1.1.1.0 ∙ sized)
 
 pub returns : goal.returns
 returns c =
-    let summed : length c.kept_sums-sums.result ≡ 512 = ap length c.kept_sums-sums.ensures ∙ sym (whole_sums c.requires.0.held) in
+    let summed : length c.kept_sums-sums.result ≡ 512 = ap length c.kept_sums-sums.ensures ∙ sym (whole_sums c.requires.within.held) in
     let sized : length c.no_bytes-answer.result ≡ 16384 = ap length c.no_bytes-answer.ensures ∙ length-replicate {A = ℕ} 16384 0 in
     let done = c.answer_words-done in
-    let outcome = came _ _ _ _ _ _ _ _ (sym (whole_records c.requires.0.held)) summed done.ensures in
+    let outcome = came _ _ _ _ _ _ _ _ (sym (whole_records c.requires.within.held)) summed done.ensures in
     let before = lent _ _ _ _ in
     rw (c.with_records.ensures, c.keep_sums.ensures)
-    (obeys_records before _ c.requires.0 _ _ c.requires.1 _ _ sized c.kept_sums-sums.ensures _ done.new.0 _ _ _ _ _
-    outcome (came_words _ _ _ _ _ _ _ _ (sym (whole_records c.requires.0.held)) summed done.ensures) done.auto.1.1.1.1.0 (done.auto.1.0 ∙ summed) c.put_reply-written.ensures)
+    (obeys_records before _ c.requires.within _ _ c.requires.edited_value _ _ sized c.kept_sums-sums.ensures _ done.new.0 _ _ _ _ _
+    outcome (came_words _ _ _ _ _ _ _ _ (sym (whole_records c.requires.within.held)) summed done.ensures) done.auto.1.1.1.1.0 (done.auto.1.0 ∙ summed) c.put_reply-written.ensures)

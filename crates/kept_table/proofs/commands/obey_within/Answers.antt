@@ -8,7 +8,7 @@ use Rattle.kept_table.proofs.commands.obey_within.Goals as goal
 pub first_edit-requires : goal.first_edit-requires
 first_edit-requires c =
     let start =
-    c in (start.pre, (c.if-stored.false, sym c.is_edit_line.ensures ∙ c.if-is_edit_line.true))
+    c in record { within = start.pre; edited_value = (c.if-stored.false, sym c.is_edit_line.ensures ∙ c.if-is_edit_line.true) }
 
 pub slice_bounds-spaces-end : goal.slice_bounds-spaces-end
 slice_bounds-spaces-end c =

@@ -4,12 +4,12 @@ use Rattle.kept_table.proofs.commands.put_reply.Goals as goal
 
 pub slice_bounds-put_line-end : goal.slice_bounds-put_line-end
 slice_bounds-put_line-end c =
-    answer_size_lem c.requires _ c.written-1.given.1
+    answer_size_lem c.requires _ c.in-Done.is
 
 pub returns-in-Done : goal.returns-in-Done
 returns-in-Done c =
-    answer_says c.requires _ _ _ _ c.written-1.given.1 c.put_line.ensures
+    answer_says c.requires _ _ _ _ c.in-Done.is c.put_line.ensures
 
 pub returns-in-Refused : goal.returns-in-Refused
 returns-in-Refused c =
-    refusal_says c.requires _ _ _ _ c.written-in-Refused-1.given.1 c.put_refusal.ensures
+    refusal_says c.requires _ _ _ _ c.in-Refused.is c.put_refusal.ensures

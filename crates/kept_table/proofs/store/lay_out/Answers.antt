@@ -11,26 +11,26 @@ sized start = ap length start.requires.words ∙ length-replicate {A = ℕ} 512 
 pub returns-in_default : goal.returns-in_default
 returns-in_default c =
     index_refused c.index.ensures (sized c)
-    c.enum_told-1.given.1
+    c.in_default.is
 
 pub slice_bounds-place_names-end : goal.slice_bounds-place_names-end
 slice_bounds-place_names-end c =
-    (index_held c.index.ensures _ c.n-1.given.1).inside
+    (index_held c.index.ensures _ c.in-Rows.is).inside
 
 pub slice_bounds-place_names-end-2 : goal.slice_bounds-place_names-end-2
 slice_bounds-place_names-end-2 c =
-    (index_held c.index.ensures _ c.n-1.given.1).size
+    (index_held c.index.ensures _ c.in-Rows.is).size
 
 pub place_names-requires : goal.place_names-requires
 place_names-requires c =
     let start =
     c in (
-      rows_short c.index.ensures (sized start) _ c.n-1.given.1 start.pre.table,
-      rows_inside c.index.ensures (sized start) _ c.n-1.given.1,
+      rows_short c.index.ensures (sized start) _ c.in-Rows.is start.pre.table,
+      rows_inside c.index.ensures (sized start) _ c.in-Rows.is,
     )
 
 pub returns : goal.returns
 returns c =
     let placed = c.place_names.ensures in
-    lays_rows c.index.ensures (sized c) _ c.n-1.given.1 _ _ c.place_names.new.area.0 c.requires
+    lays_rows c.index.ensures (sized c) _ c.in-Rows.is _ _ c.place_names.new.area.0 c.requires
     placed.0 placed.1 placed.2

@@ -11,7 +11,7 @@ slice_bounds-found-end c =
   ap length c.names_buffer-found.ensures ∙ length-replicate {A = ℕ} 8192 0,
   ap length c.names_buffer-pending.ensures ∙ length-replicate {A = ℕ} 8192 0, in
     let walked = c.collect_kept in (walk_fits _ _ _ _ _ _ _ _ sizes walked.ensures.0 walked.auto.1.1.1.1.1.1.0
-    walked.ensures.1 _ _ c.count-1.given.1).0
+    walked.ensures.1 _ _ c.in-Done.is).0
 
 pub slice_bounds-put_walk-end : goal.slice_bounds-put_walk-end
 slice_bounds-put_walk-end c =
@@ -21,7 +21,7 @@ slice_bounds-put_walk-end c =
   ap length c.names_buffer-found.ensures ∙ length-replicate {A = ℕ} 8192 0,
   ap length c.names_buffer-pending.ensures ∙ length-replicate {A = ℕ} 8192 0, in
     let walked = c.collect_kept in sym (walk_fits _ _ _ _ _ _ _ _ sizes walked.ensures.0
-    walked.auto.1.1.1.1.1.1.0 walked.ensures.1 _ _ c.count-1.given.1).1
+    walked.auto.1.1.1.1.1.1.0 walked.ensures.1 _ _ c.in-Done.is).1
 
 pub returns-in-Done : goal.returns-in-Done
 returns-in-Done c =
@@ -31,7 +31,7 @@ returns-in-Done c =
   ap length c.names_buffer-found.ensures ∙ length-replicate {A = ℕ} 8192 0,
   ap length c.names_buffer-pending.ensures ∙ length-replicate {A = ℕ} 8192 0, in
     let walked = c.collect_kept in walk_says _ _ _ _ _ _ _ _ sizes walked.ensures.0 walked.auto.1.1.1.1.1.1.0
-    walked.ensures.1 _ _ _ _ _ c.count-1.given.1 c.put_walk.ensures
+    walked.ensures.1 _ _ _ _ _ c.in-Done.is c.put_walk.ensures
 
 pub returns-in-Refused : goal.returns-in-Refused
 returns-in-Refused c =
@@ -41,4 +41,4 @@ returns-in-Refused c =
   ap length c.names_buffer-found.ensures ∙ length-replicate {A = ℕ} 8192 0,
   ap length c.names_buffer-pending.ensures ∙ length-replicate {A = ℕ} 8192 0, in
     let walked = c.collect_kept in walk_refuses _ _ _ _ _ _ _ _ sizes walked.ensures.0
-    walked.auto.1.1.1.1.1.1.0 walked.ensures.1 _ _ _ _ c.number-1.given.1 c.put_refusal.ensures
+    walked.auto.1.1.1.1.1.1.0 walked.ensures.1 _ _ _ _ c.in-Refused.is c.put_refusal.ensures

@@ -9,7 +9,7 @@ pub returns-in_default : goal.returns-in_default
 returns-in_default c =
     let table = rows_at _ c.args.words.now in
     λ ready at.
-    rw (text_none _ table _ _ _ (sym (c.decide.ensures ready at) ∙ c.enum_told-1.given.1))
+    rw (text_none _ table _ _ _ (sym (c.decide.ensures ready at) ∙ c.in_default.is))
     (put_none _ _ (search rules) (search rules))
 
 pub returns : goal.returns
@@ -19,5 +19,5 @@ returns c =
     let bytes = fronted area _ _ c.of_word.ensures a.name.len _ c.front_of-bytes.ensures in
     λ ready at.
     let text = text_line _ (rows_at area a.words.now) _ _ _ _ _
-    (sym (c.decide.ensures ready at) ∙ c.attributes-1.given.1) in
+    (sym (c.decide.ensures ready at) ∙ c.in-Line.is) in
     rw (text, ← bytes) c.put_line.ensures

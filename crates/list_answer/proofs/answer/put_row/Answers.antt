@@ -45,7 +45,7 @@ pub loop-len-preserved : goal.loop-len-preserved
 loop-len-preserved c =
     let a = c.args in
     let turn = c.loop-len in
-    let inv = turn.inv in
+    let inv = turn.invariant in
     let put-name = c.put_name-to in
     let text = text_of _ a.words.now _ a.question in
     let name = nth_name a.area.now a.words.now a.i in (
@@ -70,5 +70,5 @@ returns c =
     let text = text_of _ a.words.now _ a.question in
     let name = nth_name _ a.words.now _ in
     λ ready.
-    putting_end (done.inv.2 ready).2
-    (beyond_end text name _ (omega (arith, name_length ready.index.indexed _ c.requires, done.inv.0, c.loop-len-test.false)))
+    putting_end (done.invariant.2 ready).2
+    (beyond_end text name _ (omega (arith, name_length ready.index.indexed _ c.requires, done.invariant.0, c.loop-len-test.false)))

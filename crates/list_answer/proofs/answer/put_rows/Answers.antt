@@ -31,4 +31,4 @@ returns c =
     let a = c.args in
     let done = c.loop-i in
     let text = text_of _ a.words.now _ a.question in
-    λ ready. putting_end (done.inv.2 ready) (rows_end _ _ ready.index.indexed text done.i (omega arith))
+    λ ready. putting_end (done.invariant.2 ready) (rows_end _ _ ready.index.indexed text done.i (omega arith))

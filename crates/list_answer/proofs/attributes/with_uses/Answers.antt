@@ -1,5 +1,5 @@
 -- `list_answer::attributes::with_uses` meets its contract: a member more with each line, or none.
-use Rattle.listing_rules.proofs.Prelude.{◌∙◌, ◌≡◌, refl, sym, ◌&&◌, and-false, and-true, true, ◌^◌, ℕ, not-false, not-true}
+use Rattle.listing_rules.proofs.Prelude.{◌∙◌, ◌≡◌, refl, sym, ◌&&◌, and-false, and-true, true, ◌^◌, ℕ}
 use Rattle.listing_rules.specs.Bytes.{bit}
 use Rattle.listing_rules.specs.Listing.{in_order}
 use Rattle.octets.specs.Sets.{contains}
@@ -18,7 +18,7 @@ unfolding adds use_attributes in_order
 returns-then-not-asked c =
     let f = c.args.flags.bits in
     rw (
-      not-true c.args.asked c.if-not-asked.true,
+      c.if-not-asked.true,
       and-false (bit 8 f),
       and-false (bit 9 f),
       and-false (bit 10 f),
@@ -39,4 +39,4 @@ returns c =
     let s4 = more 1024 s3 (shown 11 f) c.with_flag-set-4.ensures in
     let s5 = more 2048 s4 (shown 12 f) c.with_flag-set-5.ensures in
     let s6 = more 4096 s5 (shown 13 f) c.with_flag-set-6.ensures in
-    rw (not-false c.args.asked c.if-not-asked.false) (more 8192 s6 (shown 14 f) c.with_flag.ensures)
+    rw c.if-not-asked.false (more 8192 s6 (shown 14 f) c.with_flag.ensures)

@@ -1,5 +1,5 @@
 -- `list_answer::decide::decide` meets its contract: what stands and matches is shown. By Showing, what lies below by Deciding.
-use Rattle.listing_rules.proofs.Prelude.{◌∙◌, ◌≡◌, refl, sym, ◌&&◌, not-false, not-true}
+use Rattle.listing_rules.proofs.Prelude.{◌∙◌, ◌≡◌, refl, sym, ◌&&◌}
 use Rattle.listing_rules.specs.Listing.{meets_below, has_children}
 use Rattle.command_line.specs.OptionSets.{options_is}
 use Rattle.mailbox_table.specs.Index.{rows_at}
@@ -18,7 +18,7 @@ returns-then-not-standing c =
     let n = begun _ a.words.now a.name in
     λ ready at.
     let stands = c.look_at-standing.ensures _ ready at in
-    shown_not _ table o ps n _ _ stands.level stands.counts (not-true _ c.if-not-standing.true)
+    shown_not _ table o ps n _ _ stands.level stands.counts c.if-not-standing.true
 
 pub returns-then-not-is_matched : goal.returns-then-not-is_matched
 returns-then-not-is_matched c =
@@ -29,8 +29,8 @@ returns-then-not-is_matched c =
     let n = begun _ a.words.now a.name in
     λ ready at.
     let stands = c.look_at-standing.ensures _ ready at in
-    shown_unmatched _ table o ps n _ _ stands.level stands.counts (not-false _ c.if-not-standing.false)
-    c.is_matched.result (c.is_matched.ensures ready at) (not-true _ c.if-not-is_matched.true)
+    shown_unmatched _ table o ps n _ _ stands.level stands.counts c.if-not-standing.false
+    c.is_matched.result (c.is_matched.ensures ready at) c.if-not-is_matched.true
 
 pub returns-in-Lsub : goal.returns-in-Lsub
 returns-in-Lsub c =
@@ -38,8 +38,8 @@ returns-in-Lsub c =
     let n = begun _ c.args.words.now c.args.name in
     λ ready at.
     let stands = standing.ensures _ ready at in
-    shown_lsub _ _ _ _ n _ _ stands.level stands.counts (not-false _ c.if-not-standing.false) _ (c.is_matched.ensures ready at)
-    c.enum_told-1.given.1 (not-false _ c.if-not-is_matched.false)
+    shown_lsub _ _ _ _ n _ _ stands.level stands.counts c.if-not-standing.false _ (c.is_matched.ensures ready at)
+    c.in-Lsub.is c.if-not-is_matched.false
     standing.result.flags.bits stands.flags
     c.lsub_attributes.result c.lsub_attributes.ensures
     (record { bits = 0 }) refl
@@ -64,9 +64,9 @@ returns-in-List c =
     = parent.ensures here ∙ (λ i. asked.ensures i && sym (children_below area words x name at o ps ready.marked) i) in
     let info : below.result ≡ (o.sel_recursive && meets_below (rows_at area words) o n)
     = below.ensures here ∙ (λ i. c.is_recursive.ensures i && sym (meets_below_lem area words x name at o ps ready.marked) i) in
-    shown_list _ (rows_at area words) o ps n _ _ stands.level stands.counts (not-false _ c.if-not-standing.false)
+    shown_list _ (rows_at area words) o ps n _ _ stands.level stands.counts c.if-not-standing.false
     _ (c.is_matched.ensures ready at)
-    c.enum_told-in-List-1.given.1 (not-false _ c.if-not-is_matched.false) _ stands.flags parent.result children
+    c.in-List.is c.if-not-is_matched.false _ stands.flags parent.result children
     attributes.result attributes.ensures
     below.result info
     c.child_info.result c.child_info.ensures

@@ -1,11 +1,10 @@
 -- `list_answer::marks::asked_match` meets its contract, by that of `matches_any`.
-use Rattle.listing_rules.proofs.Prelude.{not-false, not-true}
 use Rattle.list_answer.proofs.marks.asked_match.Goals as goal
 
 pub returns-then-not-asked : goal.returns-then-not-asked
 returns-then-not-asked c =
-    rw (not-true c.args.asked c.if-not-asked.true)
+    rw c.if-not-asked.true
 
 pub returns : goal.returns
 returns c =
-    rw (not-false c.args.asked c.if-not-asked.false) c.matches_any.ensures
+    rw c.if-not-asked.false c.matches_any.ensures

@@ -9,7 +9,7 @@ use Rattle.list_answer.proofs.marks.mark_rows.Goals as goal
 
 pub loop-i-init : goal.loop-i-init
 loop-i-init c =
-    (omega arith, refl, c.requires.1, refl)
+    (omega arith, refl, c.requires.words_in_bounds, refl)
 
 pub loop-i-preserved : goal.loop-i-preserved
 unfolding marked_word
@@ -20,13 +20,13 @@ loop-i-preserved c =
     let w = get_or a.words.now _ 0 in
     let e : c.with_marks.result ≡ mark w = c.with_marks.ensures ∙ ap (λ (m : ℕ). with_marks m w) c.marks_for-marks.ensures in (
       omega arith,
-      simp length-set turn.inv.1,
-      turn.inv.2,
+      simp length-set turn.invariant.1,
+      turn.invariant.2,
       subst (λ (v : ℕ). take (turn.i + 1) (set turn.marked turn.i v) ≡ map mark (take (turn.i + 1) a.words.now)) (sym e)
-          (words_more mark _ turn.marked turn.i (omega arith) (omega arith) turn.inv.3),
+          (words_more mark _ turn.marked turn.i (omega arith) (omega arith) turn.invariant.3),
     )
 
 pub returns : goal.returns
 returns c =
     let done = c.loop-i in
-    words_all _ _ _ done.i (omega arith) done.inv.3
+    words_all _ _ _ done.i (omega arith) done.invariant.3

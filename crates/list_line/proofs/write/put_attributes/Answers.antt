@@ -6,4 +6,4 @@ use Rattle.list_line.proofs.write.put_attributes.Goals as goal
 
 pub put_chosen-requires : goal.put_chosen-requires
 unfolding open_bytes open_lines all_names name_places
-put_chosen-requires c = (refl, refl)
+put_chosen-requires c = record { names_value = refl; places_value = refl }

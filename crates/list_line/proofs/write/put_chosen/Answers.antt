@@ -12,28 +12,28 @@ loop-k-init c = spelled_none _ _ _ (search rules) (search rules)
 
 pub slice_bounds-put_all-count : goal.slice_bounds-put_all-count
 slice_bounds-put_all-count c =
-    let spanned : NameSpan c.loop-k.k c.loop-k.first c.name_span-span.result = span_named _ _ _ c.requires.1 c.loop-k-test.true c.name_span-span.ensures in
+    let spanned : NameSpan c.loop-k.k c.loop-k.first c.name_span-span.result = span_named _ _ _ c.requires.places_value c.loop-k-test.true c.name_span-span.ensures in
     spanned.order
 
 pub slice_bounds-put_all-start : goal.slice_bounds-put_all-start
 slice_bounds-put_all-start c =
-    let spanned : NameSpan c.loop-k.k c.loop-k.first c.name_span-span.result = span_named _ _ _ c.requires.1 c.loop-k-test.true c.name_span-span.ensures in
+    let spanned : NameSpan c.loop-k.k c.loop-k.first c.name_span-span.result = span_named _ _ _ c.requires.places_value c.loop-k-test.true c.name_span-span.ensures in
     spanned.order
 
 pub slice_bounds-put_all-end : goal.slice_bounds-put_all-end
 slice_bounds-put_all-end c =
-    let spanned : NameSpan c.loop-k.k c.loop-k.first c.name_span-span.result = span_named _ _ _ c.requires.1 c.loop-k-test.true c.name_span-span.ensures in
-    omega (arith, spanned.inside, ap length c.requires.0)
+    let spanned : NameSpan c.loop-k.k c.loop-k.first c.name_span-span.result = span_named _ _ _ c.requires.places_value c.loop-k-test.true c.name_span-span.ensures in
+    omega (arith, spanned.inside, ap length c.requires.names_value)
 
 pub loop-k-preserved : goal.loop-k-preserved
 loop-k-preserved c =
     ⊎_elim
     (λ w.
-    let name = span_text _ c.requires.0 (span_named _ _ _ c.requires.1 c.loop-k-test.true w.1.ensures) in
+    let name = span_text _ c.requires.names_value (span_named _ _ _ c.requires.places_value c.loop-k-test.true w.1.ensures) in
     let put = subst (λ (x : List ℕ). Put c.loop-k.buf w.4.last.0 c.loop-k.to x w.4.result) name w.4.ensures in
-    rw (w.7, w.8, w.9) (spelled_in c.loop-k.invariant c.loop-k-test.true w.0.taken put))
-    (λ w. rw (w.1, w.2, w.3) (spelled_out c.loop-k.invariant c.loop-k-test.true w.0.left))
-    c.if-left-eq1.came
+    rw (w.7, w.8, w.9) (spelled_in c.loop-k.invariant c.loop-k-test.true w.0.true put))
+    (λ w. rw (w.1, w.2, w.3) (spelled_out c.loop-k.invariant c.loop-k-test.true w.0.false))
+    c.if-left-eq1.branch
 
 pub returns : goal.returns
 returns c =

@@ -6,9 +6,9 @@ use Rattle.list_line.proofs.write.put_start.Goals as goal
 pub returns-in-List : goal.returns-in-List
 unfolding open_bytes start_of
 returns-in-List c =
-    rw c.enum_told-1.given.1 c.put_all.ensures
+    rw c.in-List.is c.put_all.ensures
 
 pub returns-in-Lsub : goal.returns-in-Lsub
 unfolding open_bytes start_of
 returns-in-Lsub c =
-    rw c.enum_told-in-Lsub-1.given.1 c.put_all-in-Lsub.ensures
+    rw c.in-Lsub.is c.put_all-in-Lsub.ensures

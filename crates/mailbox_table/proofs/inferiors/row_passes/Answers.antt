@@ -1,5 +1,5 @@
 -- `mailbox_table::inferiors::row_passes` meets its contract: every row counts, and the scan from row i finds all. By InferiorLaws.
-use Rattle.listing_rules.proofs.Prelude.{◌∙◌, ◌≡◌, ap, sym, not, le_refl, get_or, not-false, not-true}
+use Rattle.listing_rules.proofs.Prelude.{◌∙◌, ◌≡◌, ap, sym, not, le_refl, get_or}
 use Rattle.listing_rules.specs.Bytes.{bit}
 use Rattle.listing_rules.specs.Lists.{any_of}
 use Rattle.listing_rules.specs.Names.{below}
@@ -17,7 +17,7 @@ returns-then-not-has c =
     let flag : let a = c.args in c.has.result ≡ no_inferiors
     (row_of_word (get_or a.words.now a.i 0)).flags.bits = unfold no_inferiors in c.has.ensures ∙ contains_bit 4 _ ∙ ap (λ (r : Row). bit 4 r.flags.bits) c.of_word-row.ensures in
     let table = rows_at _ c.args.words.now in
-    sym (none_any table _ (sym flag ∙ not-true _ c.if-not-has.true))
+    sym (none_any table _ (sym flag ∙ c.if-not-has.true))
 
 pub returns : goal.returns
 returns c =
@@ -32,4 +32,4 @@ returns c =
     let e : c.some_below.result ≡ any_of (λ q. below (name_at area (get_or words i 0)) q.name) (rows_at area words)
     = c.some_below.ensures from-i ∙ rw row.ensures (below_anywhere c.requires.0 i c.requires.1) in
     ap not e
-    ∙ sym (none_some (rows_at area words) (row_at_word area (get_or words i 0)) (sym flag ∙ not-false _ c.if-not-has.false))
+    ∙ sym (none_some (rows_at area words) (row_at_word area (get_or words i 0)) (sym flag ∙ c.if-not-has.false))

@@ -1,6 +1,6 @@
 -- `mailbox_table::layout::lie_apart` meets its contract. The invariant is the record `Laying`: the names passed lie without overlap, and
 -- the map has their bytes. By LayoutLaws.
-use Rattle.listing_rules.proofs.Prelude.{subst, sym, Bool, ◌-◌, not-false, not-true}
+use Rattle.listing_rules.proofs.Prelude.{subst, sym, Bool, ◌-◌}
 use Rattle.mailbox_table.specs.Index.{nth_row}
 use Rattle.mailbox_table.specs.Layout.{Marked}
 use Rattle.mailbox_table.proofs.LayoutLaws.{laying_none, laying_maps, laying_hit, laying_more, laying_done}
@@ -23,7 +23,7 @@ returns-then-not-mark_name c =
     let after = c.mark_name.new.used in
     sym
     (laying_hit turn.invariant c.requires c.loop-i-test.true after
-    (subst (λ (r : Bool). Marked turn.used after row.start row.len r) (not-true c.mark_name.result c.if-not-mark_name.true) marked))
+    (subst (λ (r : Bool). Marked turn.used after row.start row.len r) c.if-not-mark_name.true marked))
 
 pub loop-i-preserved : goal.loop-i-preserved
 loop-i-preserved c =
@@ -34,7 +34,7 @@ loop-i-preserved c =
     let row = nth_row c.args.words.now _ in
     let after = c.mark_name.new.used in
     laying_more turn.invariant c.requires c.loop-i-test.true after
-    (subst (λ (r : Bool). Marked turn.used after row.start row.len r) (not-false c.mark_name.result c.if-not-mark_name.false) marked)
+    (subst (λ (r : Bool). Marked turn.used after row.start row.len r) c.if-not-mark_name.false marked)
 
 pub returns : goal.returns
 returns c = sym (laying_done c.loop-i.invariant c.loop-i-test.false)

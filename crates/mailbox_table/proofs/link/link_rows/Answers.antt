@@ -13,13 +13,13 @@ pub returns-in_default : goal.returns-in_default
 returns-in_default c =
     let turn = c.loop-i in
     links_fails (linking_bad turn.invariant (omega (arith, turn.invariant.size, c.loop-i-test.true))
-    (sym c.next_row.ensures ∙ c.enum_told-1.given.1)) turn.invariant.size
+    (sym c.next_row.ensures ∙ c.in_default.is)) turn.invariant.size
 
 pub relinked-requires : goal.relinked-requires
 relinked-requires c =
     let stepped : let area = c.args.area.now in
     let turn = c.loop-i in
-    step_of area (name_in area turn.previous) (get_or turn.words turn.i 0) ≡ Next c.row-1.given.0.0 = sym c.next_row.ensures ∙ c.row-1.given.1 in
+    step_of area (name_in area turn.previous) (get_or turn.words turn.i 0) ≡ Next c.in-Next.row = sym c.next_row.ensures ∙ c.in-Next.is in
     step_packs c.args.area.now _ _ _ stepped
 
 pub loop-i-smaller : goal.loop-i-smaller
@@ -30,7 +30,7 @@ pub loop-i-preserved : goal.loop-i-preserved
 loop-i-preserved c =
     let stepped : let area = c.args.area.now in
     let turn = c.loop-i in
-    step_of area (name_in area turn.previous) (get_or turn.words turn.i 0) ≡ Next c.row-1.given.0.0 = sym c.next_row.ensures ∙ c.row-1.given.1 in
+    step_of area (name_in area turn.previous) (get_or turn.words turn.i 0) ≡ Next c.in-Next.row = sym c.next_row.ensures ∙ c.in-Next.is in
     let turn = c.loop-i in
     rw c.relinked.ensures (linking_more turn.invariant (omega (arith, turn.invariant.size, c.loop-i-test.true)) _ stepped
     (omega (arith, c.slice_known-in-loop-i-1.given turn.i)))

@@ -1,5 +1,5 @@
 -- `mailbox_table::link::next_row` meets its contract: each refusal is one part of `step_of`. By the laws of a step in LinkLaws.
-use Rattle.listing_rules.proofs.Prelude.{◌∙◌, ◌≡◌, ap, subst, sym, ◌+◌, ◌<◌, ◌≤◌, arith, length, not-false, not-true}
+use Rattle.listing_rules.proofs.Prelude.{◌∙◌, ◌≡◌, ap, subst, sym, ◌+◌, ◌<◌, ◌≤◌, arith, length}
 use Rattle.listing_rules.specs.Orders.{byte_order, is_lt}
 use Rattle.listing_rules.specs.Names.{lawful_name}
 use Rattle.listing_rules.specs.Flags.{lawful_flags}
@@ -29,21 +29,21 @@ pub returns-then-not-lawful : goal.returns-then-not-lawful
 returns-then-not-lawful c =
     let flagged : c.lawful.result ≡ lawful_flags (row_of_word c.args.word).flags.bits = c.lawful.ensures ∙ ap (λ (r : Row). lawful_flags r.flags.bits) c.of_word-row.ensures in
     let a = c.args in
-    sym (step_flags a.area.now (name_in a.area.now a.previous) a.word (sym flagged ∙ not-true _ c.if-not-lawful.true))
+    sym (step_flags a.area.now (name_in a.area.now a.previous) a.word (sym flagged ∙ c.if-not-lawful.true))
 
 pub returns-then-not-lawful_name : goal.returns-then-not-lawful_name
 returns-then-not-lawful_name c =
     let named : let a = c.args in
     c.lawful_name.result ≡ lawful_name (name_at a.area.now a.word) = unfold name_at in c.lawful_name.ensures ∙ rw (c.name_of-name.ensures, c.of_word-row.ensures) in
     let a = c.args in
-    sym (step_name a.area.now (name_in a.area.now a.previous) a.word (sym named ∙ not-true _ c.if-not-lawful_name.true))
+    sym (step_name a.area.now (name_in a.area.now a.previous) a.word (sym named ∙ c.if-not-lawful_name.true))
 
 pub returns-then-not-ascends_at : goal.returns-then-not-ascends_at
 returns-then-not-ascends_at c =
     let ordered : let a = c.args in
     c.ascends_at.result ≡ is_lt (byte_order (name_in a.area.now a.previous) (name_at a.area.now a.word)) = unfold name_at in c.ascends_at.ensures ∙ rw (c.name_of-before.ensures, c.name_of-name.ensures, c.of_word-row.ensures) in
     let a = c.args in
-    sym (step_order a.area.now (name_in a.area.now a.previous) a.word (sym ordered ∙ not-true c.ascends_at.result c.if-not-ascends_at.true))
+    sym (step_order a.area.now (name_in a.area.now a.previous) a.word (sym ordered ∙ c.if-not-ascends_at.true))
 
 pub returns : goal.returns
 returns c =
@@ -60,6 +60,6 @@ returns c =
     ∙ sym
     (step_good area x a.word
     (subst (λ (r : Row). r.start + r.len ≤ length area) row c.if-area-start.false)
-    (sym (flagged (c)) ∙ not-false _ c.if-not-lawful.false)
-    (sym (named (c)) ∙ not-false _ c.if-not-lawful_name.false)
-    (sym ordered ∙ not-false c.ascends_at.result c.if-not-ascends_at.false))
+    (sym (flagged (c)) ∙ c.if-not-lawful.false)
+    (sym (named (c)) ∙ c.if-not-lawful_name.false)
+    (sym ordered ∙ c.if-not-ascends_at.false))

@@ -1,5 +1,5 @@
 -- `mailbox_table::link::rows_pass` meets its contract: the pass over the words, then the one over rows with no inferiors. By PassLaws.
-use Rattle.listing_rules.proofs.Prelude.{subst, Bool, true, [], arith, not-false, not-true}
+use Rattle.listing_rules.proofs.Prelude.{subst, Bool, true, [], arith}
 use Rattle.mailbox_table.specs.Link.{linked, Links}
 use Rattle.mailbox_table.proofs.PassLaws.{passes_bad, passes_linked}
 use Rattle.mailbox_table.proofs.link.rows_pass.Goals as goal
@@ -9,7 +9,7 @@ returns-then-not-link_rows c =
     let area = c.args.area.now in
     let before = c.args.words.now in
     let link = c.link_rows in
-    passes_bad c.requires (subst (λ (r : Bool). Links area before link.new.1.0 (linked area [] before) r) (not-true _ c.if-not-link_rows.true) link.ensures)
+    passes_bad c.requires (subst (λ (r : Bool). Links area before link.new.1.0 (linked area [] before) r) c.if-not-link_rows.true link.ensures)
 
 pub inferiors_pass-requires : goal.inferiors_pass-requires
 inferiors_pass-requires c =
@@ -18,7 +18,7 @@ inferiors_pass-requires c =
     Links area before c.link_rows.new.1.0 (linked area [] before) true = let area = c.args.area.now in
     let before = c.args.words.now in
     let link = c.link_rows in
-    subst (λ (r : Bool). Links area before link.new.1.0 (linked area [] before) r) (not-false _ c.if-not-link_rows.false) link.ensures in
+    subst (λ (r : Bool). Links area before link.new.1.0 (linked area [] before) r) c.if-not-link_rows.false link.ensures in
     (done.same.1, omega (arith, done.room, c.requires))
 
 pub returns : goal.returns
@@ -28,5 +28,5 @@ returns c =
     Links area before c.link_rows.new.1.0 (linked area [] before) true = let area = c.args.area.now in
     let before = c.args.words.now in
     let link = c.link_rows in
-    subst (λ (r : Bool). Links area before link.new.1.0 (linked area [] before) r) (not-false _ c.if-not-link_rows.false) link.ensures in
+    subst (λ (r : Bool). Links area before link.new.1.0 (linked area [] before) r) c.if-not-link_rows.false link.ensures in
     passes_linked c.requires done _ c.inferiors_pass.ensures

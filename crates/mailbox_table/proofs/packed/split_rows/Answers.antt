@@ -41,13 +41,13 @@ pub returns-in_default : goal.returns-in_default
 returns-in_default c =
     let turn = c.loop-at in
     splits_fails _ c.least-limit.ensures c.if-table-gt-MAX_BYTES.false
-    (splitting_bad turn.invariant c.loop-at-test.true (sym c.row_at.ensures ∙ c.enum_told-1.given.1))
+    (splitting_bad turn.invariant c.loop-at-test.true (sym c.row_at.ensures ∙ c.in_default.is))
     turn.invariant.size
 
 pub word_at-requires : goal.word_at-requires
 word_at-requires c =
     let stepped : let turn = c.loop-at in
-    step_at c.args.table.now turn.at ≡ Next c.row-1.given.0.0 = sym c.row_at.ensures ∙ c.row-1.given.1 in
+    step_at c.args.table.now turn.at ≡ Next c.in-Next.row = sym c.row_at.ensures ∙ c.in-Next.is in
     (
       record { inside = c.loop-at-test.true; bound = c.if-table-gt-MAX_BYTES.false },
       step_packs _ _ _ stepped c.if-table-gt-MAX_BYTES.false (λ k. byte c k),
@@ -64,19 +64,19 @@ bounds-words-n c =
 pub overflow_add-at : goal.overflow_add-at
 overflow_add-at c =
     let stepped : let turn = c.loop-at in
-    step_at c.args.table.now turn.at ≡ Next c.row-1.given.0.0 = sym c.row_at.ensures ∙ c.row-1.given.1 in
+    step_at c.args.table.now turn.at ≡ Next c.in-Next.row = sym c.row_at.ensures ∙ c.in-Next.is in
     omega (arith, step_inside _ _ _ stepped)
 
 pub loop-at-smaller : goal.loop-at-smaller
 loop-at-smaller c =
     let stepped : let turn = c.loop-at in
-    step_at c.args.table.now turn.at ≡ Next c.row-1.given.0.0 = sym c.row_at.ensures ∙ c.row-1.given.1 in
+    step_at c.args.table.now turn.at ≡ Next c.in-Next.row = sym c.row_at.ensures ∙ c.in-Next.is in
     omega (arith, step_start _ _ _ stepped)
 
 pub loop-at-preserved : goal.loop-at-preserved
 loop-at-preserved c =
     let stepped : let turn = c.loop-at in
-    step_at c.args.table.now turn.at ≡ Next c.row-1.given.0.0 = sym c.row_at.ensures ∙ c.row-1.given.1 in
+    step_at c.args.table.now turn.at ≡ Next c.in-Next.row = sym c.row_at.ensures ∙ c.in-Next.is in
     rw c.word_at.ensures
     (splitting_more c.loop-at.invariant c.loop-at-test.true c.if-table-gt-MAX_BYTES.false (λ k. byte c k) c.if-limit-n.false
     (omega (arith, c.least-limit.ensures)) _ stepped)

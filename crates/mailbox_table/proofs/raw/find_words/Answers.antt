@@ -1,7 +1,6 @@
 -- `mailbox_table::raw::find_words` meets its contract: the area's length and the count, check 1 of the rows, and that names lie without overlap.
 -- By FindLaws.
-use Rattle.listing_rules.proofs.Prelude.{◌∙◌, ◌≡◌, ap, refl, subst, sym, Bool, false, true, List, map, ℕ, arith, length-take, take, not-false}
-use Rattle.listing_rules.proofs.Prelude.{not-true}
+use Rattle.listing_rules.proofs.Prelude.{◌∙◌, ◌≡◌, ap, refl, subst, sym, Bool, false, true, List, map, ℕ, arith, length-take, take}
 use Rattle.listing_rules.specs.Records.{all_apart}
 use Rattle.records.specs.Words.{record_of}
 use Rattle.mailbox_table.specs.Link.{Links, words_pass}
@@ -81,7 +80,7 @@ returns-then-not-rows_pass c =
       many = omega (arith, c.least-2.ensures, c.least.ensures);
       copy = c.copy_words.ensures;
     } in
-    words_bad copied (passed c false (not-true _ c.if-not-rows_pass.true))
+    words_bad copied (passed c false c.if-not-rows_pass.true)
 
 pub slice_bounds-lie_apart-end : goal.slice_bounds-lie_apart-end
 slice_bounds-lie_apart-end c =
@@ -95,7 +94,7 @@ slice_bounds-lie_apart-end c =
     let front = take
     c.args.count
     c.copy_words.new.1.1.0 in
-    Links area front c.rows_pass.new.1.0 (words_pass area front) true = passed c true (not-false _ c.if-not-rows_pass.false) in
+    Links area front c.rows_pass.new.1.0 (words_pass area front) true = passed c true c.if-not-rows_pass.false in
     omega (arith, words_room copied good, copied.many)
 
 pub slice_bounds-lie_apart-end-2 : goal.slice_bounds-lie_apart-end-2
@@ -110,7 +109,7 @@ slice_bounds-lie_apart-end-2 c =
     let front = take
     c.args.count
     c.copy_words.new.1.1.0 in
-    Links area front c.rows_pass.new.1.0 (words_pass area front) true = passed c true (not-false _ c.if-not-rows_pass.false) in
+    Links area front c.rows_pass.new.1.0 (words_pass area front) true = passed c true c.if-not-rows_pass.false in
     simp length-take (omega (arith, words_room copied good, copied.many))
 
 pub lie_apart-requires : goal.lie_apart-requires
@@ -125,7 +124,7 @@ lie_apart-requires c =
     let front = take
     c.args.count
     c.copy_words.new.1.1.0 in
-    Links area front c.rows_pass.new.1.0 (words_pass area front) true = passed c true (not-false _ c.if-not-rows_pass.false) in
+    Links area front c.rows_pass.new.1.0 (words_pass area front) true = passed c true c.if-not-rows_pass.false in
     subst (λ (ws : List ℕ). Mapped ws) (sym (words_front copied good)) (words_mapped copied good)
 
 pub returns-then-not-lie_apart : goal.returns-then-not-lie_apart
@@ -140,9 +139,9 @@ returns-then-not-lie_apart c =
     let front = take
     c.args.count
     c.copy_words.new.1.1.0 in
-    Links area front c.rows_pass.new.1.0 (words_pass area front) true = passed c true (not-false _ c.if-not-rows_pass.false) in
+    Links area front c.rows_pass.new.1.0 (words_pass area front) true = passed c true c.if-not-rows_pass.false in
     let apartness : c.lie_apart.result ≡ all_apart (map record_of c.rows_pass.new.1.0) = c.lie_apart.ensures ∙ ap (λ (ws : List ℕ). all_apart (map record_of ws)) (words_front copied good) in
-    words_overlap copied good (sym apartness ∙ not-true _ c.if-not-lie_apart.true)
+    words_overlap copied good (sym apartness ∙ c.if-not-lie_apart.true)
 
 pub returns : goal.returns
 returns c =
@@ -156,6 +155,6 @@ returns c =
     let front = take
     c.args.count
     c.copy_words.new.1.1.0 in
-    Links area front c.rows_pass.new.1.0 (words_pass area front) true = passed c true (not-false _ c.if-not-rows_pass.false) in
+    Links area front c.rows_pass.new.1.0 (words_pass area front) true = passed c true c.if-not-rows_pass.false in
     let apartness : c.lie_apart.result ≡ all_apart (map record_of c.rows_pass.new.1.0) = c.lie_apart.ensures ∙ ap (λ (ws : List ℕ). all_apart (map record_of ws)) (words_front copied good) in
-    words_rows copied good (sym apartness ∙ not-false _ c.if-not-lie_apart.false)
+    words_rows copied good (sym apartness ∙ c.if-not-lie_apart.false)

@@ -20,8 +20,8 @@ loop-i-preserved c =
     let test : c.meets.result ≡ touches (record_of word).readers _ =
     c.meets.ensures ∙ (λ i. touches (c.readers_of-readers.ensures i) (c.one-own.ensures i)) in
     ⊎_elim
-    (λ w. rw (w.2, w.3, w.4, w.1.ensures, low-is) (seeing_seen turn.invariant here (sym test ∙ w.0.taken)))
-    (λ w. rw (w.1, w.2, w.3, low-is) (seeing_hidden turn.invariant here (sym test ∙ w.0.left)))
+    (λ w. rw (w.2, w.3, w.4, w.1.ensures, low-is) (seeing_seen turn.invariant here (sym test ∙ w.0.true)))
+    (λ w. rw (w.1, w.2, w.3, low-is) (seeing_hidden turn.invariant here (sym test ∙ w.0.false)))
     c.if-meets.branch
 
 pub returns : goal.returns

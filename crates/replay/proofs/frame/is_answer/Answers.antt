@@ -5,12 +5,12 @@ use Rattle.replay.proofs.frame.is_answer.Goals as goal
 
 pub returns-in-Answer : goal.returns-in-Answer
 unfolding is_answer
-returns-in-Answer c = sym (ap is_answer c.enum_told-1.given.1)
+returns-in-Answer c = sym (ap is_answer c.in-Answer.is)
 
 pub returns-in-Number : goal.returns-in-Number
 unfolding is_answer
-returns-in-Number c = sym (ap is_answer c.enum_told-in-Number-1.given.1)
+returns-in-Number c = sym (ap is_answer c.in-Number.is)
 
 pub returns-in-Other : goal.returns-in-Other
 unfolding is_answer
-returns-in-Other c = sym (ap is_answer c.enum_told-in-Other-1.given.1)
+returns-in-Other c = sym (ap is_answer c.in-Other.is)

@@ -4,8 +4,8 @@ use Rattle.replay.proofs.piece.replay_piece.Goals as goal
 
 pub returns-in-Taken : goal.returns-in-Taken
 returns-in-Taken c =
-    piece_taken _ _ _ _ _ _ c.feed.ensures _ c.next-1.given.1 _ c.finish-verdict.ensures
+    piece_taken _ _ _ _ _ _ c.feed.ensures _ c.in-Taken.is _ c.finish-verdict.ensures
 
 pub returns-in-Refused : goal.returns-in-Refused
 returns-in-Refused c =
-    piece_refused _ _ _ _ _ _ c.feed.ensures c.enum_told-1.given.1
+    piece_refused _ _ _ _ _ _ c.feed.ensures c.in-Refused.is

@@ -8,35 +8,35 @@ use Rattle.replay.proofs.run.same_reply.Goals as goal
 pub slice_bounds-same_digits-end : goal.slice_bounds-same_digits-end
 unfolding answer_length
 slice_bounds-same_digits-end c =
-    let inside = subst (λ (w : Written). answer_length w ≤ length c.args.answer.now) c.written-1.given.1 c.requires in
+    let inside = subst (λ (w : Written). answer_length w ≤ length c.args.answer.now) c.in-Done.is c.requires in
     simp length-take (omega (arith, inside))
 
 pub returns-in-Answer : goal.returns-in-Answer
 unfolding said_so agreeing
 returns-in-Answer c =
-    said_by_lem _ _ c.written-1.given.1 c.enum_told-1.given.1 c.same_digits.ensures
+    said_by_lem _ _ c.in-Done.is c.in-Answer.is c.same_digits.ensures
 
 pub returns-in-Number : goal.returns-in-Number
 unfolding said_so agreeing
 returns-in-Number c =
-    said_by_lem _ _ c.written-1.given.1 c.enum_told-in-Number-1.given.1 refl
+    said_by_lem _ _ c.in-Done.is c.in-Number.is refl
 
 pub returns-in-Other : goal.returns-in-Other
 unfolding said_so agreeing
 returns-in-Other c =
-    said_by_lem _ _ c.written-1.given.1 c.enum_told-in-Other-1.given.1 refl
+    said_by_lem _ _ c.in-Done.is c.in-Other.is refl
 
 pub returns-in-Number-recorded : goal.returns-in-Number-recorded
 unfolding said_so agreeing
 returns-in-Number-recorded c =
-    said_by_lem _ _ c.written-in-Refused-1.given.1 c.recorded-1.given.1 refl
+    said_by_lem _ _ c.in-Refused.is c.in-Number-recorded.is refl
 
 pub returns-in-Answer-recorded : goal.returns-in-Answer-recorded
 unfolding said_so agreeing
 returns-in-Answer-recorded c =
-    said_by_lem _ _ c.written-in-Refused-1.given.1 c.enum_told-in-Answer-recorded-1.given.1 refl
+    said_by_lem _ _ c.in-Refused.is c.in-Answer-recorded.is refl
 
 pub returns-in-Other-recorded : goal.returns-in-Other-recorded
 unfolding said_so agreeing
 returns-in-Other-recorded c =
-    said_by_lem _ _ c.written-in-Refused-1.given.1 c.enum_told-in-Other-recorded-1.given.1 refl
+    said_by_lem _ _ c.in-Refused.is c.in-Other-recorded.is refl

@@ -16,7 +16,7 @@ returns-in-Taken c =
     (omega (arith, ap length c.no_command-pending.ensures, length-replicate {A = ℕ} 2050 0))
     (omega (arith, ap length c.no_line-line.ensures, length-replicate {A = ℕ} 32771 0))
     (short args.log.now c.requires.1.1.1.1.1.0) _ c.start-state.ensures _ c.feed.ensures _
-    c.held-1.given.1 _ c.finish-verdict.ensures
+    c.in-Taken.is _ c.finish-verdict.ensures
 
 pub returns-in-Refused : goal.returns-in-Refused
 returns-in-Refused c =
@@ -24,4 +24,4 @@ returns-in-Refused c =
     absurd (never_refused args.namespaces.now args.log.now args.words.now args.sums.now args.area.now _ _ args.count _ _ _ _ _
     (omega (arith, ap length c.no_command-pending.ensures, length-replicate {A = ℕ} 2050 0))
     (omega (arith, ap length c.no_line-line.ensures, length-replicate {A = ℕ} 32771 0))
-    (short args.log.now c.requires.1.1.1.1.1.0) _ c.start-state.ensures _ c.feed.ensures c.enum_told-1.given.1)
+    (short args.log.now c.requires.1.1.1.1.1.0) _ c.start-state.ensures _ c.feed.ensures c.in-Refused.is)

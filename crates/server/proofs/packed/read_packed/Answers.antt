@@ -14,28 +14,28 @@ returns-then-reader-gt-MAX_READER c = rw (read_16 _ _ _ _ (lt-leb _ 7 c.if-reade
 pub returns-in_default : goal.returns-in_default
 returns-in_default c =
     let known : is_reader c.args.reader ≡ true = unfold is_reader in le-leb _ 7 c.if-reader-gt-MAX_READER.false in
-    let fails = index_refused c.index.ensures (ap length c.no_words-words.ensures) c.enum_told-1.given.1 in
+    let fails = index_refused c.index.ensures (ap length c.no_words-words.ensures) c.in_default.is in
     rw (read_1 _ _ _ _ known (packed_seen_passes _ _ ∙ fails)) (refused_with_lem 1 _)
 
 pub slice_bounds-words-end : goal.slice_bounds-words-end
 slice_bounds-words-end c =
-    let found : Held c.index.ensures c.n-1.given.0.0 = index_held c.index.ensures _ c.n-1.given.1 in
+    let found : Held c.index.ensures c.in-Rows.n = index_held c.index.ensures _ c.in-Rows.is in
     found.inside
 
 pub slice_bounds-read_seen-end : goal.slice_bounds-read_seen-end
 slice_bounds-read_seen-end c =
-    let found : Held c.index.ensures c.n-1.given.0.0 = index_held c.index.ensures _ c.n-1.given.1 in
+    let found : Held c.index.ensures c.in-Rows.n = index_held c.index.ensures _ c.in-Rows.is in
     found.size
 
 pub read_seen-requires : goal.read_seen-requires
 read_seen-requires c =
-    let found : Held c.index.ensures c.n-1.given.0.0 = index_held c.index.ensures _ c.n-1.given.1 in
+    let found : Held c.index.ensures c.in-Rows.n = index_held c.index.ensures _ c.in-Rows.is in
     found.index
 
 pub returns : goal.returns
 returns c =
     let known : is_reader c.args.reader ≡ true = unfold is_reader in le-leb _ 7 c.if-reader-gt-MAX_READER.false in
-    let found : Held c.index.ensures c.n-1.given.0.0 = index_held c.index.ensures _ c.n-1.given.1 in
-    let rows = take c.n-1.given.0.0 _ in
+    let found : Held c.index.ensures c.in-Rows.n = index_held c.index.ensures _ c.in-Rows.is in
+    let rows = take c.in-Rows.n _ in
     rw (packed_on _ _ rows _ _ known found.table_passes found.told)
     c.read_seen.ensures

@@ -9,47 +9,47 @@ use Rattle.server.proofs.reading.respond.Goals as goal
 pub write_listing-requires : goal.write_listing-requires
 write_listing-requires c =
     let a = c.args in
-    (c.requires.0, list_few a.area.now a.words.now a.namespaces.now _ _ c.requires.1.means c.enum_told-in-List-1.given.1)
+ record { index = c.requires.index; few = list_few a.area.now a.words.now a.namespaces.now _ _ c.requires.reads.means c.in-List.is }
 
 pub write_subscriptions-requires : goal.write_subscriptions-requires
 write_subscriptions-requires c =
     let a = c.args in
-    (c.requires.0, lsub_one a.area.now a.words.now a.namespaces.now _ _ c.requires.1.means c.enum_told-in-Lsub-1.given.1)
+ record { index = c.requires.index; few = lsub_one a.area.now a.words.now a.namespaces.now _ _ c.requires.reads.means c.in-Lsub.is }
 
 pub returns-in-Refused : goal.returns-in-Refused
 returns-in-Refused c =
-    let number = c.kind-1.given.0.0 in
-    rw (← reply_refused _ _ _ _ _ c.requires.1.means number c.kind-1.given.1) (refused_with_lem number _)
+    let number = c.in-Refused.number in
+    rw (← reply_refused _ _ _ _ _ c.requires.reads.means number c.in-Refused.is) (refused_with_lem number _)
 
 pub returns-in-Namespace : goal.returns-in-Namespace
 returns-in-Namespace c =
     let tag_is : let a = c.args in c.raw-tag.result.now ≡ span_bytes a.line.now
-    a.command.tag = c.raw-tag.ensures ∙ sym (bare_bytes _ _ c.requires.1.inside.bare) in
-    rw (← reply_spaces _ _ _ _ _ c.requires.1.means _ tag_is c.enum_told-1.given.1) c.write_namespaces.ensures
+    a.command.tag = c.raw-tag.ensures ∙ sym (bare_bytes _ _ c.requires.reads.inside.bare) in
+    rw (← reply_spaces _ _ _ _ _ c.requires.reads.means _ tag_is c.in-Namespace.is) c.write_namespaces.ensures
 
 pub returns-in-Root : goal.returns-in-Root
 returns-in-Root c =
     let tag_is : let a = c.args in c.raw-tag.result.now ≡ span_bytes a.line.now
-    a.command.tag = c.raw-tag.ensures ∙ sym (bare_bytes _ _ c.requires.1.inside.bare) in
-    rw (← reply_root _ _ _ _ _ c.requires.1.means _ tag_is c.enum_told-in-Root-1.given.1) c.write_root.ensures
+    a.command.tag = c.raw-tag.ensures ∙ sym (bare_bytes _ _ c.requires.reads.inside.bare) in
+    rw (← reply_root _ _ _ _ _ c.requires.reads.means _ tag_is c.in-Root.is) c.write_root.ensures
 
 pub returns-in-List : goal.returns-in-List
 returns-in-List c =
     let tag_is : let a = c.args in c.raw-tag.result.now ≡ span_bytes a.line.now
-    a.command.tag = c.raw-tag.ensures ∙ sym (bare_bytes _ _ c.requires.1.inside.bare) in
-    rw (← reply_list _ _ _ _ _ c.requires.1.means _ tag_is c.enum_told-in-List-1.given.1) c.write_listing.ensures
+    a.command.tag = c.raw-tag.ensures ∙ sym (bare_bytes _ _ c.requires.reads.inside.bare) in
+    rw (← reply_list _ _ _ _ _ c.requires.reads.means _ tag_is c.in-List.is) c.write_listing.ensures
 
 pub returns-in-Lsub : goal.returns-in-Lsub
 returns-in-Lsub c =
     let tag_is : let a = c.args in c.raw-tag.result.now ≡ span_bytes a.line.now
-    a.command.tag = c.raw-tag.ensures ∙ sym (bare_bytes _ _ c.requires.1.inside.bare) in
-    rw (← reply_lsub _ _ _ _ _ c.requires.1.means _ tag_is c.enum_told-in-Lsub-1.given.1)
+    a.command.tag = c.raw-tag.ensures ∙ sym (bare_bytes _ _ c.requires.reads.inside.bare) in
+    rw (← reply_lsub _ _ _ _ _ c.requires.reads.means _ tag_is c.in-Lsub.is)
     c.write_subscriptions.ensures
 
 pub returns-in-Subscribe : goal.returns-in-Subscribe
 returns-in-Subscribe c =
-    rw (← reply_subscribe _ _ _ _ _ c.requires.1.means c.enum_told-in-Subscribe-1.given.1) (refused_with_lem 5 _)
+    rw (← reply_subscribe _ _ _ _ _ c.requires.reads.means c.in-Subscribe.is) (refused_with_lem 5 _)
 
 pub returns-in-Unsubscribe : goal.returns-in-Unsubscribe
 returns-in-Unsubscribe c =
-    rw (← reply_unsubscribe _ _ _ _ _ c.requires.1.means c.enum_told-in-Unsubscribe-1.given.1) (refused_with_lem 5 _)
+    rw (← reply_unsubscribe _ _ _ _ _ c.requires.reads.means c.in-Unsubscribe.is) (refused_with_lem 5 _)

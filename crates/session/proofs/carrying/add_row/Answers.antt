@@ -4,8 +4,8 @@ use Rattle.session.proofs.carrying.add_row.Goals as goal
 
 pub returns-then-stored : goal.returns-then-stored
 returns-then-stored c =
-    λ words namespaces entries. rw c.said.ensures (adds_not _ _ _ _ c.requires.0 _ _ c.if-stored.true c.put_refusal.ensures words namespaces entries)
+    λ words namespaces entries. rw c.said.ensures (adds_not _ _ _ _ c.requires.table_bound _ _ c.if-stored.true c.put_refusal.ensures words namespaces entries)
 
 pub returns : goal.returns
 returns c =
-    λ words namespaces entries. rw c.with_rows.ensures (adds_row _ _ _ _ c.requires.0 _ _ _ c.if-stored.false c.requires.1 c.keep-added.ensures words namespaces entries)
+    λ words namespaces entries. rw c.with_rows.ensures (adds_row _ _ _ _ c.requires.table_bound _ _ _ c.if-stored.false c.requires.in_bounds c.keep-added.ensures words namespaces entries)

@@ -10,45 +10,45 @@ memory start = lent start.args.table.now start.args.records.now start.args.names
 
 pub slice_bounds-add_row-end : goal.slice_bounds-add_row-end
 slice_bounds-add_row-end c =
-    whole_row _ c.requires.0
-    c.frame-1.given.1
+    whole_row _ c.requires.frame_in_bounds
+    c.in-Table.is
 
 pub slice_bounds-part-end : goal.slice_bounds-part-end
 slice_bounds-part-end c =
-    whole_entry _ c.requires.0
-    c.frame-in-Namespaces-1.given.1
+    whole_entry _ c.requires.frame_in_bounds
+    c.in-Namespaces.is
 
 pub overflow_add-line : goal.overflow_add-line
 overflow_add-line c =
     omega
-    (arith, whole_command c.args.bytes.now c.requires.0 c.frame-in-Command-1.given.1)
+    (arith, whole_command c.args.bytes.now c.requires.frame_in_bounds c.in-Command.is)
 
 pub slice_bounds-line-end : goal.slice_bounds-line-end
 slice_bounds-line-end c =
-    whole_command c.args.bytes.now c.requires.0
-    c.frame-in-Command-1.given.1
+    whole_command c.args.bytes.now c.requires.frame_in_bounds
+    c.in-Command.is
 
 pub returns-in-Table : goal.returns-in-Table
 returns-in-Table c =
-    kind_row (memory c) _ c.requires.1 _ _ _ _ _ _ c.frame-1.given.1 c.add_row.ensures
+    kind_row (memory c) _ c.requires.within _ _ _ _ _ _ c.in-Table.is c.add_row.ensures
 
 pub returns-in-Namespaces : goal.returns-in-Namespaces
 returns-in-Namespaces c =
-    rw c.with_entries.ensures (kind_entry (memory c) _ c.requires.1 _ _ _ _
-    _ _ c.frame-in-Namespaces-1.given.1 c.keep-added.ensures)
+    rw c.with_entries.ensures (kind_entry (memory c) _ c.requires.within _ _ _ _
+    _ _ c.in-Namespaces.is c.keep-added.ensures)
 
 pub returns-in-Command : goal.returns-in-Command
 returns-in-Command c =
-    let size = c.frame-in-Command-1.given.0.1.0 in
-    kind_command (memory c) _ c.requires.1 _ _ _ size (size + 1 - 1) _ _ _ _
-    c.frame-in-Command-1.given.1 c.obey.ensures (omega arith)
+    let size = c.in-Command.n in
+    kind_command (memory c) _ c.requires.within _ _ _ size (size + 1 - 1) _ _ _ _
+    c.in-Command.is c.obey.ensures (omega arith)
 
 pub returns-in-Walk : goal.returns-in-Walk
 returns-in-Walk c =
-    rw c.said.ensures (kind_walk (memory c) _ c.requires.1 _ _ _ _ _ _
-    c.frame-in-Walk-1.given.1 c.walk_line.ensures)
+    rw c.said.ensures (kind_walk (memory c) _ c.requires.within _ _ _ _ _ _
+    c.in-Walk.is c.walk_line.ensures)
 
 pub returns-in-Bad : goal.returns-in-Bad
 returns-in-Bad c =
-    rw c.said-in-Bad.ensures (kind_bad (memory c) _ c.requires.1 _ _ _ _
-    c.enum_told-1.given.1 c.put_refusal.ensures)
+    rw c.said-in-Bad.ensures (kind_bad (memory c) _ c.requires.within _ _ _ _
+    c.in-Bad.is c.put_refusal.ensures)

@@ -4,9 +4,9 @@ use Rattle.session.proofs.carrying.keep.Goals as goal
 
 pub returns-in-Now : goal.returns-in-Now
 returns-in-Now c =
-    keeps_now c.requires.1 c.store.ensures _ _ _ c.len-1.given.1
+    keeps_now c.requires.limit_in_bounds c.store.ensures _ _ _ c.in-Now.is
 
 pub returns-in-NoRoom : goal.returns-in-NoRoom
 returns-in-NoRoom c =
     let stored = c.store in
-    keeps_full c.requires.1 stored.ensures _ _ _ _ c.requires.0 c.enum_told-1.given.1 c.put_refusal-written.ensures
+    keeps_full c.requires.limit_in_bounds stored.ensures _ _ _ _ c.requires.used_le_limit c.in-NoRoom.is c.put_refusal-written.ensures

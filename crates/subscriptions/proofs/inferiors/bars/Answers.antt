@@ -1,5 +1,5 @@
 -- `subscriptions::inferiors::bars` meets its contract: the flag, then the name.
-use Rattle.listing_rules.proofs.Prelude.{◌∙◌, ◌≡◌, ap, sym, not-false, not-true}
+use Rattle.listing_rules.proofs.Prelude.{◌∙◌, ◌≡◌, ap, sym}
 use Rattle.listing_rules.specs.Bytes.{bit}
 use Rattle.listing_rules.specs.Flags.{no_inferiors}
 use Rattle.octets.proofs.Sets.{contains_bit}
@@ -13,10 +13,10 @@ pub returns-then-not-has : goal.returns-then-not-has
 unfolding bars_below
 returns-then-not-has c =
     let flag : c.has.result ≡ no_inferiors (row_of_word c.args.word).flags.bits = unfold no_inferiors in c.has.ensures ∙ contains_bit 4 _ ∙ ap (λ (r : Row). bit 4 r.flags.bits) c.of_word-row.ensures in
-    rw (sym flag ∙ not-true _ c.if-not-has.true)
+    rw (sym flag ∙ c.if-not-has.true)
 
 pub returns : goal.returns
 unfolding bars_below name_at
 returns c =
     let flag : c.has.result ≡ no_inferiors (row_of_word c.args.word).flags.bits = unfold no_inferiors in c.has.ensures ∙ contains_bit 4 _ ∙ ap (λ (r : Row). bit 4 r.flags.bits) c.of_word-row.ensures in
-    c.is_below.ensures ∙ rw (c.name_of.ensures, c.of_word-row.ensures, sym flag ∙ not-false _ c.if-not-has.false)
+    c.is_below.ensures ∙ rw (c.name_of.ensures, c.of_word-row.ensures, sym flag ∙ c.if-not-has.false)

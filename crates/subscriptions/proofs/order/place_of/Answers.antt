@@ -1,5 +1,5 @@
 -- `subscriptions::order::place_of` meets its contract: i rows come before the name, and those from i on are counted. By PlaceLaws.
-use Rattle.listing_rules.proofs.Prelude.{◌∙◌, ◌≡◌, sym, ◌-◌, zero-add, not-false, not-true}
+use Rattle.listing_rules.proofs.Prelude.{◌∙◌, ◌≡◌, sym, ◌-◌, zero-add}
 use Rattle.listing_rules.specs.Orders.{byte_order, is_lt}
 use Rattle.mailbox_table.specs.Index.{name_at, nth_name}
 use Rattle.subscriptions.proofs.PlaceLaws.{place_step, place_stop, place_end}
@@ -11,13 +11,13 @@ loop-i-init c = zero-add _
 pub returns-then-not-comes_before : goal.returns-then-not-comes_before
 returns-then-not-comes_before c =
     let told : c.comes_before.result ≡ is_lt (byte_order (nth_name c.args.area.now c.args.words.now c.loop-i.i) c.args.name.now) = unfold name_at in c.comes_before.ensures ∙ rw (c.name_of.ensures, c.of_word-row.ensures) in
-    sym (place_stop _ _ _ _ c.requires c.loop-i-test.true (sym told ∙ not-true _ c.if-not-comes_before.true))
+    sym (place_stop _ _ _ _ c.requires c.loop-i-test.true (sym told ∙ c.if-not-comes_before.true))
     ∙ c.loop-i.invariant
 
 pub loop-i-preserved : goal.loop-i-preserved
 loop-i-preserved c =
     let told : c.comes_before.result ≡ is_lt (byte_order (nth_name c.args.area.now c.args.words.now c.loop-i.i) c.args.name.now) = unfold name_at in c.comes_before.ensures ∙ rw (c.name_of.ensures, c.of_word-row.ensures) in
-    place_step _ c.args.words.now _ _ c.loop-i-test.true (sym told ∙ not-false _ c.if-not-comes_before.false)
+    place_step _ c.args.words.now _ _ c.loop-i-test.true (sym told ∙ c.if-not-comes_before.false)
     ∙ c.loop-i.invariant
 
 pub returns : goal.returns

@@ -3,8 +3,8 @@ use Rattle.command_line.proofs.option_list.Place.member.Goals as goal
 
 pub returns-in-Selection : goal.returns-in-Selection
 returns-in-Selection c =
-    rw c.enum_told-1.given.1 c.selected.ensures
+    rw c.in-Selection.is c.selected.ensures
 
 pub returns-in-Return : goal.returns-in-Return
 returns-in-Return c =
-    rw c.enum_told-in-Return-1.given.1 c.returned.ensures
+    rw c.in-Return.is c.returned.ensures

@@ -6,17 +6,17 @@ use Rattle.command_shape.proofs.machine.Machine.allows.Goals as goal
 pub returns-then-at_cr : goal.returns-then-at_cr
 unfolding allowed_at allowed_by
 returns-then-at_cr c =
-    rw (c.place-1.given.1, sym c.at_cr.ensures ∙ c.if-at_cr.true)
+    rw (c.in-Line.is, sym c.at_cr.ensures ∙ c.if-at_cr.true)
 
 pub returns-else-at_cr : goal.returns-else-at_cr
 unfolding allowed_at allowed_by
 returns-else-at_cr c =
-    rw (c.place-1.given.1, sym c.at_cr.ensures ∙ c.if-at_cr.false, c.is_line_byte.ensures)
+    rw (c.in-Line.is, sym c.at_cr.ensures ∙ c.if-at_cr.false, c.is_line_byte.ensures)
 
 pub returns-in-Literal : goal.returns-in-Literal
 unfolding allowed_at allowed_by
-returns-in-Literal c = rw c.enum_told-1.given.1
+returns-in-Literal c = rw c.in-Literal.is
 
 pub returns-in-Dropping : goal.returns-in-Dropping
 unfolding allowed_at allowed_by
-returns-in-Dropping c = rw c.enum_told-in-Dropping-1.given.1
+returns-in-Dropping c = rw c.in-Dropping.is

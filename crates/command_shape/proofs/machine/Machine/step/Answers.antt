@@ -9,7 +9,7 @@ use Rattle.command_shape.proofs.machine.Machine.step.Goals as goal
 pub returns-then-offends : goal.returns-then-offends
 unfolding step_at
 returns-then-offends c =
-    rw (c.place-1.given.1, sym c.offends.ensures ∙ c.if-offends.true) c.refused.ensures
+    rw (c.in-Line.is, sym c.offends.ensures ∙ c.if-offends.true) c.refused.ensures
 
 pub overflow_add-self : goal.overflow_add-self
 overflow_add-self c =
@@ -18,7 +18,7 @@ overflow_add-self c =
 pub returns-then-offends-2 : goal.returns-then-offends-2
 unfolding step_at
 returns-then-offends-2 c =
-    rw (c.place-in-Literal-1.given.1, sym c.offends-in-Literal.ensures ∙ c.if-offends-2.true) c.refused-then-offends-2.ensures
+    rw (c.in-Literal.is, sym c.offends-in-Literal.ensures ∙ c.if-offends-2.true) c.refused-then-offends-2.ensures
 
 pub overflow_add-self-in-Literal : goal.overflow_add-self-in-Literal
 overflow_add-self-in-Literal c =
@@ -27,14 +27,14 @@ overflow_add-self-in-Literal c =
 pub returns-else-offends : goal.returns-else-offends
 unfolding step_at
 returns-else-offends c =
-    rw (c.place-1.given.1, sym c.offends.ensures ∙ c.if-offends.false) c.line_byte.ensures
+    rw (c.in-Line.is, sym c.offends.ensures ∙ c.if-offends.false) c.line_byte.ensures
 
 pub returns-else-offends-2 : goal.returns-else-offends-2
 unfolding step_at
 returns-else-offends-2 c =
-    rw (c.place-in-Literal-1.given.1, sym c.offends-in-Literal.ensures ∙ c.if-offends-2.false) c.literal_byte.ensures
+    rw (c.in-Literal.is, sym c.offends-in-Literal.ensures ∙ c.if-offends-2.false) c.literal_byte.ensures
 
 pub returns-in-Dropping : goal.returns-in-Dropping
 unfolding step_at
 returns-in-Dropping c =
-    rw c.enum_told-1.given.1 (ap (λ (m : Machine). steps m Quiet) c.dropped.ensures)
+    rw c.in-Dropping.is (ap (λ (m : Machine). steps m Quiet) c.dropped.ensures)

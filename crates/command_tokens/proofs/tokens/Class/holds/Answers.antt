@@ -6,22 +6,22 @@ use Rattle.command_tokens.proofs.tokens.Class.holds.Goals as goal
 pub returns-in-Tag : goal.returns-in-Tag
 unfolding tag_byte
 returns-in-Tag c =
-    rw (c.enum_told-1.given.1, c.is_atom.ensures)
+    rw (c.in-Tag.is, c.is_atom.ensures)
 
 pub returns-in-Atom : goal.returns-in-Atom
 returns-in-Atom c =
-    rw c.enum_told-in-Atom-1.given.1 c.is_atom-in-Atom.ensures
+    rw c.in-Atom.is c.is_atom-in-Atom.ensures
 
 pub returns-in-Astring : goal.returns-in-Astring
 unfolding astring_byte
 returns-in-Astring c =
-    rw (c.enum_told-in-Astring-1.given.1, c.is_atom-in-Astring.ensures)
+    rw (c.in-Astring.is, c.is_atom-in-Astring.ensures)
 
 pub returns-in-Pattern : goal.returns-in-Pattern
 unfolding pattern_byte
 returns-in-Pattern c =
-    rw (c.enum_told-in-Pattern-1.given.1, c.is_atom-in-Pattern.ensures) (pattern_is (atom_byte _) _)
+    rw (c.in-Pattern.is, c.is_atom-in-Pattern.ensures) (pattern_is (atom_byte _) _)
 
 pub returns-in-Digit : goal.returns-in-Digit
 returns-in-Digit c =
-    rw c.enum_told-in-Digit-1.given.1 c.is_digit.ensures
+    rw c.in-Digit.is c.is_digit.ensures

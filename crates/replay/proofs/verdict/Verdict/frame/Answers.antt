@@ -7,12 +7,12 @@ use Rattle.replay.proofs.verdict.Verdict.frame.Goals as goal
 
 pub returns-in-Agrees : goal.returns-in-Agrees
 unfolding replay_frame meant_by
-returns-in-Agrees c = sym (ap (λ (v : Verdict). replay_frame (meant_by v)) c.enum_told-1.given.1)
+returns-in-Agrees c = sym (ap (λ (v : Verdict). replay_frame (meant_by v)) c.in-Agrees.is)
 
 pub returns-in-Differs : goal.returns-in-Differs
 unfolding replay_frame meant_by
-returns-in-Differs c = sym (ap (λ (v : Verdict). replay_frame (meant_by v)) c.self-1.given.1)
+returns-in-Differs c = sym (ap (λ (v : Verdict). replay_frame (meant_by v)) c.in-Differs.is)
 
 pub returns-in-Stopped : goal.returns-in-Stopped
 unfolding replay_frame meant_by
-returns-in-Stopped c = sym (ap (λ (v : Verdict). replay_frame (meant_by v)) c.self-in-Stopped-1.given.1)
+returns-in-Stopped c = sym (ap (λ (v : Verdict). replay_frame (meant_by v)) c.in-Stopped.is)

@@ -14,26 +14,24 @@ use Rattle.collector.proofs.collect_words.Goals as goal
 pub returns-then-reader-gt-MAX_READER : goal.returns-then-reader-gt-MAX_READER
 returns-then-reader-gt-MAX_READER c =
     let a = c.args in
-    let ends = c.refuse.ensures in
     let t = words_seen a.reader a.words.now a.count a.area.now a.sums.now in
     promised a.reader (words_table a.words.now a.count a.area.now a.sums.now) t a.option a.scratch.now a.found.now
     a.pending.now (summed_seen_passes a.reader (words_summed a.words.now a.count a.area.now a.sums.now)) _ _ _ _
-    (collects_refused a.reader t a.option a.scratch.now a.found.now a.pending.now ends.1 ends.0
+    (collects_refused a.reader t a.option a.scratch.now a.found.now a.pending.now c.refuse.ensures.1 c.refuse.ensures.0
     (refuses_reader a.reader t a.option a.scratch.now a.found.now a.pending.now (omega (arith, c.if-reader-gt-MAX_READER.true)))
-    ends.2 ends.3)
+    c.refuse.ensures.2 c.refuse.ensures.3)
 
 pub returns-in_default : goal.returns-in_default
 returns-in_default c =
     let a = c.args in
-    let ends = c.refuse-in_default.ensures in
     let t = words_seen a.reader a.words.now a.count a.area.now a.sums.now in
     let alike = summed_seen_passes a.reader (words_summed a.words.now a.count a.area.now a.sums.now) in
     let fails = index_refused c.index_summed.ensures (ap length c.no_words-rows.ensures) c.in_default.is in
     promised a.reader (words_table a.words.now a.count a.area.now a.sums.now) t a.option a.scratch.now a.found.now
     a.pending.now alike _ _ _ _
-    (collects_refused a.reader t a.option a.scratch.now a.found.now a.pending.now ends.1 ends.0
+    (collects_refused a.reader t a.option a.scratch.now a.found.now a.pending.now c.refuse-in_default.ensures.1 c.refuse-in_default.ensures.0
     (refuses_table a.reader t a.option a.scratch.now a.found.now a.pending.now (omega (arith, c.if-reader-gt-MAX_READER.false)) (alike ∙ fails))
-    ends.2 ends.3)
+    c.refuse-in_default.ensures.2 c.refuse-in_default.ensures.3)
 
 pub slice_bounds-rows-end : goal.slice_bounds-rows-end
 slice_bounds-rows-end c =
@@ -50,10 +48,10 @@ unfolding is_reader
 collect_index-requires c =
     let known : Held c.index_summed.ensures c.in-Rows.n = index_held c.index_summed.ensures c.in-Rows.n c.in-Rows.is in
     let seen : let a = c.args in
-    held_seen a.reader a.area.now (take c.in-Rows.n c.index_summed.last.1.1.1.1.0)
+    held_seen a.reader a.area.now (take c.in-Rows.n c.index_summed.new.words)
     ≡ words_seen a.reader a.words.now a.count a.area.now a.sums.now = let a = c.args in
     summed_held a.reader a.words.now a.count a.area.now a.sums.now
-    (take c.in-Rows.n c.index_summed.last.1.1.1.1.0) known.table_passes known.told in
+    (take c.in-Rows.n c.index_summed.new.words) known.table_passes known.told in
     let a = c.args in
     let alike = summed_seen_passes a.reader (words_summed a.words.now a.count a.area.now a.sums.now) in
     (le-leb a.reader 7 c.if-reader-gt-MAX_READER.false, ap passes seen ∙ alike ∙ known.table_passes)
@@ -62,13 +60,12 @@ pub returns : goal.returns
 returns c =
     let known : Held c.index_summed.ensures c.in-Rows.n = index_held c.index_summed.ensures c.in-Rows.n c.in-Rows.is in
     let seen : let a = c.args in
-    held_seen a.reader a.area.now (take c.in-Rows.n c.index_summed.last.1.1.1.1.0)
+    held_seen a.reader a.area.now (take c.in-Rows.n c.index_summed.new.words)
     ≡ words_seen a.reader a.words.now a.count a.area.now a.sums.now = let a = c.args in
     summed_held a.reader a.words.now a.count a.area.now a.sums.now
-    (take c.in-Rows.n c.index_summed.last.1.1.1.1.0) known.table_passes known.told in
+    (take c.in-Rows.n c.index_summed.new.words) known.table_passes known.told in
     let a = c.args in
-    let last = c.collect_index.last.1.1.1.1 in
     promised_same a.reader (words_table a.words.now a.count a.area.now a.sums.now)
     (words_seen a.reader a.words.now a.count a.area.now a.sums.now) a.option a.scratch.now a.found.now a.pending.now
-    (summed_seen_passes a.reader (words_summed a.words.now a.count a.area.now a.sums.now)) c.collect_index.result last.0
-    last.1.0 last.1.1.0 seen c.collect_index.ensures
+    (summed_seen_passes a.reader (words_summed a.words.now a.count a.area.now a.sums.now)) c.collect_index.result c.collect_index.new.scratch
+    c.collect_index.new.found c.collect_index.new.pending seen c.collect_index.ensures

@@ -10,7 +10,7 @@ use Rattle.command_line.proofs.read_command.Goals as goal
 pub returns-then-not-is_one_command : goal.returns-then-not-is_one_command
 returns-then-not-is_one_command c =
     let off : Answers _ _ Unit _ = refuses _ 3 c.refused.ensures (line_off _ (sym c.is_one_command.ensures ∙ c.if-not-is_one_command.true)) in
- record { result_value = off.means; inside = off.inside tt }
+    record { result_value = off.means; inside = off.inside tt }
 
 pub overflow_sub-n : goal.overflow_sub-n
 overflow_sub-n c =
@@ -27,6 +27,5 @@ pub returns : goal.returns
 returns c =
     let one : one_command first c.args.line.now ≡ true = sym c.is_one_command.ensures ∙ c.if-not-is_one_command.false in
     let line = c.args.line.now in
-    let read = c.read_text.ensures in
     let n = length line - 2 in
- record { result_value = sym (meaning_line line n _ (read.inside tt)) ∙ read.means ∙ sym (line_read line one); inside = inside_line line n _ (read.inside tt) }
+    record { result_value = sym (meaning_line line n _ (c.read_text.ensures.inside tt)) ∙ c.read_text.ensures.means ∙ sym (line_read line one); inside = inside_line line n _ (c.read_text.ensures.inside tt) }

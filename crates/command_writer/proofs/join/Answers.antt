@@ -10,25 +10,6 @@ use Rattle.command_writer.proofs.Refusals.{joined, stands, grammatical, few, lin
 use Rattle.command_writer.proofs.Refusals.{line_many, line_joined}
 use Rattle.command_writer.proofs.join.Goals as goal
 
--- the function's entry, from after each test
-abbrev entry1 : Stages.Else-max-line-need → Stages.Start
-entry1 c = (Stages.else-max-line-need c).start
-
-abbrev entry2 : Stages.Else-not-all-stand-reference-patterns → Stages.Start
-entry2 c = entry1 (Stages.else-not-all-stand-reference-patterns c).Else-max-line-need
-
-abbrev entry3 : Stages.Else-not-is-grammatical-tag-patterns → Stages.Start
-entry3 c = entry2 (Stages.else-not-is-grammatical-tag-patterns c).Else-not-all-stand-reference-patterns
-
-abbrev entry4 : Stages.Else-not-set-is-known → Stages.Start
-entry4 c = entry3 (Stages.else-not-set-is-known c).Else-not-is-grammatical-tag-patterns
-
-abbrev entry5 : Stages.Else-not-set-is-lawful → Stages.Start
-entry5 c = entry4 (Stages.else-not-set-is-lawful c).Else-not-set-is-known
-
-abbrev entry6 : Stages.Else-not-few-patterns-reference-patterns → Stages.Start
-entry6 c = entry5 (Stages.else-not-few-patterns-reference-patterns c).Else-not-set-is-lawful
-
 pub returns-then-need-gt-MAX_LINE : goal.returns-then-need-gt-MAX_LINE
 unfolding limited written_is buffer_after
 returns-then-need-gt-MAX_LINE c =
@@ -39,11 +20,10 @@ returns-then-need-gt-MAX_LINE c =
 pub returns-then-not-all_stand : goal.returns-then-not-all_stand
 unfolding limited written_is buffer_after
 returns-then-not-all_stand c =
-    let measured : let s = entry1 c in length (joined s.args.tag.now s.args.options s.args.reference.now
-    s.args.patterns.now) ≤ 2048 = omega (arith, c.put_join-need.ensures.place) in
-    let s = entry1 c in
+    let measured : length (joined c.args.tag.now c.args.options c.args.reference.now
+    c.args.patterns.now) ≤ 2048 = omega (arith, c.put_join-need.ensures.place) in
     rw
-    (line_unheld s.args.tag.now s.args.options s.args.reference.now s.args.patterns.now
+    (line_unheld c.args.tag.now c.args.options c.args.reference.now c.args.patterns.now
     measured
     (sym c.all_stand.ensures ∙ c.if-not-all_stand.true))
     (refl, refl)
@@ -51,12 +31,11 @@ returns-then-not-all_stand c =
 pub returns-then-not-is_grammatical : goal.returns-then-not-is_grammatical
 unfolding limited written_is buffer_after
 returns-then-not-is_grammatical c =
-    let measured : let s = entry1 c in length (joined s.args.tag.now s.args.options s.args.reference.now
-    s.args.patterns.now) ≤ 2048 = omega (arith, c.put_join-need.ensures.place) in
-    let held : let s = entry2 c in stands s.args.tag.now s.args.options s.args.reference.now s.args.patterns.now ≡ true = sym c.all_stand.ensures ∙ c.if-not-all_stand.false in
-    let s = entry1 c in
+    let measured : length (joined c.args.tag.now c.args.options c.args.reference.now
+    c.args.patterns.now) ≤ 2048 = omega (arith, c.put_join-need.ensures.place) in
+    let held : stands c.args.tag.now c.args.options c.args.reference.now c.args.patterns.now ≡ true = sym c.all_stand.ensures ∙ c.if-not-all_stand.false in
     rw
-    (line_off s.args.tag.now s.args.options s.args.reference.now s.args.patterns.now
+    (line_off c.args.tag.now c.args.options c.args.reference.now c.args.patterns.now
     measured held
     (sym c.is_grammatical.ensures ∙ c.if-not-is_grammatical.true))
     (refl, refl)
@@ -64,14 +43,13 @@ returns-then-not-is_grammatical c =
 pub returns-then-not-is_known : goal.returns-then-not-is_known
 unfolding limited written_is buffer_after
 returns-then-not-is_known c =
-    let measured : let s = entry1 c in length (joined s.args.tag.now s.args.options s.args.reference.now
-    s.args.patterns.now) ≤ 2048 = omega (arith, c.put_join-need.ensures.place) in
-    let held : let s = entry2 c in stands s.args.tag.now s.args.options s.args.reference.now s.args.patterns.now ≡ true = sym c.all_stand.ensures ∙ c.if-not-all_stand.false in
-    let read : let s = entry3 c in grammatical s.args.tag.now s.args.options s.args.reference.now s.args.patterns.now ≡
+    let measured : length (joined c.args.tag.now c.args.options c.args.reference.now
+    c.args.patterns.now) ≤ 2048 = omega (arith, c.put_join-need.ensures.place) in
+    let held : stands c.args.tag.now c.args.options c.args.reference.now c.args.patterns.now ≡ true = sym c.all_stand.ensures ∙ c.if-not-all_stand.false in
+    let read : grammatical c.args.tag.now c.args.options c.args.reference.now c.args.patterns.now ≡
     true = sym c.is_grammatical.ensures ∙ c.if-not-is_grammatical.false in
-    let s = entry1 c in
     rw
-    (line_unknown s.args.tag.now s.args.options s.args.reference.now s.args.patterns.now
+    (line_unknown c.args.tag.now c.args.options c.args.reference.now c.args.patterns.now
     measured held read
     (sym c.is_Known.ensures ∙ c.if-not-is_known.true))
     (refl, refl)
@@ -79,15 +57,14 @@ returns-then-not-is_known c =
 pub returns-then-not-is_lawful : goal.returns-then-not-is_lawful
 unfolding limited written_is buffer_after
 returns-then-not-is_lawful c =
-    let measured : let s = entry1 c in length (joined s.args.tag.now s.args.options s.args.reference.now
-    s.args.patterns.now) ≤ 2048 = omega (arith, c.put_join-need.ensures.place) in
-    let held : let s = entry2 c in stands s.args.tag.now s.args.options s.args.reference.now s.args.patterns.now ≡ true = sym c.all_stand.ensures ∙ c.if-not-all_stand.false in
-    let read : let s = entry3 c in grammatical s.args.tag.now s.args.options s.args.reference.now s.args.patterns.now ≡
+    let measured : length (joined c.args.tag.now c.args.options c.args.reference.now
+    c.args.patterns.now) ≤ 2048 = omega (arith, c.put_join-need.ensures.place) in
+    let held : stands c.args.tag.now c.args.options c.args.reference.now c.args.patterns.now ≡ true = sym c.all_stand.ensures ∙ c.if-not-all_stand.false in
+    let read : grammatical c.args.tag.now c.args.options c.args.reference.now c.args.patterns.now ≡
     true = sym c.is_grammatical.ensures ∙ c.if-not-is_grammatical.false in
-    let known : let s = entry4 c in lawful_set s.args.options ≡ true = sym c.is_Known.ensures ∙ c.if-not-is_known.false in
-    let s = entry1 c in
+    let known : lawful_set c.args.options ≡ true = sym c.is_Known.ensures ∙ c.if-not-is_known.false in
     rw
-    (line_alone s.args.tag.now s.args.options s.args.reference.now s.args.patterns.now
+    (line_alone c.args.tag.now c.args.options c.args.reference.now c.args.patterns.now
     measured held read known
     (sym c.is_lawful.ensures ∙ c.if-not-is_lawful.true))
     (refl, refl)
@@ -95,50 +72,47 @@ returns-then-not-is_lawful c =
 pub returns-then-not-few_patterns : goal.returns-then-not-few_patterns
 unfolding limited written_is buffer_after
 returns-then-not-few_patterns c =
-    let measured : let s = entry1 c in length (joined s.args.tag.now s.args.options s.args.reference.now
-    s.args.patterns.now) ≤ 2048 = omega (arith, c.put_join-need.ensures.place) in
-    let held : let s = entry2 c in stands s.args.tag.now s.args.options s.args.reference.now s.args.patterns.now ≡ true = sym c.all_stand.ensures ∙ c.if-not-all_stand.false in
-    let read : let s = entry3 c in grammatical s.args.tag.now s.args.options s.args.reference.now s.args.patterns.now ≡
+    let measured : length (joined c.args.tag.now c.args.options c.args.reference.now
+    c.args.patterns.now) ≤ 2048 = omega (arith, c.put_join-need.ensures.place) in
+    let held : stands c.args.tag.now c.args.options c.args.reference.now c.args.patterns.now ≡ true = sym c.all_stand.ensures ∙ c.if-not-all_stand.false in
+    let read : grammatical c.args.tag.now c.args.options c.args.reference.now c.args.patterns.now ≡
     true = sym c.is_grammatical.ensures ∙ c.if-not-is_grammatical.false in
-    let known : let s = entry4 c in lawful_set s.args.options ≡ true = sym c.is_Known.ensures ∙ c.if-not-is_known.false in
-    let lawful : let s = entry5 c in lawful_options (options_from s.args.options) ≡ true = sym c.is_lawful.ensures ∙ c.if-not-is_lawful.false in
-    let s = entry1 c in
+    let known : lawful_set c.args.options ≡ true = sym c.is_Known.ensures ∙ c.if-not-is_known.false in
+    let lawful : lawful_options (options_from c.args.options) ≡ true = sym c.is_lawful.ensures ∙ c.if-not-is_lawful.false in
     rw
-    (line_many s.args.tag.now s.args.options s.args.reference.now s.args.patterns.now
+    (line_many c.args.tag.now c.args.options c.args.reference.now c.args.patterns.now
     measured held read known lawful
     (sym c.few_patterns.ensures ∙ c.if-not-few_patterns.true))
     (refl, refl)
 
 pub returns-then-out-need : goal.returns-then-out-need
 returns-then-out-need c =
-    let measured : let s = entry1 c in length (joined s.args.tag.now s.args.options s.args.reference.now
-    s.args.patterns.now) ≤ 2048 = omega (arith, c.put_join-need.ensures.place) in
-    let held : let s = entry2 c in stands s.args.tag.now s.args.options s.args.reference.now s.args.patterns.now ≡ true = sym c.all_stand.ensures ∙ c.if-not-all_stand.false in
-    let read : let s = entry3 c in grammatical s.args.tag.now s.args.options s.args.reference.now s.args.patterns.now ≡
+    let measured : length (joined c.args.tag.now c.args.options c.args.reference.now
+    c.args.patterns.now) ≤ 2048 = omega (arith, c.put_join-need.ensures.place) in
+    let held : stands c.args.tag.now c.args.options c.args.reference.now c.args.patterns.now ≡ true = sym c.all_stand.ensures ∙ c.if-not-all_stand.false in
+    let read : grammatical c.args.tag.now c.args.options c.args.reference.now c.args.patterns.now ≡
     true = sym c.is_grammatical.ensures ∙ c.if-not-is_grammatical.false in
-    let known : let s = entry4 c in lawful_set s.args.options ≡ true = sym c.is_Known.ensures ∙ c.if-not-is_known.false in
-    let lawful : let s = entry5 c in lawful_options (options_from s.args.options) ≡ true = sym c.is_lawful.ensures ∙ c.if-not-is_lawful.false in
-    let short : let s = entry6 c in few s.args.tag.now s.args.options s.args.reference.now s.args.patterns.now ≡ true = sym c.few_patterns.ensures ∙ c.if-not-few_patterns.false in
-    let s = entry1 c in
+    let known : lawful_set c.args.options ≡ true = sym c.is_Known.ensures ∙ c.if-not-is_known.false in
+    let lawful : lawful_options (options_from c.args.options) ≡ true = sym c.is_lawful.ensures ∙ c.if-not-is_lawful.false in
+    let short : few c.args.tag.now c.args.options c.args.reference.now c.args.patterns.now ≡ true = sym c.few_patterns.ensures ∙ c.if-not-few_patterns.false in
     rw
-    (line_joined s.args.tag.now s.args.options s.args.reference.now s.args.patterns.now
+    (line_joined c.args.tag.now c.args.options c.args.reference.now c.args.patterns.now
     measured held read known lawful short)
     (written_short _ _ (omega (arith, c.put_join-need.ensures.place)))
 
 pub returns : goal.returns
 returns c =
-    let measured : let s = entry1 c in length (joined s.args.tag.now s.args.options s.args.reference.now
-    s.args.patterns.now) ≤ 2048 = omega (arith, c.put_join-need.ensures.place) in
-    let held : let s = entry2 c in stands s.args.tag.now s.args.options s.args.reference.now s.args.patterns.now ≡ true = sym c.all_stand.ensures ∙ c.if-not-all_stand.false in
-    let read : let s = entry3 c in grammatical s.args.tag.now s.args.options s.args.reference.now s.args.patterns.now ≡
+    let measured : length (joined c.args.tag.now c.args.options c.args.reference.now
+    c.args.patterns.now) ≤ 2048 = omega (arith, c.put_join-need.ensures.place) in
+    let held : stands c.args.tag.now c.args.options c.args.reference.now c.args.patterns.now ≡ true = sym c.all_stand.ensures ∙ c.if-not-all_stand.false in
+    let read : grammatical c.args.tag.now c.args.options c.args.reference.now c.args.patterns.now ≡
     true = sym c.is_grammatical.ensures ∙ c.if-not-is_grammatical.false in
-    let known : let s = entry4 c in lawful_set s.args.options ≡ true = sym c.is_Known.ensures ∙ c.if-not-is_known.false in
-    let lawful : let s = entry5 c in lawful_options (options_from s.args.options) ≡ true = sym c.is_lawful.ensures ∙ c.if-not-is_lawful.false in
-    let short : let s = entry6 c in few s.args.tag.now s.args.options s.args.reference.now s.args.patterns.now ≡ true = sym c.few_patterns.ensures ∙ c.if-not-few_patterns.false in
-    let s = entry1 c in
+    let known : lawful_set c.args.options ≡ true = sym c.is_Known.ensures ∙ c.if-not-is_known.false in
+    let lawful : lawful_options (options_from c.args.options) ≡ true = sym c.is_lawful.ensures ∙ c.if-not-is_lawful.false in
+    let short : few c.args.tag.now c.args.options c.args.reference.now c.args.patterns.now ≡ true = sym c.few_patterns.ensures ∙ c.if-not-few_patterns.false in
     rw
-    (line_joined s.args.tag.now s.args.options s.args.reference.now s.args.patterns.now
+    (line_joined c.args.tag.now c.args.options c.args.reference.now c.args.patterns.now
     measured held read known lawful short)
-    (written_fits s.args.out.now (joined s.args.tag.now s.args.options s.args.reference.now s.args.patterns.now)
+    (written_fits c.args.out.now (joined c.args.tag.now c.args.options c.args.reference.now c.args.patterns.now)
     c.put_join.ensures (omega
     (arith, c.put_join-need.ensures.place, c.if-out-need.false)))

@@ -5,7 +5,7 @@ use Rattle.compaction.proofs.move_by.Goals as goal
 
 pub restart-requires : goal.restart-requires
 restart-requires c =
-    let places-length : length (take (length c.args.area.now) c.move_bytes.new.places.1.0) ≡ length c.args.area.now = length-take-le _ _ c.move_bytes.ensures.room in
+    let places-length : length (take (length c.args.area.now) c.move_bytes.new.places) ≡ length c.args.area.now = length-take-le _ _ c.move_bytes.ensures.room in
     λ k h. rw places-length (c.requires.0.starts k h)
 
 pub returns : goal.returns

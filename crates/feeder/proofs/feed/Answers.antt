@@ -23,7 +23,7 @@ loop-i-init c = (refl, refl)
 pub loop-i-preserved : goal.loop-i-preserved
 loop-i-preserved c =
     (
-      c.feed_byte-fed.kept.1.0 ∙ c.loop-i.invariant.0,
+      c.feed_byte-fed.new.command ∙ c.loop-i.invariant.0,
       sym (feed_on _ _ _ _ _ _ c.loop-i-test.true c.feed_byte-fed.ensures c.in-Quiet.is) ∙ c.loop-i.invariant.1,
     )
 

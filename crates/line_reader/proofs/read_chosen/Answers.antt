@@ -14,18 +14,18 @@ loop-k-init c = choosing_none _ _ c.requires.from_in_bounds
 
 pub slice_bounds-skip-count : goal.slice_bounds-skip-count
 slice_bounds-skip-count c =
-    let spanned : NameSpan c.loop-k.k c.loop-k.first c.name_span-span.result = span_named _ _ _ c.requires.names_value.1 c.loop-k-test.true c.name_span-span.ensures in
+    let spanned : NameSpan c.loop-k.k c.loop-k.first c.name_span-span.result = span_named _ _ _ c.requires.places_value c.loop-k-test.true c.name_span-span.ensures in
     spanned.order
 
 pub slice_bounds-skip-start : goal.slice_bounds-skip-start
 slice_bounds-skip-start c =
-    let spanned : NameSpan c.loop-k.k c.loop-k.first c.name_span-span.result = span_named _ _ _ c.requires.names_value.1 c.loop-k-test.true c.name_span-span.ensures in
+    let spanned : NameSpan c.loop-k.k c.loop-k.first c.name_span-span.result = span_named _ _ _ c.requires.places_value c.loop-k-test.true c.name_span-span.ensures in
     spanned.order
 
 pub slice_bounds-skip-end : goal.slice_bounds-skip-end
 slice_bounds-skip-end c =
-    let spanned : NameSpan c.loop-k.k c.loop-k.first c.name_span-span.result = span_named _ _ _ c.requires.names_value.1 c.loop-k-test.true c.name_span-span.ensures in
-    omega (arith, spanned.inside, ap length c.requires.names_value.0)
+    let spanned : NameSpan c.loop-k.k c.loop-k.first c.name_span-span.result = span_named _ _ _ c.requires.places_value c.loop-k-test.true c.name_span-span.ensures in
+    omega (arith, spanned.inside, ap length c.requires.names_value)
 
 pub skip-requires : goal.skip-requires
 skip-requires c = c.loop-k.invariant.inside
@@ -40,8 +40,8 @@ overflow_mul-member c =
 
 pub loop-k-preserved : goal.loop-k-preserved
 loop-k-preserved c =
-    let spanned : NameSpan c.loop-k.k c.loop-k.first c.name_span-span.result = span_named _ _ _ c.requires.names_value.1 c.loop-k-test.true c.name_span-span.ensures in
-    let skipped : Skips c.args.line.now c.loop-k.at (separated c.loop-k.first (name_of c.loop-k.k)) c.skip.result = subst (λ (x : List ℕ). Skips c.args.line.now c.loop-k.at x c.skip.result) (span_text _ c.requires.names_value.0 spanned) c.skip.ensures in
+    let spanned : NameSpan c.loop-k.k c.loop-k.first c.name_span-span.result = span_named _ _ _ c.requires.places_value c.loop-k-test.true c.name_span-span.ensures in
+    let skipped : Skips c.args.line.now c.loop-k.at (separated c.loop-k.first (name_of c.loop-k.k)) c.skip.result = subst (λ (x : List ℕ). Skips c.args.line.now c.loop-k.at x c.skip.result) (span_text _ c.requires.names_value spanned) c.skip.ensures in
     let inv = c.loop-k.invariant in
     let h = c.loop-k-test.true in
     let reading = Skips _ _ _ in

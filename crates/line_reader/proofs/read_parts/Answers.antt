@@ -41,51 +41,51 @@ returns-in_default-read_name c =
     let delimited : read_parts c.args.line.now ≡ from_name (chosen_at c.args.line.now c.in-At.a) (drop c.in-At-skip.b c.args.line.now) = unfold text in chosen ∙ delimiter_read _ _ _
     (subst (Skips c.args.line.now c.read_attributes-chosen.result.at
     (text ") \"/\" \"")) c.in-At-skip.is c.skip-2.ensures).0 in
-    rw (parts_refused _ (delimited ∙ name_missing _ _ c.in-At-skip.b _ c.read_name.last.1.1.0
+    rw (parts_refused _ (delimited ∙ name_missing _ _ c.in-At-skip.b _ c.read_name.new.name
     c.no_name-name.ensures (subst (Names _ _ _ _) c.in_default-read_name.is c.read_name.ensures)))
     c.refused-in_default-read_name.ensures
 
 pub slice_bounds-read_tail-count : goal.slice_bounds-read_tail-count
 slice_bounds-read_tail-count c =
-    let name : Names c.args.line.now c.in-At-skip.b c.no_name-name.result c.read_name.last.1.1.0
+    let name : Names c.args.line.now c.in-At-skip.b c.no_name-name.result c.read_name.new.name
     (Of c.in-Of.len c.in-Of.end) = subst (Names _ _ _ _) c.in-Of.is c.read_name.ensures in
     name.2
 
 pub slice_bounds-read_tail-start : goal.slice_bounds-read_tail-start
 slice_bounds-read_tail-start c =
-    let name : Names c.args.line.now c.in-At-skip.b c.no_name-name.result c.read_name.last.1.1.0
+    let name : Names c.args.line.now c.in-At-skip.b c.no_name-name.result c.read_name.new.name
     (Of c.in-Of.len c.in-Of.end) = subst (Names _ _ _ _) c.in-Of.is c.read_name.ensures in
     name.2
 
 pub returns-in_default-read_tail : goal.returns-in_default-read_tail
 returns-in_default-read_tail c =
-    let name : Names c.args.line.now c.in-At-skip.b c.no_name-name.result c.read_name.last.1.1.0
-    (Of c.in-Of.len c.in-Of.end) = subst (Names _ _ _ _) c.in-Of.is c.read_name.ensures in
     let start : Skips c.args.line.now 0 (text "* LIST (") (At c.in-At.a) = unfold text in subst (Skips _ 0 (text "* LIST (")) c.in-At.is c.skip.ensures in
     let chosen : read_parts c.args.line.now ≡ from_delimiter (chosen_at c.args.line.now c.in-At.a)
     (drop c.read_attributes-chosen.result.at c.args.line.now) = start_read _ _ start.0 ∙ attributes_read_lem _ _ _ c.read_attributes-chosen.ensures in
     let delimited : read_parts c.args.line.now ≡ from_name (chosen_at c.args.line.now c.in-At.a) (drop c.in-At-skip.b c.args.line.now) = unfold text in chosen ∙ delimiter_read _ _ _
     (subst (Skips c.args.line.now c.read_attributes-chosen.result.at
     (text ") \"/\" \"")) c.in-At-skip.is c.skip-2.ensures).0 in
+    let name : Names c.args.line.now c.in-At-skip.b c.no_name-name.result c.read_name.new.name
+    (Of c.in-Of.len c.in-Of.end) = subst (Names _ _ _ _) c.in-Of.is c.read_name.ensures in
     let named : read_parts c.args.line.now ≡ from_end (chosen_at c.args.line.now c.in-At.a) name.0 (drop c.in-Of.end c.args.line.now) = delimited ∙ name_read_lem _ _ _ _ name.1 in
     rw (parts_refused _ (named ∙ end_missing _ _ _ c.in-Of.end
     (sym c.read_tail.ensures ∙ c.in_default-read_tail.is))) c.refused-in_default-read_tail.ensures
 
 pub slice_bounds-name-end : goal.slice_bounds-name-end
 slice_bounds-name-end c =
-    let name : Names c.args.line.now c.in-At-skip.b c.no_name-name.result c.read_name.last.1.1.0
+    let name : Names c.args.line.now c.in-At-skip.b c.no_name-name.result c.read_name.new.name
     (Of c.in-Of.len c.in-Of.end) = subst (Names _ _ _ _) c.in-Of.is c.read_name.ensures in
     omega (arith, name.4)
 
 pub slice_bounds-lawful_name-end : goal.slice_bounds-lawful_name-end
 slice_bounds-lawful_name-end c =
-    let name : Names c.args.line.now c.in-At-skip.b c.no_name-name.result c.read_name.last.1.1.0
+    let name : Names c.args.line.now c.in-At-skip.b c.no_name-name.result c.read_name.new.name
     (Of c.in-Of.len c.in-Of.end) = subst (Names _ _ _ _) c.in-Of.is c.read_name.ensures in
     simp length-take (omega (arith, name.4))
 
 pub returns-then-not-lawful_name : goal.returns-then-not-lawful_name
 returns-then-not-lawful_name c =
-    let name : Names c.args.line.now c.in-At-skip.b c.no_name-name.result c.read_name.last.1.1.0
+    let name : Names c.args.line.now c.in-At-skip.b c.no_name-name.result c.read_name.new.name
     (Of c.in-Of.len c.in-Of.end) = subst (Names _ _ _ _) c.in-Of.is c.read_name.ensures in
     let start : Skips c.args.line.now 0 (text "* LIST (") (At c.in-At.a) = unfold text in subst (Skips _ 0 (text "* LIST (")) c.in-At.is c.skip.ensures in
     let chosen : read_parts c.args.line.now ≡ from_delimiter (chosen_at c.args.line.now c.in-At.a)
@@ -108,7 +108,7 @@ returns-then-not-lawful_name c =
 pub returns : goal.returns
 unfolding chosen_at
 returns c =
-    let name : Names c.args.line.now c.in-At-skip.b c.no_name-name.result c.read_name.last.1.1.0
+    let name : Names c.args.line.now c.in-At-skip.b c.no_name-name.result c.read_name.new.name
     (Of c.in-Of.len c.in-Of.end) = subst (Names _ _ _ _) c.in-Of.is c.read_name.ensures in
     let room : c.in-Of.len ≤ 200 = omega (arith, name.4, ap length c.no_name-name.ensures, length-replicate {A = ℕ} 200 0) in
     let start : Skips c.args.line.now 0 (text "* LIST (") (At c.in-At.a) = unfold text in subst (Skips _ 0 (text "* LIST (")) c.in-At.is c.skip.ensures in
@@ -126,6 +126,6 @@ returns c =
     (omega (arith, room, name.3)) _ _ name.3
     name.5) in
     parts_taken _ (chosen_at c.args.line.now c.in-At.a) name.0 _ _ c.in-Of.len
-    c.no_name-name.result c.read_name.last.1.1.0
+    c.no_name-name.result c.read_name.new.name
     (ended ∙ rw (sym lawful ∙ c.if-not-lawful_name.false)) whole
     c.read_attributes-chosen.ensures.chosen name.3 room c.no_name-name.ensures name.5

@@ -10,16 +10,14 @@ use Rattle.mailbox_table.proofs.index.Goals as goal
 
 pub returns-in_default : goal.returns-in_default
 returns-in_default c =
-    let found = c.find_rows in
     let t = c.args.table.now in
     indexes_fails (subst (λ (r : Indexing). Finds t (packed_table t) (packed_records t) (map cell_of (packed_records t)) c.args.words.now
-    found.new.1.0 r)
-    c.in_default.is found.ensures) c.clear_words.ensures
+    c.find_rows.new.words r)
+    c.in_default.is c.find_rows.ensures) c.clear_words.ensures
 
 pub returns : goal.returns
 returns c =
-    let found = c.find_rows in
     let t = c.args.table.now in
     indexes_rows (subst (λ (r : Indexing). Finds t (packed_table t) (packed_records t) (map cell_of (packed_records t)) c.args.words.now
-    found.new.1.0 r)
-    c.in-Rows.is found.ensures)
+    c.find_rows.new.words r)
+    c.in-Rows.is c.find_rows.ensures)

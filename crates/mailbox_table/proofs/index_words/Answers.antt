@@ -10,17 +10,15 @@ use Rattle.mailbox_table.proofs.index_words.Goals as goal
 pub returns-in_default : goal.returns-in_default
 returns-in_default c =
     let a = c.args in
-    let found = c.find_words in
     let t = word_table _ a.raw.now _ in
     indexes_fails (subst (λ (r : Indexing). Finds a.area.now t (take a.count (map record_of a.raw.now)) (take a.count a.raw.now)
     a.words.now
-    found.new.1.1.1.0 r) c.in_default.is found.ensures) c.clear_words.ensures
+    c.find_words.new.words r) c.in_default.is c.find_words.ensures) c.clear_words.ensures
 
 pub returns : goal.returns
 returns c =
     let a = c.args in
-    let found = c.find_words in
     let t = word_table _ a.raw.now _ in
     indexes_rows (subst (λ (r : Indexing). Finds a.area.now t (take a.count (map record_of a.raw.now)) (take a.count a.raw.now)
     a.words.now
-    found.new.1.1.1.0 r) c.in-Rows.is found.ensures)
+    c.find_words.new.words r) c.in-Rows.is c.find_words.ensures)

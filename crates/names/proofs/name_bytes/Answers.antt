@@ -11,8 +11,7 @@ loop-i-init c = refl
 
 pub loop-i-preserved : goal.loop-i-preserved
 loop-i-preserved c =
-    let turn = c.loop-i in
-    rw c.name_byte-ok.ensures (kept_step name_byte _ _ turn.ok c.loop-i-test.true ∙ turn.invariant)
+    rw c.name_byte-ok.ensures (kept_step name_byte _ _ c.loop-i.ok c.loop-i-test.true ∙ c.loop-i.invariant)
 
 pub returns : goal.returns
 returns c =

@@ -9,8 +9,7 @@ loop-i-init c = (omega arith, refl)
 
 pub loop-i-preserved : goal.loop-i-preserved
 loop-i-preserved c =
-    let turn = c.loop-i in
-    (omega arith, pair_more c.args.name.now turn.ok _ turn.invariant.0 c.loop-i-test.true ∙ turn.invariant.1)
+    (omega arith, pair_more c.args.name.now c.loop-i.ok _ c.loop-i.invariant.0 c.loop-i-test.true ∙ c.loop-i.invariant.1)
 
 pub returns : goal.returns
 returns c =

@@ -9,8 +9,7 @@ use Rattle.namespace_list.proofs.put_class.Goals as goal
 pub returns-then-count_of-lt1 : goal.returns-then-count_of-lt1
 unfolding text
 returns-then-count_of-lt1 c =
-    let count_of = c.count_of in
-    rw (class_none (of_class c.args.class (entries c.args.list.now)) (omega (arith, count_of.ensures))) c.put_all.ensures
+    rw (class_none (of_class c.args.class (entries c.args.list.now)) (omega (arith, c.count_of.ensures))) c.put_all.ensures
 
 pub returns : goal.returns
 unfolding text

@@ -7,7 +7,4 @@ use Rattle.namespace_list.proofs.put_namespaces.Goals as goal
 pub returns : goal.returns
 unfolding text crlf namespace_line
 returns c =
-    let put-class = c.put_class-personal in
-    let put-class2 = c.put_class-others in
-    let put-class3 = c.put_class-shared in
-    put_then c.put_all-head.ensures (put_then put-class.ensures (put_then put-class2.ensures (put_then put-class3.ensures c.put_all.ensures)))
+    put_then c.put_all-head.ensures (put_then c.put_class-personal.ensures (put_then c.put_class-others.ensures (put_then c.put_class-shared.ensures c.put_all.ensures)))

@@ -28,9 +28,7 @@ gather-held-requires c =
 
 pub end_frame-held-requires : goal.end_frame-held-requires
 end_frame-held-requires c =
-    let p = part_some c.loop-at.invariant _ c.line_end-end.ensures c.if-held.false _ _ c.gather-held.ensures in (
-      gathered_stopped c.gather-held.ensures ∙ c.if-held.false,
-      (
+    let p = part_some c.loop-at.invariant _ c.line_end-end.ensures c.if-held.false _ _ c.gather-held.ensures in record { stopped_value = gathered_stopped c.gather-held.ensures ∙ c.if-held.false; frames_bound = ((
         part_counted p,
         (
           p.goes.due_counted,
@@ -39,8 +37,43 @@ end_frame-held-requires c =
             (omega (arith, p.sizes.room, p.goes.pending_long), omega (arith, p.sizes.long, p.goes.line_long, p.goes.gathered_inside)),
           ),
         ),
-      ),
-    )
+      )).0; due_bound = ((
+        part_counted p,
+        (
+          p.goes.due_counted,
+          (
+            p.goes.due_inside,
+            (omega (arith, p.sizes.room, p.goes.pending_long), omega (arith, p.sizes.long, p.goes.line_long, p.goes.gathered_inside)),
+          ),
+        ),
+      )).1; due_bound_2 = ((
+        part_counted p,
+        (
+          p.goes.due_counted,
+          (
+            p.goes.due_inside,
+            (omega (arith, p.sizes.room, p.goes.pending_long), omega (arith, p.sizes.long, p.goes.line_long, p.goes.gathered_inside)),
+          ),
+        ),
+      )).2; in_bounds = ((
+        part_counted p,
+        (
+          p.goes.due_counted,
+          (
+            p.goes.due_inside,
+            (omega (arith, p.sizes.room, p.goes.pending_long), omega (arith, p.sizes.long, p.goes.line_long, p.goes.gathered_inside)),
+          ),
+        ),
+      )).3; gathered_in_bounds = ((
+        part_counted p,
+        (
+          p.goes.due_counted,
+          (
+            p.goes.due_inside,
+            (omega (arith, p.sizes.room, p.goes.pending_long), omega (arith, p.sizes.long, p.goes.line_long, p.goes.gathered_inside)),
+          ),
+        ),
+      )).4 }
 
 pub overflow_add-at : goal.overflow_add-at
 overflow_add-at c =

@@ -15,134 +15,119 @@ use Rattle.server.proofs.AnswerLaws.{front_size, sums_size, front_inside, sums_i
 use Rattle.server.proofs.AnswerLaws.{read_only_lem}
 use Rattle.server.proofs.answer_words.Goals as goal
 
--- the stages that the proof speaks of: the entry, the command read, how many words are lent, the rows found
-abbrev start_of : tie.After-read-command → tie.Start
-start_of c = c.before.before.before.before.before.before.before.before
-
-abbrev asked_of : tie.After-least → tie.After-may-edit
-asked_of c = c.before.before.before
-
-abbrev read_of : tie.After-least → tie.After-read-command
-read_of c = (asked_of c).before
-
-abbrev entry_of : tie.After-least → tie.Start
-entry_of c = start_of (read_of c)
-
-abbrev counted_of : tie.After-m → tie.After-least
-counted_of c = c.before.before.before.before.before.before.before.before
-
-abbrev found_of : tie.After-is-edit → tie.After-m
-found_of c = c.before.before.before.before
-
 pub returns-then-reader-gt-MAX_READER : goal.returns-then-reader-gt-MAX_READER
 unfolding is_reader
 returns-then-reader-gt-MAX_READER c = refused_16 _ _ _ _ _ _ _ _ _ (lt-leb _ 7 c.if-reader-gt-MAX_READER.true) c.unchanged.ensures
 
 pub edit_line-requires : goal.edit_line-requires
 edit_line-requires c =
-    let told : Reads (start_of c).args.line.now c.read_command-command.result = record { means = c.read_command-command.ensures.result_value; inside = c.read_command-command.ensures.inside } in
+    let told : Reads c.args.line.now c.read_command-command.result = record { means = c.read_command-command.ensures.result_value; inside = c.read_command-command.ensures.inside } in
     let own = sym c.may_edit.ensures ∙ c.if-may_edit.true in
-    let a = (start_of c).args in
+    let a = c.args in
     (told, and_l (edit_kind c.read_command-command.result.kind) (namespaces_pass a.namespaces.now) (and_r (eqb a.reader 0) _ own))
 
 pub returns-then-may_edit : goal.returns-then-may_edit
 returns-then-may_edit c =
-    let a = (start_of c).args in
+    let a = c.args in
     let own = sym c.may_edit.ensures ∙ c.if-may_edit.true in
     rw (eqb-true a.reader 0 (and_l (eqb a.reader 0) _ own))
     (c.edit_line.ensures a.namespaces.now (and_r (edit_kind c.read_command-command.result.kind) _ (and_r (eqb a.reader 0) _ own)))
 
 pub slice_bounds-index_summed-end : goal.slice_bounds-index_summed-end
 slice_bounds-index_summed-end c =
-    let a = (entry_of c).args in
+    let a = c.args in
     front_inside a.words.now a.sums.now _ c.least-n.ensures
 
 pub slice_bounds-index_summed-end-2 : goal.slice_bounds-index_summed-end-2
 slice_bounds-index_summed-end-2 c =
-    let a = (entry_of c).args in
+    let a = c.args in
     front_size a.words.now a.sums.now _ c.least-n.ensures
 
 pub slice_bounds-index_summed-end-3 : goal.slice_bounds-index_summed-end-3
 slice_bounds-index_summed-end-3 c =
-    let a = (entry_of c).args in
+    let a = c.args in
     sums_inside a.words.now a.sums.now _ c.least-n.ensures
 
 pub slice_bounds-index_summed-end-4 : goal.slice_bounds-index_summed-end-4
 slice_bounds-index_summed-end-4 c =
-    let a = (entry_of c).args in
+    let a = c.args in
     sums_size a.words.now a.sums.now _ c.least-n.ensures
 
 pub returns-in_default : goal.returns-in_default
 returns-in_default c =
-    let known-reader : is_reader (entry_of c).args.reader ≡ true = unfold is_reader in le-leb _ 7 (read_of c).if1.false in
+    let known-reader : is_reader c.args.reader ≡ true = unfold is_reader in le-leb _ 7 c.if-reader-gt-MAX_READER.false in
     let fails = index_refused c.index_summed.ensures (ap length c.no_words-rows.ensures) c.in_default.is in
     refused_1 _ _ _ _ _ _ _ _ _ c.least-n.ensures known-reader _ fails c.unchanged-in_default.ensures
 
 pub returns-then-not-check : goal.returns-then-not-check
 returns-then-not-check c =
+    let known-reader : is_reader c.args.reader ≡ true = unfold is_reader in le-leb _ 7 c.if-reader-gt-MAX_READER.false in
     let known : Held c.index_summed.ensures c.in-Rows.m = index_held c.index_summed.ensures _ c.in-Rows.is in
-    let passed : let counted = counted_of c in
-    let a = (entry_of counted).args in
-    let n = counted.least.result in
+    let passed : let a = c.args in
+    let n = c.least-n.result in
     passes (words_table (take n a.words.now) a.count a.area.now (take n a.sums.now)) ≡ true = known.table_passes in
-    let counted = counted_of c in
     let bad = sym c.check.ensures ∙ c.if-not-check.true in
-    refused_2 _ _ _ _ _ _ _ _ _ counted.least.ensures (known-reader counted) passed _ bad c.unchanged-then-not-check.ensures
+    refused_2 _ _ _ _ _ _ _ _ _ c.least-n.ensures known-reader passed _ bad c.unchanged-then-not-check.ensures
 
 pub returns-then-is_edit : goal.returns-then-is_edit
 returns-then-is_edit c =
-    let listed : namespaces_pass (entry_of (counted_of (found_of c))).args.namespaces.now ≡ true = sym c.check.ensures ∙ c.if-not-check.false in
-    let counted = counted_of (found_of c) in
-    let a = (entry_of counted).args in
+    let known-reader : is_reader c.args.reader ≡ true = unfold is_reader in le-leb _ 7 c.if-reader-gt-MAX_READER.false in
+    let told : Reads c.args.line.now c.read_command-command.result = record { means = c.read_command-command.ensures.result_value; inside = c.read_command-command.ensures.inside } in
+    let known : Held c.index_summed.ensures c.in-Rows.m = index_held c.index_summed.ensures _ c.in-Rows.is in
+    let passed : let a = c.args in
+    let n = c.least-n.result in
+    passes (words_table (take n a.words.now) a.count a.area.now (take n a.sums.now)) ≡ true = known.table_passes in
+    let listed : namespaces_pass c).args.namespaces.now ≡ true = sym c.check.ensures ∙ c.if-not-check.false in
+    let a = c.args in
     let edits = sym c.is_edit.ensures ∙ c.if-is_edit.true in
-    let other = not_own (eqb a.reader 0) (edit_kind (read_of counted).read-command.result.kind) _ (sym (asked_of counted).may-edit.ensures ∙ counted.if2.left) edits listed in
-    stranger_edit _ _ _ _ _ _ _ _ _ counted.least.ensures (known-reader counted) (passed (found_of c)) listed _ (told (read_of counted)) _ edits
+    let other = not_own (eqb a.reader 0) (edit_kind c.read_command-command.result.kind) _ (sym c.may_edit.ensures ∙ c.if-may_edit.false) edits listed in
+    stranger_edit _ _ _ _ _ _ _ _ _ c.least-n.ensures known-reader (passed listed _ (told _ edits
     other c.refused_edit.ensures
 
 pub slice_bounds-rows-end : goal.slice_bounds-rows-end
-slice_bounds-rows-end c = (known (found_of c)).inside
+slice_bounds-rows-end c = (known c.inside
 
 pub slice_bounds-see_rows-end : goal.slice_bounds-see_rows-end
-slice_bounds-see_rows-end c = (known (found_of c)).size
+slice_bounds-see_rows-end c = (known c.size
 
 pub slice_bounds-rows-end-2 : goal.slice_bounds-rows-end-2
 slice_bounds-rows-end-2 c =
-    let seen : let found = found_of c in
-    let m = found.m.given.0.0 in
-    let all = found.index-summed.last.1.1.1.1.0 in
-    Front (entry_of (counted_of found)).args.reader (take m all) (drop m all) c.see_rows-seen.new.words c.see_rows-seen.result = seen_front _ _ c.see_rows-seen.ensures in
+    let seen : let m = c.in-Rows.m in
+    let all = c.index_summed.new.words in
+    Front c.args.reader (take m all) (drop m all) c.see_rows-seen.new.words c.see_rows-seen.result = seen_front _ _ c.see_rows-seen.ensures in
     seen.inside
 
 pub slice_bounds-respond-end : goal.slice_bounds-respond-end
 slice_bounds-respond-end c =
-    let seen : let found = found_of c in
-    let m = found.m.given.0.0 in
-    let all = found.index-summed.last.1.1.1.1.0 in
-    Front (entry_of (counted_of found)).args.reader (take m all) (drop m all) c.see_rows-seen.new.words c.see_rows-seen.result = seen_front _ _ c.see_rows-seen.ensures in
+    let seen : let m = c.in-Rows.m in
+    let all = c.index_summed.new.words in
+    Front c.args.reader (take m all) (drop m all) c.see_rows-seen.new.words c.see_rows-seen.result = seen_front _ _ c.see_rows-seen.ensures in
     seen.size
 
 pub respond-written-requires : goal.respond-written-requires
 respond-written-requires c =
-    let seen : let found = found_of c in
-    let m = found.m.given.0.0 in
-    let all = found.index-summed.last.1.1.1.1.0 in
-    Front (entry_of (counted_of found)).args.reader (take m all) (drop m all) c.see_rows-seen.new.words c.see_rows-seen.result = seen_front _ _ c.see_rows-seen.ensures in
-    let found = found_of c in
- record { index = subst (Index _) (sym seen.words) (seen_index _ (known found).index); reads = told (read_of (counted_of found)) }
+    let told : Reads c.args.line.now c.read_command-command.result = record { means = c.read_command-command.ensures.result_value; inside = c.read_command-command.ensures.inside } in
+    let known : Held c.index_summed.ensures c.in-Rows.m = index_held c.index_summed.ensures _ c.in-Rows.is in
+    let seen : let m = c.in-Rows.m in
+    let all = c.index_summed.new.words in
+    Front c.args.reader (take m all) (drop m all) c.see_rows-seen.new.words c.see_rows-seen.result = seen_front _ _ c.see_rows-seen.ensures in
+    record { index = subst (Index _) (sym seen.words) (seen_index _ known.index); reads = told }
 
 pub returns : goal.returns
 returns c =
-    let seen : let found = found_of c in
-    let m = found.m.given.0.0 in
-    let all = found.index-summed.last.1.1.1.1.0 in
-    Front (entry_of (counted_of found)).args.reader (take m all) (drop m all) c.see_rows-seen.new.words c.see_rows-seen.result = seen_front _ _ c.see_rows-seen.ensures in
-    let listed : namespaces_pass (entry_of (counted_of (found_of c))).args.namespaces.now ≡ true = sym c.check.ensures ∙ c.if-not-check.false in
-    let found = found_of c in
-    let counted = counted_of found in
-    let read = read_of counted in
-    let a = (entry_of counted).args in
-    let rows = take found.m.given.0.0 _ in
+    let known-reader : is_reader c.args.reader ≡ true = unfold is_reader in le-leb _ 7 c.if-reader-gt-MAX_READER.false in
+    let told : Reads c.args.line.now c.read_command-command.result = record { means = c.read_command-command.ensures.result_value; inside = c.read_command-command.ensures.inside } in
+    let known : Held c.index_summed.ensures c.in-Rows.m = index_held c.index_summed.ensures _ c.in-Rows.is in
+    let seen : let m = c.in-Rows.m in
+    let all = c.index_summed.new.words in
+    Front c.args.reader (take m all) (drop m all) c.see_rows-seen.new.words c.see_rows-seen.result = seen_front _ _ c.see_rows-seen.ensures in
+    let passed : let a = c.args in
+    let n = c.least-n.result in
+    passes (words_table (take n a.words.now) a.count a.area.now (take n a.sums.now)) ≡ true = known.table_passes in
+    let listed : namespaces_pass c).args.namespaces.now ≡ true = sym c.check.ensures ∙ c.if-not-check.false in
+    let a = c.args in
+    let rows = take c.in-Rows.m _ in
     read_only_lem _ _ _ _ _ a.namespaces.now a.line.now a.out.now
-    counted.least.result counted.least.ensures (known-reader counted) (passed found) listed read.read-command.result (told read)
-    rows (known found).told (sym c.is_edit.ensures ∙ c.if-is_edit.false) (rw (← seen.words) c.respond-written.ensures)
+    c.least-n.result c.least-n.ensures known-reader passed listed c.read_command-command.result told
+    rows known.told (sym c.is_edit.ensures ∙ c.if-is_edit.false) (rw (← seen.words) c.respond-written.ensures)
     c.unchanged-2.result c.unchanged-2.ensures

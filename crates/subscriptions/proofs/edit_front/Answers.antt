@@ -46,10 +46,7 @@ carry_out-change-requires c =
     let a = c.args in
     let d = cells a.words.now a.sums.now a.area.now in
     let pass = passed in
-    let same : if_fits a.fits _ ≡ c.if_fits-plan.result = ap (if_fits a.fits) (sym c.decide-decided.ensures) ∙ sym c.if_fits-plan.ensures in (
-      (rw (← same) (plan_fits_cells d _ pass a.subscribe a.name.now a.fits), (cells_pass d _ pass).counted),
-      rw (← same) (plan_sums_cells d _ pass c.requires a.subscribe a.name.now a.fits),
-    )
+    let same : if_fits a.fits _ ≡ c.if_fits-plan.result = ap (if_fits a.fits) (sym c.decide-decided.ensures) ∙ sym c.if_fits-plan.ensures in record { fits = (rw (← same) (plan_fits_cells d _ pass a.subscribe a.name.now a.fits), (cells_pass d _ pass).counted); sums_fit = rw (← same) (plan_sums_cells d _ pass c.requires a.subscribe a.name.now a.fits) }
 
 pub returns : goal.returns
 returns c =
@@ -59,5 +56,4 @@ returns c =
     plan_over (cells a.words.now a.sums.now a.area.now) a.count a.subscribe a.name.now a.fits ≡ c.if_fits-plan.result = let a = c.args in
     plan_passed (cells a.words.now a.sums.now a.area.now) _ passed _ _ _
     ∙ ap (if_fits a.fits) (sym c.decide-decided.ensures) ∙ sym c.if_fits-plan.ensures in
-    let e = c.carry_out-change.ensures in
-    (rw (planned, ← e.0) c.answer_for.ensures, rw planned (λ i. cells (e.1 i) (e.2 i) (e.3 i)))
+    (rw (planned, ← c.carry_out-change.ensures.0) c.answer_for.ensures, rw planned (λ i. cells (c.carry_out-change.ensures.1 i) (c.carry_out-change.ensures.2 i) (c.carry_out-change.ensures.3 i)))

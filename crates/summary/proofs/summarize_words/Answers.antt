@@ -41,6 +41,6 @@ returns c =
     let known : Held c.index_words.ensures c.in-Rows.n = index_held c.index_words.ensures _ c.in-Rows.is in
     let held = known in
     let a = c.args in
-    let index = take c.in-Rows.n c.index_words.new.1.1.1.0 in
+    let index = take c.in-Rows.n c.index_words.new.words in
     first_counted a.raw.now a.count a.area.now a.sums.now index c.if-sums-count.false held.table_passes held.same
     (sym held.size ∙ held.number) held.index.few _ c.count_all.ensures

@@ -21,7 +21,7 @@ pub returns : goal.returns
 returns c =
     let a = c.args in
     let byte = asked_byte a.option c.of_byte.ensures c.in-Of.is in
-    subst (λ (w : WalkReply). Ends w c.walk_table.last.1.1.1.1.1.0 c.walk_table.last.1.1.1.1.1.1.0
+    subst (λ (w : WalkReply). Ends w c.walk_table.new.found c.walk_table.new.pending
     c.walk_table.result)
     (λ i. collected (held_seen a.reader a.area.now a.index.now) (byte i) a.scratch.now a.found.now a.pending.now)
     c.walk_table.ensures

@@ -3,84 +3,74 @@ use Rattle.listing_rules.proofs.Prelude.{ap, not, arith, length-take}
 use Rattle.collector.proofs.TakeLaws.{parent_of, ReadAs, read_as, line_skipped, find_full, ask_full, line_taken}
 use Rattle.collector.proofs.lines.take_line.Goals as goal
 
--- the stage at which the line was read, from the one at which its find was kept
-abbrev read-before : Stages.Bound-found-end-known-told → Stages.Bound-parts-known-told
-read-before c =
-    (Stages.bound-found-end-known-told c).Bound-parts-known-told
-
 pub returns-in_default : goal.returns-in_default
 returns-in_default c =
     line_skipped c.args.line.now c.args.options c.read_line-read.ensures.result c.in_default.is c.requires
 
 pub slice_bounds-name-end : goal.slice_bounds-name-end
 slice_bounds-name-end c =
-    let told : let parts = c.parts-1.given.0 in
-    ReadAs c.args.line.now parts.0 parts.1.0 (parent_of parts.1.1.0) c.read_line-read.result.name = let parts = c.parts-1.given in
-    read_as c.args.line.now parts.0.0 parts.0.1.0 parts.0.1.1.0 c.read_line-read.result.name
-    c.read_line-read.ensures.result parts.1 c.read_line-read.ensures.bytes in
+    let told : ReadAs c.args.line.now c.in-Parts.attributes c.in-Parts.n (parent_of c.in-Parts.child_info) c.read_line-read.result.name = read_as c.args.line.now c.in-Parts.attributes c.in-Parts.n c.in-Parts.child_info c.read_line-read.result.name
+    c.read_line-read.ensures.result c.in-Parts.is c.read_line-read.ensures.bytes in
     told.inside
 
 pub slice_bounds-keep-end : goal.slice_bounds-keep-end
 slice_bounds-keep-end c =
-    let told : let parts = c.parts-1.given.0 in
-    ReadAs c.args.line.now parts.0 parts.1.0 (parent_of parts.1.1.0) c.read_line-read.result.name = let parts = c.parts-1.given in
-    read_as c.args.line.now parts.0.0 parts.0.1.0 parts.0.1.1.0 c.read_line-read.result.name
-    c.read_line-read.ensures.result parts.1 c.read_line-read.ensures.bytes in
+    let told : ReadAs c.args.line.now c.in-Parts.attributes c.in-Parts.n (parent_of c.in-Parts.child_info) c.read_line-read.result.name = read_as c.args.line.now c.in-Parts.attributes c.in-Parts.n c.in-Parts.child_info c.read_line-read.result.name
+    c.read_line-read.ensures.result c.in-Parts.is c.read_line-read.ensures.bytes in
     simp length-take (omega (arith, told.inside))
 
 pub keep-requires : goal.keep-requires
 keep-requires c =
-    let told : let parts = c.parts-1.given.0 in
-    ReadAs c.args.line.now parts.0 parts.1.0 (parent_of parts.1.1.0) c.read_line-read.result.name = let parts = c.parts-1.given in
-    read_as c.args.line.now parts.0.0 parts.0.1.0 parts.0.1.1.0 c.read_line-read.result.name
-    c.read_line-read.ensures.result parts.1 c.read_line-read.ensures.bytes in
- record { at_in_bounds = omega (arith, c.requires); name_len_bound = simp length-take (omega (arith, told.short)) }
+    let told : ReadAs c.args.line.now c.in-Parts.attributes c.in-Parts.n (parent_of c.in-Parts.child_info) c.read_line-read.result.name = read_as c.args.line.now c.in-Parts.attributes c.in-Parts.n c.in-Parts.child_info c.read_line-read.result.name
+    c.read_line-read.ensures.result c.in-Parts.is c.read_line-read.ensures.bytes in
+    record { at_in_bounds = omega (arith, c.requires); name_len_bound = simp length-take (omega (arith, told.short)) }
 
 pub returns-in_default-keep : goal.returns-in_default-keep
 returns-in_default-keep c =
-    let told : let parts = c.parts-1.given.0 in
-    ReadAs c.args.line.now parts.0 parts.1.0 (parent_of parts.1.1.0) c.read_line-read.result.name = let parts = c.parts-1.given in
-    read_as c.args.line.now parts.0.0 parts.0.1.0 parts.0.1.1.0 c.read_line-read.result.name
-    c.read_line-read.ensures.result parts.1 c.read_line-read.ensures.bytes in
-    find_full told c.args.options c.keep.last.1.0
+    let told : ReadAs c.args.line.now c.in-Parts.attributes c.in-Parts.n (parent_of c.in-Parts.child_info) c.read_line-read.result.name = read_as c.args.line.now c.in-Parts.attributes c.in-Parts.n c.in-Parts.child_info c.read_line-read.result.name
+    c.read_line-read.ensures.result c.in-Parts.is c.read_line-read.ensures.bytes in
+    find_full told c.args.options c.keep.new.buf
     c.is_find-find.ensures c.in_default-keep.is c.keep.ensures
 
 pub slice_bounds-name-end-2 : goal.slice_bounds-name-end-2
-slice_bounds-name-end-2 c = (told (read-before c)).inside
+slice_bounds-name-end-2 c = (told c.inside
 
 pub slice_bounds-keep-end-2 : goal.slice_bounds-keep-end-2
-slice_bounds-keep-end-2 c = simp length-take (omega (arith, (told (read-before c)).inside))
+slice_bounds-keep-end-2 c = simp length-take (omega (arith, (told c.inside))
 
 pub keep-requires-2 : goal.keep-requires-2
 keep-requires-2 c =
-    let read = read-before c in
- record { at_in_bounds = omega (arith, (Stages.bound-parts-known-told read).start.pre); name_len_bound = simp length-take (omega (arith, (told read).short)) }
+    let told : ReadAs c.args.line.now c.in-Parts.attributes c.in-Parts.n (parent_of c.in-Parts.child_info) c.read_line-read.result.name = read_as c.args.line.now c.in-Parts.attributes c.in-Parts.n c.in-Parts.child_info c.read_line-read.result.name
+    c.read_line-read.ensures.result c.in-Parts.is c.read_line-read.ensures.bytes in
+    record { at_in_bounds = omega (arith, (Stages.bound-parts-known-told c).start.pre); name_len_bound = simp length-take (omega (arith, told.short)) }
 
 pub returns-in_default-keep-2 : goal.returns-in_default-keep-2
 returns-in_default-keep-2 c =
-    let read = read-before c in
-    ask_full (told read) (Stages.bound-parts-known-told read).start.args.options
-    c.keep.last.1.0
+    let told : ReadAs c.args.line.now c.in-Parts.attributes c.in-Parts.n (parent_of c.in-Parts.child_info) c.read_line-read.result.name = read_as c.args.line.now c.in-Parts.attributes c.in-Parts.n c.in-Parts.child_info c.read_line-read.result.name
+    c.read_line-read.ensures.result c.in-Parts.is c.read_line-read.ensures.bytes in
+    ask_full told (Stages.bound-parts-known-told c).start.args.options
+    c.keep.new.buf
     c.is_find-find.ensures
     c.in-To.is
     c.keep.ensures
-    c.keep.kept.1.0
-    c.keep-2.last.1.0
+    c.keep.new.buf
+    c.keep-2.new.buf
     (ap not c.is_none-parent.ensures)
     c.in_default-keep-2.is
     c.keep-2.ensures
 
 pub returns : goal.returns
 returns c =
-    let read = read-before c in
-    line_taken (told read) (Stages.bound-parts-known-told read).start.args.options
-    c.keep.last.1.0
+    let told : ReadAs c.args.line.now c.in-Parts.attributes c.in-Parts.n (parent_of c.in-Parts.child_info) c.read_line-read.result.name = read_as c.args.line.now c.in-Parts.attributes c.in-Parts.n c.in-Parts.child_info c.read_line-read.result.name
+    c.read_line-read.ensures.result c.in-Parts.is c.read_line-read.ensures.bytes in
+    line_taken told (Stages.bound-parts-known-told c).start.args.options
+    c.keep.new.buf
     c.is_find-find.ensures
     c.in-To.is
     c.keep.ensures
-    c.keep.kept.1.0
-    c.keep-2.last.1.0
+    c.keep.new.buf
+    c.keep-2.new.buf
     (ap not c.is_none-parent.ensures)
     c.in-To-keep.is
     c.keep-2.ensures
-    c.keep-2.kept.1.0
+    c.keep-2.new.buf

@@ -38,8 +38,7 @@ loop-at-smaller c =
 
 pub loop-at-preserved : goal.loop-at-preserved
 loop-at-preserved c =
-    let kept = c.take_line.kept.1.1 in
-    taking_line c.loop-at.invariant c.loop-at-test.true c.next_line-end.ensures (rw c.in-All.is at c.take_line.ensures) kept.0 kept.1.0
+    taking_line c.loop-at.invariant c.loop-at-test.true c.next_line-end.ensures (rw c.in-All.is at c.take_line.ensures) c.take_line.new.found c.take_line.new.pending
 
 pub returns-in-Refused : goal.returns-in-Refused
 returns-in-Refused c =

@@ -8,45 +8,33 @@ use Rattle.collector.proofs.walk.ask_below.Goals as goal
 
 pub slice_bounds-reference-end : goal.slice_bounds-reference-end
 slice_bounds-reference-end c =
-    let below : let put = c.put_below-n in
-    let args = c.args in
-    Fronts put.last.0 put.result (name_at args.name args.pending.now ++ (slash ∷ [])) = let put = c.put_below-n in
-    let made = c.no_reference-reference in
-    put_fronts made.result put.last.0 (name_at c.args.name c.args.pending.now ++ (slash ∷ [])) put.result reference_room
-    made.ensures put.ensures
-    (simp (length-append, length-take) (omega (arith, c.requires.lies.0))) in
+    let below : let args = c.args in
+    Fronts c.put_below-n.new.buf c.put_below-n.result (name_at args.name args.pending.now ++ (slash ∷ [])) = put_fronts c.no_reference-reference.result c.put_below-n.new.buf (name_at c.args.name c.args.pending.now ++ (slash ∷ [])) c.put_below-n.result reference_room
+    c.no_reference-reference.ensures c.put_below-n.ensures
+    (simp (length-append, length-take) (omega (arith, c.requires.lies))) in
     below.inside
 
 pub slice_bounds-ask-end : goal.slice_bounds-ask-end
 slice_bounds-ask-end c =
-    let below : let put = c.put_below-n in
-    let args = c.args in
-    Fronts put.last.0 put.result (name_at args.name args.pending.now ++ (slash ∷ [])) = let put = c.put_below-n in
-    let made = c.no_reference-reference in
-    put_fronts made.result put.last.0 (name_at c.args.name c.args.pending.now ++ (slash ∷ [])) put.result reference_room
-    made.ensures put.ensures
-    (simp (length-append, length-take) (omega (arith, c.requires.lies.0))) in
+    let below : let args = c.args in
+    Fronts c.put_below-n.new.buf c.put_below-n.result (name_at args.name args.pending.now ++ (slash ∷ [])) = put_fronts c.no_reference-reference.result c.put_below-n.new.buf (name_at c.args.name c.args.pending.now ++ (slash ∷ [])) c.put_below-n.result reference_room
+    c.no_reference-reference.ensures c.put_below-n.ensures
+    (simp (length-append, length-take) (omega (arith, c.requires.lies))) in
     simp length-take (omega (arith, below.inside))
 
 pub ask-requires : goal.ask-requires
 ask-requires c =
-    let below : let put = c.put_below-n in
-    let args = c.args in
-    Fronts put.last.0 put.result (name_at args.name args.pending.now ++ (slash ∷ [])) = let put = c.put_below-n in
-    let made = c.no_reference-reference in
-    put_fronts made.result put.last.0 (name_at c.args.name c.args.pending.now ++ (slash ∷ [])) put.result reference_room
-    made.ensures put.ensures
-    (simp (length-append, length-take) (omega (arith, c.requires.lies.0))) in
-    (c.requires.reader_value, (rw below.bytes (simp (length-append, length-take) (omega (arith, c.requires.lies.0))), (c.requires.lies.1.0, c.requires.lies.1.1)))
+    let below : let args = c.args in
+    Fronts c.put_below-n.new.buf c.put_below-n.result (name_at args.name args.pending.now ++ (slash ∷ [])) = put_fronts c.no_reference-reference.result c.put_below-n.new.buf (name_at c.args.name c.args.pending.now ++ (slash ∷ [])) c.put_below-n.result reference_room
+    c.no_reference-reference.ensures c.put_below-n.ensures
+    (simp (length-append, length-take) (omega (arith, c.requires.lies))) in
+    record { reader_value = c.requires.reader_value; reference_len_bound = ((rw below.bytes (simp (length-append, length-take) (omega (arith, c.requires.lies))), (c.requires.inside, c.requires.count_in_bounds))).0; inside = ((rw below.bytes (simp (length-append, length-take) (omega (arith, c.requires.lies))), (c.requires.inside, c.requires.count_in_bounds))).1; count_in_bounds = ((rw below.bytes (simp (length-append, length-take) (omega (arith, c.requires.lies))), (c.requires.inside, c.requires.count_in_bounds))).2 }
 
 pub returns : goal.returns
 returns c =
-    let below : let put = c.put_below-n in
-    let args = c.args in
-    Fronts put.last.0 put.result (name_at args.name args.pending.now ++ (slash ∷ [])) = let put = c.put_below-n in
-    let made = c.no_reference-reference in
-    put_fronts made.result put.last.0 (name_at c.args.name c.args.pending.now ++ (slash ∷ [])) put.result reference_room
-    made.ensures put.ensures
-    (simp (length-append, length-take) (omega (arith, c.requires.lies.0))) in
+    let below : let args = c.args in
+    Fronts c.put_below-n.new.buf c.put_below-n.result (name_at args.name args.pending.now ++ (slash ∷ [])) = put_fronts c.no_reference-reference.result c.put_below-n.new.buf (name_at c.args.name c.args.pending.now ++ (slash ∷ [])) c.put_below-n.result reference_room
+    c.no_reference-reference.ensures c.put_below-n.ensures
+    (simp (length-append, length-take) (omega (arith, c.requires.lies))) in
     rw (← below.bytes)
     c.ask.ensures

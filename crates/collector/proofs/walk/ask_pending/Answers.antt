@@ -35,29 +35,31 @@ ask_below-requires c =
     let end_is : let at = c.loop-at.at in at + 1 + c.wide.result ≡ at + 1 + get_or
     c.loop-at.pending at 0 = ap (λ (n : ℕ). c.loop-at.at + 1 + n) c.wide.ensures in
     let inv = c.loop-at.invariant in
-    let more = c.loop-at-test.true in (
-      c.requires.reader_value,
-      (
+    let more = c.loop-at-test.true in record { reader_value = c.requires.reader_value; lies = ((
         name_lies inv more end_is (omega (arith, c.slice_known-in-loop-at-1.given c.loop-at.at)),
-        (record { finds = inv.holds.finds.room; asks = inv.holds.asks.room }, count_fits inv more end_is),
-      ),
-    )
+        (record { finds = c.loop-at.invariant.holds.finds.room; asks = c.loop-at.invariant.holds.asks.room }, count_fits inv more end_is),
+      )).0; inside = ((
+        name_lies inv more end_is (omega (arith, c.slice_known-in-loop-at-1.given c.loop-at.at)),
+        (record { finds = c.loop-at.invariant.holds.finds.room; asks = c.loop-at.invariant.holds.asks.room }, count_fits inv more end_is),
+      )).1; count_in_bounds = ((
+        name_lies inv more end_is (omega (arith, c.slice_known-in-loop-at-1.given c.loop-at.at)),
+        (record { finds = c.loop-at.invariant.holds.finds.room; asks = c.loop-at.invariant.holds.asks.room }, count_fits inv more end_is),
+      )).2 }
 
 pub loop-at-smaller : goal.loop-at-smaller
 loop-at-smaller c =
-    omega (arith, c.loop-at-test.true, c.loop-at.invariant.holds.asks.room, c.ask_below.kept.1.1.1.1.1.1.0)
+    omega (arith, c.loop-at-test.true, c.loop-at.invariant.holds.asks.room, c.ask_below.new.pending)
 
 pub loop-at-preserved : goal.loop-at-preserved
 loop-at-preserved c =
     let end_is : let at = c.loop-at.at in at + 1 + c.wide.result ≡ at + 1 + get_or
     c.loop-at.pending at 0 = ap (λ (n : ℕ). c.loop-at.at + 1 + n) c.wide.ensures in
-    let kept = c.ask_below.kept.1.1.1.1 in
     walking_step c.loop-at.invariant c.loop-at-test.true end_is
-    c.ask_below.last.1.1.1.1.0
+    c.ask_below.new.scratch
     (rw c.in-All.is at c.ask_below.ensures)
-    kept.0
-    kept.1.0
-    kept.1.1.0
+    c.ask_below.new.scratch
+    c.ask_below.new.found
+    c.ask_below.new.pending
 
 pub returns-in-Refused : goal.returns-in-Refused
 unfolding collected

@@ -10,37 +10,33 @@ use Rattle.collector.proofs.walk.walk_table.Goals as goal
 
 pub ask-requires : goal.ask-requires
 ask-requires c =
-    (c.requires.reader_value.0, (omega arith, (record { finds = omega arith; asks = omega arith }, omega arith)))
+    record { reader_value = c.requires.reader_value.0; reference_len_bound = ((omega arith, (record { finds = omega arith; asks = omega arith }, omega arith))).0; inside = ((omega arith, (record { finds = omega arith; asks = omega arith }, omega arith))).1; count_in_bounds = ((omega arith, (record { finds = omega arith; asks = omega arith }, omega arith))).2 }
 
 pub ask_pending-requires : goal.ask_pending-requires
 ask_pending-requires c =
-    let begins : let scratch = c.ask.last.1.1.1.1.0 in
-    let found = c.ask.last.1.1.1.1.1.0 in
-    let pending = c.ask.last.1.1.1.1.1.1.0 in
+    let begins : let scratch = c.ask.new.scratch in
+    let found = c.ask.new.found in
+    let pending = c.ask.new.pending in
     Walking (held_seen c.args.reader c.args.area.now c.args.words.now) c.args.options (length scratch) (length found)
-    (length pending) scratch found pending c.in-All.first 0 = let kept = c.ask.kept.1.1.1.1 in
-    walking_begins (held_seen c.args.reader c.args.area.now c.args.words.now) c.args.options
-    c.args.scratch.now c.requires.reader_value.1 c.requires.found_value.0 c.requires.found_value.1
-    c.ask.last.1.1.1.1.0
+    (length pending) scratch found pending c.in-All.first 0 = walking_begins (held_seen c.args.reader c.args.area.now c.args.words.now) c.args.options
+    c.args.scratch.now c.requires.reader_value.1 c.requires.found_value c.requires.pending_value
+    c.ask.new.scratch
     (rw c.in-All.is at c.ask.ensures)
-    kept.0
-    kept.1.0
-    kept.1.1.0 in
- record { reader_value = c.requires.reader_value.0; walking = begins }
+    c.ask.new.scratch
+    c.ask.new.found
+    c.ask.new.pending in
+    record { reader_value = c.requires.reader_value.0; walking = begins }
 
 pub returns-in-All : goal.returns-in-All
 returns-in-All c =
-    let kept = c.ask.kept.1.1.1.1 in
-    let first = c.ask.last.1.1.1.1 in
-    let last = c.ask_pending.last.1.1.1.1 in
-    subst (λ (w : WalkReply). Ends w last.0 last.1.0 c.ask_pending.result)
+    subst (λ (w : WalkReply). Ends w c.ask_pending.new.found c.ask_pending.new.pending c.ask_pending.result)
     (collected_long (held_seen c.args.reader c.args.area.now c.args.words.now) (byte_of c.args.options)
     c.args.scratch.now
-    c.args.found.now c.args.pending.now first.0 first.1.0 first.1.1.0 kept.0 kept.1.0 kept.1.1.0)
+    c.args.found.now c.args.pending.now c.ask.new.scratch c.ask.new.found c.ask.new.pending c.ask.new.scratch c.ask.new.found c.ask.new.pending)
     c.ask_pending.ensures
 
 pub returns-in-Refused : goal.returns-in-Refused
 returns-in-Refused c =
     walk_refused_lem (held_seen c.args.reader c.args.area.now c.args.words.now) c.args.options
-    c.args.scratch.now c.requires.reader_value.1 c.requires.found_value.0 c.requires.found_value.1
+    c.args.scratch.now c.requires.reader_value.1 c.requires.found_value c.requires.pending_value
     (rw c.in-Refused.is at c.ask.ensures)

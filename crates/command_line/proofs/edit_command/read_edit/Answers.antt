@@ -1,14 +1,7 @@
 -- `read_edit`: no name, something after the name, or the command with the name. Rests on Edits.
-use Rattle.listing_rules.proofs.Prelude.{List as Seq, ℕ, drop}
 use Rattle.command_tokens.proofs.Binds.{token_missing}
 use Rattle.command_line.proofs.Edits.{name_off, name_goes_on, name_ends, no_name, one_name}
 use Rattle.command_line.proofs.edit_command.read_edit.Goals as goal
-
-abbrev line : Stages.Start → Seq ℕ
-line s = s.args.text.now
-
-abbrev rest : Stages.Start → Seq ℕ
-rest s = drop s.args.first.at (line s)
 
 pub returns-in_default : goal.returns-in_default
 returns-in_default c =

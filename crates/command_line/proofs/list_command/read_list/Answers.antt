@@ -1,14 +1,12 @@
 -- `read_list`: part by part off the grammar, or what is kept of the parts, judged. Rests on Grammar, Refusing, Judging and Listing.
-use Rattle.listing_rules.proofs.Prelude.{◌∙◌, ap, subst, sym, Bool, ◌&&◌, List as Seq, ◌<◌, ◌^◌, ℕ, drop}
+use Rattle.listing_rules.proofs.Prelude.{◌∙◌, ap, subst, sym, ◌&&◌, List as Seq, ◌<◌, ◌^◌, ℕ, drop}
 use Rattle.listing_rules.specs.Bytes.{text}
-use Rattle.listing_rules.specs.Tokens.{got, after}
-use Rattle.listing_rules.specs.Command.{Parsed, is_some}
+use Rattle.listing_rules.specs.Tokens.{got}
 use Rattle.command_tokens.specs.Spans.{span_bytes}
 use Rattle.command_tokens.proofs.Binds.{token_missing, token_ahead, behind_nothing}
 use Rattle.command_tokens.proofs.Cuts.{lies_ahead}
 use Rattle.command_patterns.specs.Places.{kept}
 use Rattle.command_patterns.proofs.Filling.{patterns_nothing}
-use Rattle.command_line.specs.declared.reading.Word.TheVariants.{List}
 use Rattle.command_line.specs.OptionSets.{options_is}
 use Rattle.command_line.specs.Words.{worded_as}
 use Rattle.command_line.specs.Commands.{arguments_is, decided}
@@ -19,22 +17,12 @@ use Rattle.command_line.proofs.Refusing.{read_on, read_off, reference_off, refer
 use Rattle.command_line.proofs.Grammar.{after_selection, after_space, after_patterns, list_is}
 use Rattle.command_line.proofs.list_command.read_list.Goals as goal
 
-abbrev tag : Stages.Start → Seq ℕ
-tag s = span_bytes (line s) s.args.tag
-
-abbrev rest : Stages.Start → Seq ℕ
-rest s = drop s.args.first.at (line s)
-
-abbrev whole : Stages.Start → Parsed
-whole s = worded_as List (tag s) (rest s)
-
-abbrev has : Stages.Start → Bool
-has s = is_some (after (text " (") (rest s))
-
 pub returns-in_default : goal.returns-in_default
 unfolding worded_as
 returns-in_default c =
-    refuses _ 4 c.refused.ensures (list_is (tag c) (rest c) ∙ read_off 4 _
+    let tag : Seq ℕ = span_bytes (line c) c.args.tag in
+    let rest : Seq ℕ = drop c.args.first.at (line c) in
+    refuses _ 4 c.refused.ensures (list_is tag rest ∙ read_off 4 _
     (listed_broken _ c.read_selection.ensures c.in_default.is))
 
 pub returns-in_default-argument : goal.returns-in_default-argument
@@ -66,10 +54,11 @@ returns-in_default-read_returns c =
 pub returns : goal.returns
 unfolding arguments_is after_patterns got
 returns c =
+    let tag : Seq ℕ = span_bytes (line c) c.args.tag in
     let text = line c in
     let returned = listed_read _ c.read_returns.ensures c.in-Read-read_returns.is in
     let read = listed c ∙ read_on 4 _ returned in
-    answers_as c.judge.ensures (read ∙ ap (decided (tag c))
+    answers_as c.judge.ensures (read ∙ ap (decided tag)
     (λ i. record {
       known = (marks c).known && (marks-too c).known;
       set = options_is (record { bits = sym c.union.ensures i });

@@ -1,9 +1,6 @@
 -- `read_lsub`: part by part off the grammar, or 8, or the command of the parts. Rests on Lsub, Refusing and Judging.
-use Rattle.listing_rules.proofs.Prelude.{◌∙◌, ◌≡◌, sym, List as Seq, ℕ, drop}
-use Rattle.listing_rules.specs.Command.{Parsed}
-use Rattle.command_tokens.specs.Spans.{span_bytes}
+use Rattle.listing_rules.proofs.Prelude.{◌∙◌, ◌≡◌, sym}
 use Rattle.command_tokens.proofs.Binds.{token_missing, behind_nothing}
-use Rattle.command_line.specs.declared.reading.Word.TheVariants.{Lsub}
 use Rattle.command_line.specs.Words.{worded_as}
 use Rattle.command_line.specs.Commands.{meaning, meaning_as, patterns_of}
 use Rattle.command_line.proofs.Judging.{command_of, inside_lsub, refuses}
@@ -11,15 +8,6 @@ use Rattle.command_line.proofs.Refusing.{referred, reference_off, reference_alon
 use Rattle.command_line.proofs.Lsub.{one_pattern, lsub_is, pattern_off, pattern_goes_on, one_placed, one_counts, lsub_long}
 use Rattle.command_line.proofs.Lsub.{lsub_fits}
 use Rattle.command_line.proofs.lsub_command.read_lsub.Goals as goal
-
-abbrev tag : Stages.Start → Seq ℕ
-tag s = span_bytes (line s) s.args.tag
-
-abbrev rest : Stages.Start → Seq ℕ
-rest s = drop s.args.first.at (line s)
-
-abbrev whole : Stages.Start → Parsed
-whole s = worded_as Lsub (tag s) (rest s)
 
 parts : (s : Stages.Start) → whole s ≡ referred (rest s) (one_pattern (tag s))
 unfolding worded_as

@@ -7,18 +7,15 @@ use Rattle.command_line.proofs.option_list.read_option.Goals as goal
 
 pub returns-in_default : goal.returns-in_default
 unfolding written_is WrittenIn
-returns-in_default c = record { result_value = sym (option_off _ (token_missing _ c.atom.ensures.result_value c.in_default.is)); written_in = tt }
+returns-in_default c =
+    record { result_value = sym (option_off _ (token_missing _ c.atom.ensures.result_value c.in_default.is)); written_in = tt }
 
 -- no value
 pub returns-in_default-opening : goal.returns-in_default-opening
 unfolding written_is WrittenIn
 returns-in_default-opening c =
-    let atom = c.atom.ensures in
     let word = c.in-Found.is in
-    let w = bare_ahead _ _ atom.1 word in (
-      sym (option_bare _ _ _ (token_found _ atom.0 word) (behind_nothing _ c.opening.ensures.result_value c.in_default-opening.is)),
-      (w.bare, w.ahead.past, w.ahead.inside),
-    )
+    let w = bare_ahead _ _ c.atom.ensures.bare_in word in record { result_value = sym (option_bare _ _ _ (token_found _ c.atom.ensures.result_value word) (behind_nothing _ c.opening.ensures.result_value c.in_default-opening.is)); written_in = (w.bare, w.ahead.past, w.ahead.inside) }
 
 -- a value off the grammar
 pub returns-in_default-value : goal.returns-in_default-value
@@ -26,19 +23,16 @@ unfolding written_is WrittenIn
 returns-in_default-value c =
     let word = token_found _ c.atom.ensures.result_value c.in-Found.is in
     let inside = behind_at _ c.opening.ensures.result_value c.in-At.is in
- record { result_value = sym (option_broken _ _ _ word _ inside (behind_nothing _ c.value.ensures.result_value c.in_default-value.is)); written_in = tt }
+    record { result_value = sym (option_broken _ _ _ word _ inside (behind_nothing _ c.value.ensures.result_value c.in_default-value.is)); written_in = tt }
 
 -- a value
 pub returns : goal.returns
 unfolding written_is WrittenIn
 returns c =
-    let atom = c.atom.ensures in
     let word = c.in-Found.is in
-    let opening = c.opening.ensures in
     let inside = c.in-At.is in
-    let value = c.value.ensures in
     let rest = c.in-At-value.is in
-    let w = bare_ahead _ _ atom.1 word in
-    let o = behind_ahead _ _ opening.1 inside in
-    let v = behind_ahead _ _ value.1 rest in
- record { result_value = sym (option_valued _ _ _ (token_found _ atom.0 word) _ (behind_at _ opening.0 inside) _ (behind_at _ value.0 rest)); written_in = (w.bare, omega (arith, w.ahead.past), v.1) }
+    let w = bare_ahead _ _ c.atom.ensures.bare_in word in
+    let o = behind_ahead _ _ c.opening.ensures.behind_in inside in
+    let v = behind_ahead _ _ c.value.ensures.behind_in rest in
+    record { result_value = sym (option_valued _ _ _ (token_found _ c.atom.ensures.result_value word) _ (behind_at _ c.opening.ensures.result_value inside) _ (behind_at _ c.value.ensures.result_value rest)); written_in = (w.bare, omega (arith, w.ahead.past), v.1) }

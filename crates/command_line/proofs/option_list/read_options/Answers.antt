@@ -33,8 +33,8 @@ returns-in_default c =
 
 pub overflow_add-result-then-b-eq41 : goal.overflow_add-result-then-b-eq41
 overflow_add-result-then-b-eq41 c =
-    let line : List ℕ = c.args.text.now in
     let to : ℕ = c.in-Word.next.at in
+    let line : List ℕ = c.args.text.now in
     let further : 0 < c.byte_at-b.result → to < length line = λ h. inside line _ (omega (arith, c.byte_at-b.ensures)) in
     omega (arith, further (omega arith))
 
@@ -50,13 +50,13 @@ returns-then-b-eq41 c =
     let read : option (drop c.loop-word.at line) ≡ some (got opt (drop to line)) = written_word _ c.read_option.ensures.result_value c.in-Word.is in
     let ahead : (c.in-Word.word.quoted ≡ false) ×
     (c.loop-word.at < to) × (to ≤ length line) = written_ahead _ _ c.read_option.ensures.written_in c.in-Word.is in
-    let place : Place = c.args.place in
-    let before : Marks = record { set = c.loop-word.set.bits; known = c.loop-word.known } in
     let with : Marks = record {
       set = c.union-set.result.bits;
       known = c.loop-word.known && not valued && not (eqb c.member-member.result.bits 0);
     } in
+    let place : Place = c.args.place in
     let member_is : c.member-member.result.bits ≡ member_of place word = c.member-member.ensures ∙ ap (member_of place) (c.raw.ensures ∙ sym (bare_bytes _ _ ahead.0)) in
+    let before : Marks = record { set = c.loop-word.set.bits; known = c.loop-word.known } in
     let kept : with ≡ marking place before opt = marking_is place before valued word _ _ member_is c.union-set.ensures in
     let last = parting_close option _ _ _ _ c.loop-word.invariant opt to
     read ahead.1 ahead.2 (sym c.byte_at-b.ensures ∙ c.if-b-eq41.true) in
@@ -80,15 +80,15 @@ returns-then-b-ne32 c =
 
 pub overflow_add-at : goal.overflow_add-at
 overflow_add-at c =
-    let line : List ℕ = c.args.text.now in
     let to : ℕ = c.in-Word.next.at in
+    let line : List ℕ = c.args.text.now in
     let further : 0 < c.byte_at-b.result → to < length line = λ h. inside line _ (omega (arith, c.byte_at-b.ensures)) in
     omega (arith, further (omega arith))
 
 pub loop-word-smaller : goal.loop-word-smaller
 loop-word-smaller c =
-    let line : List ℕ = c.args.text.now in
     let to : ℕ = c.in-Word.next.at in
+    let line : List ℕ = c.args.text.now in
     let ahead : (c.in-Word.word.quoted ≡ false) ×
     (c.loop-word.at < to) × (to ≤ length line) = written_ahead _ _ c.read_option.ensures.written_in c.in-Word.is in
     let further : 0 < c.byte_at-b.result → to < length line = λ h. inside line _ (omega (arith, c.byte_at-b.ensures)) in

@@ -12,38 +12,37 @@ use Rattle.command_line.proofs.Returning.{at_end, after_return, after_space, emp
 use Rattle.command_line.proofs.Returning.{word_other, at_end_lem, not_at_end, no_end}
 use Rattle.command_line.proofs.option_list.read_returns.Goals as goal
 
-abbrev line : Stages.Start → List ℕ
-line s = s.args.text.now
-
--- what the line gives
-abbrev whole : Stages.Start → Option (Got Marks)
-whole s = marks_of Return (ended (return_part (drop s.args.here.at (line s))))
-
 -- the line ends
 pub returns-then-text-here : goal.returns-then-text-here
 unfolding listed_is got
 returns-then-text-here c =
-    ap (λ (x : List ℕ). some (got no_marks x)) (drop_of_length-le (line c) c.if-text-here.true) ∙ sym (return_none (line c) _ c.if-text-here.true)
+    let line : List ℕ = c.args.text.now in
+    ap (λ (x : List ℕ). some (got no_marks x)) (drop_of_length-le line c.if-text-here.true) ∙ sym (return_none line _ c.if-text-here.true)
 
 pub returns-in_default : goal.returns-in_default
 unfolding listed_is
 returns-in_default c =
-    sym (return_is (line c) _ c.if-text-here.false ∙ bind_none _ (behind_nothing _ c.space.ensures.result_value c.in_default.is))
+    let line : List ℕ = c.args.text.now in
+    sym (return_is line _ c.if-text-here.false ∙ bind_none _ (behind_nothing _ c.space.ensures.result_value c.in_default.is))
 
 pub returns-in_default-atom : goal.returns-in_default-atom
 unfolding listed_is after_space
 returns-in_default-atom c =
-    let spaced : whole c ≡ after_space (drop c.in-At.next.at (line c)) = return_is (line c) _ c.if-text-here.false ∙ bind_go _ (behind_at _ c.space.ensures.result_value c.in-At.is) in
+    let line : List ℕ = c.args.text.now in
+    let whole : Option (Got Marks) = marks_of Return (ended (return_part (drop c.args.here.at line))) in
+    let spaced : whole ≡ after_space (drop c.in-At.next.at line) = return_is line _ c.if-text-here.false ∙ bind_go _ (behind_at _ c.space.ensures.result_value c.in-At.is) in
     sym (spaced ∙ bind_none _ (token_missing _ c.atom.ensures.result_value c.in_default-atom.is))
 
 -- another word
 pub returns-then-not-spells_word : goal.returns-then-not-spells_word
 unfolding listed_is after_return
 returns-then-not-spells_word c =
-    let word : List ℕ = span_bytes (line c) c.in-Found.word in
-    let spaced : whole c ≡ after_space (drop c.in-At.next.at (line c)) = return_is (line c) _ c.if-text-here.false ∙ bind_go _ (behind_at _ c.space.ensures.result_value c.in-At.is) in
-    let rest : List ℕ = drop c.in-Found.rest.at (line c) in
-    let worded : whole c ≡ after_return (got word rest) = unfold after_space in spaced ∙ bind_go _ (token_found _ c.atom.ensures.result_value c.in-Found.is) in
+    let line : List ℕ = c.args.text.now in
+    let whole : Option (Got Marks) = marks_of Return (ended (return_part (drop c.args.here.at line))) in
+    let spaced : whole ≡ after_space (drop c.in-At.next.at line) = return_is line _ c.if-text-here.false ∙ bind_go _ (behind_at _ c.space.ensures.result_value c.in-At.is) in
+    let rest : List ℕ = drop c.in-Found.rest.at line in
+    let word : List ℕ = span_bytes line c.in-Found.word in
+    let worded : whole ≡ after_return (got word rest) = unfold after_space in spaced ∙ bind_go _ (token_found _ c.atom.ensures.result_value c.in-Found.is) in
     let spelled : spells word (text "RETURN") ≡ c.spells_word.result = unfold text in let bare = (bare_ahead _ _ c.atom.ensures.bare_in c.in-Found.is).bare in
     ap (λ (x : List ℕ). spells x (text "RETURN")) (bare_bytes _ _ bare ∙ sym c.raw.ensures) ∙ sym c.spells_word.ensures in
     sym (worded ∙ bind_none _ (word_other _ _ (spelled ∙ c.if-not-spells_word.true)))
@@ -52,10 +51,12 @@ returns-then-not-spells_word c =
 pub returns-in_default-opening : goal.returns-in_default-opening
 unfolding listed_is after_return
 returns-in_default-opening c =
-    let word : List ℕ = span_bytes (line c) c.in-Found.word in
-    let spaced : whole c ≡ after_space (drop c.in-At.next.at (line c)) = return_is (line c) _ c.if-text-here.false ∙ bind_go _ (behind_at _ c.space.ensures.result_value c.in-At.is) in
-    let rest : List ℕ = drop c.in-Found.rest.at (line c) in
-    let worded : whole c ≡ after_return (got word rest) = unfold after_space in spaced ∙ bind_go _ (token_found _ c.atom.ensures.result_value c.in-Found.is) in
+    let line : List ℕ = c.args.text.now in
+    let whole : Option (Got Marks) = marks_of Return (ended (return_part (drop c.args.here.at line))) in
+    let spaced : whole ≡ after_space (drop c.in-At.next.at line) = return_is line _ c.if-text-here.false ∙ bind_go _ (behind_at _ c.space.ensures.result_value c.in-At.is) in
+    let rest : List ℕ = drop c.in-Found.rest.at line in
+    let word : List ℕ = span_bytes line c.in-Found.word in
+    let worded : whole ≡ after_return (got word rest) = unfold after_space in spaced ∙ bind_go _ (token_found _ c.atom.ensures.result_value c.in-Found.is) in
     let spelled : spells word (text "RETURN") ≡ c.spells_word.result = unfold text in let bare = (bare_ahead _ _ c.atom.ensures.bare_in c.in-Found.is).bare in
     ap (λ (x : List ℕ). spells x (text "RETURN")) (bare_bytes _ _ bare ∙ sym c.raw.ensures) ∙ sym c.spells_word.ensures in
     sym (worded ∙ bind_none _ (word_return _ _ _ (spelled ∙ c.if-not-spells_word.false)
@@ -65,13 +66,15 @@ returns-in_default-opening c =
 pub returns-in_default-read_options : goal.returns-in_default-read_options
 unfolding listed_is
 returns-in_default-read_options c =
-    let word : List ℕ = span_bytes (line c) c.in-Found.word in
-    let spaced : whole c ≡ after_space (drop c.in-At.next.at (line c)) = return_is (line c) _ c.if-text-here.false ∙ bind_go _ (behind_at _ c.space.ensures.result_value c.in-At.is) in
-    let rest : List ℕ = drop c.in-Found.rest.at (line c) in
-    let worded : whole c ≡ after_return (got word rest) = unfold after_space in spaced ∙ bind_go _ (token_found _ c.atom.ensures.result_value c.in-Found.is) in
+    let line : List ℕ = c.args.text.now in
+    let whole : Option (Got Marks) = marks_of Return (ended (return_part (drop c.args.here.at line))) in
+    let spaced : whole ≡ after_space (drop c.in-At.next.at line) = return_is line _ c.if-text-here.false ∙ bind_go _ (behind_at _ c.space.ensures.result_value c.in-At.is) in
+    let rest : List ℕ = drop c.in-Found.rest.at line in
+    let word : List ℕ = span_bytes line c.in-Found.word in
+    let worded : whole ≡ after_return (got word rest) = unfold after_space in spaced ∙ bind_go _ (token_found _ c.atom.ensures.result_value c.in-Found.is) in
     let spelled : spells word (text "RETURN") ≡ c.spells_word.result = unfold text in let bare = (bare_ahead _ _ c.atom.ensures.bare_in c.in-Found.is).bare in
     ap (λ (x : List ℕ). spells x (text "RETURN")) (bare_bytes _ _ bare ∙ sym c.raw.ensures) ∙ sym c.spells_word.ensures in
-    let inside : whole c ≡ at_end (marks_of Return (options (drop c.in-At-opening.inside.at (line c)))) = unfold after_return in worded ∙ bind_go _ (word_return _ _ _
+    let inside : whole ≡ at_end (marks_of Return (options (drop c.in-At-opening.inside.at line))) = unfold after_return in worded ∙ bind_go _ (word_return _ _ _
     (spelled ∙ c.if-not-spells_word.false)
     (behind_at _ c.opening.ensures.result_value c.in-At-opening.is)) in
     sym (inside ∙ no_end (listed_broken _ c.read_options.ensures c.in_default-read_options.is))
@@ -80,33 +83,37 @@ returns-in_default-read_options c =
 pub returns-then-last-text : goal.returns-then-last-text
 unfolding listed_is
 returns-then-last-text c =
-    let word : List ℕ = span_bytes (line c) c.in-Found.word in
-    let spaced : whole c ≡ after_space (drop c.in-At.next.at (line c)) = return_is (line c) _ c.if-text-here.false ∙ bind_go _ (behind_at _ c.space.ensures.result_value c.in-At.is) in
-    let rest : List ℕ = drop c.in-Found.rest.at (line c) in
-    let worded : whole c ≡ after_return (got word rest) = unfold after_space in spaced ∙ bind_go _ (token_found _ c.atom.ensures.result_value c.in-Found.is) in
+    let line : List ℕ = c.args.text.now in
+    let whole : Option (Got Marks) = marks_of Return (ended (return_part (drop c.args.here.at line))) in
+    let spaced : whole ≡ after_space (drop c.in-At.next.at line) = return_is line _ c.if-text-here.false ∙ bind_go _ (behind_at _ c.space.ensures.result_value c.in-At.is) in
+    let rest : List ℕ = drop c.in-Found.rest.at line in
+    let word : List ℕ = span_bytes line c.in-Found.word in
+    let worded : whole ≡ after_return (got word rest) = unfold after_space in spaced ∙ bind_go _ (token_found _ c.atom.ensures.result_value c.in-Found.is) in
     let spelled : spells word (text "RETURN") ≡ c.spells_word.result = unfold text in let bare = (bare_ahead _ _ c.atom.ensures.bare_in c.in-Found.is).bare in
     ap (λ (x : List ℕ). spells x (text "RETURN")) (bare_bytes _ _ bare ∙ sym c.raw.ensures) ∙ sym c.spells_word.ensures in
-    let inside : whole c ≡ at_end (marks_of Return (options (drop c.in-At-opening.inside.at (line c)))) = unfold after_return in worded ∙ bind_go _ (word_return _ _ _
+    let inside : whole ≡ at_end (marks_of Return (options (drop c.in-At-opening.inside.at line))) = unfold after_return in worded ∙ bind_go _ (word_return _ _ _
     (spelled ∙ c.if-not-spells_word.false)
     (behind_at _ c.opening.ensures.result_value c.in-At-opening.is)) in
     let list = listed_read _ c.read_options.ensures c.in-Read.is in
-    sym (inside ∙ not_at_end _ _ list (empty_not (line c) _ c.if-last-text.true))
+    sym (inside ∙ not_at_end _ _ list (empty_not line _ c.if-last-text.true))
 
 -- the line ends with the list
 pub returns : goal.returns
 unfolding listed_is got
 returns c =
-    let word : List ℕ = span_bytes (line c) c.in-Found.word in
-    let spaced : whole c ≡ after_space (drop c.in-At.next.at (line c)) = return_is (line c) _ c.if-text-here.false ∙ bind_go _ (behind_at _ c.space.ensures.result_value c.in-At.is) in
-    let rest : List ℕ = drop c.in-Found.rest.at (line c) in
-    let worded : whole c ≡ after_return (got word rest) = unfold after_space in spaced ∙ bind_go _ (token_found _ c.atom.ensures.result_value c.in-Found.is) in
+    let line : List ℕ = c.args.text.now in
+    let whole : Option (Got Marks) = marks_of Return (ended (return_part (drop c.args.here.at line))) in
+    let spaced : whole ≡ after_space (drop c.in-At.next.at line) = return_is line _ c.if-text-here.false ∙ bind_go _ (behind_at _ c.space.ensures.result_value c.in-At.is) in
+    let rest : List ℕ = drop c.in-Found.rest.at line in
+    let word : List ℕ = span_bytes line c.in-Found.word in
+    let worded : whole ≡ after_return (got word rest) = unfold after_space in spaced ∙ bind_go _ (token_found _ c.atom.ensures.result_value c.in-Found.is) in
     let spelled : spells word (text "RETURN") ≡ c.spells_word.result = unfold text in let bare = (bare_ahead _ _ c.atom.ensures.bare_in c.in-Found.is).bare in
     ap (λ (x : List ℕ). spells x (text "RETURN")) (bare_bytes _ _ bare ∙ sym c.raw.ensures) ∙ sym c.spells_word.ensures in
-    let inside : whole c ≡ at_end (marks_of Return (options (drop c.in-At-opening.inside.at (line c)))) = unfold after_return in worded ∙ bind_go _ (word_return _ _ _
+    let inside : whole ≡ at_end (marks_of Return (options (drop c.in-At-opening.inside.at line))) = unfold after_return in worded ∙ bind_go _ (word_return _ _ _
     (spelled ∙ c.if-not-spells_word.false)
     (behind_at _ c.opening.ensures.result_value c.in-At-opening.is)) in
     let list = listed_read _ c.read_options.ensures c.in-Read.is in
     let end = c.in-Read.last.at in
     let marks : Marks = record { set = c.in-Read.set.bits; known = c.in-Read.known } in
-    ap (λ (x : List ℕ). some (got marks x)) (drop_of_length-le (line c) c.if-last-text.false) ∙ sym
-    (inside ∙ at_end_lem _ _ list (empty_out (line c) end c.if-last-text.false))
+    ap (λ (x : List ℕ). some (got marks x)) (drop_of_length-le line c.if-last-text.false) ∙ sym
+    (inside ∙ at_end_lem _ _ list (empty_out line end c.if-last-text.false))

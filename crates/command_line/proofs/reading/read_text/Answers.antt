@@ -6,17 +6,16 @@ use Rattle.command_line.proofs.Edits.{asks_subscribe, asks_unsubscribe}
 use Rattle.command_line.proofs.Wording.{tag_off, space_off, word_off, other_word}
 use Rattle.command_line.proofs.reading.read_text.Goals as goal
 
-abbrev line : Stages.Start → Seq ℕ
-line s = s.args.text.now
-
 pub returns-in_default : goal.returns-in_default
 returns-in_default c =
-    refuses _ 4 c.refused.ensures (tag_off (line c) (token_missing _ c.tag.ensures.result_value c.in_default.is))
+    let line : Seq ℕ = c.args.text.now in
+    refuses _ 4 c.refused.ensures (tag_off line (token_missing _ c.tag.ensures.result_value c.in_default.is))
 
 pub returns-in_default-space : goal.returns-in_default-space
 returns-in_default-space c =
+    let line : Seq ℕ = c.args.text.now in
     refuses _ 4 c.refused-in_default-space.ensures
-    (space_off (line c) (tag c) (end c) (read-tag c)
+    (space_off line (tag c) (end c) (read-tag c)
     (behind_nothing _ c.space.ensures.result_value c.in_default-space.is))
 
 pub returns-in_default-atom : goal.returns-in_default-atom

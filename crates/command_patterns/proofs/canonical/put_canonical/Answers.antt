@@ -13,5 +13,5 @@ returns c =
     let tail = c.span_len-tail.ensures in
     let size : c.length_byte.result ≡ length (reference ++ pattern) % 256 = c.length_byte.ensures ∙ rw
     (head, tail) (ap (λ (x : ℕ). x % 256) (sym (length-append reference pattern))) in
-    subst (λ (x : ℕ). Put c.args.buf.now c.put_span.last.0 c.args.at (x ∷ (reference ++ pattern)) c.put_span.result) size
+    subst (λ (x : ℕ). Put c.args.buf.now c.put_span.new.buf c.args.at (x ∷ (reference ++ pattern)) c.put_span.result) size
     (put_then (put_then c.put-first.ensures c.put_span-second.ensures) c.put_span.ensures)

@@ -14,24 +14,21 @@ loop-i-init c = (omega arith, packing_none _ _ (search rules))
 pub loop-i-preserved-then-span_len-eq0 : goal.loop-i-preserved-then-span_len-eq0
 loop-i-preserved-then-span_len-eq0 c =
     let size : length c.args.patterns.spans ≡ 8 = simp length-map at c.requires.1.1.0.1.1.0.1.0.1 in
-    let loop = c.loop-i in
     let line = c.args.line.now in
-    (omega arith, packing_same _ _ _ _ _ loop.invariant.1 (from_skip line _ _ size loop.i (omega arith) (sym c.span_len.ensures ∙ c.if-span_len-eq0.true)))
+    (omega arith, packing_same _ _ _ _ _ c.loop-i.invariant.1 (from_skip line _ _ size c.loop-i.i (omega arith) (sym c.span_len.ensures ∙ c.if-span_len-eq0.true)))
 
 -- any other one
 pub loop-i-preserved : goal.loop-i-preserved
 loop-i-preserved c =
     let size : length c.args.patterns.spans ≡ 8 = simp length-map at c.requires.1.1.0.1.1.0.1.0.1 in
-    let loop = c.loop-i in
     let line = c.args.line.now in
     let reference = span_bytes line _ in (
       omega (arith, c.loop-i-test.true),
-      packing_more _ _ _ _ _ loop.invariant.1 _ _ (from_keep line reference _ size loop.i (omega (arith, c.loop-i-test.true, c.placed-n.ensures))
+      packing_more _ _ _ _ _ c.loop-i.invariant.1 _ _ (from_keep line reference _ size c.loop-i.i (omega (arith, c.loop-i-test.true, c.placed-n.ensures))
           (λ e. c.if-span_len-eq0.false (c.span_len.ensures ∙ e))) c.put_canonical-to.ensures,
     )
 
 pub returns : goal.returns
 returns c =
     let size : length c.args.patterns.spans ≡ 8 = simp length-map at c.requires.1.1.0.1.1.0.1.0.1 in
-    let loop = c.loop-i in
-    packing_all _ _ _ _ _ loop.invariant.1 (from_out c.args.line.now _ _ size loop.i (omega arith))
+    packing_all _ _ _ _ _ c.loop-i.invariant.1 (from_out c.args.line.now _ _ size c.loop-i.i (omega arith))

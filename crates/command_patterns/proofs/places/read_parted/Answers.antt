@@ -25,8 +25,7 @@ loop-span-init c = ([], rw c.none-found.ensures (filled_none _), parting_first p
 pub returns-in_default : goal.returns-in_default
 unfolding patterns_is behind_is ◌>>=◌
 returns-in_default c =
-    let inv = c.loop-span.invariant in
- record { result_value = sym (parting_off pattern _ _ _ _ inv.2 (token_missing _ c.pattern.ensures.result_value c.in_default.is)); placed = placed_filled _ _ _ inv.1 }
+    record { result_value = sym (parting_off pattern _ _ _ _ c.loop-span.invariant.2 (token_missing _ c.pattern.ensures.result_value c.in_default.is)); placed = placed_filled _ _ _ c.loop-span.invariant.1 }
 
 -- a pattern and the closing parenthesis
 pub returns-then-b-eq41 : goal.returns-then-b-eq41
@@ -40,9 +39,8 @@ returns-then-b-eq41 c =
     c.in-Found.next = token_ahead _ _ c.pattern.ensures.token_in c.in-Found.is in
     let more : Filled line c.with-found.result (c.loop-span.invariant.0 ++ (bytes ∷ [])) = subst (λ (p : Patterns). Filled line p (c.loop-span.invariant.0 ++ (bytes ∷ []))) (sym c.with-found.ensures)
     (filled_with _ _ _ _ c.loop-span.invariant.1 (lies_ahead _ _ _ _ ahead)) in
-    let inv = c.loop-span.invariant in
-    let last = parting_close pattern _ _ _ _ inv.2 bytes to read ahead.past ahead.inside (sym c.byte_at-b.ensures ∙ c.if-b-eq41.true) in
- record { result_value = ap (λ (x : Option (List (List ℕ))). some (got x (drop (to + 1) line))) (kept_filled _ _ _ more) ∙ sym last; placed = placed_filled _ _ _ more }
+    let last = parting_close pattern _ _ _ _ c.loop-span.invariant.2 bytes to read ahead.past ahead.inside (sym c.byte_at-b.ensures ∙ c.if-b-eq41.true) in
+    record { result_value = ap (λ (x : Option (List (List ℕ))). some (got x (drop (to + 1) line))) (kept_filled _ _ _ more) ∙ sym last; placed = placed_filled _ _ _ more }
 
 -- a pattern and another byte
 pub returns-then-b-ne32 : goal.returns-then-b-ne32
@@ -56,23 +54,20 @@ returns-then-b-ne32 c =
     c.in-Found.next = token_ahead _ _ c.pattern.ensures.token_in c.in-Found.is in
     let more : Filled line c.with-found.result (c.loop-span.invariant.0 ++ (bytes ∷ [])) = subst (λ (p : Patterns). Filled line p (c.loop-span.invariant.0 ++ (bytes ∷ []))) (sym c.with-found.ensures)
     (filled_with _ _ _ _ c.loop-span.invariant.1 (lies_ahead _ _ _ _ ahead)) in
-    let byte = c.byte_at-b.ensures in (
-      sym (parting_other pattern _ _ _ _ c.loop-span.invariant.2 bytes to read
-          ahead.past ahead.inside (λ e. c.if-b-eq41.false (byte ∙ e)) (λ e. c.if-b-ne32.true (byte ∙ e))),
-      placed_filled _ _ _ more,
-    )
+    let byte = c.byte_at-b.ensures in record { result_value = sym (parting_other pattern _ _ _ _ c.loop-span.invariant.2 bytes to read
+          ahead.past ahead.inside (λ e. c.if-b-eq41.false (byte ∙ e)) (λ e. c.if-b-ne32.true (byte ∙ e))); placed = placed_filled _ _ _ more }
 
 pub overflow_add-result : goal.overflow_add-result
 overflow_add-result c =
-    let to : ℕ = c.in-Found.next.at in
     let line : List ℕ = c.args.text.now in
+    let to : ℕ = c.in-Found.next.at in
     let further : 0 < c.byte_at-b.result → to < length line = λ h. inside line _ (omega (arith, c.byte_at-b.ensures)) in
     omega (arith, further (omega arith))
 
 pub overflow_add-at : goal.overflow_add-at
 overflow_add-at c =
-    let to : ℕ = c.in-Found.next.at in
     let line : List ℕ = c.args.text.now in
+    let to : ℕ = c.in-Found.next.at in
     let further : 0 < c.byte_at-b.result → to < length line = λ h. inside line _ (omega (arith, c.byte_at-b.ensures)) in
     omega (arith, further (omega arith))
 
@@ -96,9 +91,9 @@ loop-span-preserved c =
     c.in-Found.next = token_ahead _ _ c.pattern.ensures.token_in c.in-Found.is in
     let more : Filled line c.with-found.result (c.loop-span.invariant.0 ++ (bytes ∷ [])) = subst (λ (p : Patterns). Filled line p (c.loop-span.invariant.0 ++ (bytes ∷ []))) (sym c.with-found.ensures)
     (filled_with _ _ _ _ c.loop-span.invariant.1 (lies_ahead _ _ _ _ ahead)) in
-    let inv = c.loop-span.invariant in (
-      inv.0 ++ (bytes ∷ []),
+    (
+      c.loop-span.invariant.0 ++ (bytes ∷ []),
       more,
-      parting_space pattern _ _ _ _ _ inv.2 bytes to read ahead.past ahead.inside
+      parting_space pattern _ _ _ _ _ c.loop-span.invariant.2 bytes to read ahead.past ahead.inside
           (sym c.byte_at-b.ensures ∙ c.if-b-ne32.false) (join_more _ bytes),
     )

@@ -7,11 +7,11 @@ use Rattle.command_tokens.proofs.Cursor.argument.Goals as goal
 
 pub returns-in_default : goal.returns-in_default
 unfolding token_is TokenIn argument
-returns-in_default c = record { result_value = sym (bind_none _ (behind_nothing _ c.space.ensures.result_value c.in_default.is)); token_in = tt }
+returns-in_default c =
+    record { result_value = sym (bind_none _ (behind_nothing _ c.space.ensures.result_value c.in_default.is)); token_in = tt }
 
 pub returns : goal.returns
 unfolding argument
 returns c =
-    let space = c.space.ensures in
     let next = c.in-At.is in
- record { result_value = c.astring.ensures.result_value ∙ sym (bind_go _ (behind_at _ space.0 next)); token_in = token_later _ _ _ _ (behind_ahead _ _ space.1 next).0 c.astring.ensures.token_in }
+    record { result_value = c.astring.ensures.result_value ∙ sym (bind_go _ (behind_at _ c.space.ensures.result_value next)); token_in = token_later _ _ _ _ (behind_ahead _ _ c.space.ensures.behind_in next).0 c.astring.ensures.token_in }

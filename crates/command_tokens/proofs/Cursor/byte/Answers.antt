@@ -10,8 +10,10 @@ returns-then-text-at c = record { result_value = sym (after_out _ _ _ c.if-text-
 
 pub returns-then-text-at-2 : goal.returns-then-text-at-2
 unfolding behind_is BehindIn
-returns-then-text-at-2 c = record { result_value = sym (after_yes _ _ _ c.if-text-at.false c.if-text-at-2.true); behind_in = (omega arith, omega arith) }
+returns-then-text-at-2 c =
+    record { result_value = sym (after_yes _ _ _ c.if-text-at.false c.if-text-at-2.true); behind_in = (omega arith, omega arith) }
 
 pub returns : goal.returns
 unfolding behind_is BehindIn
-returns c = record { result_value = sym (after_no _ _ _ c.if-text-at.false c.if-text-at-2.false); behind_in = tt }
+returns c =
+    record { result_value = sym (after_no _ _ _ c.if-text-at.false c.if-text-at-2.false); behind_in = tt }

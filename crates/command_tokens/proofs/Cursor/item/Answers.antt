@@ -8,10 +8,11 @@ use Rattle.command_tokens.proofs.Cursor.item.Goals as goal
 
 pub returns-in_default : goal.returns-in_default
 unfolding behind_is BehindIn string_item
-returns-in_default c = record { result_value = sym (bind_none _ (token_missing _ c.astring.ensures.result_value c.in_default.is)); behind_in = tt }
+returns-in_default c =
+    record { result_value = sym (bind_none _ (token_missing _ c.astring.ensures.result_value c.in_default.is)); behind_in = tt }
 
 pub returns : goal.returns
 unfolding behind_is BehindIn string_item got
 returns c =
     let a = token_ahead _ _ c.astring.ensures.token_in c.in-Found.is in
- record { result_value = sym (bind_go _ (token_found _ c.astring.ensures.result_value c.in-Found.is)); behind_in = (a.past, a.inside) }
+    record { result_value = sym (bind_go _ (token_found _ c.astring.ensures.result_value c.in-Found.is)); behind_in = (a.past, a.inside) }

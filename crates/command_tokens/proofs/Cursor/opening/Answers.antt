@@ -8,12 +8,10 @@ use Rattle.command_tokens.proofs.Cursor.opening.Goals as goal
 
 pub returns-in_default : goal.returns-in_default
 unfolding text behind_is BehindIn
-returns-in_default c = record { result_value = sym (after_then 32 (40 ∷ []) _ ∙ bind_none _ (behind_nothing _ c.byte.ensures.result_value c.in_default.is)); behind_in = tt }
+returns-in_default c =
+    record { result_value = sym (after_then 32 (40 ∷ []) _ ∙ bind_none _ (behind_nothing _ c.byte.ensures.result_value c.in_default.is)); behind_in = tt }
 
 pub returns : goal.returns
 unfolding text
 returns c =
-    (
-      c.byte-2.ensures.result_value ∙ sym (after_then 32 (40 ∷ []) _ ∙ bind_go _ (behind_at _ c.byte.ensures.result_value c.in-At.is)),
-      behind_later _ _ _ _ (behind_ahead _ _ c.byte.ensures.behind_in c.in-At.is).0 c.byte-2.ensures.behind_in,
-    )
+    record { result_value = c.byte-2.ensures.result_value ∙ sym (after_then 32 (40 ∷ []) _ ∙ bind_go _ (behind_at _ c.byte.ensures.result_value c.in-At.is)); behind_in = behind_later _ _ _ _ (behind_ahead _ _ c.byte.ensures.behind_in c.in-At.is).0 c.byte-2.ensures.behind_in }

@@ -11,14 +11,12 @@ loop-i-init c = (omega arith, refl)
 pub returns-in-End : goal.returns-in-End
 unfolding TokenIn
 returns-in-End c =
-    (
-      ap (token_is _) (sym (quoted_end _ _ _ _ (omega arith) (sym c.quoted_step.ensures ∙ c.in-End.is)) ∙ c.loop-i.invariant.1) ∙ closed_is _ _,
-      record { order = omega arith; within = omega arith; past = omega arith; inside = omega arith },
-    )
+    record { result_value = ap (token_is _) (sym (quoted_end _ _ _ _ (omega arith) (sym c.quoted_step.ensures ∙ c.in-End.is)) ∙ c.loop-i.invariant.1) ∙ closed_is _ _; token_in = record { order = omega arith; within = omega arith; past = omega arith; inside = omega arith } }
 
 pub returns-in-Bad : goal.returns-in-Bad
 unfolding TokenIn
-returns-in-Bad c = record { result_value = ap (token_is _) (sym (quoted_bad _ _ _ _ (omega arith) (sym c.quoted_step.ensures ∙ c.in-Bad.is)) ∙ c.loop-i.invariant.1) ∙ closed_is _ _; token_in = tt }
+returns-in-Bad c =
+    record { result_value = ap (token_is _) (sym (quoted_bad _ _ _ _ (omega arith) (sym c.quoted_step.ensures ∙ c.in-Bad.is)) ∙ c.loop-i.invariant.1) ∙ closed_is _ _; token_in = tt }
 
 pub loop-i-preserved : goal.loop-i-preserved
 loop-i-preserved c =
@@ -26,4 +24,5 @@ loop-i-preserved c =
 
 pub returns : goal.returns
 unfolding TokenIn
-returns c = record { result_value = ap (token_is _) (sym (quoted_out _ _ _ _ c.loop-i-test.false) ∙ c.loop-i.invariant.1) ∙ closed_is _ _; token_in = tt }
+returns c =
+    record { result_value = ap (token_is _) (sym (quoted_out _ _ _ _ c.loop-i-test.false) ∙ c.loop-i.invariant.1) ∙ closed_is _ _; token_in = tt }

@@ -19,13 +19,11 @@ unfolding token_is BareIn
 returns-then-i-at c =
     let ended : run_end (class_byte c.args.class) c.args.text.now c.args.self.at ≡ c.loop-i.i = sym c.loop-i.invariant.2
     ∙ ⊎_elim (λ w. run_out _ _ _ w.false) (λ w. run_stop _ _ _ w.0.true (sym w.2.ensures ∙ not-true _ w.3.true)) c.loop-i-test.branch in
- record { result_value = sym (run_missing _ _ _ (ended ∙ c.if-i-at.true)); bare_in = tt }
+    record { result_value = sym (run_missing _ _ _ (ended ∙ c.if-i-at.true)); bare_in = tt }
 
 pub returns : goal.returns
 unfolding token_is span_bytes BareIn
 returns c =
     let ended : run_end (class_byte c.args.class) c.args.text.now c.args.self.at ≡ c.loop-i.i = sym c.loop-i.invariant.2
     ∙ ⊎_elim (λ w. run_out _ _ _ w.false) (λ w. run_stop _ _ _ w.0.true (sym w.2.ensures ∙ not-true _ w.3.true)) c.loop-i-test.branch in
-    (
-  sym (run_found _ _ _ _ ended (omega arith)),
-  record { bare = refl; front = refl; ahead = record { order = omega arith; within = omega arith; past = omega arith; inside = omega arith } },
+    record { result_value = sym (run_found _ _ _ _ ended (omega arith)); bare_in = record { bare = refl; front = refl; ahead = record { order = omega arith; within = omega arith; past = omega arith; inside = omega arith } } }

@@ -10,10 +10,7 @@ overflow_add-inside c =
 
 pub returns-then-b-eq-QUOTE : goal.returns-then-b-eq-QUOTE
 returns-then-b-eq-QUOTE c =
-    (
-      c.quoted.ensures.result_value ∙ sym (string_quoted _ _ c.args.self.at (sym c.byte_at-b.ensures ∙ c.if-b-eq-QUOTE.true)),
-      token_later _ _ _ _ (omega arith) c.quoted.ensures.token_in,
-    )
+    record { result_value = c.quoted.ensures.result_value ∙ sym (string_quoted _ _ c.args.self.at (sym c.byte_at-b.ensures ∙ c.if-b-eq-QUOTE.true)); token_in = token_later _ _ _ _ (omega arith) c.quoted.ensures.token_in }
 
 pub overflow_add-header : goal.overflow_add-header
 overflow_add-header c =
@@ -21,15 +18,9 @@ overflow_add-header c =
 
 pub returns-then-b-eq123 : goal.returns-then-b-eq123
 returns-then-b-eq123 c =
-    (
-      c.literal.ensures.result_value ∙ sym (string_literal _ _ c.args.self.at (sym c.byte_at-b.ensures ∙ c.if-b-eq123.true)),
-      token_later _ _ _ _ (omega arith) c.literal.ensures.token_in,
-    )
+    record { result_value = c.literal.ensures.result_value ∙ sym (string_literal _ _ c.args.self.at (sym c.byte_at-b.ensures ∙ c.if-b-eq123.true)); token_in = token_later _ _ _ _ (omega arith) c.literal.ensures.token_in }
 
 pub returns : goal.returns
 returns c =
-    (
-      c.run.ensures.result_value ∙ sym (string_bare _ _ c.args.self.at (λ e. c.if-b-eq-QUOTE.false (c.byte_at-b.ensures ∙ e))
-          (λ e. c.if-b-eq123.false (c.byte_at-b.ensures ∙ e))),
-      bare_token _ _ _ c.run.ensures.bare_in,
-    )
+    record { result_value = c.run.ensures.result_value ∙ sym (string_bare _ _ c.args.self.at (λ e. c.if-b-eq-QUOTE.false (c.byte_at-b.ensures ∙ e))
+          (λ e. c.if-b-eq123.false (c.byte_at-b.ensures ∙ e))); token_in = bare_token _ _ _ c.run.ensures.bare_in }

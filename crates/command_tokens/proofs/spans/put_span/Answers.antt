@@ -7,12 +7,12 @@ use Rattle.command_tokens.proofs.spans.put_span.Goals as goal
 
 pub returns-then-span : goal.returns-then-span
 returns-then-span c =
-    subst (λ (x : List ℕ). Put c.args.buf.now c.put_plain.last.0 c.args.at x c.put_plain.result)
+    subst (λ (x : List ℕ). Put c.args.buf.now c.put_plain.new.buf c.args.at x c.put_plain.result)
     (ap (plain false) c.raw-bytes.ensures ∙ sym (quoted_bytes _ _ c.if-span.true))
     c.put_plain.ensures
 
 pub returns : goal.returns
 returns c =
-    subst (λ (x : List ℕ). Put c.args.buf.now c.put_all.last.0 c.args.at x c.put_all.result)
+    subst (λ (x : List ℕ). Put c.args.buf.now c.put_all.new.buf c.args.at x c.put_all.result)
     (c.raw-bytes.ensures ∙ sym (bare_bytes _ _ c.if-span.false))
     c.put_all.ensures

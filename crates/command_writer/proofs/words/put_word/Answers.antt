@@ -8,10 +8,10 @@ use Rattle.command_writer.proofs.words.put_word.Goals as goal
 pub returns-then-not-shown : goal.returns-then-not-shown
 unfolding when
 returns-then-not-shown c =
-    rw c.if-not-shown.true (put_none _ _ (search rules) (search rules), refl)
+    rw c.if-not-shown.true (record { text = put_none _ _ (search rules) (search rules); first = refl })
 
 pub returns : goal.returns
 unfolding when
 returns c =
     rw (c.if-not-shown.false, ← gap_word c.args.list.first c.args.word.now)
-    (put_then c.put_gap-at.ensures c.put_all.ensures, refl)
+    (record { text = put_then c.put_gap-at.ensures c.put_all.ensures; first = refl })

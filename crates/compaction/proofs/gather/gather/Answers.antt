@@ -8,8 +8,7 @@ loop-i-init c = let a = c.args in gathering_none _ _ _
 
 pub bounds-area-end : goal.bounds-area-end
 bounds-area-end c =
-    let turn = c.loop-i in
-    omega (arith, end_most turn.invariant, turn.invariant.size, c.loop-i-test.true, c.requires.1)
+    omega (arith, end_most c.loop-i.invariant, c.loop-i.invariant.size, c.loop-i-test.true, c.requires.1)
 
 pub loop-i-preserved : goal.loop-i-preserved
 loop-i-preserved c =

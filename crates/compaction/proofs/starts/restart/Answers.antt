@@ -4,24 +4,20 @@ use Rattle.compaction.specs.Moves.{restarted, with_start}
 use Rattle.compaction.proofs.StartLaws.{start_fits, mapped_none, mapped_read, mapped_more, mapped_all}
 use Rattle.compaction.proofs.starts.restart.Goals as goal
 
--- the word that is looked at, which is as it was, and its start, whose place is told
-abbrev word : tie.After-shared-slice-known invariant-loop decreases-loop → ℕ
-word c = let turn = c.before.before.before.loop in get_or turn.words turn.i 0
-
 pub loop-i-init : goal.loop-i-init
 loop-i-init c = mapped_none _ _
 
 pub overflow_add-words : goal.overflow_add-words
 overflow_add-words c =
-    let place-small : get_or c.args.places.now (word c / 65536 % 65536) 0 < 65536 = omega (arith, c.shared_slice_known-1.given (word c / 65536 % 65536)) in
-    omega (arith, start_fits (word c) _ (omega (arith, c.slice_known-1.given c.loop-i.i)) place-small)
+    let word : ℕ = get_or c.loop-i.words c.loop-i.i 0 in
+    let place-small : get_or c.args.places.now (word / 65536 % 65536) 0 < 65536 = omega (arith, c.shared_slice_known-1.given (word / 65536 % 65536)) in
+    omega (arith, start_fits word _ (omega (arith, c.slice_known-1.given c.loop-i.i)) place-small)
 
 pub loop-i-preserved : goal.loop-i-preserved
 unfolding restarted with_start
 loop-i-preserved c =
     let inside : c.loop-i.i < length c.args.words.now = omega (arith, c.loop-i-test.true, c.loop-i.invariant.size) in
-    let turn = c.loop-i in
-    mapped_more turn.invariant inside _ (rw (mapped_read turn.invariant inside))
+    mapped_more c.loop-i.invariant inside _ (rw (mapped_read c.loop-i.invariant inside))
 
 pub returns : goal.returns
 returns c = mapped_all c.loop-i.invariant (omega (arith, c.loop-i-test.false, c.loop-i.invariant.size))

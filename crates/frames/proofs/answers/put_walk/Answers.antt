@@ -6,8 +6,4 @@ use Rattle.frames.proofs.answers.put_walk.Goals as goal
 pub returns : goal.returns
 unfolding hex answer_line
 returns c =
-    let first = c.put_pair-a in
-    let second = c.put_pair-b in
-    let third = c.put_pair-c in
-    let digits = c.put_hex-d in
-    put_then (put_then (put_then (put_then first.ensures second.ensures) third.ensures) digits.ensures) c.put.ensures
+    put_then (put_then (put_then (put_then c.put_pair-a.ensures c.put_pair-b.ensures) c.put_pair-c.ensures) c.put_hex-d.ensures) c.put.ensures

@@ -12,26 +12,21 @@ returns-then-g c =
 pub returns-then-n-line : goal.returns-then-n-line
 unfolding gathered_is gathered_line has_room
 returns-then-n-line c =
-    let if1 = c.if-g in
-    let if2 = c.if-n-lt-MAX_DIGITS in
     let n = c.args.g.len in
     let d = c.args.line.now in
-    gathers _ _ _ _ _ (rw (if1.left, lt-ltb n 4102 if2.taken, lt-ltb n (length d) c.if-n-line.true))
-    (rw (if1.left, lt-ltb n 4102 if2.taken, lt-ltb n (length d) c.if-n-line.true))
+    gathers _ _ _ _ _ (rw (c.if-g.false, lt-ltb n 4102 c.if-n-lt-MAX_DIGITS.true, lt-ltb n (length d) c.if-n-line.true))
+    (rw (c.if-g.false, lt-ltb n 4102 c.if-n-lt-MAX_DIGITS.true, lt-ltb n (length d) c.if-n-line.true))
 
 pub returns-else-n-line : goal.returns-else-n-line
 unfolding gathered_is gathered_line has_room
 returns-else-n-line c =
-    let if1 = c.if-g in
-    let if2 = c.if-n-lt-MAX_DIGITS in
     let n = c.args.g.len in
     let d = c.args.line.now in
-    gathers _ _ _ _ _ (rw (if1.left, lt-ltb n 4102 if2.taken, le-ltb n (length d) c.if-n-line.false))
-    (rw (if1.left, lt-ltb n 4102 if2.taken, le-ltb n (length d) c.if-n-line.false))
+    gathers _ _ _ _ _ (rw (c.if-g.false, lt-ltb n 4102 c.if-n-lt-MAX_DIGITS.true, le-ltb n (length d) c.if-n-line.false))
+    (rw (c.if-g.false, lt-ltb n 4102 c.if-n-lt-MAX_DIGITS.true, le-ltb n (length d) c.if-n-line.false))
 
 pub returns-else-n-lt-MAX_DIGITS : goal.returns-else-n-lt-MAX_DIGITS
 unfolding gathered_is gathered_line has_room
 returns-else-n-lt-MAX_DIGITS c =
-    let if1 = c.if-g in
     let n = c.args.g.len in
-    gathers _ _ _ _ _ (rw (if1.left, le-ltb n 4102 c.if-n-lt-MAX_DIGITS.false)) (rw (if1.left, le-ltb n 4102 c.if-n-lt-MAX_DIGITS.false))
+    gathers _ _ _ _ _ (rw (c.if-g.false, le-ltb n 4102 c.if-n-lt-MAX_DIGITS.false)) (rw (c.if-g.false, le-ltb n 4102 c.if-n-lt-MAX_DIGITS.false))

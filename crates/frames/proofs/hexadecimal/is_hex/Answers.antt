@@ -13,13 +13,11 @@ loop-i-init c = hex_even _ c.if-line-ne0.false
 
 pub returns-in_default : goal.returns-in_default
 returns-in_default c =
-    let turn = c.loop-i in
-    sym (digits_stop _ _ c.loop-i-test.true (sym c.read_digit.ensures ∙ c.in_default.is)) ∙ turn.invariant
+    sym (digits_stop _ _ c.loop-i-test.true (sym c.read_digit.ensures ∙ c.in_default.is)) ∙ c.loop-i.invariant
 
 pub loop-i-preserved : goal.loop-i-preserved
 loop-i-preserved c =
-    let turn = c.loop-i in
-    sym (digits_more _ _ _ c.loop-i-test.true (sym c.read_digit.ensures ∙ c.in-Value.is)) ∙ turn.invariant
+    sym (digits_more _ _ _ c.loop-i-test.true (sym c.read_digit.ensures ∙ c.in-Value.is)) ∙ c.loop-i.invariant
 
 pub returns : goal.returns
 returns c =

@@ -13,12 +13,10 @@ loop-i-init c = (omega arith, pieces_none _ _ _ (search rules) (search rules))
 
 pub loop-i-preserved : goal.loop-i-preserved
 loop-i-preserved c =
-    let turn = c.loop-i in
-    let test = c.loop-i-test in
     let s = c.args.line.now in
-    let i = turn.i in (
+    let i = c.loop-i.i in (
       omega arith,
-      pieces_more (pair_of (get_or s i 0) (get_or s (i + 1) 0) ∷ []) (decoded (drop (i + 2) s)) turn.invariant.1 (decoded_at s i test.taken)
+      pieces_more (pair_of (get_or s i 0) (get_or s (i + 1) 0) ∷ []) (decoded (drop (i + 2) s)) c.loop-i.invariant.1 (decoded_at s i c.loop-i-test.true)
           (rw (sym c.pair_value.ensures) c.put-to.ensures),
     )
 

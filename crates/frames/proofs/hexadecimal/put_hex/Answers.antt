@@ -13,10 +13,9 @@ loop-i-init c = (omega arith, pieces_none _ _ _ (search rules) (search rules))
 
 pub loop-i-preserved : goal.loop-i-preserved
 loop-i-preserved c =
-    let turn = c.loop-i in
     let s = c.args.bytes.now in
-    let i = turn.i in
-    (omega arith, pieces_more (hex (get_or s i 0 ∷ [])) (hex (drop (i + 1) s)) turn.invariant.1 (hex_at s i c.loop-i-test.true) c.put_pair-to.ensures)
+    let i = c.loop-i.i in
+    (omega arith, pieces_more (hex (get_or s i 0 ∷ [])) (hex (drop (i + 1) s)) c.loop-i.invariant.1 (hex_at s i c.loop-i-test.true) c.put_pair-to.ensures)
 
 pub returns : goal.returns
 returns c =

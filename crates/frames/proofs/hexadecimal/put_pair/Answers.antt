@@ -6,5 +6,4 @@ use Rattle.frames.proofs.hexadecimal.put_pair.Goals as goal
 pub returns : goal.returns
 unfolding hex
 returns c =
-    let high = c.hex_digit in
-    rw (← high.ensures, ← c.hex_digit-2.ensures) (put_then c.put-to.ensures c.put.ensures)
+    rw (← c.hex_digit.ensures, ← c.hex_digit-2.ensures) (put_then c.put-to.ensures c.put.ensures)

@@ -13,24 +13,21 @@ loop-i-init c = (c.if-digits-bytes.false, omega arith, omega arith, refl)
 
 pub returns-then-pair_value-bytes : goal.returns-then-pair_value-bytes
 returns-then-pair_value-bytes c =
-    let turn = c.loop-i in
     let args = c.args in
-    sym (digits_differ args.digits.now args.bytes.now turn.at turn.i turn.invariant.2 turn.invariant.0 c.loop-i-test.true
-    (λ e. c.if-pair_value-bytes.true (c.pair_value.ensures ∙ e))) ∙ turn.invariant.3
+    sym (digits_differ args.digits.now args.bytes.now c.loop-i.at c.loop-i.i c.loop-i.invariant.2 c.loop-i.invariant.0 c.loop-i-test.true
+    (λ e. c.if-pair_value-bytes.true (c.pair_value.ensures ∙ e))) ∙ c.loop-i.invariant.3
 
 pub loop-i-preserved : goal.loop-i-preserved
 loop-i-preserved c =
-    let turn = c.loop-i in
     let args = c.args in (
-      turn.invariant.0,
+      c.loop-i.invariant.0,
       omega (arith, c.loop-i-test.true),
-      omega (arith, turn.invariant.2),
-      sym (digits_step args.digits.now args.bytes.now turn.at turn.i turn.invariant.2 turn.invariant.0 c.loop-i-test.true
-          (sym c.pair_value.ensures ∙ c.if-pair_value-bytes.false)) ∙ turn.invariant.3,
+      omega (arith, c.loop-i.invariant.2),
+      sym (digits_step args.digits.now args.bytes.now c.loop-i.at c.loop-i.i c.loop-i.invariant.2 c.loop-i.invariant.0 c.loop-i-test.true
+          (sym c.pair_value.ensures ∙ c.if-pair_value-bytes.false)) ∙ c.loop-i.invariant.3,
     )
 
 pub returns : goal.returns
 returns c =
-    let turn = c.loop-i in
     let args = c.args in
-    sym (digits_end args.digits.now args.bytes.now turn.at turn.i turn.invariant.2 turn.invariant.0 c.loop-i-test.false) ∙ turn.invariant.3
+    sym (digits_end args.digits.now args.bytes.now c.loop-i.at c.loop-i.i c.loop-i.invariant.2 c.loop-i.invariant.0 c.loop-i-test.false) ∙ c.loop-i.invariant.3

@@ -12,14 +12,11 @@ use Rattle.kept_table.proofs.LayLaws.{laid_few, laid_not, laid_rows, laid_summed
 use Rattle.kept_table.proofs.ObeyLaws.{came, came_words, reply_fits, first_stranger, first_fails, first_refused, first_accepted}
 use Rattle.kept_table.proofs.commands.first_edit.Goals as goal
 
--- the memory at the start
-abbrev memory : tie.Start → Lent
-memory start = lent start.args.table.now start.args.records.now start.args.namespaces.now start.args.out.now
-
 pub returns-then-reader-gt-MAX_READER : goal.returns-then-reader-gt-MAX_READER
 returns-then-reader-gt-MAX_READER c =
+    let memory : Lent = lent c.args.table.now c.args.records.now c.args.namespaces.now c.args.out.now in
     rw c.said.ensures
-    (first_stranger (memory c) _ c.requires.within _ _ _ _ c.requires.edited_value.0 c.if-reader-gt-MAX_READER.true
+    (first_stranger memory _ c.requires.within _ _ _ _ c.requires.edited_value.0 c.if-reader-gt-MAX_READER.true
     c.put_refusal.ensures)
 
 pub slice_bounds-lay_out-end-2 : goal.slice_bounds-lay_out-end-2
@@ -36,8 +33,9 @@ lay_out-requires c =
 
 pub returns-in_default : goal.returns-in_default
 returns-in_default c =
+    let memory : Lent = lent c.args.table.now c.args.records.now c.args.namespaces.now c.args.out.now in
     rw c.said-in_default.ensures
-    (first_fails (memory c) _ c.requires.within _ _ _ _ c.requires.edited_value.0 c.if-reader-gt-MAX_READER.false
+    (first_fails memory _ c.requires.within _ _ _ _ c.requires.edited_value.0 c.if-reader-gt-MAX_READER.false
     (laid_not _ _ _ c.lay_out.ensures c.in_default.is) c.put_refusal-in_default.ensures)
 
 pub slice_bounds-answer_words-end-4 : goal.slice_bounds-answer_words-end-4
@@ -48,34 +46,33 @@ slice_bounds-answer_words-end-4 c =
 
 pub put_reply-written-requires : goal.put_reply-written-requires
 put_reply-written-requires c =
-    let worded : length c.lay_out.new.area.0 ≡ 512 = c.lay_out.auto.1.0 ∙ ap length c.no_words-words.ensures ∙ length-replicate {A = ℕ} 512 0 in
-    let summed : length c.summarize_words.new.1.1.1.0 ≡ 512 = c.summarize_words.auto.1.1.1.0 ∙ ap length c.no_words-sums.ensures ∙ length-replicate {A = ℕ} 512 0 in
+    let worded : length c.lay_out.new.words ≡ 512 = c.lay_out.auto.1.0 ∙ ap length c.no_words-words.ensures ∙ length-replicate {A = ℕ} 512 0 in
+    let summed : length c.summarize_words.new.sums ≡ 512 = c.summarize_words.auto.1.1.1.0 ∙ ap length c.no_words-sums.ensures ∙ length-replicate {A = ℕ} 512 0 in
     let sized : length c.no_bytes-answer.result ≡ 16384 = ap length c.no_bytes-answer.ensures ∙ length-replicate {A = ℕ} 16384 0 in
-    let done = c.answer_words-made in
-    let outcome = came _ _ _ _ _ _ _ _ worded summed done.ensures in
-    reply_fits _ _ _ outcome.written outcome.bytes (done.auto.1.1.1.1.1.1.1.0 ∙ sized)
+    let outcome = came _ _ _ _ _ _ _ _ worded summed c.answer_words-made.ensures in
+    reply_fits _ _ _ outcome.written outcome.bytes (c.answer_words-made.auto.1.1.1.1.1.1.1.0 ∙ sized)
 
 pub returns-in_default-reply : goal.returns-in_default-reply
 returns-in_default-reply c =
-    let worded : length c.lay_out.new.area.0 ≡ 512 = c.lay_out.auto.1.0 ∙ ap length c.no_words-words.ensures ∙ length-replicate {A = ℕ} 512 0 in
-    let summed : length c.summarize_words.new.1.1.1.0 ≡ 512 = c.summarize_words.auto.1.1.1.0 ∙ ap length c.no_words-sums.ensures ∙ length-replicate {A = ℕ} 512 0 in
+    let memory : Lent = lent c.args.table.now c.args.records.now c.args.namespaces.now c.args.out.now in
+    let worded : length c.lay_out.new.words ≡ 512 = c.lay_out.auto.1.0 ∙ ap length c.no_words-words.ensures ∙ length-replicate {A = ℕ} 512 0 in
+    let summed : length c.summarize_words.new.sums ≡ 512 = c.summarize_words.auto.1.1.1.0 ∙ ap length c.no_words-sums.ensures ∙ length-replicate {A = ℕ} 512 0 in
     let sized : length c.no_bytes-answer.result ≡ 16384 = ap length c.no_bytes-answer.ensures ∙ length-replicate {A = ℕ} 16384 0 in
     let laid : let a = c.args in
-    Lays (take a.stored.table a.table.now) c.lay_out.new.area.0 c.lay_out.new.area.1.0 (Rows c.in-Rows.count) = laid_rows _ _ _ c.lay_out.ensures c.in-Rows.is in
+    Lays (take a.stored.table a.table.now) c.lay_out.new.words c.lay_out.new.area (Rows c.in-Rows.count) = laid_rows _ _ _ c.lay_out.ensures c.in-Rows.is in
     let first : let a = c.args in
     record {
-      store = word_store c.lay_out.new.area.0 512 c.in-Rows.count c.lay_out.new.area.1.0;
-      summary = map summary_of c.summarize_words.new.1.1.1.0;
+      store = word_store c.lay_out.new.words 512 c.in-Rows.count c.lay_out.new.area;
+      summary = map summary_of c.summarize_words.new.sums;
     } ≡ program_summed (take a.stored.table a.table.now) = let short : length (take c.args.stored.table c.args.table.now) ≤ 16384 = omega
     (arith, length-take c.args.stored.table c.args.table.now, c.requires.within.held.rows) in
-    laid_summed _ c.lay_out.new.area.0 c.lay_out.new.area.1.0 _ short laid worded _
-    c.summarize_words.new.1.1.1.0 c.no_words-sums.ensures
+    laid_summed _ c.lay_out.new.words c.lay_out.new.area _ short laid worded _
+    c.summarize_words.new.sums c.no_words-sums.ensures
     c.summarize_words.ensures.summary in
-    let done = c.answer_words-made in
-    let outcome = came _ _ _ _ _ _ _ _ worded summed done.ensures in
+    let outcome = came _ _ _ _ _ _ _ _ worded summed c.answer_words-made.ensures in
     rw c.said-in_default-reply.ensures
-    (first_refused (memory c) _ c.requires.within _ _ c.requires.edited_value.0 c.requires.edited_value.1 _ _ sized laid.0 first
-    done.new.0 done.new.1.0 _ _ _ _ _ _ outcome c.in_default-reply.is c.put_reply-written.ensures)
+    (first_refused memory _ c.requires.within _ _ c.requires.edited_value.0 c.requires.edited_value.1 _ _ sized laid.0 first
+    c.answer_words-made.new.words c.answer_words-made.new.sums _ _ _ _ _ _ outcome c.in_default-reply.is c.put_reply-written.ensures)
 
 pub keep_store-requires : goal.keep_store-requires
 keep_store-requires c =
@@ -89,29 +86,28 @@ keep_store-requires c =
 
 pub returns : goal.returns
 returns c =
-    let worded : length c.lay_out.new.area.0 ≡ 512 = c.lay_out.auto.1.0 ∙ ap length c.no_words-words.ensures ∙ length-replicate {A = ℕ} 512 0 in
-    let named : length c.lay_out.new.area.1.0 ≡ 16384 = c.lay_out.auto.1.1.0 ∙ ap length c.no_bytes-area.ensures ∙ length-replicate {A = ℕ} 16384 0 in
-    let summed : length c.summarize_words.new.1.1.1.0 ≡ 512 = c.summarize_words.auto.1.1.1.0 ∙ ap length c.no_words-sums.ensures ∙ length-replicate {A = ℕ} 512 0 in
+    let memory : Lent = lent c.args.table.now c.args.records.now c.args.namespaces.now c.args.out.now in
+    let worded : length c.lay_out.new.words ≡ 512 = c.lay_out.auto.1.0 ∙ ap length c.no_words-words.ensures ∙ length-replicate {A = ℕ} 512 0 in
+    let named : length c.lay_out.new.area ≡ 16384 = c.lay_out.auto.1.1.0 ∙ ap length c.no_bytes-area.ensures ∙ length-replicate {A = ℕ} 16384 0 in
+    let summed : length c.summarize_words.new.sums ≡ 512 = c.summarize_words.auto.1.1.1.0 ∙ ap length c.no_words-sums.ensures ∙ length-replicate {A = ℕ} 512 0 in
     let sized : length c.no_bytes-answer.result ≡ 16384 = ap length c.no_bytes-answer.ensures ∙ length-replicate {A = ℕ} 16384 0 in
     let laid : let a = c.args in
-    Lays (take a.stored.table a.table.now) c.lay_out.new.area.0 c.lay_out.new.area.1.0 (Rows c.in-Rows.count) = laid_rows _ _ _ c.lay_out.ensures c.in-Rows.is in
+    Lays (take a.stored.table a.table.now) c.lay_out.new.words c.lay_out.new.area (Rows c.in-Rows.count) = laid_rows _ _ _ c.lay_out.ensures c.in-Rows.is in
     let few : c.in-Rows.count ≤ 16384 = let a = c.args in
     omega
-    (arith, laid_few (take a.stored.table a.table.now) c.lay_out.new.area.0 c.lay_out.new.area.1.0 c.in-Rows.count laid) in
+    (arith, laid_few (take a.stored.table a.table.now) c.lay_out.new.words c.lay_out.new.area c.in-Rows.count laid) in
     let first : let a = c.args in
     record {
-      store = word_store c.lay_out.new.area.0 512 c.in-Rows.count c.lay_out.new.area.1.0;
-      summary = map summary_of c.summarize_words.new.1.1.1.0;
+      store = word_store c.lay_out.new.words 512 c.in-Rows.count c.lay_out.new.area;
+      summary = map summary_of c.summarize_words.new.sums;
     } ≡ program_summed (take a.stored.table a.table.now) = let short : length (take c.args.stored.table c.args.table.now) ≤ 16384 = omega
     (arith, length-take c.args.stored.table c.args.table.now, c.requires.within.held.rows) in
-    laid_summed _ c.lay_out.new.area.0 c.lay_out.new.area.1.0 _ short laid worded _
-    c.summarize_words.new.1.1.1.0 c.no_words-sums.ensures
+    laid_summed _ c.lay_out.new.words c.lay_out.new.area _ short laid worded _
+    c.summarize_words.new.sums c.no_words-sums.ensures
     c.summarize_words.ensures.summary in
-    let done = c.answer_words-made in
-    let kept = c.keep_store.ensures in
-    let outcome = came _ _ _ _ _ _ _ _ worded summed done.ensures in
-    rw (c.with_records.ensures, kept.0, kept.1)
-    (first_accepted (memory c) _ c.requires.within _ _ c.requires.edited_value.0 c.requires.edited_value.1 _ _ sized laid.0 first
-    done.new.0 done.new.1.0 _ _ _ _ _ _ outcome _ laid.2
-    (came_words _ _ _ _ _ _ _ _ worded summed done.ensures) c.in-Done.is few
-    (done.auto.1.1.1.1.0 ∙ named) (done.auto.1.0 ∙ summed) c.put_reply-written.ensures)
+    let outcome = came _ _ _ _ _ _ _ _ worded summed c.answer_words-made.ensures in
+    rw (c.with_records.ensures, c.keep_store.ensures.0, c.keep_store.ensures.1)
+    (first_accepted memory _ c.requires.within _ _ c.requires.edited_value.0 c.requires.edited_value.1 _ _ sized laid.0 first
+    c.answer_words-made.new.words c.answer_words-made.new.sums _ _ _ _ _ _ outcome _ laid.2
+    (came_words _ _ _ _ _ _ _ _ worded summed c.answer_words-made.ensures) c.in-Done.is few
+    (c.answer_words-made.auto.1.1.1.1.0 ∙ named) (c.answer_words-made.auto.1.0 ∙ summed) c.put_reply-written.ensures)

@@ -5,13 +5,10 @@ use Rattle.kept_table.proofs.LentLaws.{within_so}
 use Rattle.kept_table.proofs.ObeyLaws.{lent_obeyed, lent_refused}
 use Rattle.kept_table.proofs.commands.obey.Goals as goal
 
--- the memory at the start
-abbrev memory : tie.Start → Lent
-memory start = lent start.args.table.now start.args.records.now start.args.namespaces.now start.args.out.now
-
 pub returns-then-not-within : goal.returns-then-not-within
 returns-then-not-within c =
-    lent_refused (memory c) _ _ _ (sym c.is_within-within.ensures ∙ c.if-not-within.true) c.said.ensures
+    let memory : Lent = lent c.args.table.now c.args.records.now c.args.namespaces.now c.args.out.now in
+    lent_refused memory _ _ _ (sym c.is_within-within.ensures ∙ c.if-not-within.true) c.said.ensures
 
 pub obey_within-requires : goal.obey_within-requires
 obey_within-requires c =
@@ -20,5 +17,6 @@ obey_within-requires c =
 
 pub returns : goal.returns
 returns c =
+    let memory : Lent = lent c.args.table.now c.args.records.now c.args.namespaces.now c.args.out.now in
     let is-so : is_within c.args.stored c.args.table.now c.args.records.now c.args.namespaces.now ≡ true = sym c.is_within-within.ensures ∙ c.if-not-within.false in
-    lent_obeyed (memory c) _ _ _ is-so c.obey_within.ensures
+    lent_obeyed memory _ _ _ is-so c.obey_within.ensures

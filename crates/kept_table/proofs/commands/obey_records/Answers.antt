@@ -21,17 +21,15 @@ pub put_reply-written-requires : goal.put_reply-written-requires
 put_reply-written-requires c =
     let summed : length c.kept_sums-sums.result ≡ 512 = ap length c.kept_sums-sums.ensures ∙ sym (whole_sums c.requires.within.held) in
     let sized : length c.no_bytes-answer.result ≡ 16384 = ap length c.no_bytes-answer.ensures ∙ length-replicate {A = ℕ} 16384 0 in
-    let done = c.answer_words-done in
-    let outcome = came _ _ _ _ _ _ _ _ (sym (whole_records c.requires.within.held)) summed done.ensures in
-    reply_fits _ _ _ outcome.written outcome.bytes (done.auto.1.1.1.1.1.1.1.0 ∙ sized)
+    let outcome = came _ _ _ _ _ _ _ _ (sym (whole_records c.requires.within.held)) summed c.answer_words-done.ensures in
+    reply_fits _ _ _ outcome.written outcome.bytes (c.answer_words-done.auto.1.1.1.1.1.1.1.0 ∙ sized)
 
 pub returns : goal.returns
 returns c =
     let summed : length c.kept_sums-sums.result ≡ 512 = ap length c.kept_sums-sums.ensures ∙ sym (whole_sums c.requires.within.held) in
     let sized : length c.no_bytes-answer.result ≡ 16384 = ap length c.no_bytes-answer.ensures ∙ length-replicate {A = ℕ} 16384 0 in
-    let done = c.answer_words-done in
-    let outcome = came _ _ _ _ _ _ _ _ (sym (whole_records c.requires.within.held)) summed done.ensures in
+    let outcome = came _ _ _ _ _ _ _ _ (sym (whole_records c.requires.within.held)) summed c.answer_words-done.ensures in
     let before = lent _ _ _ _ in
     rw (c.with_records.ensures, c.keep_sums.ensures)
-    (obeys_records before _ c.requires.within _ _ c.requires.edited_value _ _ sized c.kept_sums-sums.ensures _ done.new.0 _ _ _ _ _
-    outcome (came_words _ _ _ _ _ _ _ _ (sym (whole_records c.requires.within.held)) summed done.ensures) done.auto.1.1.1.1.0 (done.auto.1.0 ∙ summed) c.put_reply-written.ensures)
+    (obeys_records before _ c.requires.within _ _ c.requires.edited_value _ _ sized c.kept_sums-sums.ensures _ c.answer_words-done.new.words _ _ _ _ _
+    outcome (came_words _ _ _ _ _ _ _ _ (sym (whole_records c.requires.within.held)) summed c.answer_words-done.ensures) c.answer_words-done.auto.1.1.1.1.0 (c.answer_words-done.auto.1.0 ∙ summed) c.put_reply-written.ensures)

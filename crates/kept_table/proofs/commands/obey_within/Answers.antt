@@ -21,10 +21,7 @@ slice_bounds-read_line-end-2 c =
 pub read_line-written-requires : goal.read_line-written-requires
 read_line-written-requires c =
     let start =
-    c in (
-      sym c.is_edit_line.ensures ∙ c.if-is_edit_line.false,
-      omega (arith, whole_table start.pre.held, start.pre.held.rows),
-    )
+    c in record { command_value = sym c.is_edit_line.ensures ∙ c.if-is_edit_line.false; table_len_bound = omega (arith, whole_table start.pre.held, start.pre.held.rows) }
 
 pub returns : goal.returns
 returns c =

@@ -8,22 +8,20 @@ loop-i-init c = (omega arith, paste-zero _ 0 c.args.words.now)
 
 pub bounds-to-i : goal.bounds-to-i
 bounds-to-i c =
-    let inv = c.loop-i.invariant in omega
-    (arith, ap length inv.1, length-paste c.args.to.now 0 c.args.words.now _ (omega (arith, inv.0, c.requires)) inv.0)
+    omega
+    (arith, ap length c.loop-i.invariant.1, length-paste c.args.to.now 0 c.args.words.now _ (omega (arith, c.loop-i.invariant.0, c.requires)) c.loop-i.invariant.0)
 
 pub loop-i-preserved : goal.loop-i-preserved
 loop-i-preserved c =
-    let turn = c.loop-i in
     (
       omega (
         arith,
         c.loop-i-test.true,
       ),
-      ap (λ (l : List ℕ). set l turn.i (get_or c.args.words.now turn.i 0)) turn.invariant.1 ∙ copied_more _ _ _ c.loop-i-test.true c.requires,
+      ap (λ (l : List ℕ). set l c.loop-i.i (get_or c.args.words.now c.loop-i.i 0)) c.loop-i.invariant.1 ∙ copied_more _ _ _ c.loop-i-test.true c.requires,
     )
 
 pub returns : goal.returns
 returns c =
-    let inv = c.loop-i.invariant in
-    let all : c.loop-i.i ≡ length c.args.words.now = omega (arith, inv.0, c.loop-i-test.false) in
-    inv.1 ∙ ap (paste _ 0 _) all
+    let all : c.loop-i.i ≡ length c.args.words.now = omega (arith, c.loop-i.invariant.0, c.loop-i-test.false) in
+    c.loop-i.invariant.1 ∙ ap (paste _ 0 _) all

@@ -31,6 +31,5 @@ place_names-requires c =
 
 pub returns : goal.returns
 returns c =
-    let placed = c.place_names.ensures in
-    lays_rows c.index.ensures (sized c) _ c.in-Rows.is _ _ c.place_names.new.area.0 c.requires
-    placed.0 placed.1 placed.2
+    lays_rows c.index.ensures (sized c) _ c.in-Rows.is _ _ c.place_names.new.words c.requires
+    c.place_names.ensures.0 c.place_names.ensures.1 c.place_names.ensures.2

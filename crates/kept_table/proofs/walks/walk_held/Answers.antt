@@ -9,9 +9,10 @@ slice_bounds-found-end c =
     (length c.names_buffer-pending.result ≡ 8192) = (
   ap length c.no_bytes-scratch.ensures ∙ length-replicate {A = ℕ} 16384 0,
   ap length c.names_buffer-found.ensures ∙ length-replicate {A = ℕ} 8192 0,
-  ap length c.names_buffer-pending.ensures ∙ length-replicate {A = ℕ} 8192 0, in
-    let walked = c.collect_kept in (walk_fits _ _ _ _ _ _ _ _ sizes walked.ensures.0 walked.auto.1.1.1.1.1.1.0
-    walked.ensures.1 _ _ c.in-Done.is).0
+  ap length c.names_buffer-pending.ensures ∙ length-replicate {A = ℕ} 8192 0,
+) in
+    (walk_fits _ _ _ _ _ _ _ _ sizes c.collect_kept.ensures.result c.collect_kept.auto.1.1.1.1.1.1.0
+    c.collect_kept.ensures.found _ _ c.in-Done.is).0
 
 pub slice_bounds-put_walk-end : goal.slice_bounds-put_walk-end
 slice_bounds-put_walk-end c =
@@ -19,9 +20,10 @@ slice_bounds-put_walk-end c =
     (length c.names_buffer-pending.result ≡ 8192) = (
   ap length c.no_bytes-scratch.ensures ∙ length-replicate {A = ℕ} 16384 0,
   ap length c.names_buffer-found.ensures ∙ length-replicate {A = ℕ} 8192 0,
-  ap length c.names_buffer-pending.ensures ∙ length-replicate {A = ℕ} 8192 0, in
-    let walked = c.collect_kept in sym (walk_fits _ _ _ _ _ _ _ _ sizes walked.ensures.0
-    walked.auto.1.1.1.1.1.1.0 walked.ensures.1 _ _ c.in-Done.is).1
+  ap length c.names_buffer-pending.ensures ∙ length-replicate {A = ℕ} 8192 0,
+) in
+    sym (walk_fits _ _ _ _ _ _ _ _ sizes c.collect_kept.ensures.result
+    c.collect_kept.auto.1.1.1.1.1.1.0 c.collect_kept.ensures.found _ _ c.in-Done.is).1
 
 pub returns-in-Done : goal.returns-in-Done
 returns-in-Done c =
@@ -29,9 +31,10 @@ returns-in-Done c =
     (length c.names_buffer-pending.result ≡ 8192) = (
   ap length c.no_bytes-scratch.ensures ∙ length-replicate {A = ℕ} 16384 0,
   ap length c.names_buffer-found.ensures ∙ length-replicate {A = ℕ} 8192 0,
-  ap length c.names_buffer-pending.ensures ∙ length-replicate {A = ℕ} 8192 0, in
-    let walked = c.collect_kept in walk_says _ _ _ _ _ _ _ _ sizes walked.ensures.0 walked.auto.1.1.1.1.1.1.0
-    walked.ensures.1 _ _ _ _ _ c.in-Done.is c.put_walk.ensures
+  ap length c.names_buffer-pending.ensures ∙ length-replicate {A = ℕ} 8192 0,
+) in
+    walk_says _ _ _ _ _ _ _ _ sizes c.collect_kept.ensures.result c.collect_kept.auto.1.1.1.1.1.1.0
+    c.collect_kept.ensures.found _ _ _ _ _ c.in-Done.is c.put_walk.ensures
 
 pub returns-in-Refused : goal.returns-in-Refused
 returns-in-Refused c =
@@ -39,6 +42,7 @@ returns-in-Refused c =
     (length c.names_buffer-pending.result ≡ 8192) = (
   ap length c.no_bytes-scratch.ensures ∙ length-replicate {A = ℕ} 16384 0,
   ap length c.names_buffer-found.ensures ∙ length-replicate {A = ℕ} 8192 0,
-  ap length c.names_buffer-pending.ensures ∙ length-replicate {A = ℕ} 8192 0, in
-    let walked = c.collect_kept in walk_refuses _ _ _ _ _ _ _ _ sizes walked.ensures.0
-    walked.auto.1.1.1.1.1.1.0 walked.ensures.1 _ _ _ _ c.in-Refused.is c.put_refusal.ensures
+  ap length c.names_buffer-pending.ensures ∙ length-replicate {A = ℕ} 8192 0,
+) in
+    walk_refuses _ _ _ _ _ _ _ _ sizes c.collect_kept.ensures.result
+    c.collect_kept.auto.1.1.1.1.1.1.0 c.collect_kept.ensures.found _ _ _ _ c.in-Refused.is c.put_refusal.ensures

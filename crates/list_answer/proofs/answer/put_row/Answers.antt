@@ -44,19 +44,16 @@ loop-len-init c =
 pub loop-len-preserved : goal.loop-len-preserved
 loop-len-preserved c =
     let a = c.args in
-    let turn = c.loop-len in
-    let inv = turn.invariant in
-    let put-name = c.put_name-to in
     let text = text_of _ a.words.now _ a.question in
     let name = nth_name a.area.now a.words.now a.i in (
-      inv.0,
-      put-name.kept.0 ∙ inv.1,
+      c.loop-len.invariant.0,
+      c.put_name-to.new.buf ∙ c.loop-len.invariant.1,
       λ ready.
-          let here = inv.2 ready in
-          let inside : turn.len < length name = omega
-          (arith, name_length ready.index.indexed _ c.requires, inv.0, c.loop-len-test.true) in
-          let put = put-name.ensures ready
-          (record { row = c.requires; beyond = omega (arith, here.0); within = omega (arith, inv.0, c.loop-len-test.true) }) in (
+          let here = c.loop-len.invariant.2 ready in
+          let inside : c.loop-len.len < length name = omega
+          (arith, name_length ready.index.indexed _ c.requires, c.loop-len.invariant.0, c.loop-len-test.true) in
+          let put = c.put_name-to.ensures ready
+          (record { row = c.requires; beyond = omega (arith, here.0); within = omega (arith, c.loop-len.invariant.0, c.loop-len-test.true) }) in (
             omega (arith, here.0),
             omega (arith, c.loop-len-test.true),
             putting_more here.2 _ _ (beyond_step text name _ inside) put,
@@ -66,9 +63,8 @@ loop-len-preserved c =
 pub returns : goal.returns
 returns c =
     let a = c.args in
-    let done = c.loop-len in
     let text = text_of _ a.words.now _ a.question in
     let name = nth_name _ a.words.now _ in
     λ ready.
-    putting_end (done.invariant.2 ready).2
-    (beyond_end text name _ (omega (arith, name_length ready.index.indexed _ c.requires, done.invariant.0, c.loop-len-test.false)))
+    putting_end (c.loop-len.invariant.2 ready).2
+    (beyond_end text name _ (omega (arith, name_length ready.index.indexed _ c.requires, c.loop-len.invariant.0, c.loop-len-test.false)))

@@ -17,18 +17,16 @@ loop-i-preserved c =
     let area = c.args.area.now in
     let words = c.args.words.now in
     let text = text_of area words c.args.patterns.now c.args.question in
-    let put_row = c.put_row-to in
-    let inv = c.loop-i.invariant in (
+    (
       omega arith,
-      put_row.kept.0 ∙ inv.1,
+      c.put_row-to.new.buf ∙ c.loop-i.invariant.1,
       λ ready.
           let step = rows_step area words ready.index.indexed text _ c.loop-i-test.true in
-          putting_more (inv.2 ready) _ _ step (put_row.ensures ready),
+          putting_more (c.loop-i.invariant.2 ready) _ _ step (c.put_row-to.ensures ready),
     )
 
 pub returns : goal.returns
 returns c =
     let a = c.args in
-    let done = c.loop-i in
     let text = text_of _ a.words.now _ a.question in
-    λ ready. putting_end (done.invariant.2 ready) (rows_end _ _ ready.index.indexed text done.i (omega arith))
+    λ ready. putting_end (c.loop-i.invariant.2 ready) (rows_end _ _ ready.index.indexed text c.loop-i.i (omega arith))

@@ -34,22 +34,17 @@ returns-then-not-is_matched c =
 
 pub returns-in-Lsub : goal.returns-in-Lsub
 returns-in-Lsub c =
-    let standing = c.look_at-standing in
     let n = begun _ c.args.words.now c.args.name in
     λ ready at.
-    let stands = standing.ensures _ ready at in
+    let stands = c.look_at-standing.ensures _ ready at in
     shown_lsub _ _ _ _ n _ _ stands.level stands.counts c.if-not-standing.false _ (c.is_matched.ensures ready at)
     c.in-Lsub.is c.if-not-is_matched.false
-    standing.result.flags.bits stands.flags
+    c.look_at-standing.result.flags.bits stands.flags
     c.lsub_attributes.result c.lsub_attributes.ensures
     (record { bits = 0 }) refl
 
 pub returns-in-List : goal.returns-in-List
 returns-in-List c =
-    let below = c.asked_below-info in
-    let asked = c.shows_children in
-    let parent = c.asked_below-children in
-    let attributes = c.attributes_of in
     let area = c.args.area.now in
     let words = c.args.words.now in
     let name = c.args.name in
@@ -60,13 +55,13 @@ returns-in-List c =
     let x = ready.index.indexed in
     let here = begins_here area words x name at in
     let stands = c.look_at-standing.ensures _ ready at in
-    let children : parent.result ≡ (o.ret_children && has_children (rows_at area words) o n)
-    = parent.ensures here ∙ (λ i. asked.ensures i && sym (children_below area words x name at o ps ready.marked) i) in
-    let info : below.result ≡ (o.sel_recursive && meets_below (rows_at area words) o n)
-    = below.ensures here ∙ (λ i. c.is_recursive.ensures i && sym (meets_below_lem area words x name at o ps ready.marked) i) in
+    let children : c.asked_below-children.result ≡ (o.ret_children && has_children (rows_at area words) o n)
+    = c.asked_below-children.ensures here ∙ (λ i. c.shows_children.ensures i && sym (children_below area words x name at o ps ready.marked) i) in
+    let info : c.asked_below-info.result ≡ (o.sel_recursive && meets_below (rows_at area words) o n)
+    = c.asked_below-info.ensures here ∙ (λ i. c.is_recursive.ensures i && sym (meets_below_lem area words x name at o ps ready.marked) i) in
     shown_list _ (rows_at area words) o ps n _ _ stands.level stands.counts c.if-not-standing.false
     _ (c.is_matched.ensures ready at)
-    c.in-List.is c.if-not-is_matched.false _ stands.flags parent.result children
-    attributes.result attributes.ensures
-    below.result info
+    c.in-List.is c.if-not-is_matched.false _ stands.flags c.asked_below-children.result children
+    c.attributes_of.result c.attributes_of.ensures
+    c.asked_below-info.result info
     c.child_info.result c.child_info.ensures

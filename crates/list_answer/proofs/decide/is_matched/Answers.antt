@@ -23,7 +23,6 @@ returns-then-row-len c =
 
 pub returns : goal.returns
 returns c =
-    let row = c.of_word-row in
     let area = c.args.area.now in
     let words = c.args.words.now in
     let levels = c.args.question.levels in
@@ -31,8 +30,8 @@ returns c =
     let o = options_is _ in
     let ps = unpacked _ in
     let n = begun area words name in
-    let bytes = fronted area _ _ row.ensures name.len _ c.front_of.ensures in
-    let proper = ne_eqb _ _ (λ e. c.if-row-len.false (ap (λ (r : Place). r.len) row.ensures ∙ e)) in
+    let bytes = fronted area _ _ c.of_word-row.ensures name.len _ c.front_of.ensures in
+    let proper = ne_eqb _ _ (λ e. c.if-row-len.false (ap (λ (r : Place). r.len) c.of_word-row.ensures ∙ e)) in
     λ ready at h.
     let x = ready.index.indexed in
     c.matches_any.ensures

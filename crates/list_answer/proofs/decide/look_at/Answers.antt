@@ -16,13 +16,6 @@ use Rattle.list_answer.proofs.decide.look_at.Goals as goal
 pub returns : goal.returns
 returns c =
     λ patterns ready at.
-    let row = c.of_word-row in
-    let flagged = c.flags_of-flags in
-    let marks = c.of_word in
-    let met = c.has in
-    let recursive = c.is_recursive-recursive in
-    let deep = c.asked_below-deep in
-    let absent = c.asks_level-absent in
     let level = c.asked_below-level in
     let area = c.args.area.now in
     let words = c.args.words.now in
@@ -33,19 +26,19 @@ returns c =
     let ps = unpacked patterns in
     let n = begun area words name in
     let whole = eqb _ name.len in
-    let flags : flagged.result.bits ≡ flags_of (rows_at area words) n
-    = flagged.ensures ∙ ap (λ (r : Place). cond (eqb r.len name.len) r.flags.bits 0) row.ensures ∙ sym
+    let flags : c.flags_of-flags.result.bits ≡ flags_of (rows_at area words) n
+    = c.flags_of-flags.ensures ∙ ap (λ (r : Place). cond (eqb r.len name.len) r.flags.bits 0) c.of_word-row.ensures ∙ sym
     (flags_here area words x name at) in
     let own : _ ≡ (whole && contains (marks_of _) 1)
-    = ap (λ (r : Place). eqb r.len name.len && met.result) row.ensures ∙ ap (λ (b : Bool). whole && b)
-    (met.ensures ∙ ap (λ (m : ℕ). contains m 1) marks.ensures) in
-    let asked : deep.result ≡ ((o.sel_recursive && not (eqb row.result.len name.len && met.result)) && found_below area words 2 name)
-    = deep.ensures here ∙ ap (λ (b : Bool). (b && not (eqb row.result.len name.len && met.result)) && found_below area words 2 name)
-    recursive.ensures in
-    let only : absent.result ≡ level_only o ps (flags_of (rows_at area words) n)
-    = absent.ensures ∙ ap (λ (b : Bool). b && not (exists flagged.result.bits)) ready.knows ∙ ap (level_only o ps) flags in
+    = ap (λ (r : Place). eqb r.len name.len && c.has.result) c.of_word-row.ensures ∙ ap (λ (b : Bool). whole && b)
+    (c.has.ensures ∙ ap (λ (m : ℕ). contains m 1) c.of_word.ensures) in
+    let asked : c.asked_below-deep.result ≡ ((o.sel_recursive && not (eqb c.of_word-row.result.len name.len && c.has.result)) && found_below area words 2 name)
+    = c.asked_below-deep.ensures here ∙ ap (λ (b : Bool). (b && not (eqb c.of_word-row.result.len name.len && c.has.result)) && found_below area words 2 name)
+    c.is_recursive-recursive.ensures in
+    let only : c.asks_level-absent.result ≡ level_only o ps (flags_of (rows_at area words) n)
+    = c.asks_level-absent.ensures ∙ ap (λ (b : Bool). b && not (exists c.flags_of-flags.result.bits)) ready.knows ∙ ap (level_only o ps) flags in
     record {
       flags = flags;
-      level = level.ensures here ∙ (λ i. only i && sym (meets_below_lem area words x name at o ps ready.marked) i);
-      counts = ap (λ (b : Bool). b || level.result) (right_here area words x name at o ps ready.marked _ _ own asked);
+      level = c.asked_below-level.ensures here ∙ (λ i. only i && sym (meets_below_lem area words x name at o ps ready.marked) i);
+      counts = ap (λ (b : Bool). b || c.asked_below-level.result) (right_here area words x name at o ps ready.marked _ _ own asked);
     }

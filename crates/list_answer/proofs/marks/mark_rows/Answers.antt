@@ -14,19 +14,17 @@ loop-i-init c =
 pub loop-i-preserved : goal.loop-i-preserved
 unfolding marked_word
 loop-i-preserved c =
-    let turn = c.loop-i in
     let a = c.args in
     let mark = marked_word _ _ a.question in
     let w = get_or a.words.now _ 0 in
     let e : c.with_marks.result ≡ mark w = c.with_marks.ensures ∙ ap (λ (m : ℕ). with_marks m w) c.marks_for-marks.ensures in (
       omega arith,
-      simp length-set turn.invariant.1,
-      turn.invariant.2,
-      subst (λ (v : ℕ). take (turn.i + 1) (set turn.marked turn.i v) ≡ map mark (take (turn.i + 1) a.words.now)) (sym e)
-          (words_more mark _ turn.marked turn.i (omega arith) (omega arith) turn.invariant.3),
+      simp length-set c.loop-i.invariant.1,
+      c.loop-i.invariant.2,
+      subst (λ (v : ℕ). take (c.loop-i.i + 1) (set c.loop-i.marked c.loop-i.i v) ≡ map mark (take (c.loop-i.i + 1) a.words.now)) (sym e)
+          (words_more mark _ c.loop-i.marked c.loop-i.i (omega arith) (omega arith) c.loop-i.invariant.3),
     )
 
 pub returns : goal.returns
 returns c =
-    let done = c.loop-i in
-    words_all _ _ _ done.i (omega arith) done.invariant.3
+    words_all _ _ _ c.loop-i.i (omega arith) c.loop-i.invariant.3

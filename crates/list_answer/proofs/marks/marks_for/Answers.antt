@@ -17,27 +17,20 @@ use Rattle.list_answer.proofs.marks.marks_for.Goals as goal
 pub returns : goal.returns
 unfolding adds row_marks
 returns c =
-    let place = c.of_word-row in
-    let met = c.is_met-meeting in
-    let recursive = c.is_recursive-recursive in
-    let asks = c.asks_level-level in
-    let looked = c.name_of in
-    let match = c.asked_match-matched in
-    let counts = c.counts_child in
     let area = c.args.area.now in
     let word = c.args.word in
     let o = options_is _ in
     let ps = unpacked _ in
     let row = row_at_word area word in
-    let meeting : met.result ≡ meets_mark o row = met.ensures ∙ ap (λ (r : Place). meets_criteria o r.flags.bits) place.ensures in
-    let level : asks.result ≡ level_only o ps _
-    = asks.ensures ∙ ap (λ (r : Place). c.args.question.levels && not (exists r.flags.bits)) place.ensures ∙ ap (λ (b : Bool). b && not (exists row.flags)) c.requires in
-    let child : counts.result ≡ child_mark o row
-    = counts.ensures ∙ ap (λ (r : Place). exists r.flags.bits && (not (remote r.flags.bits) || o.sel_remote)) place.ensures in
-    let name = named area word _ place.ensures looked.result.now looked.ensures in
-    let matched : match.result ≡ matched_mark o ps row = matched_is o ps area word _ _ _ _ meeting recursive.ensures level name match.result match.ensures in
-    let unmatched : ((recursive.result && met.result) && not match.result) ≡ unmatched_mark o ps row
-    = (λ i. (recursive.ensures i && meeting i) && not match.result) ∙ unmatched_is o ps row match.result matched in
+    let meeting : c.is_met-meeting.result ≡ meets_mark o row = c.is_met-meeting.ensures ∙ ap (λ (r : Place). meets_criteria o r.flags.bits) c.of_word-row.ensures in
+    let level : c.asks_level-level.result ≡ level_only o ps _
+    = c.asks_level-level.ensures ∙ ap (λ (r : Place). c.args.question.levels && not (exists r.flags.bits)) c.of_word-row.ensures ∙ ap (λ (b : Bool). b && not (exists row.flags)) c.requires in
+    let child : c.counts_child.result ≡ child_mark o row
+    = c.counts_child.ensures ∙ ap (λ (r : Place). exists r.flags.bits && (not (remote r.flags.bits) || o.sel_remote)) c.of_word-row.ensures in
+    let name = named area word _ c.of_word-row.ensures c.name_of.result.now c.name_of.ensures in
+    let matched : c.asked_match-matched.result ≡ matched_mark o ps row = matched_is o ps area word _ _ _ _ meeting c.is_recursive-recursive.ensures level name c.asked_match-matched.result c.asked_match-matched.ensures in
+    let unmatched : ((c.is_recursive-recursive.result && c.is_met-meeting.result) && not c.asked_match-matched.result) ≡ unmatched_mark o ps row
+    = (λ i. (c.is_recursive-recursive.ensures i && meeting i) && not c.asked_match-matched.result) ∙ unmatched_is o ps row c.asked_match-matched.result matched in
     let none : ◌≡◌ {A = ℕ} 0 0 = refl in
     let s1 = more 1 none meeting c.with.ensures in
     let s2 = more 2 s1 unmatched c.with-2.ensures in

@@ -8,9 +8,9 @@ use Rattle.list_line.proofs.write.write_named.Goals as goal
 pub returns-then-buf-need : goal.returns-then-buf-need
 unfolding list_line start_of
 returns-then-buf-need c =
-    let p = c.put_line-need.ensures in written_short _ _ (omega (arith, p.place))
+    written_short _ _ (omega (arith, c.put_line-need.ensures.place))
 
 pub returns : goal.returns
 unfolding list_line start_of
 returns c =
-    let p = c.put_line-need.ensures in written_fits _ _ c.put_line.ensures (omega (arith, p.place))
+    written_fits _ _ c.put_line.ensures (omega (arith, c.put_line-need.ensures.place))

@@ -27,9 +27,9 @@ returns c =
     let words = c.args.words.now in
     let i = c.args.i in
     let row = c.of_word-row in
-    let from-i : Begins area words i row.result.len
-    = record { indexed = c.requires.0; row = c.requires.1; within = rw row.ensures (le_refl _) } in
+    let from-i : Begins area words i c.of_word-row.result.len
+    = record { indexed = c.requires.0; row = c.requires.1; within = rw c.of_word-row.ensures (le_refl _) } in
     let e : c.some_below.result ≡ any_of (λ q. below (name_at area (get_or words i 0)) q.name) (rows_at area words)
-    = c.some_below.ensures from-i ∙ rw row.ensures (below_anywhere c.requires.0 i c.requires.1) in
+    = c.some_below.ensures from-i ∙ rw c.of_word-row.ensures (below_anywhere c.requires.0 i c.requires.1) in
     ap not e
     ∙ sym (none_some (rows_at area words) (row_at_word area (get_or words i 0)) (sym flag ∙ c.if-not-has.false))

@@ -16,25 +16,21 @@ mark_name-requires c =
 pub returns-then-not-mark_name : goal.returns-then-not-mark_name
 returns-then-not-mark_name c =
     let marked : let words = c.args.words.now in
-    let turn = c.loop-i in
-    Marked turn.used c.mark_name.new.used (nth_row words turn.i).start (nth_row words turn.i).len c.mark_name.result = rw c.of_word-row.ensures at c.mark_name.ensures in
-    let turn = c.loop-i in
+    Marked c.loop-i.used c.mark_name.new.used (nth_row words c.loop-i.i).start (nth_row words c.loop-i.i).len c.mark_name.result = rw c.of_word-row.ensures at c.mark_name.ensures in
     let row = nth_row c.args.words.now _ in
     let after = c.mark_name.new.used in
     sym
-    (laying_hit turn.invariant c.requires c.loop-i-test.true after
-    (subst (λ (r : Bool). Marked turn.used after row.start row.len r) c.if-not-mark_name.true marked))
+    (laying_hit c.loop-i.invariant c.requires c.loop-i-test.true after
+    (subst (λ (r : Bool). Marked c.loop-i.used after row.start row.len r) c.if-not-mark_name.true marked))
 
 pub loop-i-preserved : goal.loop-i-preserved
 loop-i-preserved c =
     let marked : let words = c.args.words.now in
-    let turn = c.loop-i in
-    Marked turn.used c.mark_name.new.used (nth_row words turn.i).start (nth_row words turn.i).len c.mark_name.result = rw c.of_word-row.ensures at c.mark_name.ensures in
-    let turn = c.loop-i in
+    Marked c.loop-i.used c.mark_name.new.used (nth_row words c.loop-i.i).start (nth_row words c.loop-i.i).len c.mark_name.result = rw c.of_word-row.ensures at c.mark_name.ensures in
     let row = nth_row c.args.words.now _ in
     let after = c.mark_name.new.used in
-    laying_more turn.invariant c.requires c.loop-i-test.true after
-    (subst (λ (r : Bool). Marked turn.used after row.start row.len r) c.if-not-mark_name.false marked)
+    laying_more c.loop-i.invariant c.requires c.loop-i-test.true after
+    (subst (λ (r : Bool). Marked c.loop-i.used after row.start row.len r) c.if-not-mark_name.false marked)
 
 pub returns : goal.returns
 returns c = sym (laying_done c.loop-i.invariant c.loop-i-test.false)

@@ -17,8 +17,7 @@ bounds-used-k-in-loop-k c = omega (arith, c.requires.inside)
 
 pub loop-k-preserved : goal.loop-k-preserved
 loop-k-preserved c =
-    let turn = c.loop-k in
-    marking_more turn.invariant c.loop-k-test.true (omega (arith, c.requires.size, c.requires.inside, turn.invariant.size))
+    marking_more c.loop-k.invariant c.loop-k-test.true (omega (arith, c.requires.size, c.requires.inside, c.loop-k.invariant.size))
 
 pub returns : goal.returns
 returns c = marking_done c.loop-k.invariant c.loop-k-test.false

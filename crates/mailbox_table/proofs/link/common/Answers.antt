@@ -8,17 +8,15 @@ loop-i-init c = (omega arith, zero-add _)
 
 pub returns-then-a-i : goal.returns-then-a-i
 returns-then-a-i c =
-    let least' = c.least-n in
     let a = c.args.a.now in
     let b = c.args.b.now in
-    sym (shared_stop a b _ (omega (arith, least'.ensures)) (omega (arith, least'.ensures)) c.if-a-i.true) ∙ c.loop-i.invariant.1
+    sym (shared_stop a b _ (omega (arith, c.least-n.ensures)) (omega (arith, c.least-n.ensures)) c.if-a-i.true) ∙ c.loop-i.invariant.1
 
 pub loop-i-preserved : goal.loop-i-preserved
 loop-i-preserved c =
-    let least' = c.least-n in
     let a = c.args.a.now in
     let b = c.args.b.now in
-    (omega arith, sym (shared_more a b _ (omega (arith, least'.ensures)) (omega (arith, least'.ensures)) c.if-a-i.false) ∙ c.loop-i.invariant.1)
+    (omega arith, sym (shared_more a b _ (omega (arith, c.least-n.ensures)) (omega (arith, c.least-n.ensures)) c.if-a-i.false) ∙ c.loop-i.invariant.1)
 
 pub returns : goal.returns
 returns c =

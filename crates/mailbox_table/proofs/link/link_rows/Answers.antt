@@ -11,15 +11,13 @@ loop-i-init c = linking_none _ _ _ c.of_word-previous.ensures
 
 pub returns-in_default : goal.returns-in_default
 returns-in_default c =
-    let turn = c.loop-i in
-    links_fails (linking_bad turn.invariant (omega (arith, turn.invariant.size, c.loop-i-test.true))
-    (sym c.next_row.ensures ∙ c.in_default.is)) turn.invariant.size
+    links_fails (linking_bad c.loop-i.invariant (omega (arith, c.loop-i.invariant.size, c.loop-i-test.true))
+    (sym c.next_row.ensures ∙ c.in_default.is)) c.loop-i.invariant.size
 
 pub relinked-requires : goal.relinked-requires
 relinked-requires c =
     let stepped : let area = c.args.area.now in
-    let turn = c.loop-i in
-    step_of area (name_in area turn.previous) (get_or turn.words turn.i 0) ≡ Next c.in-Next.row = sym c.next_row.ensures ∙ c.in-Next.is in
+    step_of area (name_in area c.loop-i.previous) (get_or c.loop-i.words c.loop-i.i 0) ≡ Next c.in-Next.row = sym c.next_row.ensures ∙ c.in-Next.is in
     step_packs c.args.area.now _ _ _ stepped
 
 pub loop-i-smaller : goal.loop-i-smaller
@@ -29,11 +27,9 @@ loop-i-smaller c =
 pub loop-i-preserved : goal.loop-i-preserved
 loop-i-preserved c =
     let stepped : let area = c.args.area.now in
-    let turn = c.loop-i in
-    step_of area (name_in area turn.previous) (get_or turn.words turn.i 0) ≡ Next c.in-Next.row = sym c.next_row.ensures ∙ c.in-Next.is in
-    let turn = c.loop-i in
-    rw c.relinked.ensures (linking_more turn.invariant (omega (arith, turn.invariant.size, c.loop-i-test.true)) _ stepped
-    (omega (arith, c.slice_known-in-loop-i-1.given turn.i)))
+    step_of area (name_in area c.loop-i.previous) (get_or c.loop-i.words c.loop-i.i 0) ≡ Next c.in-Next.row = sym c.next_row.ensures ∙ c.in-Next.is in
+    rw c.relinked.ensures (linking_more c.loop-i.invariant (omega (arith, c.loop-i.invariant.size, c.loop-i-test.true)) _ stepped
+    (omega (arith, c.slice_known-in-loop-i-1.given c.loop-i.i)))
 
 pub returns : goal.returns
 returns c = links_rows c.loop-i.invariant c.loop-i-test.false

@@ -47,6 +47,9 @@ returns-then-not-ascends_at c =
 
 pub returns : goal.returns
 returns c =
+    let flagged : c.lawful.result ≡ lawful_flags (row_of_word c.args.word).flags.bits = c.lawful.ensures ∙ ap (λ (r : Row). lawful_flags r.flags.bits) c.of_word-row.ensures in
+    let named : let a = c.args in
+    c.lawful_name.result ≡ lawful_name (name_at a.area.now a.word) = unfold name_at in c.lawful_name.ensures ∙ rw (c.name_of-name.ensures, c.of_word-row.ensures) in
     let shared_is : let a = c.args in
     c.common-shared.result ≡ shared_len (name_in a.area.now a.previous) (name_at a.area.now a.word) = unfold name_at in c.common-shared.ensures ∙ rw (c.name_of-before.ensures, c.name_of-name.ensures, c.of_word-row.ensures) in
     let ordered : let a = c.args in
@@ -60,6 +63,6 @@ returns c =
     ∙ sym
     (step_good area x a.word
     (subst (λ (r : Row). r.start + r.len ≤ length area) row c.if-area-start.false)
-    (sym (flagged (c)) ∙ c.if-not-lawful.false)
-    (sym (named (c)) ∙ c.if-not-lawful_name.false)
+    (sym flagged ∙ c.if-not-lawful.false)
+    (sym named ∙ c.if-not-lawful_name.false)
     (sym ordered ∙ c.if-not-ascends_at.false))

@@ -8,25 +8,22 @@ pub returns-then-not-link_rows : goal.returns-then-not-link_rows
 returns-then-not-link_rows c =
     let area = c.args.area.now in
     let before = c.args.words.now in
-    let link = c.link_rows in
-    passes_bad c.requires (subst (λ (r : Bool). Links area before link.new.1.0 (linked area [] before) r) c.if-not-link_rows.true link.ensures)
+    passes_bad c.requires (subst (λ (r : Bool). Links area before c.link_rows.new.words (linked area [] before) r) c.if-not-link_rows.true c.link_rows.ensures)
 
 pub inferiors_pass-requires : goal.inferiors_pass-requires
 inferiors_pass-requires c =
     let done : let area = c.args.area.now in
     let before = c.args.words.now in
-    Links area before c.link_rows.new.1.0 (linked area [] before) true = let area = c.args.area.now in
+    Links area before c.link_rows.new.words (linked area [] before) true = let area = c.args.area.now in
     let before = c.args.words.now in
-    let link = c.link_rows in
-    subst (λ (r : Bool). Links area before link.new.1.0 (linked area [] before) r) c.if-not-link_rows.false link.ensures in
+    subst (λ (r : Bool). Links area before c.link_rows.new.words (linked area [] before) r) c.if-not-link_rows.false c.link_rows.ensures in
     (done.same.1, omega (arith, done.room, c.requires))
 
 pub returns : goal.returns
 returns c =
     let done : let area = c.args.area.now in
     let before = c.args.words.now in
-    Links area before c.link_rows.new.1.0 (linked area [] before) true = let area = c.args.area.now in
+    Links area before c.link_rows.new.words (linked area [] before) true = let area = c.args.area.now in
     let before = c.args.words.now in
-    let link = c.link_rows in
-    subst (λ (r : Bool). Links area before link.new.1.0 (linked area [] before) r) c.if-not-link_rows.false link.ensures in
+    subst (λ (r : Bool). Links area before c.link_rows.new.words (linked area [] before) r) c.if-not-link_rows.false c.link_rows.ensures in
     passes_linked c.requires done _ c.inferiors_pass.ensures

@@ -12,7 +12,6 @@ returns-then-left-len c = sym (step_short _ _ (omega (arith, c.wide-len.ensures)
 
 pub returns : goal.returns
 returns c =
-    let wide = c.wide-len in
     let t = c.args.table.now in
-    ap Next (row_there_lem t _ c.pair.ensures wide.ensures)
-    ∙ sym (step_whole t _ (omega arith) (omega (arith, wide.ensures)))
+    ap Next (row_there_lem t _ c.pair.ensures c.wide-len.ensures)
+    ∙ sym (step_whole t _ (omega arith) (omega (arith, c.wide-len.ensures)))

@@ -28,10 +28,8 @@ loop-at-init c = splitting_none _ _ _
 
 pub returns-then-limit-n : goal.returns-then-limit-n
 returns-then-limit-n c =
-    let limit = c.least-limit in
-    let turn = c.loop-at in
-    splits_fails _ limit.ensures c.if-table-gt-MAX_BYTES.false (splitting_full turn.invariant c.loop-at-test.true c.if-limit-n.true)
-    turn.invariant.size
+    splits_fails _ c.least-limit.ensures c.if-table-gt-MAX_BYTES.false (splitting_full c.loop-at.invariant c.loop-at-test.true c.if-limit-n.true)
+    c.loop-at.invariant.size
 
 pub row_at-requires : goal.row_at-requires
 row_at-requires c =
@@ -39,19 +37,14 @@ row_at-requires c =
 
 pub returns-in_default : goal.returns-in_default
 returns-in_default c =
-    let turn = c.loop-at in
     splits_fails _ c.least-limit.ensures c.if-table-gt-MAX_BYTES.false
-    (splitting_bad turn.invariant c.loop-at-test.true (sym c.row_at.ensures ∙ c.in_default.is))
-    turn.invariant.size
+    (splitting_bad c.loop-at.invariant c.loop-at-test.true (sym c.row_at.ensures ∙ c.in_default.is))
+    c.loop-at.invariant.size
 
 pub word_at-requires : goal.word_at-requires
 word_at-requires c =
-    let stepped : let turn = c.loop-at in
-    step_at c.args.table.now turn.at ≡ Next c.in-Next.row = sym c.row_at.ensures ∙ c.in-Next.is in
-    (
-      record { inside = c.loop-at-test.true; bound = c.if-table-gt-MAX_BYTES.false },
-      step_packs _ _ _ stepped c.if-table-gt-MAX_BYTES.false (λ k. byte c k),
-    )
+    let stepped : step_at c.args.table.now c.loop-at.at ≡ Next c.in-Next.row = sym c.row_at.ensures ∙ c.in-Next.is in
+    record { placed = record { inside = c.loop-at-test.true; bound = c.if-table-gt-MAX_BYTES.false }; packs = step_packs _ _ _ stepped c.if-table-gt-MAX_BYTES.false (λ k. byte c k) }
 
 pub offset_bounds-words-n : goal.offset_bounds-words-n
 offset_bounds-words-n c =
@@ -63,20 +56,17 @@ bounds-words-n c =
 
 pub overflow_add-at : goal.overflow_add-at
 overflow_add-at c =
-    let stepped : let turn = c.loop-at in
-    step_at c.args.table.now turn.at ≡ Next c.in-Next.row = sym c.row_at.ensures ∙ c.in-Next.is in
+    let stepped : step_at c.args.table.now c.loop-at.at ≡ Next c.in-Next.row = sym c.row_at.ensures ∙ c.in-Next.is in
     omega (arith, step_inside _ _ _ stepped)
 
 pub loop-at-smaller : goal.loop-at-smaller
 loop-at-smaller c =
-    let stepped : let turn = c.loop-at in
-    step_at c.args.table.now turn.at ≡ Next c.in-Next.row = sym c.row_at.ensures ∙ c.in-Next.is in
+    let stepped : step_at c.args.table.now c.loop-at.at ≡ Next c.in-Next.row = sym c.row_at.ensures ∙ c.in-Next.is in
     omega (arith, step_start _ _ _ stepped)
 
 pub loop-at-preserved : goal.loop-at-preserved
 loop-at-preserved c =
-    let stepped : let turn = c.loop-at in
-    step_at c.args.table.now turn.at ≡ Next c.in-Next.row = sym c.row_at.ensures ∙ c.in-Next.is in
+    let stepped : step_at c.args.table.now c.loop-at.at ≡ Next c.in-Next.row = sym c.row_at.ensures ∙ c.in-Next.is in
     rw c.word_at.ensures
     (splitting_more c.loop-at.invariant c.loop-at-test.true c.if-table-gt-MAX_BYTES.false (λ k. byte c k) c.if-limit-n.false
     (omega (arith, c.least-limit.ensures)) _ stepped)

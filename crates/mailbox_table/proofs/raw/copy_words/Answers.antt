@@ -15,6 +15,5 @@ loop-i-preserved c =
 
 pub returns : goal.returns
 returns c =
-    let turn = c.loop-i in
-    let w : turn.i ≡ c.args.count = omega arith in
-    rw w at turn.invariant.1.elements
+    let w : c.loop-i.i ≡ c.args.count = omega arith in
+    rw w at c.loop-i.invariant.1.elements

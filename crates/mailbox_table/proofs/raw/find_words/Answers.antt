@@ -45,7 +45,7 @@ copy_words-requires c =
 pub slice_bounds-rows_pass-end : goal.slice_bounds-rows_pass-end
 slice_bounds-rows_pass-end c =
     let copied : let a = c.args in Copies a.area.now a.raw.now
-    a.words.now a.count c.copy_words.new.1.1.0 = record {
+    a.words.now a.count c.copy_words.new.words = record {
       long = c.if-area-gt-MAX_BYTES.false;
       many = omega (arith, c.least-2.ensures, c.least.ensures);
       copy = c.copy_words.ensures;
@@ -55,7 +55,7 @@ slice_bounds-rows_pass-end c =
 pub slice_bounds-rows_pass-end-2 : goal.slice_bounds-rows_pass-end-2
 slice_bounds-rows_pass-end-2 c =
     let copied : let a = c.args in Copies a.area.now a.raw.now
-    a.words.now a.count c.copy_words.new.1.1.0 = record {
+    a.words.now a.count c.copy_words.new.words = record {
       long = c.if-area-gt-MAX_BYTES.false;
       many = omega (arith, c.least-2.ensures, c.least.ensures);
       copy = c.copy_words.ensures;
@@ -65,7 +65,7 @@ slice_bounds-rows_pass-end-2 c =
 pub rows_pass-requires : goal.rows_pass-requires
 rows_pass-requires c =
     let copied : let a = c.args in Copies a.area.now a.raw.now
-    a.words.now a.count c.copy_words.new.1.1.0 = record {
+    a.words.now a.count c.copy_words.new.words = record {
       long = c.if-area-gt-MAX_BYTES.false;
       many = omega (arith, c.least-2.ensures, c.least.ensures);
       copy = c.copy_words.ensures;
@@ -75,7 +75,7 @@ rows_pass-requires c =
 pub returns-then-not-rows_pass : goal.returns-then-not-rows_pass
 returns-then-not-rows_pass c =
     let copied : let a = c.args in Copies a.area.now a.raw.now
-    a.words.now a.count c.copy_words.new.1.1.0 = record {
+    a.words.now a.count c.copy_words.new.words = record {
       long = c.if-area-gt-MAX_BYTES.false;
       many = omega (arith, c.least-2.ensures, c.least.ensures);
       copy = c.copy_words.ensures;
@@ -85,7 +85,7 @@ returns-then-not-rows_pass c =
 pub slice_bounds-lie_apart-end : goal.slice_bounds-lie_apart-end
 slice_bounds-lie_apart-end c =
     let copied : let a = c.args in Copies a.area.now a.raw.now
-    a.words.now a.count c.copy_words.new.1.1.0 = record {
+    a.words.now a.count c.copy_words.new.words = record {
       long = c.if-area-gt-MAX_BYTES.false;
       many = omega (arith, c.least-2.ensures, c.least.ensures);
       copy = c.copy_words.ensures;
@@ -93,14 +93,14 @@ slice_bounds-lie_apart-end c =
     let good : let area = c.args.area.now in
     let front = take
     c.args.count
-    c.copy_words.new.1.1.0 in
-    Links area front c.rows_pass.new.1.0 (words_pass area front) true = passed c true c.if-not-rows_pass.false in
+    c.copy_words.new.words in
+    Links area front c.rows_pass.new.words (words_pass area front) true = passed c true c.if-not-rows_pass.false in
     omega (arith, words_room copied good, copied.many)
 
 pub slice_bounds-lie_apart-end-2 : goal.slice_bounds-lie_apart-end-2
 slice_bounds-lie_apart-end-2 c =
     let copied : let a = c.args in Copies a.area.now a.raw.now
-    a.words.now a.count c.copy_words.new.1.1.0 = record {
+    a.words.now a.count c.copy_words.new.words = record {
       long = c.if-area-gt-MAX_BYTES.false;
       many = omega (arith, c.least-2.ensures, c.least.ensures);
       copy = c.copy_words.ensures;
@@ -108,14 +108,14 @@ slice_bounds-lie_apart-end-2 c =
     let good : let area = c.args.area.now in
     let front = take
     c.args.count
-    c.copy_words.new.1.1.0 in
-    Links area front c.rows_pass.new.1.0 (words_pass area front) true = passed c true c.if-not-rows_pass.false in
+    c.copy_words.new.words in
+    Links area front c.rows_pass.new.words (words_pass area front) true = passed c true c.if-not-rows_pass.false in
     simp length-take (omega (arith, words_room copied good, copied.many))
 
 pub lie_apart-requires : goal.lie_apart-requires
 lie_apart-requires c =
     let copied : let a = c.args in Copies a.area.now a.raw.now
-    a.words.now a.count c.copy_words.new.1.1.0 = record {
+    a.words.now a.count c.copy_words.new.words = record {
       long = c.if-area-gt-MAX_BYTES.false;
       many = omega (arith, c.least-2.ensures, c.least.ensures);
       copy = c.copy_words.ensures;
@@ -123,14 +123,14 @@ lie_apart-requires c =
     let good : let area = c.args.area.now in
     let front = take
     c.args.count
-    c.copy_words.new.1.1.0 in
-    Links area front c.rows_pass.new.1.0 (words_pass area front) true = passed c true c.if-not-rows_pass.false in
+    c.copy_words.new.words in
+    Links area front c.rows_pass.new.words (words_pass area front) true = passed c true c.if-not-rows_pass.false in
     subst (λ (ws : List ℕ). Mapped ws) (sym (words_front copied good)) (words_mapped copied good)
 
 pub returns-then-not-lie_apart : goal.returns-then-not-lie_apart
 returns-then-not-lie_apart c =
     let copied : let a = c.args in Copies a.area.now a.raw.now
-    a.words.now a.count c.copy_words.new.1.1.0 = record {
+    a.words.now a.count c.copy_words.new.words = record {
       long = c.if-area-gt-MAX_BYTES.false;
       many = omega (arith, c.least-2.ensures, c.least.ensures);
       copy = c.copy_words.ensures;
@@ -138,15 +138,15 @@ returns-then-not-lie_apart c =
     let good : let area = c.args.area.now in
     let front = take
     c.args.count
-    c.copy_words.new.1.1.0 in
-    Links area front c.rows_pass.new.1.0 (words_pass area front) true = passed c true c.if-not-rows_pass.false in
-    let apartness : c.lie_apart.result ≡ all_apart (map record_of c.rows_pass.new.1.0) = c.lie_apart.ensures ∙ ap (λ (ws : List ℕ). all_apart (map record_of ws)) (words_front copied good) in
+    c.copy_words.new.words in
+    Links area front c.rows_pass.new.words (words_pass area front) true = passed c true c.if-not-rows_pass.false in
+    let apartness : c.lie_apart.result ≡ all_apart (map record_of c.rows_pass.new.words) = c.lie_apart.ensures ∙ ap (λ (ws : List ℕ). all_apart (map record_of ws)) (words_front copied good) in
     words_overlap copied good (sym apartness ∙ c.if-not-lie_apart.true)
 
 pub returns : goal.returns
 returns c =
     let copied : let a = c.args in Copies a.area.now a.raw.now
-    a.words.now a.count c.copy_words.new.1.1.0 = record {
+    a.words.now a.count c.copy_words.new.words = record {
       long = c.if-area-gt-MAX_BYTES.false;
       many = omega (arith, c.least-2.ensures, c.least.ensures);
       copy = c.copy_words.ensures;
@@ -154,7 +154,7 @@ returns c =
     let good : let area = c.args.area.now in
     let front = take
     c.args.count
-    c.copy_words.new.1.1.0 in
-    Links area front c.rows_pass.new.1.0 (words_pass area front) true = passed c true c.if-not-rows_pass.false in
-    let apartness : c.lie_apart.result ≡ all_apart (map record_of c.rows_pass.new.1.0) = c.lie_apart.ensures ∙ ap (λ (ws : List ℕ). all_apart (map record_of ws)) (words_front copied good) in
+    c.copy_words.new.words in
+    Links area front c.rows_pass.new.words (words_pass area front) true = passed c true c.if-not-rows_pass.false in
+    let apartness : c.lie_apart.result ≡ all_apart (map record_of c.rows_pass.new.words) = c.lie_apart.ensures ∙ ap (λ (ws : List ℕ). all_apart (map record_of ws)) (words_front copied good) in
     words_rows copied good (sym apartness ∙ c.if-not-lie_apart.false)

@@ -11,17 +11,16 @@ loop-i-init c = seeing_none _ _
 
 pub loop-i-preserved : goal.loop-i-preserved
 loop-i-preserved c =
-    let turn = c.loop-i in
-    let word = get_or turn.words _ 0 in
-    let here : turn.i < length c.args.words.now = omega
-    (arith, c.loop-i-test.true, turn.invariant.size) in
+    let word = get_or c.loop-i.words _ 0 in
+    let here : c.loop-i.i < length c.args.words.now = omega
+    (arith, c.loop-i-test.true, c.loop-i.invariant.size) in
     let low-is : c.least-low.result ≡ min _ _ =
-    c.least-low.ensures ∙ ap (λ (r : Row). min turn.low r.shared) c.of_word-row.ensures in
+    c.least-low.ensures ∙ ap (λ (r : Row). min c.loop-i.low r.shared) c.of_word-row.ensures in
     let test : c.meets.result ≡ touches (record_of word).readers _ =
     c.meets.ensures ∙ (λ i. touches (c.readers_of-readers.ensures i) (c.one-own.ensures i)) in
     ⊎_elim
-    (λ w. rw (w.2, w.3, w.4, w.1.ensures, low-is) (seeing_seen turn.invariant here (sym test ∙ w.0.true)))
-    (λ w. rw (w.1, w.2, w.3, low-is) (seeing_hidden turn.invariant here (sym test ∙ w.0.false)))
+    (λ w. rw (w.2, w.3, w.4, w.1.ensures, low-is) (seeing_seen c.loop-i.invariant here (sym test ∙ w.0.true)))
+    (λ w. rw (w.1, w.2, w.3, low-is) (seeing_hidden c.loop-i.invariant here (sym test ∙ w.0.false)))
     c.if-meets.branch
 
 pub returns : goal.returns

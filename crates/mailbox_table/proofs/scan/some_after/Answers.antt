@@ -17,12 +17,11 @@ loop-k-init c =
 
 pub returns-then-row-len : goal.returns-then-row-len
 returns-then-row-len c =
-    let turn = c.loop-k in
     λ from-i.
     sym
-    (scan_shared from-i _ _ c.loop-k-test.true (omega arith) (turn.invariant.1 from-i).0
+    (scan_shared from-i _ _ c.loop-k-test.true (omega arith) (c.loop-k.invariant.1 from-i).0
     (subst (λ (r : Row). r.shared < c.args.len) c.of_word-row.ensures c.if-row-len.true))
-    ∙ (turn.invariant.1 from-i).1
+    ∙ (c.loop-k.invariant.1 from-i).1
 
 pub returns-then-b-gt-SLASH : goal.returns-then-b-gt-SLASH
 returns-then-b-gt-SLASH c =
@@ -61,13 +60,12 @@ loop-k-preserved c =
     (eqb c.byte_at-b.result 47 && c.is_marked.result) ≡
     (eqb (get_or (nth_name c.args.area.now c.args.words.now k) c.args.len 0) 47
     && contains (marks_of (get_or c.args.words.now k 0)) c.args.marks) = λ j. eqb (byte j) 47 && c.is_marked.ensures j in
-    let turn = c.loop-k in
-    let e : turn.k + 1 - 1 ≡ turn.k = omega arith in (
+    let e : c.loop-k.k + 1 - 1 ≡ c.loop-k.k = omega arith in (
       omega arith,
       λ from-i. (
         rw e (begins from-i),
         sym (scan_on from-i _ _ c.loop-k-test.true (begins from-i) (sym test ∙ c.if-b-is_marked.false))
-            ∙ (turn.invariant.1 from-i).1,
+            ∙ (c.loop-k.invariant.1 from-i).1,
       ),
     )
 

@@ -40,24 +40,24 @@ returns-then-i-name-2 c =
     let missed = step_missed _ c.args.pattern.now _ _ (omega arith) _ c.letter-c.ensures in
     let at_end_lem = c.if-i-name-2.true in
     front_led c.leads-then-i-name-2.ensures
-    (⊎_elim (λ w. missed w.1.left w.2.left at_end_lem) (λ w. missed (λ e. above _ w.left (inl e)) (λ e. above _ w.left (inr e)) at_end_lem)
-    c.if-c-le-SLASH.came) refl
+    (⊎_elim (λ w. missed w.1.false w.2.false at_end_lem) (λ w. missed (λ e. above _ w.false (inl e)) (λ e. above _ w.false (inr e)) at_end_lem)
+    c.if-c-le-SLASH.branch) refl
 
 pub returns-then-c-name : goal.returns-then-c-name
 unfolding given_up_as resumed_as
 returns-then-c-name c =
     let byte = step_byte _ c.args.pattern.now _ _ (omega arith) _ c.letter-c.ensures in
     front_led c.leads-then-c-name.ensures
-    (⊎_elim (λ w. byte w.1.left w.2.left (omega arith))
-    (λ w. byte (λ e. above _ w.left (inl e)) (λ e. above _ w.left (inr e)) (omega arith))
-    c.if-c-le-SLASH.came
+    (⊎_elim (λ w. byte w.1.false w.2.false (omega arith))
+    (λ w. byte (λ e. above _ w.false (inl e)) (λ e. above _ w.false (inr e)) (omega arith))
+    c.if-c-le-SLASH.branch
     ∙ byte_differs _ _ _ c.if-c-name.true) refl
 
 pub returns : goal.returns
 returns c =
     let byte = step_byte _ c.args.pattern.now _ _ (omega arith) _ c.letter-c.ensures in
     front_led c.leads-2.ensures
-    (⊎_elim (λ w. byte w.1.left w.2.left (omega arith))
-    (λ w. byte (λ e. above _ w.left (inl e)) (λ e. above _ w.left (inr e)) (omega arith))
-    c.if-c-le-SLASH.came
+    (⊎_elim (λ w. byte w.1.false w.2.false (omega arith))
+    (λ w. byte (λ e. above _ w.false (inl e)) (λ e. above _ w.false (inr e)) (omega arith))
+    c.if-c-le-SLASH.branch
     ∙ front_byte _ _ _ _ (omega arith)) refl

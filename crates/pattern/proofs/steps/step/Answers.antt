@@ -27,12 +27,12 @@ pub returns-then-j-name-2 : goal.returns-then-j-name-2
 returns-then-j-name-2 c =
     let missed = step_missed _ c.args.pattern.now _ _ (omega arith) _ c.letter-c.ensures in
     as_capped c.ends-then-j-name-2.ensures
-    ((⊎_elim (λ w. missed w.1.left w.2.left c.if-j-name-2.true)
-    (λ w. missed (λ e. above _ w.left (inl e)) (λ e. above _ w.left (inr e)) c.if-j-name-2.true) c.if-c-le-SLASH.came))
+    ((⊎_elim (λ w. missed w.1.false w.2.false c.if-j-name-2.true)
+    (λ w. missed (λ e. above _ w.false (inl e)) (λ e. above _ w.false (inr e)) c.if-j-name-2.true) c.if-c-le-SLASH.branch))
 
 pub returns : goal.returns
 returns c =
     let byte = step_byte _ c.args.pattern.now _ _ (omega arith) _ c.letter-c.ensures in
     as_capped c.byte_step.ensures
-    ((⊎_elim (λ w. byte w.1.left w.2.left (omega arith))
-    (λ w. byte (λ e. above _ w.left (inl e)) (λ e. above _ w.left (inr e)) (omega arith)) c.if-c-le-SLASH.came))
+    ((⊎_elim (λ w. byte w.1.false w.2.false (omega arith))
+    (λ w. byte (λ e. above _ w.false (inl e)) (λ e. above _ w.false (inr e)) (omega arith)) c.if-c-le-SLASH.branch))

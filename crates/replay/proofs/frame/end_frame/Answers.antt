@@ -10,7 +10,7 @@ slice_bounds-text-end c =
 pub returns-then-due-eq0 : goal.returns-then-due-eq0
 returns-then-due-eq0 c =
     asks_goes c.args.namespaces.now c.args.words.now c.args.sums.now c.args.area.now c.args.pending.now
-    c.args.line.now _ _ _ c.requires.stopped_value c.if-due-eq0.true c.requires.frames_bound.1.1.1.0 c.ask.ensures
+    c.args.line.now _ _ _ c.requires.stopped_value c.if-due-eq0.true c.requires.in_bounds c.ask.ensures
 
 pub slice_bounds-settle-end-2 : goal.slice_bounds-settle-end-2
 slice_bounds-settle-end-2 c =
@@ -18,10 +18,13 @@ slice_bounds-settle-end-2 c =
 
 pub settle-requires : goal.settle-requires
 settle-requires c =
-    let due = c.args.state.due in record { frames_bound = c.requires.frames_bound.0; le_frames = (
+    let due = c.args.state.due in record { frames_bound = c.requires.frames_bound; le_frames = ((
         omega (arith, c.requires, c.if-due-eq0.false),
         omega (arith, c.if-due-eq0.false, length-take-le due c.args.pending.now (omega (arith, c.requires))),
-      ); in_bounds =  }
+      )).0; in_bounds = ((
+        omega (arith, c.requires, c.if-due-eq0.false),
+        omega (arith, c.if-due-eq0.false, length-take-le due c.args.pending.now (omega (arith, c.requires))),
+      )).1 }
 
 pub returns : goal.returns
 returns c =

@@ -8,7 +8,7 @@ use Rattle.replay.proofs.frame.settle.Goals as goal
 
 pub returns-then-not-is_answer : goal.returns-then-not-is_answer
 returns-then-not-is_answer c =
-    settles_stop _ _ _ _ _ c.requires.le_frames.1 (sym (ap is_answer c.read_recorded-recorded.ensures) ∙ sym
+    settles_stop _ _ _ _ _ c.requires.in_bounds (sym (ap is_answer c.read_recorded-recorded.ensures) ∙ sym
     c.is_answer.ensures ∙ c.if-not-is_answer.true) _
     c.counted.ensures
 
@@ -28,7 +28,7 @@ pub returns : goal.returns
 returns c =
     let records : is_answer (recorded_is (read_logged c.args.text.now)) ≡ true = sym (c.is_answer.ensures ∙ ap is_answer c.read_recorded-recorded.ensures) ∙ c.if-not-is_answer.false in
     let a = c.args in
-    settles_run _ _ _ _ _ c.requires.le_frames.1 records _ _ c.read_recorded-recorded.ensures _
+    settles_run _ _ _ _ _ c.requires.in_bounds records _ _ c.read_recorded-recorded.ensures _
     (take_all (length a.text.now - 2) (drop 2 a.text.now) (omega (arith, length-drop 2 a.text.now))) _ c.run-ran.ensures _
     c.note-first.ensures _
     c.counted-2.ensures

@@ -8,33 +8,24 @@ use Rattle.server.proofs.EditLaws.{kind_is_lem}
 use Rattle.server.proofs.EditAnswers.{line_refused, line_done}
 use Rattle.server.proofs.edit.edit_line.Goals as goal
 
--- the function's entry, from the place where the tag is known
-abbrev start_of : tie.After-raw → tie.Start
-start_of c = c.before.before.before.before.before.before.before.before.before.before.before
-
 pub put_spelled-n-requires : goal.put_spelled-n-requires
 put_spelled-n-requires c =
     let a = c.args in
-    let reads = c.requires in
     omega
-    (arith, name_short a.line.now a.command, edit_short _ (sym (kind_is_lem _ _ reads.0) ∙ reads.1), ap length c.no_name-name.ensures ∙ length-replicate {A = ℕ} 2048 0)
+    (arith, name_short a.line.now a.command, edit_short _ (sym (kind_is_lem _ _ c.requires.0) ∙ c.requires.1), ap length c.no_name-name.ensures ∙ length-replicate {A = ℕ} 2048 0)
 
 pub returns-in-Refused : goal.returns-in-Refused
 returns-in-Refused c =
-    let tag_is : c.raw-tag.result.now ≡ span_bytes (start_of c).args.line.now (start_of c).args.command.tag = c.raw-tag.ensures ∙ sym (bare_bytes _ _ (start_of c).requires.0.inside.bare) in
-    let start = start_of c in
-    let number = c.number-1.given in
+    let tag_is : c.raw-tag.result.now ≡ span_bytes c.args.line.now c.args.command.tag = c.raw-tag.ensures ∙ sym (bare_bytes _ _ c.requires.0.inside.bare) in
     λ spaces listed.
-    line_refused _ _ _ _ _ _ start.args.out.now start.pre.0 start.pre.1 spaces listed _ _ _ _ c.is_subscribe-subscribe.ensures
-    c.put_spelled-n.ensures.bytes tag_is c.ok_fits-fits.ensures number.0.0 _ c.edit.result _
-    c.edit.ensures number.1 c.unchanged.ensures
+    line_refused _ _ _ _ _ _ c.args.out.now c.requires.0 c.requires.1 spaces listed _ _ _ _ c.is_subscribe-subscribe.ensures
+    c.put_spelled-n.ensures.bytes tag_is c.ok_fits-fits.ensures c.in-Refused.number _ c.edit.result _
+    c.edit.ensures c.in-Refused.is c.unchanged.ensures
 
 pub returns-in-Done : goal.returns-in-Done
 returns-in-Done c =
-    let tag_is : c.raw-tag.result.now ≡ span_bytes (start_of c).args.line.now (start_of c).args.command.tag = c.raw-tag.ensures ∙ sym (bare_bytes _ _ (start_of c).requires.0.inside.bare) in
-    let start = start_of c in
-    let change = c.change-1.given in
+    let tag_is : c.raw-tag.result.now ≡ span_bytes c.args.line.now c.args.command.tag = c.raw-tag.ensures ∙ sym (bare_bytes _ _ c.requires.0.inside.bare) in
     λ spaces listed.
-    line_done _ _ _ _ _ _ start.args.out.now start.pre.0 start.pre.1 spaces listed _ _ _ _ c.is_subscribe-subscribe.ensures
-    c.put_spelled-n.ensures.bytes tag_is c.ok_fits-fits.ensures change.0.0 _ c.edit.result _ _
-    c.edit.ensures change.1 c.put_ok_line-end.ensures
+    line_done _ _ _ _ _ _ c.args.out.now c.requires.0 c.requires.1 spaces listed _ _ _ _ c.is_subscribe-subscribe.ensures
+    c.put_spelled-n.ensures.bytes tag_is c.ok_fits-fits.ensures c.in-Done.change _ c.edit.result _ _
+    c.edit.ensures c.in-Done.is c.put_ok_line-end.ensures

@@ -5,5 +5,4 @@ use Rattle.server.proofs.packed.is_edit_line.Goals as goal
 
 pub returns : goal.returns
 returns c =
-    let read = c.read_command-command in
-    c.is_edit.ensures ∙ kind_is_lem _ _ (record { means = read.ensures.0; inside = read.ensures.1 })
+    c.is_edit.ensures ∙ kind_is_lem _ _ (record { means = c.read_command-command.ensures.result_value; inside = c.read_command-command.ensures.inside })

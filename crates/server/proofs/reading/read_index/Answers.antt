@@ -10,8 +10,7 @@ returns-then-not-check c =
 
 pub respond-requires : goal.respond-requires
 respond-requires c =
-    let read = c.read_command-command in
- record { index = c.requires; reads = record { means = read.ensures.0; inside = read.ensures.1 } }
+    record { index = c.requires; reads = record { means = c.read_command-command.ensures.result_value; inside = c.read_command-command.ensures.inside } }
 
 pub returns : goal.returns
 returns c =

@@ -9,12 +9,12 @@ use Rattle.server.proofs.reading.respond.Goals as goal
 pub write_listing-requires : goal.write_listing-requires
 write_listing-requires c =
     let a = c.args in
- record { index = c.requires.index; few = list_few a.area.now a.words.now a.namespaces.now _ _ c.requires.reads.means c.in-List.is }
+    record { index = c.requires.index; few = list_few a.area.now a.words.now a.namespaces.now _ _ c.requires.reads.means c.in-List.is }
 
 pub write_subscriptions-requires : goal.write_subscriptions-requires
 write_subscriptions-requires c =
     let a = c.args in
- record { index = c.requires.index; few = lsub_one a.area.now a.words.now a.namespaces.now _ _ c.requires.reads.means c.in-Lsub.is }
+    record { index = c.requires.index; few = lsub_one a.area.now a.words.now a.namespaces.now _ _ c.requires.reads.means c.in-Lsub.is }
 
 pub returns-in-Refused : goal.returns-in-Refused
 returns-in-Refused c =

@@ -7,15 +7,15 @@ use Rattle.server.proofs.replies.write_listing.Goals as goal
 
 pub slice_bounds-patterns-end : goal.slice_bounds-patterns-end
 slice_bounds-patterns-end c =
-    let packed-here : Lying (patterns_of c.args.line.now c.args.command) c.put_patterns-end.new.1.1.0 c.put_patterns-end.result = lying _ _ _ _ c.put_patterns-end.ensures (ap length c.no_patterns-patterns.ensures) c.requires.few in
+    let packed-here : Lying (patterns_of c.args.line.now c.args.command) c.put_patterns-end.new.buf c.put_patterns-end.result = lying _ _ _ _ c.put_patterns-end.ensures (ap length c.no_patterns-patterns.ensures) c.requires.few in
     packed-here.within
 
 pub slice_bounds-write_list-end : goal.slice_bounds-write_list-end
 slice_bounds-write_list-end c =
-    let packed-here : Lying (patterns_of c.args.line.now c.args.command) c.put_patterns-end.new.1.1.0 c.put_patterns-end.result = lying _ _ _ _ c.put_patterns-end.ensures (ap length c.no_patterns-patterns.ensures) c.requires.few in
+    let packed-here : Lying (patterns_of c.args.line.now c.args.command) c.put_patterns-end.new.buf c.put_patterns-end.result = lying _ _ _ _ c.put_patterns-end.ensures (ap length c.no_patterns-patterns.ensures) c.requires.few in
     packed-here.size
 
 pub returns : goal.returns
 returns c =
-    let packed-here : Lying (patterns_of c.args.line.now c.args.command) c.put_patterns-end.new.1.1.0 c.put_patterns-end.result = lying _ _ _ _ c.put_patterns-end.ensures (ap length c.no_patterns-patterns.ensures) c.requires.few in
+    let packed-here : Lying (patterns_of c.args.line.now c.args.command) c.put_patterns-end.new.buf c.put_patterns-end.result = lying _ _ _ _ c.put_patterns-end.ensures (ap length c.no_patterns-patterns.ensures) c.requires.few in
     rw (← packed-here.patterns) (c.write_list.ensures c.requires.index)

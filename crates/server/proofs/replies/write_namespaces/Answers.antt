@@ -12,4 +12,4 @@ returns-then-out-need c =
 pub returns : goal.returns
 returns c =
     let written = c.put_spaces-end.ensures in
-    written_fits _ _ written (omega (arith, c.put_spaces-need.ensures.place, written.fits))
+    written_fits _ _ written (omega (arith, c.put_spaces-need.ensures.place, c.put_spaces-end.ensures.fits))

@@ -12,4 +12,4 @@ returns-then-out-need c =
 pub returns : goal.returns
 returns c =
     let written = c.put_root-end.ensures in
-    written_fits _ _ written (omega (arith, c.put_root-need.ensures.place, written.fits))
+    written_fits _ _ written (omega (arith, c.put_root-need.ensures.place, c.put_root-end.ensures.fits))

@@ -4,10 +4,6 @@ use Rattle.kept_table.specs.Kept.{Lent, lent}
 use Rattle.session.proofs.CarryLaws.{whole_row, whole_entry, whole_command, kind_row, kind_entry, kind_command, kind_walk, kind_bad}
 use Rattle.session.proofs.carrying.carry_out.Goals as goal
 
--- the memory at the start
-abbrev memory : tie.Start → Lent
-memory start = lent start.args.table.now start.args.records.now start.args.namespaces.now start.args.out.now
-
 pub slice_bounds-add_row-end : goal.slice_bounds-add_row-end
 slice_bounds-add_row-end c =
     whole_row _ c.requires.frame_in_bounds
@@ -30,25 +26,30 @@ slice_bounds-line-end c =
 
 pub returns-in-Table : goal.returns-in-Table
 returns-in-Table c =
-    kind_row (memory c) _ c.requires.within _ _ _ _ _ _ c.in-Table.is c.add_row.ensures
+    let memory : Lent = lent c.args.table.now c.args.records.now c.args.namespaces.now c.args.out.now in
+    kind_row memory _ c.requires.within _ _ _ _ _ _ c.in-Table.is c.add_row.ensures
 
 pub returns-in-Namespaces : goal.returns-in-Namespaces
 returns-in-Namespaces c =
-    rw c.with_entries.ensures (kind_entry (memory c) _ c.requires.within _ _ _ _
+    let memory : Lent = lent c.args.table.now c.args.records.now c.args.namespaces.now c.args.out.now in
+    rw c.with_entries.ensures (kind_entry memory _ c.requires.within _ _ _ _
     _ _ c.in-Namespaces.is c.keep-added.ensures)
 
 pub returns-in-Command : goal.returns-in-Command
 returns-in-Command c =
+    let memory : Lent = lent c.args.table.now c.args.records.now c.args.namespaces.now c.args.out.now in
     let size = c.in-Command.n in
-    kind_command (memory c) _ c.requires.within _ _ _ size (size + 1 - 1) _ _ _ _
+    kind_command memory _ c.requires.within _ _ _ size (size + 1 - 1) _ _ _ _
     c.in-Command.is c.obey.ensures (omega arith)
 
 pub returns-in-Walk : goal.returns-in-Walk
 returns-in-Walk c =
-    rw c.said.ensures (kind_walk (memory c) _ c.requires.within _ _ _ _ _ _
+    let memory : Lent = lent c.args.table.now c.args.records.now c.args.namespaces.now c.args.out.now in
+    rw c.said.ensures (kind_walk memory _ c.requires.within _ _ _ _ _ _
     c.in-Walk.is c.walk_line.ensures)
 
 pub returns-in-Bad : goal.returns-in-Bad
 returns-in-Bad c =
-    rw c.said-in-Bad.ensures (kind_bad (memory c) _ c.requires.within _ _ _ _
+    let memory : Lent = lent c.args.table.now c.args.records.now c.args.namespaces.now c.args.out.now in
+    rw c.said-in-Bad.ensures (kind_bad memory _ c.requires.within _ _ _ _
     c.in-Bad.is c.put_refusal.ensures)

@@ -6,5 +6,4 @@ pub returns : goal.returns
 returns c =
     let sized : length c.frame_buffer-bytes.result ≡ 2050 = ap length c.frame_buffer-bytes.ensures ∙ length-replicate {A = ℕ} 2050 0 in
     let read = c.read_gathered-frame in
-    let done = c.carry_out.ensures in
-    record { frame = _; read = λ p h. read.ensures.means (omega (arith, sized)) p h; carried = done.carried; numbers = done.numbers }
+    record { frame = _; read = λ p h. c.read_gathered-frame.ensures.means (omega (arith, sized)) p h; carried = c.carry_out.ensures.carried; numbers = c.carry_out.ensures.numbers }

@@ -8,5 +8,4 @@ returns-in-Now c =
 
 pub returns-in-NoRoom : goal.returns-in-NoRoom
 returns-in-NoRoom c =
-    let stored = c.store in
-    keeps_full c.requires.limit_in_bounds stored.ensures _ _ _ _ c.requires.used_le_limit c.in-NoRoom.is c.put_refusal-written.ensures
+    keeps_full c.requires.limit_in_bounds c.store.ensures _ _ _ _ c.requires.used_le_limit c.in-NoRoom.is c.put_refusal-written.ensures

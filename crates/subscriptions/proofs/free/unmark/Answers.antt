@@ -7,14 +7,12 @@ pub loop-i-init : goal.loop-i-init
 loop-i-init c = (c.least-stop.ensures, omega arith, omega arith, unmarked_none _ _)
 
 pub bounds-marks-i : goal.bounds-marks-i
-bounds-marks-i c = let v = c.loop-i.invariant in omega (arith, v.0, v.3.size)
+bounds-marks-i c = omega (arith, c.loop-i.invariant.0, c.loop-i.invariant.3.size)
 
 pub loop-i-preserved : goal.loop-i-preserved
 loop-i-preserved c =
-    let v = c.loop-i.invariant in
-    (v.0, omega (arith, v.1), omega (arith, v.1), unmarked_more v.3 v.1 (omega (arith, v.0, v.3.size)))
+    (c.loop-i.invariant.0, omega (arith, c.loop-i.invariant.1), omega (arith, c.loop-i.invariant.1), unmarked_more c.loop-i.invariant.3 c.loop-i.invariant.1 (omega (arith, c.loop-i.invariant.0, c.loop-i.invariant.3.size)))
 
 pub returns : goal.returns
 returns c =
-    let v = c.loop-i.invariant in
-    unmarked_all v.3 _ v.1 (omega (arith, v.0, v.2)) (omega (arith, v.0))
+    unmarked_all c.loop-i.invariant.3 _ c.loop-i.invariant.1 (omega (arith, c.loop-i.invariant.0, c.loop-i.invariant.2)) (omega (arith, c.loop-i.invariant.0))

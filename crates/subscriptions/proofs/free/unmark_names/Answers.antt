@@ -14,10 +14,8 @@ overflow_add-row c =
 
 pub loop-i-preserved : goal.loop-i-preserved
 loop-i-preserved c =
-    let turn = c.loop-i in
-    let unmark = c.unmark in
-    left_more turn.invariant c.loop-i-test.true
-    (subst (λ (r : Row). Unmarks (used_between r.start (r.start + r.len)) turn.marks unmark.new.0) c.of_word-row.ensures unmark.ensures)
+    left_more c.loop-i.invariant c.loop-i-test.true
+    (subst (λ (r : Row). Unmarks (used_between r.start (r.start + r.len)) c.loop-i.marks c.unmark.new.marks) c.of_word-row.ensures c.unmark.ensures)
 
 pub returns : goal.returns
 returns c = left_all c.loop-i.invariant c.loop-i-test.false

@@ -7,7 +7,5 @@ use Rattle.list_answer.proofs.question.Question.lsub.Goals as goal
 
 pub returns : goal.returns
 returns c =
-    let level = c.some_level in
-    let options = c.lsub_options in
     let patterns = c.args.patterns.now in
-    (options.ensures ∙ ap lsub_set level.ensures, refl, sym (lsub_levels _ level.result (unpacked patterns) options.ensures))
+    (c.lsub_options.ensures ∙ ap lsub_set c.some_level.ensures, refl, sym (lsub_levels _ c.some_level.result (unpacked patterns) c.lsub_options.ensures))

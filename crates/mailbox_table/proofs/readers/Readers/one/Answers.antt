@@ -18,7 +18,6 @@ loop-i-preserved c = (omega (arith, c.loop-i-test.true), ap (λ (m : ℕ). m * 2
 
 pub returns : goal.returns
 returns c =
-    let turn = c.loop-i in
     let reader = c.args.reader in
-    let end : turn.i ≡ reader = omega (arith, turn.invariant.0, c.loop-i-test.false) in
-    turn.invariant.1 ∙ ap (λ (k : ℕ). 2 ^ k) end ∙ member_is reader (omega (arith, c.if-reader-gt-MAX_READER.false))
+    let end : c.loop-i.i ≡ reader = omega (arith, c.loop-i.invariant.0, c.loop-i-test.false) in
+    c.loop-i.invariant.1 ∙ ap (λ (k : ℕ). 2 ^ k) end ∙ member_is reader (omega (arith, c.if-reader-gt-MAX_READER.false))

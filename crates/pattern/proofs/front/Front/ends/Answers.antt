@@ -4,20 +4,20 @@ use Rattle.pattern.proofs.front.Front.ends.Goals as goal
 
 pub returns-in-Front : goal.returns-in-Front
 unfolding front_ends
-returns-in-Front c = rw c.enum_told-1.given.1
+returns-in-Front c = rw c.in-Front.is
 
 pub returns-in-Level : goal.returns-in-Level
 unfolding front_ends
-returns-in-Level c = rw c.enum_told-in-Level-1.given.1
+returns-in-Level c = rw c.in-Level.is
 
 pub returns-in-Any : goal.returns-in-Any
 unfolding front_ends
-returns-in-Any c = rw c.enum_told-in-Any-1.given.1
+returns-in-Any c = rw c.in-Any.is
 
 pub returns-in-Matched : goal.returns-in-Matched
 unfolding front_ends
-returns-in-Matched c = rw c.enum_told-in-Matched-1.given.1
+returns-in-Matched c = rw c.in-Matched.is
 
 pub returns-in-Missed : goal.returns-in-Missed
 unfolding front_ends
-returns-in-Missed c = rw c.enum_told-in-Missed-1.given.1
+returns-in-Missed c = rw c.in-Missed.is

@@ -5,14 +5,14 @@ use Rattle.pattern.proofs.steps.At.resume.Goals as goal
 pub returns-in-Gone : goal.returns-in-Gone
 unfolding resumed_as
 returns-in-Gone c =
-    rw c.enum_told-1.given.1 c.ends.ensures
+    rw c.in-Gone.is c.ends.ensures
 
 pub returns-in-Pending : goal.returns-in-Pending
 unfolding resumed_as
 returns-in-Pending c =
-    rw c.enum_told-in-Pending-1.given.1 c.begins.ensures
+    rw c.in-Pending.is c.begins.ensures
 
 pub returns-in-Settled : goal.returns-in-Settled
 unfolding resumed_as
 returns-in-Settled c =
-    rw c.enum_told-in-Settled-1.given.1 c.begins-in-Settled.ensures
+    rw c.in-Settled.is c.begins-in-Settled.ensures

@@ -4,12 +4,12 @@ use Rattle.pattern.proofs.steps.Star.settle.Goals as goal
 
 pub returns-in-Gone : goal.returns-in-Gone
 unfolding fixed_as
-returns-in-Gone c = rw c.enum_told-1.given.1
+returns-in-Gone c = rw c.in-Gone.is
 
 pub returns-in-Pending : goal.returns-in-Pending
 unfolding fixed_as
-returns-in-Pending c = rw c.enum_told-in-Pending-1.given.1
+returns-in-Pending c = rw c.in-Pending.is
 
 pub returns-in-Settled : goal.returns-in-Settled
 unfolding fixed_as
-returns-in-Settled c = rw c.enum_told-in-Settled-1.given.1
+returns-in-Settled c = rw c.in-Settled.is

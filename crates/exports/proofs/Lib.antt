@@ -6,3 +6,4 @@ mod WordLaws
 mod LeftLaws
 mod ReplayLaws
 mod LentLaws
+mod CallLaws

@@ -50,16 +50,14 @@ pub(crate) struct EventNumbers {
 }
 
 // The bytes of a chunk, through the first that something comes of, or all.
-#[unsafe(no_mangle)]
-pub extern "C" fn luspemaro_feed(state: FeederState, command: &mut [u8], chunk: &[u8]) -> FedChunk
+pub fn luspemaro_feed(state: FeederState, command: &mut [u8], chunk: &[u8]) -> FedChunk
     ensures { FeedsChunk state command.old command.new chunk.now result }
 {
     fed_chunk(feeder::feed(machine_of(state), command, chunk))
 }
 
 // The continuation line, at a place of the buffer; the place after it.
-#[unsafe(no_mangle)]
-pub extern "C" fn luspemaro_put_go_on(out: &mut [u8], at: usize) -> usize
+pub fn luspemaro_put_go_on(out: &mut [u8], at: usize) -> usize
     ensures { Put out.old out.new at go_on_line result }
 {
     feeder::put_go_on(out, at)

@@ -1,5 +1,5 @@
 // The library for programs in C and Rust: the entries of document 01 under plain names; and document 02's feeder (`feeding`)
-// and replay (`replaying`).
+// and replay (`replaying`). The crate `exports_c` hands them to C under the same names.
 //
 // The entries over lent records, with the summary beside them, stand here and in `replaying`: each copies the records in as numbers, hands these and the
 // summary to the entry of the crate below that works on them, and copies back the records that it changed. Every other function calls the entry that it is named after and repeats its
@@ -39,8 +39,7 @@ use records::{Record, copy_back, copy_in, no_words};
 use summary::{check_summed, summarize_words};
 
 // Check 1: whether the first `count` records pass, over the area of name bytes, and their summary agrees.
-#[unsafe(no_mangle)]
-pub extern "C" fn luspemaro_check_records(
+pub fn luspemaro_check_records(
     records: &[Record],
     count: usize,
     area: &[u8],
@@ -54,13 +53,7 @@ pub extern "C" fn luspemaro_check_records(
 }
 
 // A caller's first summary, counted afresh: 0, or 1 where the records do not pass without one, or are more than the numbers; then every number stays.
-#[unsafe(no_mangle)]
-pub extern "C" fn luspemaro_summarize(
-    records: &[Record],
-    count: usize,
-    area: &[u8],
-    summary: &mut [u64],
-) -> u8
+pub fn luspemaro_summarize(records: &[Record], count: usize, area: &[u8], summary: &mut [u64]) -> u8
     ensures result { result ≡ (summarized (plain_table records.now count area.now summary.old)
         (map summary_of summary.old)).number }
     ensures summary { map summary_of summary.new
@@ -72,32 +65,28 @@ pub extern "C" fn luspemaro_summarize(
 }
 
 // Check 1 of a packed table, which has no summary.
-#[unsafe(no_mangle)]
-pub extern "C" fn luspemaro_check_table(table: &[u8]) -> bool
+pub fn luspemaro_check_table(table: &[u8]) -> bool
     ensures { result ≡ passes (packed_table table.now) }
 {
     mailbox_table::check(table)
 }
 
 // Check 2: whether the namespace list passes.
-#[unsafe(no_mangle)]
-pub extern "C" fn luspemaro_check_namespaces(list: &[u8]) -> bool
+pub fn luspemaro_check_namespaces(list: &[u8]) -> bool
     ensures { result ≡ namespaces_pass list.now }
 {
     namespace_list::check(list)
 }
 
 // Whether the name, of at most 255 bytes, matches the canonical pattern.
-#[unsafe(no_mangle)]
-pub extern "C" fn luspemaro_matches(pattern: &[u8], name: &[u8]) -> bool
+pub fn luspemaro_matches(pattern: &[u8], name: &[u8]) -> bool
     ensures { result ≡ (leb (length name.now) 255 && matches pattern.now name.now) }
 {
     pattern::matches(pattern, name)
 }
 
 // In how many steps that is decided.
-#[unsafe(no_mangle)]
-pub extern "C" fn luspemaro_match_steps(pattern: &[u8], name: &[u8]) -> usize
+pub fn luspemaro_match_steps(pattern: &[u8], name: &[u8]) -> usize
     ensures count { result ≡ (counted_is pattern.now name.now).steps }
     ensures bound { result ≤ (length pattern.now + 1) * (length name.now + 1) }
 {
@@ -107,8 +96,7 @@ pub extern "C" fn luspemaro_match_steps(pattern: &[u8], name: &[u8]) -> usize
 
 // The answer to one command of a reader at the front of `out`. SUBSCRIBE and UNSUBSCRIBE change records, area and summary; `count` of the outcome is the
 // number of rows given back, on a refusal the one that was passed, and `changed` says whether a row changed.
-#[unsafe(no_mangle)]
-pub extern "C" fn luspemaro_answer(
+pub fn luspemaro_answer(
     records: &mut [Record],
     count: usize,
     reader: u8,
@@ -178,8 +166,7 @@ fn answer_words(
 }
 
 // Names moved together: 0, or 1 where the table does not pass with its summary.
-#[unsafe(no_mangle)]
-pub extern "C" fn luspemaro_compact(
+pub fn luspemaro_compact(
     records: &mut [Record],
     count: usize,
     area: &mut [u8],
@@ -198,8 +185,7 @@ pub extern "C" fn luspemaro_compact(
 }
 
 // The whole walk of a reader: finds at the front of `found`, the names that were asked below at the front of `pending`.
-#[unsafe(no_mangle)]
-pub extern "C" fn luspemaro_collect(
+pub fn luspemaro_collect(
     records: &[Record],
     count: usize,
     reader: u8,
@@ -271,8 +257,7 @@ fn collect_words(
 }
 
 // The same over a packed table.
-#[unsafe(no_mangle)]
-pub extern "C" fn luspemaro_collect_packed(
+pub fn luspemaro_collect_packed(
     table: &[u8],
     reader: u8,
     option: u8,
@@ -298,13 +283,7 @@ pub extern "C" fn luspemaro_collect_packed(
 
 // The line writer: the line of these parts at the front of `out`. The criteria are those that CHILDINFO names: 1 SUBSCRIBED, 2
 // SPECIAL-USE. A number with another bit is refused with 12, first.
-#[unsafe(no_mangle)]
-pub extern "C" fn luspemaro_write_line(
-    attributes: u16,
-    name: &[u8],
-    criteria: u8,
-    out: &mut [u8],
-) -> Outcome
+pub fn luspemaro_write_line(attributes: u16, name: &[u8], criteria: u8, out: &mut [u8]) -> Outcome
     ensures { Into (written (members attributes) name.now criteria out.old) out.old out.new result }
 {
     let set = Attributes { bits: attributes };
@@ -313,8 +292,7 @@ pub extern "C" fn luspemaro_write_line(
 }
 
 // The line reader.
-#[unsafe(no_mangle)]
-pub extern "C" fn luspemaro_read_line(line: &[u8]) -> LineParts
+pub fn luspemaro_read_line(line: &[u8]) -> LineParts
     ensures { result ≡ parts_of (read_line line.now) }
 {
     line_parts(line_reader::read_line(line))
@@ -323,8 +301,7 @@ pub extern "C" fn luspemaro_read_line(line: &[u8]) -> LineParts
 // The joined command of these parts at the front of `out`. The options are a set by its number: of the selection 1 SUBSCRIBED, 2 REMOTE,
 // 4 RECURSIVEMATCH, 8 SPECIAL-USE, of the return options 16 SUBSCRIBED, 32 CHILDREN, 64 SPECIAL-USE. The patterns are packed, each as a
 // length byte and its bytes.
-#[unsafe(no_mangle)]
-pub extern "C" fn luspemaro_join(
+pub fn luspemaro_join(
     tag: &[u8],
     options: u8,
     reference: &[u8],

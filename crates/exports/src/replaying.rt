@@ -64,8 +64,7 @@ pub(crate) struct PieceDone {
 }
 
 // A whole log run over the records, of which the first `count` are rows: records, area and summary are then as its commands left them.
-#[unsafe(no_mangle)]
-pub extern "C" fn luspemaro_replay(
+pub fn luspemaro_replay(
     records: &mut [Record],
     count: usize,
     area: &mut [u8],
@@ -121,8 +120,7 @@ fn replay_words(
 }
 
 // One piece of a log, of any length, from a state on. `pending` holds the command whose answer is due, `line` the frame so far.
-#[unsafe(no_mangle)]
-pub extern "C" fn luspemaro_replay_feed(
+pub fn luspemaro_replay_feed(
     records: &mut [Record],
     count: usize,
     state: ReplayState,

@@ -14,12 +14,7 @@ pub(crate) fn is_held(stored: Lengths, table: usize, records: usize) -> bool
 }
 
 // Of the table and of the namespace list.
-pub(crate) fn is_within(
-    stored: Lengths,
-    table: usize,
-    records: usize,
-    namespaces: usize,
-) -> bool
+pub(crate) fn is_within(stored: Lengths, table: usize, records: usize, namespaces: usize) -> bool
     ensures { result ≡ (rows_fit stored table records && entries_fit stored namespaces) }
 {
     let held = is_held(stored, table, records);

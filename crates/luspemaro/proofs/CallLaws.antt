@@ -4,10 +4,9 @@ use Rattle.listing_rules.proofs.Prelude.{◌^◌, arith, eqb, drop, drop-drop, l
 use lib.IntN.{ℤ, pos, negsuc}
 use lib.Signed.{lt_z, mag}
 use Rattle.io.specs.Counts.{clamp_len}
-use Rattle.libc.specs.Io.{Moved}
 use mir.Syntax.{w32, w64}
 use mir.Val.{SFits, of_z, sel, to_z}
-use Rattle.luspemaro.specs.Calling.{is_repeated, Leaves}
+use Rattle.luspemaro.specs.Calling.{is_repeated, Leaves, Moved}
 
 -- EAGAIN is tried again, and of the other errors EINTR alone
 pub blocks : (e : ℤ) → SFits w32 e → of_z w32 e ≡ 11 → true ≡ is_repeated e

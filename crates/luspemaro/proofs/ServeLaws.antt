@@ -42,8 +42,8 @@ rounds {e = e} {t = t} x y =
     }
 
 -- and so is the end of the input
-pub ends : {o p : List ℕ} {st : State} {n : ℕ} {r : Sent} → 32771 ≤ length o → Finishes o p st n → Sends n r → Ends p st r
-ends {p = p} room f y w d line s h =
+pub ends : {o p : List ℕ} {st : State} {n : ℕ} (r : Sent) → 32771 ≤ length o → Finishes o p st n → Sends n r → Ends p st r
+ends {p = p} r room f y w d line s h =
     let z = f.says d line s h in
     ap (λ (n : ℕ). take n p) (y.1 w) ∙ said_front z (omega (arith, z.fits))
 

@@ -9,6 +9,11 @@ abbrev pub is_repeated : ℤ → Bool
 is_repeated (pos n) = eqb n 4 || eqb n 11
 is_repeated (negsuc n) = false
 
+-- what a call that is handed n bytes may answer: -1, or how many bytes it moved, at most n
+abbrev pub Moved : ℕ → ℤ → Type 0
+Moved n (pos k) = k ≤ n
+Moved n (negsuc k) = k ≡ 0
+
 -- a call answered -1, by an error after which it is not made again
 abbrev pub Fails : ℤ → ℤ → Type 0
 Fails answer error = (answer ≡ negsuc 0) × (is_repeated error ≡ false)
@@ -17,7 +22,7 @@ Fails answer error = (answer ≡ negsuc 0) × (is_repeated error ≡ false)
 abbrev pub GotSome : ℕ → Got → Type 0
 GotSome room (Bytes n) = (0 < n) × (n ≤ room)
 GotSome room End = Unit
-GotSome room Failed = Unit
+GotSome room (Failed error) = Unit
 
 -- what is left of some bytes after a write: all but the first ones, which it took
 abbrev pub Leaves : List ℕ → List ℕ → Type 0

@@ -1,69 +1,98 @@
 // The calls of the system, made again where they were interrupted or would have blocked.
 
 ghost use Rattle.std.specs.Prelude.{◌≤◌, ◌≡◌, pos, drop, length};
+ghost use Rattle.std.specs.Result.{ForOk};
 ghost use Rattle.io.specs.Counts.{IsPrefixLen, clamp_len};
-ghost use Rattle.libc.specs.Io.{Moved};
 ghost use Rattle.luspemaro.specs.declared.calls.Got.TheVariants.{End, Failed};
-ghost use Rattle.luspemaro.specs.Calling.{is_repeated, Fails, GotSome, Leaves, Sends};
+ghost use Rattle.luspemaro.specs.Calling.{is_repeated, Moved, Fails, GotSome, Leaves, Sends};
 
-use libc::types::timespec;
-use libc::{EAGAIN, EINTR, STDIN_FILENO, STDOUT_FILENO};
+use std::alloc::AllocError;
+use std::io::{Error, Read, Write};
+use std::thread;
+use std::time::Duration;
 
-// What came of a read: so many bytes, the end of the input, or a failure.
+const STDIN_FILENO: i32 = 0;
+
+const STDOUT_FILENO: i32 = 1;
+
+// The errors after which a call is made again.
+const EINTR: i32 = 4;
+
+const EAGAIN: i32 = 11;
+
+// What came of a read: so many bytes, the end of the input, or a failure with its error.
 #[derive(Clone, Copy)]
 pub(crate) enum Got {
     Bytes(usize),
     End,
-    Failed,
+    Failed(i32),
 }
 
-// How many bytes the system took of those to be written, and whether they were all.
+// How many bytes the system took of those to be written, and whether they were all; if not, the error.
 #[derive(Clone, Copy)]
 pub(crate) struct Sent {
     pub bytes: usize,
     pub whole: bool,
+    pub error: i32,
 }
 
-// A thousandth of a second.
-fn a_while() -> timespec {
-    timespec {
-        tv_sec: 0,
-        tv_nsec: 1000000,
-    }
+// What the system answered to a call: how many bytes it moved, or -1 and the error.
+#[derive(Clone, Copy)]
+struct Called {
+    answer: isize,
+    error: i32,
 }
 
-// Waits a little, or until a signal comes.
-fn pause() {
-    let asked = a_while();
-    let mut left = asked;
-    libc::nanosleep(&asked, &mut left);
+// Waits a thousandth of a second, or until a signal comes.
+fn pause(rt: &HostRuntime) {
+    thread::sleep(rt, Duration::from_millis(1));
 }
 
 // Whether a call that failed with this error is to be made again, after a pause if it would have blocked.
-fn is_to_be_repeated(error: i32) -> bool
+fn is_to_be_repeated(rt: &HostRuntime, error: i32) -> bool
     ensures { result ≡ is_repeated error }
 {
     if error == EAGAIN {
-        pause();
+        pause(rt);
         return true;
     }
     error == EINTR
 }
 
-// One call of the system's read. No contract says what a descriptor is: that it is standard input is asked of the caller.
-fn read_from(descriptor: i32, chunk: &mut [u8]) -> isize
-    requires { descriptor ≡ pos 0 }
-    ensures { Moved (length chunk.old) result }
+// The answer of a call that was handed so many bytes, as the system gives it.
+fn answer_of(moved: std::io::Result<usize>, most: usize) -> Called
+    requires { ForOk moved (λ n. n ≤ most) }
+    ensures { Moved most result.answer }
 {
-    libc::read(descriptor, chunk)
+    match moved {
+        Ok(n) => Called {
+            answer: isize::try_from(n).unwrap_or(isize::MAX),
+            error: 0,
+        },
+        Err(e) => Called {
+            answer: -1,
+            error: e.raw_os_error().unwrap_or(0),
+        },
+    }
+}
+
+// One call of the system's read. No contract says what a descriptor is: that it is standard input is asked of the caller.
+fn read_from(rt: &HostRuntime, descriptor: i32, chunk: &mut [u8]) -> Called
+    requires { descriptor ≡ pos 0 }
+    ensures { Moved (length chunk.old) result.answer }
+{
+    let most = chunk.len();
+    let moved = rt.stdin().read(chunk);
+    answer_of(moved, most)
 }
 
 // One call of the system's write, to standard output alone.
-fn write_to(descriptor: i32, bytes: &[u8]) -> isize
+fn write_to(rt: &HostRuntime, descriptor: i32, bytes: &[u8]) -> Called
     requires { descriptor ≡ pos 1 }
-    ensures { Moved (length bytes.now) result }
+    ensures { Moved (length bytes.now) result.answer }
 {
-    libc::write(descriptor, bytes)
+    let moved = rt.stdout().write(bytes);
+    answer_of(moved, bytes.len())
 }
 
 // A read that answers 0 has met the end of the input.
@@ -77,31 +106,32 @@ fn end_of(got: isize) -> Got
 // A read is given up only if it failed, by an error after which it is not to be made again.
 fn give_up(got: isize, error: i32) -> Got
     requires { Fails got error }
-    ensures { result ≡ Failed }
+    ensures { result ≡ Failed error }
 {
-    Got::Failed
+    Got::Failed(error)
 }
 
 // One read, of a byte or more. A loop has to end: the tries are more than any machine makes.
-pub(crate) fn read_some(chunk: &mut [u8]) -> Got
+pub(crate) fn read_some(rt: &HostRuntime, chunk: &mut [u8]) -> Got
     ensures { GotSome (length chunk.old) result }
 {
     let mut tries = u64::MAX;
     while 0 < tries {
-        let got = read_from(STDIN_FILENO, chunk);
+        let call = read_from(rt, STDIN_FILENO, chunk);
+        let got = call.answer;
         if 0 < got {
             return Got::Bytes(io::count(got, chunk));
         }
         if got == 0 {
             return end_of(got);
         }
-        let error = os::errno();
-        if !is_to_be_repeated(error) {
+        let error = call.error;
+        if !is_to_be_repeated(rt, error) {
             return give_up(got, error);
         }
         tries -= 1;
     }
-    Got::Failed
+    Got::Failed(EAGAIN)
 }
 
 // The bytes after those that a write took, by its answer.
@@ -120,22 +150,24 @@ fn all_left(bytes: &[u8], put: isize, error: i32) -> &[u8]
     bytes
 }
 
-// One write, which takes a byte or more: the bytes that are left after it, or all where it failed. A write that takes nothing and does
-// not fail would have blocked.
-fn write_some(bytes: &[u8]) -> &[u8]
+// One write, which takes a byte or more: the bytes that are left after it, or all where it failed, and then its error. A write that
+// takes nothing and does not fail would have blocked.
+fn write_some<'a>(rt: &HostRuntime, bytes: &'a [u8], error: &mut i32) -> &'a [u8]
     ensures { Leaves bytes.now result.now }
 {
     let mut tries = u64::MAX;
     while 0 < tries {
-        let put = write_to(STDOUT_FILENO, bytes);
+        let call = write_to(rt, STDOUT_FILENO, bytes);
+        let put = call.answer;
         if 0 < put {
             return left_of(bytes, put);
         }
         if put == 0 {
-            pause();
+            pause(rt);
         } else {
-            let reason = os::errno();
-            if !is_to_be_repeated(reason) {
+            let reason = call.error;
+            if !is_to_be_repeated(rt, reason) {
+                *error = reason;
                 return all_left(bytes, put, reason);
             }
         }
@@ -145,17 +177,19 @@ fn write_some(bytes: &[u8]) -> &[u8]
 }
 
 // Writes the first bytes of `out`, in as many calls as it takes: each is handed what the one before has left.
-pub(crate) fn send(out: &[u8], written: usize) -> Sent
+pub(crate) fn send(rt: &HostRuntime, out: &[u8], written: usize) -> Sent
     requires { written ≤ length out.now }
     ensures { Sends written result }
 {
+    let mut error = EAGAIN;
     let mut rest = &out[..written];
     while 0 < rest.len() {
-        let left = write_some(rest);
+        let left = write_some(rt, rest, &mut error);
         if rest.len() <= left.len() {
             return Sent {
                 bytes: written - rest.len(),
                 whole: false,
+                error,
             };
         }
         rest = left;
@@ -163,18 +197,35 @@ pub(crate) fn send(out: &[u8], written: usize) -> Sent
     Sent {
         bytes: written,
         whole: true,
+        error: 0,
     }
 }
 
-// One line on standard error: what failed, the number of the frame, and why, as the system puts it.
-pub(crate) fn tell(what: &[u8], frame: usize) {
+// One line on standard error: what failed, the number of the frame, and why, as the system puts it. Where there is no memory for the
+// line it goes out without the reason.
+pub(crate) fn tell(rt: &HostRuntime, what: &[u8], frame: usize, error: i32) {
     let mut digits = [0u8; 20];
     let n = io::decimal(frame as u64, &mut digits);
     let mut text = [0u8; 64];
     let at = octets::put_all(&mut text, 0, what);
     let to = octets::put_all(&mut text, at, &digits[..n]);
     let len = at_most(to, &text);
-    os::fail(&text[..len]);
+    let mut stream = rt.stderr();
+    let _said = stream.write_all(&text[..len]);
+    let _why = tell_why(rt, error);
+    let _end = stream.write_all(b"\n");
+}
+
+// The reason of a failure on standard error, after a colon.
+fn tell_why(rt: &HostRuntime, error: i32) -> Result<(), AllocError> {
+    let whole = format!(in rt.alloc(); ": {}", Error::from_raw_os_error(error))?;
+    let text = whole.as_str();
+    let reason = match text.rsplit_once(" (os error ") {
+        Some((reason, _)) => reason,
+        None => text,
+    };
+    let _said = rt.stderr().write_all(reason.as_bytes());
+    Ok(())
 }
 
 // A number of the text's bytes: n, or all of them.

@@ -9,10 +9,10 @@
 //
 //     luspemaro: write failed at frame 12: No space left on device
 //
-// Assumed are the contracts of what is called of C: `read`, `write` and `nanosleep` of the kit's libc, and `rattle_errno` and
-// `__xpg_strerror_r` of its os, for the reason of a failure. None says which bytes it moves, or what a descriptor is: what is promised here
-// is what lies in the memory before a write and after a read, which slice and which number are handed over, and what is made of the
-// answer. That `main` calls `run`, and what stands on standard error, is tried (`tools/io-trials`). A reader that goes away ends the program by SIGPIPE, unless that is ignored.
+// The calls are those of the kit's std: reading standard input, writing standard output and standard error, and waiting. No contract of
+// theirs says which bytes a call moves, or what a descriptor is: what is promised here is what lies in the memory before a write and after
+// a read, which slice and which number are handed over, and what is made of the answer. That `main` calls `run`, and what stands on
+// standard error, is tried (`tools/io-trials`).
 #![tactic(auto)]
 
 mod calls;
@@ -61,6 +61,7 @@ fn output_area() -> [u8; 131084]
 
 // The whole input. A loop has to end: the turns are more than any input has bytes.
 fn run(
+    rt: &HostRuntime,
     table: &mut [u8],
     records: &mut [u64],
     namespaces: &mut [u8],
@@ -79,19 +80,20 @@ fn run(
         if !place.more {
             break;
         }
-        place = read_on(place, table, records, namespaces, line, out);
+        place = read_on(rt, place, table, records, namespaces, line, out);
         turns -= 1;
     }
     place
 }
 
-fn main() {
+fn main(rt: HostRuntime) {
     let mut table = table_area();
     let mut records = records_area();
     let mut namespaces = namespaces_area();
     let mut line = digits_area();
     let mut out = output_area();
     run(
+        &rt,
         &mut table,
         &mut records,
         &mut namespaces,

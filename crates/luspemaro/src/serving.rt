@@ -39,6 +39,7 @@ struct Round {
 
 // As many bytes as one output has room for, fed and answered.
 fn answer_some(
+    rt: &HostRuntime,
     state: State,
     bytes: &[u8],
     table: &mut [u8],
@@ -54,7 +55,7 @@ fn answer_some(
         line.old line.new state result }
 {
     let turn = feed_all(state, bytes, table, records, namespaces, line, out);
-    let sent = send(out, turn.written);
+    let sent = send(rt, out, turn.written);
     let state = turn.state;
     Round {
         state,
@@ -66,6 +67,7 @@ fn answer_some(
 
 // The bytes of a read, answered in as many writes as it takes.
 fn serve(
+    rt: &HostRuntime,
     place: Place,
     bytes: &[u8],
     table: &mut [u8],
@@ -85,11 +87,11 @@ fn serve(
     let mut at = 0;
     while at < bytes.len() {
         let left = &bytes[at..];
-        let round = answer_some(state, left, table, records, namespaces, line, out);
+        let round = answer_some(rt, state, left, table, records, namespaces, line, out);
         state = round.state;
         let sent = round.sent;
         if !sent.whole {
-            return write_failed(state, frames, sent);
+            return write_failed(rt, state, frames, sent);
         }
         at += round.used;
         frames = octets::advance(frames, round.frames);
@@ -98,12 +100,12 @@ fn serve(
 }
 
 // The end of the input: what document 01 has it say goes out.
-fn answer_end(state: State, out: &mut [u8]) -> Sent
+fn answer_end(rt: &HostRuntime, state: State, out: &mut [u8]) -> Sent
     requires { 32771 ≤ length out.old }
     ensures { Ends out.new state result }
 {
     let written = finish(state, out);
-    send(out, written)
+    send(rt, out, written)
 }
 
 fn place_at(state: State, frames: usize, more: bool, failed: bool) -> Place
@@ -118,29 +120,34 @@ fn place_at(state: State, frames: usize, more: bool, failed: bool) -> Place
 }
 
 // Not all was sent: the frame after those that have ended is told.
-fn write_failed(state: State, frames: usize, sent: Sent) -> Place
+fn write_failed(rt: &HostRuntime, state: State, frames: usize, sent: Sent) -> Place
     requires { sent.whole ≡ false }
     ensures { result ≡ place_made state frames false true }
 {
     tell(
+        rt,
         b"luspemaro: write failed at frame ",
         octets::advance(frames, 1),
+        sent.error,
     );
     place_at(state, frames, false, true)
 }
 
-fn read_failed(state: State, frames: usize) -> Place
+fn read_failed(rt: &HostRuntime, state: State, frames: usize, error: i32) -> Place
     ensures { result ≡ place_made state frames false true }
 {
     tell(
+        rt,
         b"luspemaro: read failed at frame ",
         octets::advance(frames, 1),
+        error,
     );
     place_at(state, frames, false, true)
 }
 
 // One read: its bytes are answered, or the end of the input is, or that it failed is told.
 pub(crate) fn read_on(
+    rt: &HostRuntime,
     place: Place,
     table: &mut [u8],
     records: &mut [u64],
@@ -157,15 +164,24 @@ pub(crate) fn read_on(
     let state = place.state;
     let frames = place.frames;
     let mut chunk = io::large_buffer();
-    match read_some(&mut chunk) {
-        Got::Bytes(n) => serve(place, &chunk[..n], table, records, namespaces, line, out),
+    match read_some(rt, &mut chunk) {
+        Got::Bytes(n) => serve(
+            rt,
+            place,
+            &chunk[..n],
+            table,
+            records,
+            namespaces,
+            line,
+            out,
+        ),
         Got::End => {
-            let end = answer_end(state, out);
+            let end = answer_end(rt, state, out);
             if !end.whole {
-                return write_failed(state, frames, end);
+                return write_failed(rt, state, frames, end);
             }
             place_at(state, frames, false, false)
         },
-        Got::Failed => read_failed(state, frames),
+        Got::Failed(error) => read_failed(rt, state, frames, error),
     }
 }

@@ -1,5 +1,6 @@
--- What the numbers of records tell; and what walks by hand share.
+-- What the numbers of records tell; and what the loops that copy share.
 pub mod WordLaws
 pub mod WordsAlike
 pub mod StoreLaws
+pub mod Copies
 mod Computed

@@ -1,5 +1,5 @@
 -- Bytes of a log that were taken, one run after the other; none; and any after a stop. Rests on ReplayPieces of listing_rules.
-use Rattle.listing_rules.proofs.Prelude.{◌∙◌, ◌≡◌, ap, refl, sym, true, Option, none, some, List, [], ◌++◌, ◌∷◌, ◌*◌, ◌+◌, ◌≤◌, min, ℕ, arith, drop}
+use Rattle.listing_rules.proofs.Prelude.{◌∙◌, ◌≡◌, ap, refl, sym, true, Option, none, some, List, [], ◌++◌, ◌∷◌, ◌*◌, ◌≤◌, min, ℕ, arith, drop}
 use Rattle.listing_rules.proofs.Prelude.{length-append}
 use Rattle.listing_rules.specs.Replay.{Replaying, replay_on, replay_byte, replay_all}
 use Rattle.listing_rules.proofs.ReplayPieces.{replay_cut}

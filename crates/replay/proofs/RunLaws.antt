@@ -6,7 +6,7 @@ use Rattle.listing_rules.proofs.Prelude.{length-take, take, take_at, drop_at, dr
 use Rattle.listing_rules.specs.Command.{Parsed, refused, namespace, listing, root_of, subscriptions, editing, Edit, is_edit, parsed}
 use Rattle.listing_rules.specs.Server.{Reply, refusal, answered, is_answered, commanded, buffer_after}
 use Rattle.listing_rules.specs.Summary.{Summary, Summed, agrees, sums_after, SummedCommand, summed_seen, summed_over, summed_command}
-use Rattle.listing_rules.specs.Frames.{records, accepted}
+use Rattle.listing_rules.specs.Frames.{accepted}
 use Rattle.listing_rules.specs.Replay.{rerun}
 use Rattle.listing_rules.specs.Readers.{is_reader}
 use Rattle.listing_rules.proofs.ListLaws.{map_take, map_drop}

@@ -1,5 +1,5 @@
 -- A whole log is one piece of it: from the first state, which any memory holds, to the end. Rests on ReplayPieces of listing_rules.
-use Rattle.listing_rules.proofs.Prelude.{◌∙◌, ◌≡◌, ap, refl, subst, sym, false, false≢true, true, List, ◌-◌, ◌<◌, ◌^◌, ◌≤◌, ℕ, arith, length, le-leb}
+use Rattle.listing_rules.proofs.Prelude.{◌∙◌, ◌≡◌, ap, refl, subst, sym, false≢true, true, List, ◌-◌, ◌<◌, ◌^◌, ◌≤◌, ℕ, arith, length, le-leb}
 use Rattle.listing_rules.proofs.Prelude.{lt-ltb}
 use Rattle.listing_rules.specs.Replay.{Replayed as Meant, Replaying, replay_start, replay_all, replay_end, replay, reporting}
 use Rattle.listing_rules.proofs.ReplayPieces.{replay_in_pieces}

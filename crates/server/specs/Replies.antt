@@ -1,5 +1,5 @@
 -- The replies of the server, of what its functions have: an index, the namespace list, the line, a command that was read.
-use Rattle.std.specs.Prelude.{◌≡◌, cond, List, ◌++◌, ℕ}
+use Rattle.std.specs.Prelude.{cond, List, ◌++◌, ℕ}
 use Rattle.listing_rules.specs.Table.{Table, rows, passes}
 use Rattle.listing_rules.specs.Namespaces.{entries, namespaces_pass}
 use Rattle.listing_rules.specs.Command.{Parsed, is_edit, parsed}

@@ -51,7 +51,7 @@ returns-then-not-is_known c =
     rw
     (line_unknown c.args.tag.now c.args.options c.args.reference.now c.args.patterns.now
     measured held read
-    (sym c.is_Known.ensures ∙ c.if-not-is_known.true))
+    (sym c.is_known.ensures ∙ c.if-not-is_known.true))
     (refl, refl)
 
 pub returns-then-not-is_lawful : goal.returns-then-not-is_lawful
@@ -62,7 +62,7 @@ returns-then-not-is_lawful c =
     let held : stands c.args.tag.now c.args.options c.args.reference.now c.args.patterns.now ≡ true = sym c.all_stand.ensures ∙ c.if-not-all_stand.false in
     let read : grammatical c.args.tag.now c.args.options c.args.reference.now c.args.patterns.now ≡
     true = sym c.is_grammatical.ensures ∙ c.if-not-is_grammatical.false in
-    let known : lawful_set c.args.options ≡ true = sym c.is_Known.ensures ∙ c.if-not-is_known.false in
+    let known : lawful_set c.args.options ≡ true = sym c.is_known.ensures ∙ c.if-not-is_known.false in
     rw
     (line_alone c.args.tag.now c.args.options c.args.reference.now c.args.patterns.now
     measured held read known
@@ -77,7 +77,7 @@ returns-then-not-few_patterns c =
     let held : stands c.args.tag.now c.args.options c.args.reference.now c.args.patterns.now ≡ true = sym c.all_stand.ensures ∙ c.if-not-all_stand.false in
     let read : grammatical c.args.tag.now c.args.options c.args.reference.now c.args.patterns.now ≡
     true = sym c.is_grammatical.ensures ∙ c.if-not-is_grammatical.false in
-    let known : lawful_set c.args.options ≡ true = sym c.is_Known.ensures ∙ c.if-not-is_known.false in
+    let known : lawful_set c.args.options ≡ true = sym c.is_known.ensures ∙ c.if-not-is_known.false in
     let lawful : lawful_options (options_from c.args.options) ≡ true = sym c.is_lawful.ensures ∙ c.if-not-is_lawful.false in
     rw
     (line_many c.args.tag.now c.args.options c.args.reference.now c.args.patterns.now
@@ -92,7 +92,7 @@ returns-then-out-need c =
     let held : stands c.args.tag.now c.args.options c.args.reference.now c.args.patterns.now ≡ true = sym c.all_stand.ensures ∙ c.if-not-all_stand.false in
     let read : grammatical c.args.tag.now c.args.options c.args.reference.now c.args.patterns.now ≡
     true = sym c.is_grammatical.ensures ∙ c.if-not-is_grammatical.false in
-    let known : lawful_set c.args.options ≡ true = sym c.is_Known.ensures ∙ c.if-not-is_known.false in
+    let known : lawful_set c.args.options ≡ true = sym c.is_known.ensures ∙ c.if-not-is_known.false in
     let lawful : lawful_options (options_from c.args.options) ≡ true = sym c.is_lawful.ensures ∙ c.if-not-is_lawful.false in
     let short : few c.args.tag.now c.args.options c.args.reference.now c.args.patterns.now ≡ true = sym c.few_patterns.ensures ∙ c.if-not-few_patterns.false in
     rw
@@ -107,7 +107,7 @@ returns c =
     let held : stands c.args.tag.now c.args.options c.args.reference.now c.args.patterns.now ≡ true = sym c.all_stand.ensures ∙ c.if-not-all_stand.false in
     let read : grammatical c.args.tag.now c.args.options c.args.reference.now c.args.patterns.now ≡
     true = sym c.is_grammatical.ensures ∙ c.if-not-is_grammatical.false in
-    let known : lawful_set c.args.options ≡ true = sym c.is_Known.ensures ∙ c.if-not-is_known.false in
+    let known : lawful_set c.args.options ≡ true = sym c.is_known.ensures ∙ c.if-not-is_known.false in
     let lawful : lawful_options (options_from c.args.options) ≡ true = sym c.is_lawful.ensures ∙ c.if-not-is_lawful.false in
     let short : few c.args.tag.now c.args.options c.args.reference.now c.args.patterns.now ≡ true = sym c.few_patterns.ensures ∙ c.if-not-few_patterns.false in
     rw

@@ -26,7 +26,8 @@ slice_bounds-check_summed-end-3 c =
 pub returns-then-not-check_summed : goal.returns-then-not-check_summed
 returns-then-not-check_summed c =
     let number : let a = c.args in c.least-n.result ≡ lent_of a.words.now a.lent a.sums.now = let a = c.args in c.least-n.ensures ∙ ap (min a.lent) c.least.ensures in
-    refused _ _ _ _ _ _ number (sym c.check_summed.ensures ∙ c.if-not-check_summed.true)
+    let left = refused _ _ _ _ _ _ number (sym c.check_summed.ensures ∙ c.if-not-check_summed.true) in
+    record { result = left.0; area = left.1.0; words = left.1.1.0; records = left.1.1.1 }
 
 pub slice_bounds-move_names-end : goal.slice_bounds-move_names-end
 slice_bounds-move_names-end c =
@@ -67,4 +68,5 @@ returns c =
     let passed : let a = c.args in
     let n = c.least-n.result in
     passes (words_table (take n a.words.now) a.count a.area.now (take n a.sums.now)) ≡ true = sym c.check_summed.ensures ∙ c.if-not-check_summed.false in
-    done _ _ _ _ _ _ number passed _ _ c.move_names.ensures
+    let left = done _ _ _ _ _ _ number passed _ _ c.move_names.ensures in
+    record { result = left.0; area = left.1.0; words = left.1.1.0; records = left.1.1.1 }

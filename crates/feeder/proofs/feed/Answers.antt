@@ -1,12 +1,10 @@
 -- `feeder::feed` meets its contract. The loop's invariant: what is left of the chunk, from the state and the memory now, comes to what
 -- the whole chunk does. Rests on FeedLaws and FeedBytes.
-use Rattle.listing_rules.proofs.Prelude.{◌∙◌, refl, sym, [], ◌∷◌}
-use types.Run.{miss}
+use Rattle.listing_rules.proofs.Prelude.{◌∙◌, refl, sym, ◌-◌, arith}
 use Rattle.feeder.specs.declared.Event.TheVariants.{Quiet}
 use Rattle.feeder.specs.Feed.{outcome, answers}
 use Rattle.feeder.proofs.FeedLaws.{feed_on, feed_stop, feed_end}
 use Rattle.feeder.proofs.FeedBytes.{feeds_not, small_memory, large_state, feeds}
-use Rattle.listing_rules.proofs.Prelude.{◌-◌}
 use Rattle.feeder.proofs.feed.Goals as goal
 
 pub returns-then-command-lt-MAX_COMMAND : goal.returns-then-command-lt-MAX_COMMAND
@@ -23,7 +21,7 @@ loop-i-init c = (refl, refl)
 pub loop-i-preserved : goal.loop-i-preserved
 loop-i-preserved c =
     (
-      c.feed_byte-fed.new.command ∙ c.loop-i.invariant.0,
+      omega arith,
       sym (feed_on _ _ _ _ _ _ c.loop-i-test.true c.feed_byte-fed.ensures c.in-Quiet.is) ∙ c.loop-i.invariant.1,
     )
 
@@ -32,7 +30,7 @@ unfolding outcome answers
 returns-in_default c =
     let a = c.args in feeds _ _ _ _ _ c.if-command-lt-MAX_COMMAND.false c.if-state-gt-MAX_COMMAND.false
     (sym c.loop-i.invariant.1 ∙ feed_stop _ _ _ _ _ _ c.loop-i-test.true c.feed_byte-fed.ensures
-    (λ e. miss (1 ∷ 2 ∷ 3 ∷ 4 ∷ []) 0 tt (rw e at c.in-Quiet.keys2)))
+    c.in_default.not-Quiet)
 
 pub returns : goal.returns
 unfolding outcome answers

@@ -1,5 +1,4 @@
 -- What holds at each turn of a loop of `feed`, and what falls.
-use Rattle.listing_rules.proofs.Prelude.{◌≡◌}
 use Rattle.listing_rules.proofs.Prelude.{◌≡◌, ◌-◌, drop, length}
 use Rattle.feeder.specs.Feed.{feed_from}
 use Rattle.feeder.proofs.feed.Given as goal

@@ -6,4 +6,4 @@ use Rattle.line_reader.proofs.read_attributes.Goals as goal
 
 pub read_chosen-requires : goal.read_chosen-requires
 unfolding open_bytes open_lines all_names name_places
-read_chosen-requires c = record { from_in_bounds = c.requires; names_value = ((refl, refl)).0; places_value = ((refl, refl)).1 }
+read_chosen-requires c = record { from_in_bounds = c.requires; names_value = refl; places_value = refl }

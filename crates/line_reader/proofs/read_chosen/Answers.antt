@@ -1,5 +1,5 @@
 -- `read_chosen` meets its contract. The loop's invariant is `Choosing`: what is read, and what is left of the names.
-use Rattle.listing_rules.proofs.Prelude.{ap, subst, ⊎_elim, List, ℕ, arith, length}
+use Rattle.listing_rules.proofs.Prelude.{ap, subst, List, ℕ, arith, length}
 use Rattle.listing_rules.specs.LineReader.{separated}
 use Rattle.list_line.specs.Names.{name_of, NameSpan}
 use Rattle.list_line.proofs.Names.{span_text, span_named}
@@ -8,6 +8,7 @@ use Rattle.line_reader.proofs.Choosing.{choosing_none, choosing_bits, choosing_m
 use Rattle.line_reader.proofs.Choosing.{choosing_all}
 use Rattle.listing_rules.proofs.Prelude.{◌-◌}
 use Rattle.line_reader.proofs.read_chosen.Goals as goal
+use Rattle.line_reader.proofs.read_chosen.Goals.{in-At, in_default}
 
 pub loop-k-init : goal.loop-k-init
 loop-k-init c = choosing_none _ _ c.requires.from_in_bounds
@@ -44,11 +45,9 @@ loop-k-preserved c =
     let skipped : Skips c.args.line.now c.loop-k.at (separated c.loop-k.first (name_of c.loop-k.k)) c.skip.result = subst (λ (x : List ℕ). Skips c.args.line.now c.loop-k.at x c.skip.result) (span_text _ c.requires.names_value spanned) c.skip.ensures in
     let inv = c.loop-k.invariant in
     let h = c.loop-k-test.true in
-    let reading = Skips _ _ _ in
-    ⊎_elim
-    (λ w. let s = subst reading w.1.given.1 skipped in rw (w.3, w.4, w.5) (choosing_in inv _ h s.0 s.1))
-    (λ w. rw (w.2, w.3, w.4) (choosing_out inv h (subst reading w.1.given.1 skipped)))
-    c.in-At.branch
+    elim c.match-skip.branch [
+      in-At w ↦ let s = rw w.in-At.is at skipped in rw (w.at-is, w.bits-is, w.first-is) (choosing_in inv _ h s.0 s.1)
+    | in_default w ↦ rw (w.at-is, w.bits-is, w.first-is) (choosing_out inv h (rw w.in_default.is at skipped)) ]
 
 pub overflow_cast-result : goal.overflow_cast-result
 overflow_cast-result c = omega (arith, choosing_fits c.loop-k.invariant)

@@ -26,8 +26,8 @@ loop-b-preserved c =
 
 pub returns-in-End : goal.returns-in-End
 returns-in-End c =
-    naming_end c.loop-b.invariant _ (subst (Next _ _) c.in-End.is c.next_piece.ensures)
+    naming_end c.loop-b.invariant _ (rw c.in-End.is at c.next_piece.ensures)
 
 pub returns-in-Missing : goal.returns-in-Missing
 returns-in-Missing c =
-    naming_torn c.loop-b.invariant (subst (Next _ _) c.in-Missing.is c.next_piece.ensures)
+    naming_torn c.loop-b.invariant (rw c.in-Missing.is at c.next_piece.ensures)

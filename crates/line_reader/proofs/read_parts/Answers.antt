@@ -1,131 +1,100 @@
 -- `read_parts` meets its contract. At each place one equation says what the reader makes of the rest of the line (`Reading`), and a
 -- missing part makes it nothing.
-use Rattle.listing_rules.proofs.Prelude.{◌∙◌, ◌≡◌, ap, subst, sym, cond, none, some, ◌≤◌, ℕ, arith, drop, length, length-replicate, length-take}
+use Rattle.listing_rules.proofs.Prelude.{◌∙◌, ◌≡◌, ap, sym, cond, none, some, ◌-◌, ◌≤◌, List, ℕ, arith, drop, length, length-replicate, length-take, replicate, take}
 use Rattle.listing_rules.specs.Bytes.{text}
 use Rattle.listing_rules.specs.Names.{lawful_name}
-use Rattle.listing_rules.specs.LineReader.{line, read_parts}
-use Rattle.listing_rules.specs.Options.{criteria_of, criteria_number}
-use Rattle.line_reader.specs.Parts.{Skips, Names}
+use Rattle.listing_rules.specs.LineReader.{child_info_read, line, read_parts}
+use Rattle.listing_rules.specs.Options.{criteria_of}
+use Rattle.list_line.specs.declared.criteria.Criteria.{Criteria}
+use Rattle.line_reader.specs.Parts.{Skips, Chooses, Names, tail_is}
+use Rattle.line_reader.specs.declared.Chosen.{Chosen}
 use Rattle.line_reader.specs.declared.Place.TheVariants.{At}
 use Rattle.line_reader.specs.declared.Name.TheVariants.{Of}
+use Rattle.line_reader.specs.declared.Tail.TheVariants.{ChildInfo}
 use Rattle.line_reader.proofs.Reading.{from_end, from_name, from_delimiter, chosen_at, start_read, start_missing, attributes_read_lem, delimiter_read}
 use Rattle.line_reader.proofs.Reading.{delimiter_missing, name_read_lem, name_missing, tail_whole, end_read, end_missing, name_front}
 use Rattle.line_reader.proofs.Reading.{parts_refused, parts_taken}
 use Rattle.line_reader.proofs.read_parts.Goals as goal
 
+-- what is left of the line l behind its attributes, its delimiter, its name and its end
+module _ (l : List ℕ) (a : ℕ) (started : Skips l 0 (text "* LIST (") (At a)) (r : Chosen) (chooses : Chooses l a r) where
+  chosen : read_parts l ≡ from_delimiter (chosen_at l a) (drop r.at l)
+  chosen = start_read l (drop a l) started.0 ∙ attributes_read_lem l a r chooses
+
+  module _ (b : ℕ) (skips : Skips l r.at (text ") \"/\" \"") (At b)) where
+    delimited : read_parts l ≡ from_name (chosen_at l a) (drop b l)
+    delimited = chosen ∙ delimiter_read (chosen_at l a) (drop r.at l) (drop b l) skips.0
+
+    module _ (d e : List ℕ) (len j : ℕ) (name : Names l b d e (Of len j)) where
+      named : read_parts l ≡ from_end (chosen_at l a) name.0 (drop j l)
+      named = delimited ∙ name_read_lem (chosen_at l a) (drop b l) name.0 (drop j l) name.1
+
+      ended : (s : Criteria) → tail_is (child_info_read (take (length l - j) (drop j l))) ≡ ChildInfo s →
+          read_parts l ≡ cond (lawful_name name.0) (some (line (chosen_at l a) name.0 (criteria_of s.bits))) none
+      ended s t = named ∙ end_read (chosen_at l a) name.0 l j s t
+
+-- the name in a buffer of 200 zeros
+module _ (l : List ℕ) (b : ℕ) (d e : List ℕ) (len j : ℕ) (zeros : d ≡ replicate 200 0) (name : Names l b d e (Of len j)) where
+  room : len ≤ 200
+  room = omega (arith, name.4, ap length zeros, length-replicate {A = ℕ} 200 0)
+
+  front : take len e ≡ name.0
+  front = name_front d name.0 zeros (omega (arith, room, name.3)) len e name.3 name.5
+
 pub returns-in_default : goal.returns-in_default
 unfolding text
 returns-in_default c =
-    rw (parts_refused _ (start_missing _ (subst (Skips _ 0 (text "* LIST (")) c.in_default.is c.skip.ensures))) c.refused.ensures
-
-pub read_attributes-chosen-requires : goal.read_attributes-chosen-requires
-read_attributes-chosen-requires c =
-    let start : Skips c.args.line.now 0 (text "* LIST (") (At c.in-At.a) = unfold text in subst (Skips _ 0 (text "* LIST (")) c.in-At.is c.skip.ensures in
-    start.1
+    rw (parts_refused _ (start_missing _ (rw c.in_default.is at c.skip.ensures))) c.refused.ensures
 
 pub returns-in_default-skip : goal.returns-in_default-skip
 unfolding text
 returns-in_default-skip c =
-    let start : Skips c.args.line.now 0 (text "* LIST (") (At c.in-At.a) = unfold text in subst (Skips _ 0 (text "* LIST (")) c.in-At.is c.skip.ensures in
-    let chosen : read_parts c.args.line.now ≡ from_delimiter (chosen_at c.args.line.now c.in-At.a)
-    (drop c.read_attributes-chosen.result.at c.args.line.now) = start_read _ _ start.0 ∙ attributes_read_lem _ _ _ c.read_attributes-chosen.ensures in
-    rw (parts_refused c.args.line.now (chosen ∙ delimiter_missing _ _
-    (subst (Skips c.args.line.now c.read_attributes-chosen.result.at
-    (text ") \"/\" \"")) c.in_default-skip.is c.skip-2.ensures))) c.refused-in_default-skip.ensures
+    let before = chosen c.args.line.now c.in-At.a (rw c.in-At.is at c.skip.ensures) _ c.read_attributes-chosen.ensures in
+    rw (parts_refused _ (before ∙ delimiter_missing _ _ (rw c.in_default-skip.is at c.skip-2.ensures))) c.refused-in_default-skip.ensures
 
 pub returns-in_default-read_name : goal.returns-in_default-read_name
+unfolding text
 returns-in_default-read_name c =
-    let start : Skips c.args.line.now 0 (text "* LIST (") (At c.in-At.a) = unfold text in subst (Skips _ 0 (text "* LIST (")) c.in-At.is c.skip.ensures in
-    let chosen : read_parts c.args.line.now ≡ from_delimiter (chosen_at c.args.line.now c.in-At.a)
-    (drop c.read_attributes-chosen.result.at c.args.line.now) = start_read _ _ start.0 ∙ attributes_read_lem _ _ _ c.read_attributes-chosen.ensures in
-    let delimited : read_parts c.args.line.now ≡ from_name (chosen_at c.args.line.now c.in-At.a) (drop c.in-At-skip.b c.args.line.now) = unfold text in chosen ∙ delimiter_read _ _ _
-    (subst (Skips c.args.line.now c.read_attributes-chosen.result.at
-    (text ") \"/\" \"")) c.in-At-skip.is c.skip-2.ensures).0 in
-    rw (parts_refused _ (delimited ∙ name_missing _ _ c.in-At-skip.b _ c.read_name.new.name
-    c.no_name-name.ensures (subst (Names _ _ _ _) c.in_default-read_name.is c.read_name.ensures)))
+    let l = c.args.line.now in
+    let before = delimited l c.in-At.a (rw c.in-At.is at c.skip.ensures) _ c.read_attributes-chosen.ensures c.in-At-skip.b (rw c.in-At-skip.is at c.skip-2.ensures) in
+    let none_there = rw c.in_default-read_name.is at c.read_name.ensures in
+    rw (parts_refused l (before ∙ name_missing _ l c.in-At-skip.b _ c.read_name.new.name c.no_name-name.ensures none_there))
     c.refused-in_default-read_name.ensures
 
-pub slice_bounds-read_tail-count : goal.slice_bounds-read_tail-count
-slice_bounds-read_tail-count c =
-    let name : Names c.args.line.now c.in-At-skip.b c.no_name-name.result c.read_name.new.name
-    (Of c.in-Of.len c.in-Of.end) = subst (Names _ _ _ _) c.in-Of.is c.read_name.ensures in
-    name.2
-
-pub slice_bounds-read_tail-start : goal.slice_bounds-read_tail-start
-slice_bounds-read_tail-start c =
-    let name : Names c.args.line.now c.in-At-skip.b c.no_name-name.result c.read_name.new.name
-    (Of c.in-Of.len c.in-Of.end) = subst (Names _ _ _ _) c.in-Of.is c.read_name.ensures in
-    name.2
-
 pub returns-in_default-read_tail : goal.returns-in_default-read_tail
+unfolding text
 returns-in_default-read_tail c =
-    let start : Skips c.args.line.now 0 (text "* LIST (") (At c.in-At.a) = unfold text in subst (Skips _ 0 (text "* LIST (")) c.in-At.is c.skip.ensures in
-    let chosen : read_parts c.args.line.now ≡ from_delimiter (chosen_at c.args.line.now c.in-At.a)
-    (drop c.read_attributes-chosen.result.at c.args.line.now) = start_read _ _ start.0 ∙ attributes_read_lem _ _ _ c.read_attributes-chosen.ensures in
-    let delimited : read_parts c.args.line.now ≡ from_name (chosen_at c.args.line.now c.in-At.a) (drop c.in-At-skip.b c.args.line.now) = unfold text in chosen ∙ delimiter_read _ _ _
-    (subst (Skips c.args.line.now c.read_attributes-chosen.result.at
-    (text ") \"/\" \"")) c.in-At-skip.is c.skip-2.ensures).0 in
-    let name : Names c.args.line.now c.in-At-skip.b c.no_name-name.result c.read_name.new.name
-    (Of c.in-Of.len c.in-Of.end) = subst (Names _ _ _ _) c.in-Of.is c.read_name.ensures in
-    let named : read_parts c.args.line.now ≡ from_end (chosen_at c.args.line.now c.in-At.a) name.0 (drop c.in-Of.end c.args.line.now) = delimited ∙ name_read_lem _ _ _ _ name.1 in
-    rw (parts_refused _ (named ∙ end_missing _ _ _ c.in-Of.end
-    (sym c.read_tail.ensures ∙ c.in_default-read_tail.is))) c.refused-in_default-read_tail.ensures
-
-pub slice_bounds-name-end : goal.slice_bounds-name-end
-slice_bounds-name-end c =
-    let name : Names c.args.line.now c.in-At-skip.b c.no_name-name.result c.read_name.new.name
-    (Of c.in-Of.len c.in-Of.end) = subst (Names _ _ _ _) c.in-Of.is c.read_name.ensures in
-    omega (arith, name.4)
-
-pub slice_bounds-lawful_name-end : goal.slice_bounds-lawful_name-end
-slice_bounds-lawful_name-end c =
-    let name : Names c.args.line.now c.in-At-skip.b c.no_name-name.result c.read_name.new.name
-    (Of c.in-Of.len c.in-Of.end) = subst (Names _ _ _ _) c.in-Of.is c.read_name.ensures in
-    simp length-take (omega (arith, name.4))
+    let l = c.args.line.now in
+    let name : Names l c.in-At-skip.b c.no_name-name.result c.read_name.new.name (Of c.in-Of.len c.in-Of.end) = rw c.in-Of.is at c.read_name.ensures in
+    let before = named l c.in-At.a (rw c.in-At.is at c.skip.ensures) _ c.read_attributes-chosen.ensures c.in-At-skip.b (rw c.in-At-skip.is at c.skip-2.ensures) _ _ _ _ name in
+    rw (parts_refused l (before ∙ end_missing _ _ _ c.in-Of.end (sym c.read_tail.ensures ∙ c.in_default-read_tail.is)))
+    c.refused-in_default-read_tail.ensures
 
 pub returns-then-not-lawful_name : goal.returns-then-not-lawful_name
+unfolding text
 returns-then-not-lawful_name c =
-    let name : Names c.args.line.now c.in-At-skip.b c.no_name-name.result c.read_name.new.name
-    (Of c.in-Of.len c.in-Of.end) = subst (Names _ _ _ _) c.in-Of.is c.read_name.ensures in
-    let start : Skips c.args.line.now 0 (text "* LIST (") (At c.in-At.a) = unfold text in subst (Skips _ 0 (text "* LIST (")) c.in-At.is c.skip.ensures in
-    let chosen : read_parts c.args.line.now ≡ from_delimiter (chosen_at c.args.line.now c.in-At.a)
-    (drop c.read_attributes-chosen.result.at c.args.line.now) = start_read _ _ start.0 ∙ attributes_read_lem _ _ _ c.read_attributes-chosen.ensures in
-    let delimited : read_parts c.args.line.now ≡ from_name (chosen_at c.args.line.now c.in-At.a) (drop c.in-At-skip.b c.args.line.now) = unfold text in chosen ∙ delimiter_read _ _ _
-    (subst (Skips c.args.line.now c.read_attributes-chosen.result.at
-    (text ") \"/\" \"")) c.in-At-skip.is c.skip-2.ensures).0 in
-    let named : read_parts c.args.line.now ≡ from_end (chosen_at c.args.line.now c.in-At.a) name.0 (drop c.in-Of.end c.args.line.now) = delimited ∙ name_read_lem _ _ _ _ name.1 in
-    let ended : let read = name.0 in
-    read_parts c.args.line.now ≡ cond (lawful_name read)
-    (some (line (chosen_at c.args.line.now c.in-At.a) read (criteria_of c.in-ChildInfo.criteria.bits))) none = named ∙ end_read _ _ _ c.in-Of.end _ (sym c.read_tail.ensures ∙ c.in-ChildInfo.is) in
-    let room : c.in-Of.len ≤ 200 = omega (arith, name.4, ap length c.no_name-name.ensures, length-replicate {A = ℕ} 200 0) in
-    let lawful : c.lawful_name.result ≡ lawful_name name.0 = c.lawful_name.ensures ∙ ap lawful_name (name_front _ _ c.no_name-name.ensures
-    (omega (arith, room, name.3)) _ _ name.3
-    name.5) in
-    rw (parts_refused _ (ended ∙ rw
-    (sym lawful ∙ c.if-not-lawful_name.true)))
-    c.refused-then-not-lawful_name.ensures
+    let l = c.args.line.now in
+    let name : Names l c.in-At-skip.b c.no_name-name.result c.read_name.new.name (Of c.in-Of.len c.in-Of.end) = rw c.in-Of.is at c.read_name.ensures in
+    let whole =
+        ended l c.in-At.a (rw c.in-At.is at c.skip.ensures) _ c.read_attributes-chosen.ensures c.in-At-skip.b (rw c.in-At-skip.is at c.skip-2.ensures) _ _ _ _ name
+        _ (sym c.read_tail.ensures ∙ c.in-ChildInfo.is) in
+    let lawful : c.lawful_name.result ≡ lawful_name name.0 =
+        c.lawful_name.ensures ∙ ap lawful_name (front l c.in-At-skip.b _ _ _ _ c.no_name-name.ensures name) in
+    rw (parts_refused l (whole ∙ rw (sym lawful ∙ c.if-not-lawful_name.true))) c.refused-then-not-lawful_name.ensures
 
 pub returns : goal.returns
-unfolding chosen_at
+unfolding chosen_at text
 returns c =
-    let name : Names c.args.line.now c.in-At-skip.b c.no_name-name.result c.read_name.new.name
-    (Of c.in-Of.len c.in-Of.end) = subst (Names _ _ _ _) c.in-Of.is c.read_name.ensures in
-    let room : c.in-Of.len ≤ 200 = omega (arith, name.4, ap length c.no_name-name.ensures, length-replicate {A = ℕ} 200 0) in
-    let start : Skips c.args.line.now 0 (text "* LIST (") (At c.in-At.a) = unfold text in subst (Skips _ 0 (text "* LIST (")) c.in-At.is c.skip.ensures in
-    let chosen : read_parts c.args.line.now ≡ from_delimiter (chosen_at c.args.line.now c.in-At.a)
-    (drop c.read_attributes-chosen.result.at c.args.line.now) = start_read _ _ start.0 ∙ attributes_read_lem _ _ _ c.read_attributes-chosen.ensures in
-    let delimited : read_parts c.args.line.now ≡ from_name (chosen_at c.args.line.now c.in-At.a) (drop c.in-At-skip.b c.args.line.now) = unfold text in chosen ∙ delimiter_read _ _ _
-    (subst (Skips c.args.line.now c.read_attributes-chosen.result.at
-    (text ") \"/\" \"")) c.in-At-skip.is c.skip-2.ensures).0 in
-    let named : read_parts c.args.line.now ≡ from_end (chosen_at c.args.line.now c.in-At.a) name.0 (drop c.in-Of.end c.args.line.now) = delimited ∙ name_read_lem _ _ _ _ name.1 in
-    let ended : let read = name.0 in
-    read_parts c.args.line.now ≡ cond (lawful_name read)
-    (some (line (chosen_at c.args.line.now c.in-At.a) read (criteria_of c.in-ChildInfo.criteria.bits))) none = named ∙ end_read _ _ _ c.in-Of.end _ (sym c.read_tail.ensures ∙ c.in-ChildInfo.is) in
-    let whole : criteria_number (criteria_of c.in-ChildInfo.criteria.bits) ≡ c.in-ChildInfo.criteria.bits = tail_whole _ _ (sym c.read_tail.ensures ∙ c.in-ChildInfo.is) in
-    let lawful : c.lawful_name.result ≡ lawful_name name.0 = c.lawful_name.ensures ∙ ap lawful_name (name_front _ _ c.no_name-name.ensures
-    (omega (arith, room, name.3)) _ _ name.3
-    name.5) in
-    parts_taken _ (chosen_at c.args.line.now c.in-At.a) name.0 _ _ c.in-Of.len
-    c.no_name-name.result c.read_name.new.name
-    (ended ∙ rw (sym lawful ∙ c.if-not-lawful_name.false)) whole
-    c.read_attributes-chosen.ensures.chosen name.3 room c.no_name-name.ensures name.5
+    let l = c.args.line.now in
+    let name : Names l c.in-At-skip.b c.no_name-name.result c.read_name.new.name (Of c.in-Of.len c.in-Of.end) = rw c.in-Of.is at c.read_name.ensures in
+    let tail = sym c.read_tail.ensures ∙ c.in-ChildInfo.is in
+    let whole =
+        ended l c.in-At.a (rw c.in-At.is at c.skip.ensures) _ c.read_attributes-chosen.ensures c.in-At-skip.b (rw c.in-At-skip.is at c.skip-2.ensures) _ _ _ _ name
+        _ tail in
+    let lawful : c.lawful_name.result ≡ lawful_name name.0 =
+        c.lawful_name.ensures ∙ ap lawful_name (front l c.in-At-skip.b _ _ _ _ c.no_name-name.ensures name) in
+    let taken =
+        parts_taken l (chosen_at l c.in-At.a) name.0 _ _ c.in-Of.len c.no_name-name.result c.read_name.new.name
+        (whole ∙ rw (sym lawful ∙ c.if-not-lawful_name.false)) (tail_whole _ _ tail)
+        c.read_attributes-chosen.ensures.chosen name.3 (room l c.in-At-skip.b _ _ _ _ c.no_name-name.ensures name) c.no_name-name.ensures name.5 in
+    record { result = taken.0; bytes = taken.1 }

@@ -6,11 +6,16 @@ use Rattle.pattern.proofs.match_steps.Goals as goal
 
 pub returns-then-name-gt-MAX_NAME : goal.returns-then-name-gt-MAX_NAME
 returns-then-name-gt-MAX_NAME c =
-    record { matched_value = long_name c.args.name.now _ c.if-name-gt-MAX_NAME.true; steps_bound = ((omega arith, sym (counted_long _ _ c.if-name-gt-MAX_NAME.true))).0; value = ((omega arith, sym (counted_long _ _ c.if-name-gt-MAX_NAME.true))).1 }
+    let long = c.if-name-gt-MAX_NAME.true in
+    record { matched_value = long_name c.args.name.now _ long; steps_bound = omega arith; value = sym (counted_long _ _ long) }
 
 pub returns : goal.returns
 returns c =
-    let args = c.args in
     let ran = c.run_steps.ensures in
     let short = c.if-name-gt-MAX_NAME.false in
-    let folds = c.is_inbox.ensures in record { matched_value = short_name args.name.now _ _ short (c.run_steps.ensures.right ∙ matches_folded _ _ _ folds); steps_bound = ((counted_most _ _ _ _ ran, counted_short _ _ _ _ short folds ran)).0; value = ((counted_most _ _ _ _ ran, counted_short _ _ _ _ short folds ran)).1 }
+    let folds = c.is_inbox.ensures in
+    record {
+      matched_value = short_name c.args.name.now _ _ short (ran.right ∙ matches_folded _ _ _ folds);
+      steps_bound = counted_most _ _ _ _ ran;
+      value = counted_short _ _ _ _ short folds ran;
+    }

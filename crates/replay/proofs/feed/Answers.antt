@@ -2,7 +2,6 @@
 use Rattle.listing_rules.proofs.Prelude.{◌∙◌, refl, sym, arith}
 use Rattle.replay.proofs.GatherLaws.{gathered_stopped}
 use Rattle.replay.proofs.FeedLaws.{part_start, part_end, part_stopped, line_inside, part_some, part_line, part_counted, feed_taken}
-use Rattle.listing_rules.proofs.Prelude.{◌-◌}
 use Rattle.replay.proofs.feed.Goals as goal
 
 pub returns-then-not-is_ready : goal.returns-then-not-is_ready
@@ -28,52 +27,15 @@ gather-held-requires c =
 
 pub end_frame-held-requires : goal.end_frame-held-requires
 end_frame-held-requires c =
-    let p = part_some c.loop-at.invariant _ c.line_end-end.ensures c.if-held.false _ _ c.gather-held.ensures in record { stopped_value = gathered_stopped c.gather-held.ensures ∙ c.if-held.false; frames_bound = ((
-        part_counted p,
-        (
-          p.goes.due_counted,
-          (
-            p.goes.due_inside,
-            (omega (arith, p.sizes.room, p.goes.pending_long), omega (arith, p.sizes.long, p.goes.line_long, p.goes.gathered_inside)),
-          ),
-        ),
-      )).0; due_bound = ((
-        part_counted p,
-        (
-          p.goes.due_counted,
-          (
-            p.goes.due_inside,
-            (omega (arith, p.sizes.room, p.goes.pending_long), omega (arith, p.sizes.long, p.goes.line_long, p.goes.gathered_inside)),
-          ),
-        ),
-      )).1; due_bound_2 = ((
-        part_counted p,
-        (
-          p.goes.due_counted,
-          (
-            p.goes.due_inside,
-            (omega (arith, p.sizes.room, p.goes.pending_long), omega (arith, p.sizes.long, p.goes.line_long, p.goes.gathered_inside)),
-          ),
-        ),
-      )).2; in_bounds = ((
-        part_counted p,
-        (
-          p.goes.due_counted,
-          (
-            p.goes.due_inside,
-            (omega (arith, p.sizes.room, p.goes.pending_long), omega (arith, p.sizes.long, p.goes.line_long, p.goes.gathered_inside)),
-          ),
-        ),
-      )).3; gathered_in_bounds = ((
-        part_counted p,
-        (
-          p.goes.due_counted,
-          (
-            p.goes.due_inside,
-            (omega (arith, p.sizes.room, p.goes.pending_long), omega (arith, p.sizes.long, p.goes.line_long, p.goes.gathered_inside)),
-          ),
-        ),
-      )).4 }
+    let p = part_some c.loop-at.invariant _ c.line_end-end.ensures c.if-held.false _ _ c.gather-held.ensures in
+    record {
+      stopped_value = gathered_stopped c.gather-held.ensures ∙ c.if-held.false;
+      frames_bound = part_counted p;
+      due_bound = p.goes.due_counted;
+      due_bound_2 = p.goes.due_inside;
+      in_bounds = omega (arith, p.sizes.room, p.goes.pending_long);
+      gathered_in_bounds = omega (arith, p.sizes.long, p.goes.line_long, p.goes.gathered_inside);
+    }
 
 pub overflow_add-at : goal.overflow_add-at
 overflow_add-at c =
@@ -82,7 +44,7 @@ overflow_add-at c =
 pub loop-at-preserved-then-end-chunk : goal.loop-at-preserved-then-end-chunk
 loop-at-preserved-then-end-chunk c =
     part_line c.loop-at.invariant _ c.line_end-end.ensures c.if-held.false _ _ c.gather-held.ensures c.if-end-chunk.true _ _
-    c.end_Frame.ensures
+    c.end_frame-held.ensures
 
 pub loop-at-preserved : goal.loop-at-preserved
 loop-at-preserved c =

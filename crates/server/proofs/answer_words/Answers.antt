@@ -77,18 +77,22 @@ returns-then-is_edit c =
     let passed : let a = c.args in
     let n = c.least-n.result in
     passes (words_table (take n a.words.now) a.count a.area.now (take n a.sums.now)) ≡ true = known.table_passes in
-    let listed : namespaces_pass c).args.namespaces.now ≡ true = sym c.check.ensures ∙ c.if-not-check.false in
+    let listed : namespaces_pass c.args.namespaces.now ≡ true = sym c.check.ensures ∙ c.if-not-check.false in
     let a = c.args in
     let edits = sym c.is_edit.ensures ∙ c.if-is_edit.true in
     let other = not_own (eqb a.reader 0) (edit_kind c.read_command-command.result.kind) _ (sym c.may_edit.ensures ∙ c.if-may_edit.false) edits listed in
-    stranger_edit _ _ _ _ _ _ _ _ _ c.least-n.ensures known-reader (passed listed _ (told _ edits
+    stranger_edit _ _ _ _ _ _ _ _ _ c.least-n.ensures known-reader passed listed _ told _ edits
     other c.refused_edit.ensures
 
 pub slice_bounds-rows-end : goal.slice_bounds-rows-end
-slice_bounds-rows-end c = (known c.inside
+slice_bounds-rows-end c =
+    let known : Held c.index_summed.ensures c.in-Rows.m = index_held c.index_summed.ensures _ c.in-Rows.is in
+    known.inside
 
 pub slice_bounds-see_rows-end : goal.slice_bounds-see_rows-end
-slice_bounds-see_rows-end c = (known c.size
+slice_bounds-see_rows-end c =
+    let known : Held c.index_summed.ensures c.in-Rows.m = index_held c.index_summed.ensures _ c.in-Rows.is in
+    known.size
 
 pub slice_bounds-rows-end-2 : goal.slice_bounds-rows-end-2
 slice_bounds-rows-end-2 c =
@@ -124,7 +128,7 @@ returns c =
     let passed : let a = c.args in
     let n = c.least-n.result in
     passes (words_table (take n a.words.now) a.count a.area.now (take n a.sums.now)) ≡ true = known.table_passes in
-    let listed : namespaces_pass c).args.namespaces.now ≡ true = sym c.check.ensures ∙ c.if-not-check.false in
+    let listed : namespaces_pass c.args.namespaces.now ≡ true = sym c.check.ensures ∙ c.if-not-check.false in
     let a = c.args in
     let rows = take c.in-Rows.m _ in
     read_only_lem _ _ _ _ _ a.namespaces.now a.line.now a.out.now

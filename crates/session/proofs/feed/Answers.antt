@@ -1,5 +1,5 @@
 -- `session::feed` meets its contract: not ready, a piece without a line feed, a piece with one. Rests on FeedLaws.
-use Rattle.listing_rules.proofs.Prelude.{◌∙◌, ◌≡◌, refl, sym, true, arith}
+use Rattle.listing_rules.proofs.Prelude.{◌∙◌, ◌≡◌, refl, sym, true}
 use Rattle.kept_table.specs.Kept.{Lent, lent}
 use Rattle.session.specs.Feeding.{ready_in}
 use Rattle.session.proofs.FeedLaws.{within, feeds_part, feeds_line, feed_taken}
@@ -24,12 +24,6 @@ end_frame-done-requires c =
     c.args.line.now c.args.state ≡ true = sym c.is_ready-sized.ensures ∙ c.if-not-sized.false in
     within memory c.args.line.now c.args.state is-so
 
-pub overflow_add-used : goal.overflow_add-used
-overflow_add-used c =
-    let start =
-    c in omega
-    (arith, c.if-chunk-used.false, start.good.1.0)
-
 pub returns : goal.returns
 returns c =
     let memory : Lent = lent c.args.table.now c.args.records.now c.args.namespaces.now c.args.out.now in
@@ -37,4 +31,4 @@ returns c =
     c.args.line.now c.args.state ≡ true = sym c.is_ready-sized.ensures ∙ c.if-not-sized.false in
     let so = is-so in
     feed_taken _ c.answer_taken-2.ensures so
-    (feeds_line _ memory _ _ _ _ so c.gather_line-run.ensures.gathered c.gather_line-run.ensures.line _ _ _ c.gather_line-run.ensures.used c.if-chunk-used.false c.end_Frame.ensures)
+    (feeds_line _ memory _ _ _ _ so c.gather_line-run.ensures.gathered c.gather_line-run.ensures.line _ _ _ c.gather_line-run.ensures.used c.if-chunk-used.false c.end_frame-done.ensures)

@@ -10,7 +10,12 @@ use Rattle.collector.proofs.indexed.collect_index.Goals as goal
 
 pub run-result-requires : goal.run-result-requires
 run-result-requires c =
-    let a = c.args in record { reader_value = c.requires; found_value = ((cleared a.found.now (sym c.clear.new.buf) c.clear.ensures, cleared a.pending.now (sym c.clear-2.new.buf) c.clear-2.ensures)).0; pending_value = ((cleared a.found.now (sym c.clear.new.buf) c.clear.ensures, cleared a.pending.now (sym c.clear-2.new.buf) c.clear-2.ensures)).1 }
+    let a = c.args in
+    record {
+      reader_value = c.requires;
+      found_value = cleared a.found.now (sym c.clear.auto.buf) c.clear.ensures;
+      pending_value = cleared a.pending.now (sym c.clear-2.auto.buf) c.clear-2.ensures;
+    }
 
 pub returns-in-Refused : goal.returns-in-Refused
 returns-in-Refused c =
@@ -19,15 +24,15 @@ returns-in-Refused c =
     collected seen a.option a.scratch.now c.clear.new.buf c.clear-2.new.buf ≡
     collected_by a.reader seen a.option a.scratch.now a.found.now a.pending.now = let a = c.args in
     reader_walks_long a.reader (held_seen a.reader a.area.now a.index.now) a.option a.scratch.now a.found.now
-    a.pending.now c.requires.0 c.clear.new.buf c.clear-2.new.buf c.clear.new.buf c.clear-2.new.buf in
+    a.pending.now c.requires.0 c.clear.new.buf c.clear-2.new.buf c.clear.auto.buf c.clear-2.auto.buf in
     let a = c.args in
     collects_refused a.reader (held_seen a.reader a.area.now a.index.now) a.option a.scratch.now a.found.now
     a.pending.now
-    (cleared c.run-result.new.scratch c.run-result.new.scratch c.clear-3.ensures)
+    (cleared c.run-result.new.scratch c.run-result.auto.scratch c.clear-3.ensures)
     refl
     (sym same_reply_lem ∙ (rw c.in-Refused.is at c.run-result.ensures))
-    (cleared c.run-result.new.found (c.run-result.new.found ∙ c.clear.new.buf) c.clear-in-Refused.ensures)
-    (cleared c.run-result.new.pending (c.run-result.new.pending ∙ c.clear-2.new.buf) c.clear-in-Refused-2.ensures)
+    (cleared c.run-result.new.found (c.run-result.auto.found ∙ c.clear.auto.buf) c.clear-in-Refused.ensures)
+    (cleared c.run-result.new.pending (c.run-result.auto.pending ∙ c.clear-2.auto.buf) c.clear-in-Refused-2.ensures)
 
 pub returns : goal.returns
 returns c =
@@ -36,7 +41,7 @@ returns c =
     collected seen a.option a.scratch.now c.clear.new.buf c.clear-2.new.buf ≡
     collected_by a.reader seen a.option a.scratch.now a.found.now a.pending.now = let a = c.args in
     reader_walks_long a.reader (held_seen a.reader a.area.now a.index.now) a.option a.scratch.now a.found.now
-    a.pending.now c.requires.0 c.clear.new.buf c.clear-2.new.buf c.clear.new.buf c.clear-2.new.buf in
+    a.pending.now c.requires.0 c.clear.new.buf c.clear-2.new.buf c.clear.auto.buf c.clear-2.auto.buf in
     let a = c.args in
     let seen = held_seen a.reader a.area.now a.index.now in
     subst
@@ -44,8 +49,8 @@ returns c =
     c.run-result.new.found c.run-result.new.pending)
     (sym c.in_default.is)
     (collects_done a.reader seen a.option a.scratch.now a.found.now a.pending.now
-    (cleared c.run-result.new.scratch c.run-result.new.scratch c.clear-3.ensures)
+    (cleared c.run-result.new.scratch c.run-result.auto.scratch c.clear-3.ensures)
     (subst (λ (w : WalkReply). Comes w c.run-result.new.found c.run-result.new.pending c.in_default.field-0 c.in_default.field-1) same_reply_lem
     (rw c.in_default.is at c.run-result.ensures))
-    (c.run-result.new.found ∙ c.clear.new.buf)
-    (c.run-result.new.pending ∙ c.clear-2.new.buf))
+    (c.run-result.auto.found ∙ c.clear.auto.buf)
+    (c.run-result.auto.pending ∙ c.clear-2.auto.buf))

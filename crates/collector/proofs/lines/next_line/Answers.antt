@@ -1,7 +1,6 @@
 -- `next_line` meets its contract. The loop's invariant: from each place on the line ends at the same place (`LineLaws`).
 use Rattle.listing_rules.proofs.Prelude.{refl, arith}
 use Rattle.collector.proofs.LineLaws.{line_out, line_end_lem, line_more}
-use Rattle.listing_rules.proofs.Prelude.{◌-◌}
 use Rattle.collector.proofs.lines.next_line.Goals as goal
 
 pub loop-i-init : goal.loop-i-init

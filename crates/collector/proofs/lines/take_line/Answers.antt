@@ -33,27 +33,33 @@ returns-in_default-keep c =
     c.is_find-find.ensures c.in_default-keep.is c.keep.ensures
 
 pub slice_bounds-name-end-2 : goal.slice_bounds-name-end-2
-slice_bounds-name-end-2 c = (told c.inside
+slice_bounds-name-end-2 c =
+    let told : ReadAs c.args.line.now c.in-Parts.attributes c.in-Parts.n (parent_of c.in-Parts.child_info) c.read_line-read.result.name = read_as c.args.line.now c.in-Parts.attributes c.in-Parts.n c.in-Parts.child_info c.read_line-read.result.name
+    c.read_line-read.ensures.result c.in-Parts.is c.read_line-read.ensures.bytes in
+    told.inside
 
 pub slice_bounds-keep-end-2 : goal.slice_bounds-keep-end-2
-slice_bounds-keep-end-2 c = simp length-take (omega (arith, (told c.inside))
+slice_bounds-keep-end-2 c =
+    let told : ReadAs c.args.line.now c.in-Parts.attributes c.in-Parts.n (parent_of c.in-Parts.child_info) c.read_line-read.result.name = read_as c.args.line.now c.in-Parts.attributes c.in-Parts.n c.in-Parts.child_info c.read_line-read.result.name
+    c.read_line-read.ensures.result c.in-Parts.is c.read_line-read.ensures.bytes in
+    simp length-take (omega (arith, told.inside))
 
 pub keep-requires-2 : goal.keep-requires-2
 keep-requires-2 c =
     let told : ReadAs c.args.line.now c.in-Parts.attributes c.in-Parts.n (parent_of c.in-Parts.child_info) c.read_line-read.result.name = read_as c.args.line.now c.in-Parts.attributes c.in-Parts.n c.in-Parts.child_info c.read_line-read.result.name
     c.read_line-read.ensures.result c.in-Parts.is c.read_line-read.ensures.bytes in
-    record { at_in_bounds = omega (arith, (Stages.bound-parts-known-told c).start.pre); name_len_bound = simp length-take (omega (arith, told.short)) }
+    record { at_in_bounds = omega (arith, c.requires); name_len_bound = simp length-take (omega (arith, told.short)) }
 
 pub returns-in_default-keep-2 : goal.returns-in_default-keep-2
 returns-in_default-keep-2 c =
     let told : ReadAs c.args.line.now c.in-Parts.attributes c.in-Parts.n (parent_of c.in-Parts.child_info) c.read_line-read.result.name = read_as c.args.line.now c.in-Parts.attributes c.in-Parts.n c.in-Parts.child_info c.read_line-read.result.name
     c.read_line-read.ensures.result c.in-Parts.is c.read_line-read.ensures.bytes in
-    ask_full told (Stages.bound-parts-known-told c).start.args.options
+    ask_full told c.args.options
     c.keep.new.buf
     c.is_find-find.ensures
     c.in-To.is
     c.keep.ensures
-    c.keep.new.buf
+    c.keep.auto.buf
     c.keep-2.new.buf
     (ap not c.is_none-parent.ensures)
     c.in_default-keep-2.is
@@ -63,14 +69,14 @@ pub returns : goal.returns
 returns c =
     let told : ReadAs c.args.line.now c.in-Parts.attributes c.in-Parts.n (parent_of c.in-Parts.child_info) c.read_line-read.result.name = read_as c.args.line.now c.in-Parts.attributes c.in-Parts.n c.in-Parts.child_info c.read_line-read.result.name
     c.read_line-read.ensures.result c.in-Parts.is c.read_line-read.ensures.bytes in
-    line_taken told (Stages.bound-parts-known-told c).start.args.options
+    line_taken told c.args.options
     c.keep.new.buf
     c.is_find-find.ensures
     c.in-To.is
     c.keep.ensures
-    c.keep.new.buf
+    c.keep.auto.buf
     c.keep-2.new.buf
     (ap not c.is_none-parent.ensures)
     c.in-To-keep.is
     c.keep-2.ensures
-    c.keep-2.new.buf
+    c.keep-2.auto.buf

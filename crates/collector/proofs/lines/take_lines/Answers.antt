@@ -2,7 +2,7 @@
 use Rattle.listing_rules.proofs.Prelude.{◌<◌, ◌≤◌, arith, length}
 use Rattle.collector.proofs.LineLaws.{line_lies}
 use Rattle.collector.proofs.AnswerLaws.{taking_none, taking_line, taking_refused, taking_end}
-use Rattle.listing_rules.proofs.Prelude.{◌-◌, length}
+use Rattle.listing_rules.proofs.Prelude.{length}
 use Rattle.collector.proofs.lines.take_lines.Goals as goal
 
 pub loop-at-init : goal.loop-at-init
@@ -38,7 +38,7 @@ loop-at-smaller c =
 
 pub loop-at-preserved : goal.loop-at-preserved
 loop-at-preserved c =
-    taking_line c.loop-at.invariant c.loop-at-test.true c.next_line-end.ensures (rw c.in-All.is at c.take_line.ensures) c.take_line.new.found c.take_line.new.pending
+    taking_line c.loop-at.invariant c.loop-at-test.true c.next_line-end.ensures (rw c.in-All.is at c.take_line.ensures) c.take_line.auto.found c.take_line.auto.pending
 
 pub returns-in-Refused : goal.returns-in-Refused
 returns-in-Refused c =

@@ -28,7 +28,12 @@ ask-requires c =
     Fronts c.put_below-n.new.buf c.put_below-n.result (name_at args.name args.pending.now ++ (slash ∷ [])) = put_fronts c.no_reference-reference.result c.put_below-n.new.buf (name_at c.args.name c.args.pending.now ++ (slash ∷ [])) c.put_below-n.result reference_room
     c.no_reference-reference.ensures c.put_below-n.ensures
     (simp (length-append, length-take) (omega (arith, c.requires.lies))) in
-    record { reader_value = c.requires.reader_value; reference_len_bound = ((rw below.bytes (simp (length-append, length-take) (omega (arith, c.requires.lies))), (c.requires.inside, c.requires.count_in_bounds))).0; inside = ((rw below.bytes (simp (length-append, length-take) (omega (arith, c.requires.lies))), (c.requires.inside, c.requires.count_in_bounds))).1; count_in_bounds = ((rw below.bytes (simp (length-append, length-take) (omega (arith, c.requires.lies))), (c.requires.inside, c.requires.count_in_bounds))).2 }
+    record {
+      reader_value = c.requires.reader_value;
+      reference_len_bound = rw below.bytes (simp (length-append, length-take) (omega (arith, c.requires.lies)));
+      inside = c.requires.inside;
+      count_in_bounds = c.requires.count_in_bounds;
+    }
 
 pub returns : goal.returns
 returns c =

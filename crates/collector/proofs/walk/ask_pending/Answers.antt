@@ -2,7 +2,7 @@
 use Rattle.listing_rules.proofs.Prelude.{◌≡◌, ap, ◌+◌, ℕ, arith, get_or}
 use Rattle.listing_rules.specs.Walk.{collected}
 use Rattle.collector.proofs.WalkLaws.{name_inside, name_lies, count_fits, walking_ends, walking_refused, walking_step}
-use Rattle.listing_rules.proofs.Prelude.{◌≡◌, ◌-◌}
+use Rattle.listing_rules.proofs.Prelude.{◌≡◌}
 use Rattle.collector.proofs.walk.ask_pending.Goals as goal
 
 pub loop-at-init : goal.loop-at-init
@@ -35,20 +35,17 @@ ask_below-requires c =
     let end_is : let at = c.loop-at.at in at + 1 + c.wide.result ≡ at + 1 + get_or
     c.loop-at.pending at 0 = ap (λ (n : ℕ). c.loop-at.at + 1 + n) c.wide.ensures in
     let inv = c.loop-at.invariant in
-    let more = c.loop-at-test.true in record { reader_value = c.requires.reader_value; lies = ((
-        name_lies inv more end_is (omega (arith, c.slice_known-in-loop-at-1.given c.loop-at.at)),
-        (record { finds = c.loop-at.invariant.holds.finds.room; asks = c.loop-at.invariant.holds.asks.room }, count_fits inv more end_is),
-      )).0; inside = ((
-        name_lies inv more end_is (omega (arith, c.slice_known-in-loop-at-1.given c.loop-at.at)),
-        (record { finds = c.loop-at.invariant.holds.finds.room; asks = c.loop-at.invariant.holds.asks.room }, count_fits inv more end_is),
-      )).1; count_in_bounds = ((
-        name_lies inv more end_is (omega (arith, c.slice_known-in-loop-at-1.given c.loop-at.at)),
-        (record { finds = c.loop-at.invariant.holds.finds.room; asks = c.loop-at.invariant.holds.asks.room }, count_fits inv more end_is),
-      )).2 }
+    let more = c.loop-at-test.true in
+    record {
+      reader_value = c.requires.reader_value;
+      lies = name_lies inv more end_is (omega arith);
+      inside = record { finds = inv.holds.finds.room; asks = inv.holds.asks.room };
+      count_in_bounds = count_fits inv more end_is;
+    }
 
 pub loop-at-smaller : goal.loop-at-smaller
 loop-at-smaller c =
-    omega (arith, c.loop-at-test.true, c.loop-at.invariant.holds.asks.room, c.ask_below.new.pending)
+    omega (arith, c.loop-at-test.true, c.loop-at.invariant.holds.asks.room, c.ask_below.auto.pending)
 
 pub loop-at-preserved : goal.loop-at-preserved
 loop-at-preserved c =
@@ -57,9 +54,9 @@ loop-at-preserved c =
     walking_step c.loop-at.invariant c.loop-at-test.true end_is
     c.ask_below.new.scratch
     (rw c.in-All.is at c.ask_below.ensures)
-    c.ask_below.new.scratch
-    c.ask_below.new.found
-    c.ask_below.new.pending
+    c.ask_below.auto.scratch
+    c.ask_below.auto.found
+    c.ask_below.auto.pending
 
 pub returns-in-Refused : goal.returns-in-Refused
 unfolding collected

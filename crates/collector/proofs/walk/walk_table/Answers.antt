@@ -10,7 +10,12 @@ use Rattle.collector.proofs.walk.walk_table.Goals as goal
 
 pub ask-requires : goal.ask-requires
 ask-requires c =
-    record { reader_value = c.requires.reader_value.0; reference_len_bound = ((omega arith, (record { finds = omega arith; asks = omega arith }, omega arith))).0; inside = ((omega arith, (record { finds = omega arith; asks = omega arith }, omega arith))).1; count_in_bounds = ((omega arith, (record { finds = omega arith; asks = omega arith }, omega arith))).2 }
+    record {
+      reader_value = c.requires.reader_value.0;
+      reference_len_bound = omega arith;
+      inside = record { finds = omega arith; asks = omega arith };
+      count_in_bounds = omega arith;
+    }
 
 pub ask_pending-requires : goal.ask_pending-requires
 ask_pending-requires c =
@@ -22,9 +27,9 @@ ask_pending-requires c =
     c.args.scratch.now c.requires.reader_value.1 c.requires.found_value c.requires.pending_value
     c.ask.new.scratch
     (rw c.in-All.is at c.ask.ensures)
-    c.ask.new.scratch
-    c.ask.new.found
-    c.ask.new.pending in
+    c.ask.auto.scratch
+    c.ask.auto.found
+    c.ask.auto.pending in
     record { reader_value = c.requires.reader_value.0; walking = begins }
 
 pub returns-in-All : goal.returns-in-All
@@ -32,7 +37,7 @@ returns-in-All c =
     subst (λ (w : WalkReply). Ends w c.ask_pending.new.found c.ask_pending.new.pending c.ask_pending.result)
     (collected_long (held_seen c.args.reader c.args.area.now c.args.words.now) (byte_of c.args.options)
     c.args.scratch.now
-    c.args.found.now c.args.pending.now c.ask.new.scratch c.ask.new.found c.ask.new.pending c.ask.new.scratch c.ask.new.found c.ask.new.pending)
+    c.args.found.now c.args.pending.now c.ask.new.scratch c.ask.new.found c.ask.new.pending c.ask.auto.scratch c.ask.auto.found c.ask.auto.pending)
     c.ask_pending.ensures
 
 pub returns-in-Refused : goal.returns-in-Refused

@@ -1,7 +1,7 @@
 -- `read_returns`: nothing, or RETURN and a list that the line ends with, part by part. Rests on Returning and Listing.
-use Rattle.listing_rules.proofs.Prelude.{◌∙◌, ◌≡◌, ap, sym, Option, some, List, ℕ, drop, drop_of_length-le}
+use Rattle.listing_rules.proofs.Prelude.{◌∙◌, ◌≡◌, ap, sym, true, Option, some, List, ℕ, drop, drop_of_length-le}
 use Rattle.listing_rules.specs.Bytes.{text, spells}
-use Rattle.listing_rules.specs.Tokens.{Got, got}
+use Rattle.listing_rules.specs.Tokens.{Got, got, after}
 use Rattle.listing_rules.specs.Command.{options, return_part}
 use Rattle.command_tokens.specs.Spans.{span_bytes}
 use Rattle.command_tokens.proofs.Binds.{bind_none, bind_go, token_found, token_missing, bare_ahead, bare_bytes, behind_at, behind_nothing}
@@ -11,6 +11,32 @@ use Rattle.command_line.proofs.Listing.{listed_read, listed_broken}
 use Rattle.command_line.proofs.Returning.{at_end, after_return, after_space, empty_out, empty_not, return_is, return_none, word_return}
 use Rattle.command_line.proofs.Returning.{word_other, at_end_lem, not_at_end, no_end}
 use Rattle.command_line.proofs.option_list.read_returns.Goals as goal
+use Rattle.command_line.proofs.option_list.read_returns.Goals.{In-Found, After-spells_word}
+
+-- ---- what the line gives, part by part
+
+-- after the space and the word
+worded : (c : In-Found) → marks_of Return (ended (return_part (drop c.args.here.at c.args.text.now))) ≡
+    after_return (got (span_bytes c.args.text.now c.in-Found.word) (drop c.in-Found.rest.at c.args.text.now))
+unfolding after_space
+worded c =
+    return_is _ _ c.if-text-here.false ∙ bind_go _ (behind_at _ c.space.ensures.result_value c.in-At.is)
+    ∙ bind_go _ (token_found _ c.atom.ensures.result_value c.in-Found.is)
+
+-- the word is RETURN or another
+spelled : (c : After-spells_word) → spells (span_bytes c.args.text.now c.in-Found.word) (text "RETURN") ≡ c.spells_word.result
+unfolding text
+spelled c =
+    let bare = (bare_ahead _ _ c.atom.ensures.bare_in c.in-Found.is).bare in
+    ap (λ (x : List ℕ). spells x (text "RETURN")) (bare_bytes _ _ bare ∙ sym c.raw.ensures) ∙ sym c.spells_word.ensures
+
+-- and after the opening parenthesis
+listed : {x : Option (Got Marks)} (w u : List ℕ) {v : List ℕ} → x ≡ after_return (got w u) → spells w (text "RETURN") ≡ true → after (text " (") u ≡ some v →
+    x ≡ at_end (marks_of Return (options v))
+unfolding after_return
+listed w u e r o = e ∙ bind_go _ (word_return _ _ _ r o)
+
+-- ---- the answers
 
 -- the line ends
 pub returns-then-text-here : goal.returns-then-text-here
@@ -29,89 +55,48 @@ pub returns-in_default-atom : goal.returns-in_default-atom
 unfolding listed_is after_space
 returns-in_default-atom c =
     let line : List ℕ = c.args.text.now in
-    let whole : Option (Got Marks) = marks_of Return (ended (return_part (drop c.args.here.at line))) in
-    let spaced : whole ≡ after_space (drop c.in-At.next.at line) = return_is line _ c.if-text-here.false ∙ bind_go _ (behind_at _ c.space.ensures.result_value c.in-At.is) in
+    let spaced = return_is line _ c.if-text-here.false ∙ bind_go _ (behind_at _ c.space.ensures.result_value c.in-At.is) in
     sym (spaced ∙ bind_none _ (token_missing _ c.atom.ensures.result_value c.in_default-atom.is))
 
 -- another word
 pub returns-then-not-spells_word : goal.returns-then-not-spells_word
 unfolding listed_is after_return
 returns-then-not-spells_word c =
-    let line : List ℕ = c.args.text.now in
-    let whole : Option (Got Marks) = marks_of Return (ended (return_part (drop c.args.here.at line))) in
-    let spaced : whole ≡ after_space (drop c.in-At.next.at line) = return_is line _ c.if-text-here.false ∙ bind_go _ (behind_at _ c.space.ensures.result_value c.in-At.is) in
-    let rest : List ℕ = drop c.in-Found.rest.at line in
-    let word : List ℕ = span_bytes line c.in-Found.word in
-    let worded : whole ≡ after_return (got word rest) = unfold after_space in spaced ∙ bind_go _ (token_found _ c.atom.ensures.result_value c.in-Found.is) in
-    let spelled : spells word (text "RETURN") ≡ c.spells_word.result = unfold text in let bare = (bare_ahead _ _ c.atom.ensures.bare_in c.in-Found.is).bare in
-    ap (λ (x : List ℕ). spells x (text "RETURN")) (bare_bytes _ _ bare ∙ sym c.raw.ensures) ∙ sym c.spells_word.ensures in
-    sym (worded ∙ bind_none _ (word_other _ _ (spelled ∙ c.if-not-spells_word.true)))
+    let at = goal.at.returns-then-not-spells_word c in
+    sym (worded at.In-Found ∙ bind_none _ (word_other _ _ (spelled at.After-spells_word ∙ c.if-not-spells_word.true)))
 
 -- RETURN, and no list
 pub returns-in_default-opening : goal.returns-in_default-opening
 unfolding listed_is after_return
 returns-in_default-opening c =
-    let line : List ℕ = c.args.text.now in
-    let whole : Option (Got Marks) = marks_of Return (ended (return_part (drop c.args.here.at line))) in
-    let spaced : whole ≡ after_space (drop c.in-At.next.at line) = return_is line _ c.if-text-here.false ∙ bind_go _ (behind_at _ c.space.ensures.result_value c.in-At.is) in
-    let rest : List ℕ = drop c.in-Found.rest.at line in
-    let word : List ℕ = span_bytes line c.in-Found.word in
-    let worded : whole ≡ after_return (got word rest) = unfold after_space in spaced ∙ bind_go _ (token_found _ c.atom.ensures.result_value c.in-Found.is) in
-    let spelled : spells word (text "RETURN") ≡ c.spells_word.result = unfold text in let bare = (bare_ahead _ _ c.atom.ensures.bare_in c.in-Found.is).bare in
-    ap (λ (x : List ℕ). spells x (text "RETURN")) (bare_bytes _ _ bare ∙ sym c.raw.ensures) ∙ sym c.spells_word.ensures in
-    sym (worded ∙ bind_none _ (word_return _ _ _ (spelled ∙ c.if-not-spells_word.false)
+    let at = goal.at.returns-in_default-opening c in
+    sym (worded at.In-Found ∙ bind_none _ (word_return _ _ _ (spelled at.After-spells_word ∙ c.if-not-spells_word.false)
     (behind_nothing _ c.opening.ensures.result_value c.in_default-opening.is)))
 
 -- a list off the grammar
 pub returns-in_default-read_options : goal.returns-in_default-read_options
 unfolding listed_is
 returns-in_default-read_options c =
-    let line : List ℕ = c.args.text.now in
-    let whole : Option (Got Marks) = marks_of Return (ended (return_part (drop c.args.here.at line))) in
-    let spaced : whole ≡ after_space (drop c.in-At.next.at line) = return_is line _ c.if-text-here.false ∙ bind_go _ (behind_at _ c.space.ensures.result_value c.in-At.is) in
-    let rest : List ℕ = drop c.in-Found.rest.at line in
-    let word : List ℕ = span_bytes line c.in-Found.word in
-    let worded : whole ≡ after_return (got word rest) = unfold after_space in spaced ∙ bind_go _ (token_found _ c.atom.ensures.result_value c.in-Found.is) in
-    let spelled : spells word (text "RETURN") ≡ c.spells_word.result = unfold text in let bare = (bare_ahead _ _ c.atom.ensures.bare_in c.in-Found.is).bare in
-    ap (λ (x : List ℕ). spells x (text "RETURN")) (bare_bytes _ _ bare ∙ sym c.raw.ensures) ∙ sym c.spells_word.ensures in
-    let inside : whole ≡ at_end (marks_of Return (options (drop c.in-At-opening.inside.at line))) = unfold after_return in worded ∙ bind_go _ (word_return _ _ _
-    (spelled ∙ c.if-not-spells_word.false)
-    (behind_at _ c.opening.ensures.result_value c.in-At-opening.is)) in
+    let at = goal.at.returns-in_default-read_options c in
+    let inside = listed _ _ (worded at.In-Found) (spelled at.After-spells_word ∙ c.if-not-spells_word.false) (behind_at _ c.opening.ensures.result_value c.in-At-opening.is) in
     sym (inside ∙ no_end (listed_broken _ c.read_options.ensures c.in_default-read_options.is))
 
 -- something stands after the list
 pub returns-then-last-text : goal.returns-then-last-text
 unfolding listed_is
 returns-then-last-text c =
-    let line : List ℕ = c.args.text.now in
-    let whole : Option (Got Marks) = marks_of Return (ended (return_part (drop c.args.here.at line))) in
-    let spaced : whole ≡ after_space (drop c.in-At.next.at line) = return_is line _ c.if-text-here.false ∙ bind_go _ (behind_at _ c.space.ensures.result_value c.in-At.is) in
-    let rest : List ℕ = drop c.in-Found.rest.at line in
-    let word : List ℕ = span_bytes line c.in-Found.word in
-    let worded : whole ≡ after_return (got word rest) = unfold after_space in spaced ∙ bind_go _ (token_found _ c.atom.ensures.result_value c.in-Found.is) in
-    let spelled : spells word (text "RETURN") ≡ c.spells_word.result = unfold text in let bare = (bare_ahead _ _ c.atom.ensures.bare_in c.in-Found.is).bare in
-    ap (λ (x : List ℕ). spells x (text "RETURN")) (bare_bytes _ _ bare ∙ sym c.raw.ensures) ∙ sym c.spells_word.ensures in
-    let inside : whole ≡ at_end (marks_of Return (options (drop c.in-At-opening.inside.at line))) = unfold after_return in worded ∙ bind_go _ (word_return _ _ _
-    (spelled ∙ c.if-not-spells_word.false)
-    (behind_at _ c.opening.ensures.result_value c.in-At-opening.is)) in
+    let at = goal.at.returns-then-last-text c in
+    let inside = listed _ _ (worded at.In-Found) (spelled at.After-spells_word ∙ c.if-not-spells_word.false) (behind_at _ c.opening.ensures.result_value c.in-At-opening.is) in
     let list = listed_read _ c.read_options.ensures c.in-Read.is in
-    sym (inside ∙ not_at_end _ _ list (empty_not line _ c.if-last-text.true))
+    sym (inside ∙ not_at_end _ _ list (empty_not c.args.text.now _ c.if-last-text.true))
 
 -- the line ends with the list
 pub returns : goal.returns
 unfolding listed_is got
 returns c =
+    let at = goal.at.returns c in
     let line : List ℕ = c.args.text.now in
-    let whole : Option (Got Marks) = marks_of Return (ended (return_part (drop c.args.here.at line))) in
-    let spaced : whole ≡ after_space (drop c.in-At.next.at line) = return_is line _ c.if-text-here.false ∙ bind_go _ (behind_at _ c.space.ensures.result_value c.in-At.is) in
-    let rest : List ℕ = drop c.in-Found.rest.at line in
-    let word : List ℕ = span_bytes line c.in-Found.word in
-    let worded : whole ≡ after_return (got word rest) = unfold after_space in spaced ∙ bind_go _ (token_found _ c.atom.ensures.result_value c.in-Found.is) in
-    let spelled : spells word (text "RETURN") ≡ c.spells_word.result = unfold text in let bare = (bare_ahead _ _ c.atom.ensures.bare_in c.in-Found.is).bare in
-    ap (λ (x : List ℕ). spells x (text "RETURN")) (bare_bytes _ _ bare ∙ sym c.raw.ensures) ∙ sym c.spells_word.ensures in
-    let inside : whole ≡ at_end (marks_of Return (options (drop c.in-At-opening.inside.at line))) = unfold after_return in worded ∙ bind_go _ (word_return _ _ _
-    (spelled ∙ c.if-not-spells_word.false)
-    (behind_at _ c.opening.ensures.result_value c.in-At-opening.is)) in
+    let inside = listed _ _ (worded at.In-Found) (spelled at.After-spells_word ∙ c.if-not-spells_word.false) (behind_at _ c.opening.ensures.result_value c.in-At-opening.is) in
     let list = listed_read _ c.read_options.ensures c.in-Read.is in
     let end = c.in-Read.last.at in
     let marks : Marks = record { set = c.in-Read.set.bits; known = c.in-Read.known } in

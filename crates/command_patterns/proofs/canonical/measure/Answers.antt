@@ -12,13 +12,13 @@ loop-i-init c = (omega arith, omega arith, λ r h. counted_none _)
 -- an empty pattern
 pub loop-i-preserved-then-tail-eq0 : goal.loop-i-preserved-then-tail-eq0
 loop-i-preserved-then-tail-eq0 c =
-    let size : length c.args.patterns.spans ≡ 8 = simp length-map at c.requires.1.1.0.1.1.0.1.0.1 in
+    let size : length c.args.patterns.spans ≡ 8 = omega arith in
     (omega arith, omega arith, λ r h. counted_same _ _ _ (c.loop-i.invariant.2 r h) (from_skip _ r _ size c.loop-i.i (omega arith) (sym c.span_len-tail.ensures ∙ c.if-tail-eq0.true)))
 
 -- any other one
 pub loop-i-preserved : goal.loop-i-preserved
 loop-i-preserved c =
-    let size : length c.args.patterns.spans ≡ 8 = simp length-map at c.requires.1.1.0.1.1.0.1.0.1 in
+    let size : length c.args.patterns.spans ≡ 8 = omega arith in
     let text = c.args.text.now in
     let tail = c.span_len-tail.ensures in (
       omega arith,
@@ -29,7 +29,7 @@ loop-i-preserved c =
 
 pub returns : goal.returns
 returns c =
-    let size : length c.args.patterns.spans ≡ 8 = simp length-map at c.requires.1.1.0.1.1.0.1.0.1 in
+    let size : length c.args.patterns.spans ≡ 8 = omega arith in
     let text = c.args.text.now in
     let reference = span_bytes text _ in
     counted_all _ _ _ (c.loop-i.invariant.2 reference (sym c.span_len-head.ensures)) (from_out text reference _ size c.loop-i.i (omega arith))

@@ -13,14 +13,14 @@ loop-i-init c = (omega arith, packing_none _ _ (search rules))
 -- an empty pattern
 pub loop-i-preserved-then-span_len-eq0 : goal.loop-i-preserved-then-span_len-eq0
 loop-i-preserved-then-span_len-eq0 c =
-    let size : length c.args.patterns.spans ≡ 8 = simp length-map at c.requires.1.1.0.1.1.0.1.0.1 in
+    let size : length c.args.patterns.spans ≡ 8 = omega arith in
     let line = c.args.line.now in
     (omega arith, packing_same _ _ _ _ _ c.loop-i.invariant.1 (from_skip line _ _ size c.loop-i.i (omega arith) (sym c.span_len.ensures ∙ c.if-span_len-eq0.true)))
 
 -- any other one
 pub loop-i-preserved : goal.loop-i-preserved
 loop-i-preserved c =
-    let size : length c.args.patterns.spans ≡ 8 = simp length-map at c.requires.1.1.0.1.1.0.1.0.1 in
+    let size : length c.args.patterns.spans ≡ 8 = omega arith in
     let line = c.args.line.now in
     let reference = span_bytes line _ in (
       omega (arith, c.loop-i-test.true),
@@ -30,5 +30,5 @@ loop-i-preserved c =
 
 pub returns : goal.returns
 returns c =
-    let size : length c.args.patterns.spans ≡ 8 = simp length-map at c.requires.1.1.0.1.1.0.1.0.1 in
+    let size : length c.args.patterns.spans ≡ 8 = omega arith in
     packing_all _ _ _ _ _ c.loop-i.invariant.1 (from_out c.args.line.now _ _ size c.loop-i.i (omega arith))

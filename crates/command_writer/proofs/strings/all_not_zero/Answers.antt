@@ -1,11 +1,9 @@
 -- `all_not_zero` meets its contract: the bytes from `i` on decide. By octets' laws of Every.
-use Rattle.listing_rules.proofs.Prelude.{◌∙◌, ap, refl, sym, not, eq-eqb, ne_eqb}
+use Rattle.listing_rules.proofs.Prelude.{◌∙◌, ap, refl, sym, Bool, not, ℕ, eqb, eq-eqb, ne_eqb}
 use Rattle.octets.proofs.Every.{all_step, all_stop, all_end}
-use Loops.{notZero}
-use Rattle.listing_rules.proofs.Prelude.{Bool, not, ◌-◌, ℕ, eqb}
 use Rattle.command_writer.proofs.strings.all_not_zero.Goals as goal
 
-abbrev pub notZero : ℕ → Bool
+abbrev notZero : ℕ → Bool
 notZero b = not (eqb b 0)
 
 pub loop-i-init : goal.loop-i-init

@@ -40,23 +40,21 @@ returns-in_default c =
 
 pub slice_bounds-answer_words-end-4 : goal.slice_bounds-answer_words-end-4
 slice_bounds-answer_words-end-4 c =
-    let start =
-    c in
-    whole_namespaces start.pre.0
+    whole_namespaces c.requires.within
 
 pub put_reply-written-requires : goal.put_reply-written-requires
 put_reply-written-requires c =
-    let worded : length c.lay_out.new.words ≡ 512 = c.lay_out.auto.1.0 ∙ ap length c.no_words-words.ensures ∙ length-replicate {A = ℕ} 512 0 in
-    let summed : length c.summarize_words.new.sums ≡ 512 = c.summarize_words.auto.1.1.1.0 ∙ ap length c.no_words-sums.ensures ∙ length-replicate {A = ℕ} 512 0 in
+    let worded : length c.lay_out.new.words ≡ 512 = c.lay_out.auto.words ∙ ap length c.no_words-words.ensures ∙ length-replicate {A = ℕ} 512 0 in
+    let summed : length c.summarize_words.new.sums ≡ 512 = c.summarize_words.auto.sums ∙ ap length c.no_words-sums.ensures ∙ length-replicate {A = ℕ} 512 0 in
     let sized : length c.no_bytes-answer.result ≡ 16384 = ap length c.no_bytes-answer.ensures ∙ length-replicate {A = ℕ} 16384 0 in
     let outcome = came _ _ _ _ _ _ _ _ worded summed c.answer_words-made.ensures in
-    reply_fits _ _ _ outcome.written outcome.bytes (c.answer_words-made.auto.1.1.1.1.1.1.1.0 ∙ sized)
+    reply_fits _ _ _ outcome.written outcome.bytes (c.answer_words-made.auto.out ∙ sized)
 
 pub returns-in_default-reply : goal.returns-in_default-reply
 returns-in_default-reply c =
     let memory : Lent = lent c.args.table.now c.args.records.now c.args.namespaces.now c.args.out.now in
-    let worded : length c.lay_out.new.words ≡ 512 = c.lay_out.auto.1.0 ∙ ap length c.no_words-words.ensures ∙ length-replicate {A = ℕ} 512 0 in
-    let summed : length c.summarize_words.new.sums ≡ 512 = c.summarize_words.auto.1.1.1.0 ∙ ap length c.no_words-sums.ensures ∙ length-replicate {A = ℕ} 512 0 in
+    let worded : length c.lay_out.new.words ≡ 512 = c.lay_out.auto.words ∙ ap length c.no_words-words.ensures ∙ length-replicate {A = ℕ} 512 0 in
+    let summed : length c.summarize_words.new.sums ≡ 512 = c.summarize_words.auto.sums ∙ ap length c.no_words-sums.ensures ∙ length-replicate {A = ℕ} 512 0 in
     let sized : length c.no_bytes-answer.result ≡ 16384 = ap length c.no_bytes-answer.ensures ∙ length-replicate {A = ℕ} 16384 0 in
     let laid : let a = c.args in
     Lays (take a.stored.table a.table.now) c.lay_out.new.words c.lay_out.new.area (Rows c.in-Rows.count) = laid_rows _ _ _ c.lay_out.ensures c.in-Rows.is in
@@ -76,20 +74,16 @@ returns-in_default-reply c =
 
 pub keep_store-requires : goal.keep_store-requires
 keep_store-requires c =
-    let after-answer-words =
-    c in
-    let counted = after-answer-words in
-    let placed = counted in
-    let start = placed in
-    let done = after-answer-words.answer-words in
-    (done.kept.0 ∙ worded placed, done.kept.1.0 ∙ summed counted, start.pre.0.held.records)
+    let worded : length c.lay_out.new.words ≡ 512 = c.lay_out.auto.words ∙ ap length c.no_words-words.ensures ∙ length-replicate {A = ℕ} 512 0 in
+    let summed : length c.summarize_words.new.sums ≡ 512 = c.summarize_words.auto.sums ∙ ap length c.no_words-sums.ensures ∙ length-replicate {A = ℕ} 512 0 in
+    (c.answer_words-made.auto.words ∙ worded, c.answer_words-made.auto.sums ∙ summed, c.requires.within.held.records)
 
 pub returns : goal.returns
 returns c =
     let memory : Lent = lent c.args.table.now c.args.records.now c.args.namespaces.now c.args.out.now in
-    let worded : length c.lay_out.new.words ≡ 512 = c.lay_out.auto.1.0 ∙ ap length c.no_words-words.ensures ∙ length-replicate {A = ℕ} 512 0 in
-    let named : length c.lay_out.new.area ≡ 16384 = c.lay_out.auto.1.1.0 ∙ ap length c.no_bytes-area.ensures ∙ length-replicate {A = ℕ} 16384 0 in
-    let summed : length c.summarize_words.new.sums ≡ 512 = c.summarize_words.auto.1.1.1.0 ∙ ap length c.no_words-sums.ensures ∙ length-replicate {A = ℕ} 512 0 in
+    let worded : length c.lay_out.new.words ≡ 512 = c.lay_out.auto.words ∙ ap length c.no_words-words.ensures ∙ length-replicate {A = ℕ} 512 0 in
+    let named : length c.lay_out.new.area ≡ 16384 = c.lay_out.auto.area ∙ ap length c.no_bytes-area.ensures ∙ length-replicate {A = ℕ} 16384 0 in
+    let summed : length c.summarize_words.new.sums ≡ 512 = c.summarize_words.auto.sums ∙ ap length c.no_words-sums.ensures ∙ length-replicate {A = ℕ} 512 0 in
     let sized : length c.no_bytes-answer.result ≡ 16384 = ap length c.no_bytes-answer.ensures ∙ length-replicate {A = ℕ} 16384 0 in
     let laid : let a = c.args in
     Lays (take a.stored.table a.table.now) c.lay_out.new.words c.lay_out.new.area (Rows c.in-Rows.count) = laid_rows _ _ _ c.lay_out.ensures c.in-Rows.is in
@@ -110,4 +104,4 @@ returns c =
     (first_accepted memory _ c.requires.within _ _ c.requires.edited_value.0 c.requires.edited_value.1 _ _ sized laid.0 first
     c.answer_words-made.new.words c.answer_words-made.new.sums _ _ _ _ _ _ outcome _ laid.2
     (came_words _ _ _ _ _ _ _ _ worded summed c.answer_words-made.ensures) c.in-Done.is few
-    (c.answer_words-made.auto.1.1.1.1.0 ∙ named) (c.answer_words-made.auto.1.0 ∙ summed) c.put_reply-written.ensures)
+    (c.answer_words-made.auto.area ∙ named) (c.answer_words-made.auto.sums ∙ summed) c.put_reply-written.ensures)

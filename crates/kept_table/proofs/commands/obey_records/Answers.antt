@@ -22,7 +22,7 @@ put_reply-written-requires c =
     let summed : length c.kept_sums-sums.result ≡ 512 = ap length c.kept_sums-sums.ensures ∙ sym (whole_sums c.requires.within.held) in
     let sized : length c.no_bytes-answer.result ≡ 16384 = ap length c.no_bytes-answer.ensures ∙ length-replicate {A = ℕ} 16384 0 in
     let outcome = came _ _ _ _ _ _ _ _ (sym (whole_records c.requires.within.held)) summed c.answer_words-done.ensures in
-    reply_fits _ _ _ outcome.written outcome.bytes (c.answer_words-done.auto.1.1.1.1.1.1.1.0 ∙ sized)
+    reply_fits _ _ _ outcome.written outcome.bytes (c.answer_words-done.auto.out ∙ sized)
 
 pub returns : goal.returns
 returns c =
@@ -32,4 +32,4 @@ returns c =
     let before = lent _ _ _ _ in
     rw (c.with_records.ensures, c.keep_sums.ensures)
     (obeys_records before _ c.requires.within _ _ c.requires.edited_value _ _ sized c.kept_sums-sums.ensures _ c.answer_words-done.new.words _ _ _ _ _
-    outcome (came_words _ _ _ _ _ _ _ _ (sym (whole_records c.requires.within.held)) summed c.answer_words-done.ensures) c.answer_words-done.auto.1.1.1.1.0 (c.answer_words-done.auto.1.0 ∙ summed) c.put_reply-written.ensures)
+    outcome (came_words _ _ _ _ _ _ _ _ (sym (whole_records c.requires.within.held)) summed c.answer_words-done.ensures) c.answer_words-done.auto.area (c.answer_words-done.auto.sums ∙ summed) c.put_reply-written.ensures)

@@ -7,8 +7,7 @@ use Rattle.kept_table.proofs.commands.obey_within.Goals as goal
 
 pub first_edit-requires : goal.first_edit-requires
 first_edit-requires c =
-    let start =
-    c in record { within = start.pre; edited_value = (c.if-stored.false, sym c.is_edit_line.ensures ∙ c.if-is_edit_line.true) }
+    record { within = c.requires; edited_value = (c.if-stored.false, sym c.is_edit_line.ensures ∙ c.if-is_edit_line.true) }
 
 pub slice_bounds-spaces-end : goal.slice_bounds-spaces-end
 slice_bounds-spaces-end c =
@@ -20,8 +19,7 @@ slice_bounds-read_line-end-2 c =
 
 pub read_line-written-requires : goal.read_line-written-requires
 read_line-written-requires c =
-    let start =
-    c in record { command_value = sym c.is_edit_line.ensures ∙ c.if-is_edit_line.false; table_len_bound = omega (arith, whole_table start.pre.held, start.pre.held.rows) }
+    record { command_value = sym c.is_edit_line.ensures ∙ c.if-is_edit_line.false; table_len_bound = omega (arith, whole_table c.requires.held, c.requires.held.rows) }
 
 pub returns : goal.returns
 returns c =

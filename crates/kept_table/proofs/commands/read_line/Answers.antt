@@ -14,7 +14,7 @@ put_reply-requires c =
     let reply = served_to a.reader (packed_seen a.reader a.table.now) a.namespaces.now a.command.now
     c.no_bytes-answer.result in
     (c.read_packed-written.result ≡ written_is reply) × (c.read_packed-written.new.out ≡ buffer_after c.no_bytes-answer.result reply) = gives_served_to _ _ _ _ _ _ _ c.requires.command_value c.read_packed-written.ensures in
-    reply_fits _ _ _ said.0 said.1 (c.read_packed-written.auto.1.1.1.1.0 ∙ sized)
+    reply_fits _ _ _ said.0 said.1 (c.read_packed-written.auto.out ∙ sized)
 
 pub returns : goal.returns
 returns c =

@@ -1,5 +1,5 @@
 -- `kept_table::store::copy_words` meets its contract. Rests on LayLaws.
-use Rattle.listing_rules.proofs.Prelude.{◌∙◌, ◌≡◌, ap, List, ◌-◌, ℕ, arith, get_or, length, set, length-paste, paste, paste-zero}
+use Rattle.listing_rules.proofs.Prelude.{◌∙◌, ◌≡◌, ap, List, ℕ, arith, get_or, length, set, length-paste, paste, paste-zero}
 use Rattle.kept_table.proofs.LayLaws.{copied_more}
 use Rattle.kept_table.proofs.store.copy_words.Goals as goal
 
@@ -12,14 +12,13 @@ bounds-to-i c =
     (arith, ap length c.loop-i.invariant.1, length-paste c.args.to.now 0 c.args.words.now _ (omega (arith, c.loop-i.invariant.0, c.requires)) c.loop-i.invariant.0)
 
 pub loop-i-preserved : goal.loop-i-preserved
-loop-i-preserved c =
-    (
-      omega (
-        arith,
-        c.loop-i-test.true,
-      ),
-      ap (λ (l : List ℕ). set l c.loop-i.i (get_or c.args.words.now c.loop-i.i 0)) c.loop-i.invariant.1 ∙ copied_more _ _ _ c.loop-i-test.true c.requires,
-    )
+loop-i-preserved c = (
+  omega (
+    arith,
+    c.loop-i-test.true,
+  ),
+  ap (λ (l : List ℕ). set l c.loop-i.i (get_or c.args.words.now c.loop-i.i 0)) c.loop-i.invariant.1 ∙ copied_more _ _ _ c.loop-i-test.true c.requires,
+)
 
 pub returns : goal.returns
 returns c =

@@ -4,13 +4,10 @@ use Rattle.mailbox_table.proofs.HeldLaws.{index_held, index_refused}
 use Rattle.kept_table.proofs.LayLaws.{rows_short, rows_inside, lays_rows}
 use Rattle.kept_table.proofs.store.lay_out.Goals as goal
 
--- room for 512 rows
-sized : (start : tie.Start) → length start.args.words.now ≡ 512
-sized start = ap length start.requires.words ∙ length-replicate {A = ℕ} 512 0
-
 pub returns-in_default : goal.returns-in_default
 returns-in_default c =
-    index_refused c.index.ensures (sized c)
+    let sized : length c.args.words.now ≡ 512 = ap length c.requires.words ∙ length-replicate {A = ℕ} 512 0 in
+    index_refused c.index.ensures sized
     c.in_default.is
 
 pub slice_bounds-place_names-end : goal.slice_bounds-place_names-end
@@ -23,13 +20,13 @@ slice_bounds-place_names-end-2 c =
 
 pub place_names-requires : goal.place_names-requires
 place_names-requires c =
-    let start =
-    c in (
-      rows_short c.index.ensures (sized start) _ c.in-Rows.is start.pre.table,
-      rows_inside c.index.ensures (sized start) _ c.in-Rows.is,
+    let sized : length c.args.words.now ≡ 512 = ap length c.requires.words ∙ length-replicate {A = ℕ} 512 0 in (
+      rows_short c.index.ensures sized _ c.in-Rows.is c.requires.table,
+      rows_inside c.index.ensures sized _ c.in-Rows.is,
     )
 
 pub returns : goal.returns
 returns c =
-    lays_rows c.index.ensures (sized c) _ c.in-Rows.is _ _ c.place_names.new.words c.requires
+    let sized : length c.args.words.now ≡ 512 = ap length c.requires.words ∙ length-replicate {A = ℕ} 512 0 in
+    lays_rows c.index.ensures sized _ c.in-Rows.is _ _ c.place_names.new.words c.requires
     c.place_names.ensures.0 c.place_names.ensures.1 c.place_names.ensures.2

@@ -1,5 +1,5 @@
 -- `kept_table::store::place_names` meets its contract. Rests on LayLaws.
-use Rattle.listing_rules.proofs.Prelude.{◌-◌, arith}
+use Rattle.listing_rules.proofs.Prelude.{arith}
 use Rattle.kept_table.proofs.LayLaws.{placing_none, placing_room, placing_more, placing_all, name_short}
 use Rattle.kept_table.proofs.store.place_names.Goals as goal
 

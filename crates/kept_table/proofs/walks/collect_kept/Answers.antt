@@ -17,9 +17,12 @@ slice_bounds-collect_words-end c =
 pub returns-then-stored : goal.returns-then-stored
 returns-then-stored c =
     let same = walks_records _ c.args.stored _ _
-    c.if-stored.true in record { result = c.collect_words.ensures.result ∙ ap (λ (t : Table). collected_of c.args.reader t c.args.option c.args.scratch.now c.args.found.now
-          c.args.pending.now) same; found = c.collect_words.ensures.found ∙ ap (λ (t : Table). found_of c.args.reader t c.args.option c.args.scratch.now c.args.found.now
-          c.args.pending.now) same }
+    c.if-stored.true in record {
+      result = c.collect_words.ensures.result ∙ ap (λ (t : Table). collected_of c.args.reader t c.args.option c.args.scratch.now c.args.found.now
+          c.args.pending.now) same;
+      found = c.collect_words.ensures.found ∙ ap (λ (t : Table). found_of c.args.reader t c.args.option c.args.scratch.now c.args.found.now
+          c.args.pending.now) same;
+    }
 
 pub slice_bounds-collect_packed-end : goal.slice_bounds-collect_packed-end
 slice_bounds-collect_packed-end c =
@@ -27,6 +30,9 @@ slice_bounds-collect_packed-end c =
 
 pub returns : goal.returns
 returns c =
-    let same = walks_packed _ c.args.stored _ _ c.if-stored.false in record { result = c.collect_packed.ensures.result ∙ ap (λ (t : Table). collected_of c.args.reader t c.args.option c.args.scratch.now c.args.found.now
-          c.args.pending.now) same; found = c.collect_packed.ensures.found ∙ ap (λ (t : Table). found_of c.args.reader t c.args.option c.args.scratch.now c.args.found.now
-          c.args.pending.now) same }
+    let same = walks_packed _ c.args.stored _ _ c.if-stored.false in record {
+      result = c.collect_packed.ensures.result ∙ ap (λ (t : Table). collected_of c.args.reader t c.args.option c.args.scratch.now c.args.found.now
+          c.args.pending.now) same;
+      found = c.collect_packed.ensures.found ∙ ap (λ (t : Table). found_of c.args.reader t c.args.option c.args.scratch.now c.args.found.now
+          c.args.pending.now) same;
+    }

@@ -7,7 +7,7 @@ returns-then-places-k c = rw (le-leb _ _ c.if-places-k.true)
 
 pub overflow_add-result : goal.overflow_add-result
 overflow_add-result c =
-    omega (arith, c.wide-start.ensures, c.shared_slice_known-2-1.given c.args.k)
+    omega (arith, c.wide-start.ensures, c.type_inv.places c.args.k)
 
 pub returns-then-first : goal.returns-then-first
 returns-then-first c =

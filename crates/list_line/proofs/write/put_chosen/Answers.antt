@@ -1,11 +1,12 @@
 -- `put_chosen` meets its contract. The loop's invariant is `Spelled` of `Writing`: what is written, and what is left of the names.
-use Rattle.listing_rules.proofs.Prelude.{ap, subst, ⊎_elim, List, ℕ, arith, length, rules}
+use Rattle.listing_rules.proofs.Prelude.{ap, subst, List, ℕ, arith, length, rules}
 use Rattle.octets.specs.Put.{Put}
 use Rattle.list_line.proofs.Names.{span_text, span_named}
 use Rattle.list_line.specs.Names.{NameSpan}
 use Rattle.list_line.proofs.Writing.{spelled_none, spelled_in, spelled_out, spelled_all}
 use Rattle.listing_rules.proofs.Prelude.{◌-◌}
 use Rattle.list_line.proofs.write.put_chosen.Goals as goal
+use Rattle.list_line.proofs.write.put_chosen.Goals.{then-left-eq1, else-left-eq1}
 
 pub loop-k-init : goal.loop-k-init
 loop-k-init c = spelled_none _ _ _ (search rules) (search rules)
@@ -27,13 +28,12 @@ slice_bounds-put_all-end c =
 
 pub loop-k-preserved : goal.loop-k-preserved
 loop-k-preserved c =
-    ⊎_elim
-    (λ w.
-    let name = span_text _ c.requires.names_value (span_named _ _ _ c.requires.places_value c.loop-k-test.true w.1.ensures) in
-    let put = subst (λ (x : List ℕ). Put c.loop-k.buf w.4.last.0 c.loop-k.to x w.4.result) name w.4.ensures in
-    rw (w.7, w.8, w.9) (spelled_in c.loop-k.invariant c.loop-k-test.true w.0.true put))
-    (λ w. rw (w.1, w.2, w.3) (spelled_out c.loop-k.invariant c.loop-k-test.true w.0.false))
-    c.if-left-eq1.branch
+    elim c.if-left-eq1.branch [
+      then-left-eq1 w ↦
+        let name = span_text _ c.requires.names_value (span_named _ _ _ c.requires.places_value c.loop-k-test.true w.name_span-span.ensures) in
+        let put = subst (λ (x : List ℕ). Put c.loop-k.buf w.put_all-to.new.buf c.loop-k.to x w.put_all-to.result) name w.put_all-to.ensures in
+        rw (w.buf-is, w.to-is, w.first-is) (spelled_in c.loop-k.invariant c.loop-k-test.true w.if-left-eq1.true put)
+    | else-left-eq1 w ↦ rw (w.buf-is, w.to-is, w.first-is) (spelled_out c.loop-k.invariant c.loop-k-test.true w.if-left-eq1.false) ]
 
 pub returns : goal.returns
 returns c =

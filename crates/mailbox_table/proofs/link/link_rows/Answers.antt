@@ -1,6 +1,6 @@
 -- `mailbox_table::link::link_rows` meets its contract. The invariant is the record `Linking`: words passed are linked and tell the same
 -- records, and the words that are left decide. By LinkLaws.
-use Rattle.listing_rules.proofs.Prelude.{◌∙◌, ◌≡◌, sym, ◌-◌, arith, get_or, length-set}
+use Rattle.listing_rules.proofs.Prelude.{◌∙◌, ◌≡◌, sym, ◌-◌, arith, rules, get_or, length-set}
 use Rattle.mailbox_table.specs.declared.rows.Step.TheVariants.{Next}
 use Rattle.mailbox_table.specs.Link.{name_in, step_of}
 use Rattle.mailbox_table.proofs.LinkLaws.{linking_none, linking_bad, linking_more, links_fails, links_rows, step_packs}
@@ -29,7 +29,7 @@ loop-i-preserved c =
     let stepped : let area = c.args.area.now in
     step_of area (name_in area c.loop-i.previous) (get_or c.loop-i.words c.loop-i.i 0) ≡ Next c.in-Next.row = sym c.next_row.ensures ∙ c.in-Next.is in
     rw c.relinked.ensures (linking_more c.loop-i.invariant (omega (arith, c.loop-i.invariant.size, c.loop-i-test.true)) _ stepped
-    (omega (arith, c.slice_known-in-loop-i-1.given c.loop-i.i)))
+    (search rules))
 
 pub returns : goal.returns
 returns c = links_rows c.loop-i.invariant c.loop-i-test.false

@@ -16,7 +16,7 @@ slice_bounds-rows_pass-end c =
     let made : let a = c.args in Split a.table.now a.words.now
     c.split_rows.new.words c.in-Rows.n = let a = c.args in
     split (subst (λ (r : Indexing). Splits a.table.now a.words.now c.split_rows.new.words r) c.in-Rows.is c.split_rows.ensures) in
-    made.ranges
+    made.fits
 
 pub slice_bounds-rows_pass-end-2 : goal.slice_bounds-rows_pass-end-2
 slice_bounds-rows_pass-end-2 c =

@@ -7,13 +7,6 @@ use Rattle.mailbox_table.proofs.PackedLaws.{splitting_none, splitting_full, spli
 use Rattle.mailbox_table.proofs.PackedLaws.{splits_rows, unpacking_long, step_packs, step_inside, step_start}
 use Rattle.mailbox_table.proofs.packed.split_rows.Goals as goal
 
-byte : (c : tie.After-known-told invariant-loop decreases-loop) (k : ℕ) →
-    let start = c.before.before.before.before.before.before.before.before.before.before.before in
-    get_or start.args.table.now k 0 < 256
-byte c k =
-    let after-shared-slice-known = c.before.before.before.before.before.before.before.before.before.before in
-    (after-shared-slice-known.shared-slice-known.given k).fits
-
 pub returns-then-table-gt-MAX_BYTES : goal.returns-then-table-gt-MAX_BYTES
 returns-then-table-gt-MAX_BYTES c =
     record {
@@ -44,7 +37,7 @@ returns-in_default c =
 pub word_at-requires : goal.word_at-requires
 word_at-requires c =
     let stepped : step_at c.args.table.now c.loop-at.at ≡ Next c.in-Next.row = sym c.row_at.ensures ∙ c.in-Next.is in
-    record { placed = record { inside = c.loop-at-test.true; bound = c.if-table-gt-MAX_BYTES.false }; packs = step_packs _ _ _ stepped c.if-table-gt-MAX_BYTES.false (λ k. byte c k) }
+    record { placed = record { inside = c.loop-at-test.true; bound = c.if-table-gt-MAX_BYTES.false }; packs = step_packs _ _ _ stepped c.if-table-gt-MAX_BYTES.false (λ k. (c.type_inv.table k).fits) }
 
 pub offset_bounds-words-n : goal.offset_bounds-words-n
 offset_bounds-words-n c =
@@ -68,7 +61,7 @@ pub loop-at-preserved : goal.loop-at-preserved
 loop-at-preserved c =
     let stepped : step_at c.args.table.now c.loop-at.at ≡ Next c.in-Next.row = sym c.row_at.ensures ∙ c.in-Next.is in
     rw c.word_at.ensures
-    (splitting_more c.loop-at.invariant c.loop-at-test.true c.if-table-gt-MAX_BYTES.false (λ k. byte c k) c.if-limit-n.false
+    (splitting_more c.loop-at.invariant c.loop-at-test.true c.if-table-gt-MAX_BYTES.false (λ k. (c.type_inv.table k).fits) c.if-limit-n.false
     (omega (arith, c.least-limit.ensures)) _ stepped)
 
 pub returns : goal.returns

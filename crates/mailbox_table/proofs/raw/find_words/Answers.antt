@@ -9,22 +9,6 @@ use Rattle.mailbox_table.proofs.FindLaws.{Copies, words_long, words_many, copied
 use Rattle.mailbox_table.proofs.FindLaws.{words_overlap, words_rows}
 use Rattle.mailbox_table.proofs.raw.find_words.Goals as goal
 
--- the pass over the front of the words, as it ended
-passed : (c : tie.After-rows-pass) (r : Bool) →
-    let after-copy-words = c.before.before.before.before in
-    let start = after-copy-words.before.before.before.before.before.before.before.before.before in
-    c.rows_pass_lem.result ≡ r →
-    let area = start.args.area.now in
-    let front = take start.args.count
-    after-copy-words.copy-words.new.1.1.0 in
-    Links area front c.rows_pass_lem.new.1.0 (words_pass area front) r
-passed c r e =
-    let after-copy-words = c.before.before.before.before in
-    let start = after-copy-words.before.before.before.before.before.before.before.before.before in
-    let area = start.args.area.now in
-    let front = take start.args.count _ in
-    subst (λ (b : Bool). Links area front c.rows_pass_lem.new.1.0 (words_pass area front) b) e c.rows_pass_lem.ensures
-
 pub returns-then-area-gt-MAX_BYTES : goal.returns-then-area-gt-MAX_BYTES
 returns-then-area-gt-MAX_BYTES c =
     record { answer = sym (words_long _ c.args.raw.now _ _ c.if-area-gt-MAX_BYTES.true); room = refl; found = tt; stays = tt }
@@ -44,117 +28,66 @@ copy_words-requires c =
 
 pub slice_bounds-rows_pass-end : goal.slice_bounds-rows_pass-end
 slice_bounds-rows_pass-end c =
-    let copied : let a = c.args in Copies a.area.now a.raw.now
-    a.words.now a.count c.copy_words.new.words = record {
-      long = c.if-area-gt-MAX_BYTES.false;
-      many = omega (arith, c.least-2.ensures, c.least.ensures);
-      copy = c.copy_words.ensures;
-    } in
+    let copied : Copies c.args.area.now c.args.raw.now c.args.words.now c.args.count c.copy_words.new.words =
+        record { long = c.if-area-gt-MAX_BYTES.false; many = omega (arith, c.least-2.ensures, c.least.ensures); copy = c.copy_words.ensures } in
     copied_fits copied
 
 pub slice_bounds-rows_pass-end-2 : goal.slice_bounds-rows_pass-end-2
 slice_bounds-rows_pass-end-2 c =
-    let copied : let a = c.args in Copies a.area.now a.raw.now
-    a.words.now a.count c.copy_words.new.words = record {
-      long = c.if-area-gt-MAX_BYTES.false;
-      many = omega (arith, c.least-2.ensures, c.least.ensures);
-      copy = c.copy_words.ensures;
-    } in
+    let copied : Copies c.args.area.now c.args.raw.now c.args.words.now c.args.count c.copy_words.new.words =
+        record { long = c.if-area-gt-MAX_BYTES.false; many = omega (arith, c.least-2.ensures, c.least.ensures); copy = c.copy_words.ensures } in
     simp length-take (omega (arith, copied_fits copied))
 
 pub rows_pass-requires : goal.rows_pass-requires
 rows_pass-requires c =
-    let copied : let a = c.args in Copies a.area.now a.raw.now
-    a.words.now a.count c.copy_words.new.words = record {
-      long = c.if-area-gt-MAX_BYTES.false;
-      many = omega (arith, c.least-2.ensures, c.least.ensures);
-      copy = c.copy_words.ensures;
-    } in
+    let copied : Copies c.args.area.now c.args.raw.now c.args.words.now c.args.count c.copy_words.new.words =
+        record { long = c.if-area-gt-MAX_BYTES.false; many = omega (arith, c.least-2.ensures, c.least.ensures); copy = c.copy_words.ensures } in
     simp length-take (omega (arith, copied.many))
 
 pub returns-then-not-rows_pass : goal.returns-then-not-rows_pass
 returns-then-not-rows_pass c =
-    let copied : let a = c.args in Copies a.area.now a.raw.now
-    a.words.now a.count c.copy_words.new.words = record {
-      long = c.if-area-gt-MAX_BYTES.false;
-      many = omega (arith, c.least-2.ensures, c.least.ensures);
-      copy = c.copy_words.ensures;
-    } in
-    words_bad copied (passed c false c.if-not-rows_pass.true)
+    let copied : Copies c.args.area.now c.args.raw.now c.args.words.now c.args.count c.copy_words.new.words =
+        record { long = c.if-area-gt-MAX_BYTES.false; many = omega (arith, c.least-2.ensures, c.least.ensures); copy = c.copy_words.ensures } in
+    words_bad copied (rw c.if-not-rows_pass.true at c.rows_pass.ensures)
 
 pub slice_bounds-lie_apart-end : goal.slice_bounds-lie_apart-end
 slice_bounds-lie_apart-end c =
-    let copied : let a = c.args in Copies a.area.now a.raw.now
-    a.words.now a.count c.copy_words.new.words = record {
-      long = c.if-area-gt-MAX_BYTES.false;
-      many = omega (arith, c.least-2.ensures, c.least.ensures);
-      copy = c.copy_words.ensures;
-    } in
-    let good : let area = c.args.area.now in
-    let front = take
-    c.args.count
-    c.copy_words.new.words in
-    Links area front c.rows_pass.new.words (words_pass area front) true = passed c true c.if-not-rows_pass.false in
+    let copied : Copies c.args.area.now c.args.raw.now c.args.words.now c.args.count c.copy_words.new.words =
+        record { long = c.if-area-gt-MAX_BYTES.false; many = omega (arith, c.least-2.ensures, c.least.ensures); copy = c.copy_words.ensures } in
+    let front = take c.args.count c.copy_words.new.words in
+    let good : Links c.args.area.now front c.rows_pass.new.words (words_pass c.args.area.now front) true = rw c.if-not-rows_pass.false at c.rows_pass.ensures in
     omega (arith, words_room copied good, copied.many)
 
 pub slice_bounds-lie_apart-end-2 : goal.slice_bounds-lie_apart-end-2
 slice_bounds-lie_apart-end-2 c =
-    let copied : let a = c.args in Copies a.area.now a.raw.now
-    a.words.now a.count c.copy_words.new.words = record {
-      long = c.if-area-gt-MAX_BYTES.false;
-      many = omega (arith, c.least-2.ensures, c.least.ensures);
-      copy = c.copy_words.ensures;
-    } in
-    let good : let area = c.args.area.now in
-    let front = take
-    c.args.count
-    c.copy_words.new.words in
-    Links area front c.rows_pass.new.words (words_pass area front) true = passed c true c.if-not-rows_pass.false in
+    let copied : Copies c.args.area.now c.args.raw.now c.args.words.now c.args.count c.copy_words.new.words =
+        record { long = c.if-area-gt-MAX_BYTES.false; many = omega (arith, c.least-2.ensures, c.least.ensures); copy = c.copy_words.ensures } in
+    let front = take c.args.count c.copy_words.new.words in
+    let good : Links c.args.area.now front c.rows_pass.new.words (words_pass c.args.area.now front) true = rw c.if-not-rows_pass.false at c.rows_pass.ensures in
     simp length-take (omega (arith, words_room copied good, copied.many))
 
 pub lie_apart-requires : goal.lie_apart-requires
 lie_apart-requires c =
-    let copied : let a = c.args in Copies a.area.now a.raw.now
-    a.words.now a.count c.copy_words.new.words = record {
-      long = c.if-area-gt-MAX_BYTES.false;
-      many = omega (arith, c.least-2.ensures, c.least.ensures);
-      copy = c.copy_words.ensures;
-    } in
-    let good : let area = c.args.area.now in
-    let front = take
-    c.args.count
-    c.copy_words.new.words in
-    Links area front c.rows_pass.new.words (words_pass area front) true = passed c true c.if-not-rows_pass.false in
+    let copied : Copies c.args.area.now c.args.raw.now c.args.words.now c.args.count c.copy_words.new.words =
+        record { long = c.if-area-gt-MAX_BYTES.false; many = omega (arith, c.least-2.ensures, c.least.ensures); copy = c.copy_words.ensures } in
+    let front = take c.args.count c.copy_words.new.words in
+    let good : Links c.args.area.now front c.rows_pass.new.words (words_pass c.args.area.now front) true = rw c.if-not-rows_pass.false at c.rows_pass.ensures in
     subst (λ (ws : List ℕ). Mapped ws) (sym (words_front copied good)) (words_mapped copied good)
 
 pub returns-then-not-lie_apart : goal.returns-then-not-lie_apart
 returns-then-not-lie_apart c =
-    let copied : let a = c.args in Copies a.area.now a.raw.now
-    a.words.now a.count c.copy_words.new.words = record {
-      long = c.if-area-gt-MAX_BYTES.false;
-      many = omega (arith, c.least-2.ensures, c.least.ensures);
-      copy = c.copy_words.ensures;
-    } in
-    let good : let area = c.args.area.now in
-    let front = take
-    c.args.count
-    c.copy_words.new.words in
-    Links area front c.rows_pass.new.words (words_pass area front) true = passed c true c.if-not-rows_pass.false in
+    let copied : Copies c.args.area.now c.args.raw.now c.args.words.now c.args.count c.copy_words.new.words =
+        record { long = c.if-area-gt-MAX_BYTES.false; many = omega (arith, c.least-2.ensures, c.least.ensures); copy = c.copy_words.ensures } in
+    let front = take c.args.count c.copy_words.new.words in
+    let good : Links c.args.area.now front c.rows_pass.new.words (words_pass c.args.area.now front) true = rw c.if-not-rows_pass.false at c.rows_pass.ensures in
     let apartness : c.lie_apart.result ≡ all_apart (map record_of c.rows_pass.new.words) = c.lie_apart.ensures ∙ ap (λ (ws : List ℕ). all_apart (map record_of ws)) (words_front copied good) in
     words_overlap copied good (sym apartness ∙ c.if-not-lie_apart.true)
 
 pub returns : goal.returns
 returns c =
-    let copied : let a = c.args in Copies a.area.now a.raw.now
-    a.words.now a.count c.copy_words.new.words = record {
-      long = c.if-area-gt-MAX_BYTES.false;
-      many = omega (arith, c.least-2.ensures, c.least.ensures);
-      copy = c.copy_words.ensures;
-    } in
-    let good : let area = c.args.area.now in
-    let front = take
-    c.args.count
-    c.copy_words.new.words in
-    Links area front c.rows_pass.new.words (words_pass area front) true = passed c true c.if-not-rows_pass.false in
+    let copied : Copies c.args.area.now c.args.raw.now c.args.words.now c.args.count c.copy_words.new.words =
+        record { long = c.if-area-gt-MAX_BYTES.false; many = omega (arith, c.least-2.ensures, c.least.ensures); copy = c.copy_words.ensures } in
+    let front = take c.args.count c.copy_words.new.words in
+    let good : Links c.args.area.now front c.rows_pass.new.words (words_pass c.args.area.now front) true = rw c.if-not-rows_pass.false at c.rows_pass.ensures in
     let apartness : c.lie_apart.result ≡ all_apart (map record_of c.rows_pass.new.words) = c.lie_apart.ensures ∙ ap (λ (ws : List ℕ). all_apart (map record_of ws)) (words_front copied good) in
     words_rows copied good (sym apartness ∙ c.if-not-lie_apart.false)

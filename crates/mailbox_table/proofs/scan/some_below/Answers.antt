@@ -37,5 +37,5 @@ returns c =
     c.is_marked.result) ≡ (eqb (get_or (nth_name a.area.now a.words.now a.i) a.len 0) 47 && contains
     (marks_of (get_or a.words.now a.i 0)) a.marks) = λ j. eqb (byte j) 47 && c.is_marked.ensures j in
     λ from-i.
-    c.Some-after.ensures from-i
+    c.some_after.ensures from-i
     ∙ sym (scan_on from-i _ _ from-i.row (starts_take c.args.len _) (sym test ∙ c.if-own-is_marked.false))

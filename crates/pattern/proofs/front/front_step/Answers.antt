@@ -4,6 +4,7 @@ use Rattle.pattern.specs.Steps.{given_up_as, resumed_as, pending_as}
 use Rattle.pattern.proofs.OneStep.{step_end, step_over, step_star, step_level, step_missed, step_byte, byte_differs}
 use Rattle.pattern.proofs.Fronts.{front_byte, front_led, star_ends, star_begins}
 use Rattle.pattern.proofs.front.front_step.Goals as goal
+use Rattle.pattern.proofs.front.front_step.Goals.{then-c-le-SLASH+else-c-eq42+else-c-eq37, else-c-le-SLASH}
 
 -- no wildcard is above "/"
 above : (c : ℕ) → 47 < c → (c ≡ 42) ⊎ (c ≡ 37) → ⊥
@@ -40,24 +41,25 @@ returns-then-i-name-2 c =
     let missed = step_missed _ c.args.pattern.now _ _ (omega arith) _ c.letter-c.ensures in
     let at_end_lem = c.if-i-name-2.true in
     front_led c.leads-then-i-name-2.ensures
-    (⊎_elim (λ w. missed w.1.false w.2.false at_end_lem) (λ w. missed (λ e. above _ w.false (inl e)) (λ e. above _ w.false (inr e)) at_end_lem)
-    c.if-c-le-SLASH.branch) refl
+    (elim c.if-c-le-SLASH.branch [
+      then-c-le-SLASH+else-c-eq42+else-c-eq37 w ↦ missed w.if-c-eq42.false w.if-c-eq37.false at_end_lem
+    | else-c-le-SLASH w ↦ missed (λ e. above _ w.if-c-le-SLASH.false (inl e)) (λ e. above _ w.if-c-le-SLASH.false (inr e)) at_end_lem ]) refl
 
 pub returns-then-c-name : goal.returns-then-c-name
 unfolding given_up_as resumed_as
 returns-then-c-name c =
     let byte = step_byte _ c.args.pattern.now _ _ (omega arith) _ c.letter-c.ensures in
     front_led c.leads-then-c-name.ensures
-    (⊎_elim (λ w. byte w.1.false w.2.false (omega arith))
-    (λ w. byte (λ e. above _ w.false (inl e)) (λ e. above _ w.false (inr e)) (omega arith))
-    c.if-c-le-SLASH.branch
+    (elim c.if-c-le-SLASH.branch [
+      then-c-le-SLASH+else-c-eq42+else-c-eq37 w ↦ byte w.if-c-eq42.false w.if-c-eq37.false (omega arith)
+    | else-c-le-SLASH w ↦ byte (λ e. above _ w.if-c-le-SLASH.false (inl e)) (λ e. above _ w.if-c-le-SLASH.false (inr e)) (omega arith) ]
     ∙ byte_differs _ _ _ c.if-c-name.true) refl
 
 pub returns : goal.returns
 returns c =
     let byte = step_byte _ c.args.pattern.now _ _ (omega arith) _ c.letter-c.ensures in
     front_led c.leads-2.ensures
-    (⊎_elim (λ w. byte w.1.false w.2.false (omega arith))
-    (λ w. byte (λ e. above _ w.false (inl e)) (λ e. above _ w.false (inr e)) (omega arith))
-    c.if-c-le-SLASH.branch
+    (elim c.if-c-le-SLASH.branch [
+      then-c-le-SLASH+else-c-eq42+else-c-eq37 w ↦ byte w.if-c-eq42.false w.if-c-eq37.false (omega arith)
+    | else-c-le-SLASH w ↦ byte (λ e. above _ w.if-c-le-SLASH.false (inl e)) (λ e. above _ w.if-c-le-SLASH.false (inr e)) (omega arith) ]
     ∙ front_byte _ _ _ _ (omega arith)) refl

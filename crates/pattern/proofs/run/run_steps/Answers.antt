@@ -38,7 +38,7 @@ overflow_add-back c =
     let over = sym c.is_over-2.ensures ∙ c.if-is_over-2.false in
     let ends = sym c.ends.ensures ∙ c.if-ends.true in
     let turn = front_wild _ _ _ _ c.loop.invariant c.front_step-front.result c.front_step-front.ensures ends over in
-    omega (arith, (turn_inside _ _ _ _ turn).pattern, c.requires)
+    omega (arith, (turn_inside _ _ _ _ turn).pattern)
 
 pub loop-2-init : goal.loop-2-init
 loop-2-init c =

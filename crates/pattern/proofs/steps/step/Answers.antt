@@ -2,6 +2,7 @@
 use Rattle.listing_rules.proofs.Prelude.{◌≡◌, ◌⊎◌, inl, inr, ⊎_elim, ◌<◌, ℕ, arith}
 use Rattle.pattern.proofs.OneStep.{as_capped, step_end, step_over, step_star, step_level, step_missed, step_byte}
 use Rattle.pattern.proofs.steps.step.Goals as goal
+use Rattle.pattern.proofs.steps.step.Goals.{then-c-le-SLASH+else-c-eq42+else-c-eq37, else-c-le-SLASH}
 
 -- no wildcard is above "/"
 above : (c : ℕ) → 47 < c → (c ≡ 42) ⊎ (c ≡ 37) → ⊥
@@ -27,12 +28,14 @@ pub returns-then-j-name-2 : goal.returns-then-j-name-2
 returns-then-j-name-2 c =
     let missed = step_missed _ c.args.pattern.now _ _ (omega arith) _ c.letter-c.ensures in
     as_capped c.ends-then-j-name-2.ensures
-    ((⊎_elim (λ w. missed w.1.false w.2.false c.if-j-name-2.true)
-    (λ w. missed (λ e. above _ w.false (inl e)) (λ e. above _ w.false (inr e)) c.if-j-name-2.true) c.if-c-le-SLASH.branch))
+    (elim c.if-c-le-SLASH.branch [
+      then-c-le-SLASH+else-c-eq42+else-c-eq37 w ↦ missed w.if-c-eq42.false w.if-c-eq37.false c.if-j-name-2.true
+    | else-c-le-SLASH w ↦ missed (λ e. above _ w.if-c-le-SLASH.false (inl e)) (λ e. above _ w.if-c-le-SLASH.false (inr e)) c.if-j-name-2.true ])
 
 pub returns : goal.returns
 returns c =
     let byte = step_byte _ c.args.pattern.now _ _ (omega arith) _ c.letter-c.ensures in
     as_capped c.byte_step.ensures
-    ((⊎_elim (λ w. byte w.1.false w.2.false (omega arith))
-    (λ w. byte (λ e. above _ w.false (inl e)) (λ e. above _ w.false (inr e)) (omega arith)) c.if-c-le-SLASH.branch))
+    (elim c.if-c-le-SLASH.branch [
+      then-c-le-SLASH+else-c-eq42+else-c-eq37 w ↦ byte w.if-c-eq42.false w.if-c-eq37.false (omega arith)
+    | else-c-le-SLASH w ↦ byte (λ e. above _ w.if-c-le-SLASH.false (inl e)) (λ e. above _ w.if-c-le-SLASH.false (inr e)) (omega arith) ])

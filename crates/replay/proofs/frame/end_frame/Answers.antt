@@ -18,13 +18,12 @@ slice_bounds-settle-end-2 c =
 
 pub settle-requires : goal.settle-requires
 settle-requires c =
-    let due = c.args.state.due in record { frames_bound = c.requires.frames_bound; le_frames = ((
-        omega (arith, c.requires, c.if-due-eq0.false),
-        omega (arith, c.if-due-eq0.false, length-take-le due c.args.pending.now (omega (arith, c.requires))),
-      )).0; in_bounds = ((
-        omega (arith, c.requires, c.if-due-eq0.false),
-        omega (arith, c.if-due-eq0.false, length-take-le due c.args.pending.now (omega (arith, c.requires))),
-      )).1 }
+    let due = c.args.state.due in
+    record {
+      frames_bound = c.requires.frames_bound;
+      le_frames = omega (arith, c.requires, c.if-due-eq0.false);
+      in_bounds = omega (arith, c.if-due-eq0.false, length-take-le due c.args.pending.now (omega (arith, c.requires)));
+    }
 
 pub returns : goal.returns
 returns c =

@@ -1,7 +1,7 @@
 -- `replay::gathering::line_end` meets its contract. The loop's invariant: from each place on the line feed stands at the same place. By GatherLaws.
 use Rattle.listing_rules.proofs.Prelude.{ap, refl, arith, length}
 use Rattle.replay.proofs.GatherLaws.{before_more, before_feed_lem, before_end}
-use Rattle.listing_rules.proofs.Prelude.{◌-◌, length}
+use Rattle.listing_rules.proofs.Prelude.{length}
 use Rattle.replay.proofs.gathering.line_end.Goals as goal
 
 pub loop-i-init : goal.loop-i-init

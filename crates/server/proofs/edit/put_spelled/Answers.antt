@@ -17,4 +17,4 @@ slice_bounds-spell-end-2 c =
 pub returns : goal.returns
 returns c =
     let put : let a = c.args in Fronts (name_of a.line.now a.command) c.put_name-end.new.buf c.put_name-end.result = put_front _ _ _ _ c.put_name-end.ensures c.requires in
-    spelled_front _ _ _ _ put c.spell.ensures c.spell.auto.0
+    spelled_front _ _ _ _ put c.spell.ensures c.spell.auto.name

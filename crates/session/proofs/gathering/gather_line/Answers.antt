@@ -1,5 +1,5 @@
 -- `session::gathering::gather_line` meets its contract. Rests on LineLaws.
-use Rattle.listing_rules.proofs.Prelude.{◌-◌, arith}
+use Rattle.listing_rules.proofs.Prelude.{arith}
 use Rattle.session.proofs.LineLaws.{part_start, part_more, part_feed, part_end}
 use Rattle.session.proofs.gathering.gather_line.Goals as goal
 

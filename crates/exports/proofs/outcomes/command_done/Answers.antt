@@ -1,0 +1,7 @@
+-- `command_done` meets its contract: the outcome of what was written, whether words changed, and which.
+use Rattle.exports.specs.Outcomes.{done_case}
+use Rattle.exports.proofs.outcomes.command_done.Goals as goal
+
+pub returns : goal.returns
+unfolding done_case
+returns c = rw (c.written_outcome-outcome.ensures, c.as_number.ensures)

@@ -20,8 +20,8 @@ use Rattle.listing_rules.proofs.RoundTrip.{criteria_number_lem}
 use Rattle.collector.specs.Names.{Keeps}
 use Rattle.collector.specs.Options.{byte_of}
 use Rattle.collector.specs.Taking.{Inside, Holds, Goes, line_step}
-use Rattle.collector.specs.declared.names.Kept.{Kept}
-use Rattle.collector.specs.declared.names.Kept.TheVariants.{To, Full}
+use Rattle.collector.specs.declared.keeping.Kept.{Kept}
+use Rattle.collector.specs.declared.keeping.Kept.TheVariants.{To, Full}
 use Rattle.collector.specs.declared.lines.Progress.{Progress}
 use Rattle.collector.specs.declared.options.WalkOptions.{WalkOptions}
 use Rattle.collector.proofs.FindLaws.{root_finds_none}

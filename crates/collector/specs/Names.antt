@@ -1,8 +1,8 @@
 -- Names in a lent buffer, as they lie in found and pending.
 use Rattle.std.specs.Prelude.{◌≡◌, Bool, List, ℕ, ◌+◌, ◌-◌, ◌≤◌, ◌<◌, length, take, drop}
 use Rattle.listing_rules.specs.Walk.{packed, with_name, zero_behind}
-use Rattle.collector.specs.declared.names.Kept.{Kept}
-use Rattle.collector.specs.declared.names.Kept.TheVariants.{To, Full}
+use Rattle.collector.specs.declared.keeping.Kept.{Kept}
+use Rattle.collector.specs.declared.keeping.Kept.TheVariants.{To, Full}
 use Rattle.collector.specs.declared.walk.NamePlace.{NamePlace}
 
 -- The names lie in the first `len` bytes, and after them the buffer is zero.

@@ -8,7 +8,7 @@
 mod command;
 mod indexed;
 mod lines;
-mod names;
+mod keeping;
 mod options;
 mod packed;
 mod walk;

@@ -6,7 +6,7 @@ ghost use Rattle.collector.specs.Lines.{line_length};
 ghost use Rattle.collector.specs.Options.{byte_of};
 ghost use Rattle.collector.specs.Taking.{Inside, TakesLine, TakesAnswer};
 
-use super::names::{Kept, keep};
+use super::keeping::{Kept, keep};
 use super::options::WalkOptions;
 use line_reader::{Line, read_line};
 use list_line::Attributes;

@@ -1,49 +1,96 @@
 -- `read_text`: the tag, the space and the word, and then what the word asks for. Rests on Wording, Judging and Edits.
-use Rattle.listing_rules.proofs.Prelude.{◌∙◌, List as Seq, ℕ}
-use Rattle.command_tokens.proofs.Binds.{token_missing, behind_nothing}
-use Rattle.command_line.proofs.Judging.{refuses}
+use Rattle.listing_rules.proofs.Prelude.{◌∙◌, ◌≡◌, ap, sym, drop}
+use Rattle.listing_rules.specs.Tokens.{atom_byte, run}
+use Rattle.listing_rules.specs.Command.{worded, tagged}
+use Rattle.command_tokens.specs.Spans.{span_bytes}
+use Rattle.command_tokens.proofs.Binds.{token_found, token_missing, bare_ahead, bare_bytes, behind_at, behind_nothing}
+use Rattle.command_line.specs.declared.Command.{Command}
+use Rattle.command_line.specs.declared.reading.Word.{Word}
+use Rattle.command_line.specs.Words.{word_of, worded_as}
+use Rattle.command_line.specs.Commands.{TagIn, Answers}
+use Rattle.command_line.proofs.Judging.{refuses, answers_as}
 use Rattle.command_line.proofs.Edits.{asks_subscribe, asks_unsubscribe}
-use Rattle.command_line.proofs.Wording.{tag_off, space_off, word_off, other_word}
+use Rattle.command_line.proofs.Wording.{tag_in, tag_off, space_off, space_read, word_off, word_read, other_word}
 use Rattle.command_line.proofs.reading.read_text.Goals as goal
+use Rattle.command_line.proofs.reading.read_text.Goals.{In-At, After-word_of}
 
 pub returns-in_default : goal.returns-in_default
 returns-in_default c =
-    let line : Seq ℕ = c.args.text.now in
-    refuses _ 4 c.refused.ensures (tag_off line (token_missing _ c.tag.ensures.result_value c.in_default.is))
+    refuses _ 4 c.refused.ensures (tag_off c.args.text.now (token_missing _ c.tag.ensures.result_value c.in_default.is))
 
 pub returns-in_default-space : goal.returns-in_default-space
 returns-in_default-space c =
-    let line : Seq ℕ = c.args.text.now in
     refuses _ 4 c.refused-in_default-space.ensures
-    (space_off line (tag c) (end c) (read-tag c)
+    (space_off c.args.text.now _ c.in-Found.second.at (token_found _ c.tag.ensures.result_value c.in-Found.is)
     (behind_nothing _ c.space.ensures.result_value c.in_default-space.is))
+
+-- the tag and the space
+spaced : (c : In-At) → tagged c.args.text.now ≡
+    worded (span_bytes c.args.text.now c.in-Found.tag) (run atom_byte (drop c.in-At.third.at c.args.text.now))
+spaced c =
+    space_read c.args.text.now _ c.in-Found.second.at (token_found _ c.tag.ensures.result_value c.in-Found.is) _
+    (behind_at _ c.space.ensures.result_value c.in-At.is)
 
 pub returns-in_default-atom : goal.returns-in_default-atom
 returns-in_default-atom c =
     refuses _ 5 c.refused-in_default-atom.ensures
-    (spaced c ∙ word_off _ _ (token_missing _ c.atom.ensures.result_value
+    (spaced (goal.at.returns-in_default-atom c).In-At ∙ word_off _ _ (token_missing _ c.atom.ensures.result_value
     c.in_default-atom.is))
+
+-- ---- the word
+
+module _ (c : After-word_of) where
+  word_is : word_of (span_bytes c.args.text.now c.in-Found-atom.word) ≡ c.word_of.result
+  word_is =
+      ap word_of (bare_bytes _ _ (bare_ahead _ _ c.atom.ensures.bare_in c.in-Found-atom.is).bare ∙ sym c.raw.ensures)
+      ∙ sym c.word_of.ensures
+
+  -- by its place in the table
+  by_word : (w : Word) → c.word_of.result ≡ w →
+      worded (span_bytes c.args.text.now c.in-Found.tag) (run atom_byte (drop c.in-At.third.at c.args.text.now)) ≡
+      worded_as w (span_bytes c.args.text.now c.in-Found.tag) (drop c.in-Found-atom.rest.at c.args.text.now)
+  by_word w e =
+      word_read _ _ _ _ (token_found _ c.atom.ensures.result_value c.in-Found-atom.is)
+      ∙ ap (λ (x : Word). worded_as x (span_bytes c.args.text.now c.in-Found.tag) (drop c.in-Found-atom.rest.at c.args.text.now))
+      (word_is ∙ e)
+
+  -- a word's own function answers
+  arm : (w : Word) {r : Command} → c.word_of.result ≡ w →
+      Answers c.args.text.now
+      (worded_as w (span_bytes c.args.text.now c.in-Found.tag) (drop c.in-Found-atom.rest.at c.args.text.now))
+      (TagIn c.args.text.now c.in-Found.tag) r →
+      Answers c.args.text.now
+      (worded (span_bytes c.args.text.now c.in-Found.tag) (run atom_byte (drop c.in-At.third.at c.args.text.now))) Unit r
+  arm w e a =
+      answers_as a (by_word w e) (λ u. tag_in _ _ _ (bare_ahead _ _ c.tag.ensures.bare_in c.in-Found.is))
 
 pub returns-in-List : goal.returns-in-List
 returns-in-List c =
-    arm c _ c.in-List.is c.read_list.ensures
+    let at = goal.at.returns-in-List c in
+    answers_as (arm at.After-word_of _ c.in-List.is c.read_list.ensures) (spaced at.In-At) (λ u. u)
 
 pub returns-in-Namespace : goal.returns-in-Namespace
 returns-in-Namespace c =
-    arm c _ c.in-Namespace.is c.read_namespace.ensures
+    let at = goal.at.returns-in-Namespace c in
+    answers_as (arm at.After-word_of _ c.in-Namespace.is c.read_namespace.ensures) (spaced at.In-At) (λ u. u)
 
 pub returns-in-Lsub : goal.returns-in-Lsub
 returns-in-Lsub c =
-    arm c _ c.in-Lsub.is c.read_lsub.ensures
+    let at = goal.at.returns-in-Lsub c in
+    answers_as (arm at.After-word_of _ c.in-Lsub.is c.read_lsub.ensures) (spaced at.In-At) (λ u. u)
 
 pub returns-in-Subscribe : goal.returns-in-Subscribe
 returns-in-Subscribe c =
-    arm c _ c.in-Subscribe.is (asks_subscribe _ _ _ c.read_edit.ensures)
+    let at = goal.at.returns-in-Subscribe c in
+    answers_as (arm at.After-word_of _ c.in-Subscribe.is (asks_subscribe _ _ _ c.read_edit.ensures)) (spaced at.In-At) (λ u. u)
 
 pub returns-in-Unsubscribe : goal.returns-in-Unsubscribe
 returns-in-Unsubscribe c =
-    arm c _ c.in-Unsubscribe.is (asks_unsubscribe _ _ _ c.read_edit-in-Unsubscribe.ensures)
+    let at = goal.at.returns-in-Unsubscribe c in
+    answers_as (arm at.After-word_of _ c.in-Unsubscribe.is (asks_unsubscribe _ _ _ c.read_edit-in-Unsubscribe.ensures)) (spaced at.In-At)
+    (λ u. u)
 
 pub returns-in-Other : goal.returns-in-Other
 returns-in-Other c =
-    refuses _ 5 c.refused-in-Other.ensures (by_word c _ c.in-Other.is ∙ other_word _ _)
+    let at = goal.at.returns-in-Other c in
+    refuses _ 5 c.refused-in-Other.ensures (spaced at.In-At ∙ by_word at.After-word_of _ c.in-Other.is ∙ other_word _ _)

@@ -8,10 +8,6 @@ use Rattle.pattern.specs.Packed.{unpacked}
 use Rattle.list_answer.specs.Shown.{text_of}
 use Rattle.list_answer.proofs.RowTexts.{beyond, beyond_step, beyond_end, first_shown, first_range}
 use Rattle.list_answer.proofs.Putting.{putting_none, putting_more, putting_end}
-use Rattle.listing_rules.proofs.Prelude.{◌≡◌, ◌-◌, length}
-use Rattle.mailbox_table.specs.Index.{nth_name}
-use Rattle.list_answer.specs.Shown.{text_of}
-use Rattle.list_answer.proofs.RowTexts.{beyond}
 use Rattle.list_answer.proofs.answer.put_row.Goals as goal
 
 pub loop-len-init : goal.loop-len-init
@@ -44,10 +40,10 @@ loop-len-init c =
 pub loop-len-preserved : goal.loop-len-preserved
 loop-len-preserved c =
     let a = c.args in
-    let text = text_of _ a.words.now _ a.question in
+    let text = text_of a.area.now a.words.now a.patterns.now a.question in
     let name = nth_name a.area.now a.words.now a.i in (
       c.loop-len.invariant.0,
-      c.put_name-to.new.buf ∙ c.loop-len.invariant.1,
+      c.put_name-to.auto.buf ∙ c.loop-len.invariant.1,
       λ ready.
           let here = c.loop-len.invariant.2 ready in
           let inside : c.loop-len.len < length name = omega
@@ -63,7 +59,7 @@ loop-len-preserved c =
 pub returns : goal.returns
 returns c =
     let a = c.args in
-    let text = text_of _ a.words.now _ a.question in
+    let text = text_of a.area.now a.words.now a.patterns.now a.question in
     let name = nth_name _ a.words.now _ in
     λ ready.
     putting_end (c.loop-len.invariant.2 ready).2

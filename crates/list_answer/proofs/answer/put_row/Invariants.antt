@@ -1,8 +1,4 @@
 -- What holds at each turn of a loop of `put_row`, and what falls.
-use Rattle.listing_rules.proofs.Prelude.{◌≡◌, ◌-◌, length}
-use Rattle.mailbox_table.specs.Index.{nth_name}
-use Rattle.list_answer.specs.Shown.{text_of}
-use Rattle.list_answer.proofs.RowTexts.{beyond}
 use Rattle.listing_rules.proofs.Prelude.{◌≡◌, List, ◌-◌, ◌≤◌, ℕ, length}
 use Rattle.mailbox_table.specs.Index.{nth_row, nth_name}
 use Rattle.list_answer.specs.Ready.{Ready}

@@ -4,8 +4,6 @@ use Rattle.list_answer.specs.Prefixes.{prefixes}
 use Rattle.list_answer.specs.Shown.{text_of}
 use Rattle.list_answer.proofs.RowTexts.{rows_step, rows_end}
 use Rattle.list_answer.proofs.Putting.{putting_none, putting_more, putting_end}
-use Rattle.listing_rules.proofs.Prelude.{◌-◌}
-use Rattle.list_answer.specs.Shown.{text_of}
 use Rattle.list_answer.proofs.answer.put_rows.Goals as goal
 
 pub loop-i-init : goal.loop-i-init
@@ -19,7 +17,7 @@ loop-i-preserved c =
     let text = text_of area words c.args.patterns.now c.args.question in
     (
       omega arith,
-      c.put_row-to.new.buf ∙ c.loop-i.invariant.1,
+      c.put_row-to.auto.buf ∙ c.loop-i.invariant.1,
       λ ready.
           let step = rows_step area words ready.index.indexed text _ c.loop-i-test.true in
           putting_more (c.loop-i.invariant.2 ready) _ _ step (c.put_row-to.ensures ready),

@@ -1,6 +1,4 @@
 -- What holds at each turn of a loop of `put_rows`, and what falls.
-use Rattle.listing_rules.proofs.Prelude.{◌≡◌}
-use Rattle.list_answer.specs.Shown.{text_of}
 use Rattle.listing_rules.proofs.Prelude.{◌≡◌, ◌-◌, ◌≤◌, length}
 use Rattle.list_answer.specs.Ready.{Ready}
 use Rattle.list_answer.specs.Shown.{text_of, rows_text}

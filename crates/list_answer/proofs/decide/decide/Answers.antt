@@ -1,5 +1,5 @@
 -- `list_answer::decide::decide` meets its contract: what stands and matches is shown. By Showing, what lies below by Deciding.
-use Rattle.listing_rules.proofs.Prelude.{◌∙◌, ◌≡◌, refl, sym, ◌&&◌}
+use Rattle.listing_rules.proofs.Prelude.{◌∙◌, ◌≡◌, refl, sym, ◌&&◌, not-false, not-true}
 use Rattle.listing_rules.specs.Listing.{meets_below, has_children}
 use Rattle.command_line.specs.OptionSets.{options_is}
 use Rattle.mailbox_table.specs.Index.{rows_at}
@@ -18,7 +18,7 @@ returns-then-not-standing c =
     let n = begun _ a.words.now a.name in
     λ ready at.
     let stands = c.look_at-standing.ensures _ ready at in
-    shown_not _ table o ps n _ _ stands.level stands.counts c.if-not-standing.true
+    shown_not _ table o ps n _ _ stands.level stands.counts (not-true _ c.if-not-standing.true)
 
 pub returns-then-not-is_matched : goal.returns-then-not-is_matched
 returns-then-not-is_matched c =
@@ -29,7 +29,7 @@ returns-then-not-is_matched c =
     let n = begun _ a.words.now a.name in
     λ ready at.
     let stands = c.look_at-standing.ensures _ ready at in
-    shown_unmatched _ table o ps n _ _ stands.level stands.counts c.if-not-standing.false
+    shown_unmatched _ table o ps n _ _ stands.level stands.counts (not-false _ c.if-not-standing.false)
     c.is_matched.result (c.is_matched.ensures ready at) c.if-not-is_matched.true
 
 pub returns-in-Lsub : goal.returns-in-Lsub
@@ -37,7 +37,7 @@ returns-in-Lsub c =
     let n = begun _ c.args.words.now c.args.name in
     λ ready at.
     let stands = c.look_at-standing.ensures _ ready at in
-    shown_lsub _ _ _ _ n _ _ stands.level stands.counts c.if-not-standing.false _ (c.is_matched.ensures ready at)
+    shown_lsub _ _ _ _ n _ _ stands.level stands.counts (not-false _ c.if-not-standing.false) _ (c.is_matched.ensures ready at)
     c.in-Lsub.is c.if-not-is_matched.false
     c.look_at-standing.result.flags.bits stands.flags
     c.lsub_attributes.result c.lsub_attributes.ensures
@@ -59,7 +59,7 @@ returns-in-List c =
     = c.asked_below-children.ensures here ∙ (λ i. c.shows_children.ensures i && sym (children_below area words x name at o ps ready.marked) i) in
     let info : c.asked_below-info.result ≡ (o.sel_recursive && meets_below (rows_at area words) o n)
     = c.asked_below-info.ensures here ∙ (λ i. c.is_recursive.ensures i && sym (meets_below_lem area words x name at o ps ready.marked) i) in
-    shown_list _ (rows_at area words) o ps n _ _ stands.level stands.counts c.if-not-standing.false
+    shown_list _ (rows_at area words) o ps n _ _ stands.level stands.counts (not-false _ c.if-not-standing.false)
     _ (c.is_matched.ensures ready at)
     c.in-List.is c.if-not-is_matched.false _ stands.flags c.asked_below-children.result children
     c.attributes_of.result c.attributes_of.ensures

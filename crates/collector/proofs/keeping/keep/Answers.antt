@@ -3,7 +3,7 @@ use Rattle.listing_rules.proofs.Prelude.{arith}
 use Rattle.listing_rules.specs.Walk.{with_name}
 use Rattle.octets.proofs.Puts.{put_length, put_then}
 use Rattle.collector.proofs.PackLaws.{packs_more, packs_full}
-use Rattle.collector.proofs.names.keep.Goals as goal
+use Rattle.collector.proofs.keeping.keep.Goals as goal
 
 pub returns-then-not-wanted : goal.returns-then-not-wanted
 unfolding with_name

@@ -7,8 +7,8 @@
 
 mod command;
 mod indexed;
-mod lines;
 mod keeping;
+mod lines;
 mod options;
 mod packed;
 mod walk;

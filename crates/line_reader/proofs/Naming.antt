@@ -1,5 +1,5 @@
 -- A quoted name byte by byte: what stands next, what is read, and what is left to read.
-use Rattle.listing_rules.proofs.Prelude.{◌∙◌, ◌≡◌, ap, refl, subst, sym, ◌||◌, false, true, ◌⊎◌, ⊎_elim, IsSome, Option, none, some, List, [], ◌++◌}
+use Rattle.listing_rules.proofs.Prelude.{◌∙◌, ◌≡◌, ap, refl, subst, sym, ◌||◌, false, true, ⊎_elim, IsSome, Option, none, some, List, [], ◌++◌}
 use Rattle.listing_rules.proofs.Prelude.{◌∷◌, append_assoc, append-nil, ◌+◌, ◌<◌, ◌≤◌, suc, ℕ, zero-add, add-one, dec_le, arith, eqb}
 use Rattle.listing_rules.proofs.Prelude.{list_get_or_eq_default, drop, drop_of_length-le, get_or, length, length-append, length-set, set, drop-cons, sets}
 use Rattle.listing_rules.proofs.Prelude.{eq-eqb, ne_eqb}

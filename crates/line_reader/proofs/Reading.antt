@@ -1,5 +1,5 @@
 -- The parts of a line in order: where one is missing the line is refused.
-use Rattle.listing_rules.proofs.Prelude.{◌∙◌, ◌≡◌, ap, refl, subst, sym, Bool, ◌&&◌, cond, false, true, Option, none, some, List, [], ◌++◌, ◌∷◌, ◌+◌}
+use Rattle.listing_rules.proofs.Prelude.{◌∙◌, ◌≡◌, ap, refl, subst, sym, Bool, ◌&&◌, cond, false, true, Option, none, some, List, [], ◌++◌, ◌∷◌}
 use Rattle.listing_rules.proofs.Prelude.{◌-◌, ◌<◌, ◌≤◌, ℕ, arith, leb, drop, length, length-drop, length-replicate, replicate, take, sets, take_all}
 use Rattle.listing_rules.proofs.Prelude.{take_at, lt-leb}
 use Rattle.listing_rules.specs.Bytes.{text, same, within, all}

@@ -1,5 +1,5 @@
 -- What is listed is listed among the beginnings that the server looks at, in their order.
-use Rattle.listing_rules.proofs.Prelude.{◌∙◌, ◌≡◌, ap, refl, sym, Bool, ◌&&◌, ◌||◌, false, false≢true, not, true, ◌⊎◌, ⊎_elim, List, list_mem}
+use Rattle.listing_rules.proofs.Prelude.{◌∙◌, ◌≡◌, ap, refl, sym, Bool, ◌&&◌, ◌||◌, false, false≢true, not, true, ⊎_elim, List, list_mem}
 use Rattle.listing_rules.proofs.Prelude.{list_mem_cases_cons, list_mem_head, [], ◌++◌, ◌∷◌, append-nil, map, ℕ, arith}
 use Rattle.listing_rules.specs.Bytes.{slash}
 use Rattle.listing_rules.specs.Lists.{any_of, keep, joined}

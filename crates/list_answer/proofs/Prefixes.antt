@@ -1,7 +1,7 @@
 -- The beginnings that the server looks at ascend, and every non-empty beginning of a row's name is among them.
 use Rattle.listing_rules.proofs.Prelude.{◌∙◌, ◌≡◌, ap, refl, subst, sym, Bool, cond, false, true, ◌⊎◌, inl, inr, ⊎_elim, List, list_mem}
 use Rattle.listing_rules.proofs.Prelude.{list_mem_append_cases, list_mem_cases_cons, list_mem_head, list_mem_not_nil, list_mem_tail, [], ◌++◌}
-use Rattle.listing_rules.proofs.Prelude.{◌∷◌, append_assoc, append-nil, nil≢cons, ordering_gt, ordering_lt, ◌+◌, ◌<◌, ◌≤◌, compare, suc, ℕ, dec_le}
+use Rattle.listing_rules.proofs.Prelude.{◌∷◌, append_assoc, append-nil, nil≢cons, ordering_gt, ordering_lt, ◌<◌, ◌≤◌, compare, suc, ℕ, dec_le}
 use Rattle.listing_rules.proofs.Prelude.{arith, eqb, drop, get_or, length, take, take-append-drop, drop-append-le, drop-cons, split_at, take-append-le}
 use Rattle.listing_rules.proofs.Prelude.{eqb-false, eqb-true}
 use Rattle.listing_rules.specs.Orders.{lex_by, byte_order, then_by, ascends}

@@ -1,5 +1,5 @@
 -- Members put together one by one make the set of them all.
-use Rattle.listing_rules.proofs.Prelude.{◌∙◌, ◌≡◌, ap, refl, sym, Bool, false, true, List, [], ◌++◌, ◌∷◌, append_assoc, append-nil, ◌*◌, ◌+◌, ◌^◌}
+use Rattle.listing_rules.proofs.Prelude.{◌∙◌, ◌≡◌, ap, refl, sym, Bool, false, true, List, [], ◌++◌, ◌∷◌, append_assoc, append-nil, ◌*◌, ◌^◌}
 use Rattle.listing_rules.proofs.Prelude.{suc, ℕ, pow-suc, arith, length, length-append}
 use lib.Bits.{or_shifted_r}
 use Rattle.listing_rules.specs.Listing.{in_order}

@@ -1,7 +1,7 @@
 -- Check 1 and the index, of packed bytes and of words: each way through the passes. Rests on PassLaws, and on the laws of packed tables
 -- and their records in listing_rules.
 use Rattle.listing_rules.proofs.Prelude.{◌∙◌, ◌≡◌, ap, refl, sym, Bool, ◌&&◌, and-false, cond, false, false≢true, true, none, some, List, [], ◌++◌}
-use Rattle.listing_rules.proofs.Prelude.{map, ◌+◌, ◌<◌, ◌≤◌, min, ℕ, dec_le, arith, leb, drop, length, length-append, length-drop, length-map}
+use Rattle.listing_rules.proofs.Prelude.{map, ◌<◌, ◌≤◌, min, ℕ, dec_le, arith, leb, drop, length, length-append, length-drop, length-map}
 use Rattle.listing_rules.proofs.Prelude.{length-replicate, replicate, take, drop_at, length-take-le, take_at, le-leb, leb-false, leb-true, lt-leb}
 use Rattle.listing_rules.specs.Lists.{every}
 use Rattle.listing_rules.specs.Table.{Table, Row, rows, passes, rows_pass, rows_fill, packed_rows, packed_table}

@@ -1,6 +1,6 @@
 -- Tails of a name that match a rest of the pattern: what "*" and "%" take of a run of plain bytes. Rests on the definitions alone.
 use Rattle.listing_rules.proofs.Prelude.{◌∙◌, ◌≡◌, ap, refl, sym, Bool, ◌&&◌, ◌||◌, cond, false, false≢true, not, or_assoc, or-false, or_self, true}
-use Rattle.listing_rules.proofs.Prelude.{◌⊎◌, ⊎_elim, List, [], ◌++◌, ◌∷◌, ℕ, eqb, eq-eqb, eqb-true}
+use Rattle.listing_rules.proofs.Prelude.{⊎_elim, List, [], ◌++◌, ◌∷◌, ℕ, eqb, eq-eqb, eqb-true}
 use Rattle.listing_rules.specs.Bytes.{slash, is_empty}
 use Rattle.listing_rules.specs.Match.{any_tail, any_tail_in_level, head_then, wild_match}
 use Rattle.listing_rules.proofs.Bools.{and_l, and_r, or_cases, or_l, or_r, or_none_l, or_none_r, bools_equal}

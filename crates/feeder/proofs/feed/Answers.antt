@@ -1,6 +1,6 @@
 -- `feeder::feed` meets its contract. The loop's invariant: what is left of the chunk, from the state and the memory now, comes to what
 -- the whole chunk does. Rests on FeedLaws and FeedBytes.
-use Rattle.listing_rules.proofs.Prelude.{◌∙◌, refl, sym, ◌-◌, arith}
+use Rattle.listing_rules.proofs.Prelude.{◌∙◌, refl, sym, arith}
 use Rattle.feeder.specs.declared.Event.TheVariants.{Quiet}
 use Rattle.feeder.specs.Feed.{outcome, answers}
 use Rattle.feeder.proofs.FeedLaws.{feed_on, feed_stop, feed_end}
@@ -19,11 +19,10 @@ pub loop-i-init : goal.loop-i-init
 loop-i-init c = (refl, refl)
 
 pub loop-i-preserved : goal.loop-i-preserved
-loop-i-preserved c =
-    (
-      omega arith,
-      sym (feed_on _ _ _ _ _ _ c.loop-i-test.true c.feed_byte-fed.ensures c.in-Quiet.is) ∙ c.loop-i.invariant.1,
-    )
+loop-i-preserved c = (
+  omega arith,
+  sym (feed_on _ _ _ _ _ _ c.loop-i-test.true c.feed_byte-fed.ensures c.in-Quiet.is) ∙ c.loop-i.invariant.1,
+)
 
 pub returns-in_default : goal.returns-in_default
 unfolding outcome answers

@@ -6,7 +6,6 @@ use Rattle.list_line.proofs.Names.{span_text, span_named}
 use Rattle.line_reader.specs.Parts.{Skips}
 use Rattle.line_reader.proofs.Choosing.{choosing_none, choosing_bits, choosing_member, choosing_fits, choosing_in, choosing_out}
 use Rattle.line_reader.proofs.Choosing.{choosing_all}
-use Rattle.listing_rules.proofs.Prelude.{◌-◌}
 use Rattle.line_reader.proofs.read_chosen.Goals as goal
 use Rattle.line_reader.proofs.read_chosen.Goals.{in-At, in_default}
 
@@ -46,8 +45,9 @@ loop-k-preserved c =
     let inv = c.loop-k.invariant in
     let h = c.loop-k-test.true in
     elim c.match-skip.branch [
-      in-At w ↦ let s = rw w.in-At.is at skipped in rw (w.at-is, w.bits-is, w.first-is) (choosing_in inv _ h s.0 s.1)
-    | in_default w ↦ rw (w.at-is, w.bits-is, w.first-is) (choosing_out inv h (rw w.in_default.is at skipped)) ]
+      | in-At w ↦ let s = rw w.in-At.is at skipped in rw (w.at-is, w.bits-is, w.first-is) (choosing_in inv _ h s.0 s.1)
+      | in_default w ↦ rw (w.at-is, w.bits-is, w.first-is) (choosing_out inv h (rw w.in_default.is at skipped))
+    ]
 
 pub overflow_cast-result : goal.overflow_cast-result
 overflow_cast-result c = omega (arith, choosing_fits c.loop-k.invariant)

@@ -1,4 +1,4 @@
--- `read_line` meets its contract: the root line, or `read_parts` (`read-root`, `read-other` of `Reading`).
+-- `read_line` meets its contract: the root line, or `read_parts` (`read_root`, `read_other` of `Reading`).
 use Rattle.listing_rules.proofs.Prelude.{◌∙◌, sym}
 use Rattle.listing_rules.proofs.Keys.{open_bytes}
 use Rattle.listing_rules.specs.Lines.{root_line}

@@ -3,7 +3,6 @@ use Rattle.listing_rules.proofs.Prelude.{subst, arith}
 use Rattle.line_reader.specs.Parts.{Next}
 use Rattle.line_reader.specs.declared.Piece.TheVariants.{Byte}
 use Rattle.line_reader.proofs.Naming.{naming_none, naming_byte, naming_full, naming_end, naming_torn}
-use Rattle.listing_rules.proofs.Prelude.{◌-◌}
 use Rattle.line_reader.proofs.read_name.Goals as goal
 
 pub loop-b-init : goal.loop-b-init

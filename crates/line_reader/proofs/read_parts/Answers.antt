@@ -1,6 +1,6 @@
 -- `read_parts` meets its contract. At each place one equation says what the reader makes of the rest of the line (`Reading`), and a
 -- missing part makes it nothing.
-use Rattle.listing_rules.proofs.Prelude.{◌∙◌, ◌≡◌, ap, sym, cond, none, some, ◌-◌, ◌≤◌, List, ℕ, arith, drop, length, length-replicate, length-take, replicate, take}
+use Rattle.listing_rules.proofs.Prelude.{◌∙◌, ◌≡◌, ap, sym, cond, none, some, ◌-◌, ◌≤◌, List, ℕ, arith, drop, length, length-replicate, replicate, take}
 use Rattle.listing_rules.specs.Bytes.{text}
 use Rattle.listing_rules.specs.Names.{lawful_name}
 use Rattle.listing_rules.specs.LineReader.{child_info_read, line, read_parts}
@@ -76,10 +76,10 @@ returns-then-not-lawful_name c =
     let l = c.args.line.now in
     let name : Names l c.in-At-skip.b c.no_name-name.result c.read_name.new.name (Of c.in-Of.len c.in-Of.end) = rw c.in-Of.is at c.read_name.ensures in
     let whole =
-        ended l c.in-At.a (rw c.in-At.is at c.skip.ensures) _ c.read_attributes-chosen.ensures c.in-At-skip.b (rw c.in-At-skip.is at c.skip-2.ensures) _ _ _ _ name
-        _ (sym c.read_tail.ensures ∙ c.in-ChildInfo.is) in
+    ended l c.in-At.a (rw c.in-At.is at c.skip.ensures) _ c.read_attributes-chosen.ensures c.in-At-skip.b (rw c.in-At-skip.is at c.skip-2.ensures) _ _ _ _ name
+    _ (sym c.read_tail.ensures ∙ c.in-ChildInfo.is) in
     let lawful : c.lawful_name.result ≡ lawful_name name.0 =
-        c.lawful_name.ensures ∙ ap lawful_name (front l c.in-At-skip.b _ _ _ _ c.no_name-name.ensures name) in
+    c.lawful_name.ensures ∙ ap lawful_name (front l c.in-At-skip.b _ _ _ _ c.no_name-name.ensures name) in
     rw (parts_refused l (whole ∙ rw (sym lawful ∙ c.if-not-lawful_name.true))) c.refused-then-not-lawful_name.ensures
 
 pub returns : goal.returns
@@ -89,12 +89,12 @@ returns c =
     let name : Names l c.in-At-skip.b c.no_name-name.result c.read_name.new.name (Of c.in-Of.len c.in-Of.end) = rw c.in-Of.is at c.read_name.ensures in
     let tail = sym c.read_tail.ensures ∙ c.in-ChildInfo.is in
     let whole =
-        ended l c.in-At.a (rw c.in-At.is at c.skip.ensures) _ c.read_attributes-chosen.ensures c.in-At-skip.b (rw c.in-At-skip.is at c.skip-2.ensures) _ _ _ _ name
-        _ tail in
+    ended l c.in-At.a (rw c.in-At.is at c.skip.ensures) _ c.read_attributes-chosen.ensures c.in-At-skip.b (rw c.in-At-skip.is at c.skip-2.ensures) _ _ _ _ name
+    _ tail in
     let lawful : c.lawful_name.result ≡ lawful_name name.0 =
-        c.lawful_name.ensures ∙ ap lawful_name (front l c.in-At-skip.b _ _ _ _ c.no_name-name.ensures name) in
+    c.lawful_name.ensures ∙ ap lawful_name (front l c.in-At-skip.b _ _ _ _ c.no_name-name.ensures name) in
     let taken =
-        parts_taken l (chosen_at l c.in-At.a) name.0 _ _ c.in-Of.len c.no_name-name.result c.read_name.new.name
-        (whole ∙ rw (sym lawful ∙ c.if-not-lawful_name.false)) (tail_whole _ _ tail)
-        c.read_attributes-chosen.ensures.chosen name.3 (room l c.in-At-skip.b _ _ _ _ c.no_name-name.ensures name) c.no_name-name.ensures name.5 in
+    parts_taken l (chosen_at l c.in-At.a) name.0 _ _ c.in-Of.len c.no_name-name.result c.read_name.new.name
+    (whole ∙ rw (sym lawful ∙ c.if-not-lawful_name.false)) (tail_whole _ _ tail)
+    c.read_attributes-chosen.ensures.chosen name.3 (room l c.in-At-skip.b _ _ _ _ c.no_name-name.ensures name) c.no_name-name.ensures name.5 in
     record { result = taken.0; bytes = taken.1 }

@@ -1,5 +1,5 @@
 -- `mailbox_table::clear_words` meets its contract: the words before i are zero. By octets' laws of Clearing.
-use Rattle.listing_rules.proofs.Prelude.{◌-◌, arith, length-set}
+use Rattle.listing_rules.proofs.Prelude.{arith, length-set}
 use Rattle.octets.proofs.Clearing.{cleared_none, cleared_more, cleared_all}
 use Rattle.mailbox_table.proofs.clear_words.Goals as goal
 

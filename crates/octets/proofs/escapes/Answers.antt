@@ -17,8 +17,9 @@ loop-i-preserved c =
     let g : length (escaped (drop i s)) ≡ length (escape_of b) + length (escaped (drop (i + 1) s)) =
     ap length (escaped_at s i c.loop-i-test.true) ∙ length-append (escape_of b) (escaped (drop (i + 1) s)) in
     elim c.if-b.branch [
-      then-b w ↦ (omega arith, omega arith, omega (arith, g, escape_two b w.if-b.true))
-    | else-b w ↦ (omega arith, omega arith, omega (arith, g, escape_one b w.if-b.false)) ]
+      | then-b w ↦ (omega arith, omega arith, omega (arith, g, escape_two b w.if-b.true))
+      | else-b w ↦ (omega arith, omega arith, omega (arith, g, escape_one b w.if-b.false))
+    ]
 
 pub returns : goal.returns
 returns c = omega (arith, ap length (escaped_end c.args.s.now _ c.loop-i-test.false))

@@ -2,7 +2,6 @@
 use Rattle.listing_rules.proofs.Prelude.{◌∙◌, refl, sym, arith}
 use Rattle.pattern.proofs.Folded.{long_name, short_name}
 use Rattle.pattern.proofs.Chosen.{match_here, match_later, match_end}
-use Rattle.listing_rules.proofs.Prelude.{◌-◌}
 use Rattle.pattern.proofs.matches_any.Goals as goal
 
 pub returns-then-name-gt-MAX_NAME : goal.returns-then-name-gt-MAX_NAME

@@ -1,7 +1,6 @@
 -- `some_level` meets its contract: some pattern from here on ends in "%" exactly if some of the whole does.
 use Rattle.listing_rules.proofs.Prelude.{◌∙◌, refl, sym, arith}
 use Rattle.pattern.proofs.Chosen.{percent_here, percent_later, percent_end}
-use Rattle.listing_rules.proofs.Prelude.{◌-◌}
 use Rattle.pattern.proofs.some_level.Goals as goal
 
 pub loop-at-init : goal.loop-at-init

@@ -1,6 +1,6 @@
 -- `records::copy_back` meets its contract: a turn stores one record more. By Copies.
-use Rattle.std.proofs.Common.{◌≡◌, ap, ◌∙◌, ◌-◌, map, drop, arith}
-use Rattle.std.proofs.Math.Seq.{paste, paste-zero}
+use Rattle.std.proofs.Common.{◌≡◌, ◌-◌, map, drop, arith}
+use Rattle.std.proofs.Math.Seq.{paste-zero}
 use Rattle.records.specs.Words.{struct_of}
 use Rattle.records.proofs.Copies.{copied_same}
 use Rattle.records.proofs.copy_back.Goals as goal

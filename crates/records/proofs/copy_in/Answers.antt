@@ -1,7 +1,5 @@
 -- `records::copy_in` meets its contract: a turn stores one word more, which tells its record. By Copies.
-use Rattle.std.proofs.Common.{◌≡◌, ◌∙◌, ap, sym, map, take, get_or, arith}
-use Rattle.std.proofs.Math.Seq.{paste}
-use Rattle.std.proofs.Math.ListN.{set}
+use Rattle.std.proofs.Common.{◌∙◌, ap, sym, arith}
 use Rattle.records.specs.Words.{word_of, record_of, meant}
 use Rattle.records.proofs.Copies.{copied_more, told_more}
 use Rattle.records.proofs.copy_in.Goals as goal

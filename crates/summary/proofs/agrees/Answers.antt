@@ -1,5 +1,5 @@
 -- `summary::agrees` meets its contract: the rows from i on decide. By AgreeLaws.
-use Rattle.listing_rules.proofs.Prelude.{◌∙◌, ap, sym, ◌-◌, ℕ, arith, eqb, get_or, ne_eqb, eq-eqb}
+use Rattle.listing_rules.proofs.Prelude.{◌∙◌, ap, sym, ℕ, arith, eqb, get_or, ne_eqb, eq-eqb}
 use Rattle.summary.proofs.AgreeLaws.{agree_all, agree_short, agree_end, agree_on, agree_stop}
 use Rattle.summary.proofs.agrees.Goals as goal
 

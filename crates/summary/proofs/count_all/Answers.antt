@@ -1,5 +1,5 @@
 -- `summary::count_all` meets its contract: the first i numbers are what counting afresh gives. By AgreeLaws.
-use Rattle.listing_rules.proofs.Prelude.{◌∙◌, ◌≡◌, ap, refl, sym, ◌+◌, ◌-◌, ℕ, List, add-one, le_antisymm, length-set, arith, get_or}
+use Rattle.listing_rules.proofs.Prelude.{◌∙◌, ◌≡◌, ap, refl, sym, ◌+◌, ℕ, List, add-one, le_antisymm, length-set, arith, get_or}
 use Rattle.listing_rules.proofs.Prelude.{paste, paste-suc, set}
 use Rattle.summary.specs.Counts.{fresh_words}
 use Rattle.summary.proofs.AgreeLaws.{fresh_at, fresh_length}

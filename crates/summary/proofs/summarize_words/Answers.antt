@@ -15,8 +15,8 @@ pub returns-in_default : goal.returns-in_default
 returns-in_default c =
     let a = c.args in
     let both =
-        first_fails a.raw.now a.count a.area.now a.sums.now c.if-sums-count.false
-        (index_refused c.index_words.ensures (ap length c.no_words-words.ensures) c.in_default.is) in
+    first_fails a.raw.now a.count a.area.now a.sums.now c.if-sums-count.false
+    (index_refused c.index_words.ensures (ap length c.no_words-words.ensures) c.in_default.is) in
     record { result = both.0; summary = both.1 }
 
 pub slice_bounds-words-end : goal.slice_bounds-words-end
@@ -46,6 +46,6 @@ returns c =
     let a = c.args in
     let index = take c.in-Rows.n c.index_words.new.words in
     let both =
-        first_counted a.raw.now a.count a.area.now a.sums.now index c.if-sums-count.false held.table_passes held.same
-        (sym held.size ∙ held.number) held.index.few _ c.count_all.ensures in
+    first_counted a.raw.now a.count a.area.now a.sums.now index c.if-sums-count.false held.table_passes held.same
+    (sym held.size ∙ held.number) held.index.few _ c.count_all.ensures in
     record { result = both.0; summary = both.1 }

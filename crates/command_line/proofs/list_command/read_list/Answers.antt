@@ -1,5 +1,5 @@
 -- `read_list`: part by part off the grammar, or what is kept of the parts, judged. Rests on Grammar, Refusing, Judging and Listing.
-use Rattle.listing_rules.proofs.Prelude.{◌∙◌, ◌≡◌, ap, subst, sym, ◌&&◌, List as Seq, ◌<◌, ◌^◌, ℕ, drop}
+use Rattle.listing_rules.proofs.Prelude.{◌∙◌, ◌≡◌, ap, subst, sym, ◌&&◌, ◌<◌, ◌^◌, ℕ, drop}
 use Rattle.listing_rules.specs.Bytes.{text}
 use Rattle.listing_rules.specs.Tokens.{got, after}
 use Rattle.listing_rules.specs.Command.{is_some}

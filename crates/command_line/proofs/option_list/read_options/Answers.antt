@@ -10,9 +10,6 @@ use Rattle.command_tokens.proofs.Parted.{parting_first, parting_off, parting_clo
 use Rattle.command_line.specs.declared.option_list.Place.{Place}
 use Rattle.command_line.specs.OptionSets.{member_of, Marks, marking, marked, summed, marks_of, listed_is}
 use Rattle.command_line.proofs.Listing.{options_none, options_some, written_word, written_absent, written_ahead, marking_is, summed_more}
-use Rattle.listing_rules.proofs.Prelude.{◌≡◌, ◌-◌, drop, length}
-use Rattle.listing_rules.specs.Command.{option}
-use Rattle.command_line.specs.OptionSets.{summed, marks_of}
 use Rattle.command_line.proofs.option_list.read_options.Goals as goal
 
 pub returns-then-byte_at-eq41 : goal.returns-then-byte_at-eq41

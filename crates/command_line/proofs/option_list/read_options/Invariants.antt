@@ -1,11 +1,8 @@
 -- What holds at each turn of a loop of `read_options`, and what falls.
-use Rattle.listing_rules.proofs.Prelude.{drop, length}
-use Rattle.listing_rules.specs.Command.{option}
-use Rattle.command_line.specs.OptionSets.{summed, marks_of}
-use Rattle.listing_rules.proofs.Prelude.{◌-◌, drop, length}
+use Rattle.listing_rules.proofs.Prelude.{drop, length, ◌-◌}
 use Rattle.listing_rules.specs.Command.{option, options}
-use Rattle.command_tokens.proofs.Parted.{Parting}
 use Rattle.command_line.specs.OptionSets.{summed, marks_of}
+use Rattle.command_tokens.proofs.Parted.{Parting}
 use Rattle.command_line.proofs.option_list.read_options.Given as goal
 
 abbrev pub invariant-loop-word : goal.invariant-loop-word

@@ -1,9 +1,7 @@
 -- `measure`: what was counted, and the places that are left, come to all of them. Rests on Counting.
-use Rattle.listing_rules.proofs.Prelude.{◌∙◌, ◌≡◌, sym, arith, length, length-map}
+use Rattle.listing_rules.proofs.Prelude.{◌∙◌, ◌≡◌, sym, arith, length}
 use Rattle.command_tokens.specs.Spans.{span_bytes}
-use Rattle.command_patterns.proofs.Counting.{from_out, from_skip, from_keep, counted_none, counted_same, counted_more}
-use Rattle.command_patterns.proofs.Counting.{counted_all}
-use Rattle.listing_rules.proofs.Prelude.{◌≡◌, ◌-◌, length}
+use Rattle.command_patterns.proofs.Counting.{from_out, from_skip, from_keep, counted_none, counted_same, counted_more, counted_all}
 use Rattle.command_patterns.proofs.canonical.measure.Goals as goal
 
 pub loop-i-init : goal.loop-i-init

@@ -1,6 +1,5 @@
 -- What holds at each turn of a loop of `measure`, and what falls.
-use Rattle.listing_rules.proofs.Prelude.{◌≡◌, length}
-use Rattle.listing_rules.proofs.Prelude.{◌≡◌, List, ◌-◌, ◌≤◌, ℕ, length}
+use Rattle.listing_rules.proofs.Prelude.{◌≡◌, length, List, ◌-◌, ◌≤◌, ℕ}
 use Rattle.listing_rules.specs.Command.{canonical}
 use Rattle.command_patterns.specs.Places.{held}
 use Rattle.command_patterns.proofs.Counting.{canonical_from, Counted}

@@ -1,5 +1,5 @@
 -- `put_canonical`: three writes, one after the other. Rests on octets' Puts.
-use Rattle.listing_rules.proofs.Prelude.{◌∙◌, ◌≡◌, ap, subst, sym, ◌++◌, ◌∷◌, ◌%◌, ◌+◌, ℕ, length, length-append}
+use Rattle.listing_rules.proofs.Prelude.{◌∙◌, ◌≡◌, ap, subst, sym, ◌++◌, ◌∷◌, ◌%◌, ℕ, length, length-append}
 use Rattle.octets.specs.Put.{Put}
 use Rattle.octets.proofs.Puts.{put_then}
 use Rattle.command_tokens.specs.Spans.{span_bytes}

@@ -1,10 +1,8 @@
 -- `put_patterns`: the buffer holds the first patterns, and the places that are left come to the rest. Rests on Counting and Packed.
-use Rattle.listing_rules.proofs.Prelude.{◌∙◌, ◌≡◌, sym, arith, length, length-map, rules}
+use Rattle.listing_rules.proofs.Prelude.{◌∙◌, ◌≡◌, sym, arith, length, rules}
 use Rattle.command_tokens.specs.Spans.{span_bytes}
 use Rattle.command_patterns.proofs.Counting.{from_out, from_skip, from_keep}
 use Rattle.command_patterns.proofs.Packed.{packing_none, packing_same, packing_more, packing_all}
-use Rattle.listing_rules.proofs.Prelude.{◌≡◌, ◌-◌}
-use Rattle.command_tokens.specs.Spans.{span_bytes}
 use Rattle.command_patterns.proofs.canonical.put_patterns.Goals as goal
 
 pub loop-i-init : goal.loop-i-init

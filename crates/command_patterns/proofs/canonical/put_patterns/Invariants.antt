@@ -1,7 +1,6 @@
 -- What holds at each turn of a loop of `put_patterns`, and what falls.
 use Rattle.command_tokens.specs.Spans.{span_bytes}
 use Rattle.listing_rules.proofs.Prelude.{◌-◌, ◌≤◌}
-use Rattle.command_tokens.specs.Spans.{span_bytes}
 use Rattle.command_patterns.specs.Canonical.{canonical_of}
 use Rattle.command_patterns.proofs.Counting.{canonical_from}
 use Rattle.command_patterns.proofs.Packed.{Packing}

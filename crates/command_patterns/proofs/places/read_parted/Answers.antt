@@ -11,10 +11,6 @@ use Rattle.command_tokens.proofs.Parted.{parting_first, parting_off, parting_clo
 use Rattle.command_patterns.specs.declared.Patterns.{Patterns}
 use Rattle.command_patterns.specs.Places.{join_to, up_to_eight, patterns_is}
 use Rattle.command_patterns.proofs.Filling.{Filled, filled_none, filled_with, kept_filled, placed_filled, join_more}
-use Rattle.listing_rules.proofs.Prelude.{◌≡◌, List, ◌-◌, ℕ, drop, length}
-use Rattle.listing_rules.specs.Tokens.{pattern}
-use Rattle.command_patterns.specs.Places.{join_to, up_to_eight}
-use Rattle.command_patterns.proofs.Filling.{Filled}
 use Rattle.command_patterns.proofs.places.read_parted.Goals as goal
 
 pub loop-span-init : goal.loop-span-init
@@ -54,8 +50,11 @@ returns-then-b-ne32 c =
     c.in-Found.next = token_ahead _ _ c.pattern.ensures.token_in c.in-Found.is in
     let more : Filled line c.with-found.result (c.loop-span.invariant.0 ++ (bytes ∷ [])) = subst (λ (p : Patterns). Filled line p (c.loop-span.invariant.0 ++ (bytes ∷ []))) (sym c.with-found.ensures)
     (filled_with _ _ _ _ c.loop-span.invariant.1 (lies_ahead _ _ _ _ ahead)) in
-    let byte = c.byte_at-b.ensures in record { result_value = sym (parting_other pattern _ _ _ _ c.loop-span.invariant.2 bytes to read
-          ahead.past ahead.inside (λ e. c.if-b-eq41.false (byte ∙ e)) (λ e. c.if-b-ne32.true (byte ∙ e))); placed = placed_filled _ _ _ more }
+    let byte = c.byte_at-b.ensures in record {
+      result_value = sym (parting_other pattern _ _ _ _ c.loop-span.invariant.2 bytes to read
+          ahead.past ahead.inside (λ e. c.if-b-eq41.false (byte ∙ e)) (λ e. c.if-b-ne32.true (byte ∙ e)));
+      placed = placed_filled _ _ _ more;
+    }
 
 pub overflow_add-result : goal.overflow_add-result
 overflow_add-result c =
@@ -90,8 +89,7 @@ loop-span-preserved c =
     let ahead : Ahead line c.loop-span.at c.in-Found.span
     c.in-Found.next = token_ahead _ _ c.pattern.ensures.token_in c.in-Found.is in
     let more : Filled line c.with-found.result (c.loop-span.invariant.0 ++ (bytes ∷ [])) = subst (λ (p : Patterns). Filled line p (c.loop-span.invariant.0 ++ (bytes ∷ []))) (sym c.with-found.ensures)
-    (filled_with _ _ _ _ c.loop-span.invariant.1 (lies_ahead _ _ _ _ ahead)) in
-    (
+    (filled_with _ _ _ _ c.loop-span.invariant.1 (lies_ahead _ _ _ _ ahead)) in (
       c.loop-span.invariant.0 ++ (bytes ∷ []),
       more,
       parting_space pattern _ _ _ _ _ c.loop-span.invariant.2 bytes to read ahead.past ahead.inside

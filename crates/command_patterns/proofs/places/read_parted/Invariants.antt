@@ -1,14 +1,10 @@
 -- What holds at each turn of a loop of `read_parted`, and what falls.
-use Rattle.listing_rules.proofs.Prelude.{List, ℕ, drop, length}
+use Rattle.listing_rules.proofs.Prelude.{List, ℕ, drop, length, ◌-◌}
 use Rattle.listing_rules.specs.Tokens.{pattern}
 use Rattle.command_patterns.specs.Places.{join_to, up_to_eight}
 use Rattle.command_patterns.proofs.Filling.{Filled}
-use Rattle.listing_rules.proofs.Prelude.{List, ◌-◌, ℕ, drop, length}
-use Rattle.listing_rules.specs.Tokens.{pattern}
 use Rattle.listing_rules.specs.Command.{parted}
 use Rattle.command_tokens.proofs.Parted.{Parting}
-use Rattle.command_patterns.specs.Places.{join_to, up_to_eight}
-use Rattle.command_patterns.proofs.Filling.{Filled}
 use Rattle.command_patterns.proofs.places.read_parted.Given as goal
 
 abbrev pub invariant-loop-span : goal.invariant-loop-span

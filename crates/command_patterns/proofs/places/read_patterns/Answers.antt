@@ -25,8 +25,11 @@ returns-then-byte_at-eq40 c =
 pub returns-in_default : goal.returns-in_default
 unfolding patterns_is behind_is ◌>>=◌
 returns-in_default c =
-    let line = c.args.text.now in record { result_value = sym (patterns_off line _ (λ e. c.if-byte_at-eq40.false (c.byte_at.ensures ∙ e))
-          (token_missing _ c.pattern.ensures.result_value c.in_default.is)); placed = rw c.none-none.ensures (placed_filled _ _ _ (filled_none line)) }
+    let line = c.args.text.now in record {
+      result_value = sym (patterns_off line _ (λ e. c.if-byte_at-eq40.false (c.byte_at.ensures ∙ e))
+          (token_missing _ c.pattern.ensures.result_value c.in_default.is));
+      placed = rw c.none-none.ensures (placed_filled _ _ _ (filled_none line));
+    }
 
 -- one pattern
 pub returns : goal.returns
@@ -37,5 +40,8 @@ returns c =
     let bytes = span_bytes line span in
     let found = c.in-Found.is in
     let with = c.with.ensures ∙ ap (λ (p : Patterns). with_span p span) c.none-none.ensures in
-    let one = subst (λ (p : Patterns). Filled line p (bytes ∷ [])) (sym with) (filled_with line _ [] span (filled_none line) (lies_ahead _ _ _ _ (token_ahead _ _ c.pattern.ensures.token_in found))) in record { result_value = ap (λ (x : Option (List (List ℕ))). some (got x (drop c.in-Found.next.at line))) (kept_filled _ _ _ one)
-          ∙ sym (patterns_single line _ _ _ (λ e. c.if-byte_at-eq40.false (c.byte_at.ensures ∙ e)) (token_found _ c.pattern.ensures.result_value found)); placed = placed_filled _ _ _ one }
+    let one = subst (λ (p : Patterns). Filled line p (bytes ∷ [])) (sym with) (filled_with line _ [] span (filled_none line) (lies_ahead _ _ _ _ (token_ahead _ _ c.pattern.ensures.token_in found))) in record {
+      result_value = ap (λ (x : Option (List (List ℕ))). some (got x (drop c.in-Found.next.at line))) (kept_filled _ _ _ one)
+          ∙ sym (patterns_single line _ _ _ (λ e. c.if-byte_at-eq40.false (c.byte_at.ensures ∙ e)) (token_found _ c.pattern.ensures.result_value found));
+      placed = placed_filled _ _ _ one;
+    }

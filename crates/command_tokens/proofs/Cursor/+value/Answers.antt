@@ -1,5 +1,5 @@
 -- `Cursor::value`: the items of one level in a loop, an inner parenthesis by a call of its own further on. Rests on Nesting, Binds and Bytes.
-use Rattle.listing_rules.proofs.Prelude.{◌∙◌, ◌≡◌, sym, ◌<◌, ◌≤◌, ℕ, arith, drop, get_or, length}
+use Rattle.listing_rules.proofs.Prelude.{◌∙◌, ◌≡◌, sym, ◌<◌, ◌≤◌, ℕ, arith, drop, length}
 use Rattle.command_tokens.specs.Tokens.{behind_is, BehindIn}
 use Rattle.command_tokens.specs.Values.{value_of, first_item, behind_item}
 use Rattle.command_tokens.proofs.Binds.{bind_none, bind_go, behind_at, behind_nothing, behind_ahead}
@@ -14,28 +14,28 @@ first_read : (t : ℕ) (c : In-At t) →
     BehindIn c.args.text.now c.loop-inside.at c.if-byte_at-eq40.first
 first_read t c =
     let byte = c.byte_at.ensures in elim c.if-byte_at-eq40.branch [
-        then-byte_at-eq40 w ↦ rw w.first-is (
-          w.value-first.ensures.result_value ∙ sym (item_value _ c.loop-inside.at (sym byte ∙ w.if-byte_at-eq40.true)),
-          behind_later _ _ _ _ (omega arith) w.value-first.ensures.behind_in,
-        )
+      | then-byte_at-eq40 w ↦ rw w.first-is (
+        w.value-first.ensures.result_value ∙ sym (item_value _ c.loop-inside.at (sym byte ∙ w.if-byte_at-eq40.true)),
+        behind_later _ _ _ _ (omega arith) w.value-first.ensures.behind_in,
+      )
       | else-byte_at-eq40 w ↦ rw w.first-is (
-          w.item-first.ensures.result_value ∙ sym (item_string _ c.loop-inside.at (λ e. w.if-byte_at-eq40.false (byte ∙ e))),
-          w.item-first.ensures.behind_in,
-        )
-      ]
+        w.item-first.ensures.result_value ∙ sym (item_string _ c.loop-inside.at (λ e. w.if-byte_at-eq40.false (byte ∙ e))),
+        w.item-first.ensures.behind_in,
+      )
+    ]
 
 -- the same where the first item is missing
 first_off : (t : ℕ) (c : In_default t) →
     behind_is c.args.text.now c.if-byte_at-eq40.first ≡ first_item value_of (drop c.loop-inside.at c.args.text.now)
 first_off t c =
     let byte = c.byte_at.ensures in elim c.if-byte_at-eq40.branch [
-        then-byte_at-eq40 w ↦ rw w.first-is (
+      | then-byte_at-eq40 w ↦ rw w.first-is (
           w.value-first.ensures.result_value ∙ sym (item_value _ c.loop-inside.at (sym byte ∙ w.if-byte_at-eq40.true))
-        )
+          )
       | else-byte_at-eq40 w ↦ rw w.first-is (
           w.item-first.ensures.result_value ∙ sym (item_string _ c.loop-inside.at (λ e. w.if-byte_at-eq40.false (byte ∙ e)))
-        )
-      ]
+          )
+    ]
 
 pub returns-in_default-clause-result_value : goal.returns-in_default-clause-result_value
 unfolding behind_is

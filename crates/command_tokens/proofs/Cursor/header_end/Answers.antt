@@ -14,14 +14,20 @@ returns-in_default c =
 pub returns-in_default-byte : goal.returns-in_default-byte
 unfolding text crlf behind_is BehindIn
 returns-in_default-byte c =
-    record { result_value = sym (after_then 125 (13 ∷ 10 ∷ []) _ ∙ bind_go _ (behind_at _ c.byte.ensures.result_value c.in-At.is) ∙ after_then 13
-          (10 ∷ []) _ ∙ bind_none _ (behind_nothing _ c.byte-2.ensures.result_value c.in_default-byte.is)); behind_in = tt }
+    record {
+      result_value = sym (after_then 125 (13 ∷ 10 ∷ []) _ ∙ bind_go _ (behind_at _ c.byte.ensures.result_value c.in-At.is) ∙ after_then 13
+          (10 ∷ []) _ ∙ bind_none _ (behind_nothing _ c.byte-2.ensures.result_value c.in_default-byte.is));
+      behind_in = tt;
+    }
 
 pub returns : goal.returns
 unfolding text crlf
 returns c =
     let s = c.args.text.now in
     let two = behind_ahead s _ c.byte.ensures.behind_in c.in-At.is in
-    let three = behind_ahead s _ c.byte-2.ensures.behind_in c.in-At-byte.is in record { result_value = c.byte-3.ensures.result_value ∙ sym (after_then 125 (13 ∷ 10 ∷ []) _ ∙ bind_go _
+    let three = behind_ahead s _ c.byte-2.ensures.behind_in c.in-At-byte.is in record {
+      result_value = c.byte-3.ensures.result_value ∙ sym (after_then 125 (13 ∷ 10 ∷ []) _ ∙ bind_go _
           (behind_at s c.byte.ensures.result_value c.in-At.is) ∙ after_then 13 (10 ∷ []) _ ∙ bind_go _
-          (behind_at s c.byte-2.ensures.result_value c.in-At-byte.is)); behind_in = behind_later s _ _ _ (omega (arith, two.0, three.0)) c.byte-3.ensures.behind_in }
+          (behind_at s c.byte-2.ensures.result_value c.in-At-byte.is));
+      behind_in = behind_later s _ _ _ (omega (arith, two.0, three.0)) c.byte-3.ensures.behind_in;
+    }

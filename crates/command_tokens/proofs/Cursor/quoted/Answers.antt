@@ -2,7 +2,6 @@
 use Rattle.command_tokens.specs.Tokens.{TokenIn, token_is}
 use Rattle.listing_rules.proofs.Prelude.{◌∙◌, ap, refl, sym, arith}
 use Rattle.command_tokens.proofs.Quoting.{quoted_out, quoted_more, quoted_end, quoted_bad, closed_is}
-use Rattle.listing_rules.proofs.Prelude.{◌-◌}
 use Rattle.command_tokens.proofs.Cursor.quoted.Goals as goal
 
 pub loop-i-init : goal.loop-i-init

@@ -1,7 +1,6 @@
 -- What holds at each turn of a loop of `quoted`, and what falls.
-use Rattle.listing_rules.proofs.Prelude.{◌≡◌}
-use Rattle.command_tokens.specs.Tokens.{closing, closed_at}
 use Rattle.listing_rules.proofs.Prelude.{◌≡◌, false, ◌-◌, ◌≤◌, drop, length}
+use Rattle.command_tokens.specs.Tokens.{closing, closed_at}
 use Rattle.command_tokens.proofs.Cursor.quoted.Given as goal
 
 abbrev pub invariant-loop-i : goal.invariant-loop-i

@@ -18,8 +18,8 @@ unfolding token_is BareIn
 returns-then-i-at c =
     let ended : run_end (class_byte c.args.class) c.args.text.now c.args.self.at ≡ c.loop-i.i = sym c.loop-i.invariant.2
     ∙ elim c.loop-i-test.branch [
-      else-loop-i-test w ↦ run_out _ _ _ w.loop-i-test.false
-    | then-loop-i-test+then-not-holds w ↦ run_stop _ _ _ w.loop-i-test.true (sym w.holds.ensures ∙ w.if-not-holds.true)
+      | else-loop-i-test w ↦ run_out _ _ _ w.loop-i-test.false
+      | then-loop-i-test+then-not-holds w ↦ run_stop _ _ _ w.loop-i-test.true (sym w.holds.ensures ∙ w.if-not-holds.true)
     ] in
     record { result_value = sym (run_missing _ _ _ (ended ∙ c.if-i-at.true)); bare_in = tt }
 
@@ -28,7 +28,7 @@ unfolding token_is span_bytes BareIn
 returns c =
     let ended : run_end (class_byte c.args.class) c.args.text.now c.args.self.at ≡ c.loop-i.i = sym c.loop-i.invariant.2
     ∙ elim c.loop-i-test.branch [
-      else-loop-i-test w ↦ run_out _ _ _ w.loop-i-test.false
-    | then-loop-i-test+then-not-holds w ↦ run_stop _ _ _ w.loop-i-test.true (sym w.holds.ensures ∙ w.if-not-holds.true)
+      | else-loop-i-test w ↦ run_out _ _ _ w.loop-i-test.false
+      | then-loop-i-test+then-not-holds w ↦ run_stop _ _ _ w.loop-i-test.true (sym w.holds.ensures ∙ w.if-not-holds.true)
     ] in
     record { result_value = sym (run_found _ _ _ _ ended (omega arith)); bare_in = record { bare = refl; front = refl; ahead = record { order = omega arith; within = omega arith; past = omega arith; inside = omega arith } } }

@@ -1,7 +1,5 @@
 -- What holds at each turn of a loop of `run`, and what falls.
 use Rattle.command_tokens.specs.Tokens.{class_byte, run_end}
-use Rattle.listing_rules.proofs.Prelude.{◌≡◌}
-use Rattle.command_tokens.specs.Tokens.{class_byte, run_end}
 use Rattle.listing_rules.proofs.Prelude.{◌≡◌, ◌+◌, ◌-◌, ◌≤◌, length}
 use Rattle.command_tokens.proofs.Cursor.run.Given as goal
 

@@ -22,5 +22,8 @@ returns-then-b-eq123 c =
 
 pub returns : goal.returns
 returns c =
-    record { result_value = c.run.ensures.result_value ∙ sym (string_bare _ _ c.args.self.at (λ e. c.if-b-eq-QUOTE.false (c.byte_at-b.ensures ∙ e))
-          (λ e. c.if-b-eq123.false (c.byte_at-b.ensures ∙ e))); token_in = bare_token _ _ _ c.run.ensures.bare_in }
+    record {
+      result_value = c.run.ensures.result_value ∙ sym (string_bare _ _ c.args.self.at (λ e. c.if-b-eq-QUOTE.false (c.byte_at-b.ensures ∙ e))
+          (λ e. c.if-b-eq123.false (c.byte_at-b.ensures ∙ e)));
+      token_in = bare_token _ _ _ c.run.ensures.bare_in;
+    }

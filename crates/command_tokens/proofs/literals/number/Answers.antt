@@ -1,7 +1,6 @@
 -- `number`: the digits so far and those that are left come to the whole number, cut at 1,025. Rests on Numbers.
 use Rattle.listing_rules.proofs.Prelude.{◌∙◌, refl, sym, arith}
 use Rattle.command_tokens.proofs.Numbers.{number_step, number_out}
-use Rattle.listing_rules.proofs.Prelude.{◌-◌}
 use Rattle.command_tokens.proofs.literals.number.Goals as goal
 
 pub loop-i-init : goal.loop-i-init

@@ -1,5 +1,4 @@
 -- What holds at each turn of a loop of `number`, and what falls.
-use Rattle.listing_rules.proofs.Prelude.{◌≡◌}
 use Rattle.listing_rules.proofs.Prelude.{◌≡◌, ◌-◌, ◌≤◌, min, drop, length}
 use Rattle.listing_rules.specs.Tokens.{decimal}
 use Rattle.command_tokens.proofs.literals.number.Given as goal

@@ -1,7 +1,6 @@
 -- `plain_len`: what is counted so far and what is left to count come to the length without escapes. Rests on Plain.
 use Rattle.listing_rules.proofs.Prelude.{ap, arith, length}
 use Rattle.command_tokens.proofs.Plain.{plain_skip, plain_keep, plain_out}
-use Rattle.listing_rules.proofs.Prelude.{◌-◌, length}
 use Rattle.command_tokens.proofs.spans.plain_len.Goals as goal
 
 pub loop-i-init : goal.loop-i-init

@@ -1,6 +1,5 @@
 -- What holds at each turn of a loop of `plain_len`, and what falls.
-use Rattle.listing_rules.proofs.Prelude.{◌≡◌, length}
-use Rattle.listing_rules.proofs.Prelude.{◌≡◌, false, ◌+◌, ◌-◌, ◌≤◌, drop, length}
+use Rattle.listing_rules.proofs.Prelude.{◌≡◌, length, false, ◌+◌, ◌-◌, ◌≤◌, drop}
 use Rattle.command_tokens.specs.Spans.{plain}
 use Rattle.command_tokens.proofs.spans.plain_len.Given as goal
 

@@ -1,6 +1,5 @@
 -- What holds at each turn of a loop of `put_plain`, and what falls.
-use Rattle.listing_rules.proofs.Prelude.{◌≡◌, ◌++◌}
-use Rattle.listing_rules.proofs.Prelude.{◌≡◌, false, List, ◌++◌, ◌-◌, ℕ, drop, length}
+use Rattle.listing_rules.proofs.Prelude.{◌≡◌, ◌++◌, false, List, ◌-◌, ℕ, drop, length}
 use Rattle.octets.specs.Put.{Put}
 use Rattle.command_tokens.specs.Spans.{plain}
 use Rattle.command_tokens.proofs.spans.put_plain.Given as goal

@@ -1,7 +1,6 @@
 -- `count_patterns` meets its contract: those counted, and those from `at` on, are all.
 use Rattle.listing_rules.proofs.Prelude.{ap, arith, length}
 use Rattle.command_writer.proofs.PackedPatterns.{patterns_end}
-use Rattle.listing_rules.proofs.Prelude.{◌-◌, length}
 use Rattle.command_writer.proofs.patterns.count_patterns.Goals as goal
 
 pub loop-at-init : goal.loop-at-init

@@ -1,6 +1,5 @@
 -- What holds at each turn of a loop of `count_patterns`, and what falls.
-use Rattle.listing_rules.proofs.Prelude.{◌≡◌, length}
-use Rattle.listing_rules.proofs.Prelude.{◌≡◌, ◌+◌, ◌-◌, ◌≤◌, drop, length}
+use Rattle.listing_rules.proofs.Prelude.{◌≡◌, length, ◌+◌, ◌-◌, ◌≤◌, drop}
 use Rattle.listing_rules.specs.Joining.{packed_patterns}
 use Rattle.command_writer.proofs.patterns.count_patterns.Given as goal
 

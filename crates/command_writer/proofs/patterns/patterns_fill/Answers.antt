@@ -1,7 +1,6 @@
 -- `patterns_fill` meets its contract: the bytes from `at` on decide. By the laws of PackedPatterns.
 use Rattle.listing_rules.proofs.Prelude.{◌∙◌, refl, sym}
 use Rattle.command_writer.proofs.PackedPatterns.{fill_next, fill_past, fill_end}
-use Rattle.listing_rules.proofs.Prelude.{◌-◌}
 use Rattle.command_writer.proofs.patterns.patterns_fill.Goals as goal
 
 pub loop-at-init : goal.loop-at-init

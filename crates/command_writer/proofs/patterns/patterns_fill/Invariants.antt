@@ -1,5 +1,4 @@
 -- What holds at each turn of a loop of `patterns_fill`, and what falls.
-use Rattle.listing_rules.proofs.Prelude.{◌≡◌}
 use Rattle.listing_rules.proofs.Prelude.{◌≡◌, ◌-◌, drop, length}
 use Rattle.listing_rules.specs.Joining.{patterns_fill}
 use Rattle.command_writer.proofs.patterns.patterns_fill.Given as goal

@@ -2,8 +2,6 @@
 use Rattle.listing_rules.proofs.Prelude.{◌∙◌, sym}
 use Rattle.command_writer.specs.Patterns.{short_after}
 use Rattle.command_writer.proofs.PackedPatterns.{every_next, every_stop, every_end, canonical_short}
-use Rattle.listing_rules.proofs.Prelude.{◌-◌}
-use Rattle.command_writer.specs.Patterns.{short_after}
 use Rattle.command_writer.proofs.patterns.patterns_short.Goals as goal
 
 pub loop-at-init : goal.loop-at-init

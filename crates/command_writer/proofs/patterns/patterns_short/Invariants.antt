@@ -1,11 +1,9 @@
 -- What holds at each turn of a loop of `patterns_short`, and what falls.
-use Rattle.listing_rules.proofs.Prelude.{◌≡◌}
-use Rattle.command_writer.specs.Patterns.{short_after}
 use Rattle.listing_rules.proofs.Prelude.{◌≡◌, ◌-◌, drop, length}
+use Rattle.command_writer.specs.Patterns.{short_after, short}
 use Rattle.listing_rules.specs.Lists.{every}
 use Rattle.listing_rules.specs.Command.{canonical}
 use Rattle.listing_rules.specs.Joining.{packed_patterns}
-use Rattle.command_writer.specs.Patterns.{short, short_after}
 use Rattle.command_writer.proofs.patterns.patterns_short.Given as goal
 
 abbrev pub invariant-loop-at : goal.invariant-loop-at

@@ -2,8 +2,6 @@
 use Rattle.listing_rules.proofs.Prelude.{◌∙◌, refl, sym}
 use Rattle.listing_rules.specs.Joining.{can_stand}
 use Rattle.command_writer.proofs.PackedPatterns.{every_next, every_stop, every_end}
-use Rattle.listing_rules.proofs.Prelude.{◌-◌}
-use Rattle.listing_rules.specs.Joining.{can_stand}
 use Rattle.command_writer.proofs.patterns.patterns_stand.Goals as goal
 
 pub loop-at-init : goal.loop-at-init

@@ -1,9 +1,7 @@
 -- What holds at each turn of a loop of `patterns_stand`, and what falls.
-use Rattle.listing_rules.proofs.Prelude.{◌≡◌}
-use Rattle.listing_rules.specs.Joining.{can_stand}
 use Rattle.listing_rules.proofs.Prelude.{◌≡◌, ◌-◌, drop, length}
+use Rattle.listing_rules.specs.Joining.{can_stand, packed_patterns}
 use Rattle.listing_rules.specs.Lists.{every}
-use Rattle.listing_rules.specs.Joining.{packed_patterns, can_stand}
 use Rattle.command_writer.proofs.patterns.patterns_stand.Given as goal
 
 abbrev pub invariant-loop-at : goal.invariant-loop-at

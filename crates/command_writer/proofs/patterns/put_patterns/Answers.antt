@@ -3,7 +3,6 @@
 use Rattle.listing_rules.proofs.Prelude.{rules}
 use Rattle.octets.proofs.Puts.{putting_none, putting_on, putting_more, putting_all, put_then}
 use Rattle.command_writer.proofs.PatternTexts.{text_whole, text_here, text_end}
-use Rattle.listing_rules.proofs.Prelude.{◌-◌}
 use Rattle.command_writer.proofs.patterns.put_patterns.Goals as goal
 
 pub loop-i-init : goal.loop-i-init

@@ -2,8 +2,6 @@
 use Rattle.listing_rules.proofs.Prelude.{◌∙◌, refl, sym}
 use Rattle.listing_rules.specs.Tokens.{tag_byte}
 use Rattle.octets.proofs.Every.{all_step, all_stop, all_end}
-use Rattle.listing_rules.proofs.Prelude.{◌-◌}
-use Rattle.listing_rules.specs.Tokens.{tag_byte}
 use Rattle.command_writer.proofs.strings.all_of_tag.Goals as goal
 
 pub loop-i-init : goal.loop-i-init

@@ -1,5 +1,5 @@
 -- `compaction::gather::gather` meets its contract: the bytes before i are gathered. By GatherLaws.
-use Rattle.listing_rules.proofs.Prelude.{◌-◌, ◌<◌, arith, length}
+use Rattle.listing_rules.proofs.Prelude.{◌<◌, arith, length}
 use Rattle.compaction.proofs.GatherLaws.{gathering_none, gathering_free, gathering_used, gathering_all, end_most}
 use Rattle.compaction.proofs.gather.gather.Goals as goal
 use Rattle.compaction.proofs.gather.gather.Goals.{then-not-marks-i, else-not-marks-i}
@@ -22,8 +22,9 @@ loop-i-preserved c =
     let v = c.loop-i.invariant in
     let here : c.loop-i.i < length c.args.area.now = omega (arith, c.loop-i-test.true, c.requires.1) in
     elim c.if-not-marks-i.branch [
-      then-not-marks-i w ↦ rw (w.area-is, w.end-is) (gathering_used v c.requires.1 here c.requires.2 w.if-not-marks-i.true)
-    | else-not-marks-i w ↦ rw (w.area-is, w.end-is) (gathering_free v c.requires.1 here c.requires.2 w.if-not-marks-i.false) ]
+      | then-not-marks-i w ↦ rw (w.area-is, w.end-is) (gathering_used v c.requires.1 here c.requires.2 w.if-not-marks-i.true)
+      | else-not-marks-i w ↦ rw (w.area-is, w.end-is) (gathering_free v c.requires.1 here c.requires.2 w.if-not-marks-i.false)
+    ]
 
 pub returns : goal.returns
 returns c = gathering_all c.loop-i.invariant c.requires.1 c.requires.2 (omega (arith, c.loop-i-test.false, c.requires.1))

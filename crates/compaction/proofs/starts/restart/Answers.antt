@@ -1,5 +1,5 @@
 -- `compaction::starts::restart` meets its contract: the words before i have their new starts. By StartLaws.
-use Rattle.listing_rules.proofs.Prelude.{◌%◌, ◌-◌, ◌/◌, ◌<◌, ℕ, arith, rules, get_or, length}
+use Rattle.listing_rules.proofs.Prelude.{◌%◌, ◌/◌, ◌<◌, ℕ, arith, rules, get_or, length}
 use Rattle.compaction.specs.Moves.{restarted, with_start}
 use Rattle.compaction.proofs.StartLaws.{start_fits, mapped_none, mapped_read, mapped_more, mapped_all}
 use Rattle.compaction.proofs.starts.restart.Goals as goal

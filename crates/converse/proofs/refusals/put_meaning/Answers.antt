@@ -2,7 +2,7 @@
 use Rattle.converse.proofs.MeaningLaws.{no_meaning, put_as}
 use Rattle.listing_rules.proofs.Keys.{open_bytes}
 use Rattle.conversation.proofs.TalkKeys.{open_texts}
-use Rattle.listing_rules.proofs.Prelude.{sym}
+use Rattle.listing_rules.proofs.Prelude.{sym, rules}
 use Rattle.converse.proofs.refusals.put_meaning.Goals as goal
 
 pub returns-in-0 : goal.returns-in-0
@@ -92,4 +92,4 @@ returns-in-16 c =
 
 pub returns-in_default : goal.returns-in_default
 returns-in_default c =
-    put_as (sym (no_meaning c.args.k c.in-0.rest)) c.put_all-in_default.ensures
+    put_as (sym (no_meaning c.args.k (search rules))) c.put_all-in_default.ensures

@@ -2,7 +2,6 @@
 -- characters have bytes. Rests on DigitLaws.
 use Rattle.listing_rules.proofs.Prelude.{◌∙◌, sym}
 use Rattle.frames.proofs.DigitLaws.{hex_odd, hex_even, digits_more, digits_stop, digits_end}
-use Rattle.listing_rules.proofs.Prelude.{◌-◌}
 use Rattle.frames.proofs.hexadecimal.is_hex.Goals as goal
 
 pub returns-then-line-ne0 : goal.returns-then-line-ne0

@@ -4,8 +4,6 @@ use Rattle.listing_rules.proofs.Prelude.{sym, [], ◌∷◌, ◌+◌, arith, dro
 use Rattle.frames.specs.Hexadecimal.{pair_of, decoded}
 use Rattle.frames.proofs.DigitLaws.{decoded_at, decoded_end}
 use Rattle.frames.proofs.Pieces.{pieces_none, pieces_more, pieces_all}
-use Rattle.listing_rules.proofs.Prelude.{◌-◌, drop}
-use Rattle.frames.specs.Hexadecimal.{decoded}
 use Rattle.frames.proofs.hexadecimal.put_decoded.Goals as goal
 
 pub loop-i-init : goal.loop-i-init

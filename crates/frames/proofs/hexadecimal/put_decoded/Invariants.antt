@@ -1,7 +1,5 @@
 -- What holds at each turn of a loop of `put_decoded`, and what falls.
-use Rattle.listing_rules.proofs.Prelude.{drop}
-use Rattle.frames.specs.Hexadecimal.{decoded}
-use Rattle.listing_rules.proofs.Prelude.{◌-◌, ◌≤◌, drop, length}
+use Rattle.listing_rules.proofs.Prelude.{drop, ◌-◌, ◌≤◌, length}
 use Rattle.frames.specs.Hexadecimal.{decoded}
 use Rattle.frames.proofs.Pieces.{Pieces}
 use Rattle.frames.proofs.hexadecimal.put_decoded.Given as goal

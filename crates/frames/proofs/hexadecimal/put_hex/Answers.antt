@@ -4,8 +4,6 @@ use Rattle.listing_rules.proofs.Prelude.{[], ◌∷◌, ◌+◌, arith, drop, ge
 use Rattle.listing_rules.specs.Frames.{hex}
 use Rattle.frames.proofs.DigitLaws.{hex_at, hex_end}
 use Rattle.frames.proofs.Pieces.{pieces_none, pieces_more, pieces_all}
-use Rattle.listing_rules.proofs.Prelude.{◌-◌, drop}
-use Rattle.listing_rules.specs.Frames.{hex}
 use Rattle.frames.proofs.hexadecimal.put_hex.Goals as goal
 
 pub loop-i-init : goal.loop-i-init

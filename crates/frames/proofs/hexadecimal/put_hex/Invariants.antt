@@ -1,7 +1,5 @@
 -- What holds at each turn of a loop of `put_hex`, and what falls.
-use Rattle.listing_rules.proofs.Prelude.{drop}
-use Rattle.listing_rules.specs.Frames.{hex}
-use Rattle.listing_rules.proofs.Prelude.{◌-◌, ◌≤◌, drop, length}
+use Rattle.listing_rules.proofs.Prelude.{drop, ◌-◌, ◌≤◌, length}
 use Rattle.listing_rules.specs.Frames.{hex}
 use Rattle.frames.proofs.Pieces.{Pieces}
 use Rattle.frames.proofs.hexadecimal.put_hex.Given as goal

@@ -1,7 +1,6 @@
 -- `frames::logs::same_digits` meets its contract: the digits from `at` on and the bytes from i on decide. By LogLaws.
 use Rattle.listing_rules.proofs.Prelude.{◌∙◌, refl, sym, arith}
 use Rattle.frames.proofs.LogLaws.{digits_lengths, digits_differ, digits_step, digits_end}
-use Rattle.listing_rules.proofs.Prelude.{◌-◌}
 use Rattle.frames.proofs.logs.same_digits.Goals as goal
 
 pub returns-then-digits-bytes : goal.returns-then-digits-bytes

@@ -1,5 +1,4 @@
 -- What holds at each turn of a loop of `same_digits`, and what falls.
-use Rattle.listing_rules.proofs.Prelude.{◌≡◌}
 use Rattle.listing_rules.proofs.Prelude.{◌≡◌, ◌*◌, ◌-◌, ◌/◌, ◌≤◌, drop, length}
 use Rattle.listing_rules.specs.Bytes.{same}
 use Rattle.frames.specs.Hexadecimal.{decoded}

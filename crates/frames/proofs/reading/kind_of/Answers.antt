@@ -1,5 +1,5 @@
 -- `frames::reading::kind_of` meets its contract: its arms are the tests of `kindIs`.
-use Rattle.listing_rules.proofs.Prelude.{eq-eqb, ne_eqb}
+use Rattle.listing_rules.proofs.Prelude.{arith, eq-eqb, ne_eqb}
 use Rattle.frames.specs.Reading.{kind_is}
 use Rattle.frames.proofs.reading.kind_of.Goals as goal
 
@@ -35,4 +35,4 @@ pub returns-in_default : goal.returns-in_default
 unfolding kind_is
 returns-in_default c =
     let k = c.args.kind in
-    rw (ne_eqb k 0x4D c.in-77.rest.0.0.0.1, ne_eqb k 0x4E c.in-77.rest.0.0.1, ne_eqb k 0x43 c.in-77.rest.0.1, ne_eqb k 0x57 c.in-77.rest.1)
+    rw (ne_eqb k 0x4D (λ e. omega arith), ne_eqb k 0x4E (λ e. omega arith), ne_eqb k 0x43 (λ e. omega arith), ne_eqb k 0x57 (λ e. omega arith))

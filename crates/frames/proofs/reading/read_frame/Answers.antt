@@ -1,6 +1,5 @@
 -- `frames::reading::read_frame` meets its contract: one law for each way out. Rests on FrameLaws.
-use Rattle.listing_rules.proofs.Prelude.{◌∙◌, ◌≡◌, ap, sym, true, List, [], ◌∷◌, ◌-◌, ℕ, arith, drop, length, length-drop, sets, take_all}
-use types.Run.{miss}
+use Rattle.listing_rules.proofs.Prelude.{◌∙◌, ◌≡◌, ap, sym, true, List, ◌-◌, ℕ, arith, drop, length, length-drop, sets, take_all}
 use Rattle.listing_rules.specs.Frames.{bytes_of}
 use Rattle.frames.specs.Hexadecimal.{is_some, decoded}
 use Rattle.frames.proofs.FrameLaws.{bad_long, bad_short, bad_text, within_bad, frame_bad, frame_short, frame_other, frame_good, kind_answer}
@@ -51,5 +50,5 @@ returns c =
     let a = c.args in
     let whole = take_all (length a.line.now - 2) (drop 2 a.line.now) (omega (arith, length-drop 2 a.line.now)) in
     frame_good _ c.if-line-gt-MAX_DIGITS.false c.if-line-lt2.false hexed _ c.if-bytes-n.false _ _ kinded
-    (λ e. miss (0 ∷ 1 ∷ 2 ∷ 3 ∷ []) 4 tt (rw e at c.in-Bad.keys2))
+    c.in_default.not-Bad
     (c.put_decoded.ensures.bytes ∙ ap (λ (x : List ℕ). sets a.bytes.now 0 (decoded x)) whole)

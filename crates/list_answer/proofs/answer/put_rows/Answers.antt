@@ -14,8 +14,7 @@ pub loop-i-preserved : goal.loop-i-preserved
 loop-i-preserved c =
     let area = c.args.area.now in
     let words = c.args.words.now in
-    let text = text_of area words c.args.patterns.now c.args.question in
-    (
+    let text = text_of area words c.args.patterns.now c.args.question in (
       omega arith,
       c.put_row-to.auto.buf ∙ c.loop-i.invariant.1,
       λ ready.

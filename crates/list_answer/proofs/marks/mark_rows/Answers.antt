@@ -3,7 +3,7 @@ use Rattle.listing_rules.proofs.Prelude.{◌∙◌, ◌≡◌, ap, refl, subst, 
 use Rattle.mailbox_table.specs.Below.{with_marks}
 use Rattle.list_answer.specs.Marks.{marked_word}
 use Rattle.list_answer.proofs.Marking.{words_more, words_all}
-use Rattle.listing_rules.proofs.Prelude.{◌≡◌, map, ◌-◌, take}
+use Rattle.listing_rules.proofs.Prelude.{◌≡◌, map, take}
 use Rattle.list_answer.specs.Marks.{marked_word}
 use Rattle.list_answer.proofs.marks.mark_rows.Goals as goal
 

@@ -1,4 +1,4 @@
--- `list_line::texts::name_span` meets its contract: the places are read from the table. By `spanIn` itself.
+-- `list_line::texts::name_span` meets its contract: the places are read from the table. By `span_in` itself.
 use Rattle.listing_rules.proofs.Prelude.{arith, le-leb, lt-leb}
 use Rattle.list_line.proofs.texts.name_span.Goals as goal
 

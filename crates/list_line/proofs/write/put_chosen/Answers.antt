@@ -4,7 +4,6 @@ use Rattle.octets.specs.Put.{Put}
 use Rattle.list_line.proofs.Names.{span_text, span_named}
 use Rattle.list_line.specs.Names.{NameSpan}
 use Rattle.list_line.proofs.Writing.{spelled_none, spelled_in, spelled_out, spelled_all}
-use Rattle.listing_rules.proofs.Prelude.{◌-◌}
 use Rattle.list_line.proofs.write.put_chosen.Goals as goal
 use Rattle.list_line.proofs.write.put_chosen.Goals.{then-left-eq1, else-left-eq1}
 
@@ -29,11 +28,12 @@ slice_bounds-put_all-end c =
 pub loop-k-preserved : goal.loop-k-preserved
 loop-k-preserved c =
     elim c.if-left-eq1.branch [
-      then-left-eq1 w ↦
-        let name = span_text _ c.requires.names_value (span_named _ _ _ c.requires.places_value c.loop-k-test.true w.name_span-span.ensures) in
-        let put = subst (λ (x : List ℕ). Put c.loop-k.buf w.put_all-to.new.buf c.loop-k.to x w.put_all-to.result) name w.put_all-to.ensures in
-        rw (w.buf-is, w.to-is, w.first-is) (spelled_in c.loop-k.invariant c.loop-k-test.true w.if-left-eq1.true put)
-    | else-left-eq1 w ↦ rw (w.buf-is, w.to-is, w.first-is) (spelled_out c.loop-k.invariant c.loop-k-test.true w.if-left-eq1.false) ]
+      | then-left-eq1 w ↦
+          let name = span_text _ c.requires.names_value (span_named _ _ _ c.requires.places_value c.loop-k-test.true w.name_span-span.ensures) in
+          let put = subst (λ (x : List ℕ). Put c.loop-k.buf w.put_all-to.new.buf c.loop-k.to x w.put_all-to.result) name w.put_all-to.ensures in
+          rw (w.buf-is, w.to-is, w.first-is) (spelled_in c.loop-k.invariant c.loop-k-test.true w.if-left-eq1.true put)
+      | else-left-eq1 w ↦ rw (w.buf-is, w.to-is, w.first-is) (spelled_out c.loop-k.invariant c.loop-k-test.true w.if-left-eq1.false)
+    ]
 
 pub returns : goal.returns
 returns c =

@@ -1,5 +1,5 @@
 -- `mailbox_table::inferiors::inferiors_pass` meets its contract: the rows from i on decide. By InferiorLaws.
-use Rattle.listing_rules.proofs.Prelude.{◌∙◌, refl, sym, ◌-◌}
+use Rattle.listing_rules.proofs.Prelude.{◌∙◌, refl, sym}
 use Rattle.listing_rules.specs.Table.{none_below}
 use Rattle.mailbox_table.specs.Index.{rows_at}
 use Rattle.mailbox_table.proofs.InferiorLaws.{every_more, every_stop, every_end}

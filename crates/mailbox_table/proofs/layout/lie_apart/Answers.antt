@@ -1,6 +1,6 @@
 -- `mailbox_table::layout::lie_apart` meets its contract. The invariant is the record `Laying`: the names passed lie without overlap, and
 -- the map has their bytes. By LayoutLaws.
-use Rattle.listing_rules.proofs.Prelude.{subst, sym, Bool, ◌-◌}
+use Rattle.listing_rules.proofs.Prelude.{subst, sym, Bool}
 use Rattle.mailbox_table.specs.Index.{nth_row}
 use Rattle.mailbox_table.specs.Layout.{Marked}
 use Rattle.mailbox_table.proofs.LayoutLaws.{laying_none, laying_maps, laying_hit, laying_more, laying_done}

@@ -1,5 +1,5 @@
 -- `mailbox_table::layout::mark_name` meets its contract: the bytes before k were seen and are marked. By the laws of Marking in LayoutLaws.
-use Rattle.listing_rules.proofs.Prelude.{◌-◌, arith}
+use Rattle.listing_rules.proofs.Prelude.{arith}
 use Rattle.mailbox_table.proofs.LayoutLaws.{marking_none, marking_more, marking_done}
 use Rattle.mailbox_table.proofs.layout.mark_name.Goals as goal
 

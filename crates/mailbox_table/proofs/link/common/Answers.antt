@@ -1,5 +1,5 @@
 -- `mailbox_table::link::common` meets its contract: i bytes are alike, and what the rests share is added. By SharedLaws.
-use Rattle.listing_rules.proofs.Prelude.{◌∙◌, sym, ◌-◌, zero-add, arith}
+use Rattle.listing_rules.proofs.Prelude.{◌∙◌, sym, zero-add, arith}
 use Rattle.mailbox_table.proofs.SharedLaws.{shared_more, shared_stop, shared_out, least}
 use Rattle.mailbox_table.proofs.link.common.Goals as goal
 

@@ -1,6 +1,6 @@
 -- `mailbox_table::link::link_rows` meets its contract. The invariant is the record `Linking`: words passed are linked and tell the same
 -- records, and the words that are left decide. By LinkLaws.
-use Rattle.listing_rules.proofs.Prelude.{◌∙◌, ◌≡◌, sym, ◌-◌, arith, rules, get_or, length-set}
+use Rattle.listing_rules.proofs.Prelude.{◌∙◌, ◌≡◌, sym, arith, rules, get_or, length-set}
 use Rattle.mailbox_table.specs.declared.rows.Step.TheVariants.{Next}
 use Rattle.mailbox_table.specs.Link.{name_in, step_of}
 use Rattle.mailbox_table.proofs.LinkLaws.{linking_none, linking_bad, linking_more, links_fails, links_rows, step_packs}

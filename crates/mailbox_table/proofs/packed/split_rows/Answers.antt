@@ -1,6 +1,6 @@
 -- `mailbox_table::packed::split_rows` meets its contract. The invariant is the record `Splitting`: rows passed are kept as words, and the
 -- bytes that are left decide. By PackedLaws.
-use Rattle.listing_rules.proofs.Prelude.{◌∙◌, ◌≡◌, refl, sym, ◌-◌, ◌<◌, ℕ, arith, get_or}
+use Rattle.listing_rules.proofs.Prelude.{◌∙◌, ◌≡◌, refl, sym, arith}
 use Rattle.mailbox_table.specs.declared.rows.Step.TheVariants.{Next}
 use Rattle.mailbox_table.specs.Packed.{step_at}
 use Rattle.mailbox_table.proofs.PackedLaws.{splitting_none, splitting_full, splitting_bad, splitting_more, splits_fails}

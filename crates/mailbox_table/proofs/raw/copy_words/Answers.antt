@@ -1,5 +1,5 @@
 -- `mailbox_table::raw::copy_words` meets its contract: the words before i are copied. By CopyLaws.
-use Rattle.listing_rules.proofs.Prelude.{◌≡◌, ◌-◌, arith}
+use Rattle.listing_rules.proofs.Prelude.{◌≡◌, arith}
 use Rattle.mailbox_table.proofs.CopyLaws.{copied_none, copied_more}
 use Rattle.mailbox_table.proofs.raw.copy_words.Goals as goal
 

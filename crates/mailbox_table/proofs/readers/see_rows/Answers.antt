@@ -1,5 +1,5 @@
 -- `mailbox_table::readers::see_rows` meets its contract: the words at the front are those seen of the first i, `low` the least since. By SeenLaws.
-use Rattle.listing_rules.proofs.Prelude.{◌∙◌, ◌≡◌, ap, sym, ◌-◌, ◌<◌, min, arith, get_or, length}
+use Rattle.listing_rules.proofs.Prelude.{◌∙◌, ◌≡◌, ap, sym, ◌<◌, min, arith, get_or, length}
 use Rattle.octets.specs.Sets.{touches}
 use Rattle.records.specs.Words.{record_of}
 use Rattle.mailbox_table.specs.declared.rows.Row.{Row}
@@ -20,8 +20,9 @@ loop-i-preserved c =
     let test : c.meets.result ≡ touches (record_of word).readers _ =
     c.meets.ensures ∙ (λ i. touches (c.readers_of-readers.ensures i) (c.one-own.ensures i)) in
     elim c.if-meets.branch [
-      then-meets w ↦ rw (w.words-is, w.seen-is, w.low-is, w.with_shared.ensures, low-is) (seeing_seen c.loop-i.invariant here (sym test ∙ w.if-meets.true))
-    | else-meets w ↦ rw (w.words-is, w.seen-is, w.low-is, low-is) (seeing_hidden c.loop-i.invariant here (sym test ∙ w.if-meets.false)) ]
+      | then-meets w ↦ rw (w.words-is, w.seen-is, w.low-is, w.with_shared.ensures, low-is) (seeing_seen c.loop-i.invariant here (sym test ∙ w.if-meets.true))
+      | else-meets w ↦ rw (w.words-is, w.seen-is, w.low-is, low-is) (seeing_hidden c.loop-i.invariant here (sym test ∙ w.if-meets.false))
+    ]
 
 pub returns : goal.returns
 returns c = seeing_all c.loop-i.invariant (omega (arith, c.loop-i-test.false, c.loop-i.invariant.size))

@@ -42,8 +42,9 @@ returns-then-i-name-2 c =
     let at_end_lem = c.if-i-name-2.true in
     front_led c.leads-then-i-name-2.ensures
     (elim c.if-c-le-SLASH.branch [
-      then-c-le-SLASH+else-c-eq42+else-c-eq37 w ↦ missed w.if-c-eq42.false w.if-c-eq37.false at_end_lem
-    | else-c-le-SLASH w ↦ missed (λ e. above _ w.if-c-le-SLASH.false (inl e)) (λ e. above _ w.if-c-le-SLASH.false (inr e)) at_end_lem ]) refl
+      | then-c-le-SLASH+else-c-eq42+else-c-eq37 w ↦ missed w.if-c-eq42.false w.if-c-eq37.false at_end_lem
+      | else-c-le-SLASH w ↦ missed (λ e. above _ w.if-c-le-SLASH.false (inl e)) (λ e. above _ w.if-c-le-SLASH.false (inr e)) at_end_lem
+    ]) refl
 
 pub returns-then-c-name : goal.returns-then-c-name
 unfolding given_up_as resumed_as
@@ -51,8 +52,9 @@ returns-then-c-name c =
     let byte = step_byte _ c.args.pattern.now _ _ (omega arith) _ c.letter-c.ensures in
     front_led c.leads-then-c-name.ensures
     (elim c.if-c-le-SLASH.branch [
-      then-c-le-SLASH+else-c-eq42+else-c-eq37 w ↦ byte w.if-c-eq42.false w.if-c-eq37.false (omega arith)
-    | else-c-le-SLASH w ↦ byte (λ e. above _ w.if-c-le-SLASH.false (inl e)) (λ e. above _ w.if-c-le-SLASH.false (inr e)) (omega arith) ]
+      | then-c-le-SLASH+else-c-eq42+else-c-eq37 w ↦ byte w.if-c-eq42.false w.if-c-eq37.false (omega arith)
+      | else-c-le-SLASH w ↦ byte (λ e. above _ w.if-c-le-SLASH.false (inl e)) (λ e. above _ w.if-c-le-SLASH.false (inr e)) (omega arith)
+    ]
     ∙ byte_differs _ _ _ c.if-c-name.true) refl
 
 pub returns : goal.returns
@@ -60,6 +62,7 @@ returns c =
     let byte = step_byte _ c.args.pattern.now _ _ (omega arith) _ c.letter-c.ensures in
     front_led c.leads-2.ensures
     (elim c.if-c-le-SLASH.branch [
-      then-c-le-SLASH+else-c-eq42+else-c-eq37 w ↦ byte w.if-c-eq42.false w.if-c-eq37.false (omega arith)
-    | else-c-le-SLASH w ↦ byte (λ e. above _ w.if-c-le-SLASH.false (inl e)) (λ e. above _ w.if-c-le-SLASH.false (inr e)) (omega arith) ]
+      | then-c-le-SLASH+else-c-eq42+else-c-eq37 w ↦ byte w.if-c-eq42.false w.if-c-eq37.false (omega arith)
+      | else-c-le-SLASH w ↦ byte (λ e. above _ w.if-c-le-SLASH.false (inl e)) (λ e. above _ w.if-c-le-SLASH.false (inr e)) (omega arith)
+    ]
     ∙ front_byte _ _ _ _ (omega arith)) refl

@@ -29,13 +29,15 @@ returns-then-j-name-2 c =
     let missed = step_missed _ c.args.pattern.now _ _ (omega arith) _ c.letter-c.ensures in
     as_capped c.ends-then-j-name-2.ensures
     (elim c.if-c-le-SLASH.branch [
-      then-c-le-SLASH+else-c-eq42+else-c-eq37 w ↦ missed w.if-c-eq42.false w.if-c-eq37.false c.if-j-name-2.true
-    | else-c-le-SLASH w ↦ missed (λ e. above _ w.if-c-le-SLASH.false (inl e)) (λ e. above _ w.if-c-le-SLASH.false (inr e)) c.if-j-name-2.true ])
+      | then-c-le-SLASH+else-c-eq42+else-c-eq37 w ↦ missed w.if-c-eq42.false w.if-c-eq37.false c.if-j-name-2.true
+      | else-c-le-SLASH w ↦ missed (λ e. above _ w.if-c-le-SLASH.false (inl e)) (λ e. above _ w.if-c-le-SLASH.false (inr e)) c.if-j-name-2.true
+    ])
 
 pub returns : goal.returns
 returns c =
     let byte = step_byte _ c.args.pattern.now _ _ (omega arith) _ c.letter-c.ensures in
     as_capped c.byte_step.ensures
     (elim c.if-c-le-SLASH.branch [
-      then-c-le-SLASH+else-c-eq42+else-c-eq37 w ↦ byte w.if-c-eq42.false w.if-c-eq37.false (omega arith)
-    | else-c-le-SLASH w ↦ byte (λ e. above _ w.if-c-le-SLASH.false (inl e)) (λ e. above _ w.if-c-le-SLASH.false (inr e)) (omega arith) ])
+      | then-c-le-SLASH+else-c-eq42+else-c-eq37 w ↦ byte w.if-c-eq42.false w.if-c-eq37.false (omega arith)
+      | else-c-le-SLASH w ↦ byte (λ e. above _ w.if-c-le-SLASH.false (inl e)) (λ e. above _ w.if-c-le-SLASH.false (inr e)) (omega arith)
+    ])

@@ -1,5 +1,5 @@
 -- What holds at each turn of a loop of `of`, and what falls.
-use Rattle.listing_rules.proofs.Prelude.{◌≡◌, ◌-◌, drop}
+use Rattle.listing_rules.proofs.Prelude.{◌≡◌, drop}
 use Rattle.list_line.specs.Members.{set_of}
 use Rattle.listing_rules.proofs.Prelude.{◌≡◌, ◌≤◌, drop, length}
 use Rattle.list_line.specs.Members.{set_of}

@@ -1,5 +1,5 @@
 -- `mailbox_table::readers::Readers::one` meets its contract: after i turns the set has reader i alone. By SeenLaws.
-use Rattle.listing_rules.proofs.Prelude.{◌∙◌, ◌≡◌, ap, refl, ◌*◌, ◌-◌, ◌^◌, ℕ, arith}
+use Rattle.listing_rules.proofs.Prelude.{◌∙◌, ◌≡◌, ap, refl, ◌*◌, ◌^◌, ℕ, arith}
 use Rattle.mailbox_table.proofs.SeenLaws.{member_none, member_is, member_next, member_fits}
 use Rattle.mailbox_table.proofs.readers.Readers.one.Goals as goal
 

@@ -1,4 +1,4 @@
-/* Luspemaro's entries for C and C++, as `rt staticlib exports` puts them into target/staticlib/libexports.a, for x86-64.
+/* Luspemaro's entries for C and C++, as `tools/kit archive` puts them into target/staticlib/libexports.a, for x86-64.
  *
  * Every entry takes any bytes and any numbers, and its result and every byte of lent memory are decided by a promise that is proved
  * (crates/exports). What the caller owes:

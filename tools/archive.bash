@@ -10,14 +10,6 @@ archive=$archives/libexports.a
 # As ./install names it.
 [ -r "$archive" ] || [ ! -r "$archives/libluspemaro.a" ] || archive=$archives/libluspemaro.a
 
-# Makes the archive of what is proved, where there is none or the crates are not those that it was made of, since making it proves
-# `exports` again. What rt says is printed.
-make_archive() {
-    local made=$root/target/staticlib/exports.stamp
-    if [ -f "$root/target/staticlib/libexports.a" ] && cmp -s "$root/target/stamp/exports" "$made"; then return; fi
-    (cd "$root" && rt staticlib exports 2>&1 </dev/null) && cp "$root/target/stamp/exports" "$made"
-}
-
 # Proves the library and makes its archive. A crate that has not changed is not proved again. An archive that LUSPEMARO_ARCHIVE_DIR
 # names is taken as it is, and where all is installed, nothing is built.
 build_archive() {
@@ -31,8 +23,7 @@ build_archive() {
     if is_current "$archive" "$files"; then return; fi
     needs rt 'the Rattle kit proves the library and makes its archive'
     say 'proving the library, as far as it has changed; the first time this takes some 6 minutes'
-    log=$(cd "$root" && rt check exports 2>&1 </dev/null) || failed "$log"
-    log=$(make_archive) || failed "$log"
+    log=$("$root/tools/kit" archive 2>&1 </dev/null) || failed "$log"
     set_stamp "$archive" "$files"
 }
 

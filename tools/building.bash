@@ -40,7 +40,8 @@ needs() { # COMMAND WHAT
 }
 
 # A stamp is what a file was built from and what it is: the sum of the files, and its own sum. Files that are the same have the same
-# stamp, however they came here: a name counts from the repository's folder on, and a file from elsewhere has none.
+# stamp, however they came here: a name counts from the repository's folder on, and a file from elsewhere has none. What the kit keeps in
+# the folder out/ of a crate is left out.
 sum_of_files() { # PATH..
     local path names=() others=()
     for path in "$@"; do
@@ -53,7 +54,7 @@ sum_of_files() { # PATH..
     (
         cd "$root" || exit
         {
-            find "${names[@]}" -type f -print0 | sort -z | xargs -0 sha256sum
+            find "${names[@]}" -regex 'crates/[^/]*/out' -prune -o -type f -print0 | sort -z | xargs -0 sha256sum
             for path in "${others[@]}"; do sha256sum <"$path"; done
         } | sha256sum
     ) 2>/dev/null
@@ -114,36 +115,18 @@ build_host() { # PACKAGE NAME CONSEQUENCE PATH..
     set_stamp "$program" "$files"
 }
 
-# How many crates of the repository one crate is proved with, itself among them.
-count_crates() { # NAME
-    local todo=("$1") seen=' ' name count=0
-    while [ "${#todo[@]}" -gt 0 ]; do
-        name=${todo[0]}
-        todo=("${todo[@]:1}")
-        case $seen in *" $name "*) continue ;; esac
-        if ! grep -q "^$name:" "$root/crates.txt"; then continue; fi
-        seen="$seen$name "
-        count=$((count + 1))
-        # shellcheck disable=SC2207
-        todo+=($(sed -n "s/^$name://p" "$root/crates.txt"))
-    done
-    printf '%s\n' "$count"
-}
-
-# What rt says, as one line for each crate that it has proved. The lines of single functions and the prover's notes are left
-# out; what is refused is shown.
+# What tools/kit says, as one line for each crate that it has proved now. What else it says is shown, as what is refused.
 show_progress() { # COUNT
     local line words done=0
     while IFS= read -r line || [ -n "$line" ]; do
         read -ra words <<<"$line "
         case $line in
-        'rt: '*' proved ('*)
+        'kit: '*' proved ('*)
             done=$((done + 1))
             case $line in *'(unchanged since'*) continue ;; esac
             say "$done of $1: ${words[1]} proved ${words[*]:3}"
             ;;
-        *': proved' | *': note: '* | 'note: '* | 'rt: ok,'* | 'rt: '*' ran'*', and wrote what '* | '') ;;
-        'logic '* | 'logic='* | 'library '* | 'linked'* | 'axioms '*) ;;
+        'kit: ok,'*) ;;
         *) printf '%s\n' "$line" ;;
         esac
     done
@@ -160,11 +143,10 @@ build_program() {
     needs rt 'the Rattle kit proves and builds the program'
     if [ ! -x "$proved" ]; then
         say 'proving and building the program; the first time this takes some 5 minutes'
-        rm -f "$root/target/stamp/luspemaro"
     else
         say 'the program was not built by this command, or files have changed; what has changed is proved again'
     fi
-    (cd "$root" && rt check luspemaro) </dev/null 2>&1 | show_progress "$(count_crates luspemaro)" >&2
+    "$root/tools/kit" check luspemaro </dev/null 2>&1 | show_progress "$("$root/tools/kit" list luspemaro | wc -l)" >&2
     if [ "${PIPESTATUS[0]}" -ne 0 ] || [ ! -x "$proved" ]; then
         failed 'the program is not proved, so nothing was run'
     fi

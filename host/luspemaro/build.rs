@@ -1,5 +1,5 @@
-//! Finds the static archive of the crate `exports`, which `rt staticlib exports` makes and `./install` puts into
-//! place as `libluspemaro.a`.
+//! Finds the proved library's static archive, which `tools/kit archive` makes and `./install` puts into place as
+//! `libluspemaro.a`.
 //!
 //! It is looked for in the folder that LUSPEMARO_ARCHIVE_DIR names, under either name; or else in
 //! `target/staticlib` of this repository, from this package on, so that a copy of the repository links its
@@ -29,7 +29,7 @@ fn main() {
     if !has(&folder, name) {
         // Checking the code needs no archive; linking it then fails for want of it.
         let message =
-            "is missing: run `rt staticlib exports` in the repository's folder first, or ./install";
+            "is missing: run `tools/kit archive` in the repository's folder first, or ./install";
         println!("cargo:warning={} {message}", file_name(name));
     }
     println!("cargo:rustc-link-search=native={}", folder.display());

@@ -6,7 +6,6 @@ ghost use Rattle.io.specs.Counts.{IsPrefixLen, clamp_len};
 ghost use Rattle.luspemaro.specs.declared.calls.Got.TheVariants.{End, Failed};
 ghost use Rattle.luspemaro.specs.Calling.{is_repeated, Moved, Fails, GotSome, Leaves, Sends};
 
-use std::alloc::AllocError;
 use std::io::{Error, Read, Write};
 use std::thread;
 use std::time::Duration;
@@ -43,7 +42,7 @@ struct Called {
     error: i32,
 }
 
-// Waits a thousandth of a second, or until a signal comes.
+// Waits a thousandth of a second.
 fn pause(rt: &HostRuntime) {
     thread::sleep(rt, Duration::from_millis(1));
 }
@@ -91,7 +90,11 @@ fn write_to(rt: &HostRuntime, descriptor: i32, bytes: &[u8]) -> Called
     requires { descriptor ≡ pos 1 }
     ensures { Moved (length bytes.now) result.answer }
 {
-    let moved = rt.stdout().write(bytes);
+    if descriptor == STDOUT_FILENO {
+        let moved = rt.stdout().write(bytes);
+        return answer_of(moved, bytes.len());
+    }
+    let moved = rt.stderr().write(bytes);
     answer_of(moved, bytes.len())
 }
 
@@ -201,31 +204,40 @@ pub(crate) fn send(rt: &HostRuntime, out: &[u8], written: usize) -> Sent
     }
 }
 
-// One line on standard error: what failed, the number of the frame, and why, as the system puts it. Where there is no memory for the
-// line it goes out without the reason.
+// One line on standard error: what failed, the number of the frame, and why, as the system puts it.
 pub(crate) fn tell(rt: &HostRuntime, what: &[u8], frame: usize, error: i32) {
     let mut digits = [0u8; 20];
     let n = io::decimal(frame as u64, &mut digits);
-    let mut text = [0u8; 64];
+    let mut text = [0u8; 256];
     let at = octets::put_all(&mut text, 0, what);
     let to = octets::put_all(&mut text, at, &digits[..n]);
     let len = at_most(to, &text);
+    let end = put_reason(&mut text[len..], error);
+    let said = at_most(octets::advance(len, end), &text);
     let mut stream = rt.stderr();
-    let _said = stream.write_all(&text[..len]);
-    let _why = tell_why(rt, error);
-    let _end = stream.write_all(b"\n");
+    let _told = stream.write_all(&text[..said]);
+    let _ended = stream.write_all(b"\n");
 }
 
-// The reason of a failure on standard error, after a colon.
-fn tell_why(rt: &HostRuntime, error: i32) -> Result<(), AllocError> {
-    let whole = format!(in rt.alloc(); ": {}", Error::from_raw_os_error(error))?;
-    let text = whole.as_str();
-    let reason = match text.rsplit_once(" (os error ") {
-        Some((reason, _)) => reason,
-        None => text,
-    };
-    let _said = rt.stderr().write_all(reason.as_bytes());
-    Ok(())
+// The reason of a failure at the front of the text, after a colon, without the number that std puts behind it; and how many bytes it has.
+fn put_reason(text: &mut [u8], error: i32) -> usize {
+    let room = text.len();
+    let mut rest = &mut *text;
+    let _put = write!(rest, ": {}", Error::from_raw_os_error(error));
+    let left = rest.len();
+    before_number(text, room.saturating_sub(left))
+}
+
+// Where the number begins that ends the first n bytes of the text, as " (os error 28)" does; n where there is none.
+fn before_number(text: &[u8], n: usize) -> usize {
+    let mut k = at_most(n, text);
+    while 0 < k {
+        k -= 1;
+        if text[k] == b'(' {
+            return k.saturating_sub(1);
+        }
+    }
+    n
 }
 
 // A number of the text's bytes: n, or all of them.

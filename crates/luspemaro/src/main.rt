@@ -12,7 +12,7 @@
 // The calls are those of the kit's std: reading standard input, writing standard output and standard error, and waiting. No contract of
 // theirs says which bytes a call moves, or what a descriptor is: what is promised here is what lies in the memory before a write and after
 // a read, which slice and which number are handed over, and what is made of the answer. That `main` calls `run`, and what stands on
-// standard error, is tried (`tools/io-trials`).
+// standard error, is tried (`tools/io-trials`). A reader that goes away ends the program by SIGPIPE, unless that is ignored.
 #![tactic(auto)]
 
 mod calls;

@@ -30,6 +30,28 @@ pub fn output_for(mut command: Command, input: &[u8]) -> Output {
     output
 }
 
+/// A new folder among the temporary files, which goes with this value. A tree with crates stands there, since the kit refuses a list of
+/// crates, and a source of one, anywhere else in the repository, below `target` too.
+pub struct TemporaryFolder(PathBuf);
+
+impl TemporaryFolder {
+    pub fn new(name: &str) -> TemporaryFolder {
+        let folder = env::temp_dir().join(format!("luspemaro-{}-{name}", process::id()));
+        fs::create_dir(&folder).expect("a new folder");
+        TemporaryFolder(folder)
+    }
+
+    pub fn join(&self, name: &str) -> PathBuf {
+        self.0.join(name)
+    }
+}
+
+impl Drop for TemporaryFolder {
+    fn drop(&mut self) {
+        let _ = fs::remove_dir_all(&self.0);
+    }
+}
+
 /// A path in a folder that no other call gives. No file is there.
 pub fn new_path(folder: &str, name: &str) -> PathBuf {
     static NUMBER: AtomicUsize = AtomicUsize::new(0);

@@ -48,7 +48,7 @@
 //! # Ok::<(), Refusal>(())
 //! ```
 //!
-//! `rt staticlib exports` makes the archive; the build script finds it.
+//! `tools/kit archive` makes the archive; the build script finds it.
 
 #![warn(missing_docs)]
 

@@ -67,7 +67,10 @@ fn what_is_not_proved() {
     let (agrees, ..) = nights();
     for (proof, reason) in [
         (proof("not-proved", ""), "not proved: two"),
-        (proof("proved", "trouble\trt check ends with status 1\n"), "rt check ends with status 1"),
+        (
+            proof("proved", "trouble\tthe check ends with status 1\n"),
+            "the check ends with status 1",
+        ),
         (proof("proved", "sum\tprogram\tthe program\t\n"), "the program has no sum"),
         (proof("proved", "").replace("kit\tk 1\n", ""), "the kit has no identity"),
         ("kit\tk\nend\n".to_string(), "no crate was looked at"),

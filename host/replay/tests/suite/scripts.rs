@@ -1,10 +1,10 @@
 //! `./verify` and `./replay` in a tree of its own, with stand-ins for `rt` and `cargo`.
 
 use std::fs;
-use std::path::{Path, PathBuf};
+use std::path::PathBuf;
 use std::process::{Command, Output};
 
-use child::testing::write_program;
+use child::testing::{write_program, TemporaryFolder};
 use formats::sha256::sum_of_bytes;
 
 use crate::common::*;
@@ -13,35 +13,39 @@ const VERIFY: &str = include_str!("../../../../verify");
 const SCRIPT: &str = include_str!("../../../../replay");
 const BUILDING: &str = include_str!("../../../../tools/building.bash");
 const ARCHIVE: &str = include_str!("../../../../tools/archive.bash");
+const KIT: &str = include_str!("../../../../tools/kit");
 
-/// What `rt` does: it says that three crates are proved, and makes what it is asked for.
+/// What `rt` does: it makes what it is asked for, and says that the crate in whose folder it runs is proved, unless it is told to do
+/// something else first.
 const RT: &str = r#"#!/bin/sh
+crate=${PWD##*/}
 case "$1" in
 version) echo 'kit 5 of a test' && exit ;;
-check) mkdir -p target/bin target/stamp && echo program >target/bin/luspemaro && echo stamp >target/stamp/exports ;;
-staticlib) mkdir -p target/staticlib && echo archive >target/staticlib/libexports.a ;;
+run) exec >&2; mkdir -p out && echo program >out/luspemaro ;;
+lib) mkdir -p out && echo archive >"out/lib$crate.a" ;;
 esac
 echo 'fn alpha::f: proved'
 "#;
-const ALL_PROVED: &str = "echo 'rt: alpha proved (3 s)'\necho 'rt: exports proved (unchanged since it was last proved)'\n\
-                          echo 'rt: luspemaro proved (12 s)'\n";
+const PROVED: &str = "echo 'logic=proved functions=1'\n";
 
 /// A tree with the scripts in it, and beside it the folder of the stand-ins.
 struct Tree {
     root: PathBuf,
     stand_ins: PathBuf,
+    _folder: TemporaryFolder,
 }
 
 impl Tree {
-    fn new(name: &str, rt_says: &str) -> Tree {
-        let folder = Path::new(env!("CARGO_TARGET_TMPDIR")).join("replay-trees").join(name);
-        if folder.exists() {
-            fs::remove_dir_all(&folder).expect("a folder that is gone");
-        }
-        let tree = Tree { root: folder.join("tree"), stand_ins: folder.join("bin") };
-        tree.write("crates.txt", "# A comment.\nalpha:\nexports: alpha\nluspemaro: alpha io\n");
-        for part in ["alpha", "exports", "luspemaro"] {
-            tree.write(&format!("crates/{part}/src/lib.rt"), "fn f() {}\n");
+    fn new(name: &str, rt_does: &str) -> Tree {
+        let folder = TemporaryFolder::new(name);
+        let tree =
+            Tree { root: folder.join("tree"), stand_ins: folder.join("bin"), _folder: folder };
+        tree.write(
+            "crates.txt",
+            "# A comment.\nalpha:\nbeta: alpha\nexports_c staticlib: alpha\nluspemaro: alpha io\n",
+        );
+        for part in ["alpha/src/lib", "beta/src/lib", "exports_c/src/lib", "luspemaro/src/main"] {
+            tree.write(&format!("crates/{part}.rt"), "fn f() {}\n");
         }
         for part in ["child", "second", "session", "luspemaro", "serve", "replay"] {
             tree.write(&format!("host/{part}/src/lib.rs"), "");
@@ -52,10 +56,11 @@ impl Tree {
         tree.write("host/nights/customers.frames", &read(BUNDLED.as_ref()));
         tree.write("tools/building.bash", BUILDING);
         tree.write("tools/archive.bash", ARCHIVE);
+        write_program(&tree.root.join("tools/kit"), KIT);
         write_program(&tree.root.join("verify"), VERIFY);
         write_program(&tree.root.join("replay"), SCRIPT);
         fs::create_dir_all(&tree.stand_ins).expect("a folder");
-        write_program(&tree.stand_ins.join("rt"), &format!("{RT}{rt_says}"));
+        write_program(&tree.stand_ins.join("rt"), &format!("{RT}{rt_does}\n{PROVED}"));
         let place = tree.root.join("target/host/release");
         let cargo = format!("#!/bin/sh\nmkdir -p {0} && cp {REPLAY} {0}/replay\n", place.display());
         write_program(&tree.stand_ins.join("cargo"), &cargo);
@@ -86,12 +91,13 @@ impl Tree {
 
 #[test]
 fn everything_is_verified() {
-    let tree = Tree::new("verified", ALL_PROVED);
+    let tree = Tree::new("verified", "");
+    assert_eq!(tree.call("tools/kit", &["check", "beta"]).status.code(), Some(0));
     let output = tree.call("verify", &[]);
     let (told, page) = (text(&output.stdout), tree.page());
     assert_eq!(output.status.code(), Some(0), "{told}{}", text(&output.stderr));
     assert!(
-        told.contains("Crates     3: 2 proved in this run, 1 proved before and unchanged since, 0 not proved\n"),
+        told.contains("Crates     4: 2 proved in this run, 2 proved before and unchanged since, 0 not proved\n"),
         "{told}"
     );
     assert!(
@@ -118,35 +124,29 @@ fn everything_is_verified() {
 /// One crate that is not proved, or of which nothing is said, is enough.
 #[test]
 fn what_is_not_proved_is_not_verified() {
-    let without = ALL_PROVED.replace("echo 'rt: alpha proved (3 s)'\n", "");
-    let changes = "[ $1 != check ] || echo >>crates/alpha/src/lib.rt\n";
-    for (name, says, reason) in [
-        ("silent", without.clone(), "not proved: alpha"),
-        (
-            "fails",
-            without + "echo 'rt: FAILED: alpha'\n[ \"$1 $2\" != 'check ' ] || exit 1\n",
-            "rt check ends with status 1",
-        ),
+    let of_beta = "[ $crate != beta ] || ";
+    for (name, does, reason) in [
+        ("silent", format!("{of_beta}exit 0"), "not proved: beta"),
+        ("fails", format!("{of_beta}exit 1"), "tools/kit check ends with status 1"),
         (
             "runs",
-            ALL_PROVED
-                .replace("luspemaro proved (12 s)", "luspemaro proved, and its run FAILED (1 s)"),
+            format!("[ $1 != run ] || {{ {PROVED}echo 'rt: running out/luspemaro'; exit 1; }}"),
             "not proved: luspemaro",
         ),
         (
             "changes",
-            format!("{ALL_PROVED}{changes}"),
+            format!("{of_beta}echo >>src/lib.rt"),
             "files of a crate have changed since it was proved",
         ),
     ] {
-        let tree = Tree::new(name, &says);
+        let tree = Tree::new(name, &does);
         let output = tree.call("verify", &[]);
         let told = text(&output.stdout);
         assert_eq!(output.status.code(), Some(4), "{name} {told}{}", text(&output.stderr));
         assert!(told.contains(reason) && told.contains("\nNot verified.\n"), "{name} {told}");
         assert!(!tree.page().contains(">verified: "), "{name}");
     }
-    let tree = Tree::new("no-library", "[ \"$1 $2\" != 'check exports' ] || exit 1\n");
+    let tree = Tree::new("no-library", "[ $crate != exports_c ] || exit 1");
     let output = tree.call("verify", &[]);
     assert_eq!(output.status.code(), Some(4));
     assert!(text(&output.stderr).contains("so nothing is verified"), "{}", text(&output.stderr));
@@ -155,7 +155,7 @@ fn what_is_not_proved_is_not_verified() {
 
 #[test]
 fn nights_of_ones_own() {
-    let tree = Tree::new("nights", ALL_PROVED);
+    let tree = Tree::new("nights", "");
     let (heading, mut frames) = split_record(&read(BUNDLED.as_ref()));
     tree.write("table.frames", &heading);
     tree.write("night.frames", &(frames.join("\n") + "\n"));
@@ -188,7 +188,7 @@ fn nights_of_ones_own() {
 /// `./replay` is the word of the proved library only where that was proved here, whatever the call says.
 #[test]
 fn who_built_the_library() {
-    let tree = Tree::new("replays", ALL_PROVED);
+    let tree = Tree::new("replays", "");
     let night = "host/nights/customers.frames";
     let output = tree.call("replay", &["--report", "page.html", night]);
     assert_eq!(output.status.code(), Some(0), "{}", text(&output.stderr));

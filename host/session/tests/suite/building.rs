@@ -6,50 +6,52 @@ use std::os::unix::fs::MetadataExt;
 use std::path::{Path, PathBuf};
 use std::process::{Command, Output};
 
-use child::testing::write_program;
+use child::testing::{write_program, TemporaryFolder};
 use formats::sha256::sum_of_bytes;
 
 use crate::common::{second, told, SESSION};
 
 const RUN: &str = include_str!("../../../../run");
 
-/// What `run` reads.
+/// What `run` reads, and what it calls.
 const BUILDING: &str = include_str!("../../../../tools/building.bash");
+const KIT: &str = include_str!("../../../../tools/kit");
 
 /// What `tools/walker` is, and what it reads.
 const WALKER: &str = include_str!("../../../../tools/walker");
 const ARCHIVE: &str = include_str!("../../../../tools/archive.bash");
 
-/// What `rt` says when it proves two crates: notes, functions, sums, and a line for each crate.
+/// What `rt` says when it proves a crate: notes, functions, sums, and the line that counts. Of a program that stands on standard error.
 const RT_SAYS: &str = r#"
-echo 'crates/alpha/proofs/f/Proof.antt:87:7: note: large solution: the implicit argument {ys}'
+[ "$1" != version ] || { echo 'kit 5 of a test'; exit; }
+exec 3>&1
+[ "$1" != run ] || exec 3>&2
+echo 'proofs/f/Answers.antt:87:7: note: large solution: the implicit argument {ys}' >&3
 echo 'fn alpha::f: proved' >&2
-echo 'logic /kit/logic: libraries=16 files=1438 sum=064d'
-echo 'library alpha: modules loaded=909 checked=0'
-echo 'note: no function with a body is declared, so nothing was lowered'
-echo 'axioms libc: libc::read, libc::write (2 of the 50 declared)'
-echo 'rt: alpha proved (3 s)'
-echo 'rt: beta proved (unchanged since it was last proved)'
-echo 'rt: luspemaro proved (1 s)'
-echo "rt: luspemaro ran as nobody, and wrote what its file 'stdout' has (1 s)"
-echo 'rt: ok, 3 crates proved'
+echo 'logic /kit/logic: libraries=16 files=1438 sum=064d' >&3
+echo 'library alpha: modules loaded=909 checked=0' >&3
+echo 'axioms libc: libc::read, libc::write (2 of the 50 declared)' >&3
+[ ! -f ../../refused ] || . ../../refused
+echo 'logic=proved functions=1 logic-built=trusted' >&3
+[ "$1" != run ] || echo 'rt: running out/luspemaro' >&2
 "#;
 
 /// A tree with `run` in it, and beside it the folder of the stand-ins.
 pub struct Tree {
     pub root: PathBuf,
     stand_ins: PathBuf,
+    _folder: TemporaryFolder,
 }
 
 impl Tree {
     pub fn new(name: &str) -> Tree {
-        let folder = Path::new(env!("CARGO_TARGET_TMPDIR")).join(name);
-        if folder.exists() {
-            fs::remove_dir_all(&folder).expect("a folder that is gone");
+        let folder = TemporaryFolder::new(name);
+        let tree =
+            Tree { root: folder.join("tree"), stand_ins: folder.join("bin"), _folder: folder };
+        tree.write("crates.txt", "# A comment.\nalpha:\nluspemaro: beta io\nbeta: alpha\nother:\n");
+        for part in ["alpha/src/lib.rt", "beta/src/lib.rt", "luspemaro/src/main.rt"] {
+            tree.write(&format!("crates/{part}"), "fn f() {}\n");
         }
-        let tree = Tree { root: folder.join("tree"), stand_ins: folder.join("bin") };
-        tree.write("crates.txt", "# A comment.\nalpha:\nbeta: alpha\nluspemaro: beta io\nother:\n");
-        tree.write("crates/alpha/src/lib.rt", "fn f() {}\n");
         tree.write("host/Cargo.toml", "[workspace]\n");
         tree.write("host/Cargo.lock", "version = 4\n");
         for part in ["child", "second", "session"] {
@@ -57,17 +59,13 @@ impl Tree {
         }
         tree.write("host/sessions/customers.session", "walk\n");
         tree.write("tools/building.bash", BUILDING);
+        tree.program(&tree.root.join("tools/kit"), KIT);
         tree.program(&tree.root.join("run"), RUN);
-        let log = folder.join("calls");
         let copy = |from: &Path, to: &str| {
             let folder = Path::new(to).parent().expect("a folder").display();
             format!("mkdir -p {folder} && cp {} {to}", from.display())
         };
-        let rt = format!(
-            "echo rt $* >>{}\n{RT_SAYS}{}",
-            log.display(),
-            copy(&second(), "target/bin/luspemaro")
-        );
+        let rt = format!("{RT_SAYS}[ $1 != run ] || {{ {}; }}", copy(&second(), "out/luspemaro"));
         tree.program(&tree.stand_ins.join("rt"), &format!("#!/bin/sh\n{rt}\n"));
         let session = tree.root.join("target/host/release/session");
         let cargo = copy(Path::new(SESSION), session.to_str().expect("text"));
@@ -120,25 +118,51 @@ impl Tree {
     }
 }
 
+/// What was told, without the seconds that it took.
+fn told_of_none(output: &Output) -> String {
+    let mut told = told(output);
+    while let Some((before, rest)) = told.split_once(" proved (") {
+        let (seconds, after) = rest.split_once(" s)").expect("seconds");
+        assert!(seconds.parse::<u32>().is_ok(), "{rest}");
+        told = format!("{before} proved{after}");
+    }
+    told
+}
+
 fn check_walk(output: &Output) {
     assert_eq!(output.status.code(), Some(0), "{}", told(output));
     let text = String::from_utf8(output.stdout.clone()).expect("text");
     assert!(text.starts_with("Walk       option byte 0\nAnswer     1 command sent"), "{text}");
 }
 
-/// One line for each crate that is proved, without the prover's notes.
+/// One line for each crate that is proved, the lowest first, without the prover's notes; later for those alone that have changed, and
+/// those that stand on them.
 #[test]
 fn the_first_build() {
-    let output = Tree::new("first").run(true);
+    let tree = Tree::new("first");
+    let output = tree.run(true);
     check_walk(&output);
     assert_eq!(
-        told(&output),
+        told_of_none(&output),
         concat!(
             "run: building the reader of sessions; the first time this takes some 20 seconds\n",
             "run: proving and building the program; the first time this takes some 5 minutes\n",
-            "run: 1 of 3: alpha proved (3 s)\n",
-            "run: 3 of 3: luspemaro proved (1 s)\n",
+            "run: 1 of 3: alpha proved\n",
+            "run: 2 of 3: beta proved\n",
+            "run: 3 of 3: luspemaro proved\n",
         )
+    );
+    tree.write("crates/beta/src/lib.rt", "fn g() {}\n");
+    let output = tree.run(true);
+    check_walk(&output);
+    assert!(
+        told_of_none(&output).ends_with(concat!(
+            "what has changed is proved again\n",
+            "run: 2 of 3: beta proved\n",
+            "run: 3 of 3: luspemaro proved\n"
+        )),
+        "{}",
+        told(&output)
     );
 }
 
@@ -179,22 +203,47 @@ fn what_has_changed_is_built_again() {
     check_walk(&tree.run(true));
 }
 
-/// What the prover refuses is shown, and nothing is run.
+/// What the prover refuses is shown, and nothing is run. A crate is proved only if rt says so and nothing that speaks against it, over files
+/// that stay as they are; a program also has to write what its file `stdout` has.
 #[test]
 fn a_program_that_is_not_proved() {
     let tree = Tree::new("refused");
-    let rt = "#!/bin/sh\necho 'rt: alpha proved (3 s)'\necho 'src/lib.rt:1:1: error: no proof'\necho 'rt: beta NOT PROVED'\nexit 1\n";
-    tree.program(&tree.stand_ins.join("rt"), rt);
-    let output = tree.run(true);
-    assert_eq!((output.status.code(), output.stdout.len()), (Some(1), 0));
-    let told = told(&output);
-    let end = concat!(
-        "run: 1 of 3: alpha proved (3 s)\n",
-        "src/lib.rt:1:1: error: no proof\n",
-        "rt: beta NOT PROVED\n",
-        "run: the program is not proved, so nothing was run\n",
-    );
-    assert!(told.ends_with(end), "{told}");
+    let of_beta = "[ \"${PWD##*/}\" != beta ] || ";
+    let above = "kit: luspemaro NOT PROVED: beta, below it, is not\nkit: FAILED: beta luspemaro\n";
+    let refused_word = "NOT PROVED: the last line of its check has a word that rt ci refuses";
+    let changed = "NOT PROVED: files changed while it was proved";
+    for (rt, end) in [
+        (
+            format!("{of_beta}{{ echo 'src/lib.rt:1:1: error: no proof'; exit 1; }}"),
+            format!("src/lib.rt:1:1: error: no proof\nkit: beta NOT PROVED\n{above}"),
+        ),
+        (
+            format!("{of_beta}exit 0"),
+            format!("kit: beta NOT PROVED: rt does not say that it is\n{above}"),
+        ),
+        (
+            format!("{of_beta}{{ echo 'logic=proved functions=1 hides=1'; exit; }}"),
+            format!("kit: beta {refused_word}\n{above}"),
+        ),
+        (
+            format!("{of_beta}echo >>../alpha/src/lib.rt"),
+            format!("logic=proved functions=1 logic-built=trusted\nkit: beta {changed}\n{above}"),
+        ),
+        (
+            "[ \"$1\" != run ] || echo more".to_string(),
+            "kit: luspemaro proved, and its run FAILED\nkit: FAILED: luspemaro\n".to_string(),
+        ),
+    ] {
+        tree.write("refused", &rt);
+        let output = tree.run(true);
+        assert_eq!((output.status.code(), output.stdout.len()), (Some(1), 0), "{rt}");
+        let told = told(&output);
+        let end = format!("{end}run: the program is not proved, so nothing was run\n");
+        assert!(told.ends_with(&end), "{rt}: {told}");
+        assert!(!tree.root.join("target/bin/luspemaro").exists());
+    }
+    tree.write("refused", "");
+    check_walk(&tree.run(true));
 }
 
 /// Output that is full or closed is told, with status 1.
@@ -242,8 +291,10 @@ fn walker_tree() -> (Tree, PathBuf) {
     }
     let script = tree.root.join("tools/walker");
     tree.program(&script, WALKER);
-    let rt = "#!/bin/sh\nmkdir -p target/stamp target/staticlib\necho 1 >target/stamp/exports\n\
-              echo $1 >target/staticlib/libexports.a\n";
+    tree.write("crates.txt", "alpha:\nexports_c staticlib: alpha\n");
+    tree.write("crates/exports_c/src/lib.rt", "fn f() {}\n");
+    let rt = "#!/bin/sh\n[ $1 != version ] || exit 0\nmkdir -p out\necho $1 >out/lib${PWD##*/}.a\n\
+              echo logic=proved functions=1\n";
     tree.program(&tree.stand_ins.join("rt"), rt);
     let built = tree.root.join("target/host/release/walker");
     let stub = "printf '#!/bin/sh\\necho walked $*\\n' >";
@@ -268,11 +319,11 @@ fn the_walker_is_built_once() {
     };
     let path = format!("{}:/usr/bin:/bin", tree.stand_ins.display());
     let output = run(&path, "--build");
-    let sum = sum_of_bytes(b"staticlib\n");
+    let sum = sum_of_bytes(b"lib\n");
     let ready = |whose: &str| format!("library {whose} {sum}\nwalked --build\n").into_bytes();
     assert_eq!(output.stdout, ready("proved"), "{}", told(&output));
     let archive = fs::read_to_string(tree.root.join("target/staticlib/libexports.a"));
-    assert_eq!(archive.expect("an archive"), "staticlib\n");
+    assert_eq!(archive.expect("an archive"), "lib\n");
     // An archive that is named is taken as it is, and that is what is said of it.
     let mut named = Command::new(&script);
     named.arg("--build").env("PATH", &path);

@@ -134,6 +134,7 @@ fn never_over_the_repository() {
         "host/second/src/lib.rs",
         "host/sessions/customers.session",
         "tools/building.bash",
+        "tools/kit",
         "target/bin/luspemaro",
         "target/run/luspemaro.stamp",
         "target/host/release/session",

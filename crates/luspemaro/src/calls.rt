@@ -1,7 +1,7 @@
 // The calls of the system, made again where they were interrupted or would have blocked.
 
-ghost use Rattle.std.specs.Prelude.{◌≤◌, ◌≡◌, pos, drop, length};
-ghost use Rattle.std.specs.Result.{ForOk};
+ghost use Rattle.std.specs.Prelude.{◌^◌, ◌<◌, ◌≤◌, ◌≡◌, pos, negsuc, drop, length};
+ghost use Rattle.std.specs.Result.{ForOk, ForErr};
 ghost use Rattle.io.specs.Counts.{IsPrefixLen, clamp_len};
 ghost use Rattle.luspemaro.specs.declared.calls.Got.TheVariants.{End, Failed};
 ghost use Rattle.luspemaro.specs.Calling.{is_repeated, Moved, Fails, GotSome, Leaves, Sends};
@@ -58,14 +58,17 @@ fn is_to_be_repeated(rt: &HostRuntime, error: i32) -> bool
     error == EINTR
 }
 
-// The answer of a call that was handed so many bytes, as the system gives it.
+// The answer of a call that was handed so many bytes, as the system gives it: the very count, or -1.
 fn answer_of(moved: std::io::Result<usize>, most: usize) -> Called
-    requires { ForOk moved (λ n. n ≤ most) }
-    ensures { Moved most result.answer }
+    requires within { ForOk moved (λ n. n ≤ most) }
+    requires small { most < 2 ^ 63 }
+    ensures bounded { Moved most result.answer }
+    ensures count { ForOk moved (λ n. result.answer ≡ pos n) }
+    ensures failed { ForErr moved (λ e. result.answer ≡ negsuc 0) }
 {
     match moved {
         Ok(n) => Called {
-            answer: isize::try_from(n).unwrap_or(isize::MAX),
+            answer: n as isize,
             error: 0,
         },
         Err(e) => Called {

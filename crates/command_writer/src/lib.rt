@@ -18,8 +18,7 @@ ghost use Rattle.listing_rules.specs.Joining.{can_stand, joined_line, joined_tex
 ghost use Rattle.octets.specs.Put.{Put};
 ghost use Rattle.octets.specs.Written.{Gives};
 
-use octets::refusals::{GRAMMAR, LINE_SHAPE, OPTION, PATTERNS, RECURSIVEMATCH_ALONE, SHORT_BUFFER};
-use octets::{Written, put, put_all};
+use octets::{Refusal, put, put_all};
 use options::Options;
 use patterns::{few_patterns, patterns_fill, patterns_stand, put_patterns};
 use strings::{can_stand, is_tag, put_string};
@@ -31,34 +30,40 @@ const MAX_LINE: usize = 2048;
 // The joined command at the front of the buffer. Refused, in this order: 3 where no line holds it, 4 for what is no tag or no such list
 // of patterns, 6 for what is no set of options, 7 for RECURSIVEMATCH with neither SUBSCRIBED nor SPECIAL-USE, 8 for more than eight
 // patterns or a canonical pattern that is too long, 9 for a short buffer. A refusal changes no byte, and the bytes after the line stay.
-pub fn join(tag: &[u8], options: u8, reference: &[u8], patterns: &[u8], out: &mut [u8]) -> Written
+pub fn join(
+    tag: &[u8],
+    options: u8,
+    reference: &[u8],
+    patterns: &[u8],
+    out: &mut [u8],
+) -> Result<usize, Refusal>
     ensures { Gives (joined_line tag.now options reference.now patterns.now) out.old out.new result }
 {
     let set = Options { bits: options };
     let mut none = [0u8; 0];
     let need = put_join(&mut none, 0, tag, set, reference, patterns);
     if MAX_LINE < need {
-        return Written::Refused(LINE_SHAPE);
+        return Err(Refusal::LineShape);
     }
     if !all_stand(reference, patterns) {
-        return Written::Refused(LINE_SHAPE);
+        return Err(Refusal::LineShape);
     }
     if !is_grammatical(tag, patterns) {
-        return Written::Refused(GRAMMAR);
+        return Err(Refusal::Grammar);
     }
     if !set.is_known() {
-        return Written::Refused(OPTION);
+        return Err(Refusal::UnknownOption);
     }
     if !set.is_lawful() {
-        return Written::Refused(RECURSIVEMATCH_ALONE);
+        return Err(Refusal::RecursivematchAlone);
     }
     if !few_patterns(reference, patterns) {
-        return Written::Refused(PATTERNS);
+        return Err(Refusal::Patterns);
     }
     if out.len() < need {
-        return Written::Refused(SHORT_BUFFER);
+        return Err(Refusal::ShortBuffer);
     }
-    Written::Done(put_join(out, 0, tag, set, reference, patterns))
+    Ok(put_join(out, 0, tag, set, reference, patterns))
 }
 
 // Whether a line can hold the reference and every pattern.
@@ -73,7 +78,7 @@ fn is_grammatical(tag: &[u8], patterns: &[u8]) -> bool
     ensures { result ≡ (not (is_empty tag.now) && all tag_byte tag.now && not (is_empty patterns.now)
         && patterns_fill 0 patterns.now) }
 {
-    is_tag(tag) & !(patterns.len() == 0) & patterns_fill(patterns)
+    is_tag(tag) & !patterns.is_empty() & patterns_fill(patterns)
 }
 
 // The text of the command. Each local is the place after what it names.

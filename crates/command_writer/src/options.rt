@@ -2,12 +2,29 @@
 ghost use Rattle.std.specs.Prelude.{◌≡◌};
 ghost use Rattle.listing_rules.specs.Options.{lawful_options};
 ghost use Rattle.listing_rules.specs.Joining.{lawful_set, options_from, returns_any};
-ghost use Rattle.octets.specs.Sets.{contains};
+
+use octets::Members;
 
 // Member k is 2 to the k: the four of the selection, then the three of the return options.
 #[derive(Clone, Copy)]
 pub(crate) struct Options {
     pub bits: u8,
+}
+
+impl Members for Options {
+    ghost number = { λ s. s.bits };
+
+    ghost width = { 8 };
+
+    fn number(self) -> u16 {
+        u16::from(self.bits)
+    }
+
+    fn of_number(n: u16) -> Options {
+        Options {
+            bits: (n % 256) as u8,
+        }
+    }
 }
 
 impl Options {
@@ -27,13 +44,6 @@ impl Options {
 
     // All seven: the largest set.
     const ALL: Options = Options { bits: 127 };
-
-    // Whether every member of the other is in this one.
-    pub(crate) fn has(self, member: Options) -> bool
-        ensures { result ≡ contains self.bits member.bits }
-    {
-        self.bits & member.bits == member.bits
-    }
 
     // Whether it has no members but the seven.
     pub(crate) fn is_known(self) -> bool

@@ -89,7 +89,7 @@ pub(crate) fn patterns_stand(list: &[u8]) -> bool
 fn is_short(reference: &[u8], pattern: &[u8]) -> bool
     ensures { result ≡ short_after reference.now pattern.now }
 {
-    (pattern.len() == 0) | (advance(reference.len(), pattern.len()) <= MAX_CANONICAL)
+    pattern.is_empty() | (advance(reference.len(), pattern.len()) <= MAX_CANONICAL)
 }
 
 // Whether each canonical pattern is short enough.

@@ -44,49 +44,28 @@ fn is_line_byte(b: u8) -> bool
 pub(crate) fn is_tag(tag: &[u8]) -> bool
     ensures { result ≡ (not (is_empty tag.now) && all tag_byte tag.now) }
 {
-    !(tag.len() == 0) & all_of_tag(tag)
+    !tag.is_empty() & all_of_tag(tag)
 }
 
 // Whether every byte is one of a tag.
 fn all_of_tag(s: &[u8]) -> bool
     ensures { result ≡ all tag_byte s.now }
 {
-    let mut i = 0;
-    while i < s.len() {
-        if !is_tag_byte(s[i]) {
-            return false;
-        }
-        i += 1;
-    }
-    true
+    s.iter().all(|b| is_tag_byte(*b))
 }
 
 // Whether every byte may stand in quotes.
 fn all_of_line(s: &[u8]) -> bool
     ensures { result ≡ all line_byte s.now }
 {
-    let mut i = 0;
-    while i < s.len() {
-        if !is_line_byte(s[i]) {
-            return false;
-        }
-        i += 1;
-    }
-    true
+    s.iter().all(|b| is_line_byte(*b))
 }
 
 // Whether no byte is 00.
 fn all_not_zero(s: &[u8]) -> bool
     ensures { result ≡ all (λ b. not (eqb b 0)) s.now }
 {
-    let mut i = 0;
-    while i < s.len() {
-        if s[i] == 0 {
-            return false;
-        }
-        i += 1;
-    }
-    true
+    s.iter().all(|b| *b != 0)
 }
 
 // Whether a line can hold the string, in quotes or as a literal.

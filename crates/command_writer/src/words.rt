@@ -7,7 +7,7 @@ ghost use Rattle.octets.specs.Put.{Put};
 ghost use Rattle.command_writer.specs.Words.{return_words};
 
 use crate::options::Options;
-use octets::{put, put_all};
+use octets::{Members, put, put_all};
 
 // A list of words that is being written: the place after it, and whether it has no word yet.
 #[derive(Clone, Copy)]

@@ -69,10 +69,8 @@ fn name_bytes(name: &[u8]) -> bool
     ensures { result ≡ all name_byte name.now }
 {
     let mut ok = true;
-    let mut i = 0;
-    while i < name.len() {
-        ok = ok & name_byte(name[i]);
-        i += 1;
+    for b in name {
+        ok &= name_byte(*b);
     }
     ok
 }
@@ -83,10 +81,8 @@ fn slashes(name: &[u8]) -> u8
     ensures { result ≡ slash_count name.now }
 {
     let mut n: u8 = 0;
-    let mut i = 0;
-    while i < name.len() {
-        n += (name[i] == SLASH) as u8;
-        i += 1;
+    for b in name {
+        n += u8::from(*b == SLASH);
     }
     n
 }
@@ -96,10 +92,8 @@ fn no_pair(name: &[u8]) -> bool
     ensures { result ≡ no_pair name.now }
 {
     let mut ok = true;
-    let mut i = 1;
-    while i < name.len() {
-        ok = ok & !((name[i - 1] == SLASH) & (name[i] == SLASH));
-        i += 1;
+    for i in 1..name.len() {
+        ok &= !((name[i - 1] == SLASH) & (name[i] == SLASH));
     }
     ok
 }

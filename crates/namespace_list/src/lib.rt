@@ -113,15 +113,7 @@ fn is_lawful(class: u8, prefix: &[u8], delimiter: u8) -> bool
 fn is_printable(s: &[u8]) -> bool
     ensures { result ≡ all (within 32 126) s.now }
 {
-    let mut i = 0;
-    while i < s.len() {
-        let b = s[i];
-        if !((FIRST_PRINTED <= b) & (b <= LAST_PRINTED)) {
-            return false;
-        }
-        i += 1;
-    }
-    true
+    s.iter().all(|b| FIRST_PRINTED <= *b && *b <= LAST_PRINTED)
 }
 
 // A class: ` NIL`, or its entries in parentheses.

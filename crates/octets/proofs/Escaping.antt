@@ -1,6 +1,7 @@
 -- Quoted text byte by byte: what a byte is written as, and how long the text gets. Rests on the library alone.
 use Rattle.listing_rules.proofs.Prelude.{◌∙◌, ◌≡◌, ap, refl, Bool, ◌||◌, cond, false, true, List, [], ◌++◌, ◌∷◌, ◌+◌, ◌<◌, ◌≤◌, suc, ℕ, add-one}
 use Rattle.listing_rules.proofs.Prelude.{arith, eqb, drop, drop_of_length-le, get_or, length, length-append, drop-cons}
+use Rattle.std.specs.List.{filter}
 use Rattle.listing_rules.specs.Bytes.{quote, backslash}
 use Rattle.listing_rules.specs.Lines.{escaped}
 use Rattle.octets.specs.Escape.{escape_of}
@@ -27,6 +28,19 @@ escape_two b e = rw e
 
 pub escape_one : (b : ℕ) → (eqb b 34 || eqb b 92) ≡ false → length (escape_of b) ≡ 1
 escape_one b e = rw e
+
+-- what is longer in quotes is longer by the bytes that are escaped
+pub escaped_length : (s : List ℕ) → length s + length (filter (λ b. eqb b 34 || eqb b 92) s) ≡ length (escaped s)
+unfolding escaped
+escaped_length [] = refl
+escaped_length (b ∷ t) = go (eqb b 34 || eqb b 92) refl (escaped_length t)
+  where
+    longer : length (escaped (b ∷ t)) ≡ length (escape_of b) + length (escaped t)
+    longer = ap length (escaped_first b t) ∙ length-append (escape_of b) (escaped t)
+
+    go : (o : Bool) → (eqb b 34 || eqb b 92) ≡ o → length t + length (filter (λ x. eqb x 34 || eqb x 92) t) ≡ length (escaped t) → length (b ∷ t) + length (filter (λ x. eqb x 34 || eqb x 92) (b ∷ t)) ≡ length (escaped (b ∷ t))
+    go true e ih = rw e (omega (arith, longer, escape_two b e))
+    go false e ih = rw e (omega (arith, longer, escape_one b e))
 
 escape_some : (b : ℕ) → 0 < length (escape_of b)
 escape_some b = go (eqb b 34 || eqb b 92)

@@ -1,8 +1,18 @@
--- Two runs compared byte by byte, and a run compared in any case of letters: what is left from a place on decides.
--- Rests on the library alone.
-use Rattle.listing_rules.proofs.Prelude.{◌∙◌, ◌≡◌, ap, refl, sym, Bool, ◌&&◌, false, true, List, [], ◌∷◌, ◌+◌, ◌<◌, ◌≤◌, suc, ℕ, add-one, eqb, drop}
-use Rattle.listing_rules.proofs.Prelude.{drop_of_length-le, get_or, length, drop-cons, eq-eqb, ne_eqb}
+-- Two runs compared byte by byte, and a run compared in any case of letters, as `==` and `all` of the library compute them.
+use Rattle.listing_rules.proofs.Prelude.{arith, ◌∙◌, ◌≡◌, ap, refl, sym, Bool, ◌&&◌, false, true, List, [], ◌∷◌, suc, ℕ, eqb}
+use Rattle.listing_rules.proofs.Prelude.{length}
+use Rattle.std.specs.Prelude.{nat_eq}
+use Rattle.std.specs.List.{list_all, zip}
+use Rattle.std.specs.Cmp.Lexicographic.{pointwise}
 use Rattle.listing_rules.specs.Bytes.{same, spells, raise, raised}
+
+-- what `==` of two slices computes
+pub same_pointwise : (a b : List ℕ) → pointwise nat_eq a b ≡ same a b
+unfolding same
+same_pointwise [] [] = refl
+same_pointwise [] (y ∷ ys) = refl
+same_pointwise (x ∷ xs) [] = refl
+same_pointwise (x ∷ xs) (y ∷ ys) = rw (same_pointwise xs ys)
 
 -- runs of different length differ
 pub same_lengths : (a b : List ℕ) → (length a ≡ length b → ⊥) → same a b ≡ false
@@ -25,27 +35,10 @@ pub spells_lengths : (s w : List ℕ) → (length s ≡ length w → ⊥) → sp
 unfolding spells
 spells_lengths s w h = same_lengths (raised s) w (λ e. h (sym (raised_length s) ∙ e))
 
-module _ (a b : List ℕ) (i : ℕ) where
-  pub same_step : i < length a → i < length b → get_or a i 0 ≡ get_or b i 0 → same (drop i a) (drop i b) ≡ same (drop (i + 1) a) (drop (i + 1) b)
-  unfolding same
-  same_step h g e = rw (add-one, drop-cons a i 0 h, drop-cons b i 0 g, eq-eqb (get_or a i 0) (get_or b i 0) e)
-
-  pub same_differ : i < length a → i < length b → (get_or a i 0 ≡ get_or b i 0 → ⊥) → same (drop i a) (drop i b) ≡ false
-  unfolding same
-  same_differ h g e = rw (drop-cons a i 0 h, drop-cons b i 0 g, ne_eqb (get_or a i 0) (get_or b i 0) e)
-
-  pub same_end : length a ≤ i → length b ≤ i → same (drop i a) (drop i b) ≡ true
-  unfolding same
-  same_end h g = rw (drop_of_length-le a h, drop_of_length-le b g)
-
-  pub spells_step : i < length a → i < length b → raise (get_or a i 0) ≡ get_or b i 0 → spells (drop i a) (drop i b) ≡ spells (drop (i + 1) a) (drop (i + 1) b)
-  unfolding same raised spells
-  spells_step h g e = rw (add-one, drop-cons a i 0 h, drop-cons b i 0 g, eq-eqb (raise (get_or a i 0)) (get_or b i 0) e)
-
-  pub spells_differ : i < length a → i < length b → (raise (get_or a i 0) ≡ get_or b i 0 → ⊥) → spells (drop i a) (drop i b) ≡ false
-  unfolding same raised spells
-  spells_differ h g e = rw (drop-cons a i 0 h, drop-cons b i 0 g, ne_eqb (raise (get_or a i 0)) (get_or b i 0) e)
-
-  pub spells_end : length a ≤ i → length b ≤ i → spells (drop i a) (drop i b) ≡ true
-  unfolding same raised spells
-  spells_end h g = rw (drop_of_length-le a h, drop_of_length-le b g)
+-- runs of one length: each byte raised is the word's
+pub spells_zip : (s w : List ℕ) → length s ≡ length w → list_all (λ p. nat_eq (raise p.0) p.1) (zip s w) ≡ spells s w
+unfolding same raised spells
+spells_zip [] [] h = refl
+spells_zip [] (y ∷ ys) h = absurd (omega arith)
+spells_zip (x ∷ xs) [] h = absurd (omega arith)
+spells_zip (x ∷ xs) (y ∷ ys) h = ap (λ o. nat_eq (raise x) y && o) (spells_zip xs ys (omega arith))

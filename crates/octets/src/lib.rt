@@ -1,10 +1,11 @@
-// Runs of bytes: reading with a default, comparing, clearing, and the one way in which bytes are stored into an answer.
+// Runs of bytes: reading with a default, comparing, clearing, and the one way in which bytes are stored into an answer. Sets of named members.
 //
 // A writer never fails. It stores what lies in the buffer and counts its place on behind the buffer's end, so the same function
 // that writes an answer also measures it, over an empty buffer, before a byte is touched.
 #![tactic(auto)]
 
-pub mod refusals;
+mod members;
+mod refusals;
 
 ghost use Rattle.std.specs.Prelude.{◌≡◌, [], ◌∷◌, ◌+◌, ◌-◌, ◌^◌, min, length, get_or, replicate};
 ghost use Rattle.listing_rules.specs.Bytes.{same, spells, raise};
@@ -12,13 +13,8 @@ ghost use Rattle.listing_rules.specs.Lines.{escaped, quoted};
 ghost use Rattle.octets.specs.Put.{Put};
 ghost use Rattle.octets.specs.Escape.{escape_of};
 
-// What a call that writes into a lent buffer answers: the length of what it wrote at the front, or the number of its refusal,
-// which changed no byte.
-#[derive(Clone, Copy)]
-pub enum Written {
-    Done(usize),
-    Refused(u8),
-}
+pub use members::Members;
+pub use refusals::Refusal;
 
 pub const QUOTE: u8 = 34;
 
@@ -41,84 +37,56 @@ pub fn wide(b: u8) -> usize
 pub fn least(a: usize, b: usize) -> usize
     ensures { result ≡ min a b }
 {
-    if a <= b { a } else { b }
+    a.min(b)
 }
 
 // The byte at a place, 0 behind the end.
 pub fn byte_at(s: &[u8], i: usize) -> u8
     ensures { result ≡ get_or s.now i 0 }
 {
-    if i < s.len() {
-        return s[i];
-    }
-    0
+    s.get(i).copied().unwrap_or(0)
 }
 
 // A letter a to z raised to A to Z; other bytes as they are.
 pub fn raised_byte(b: u8) -> u8
     ensures { result ≡ raise b }
 {
-    if 97 <= b {
-        if b <= 122 {
-            return b - 32;
-        }
-    }
-    b
+    b.to_ascii_uppercase()
 }
 
 // Whether the two runs are the same.
 pub fn same_bytes(a: &[u8], b: &[u8]) -> bool
     ensures { result ≡ same a.now b.now }
 {
-    if a.len() != b.len() {
-        return false;
-    }
-    let mut i = 0;
-    while i < a.len() {
-        if a[i] != b[i] {
-            return false;
-        }
-        i += 1;
-    }
-    true
+    a == b
 }
 
 // Whether the run is the word in any case of letters; the word is written without small letters.
 pub fn spells_word(s: &[u8], word: &[u8]) -> bool
     ensures { result ≡ spells s.now word.now }
 {
-    if s.len() != word.len() {
-        return false;
-    }
-    let mut i = 0;
-    while i < s.len() {
-        if raised_byte(s[i]) != word[i] {
-            return false;
-        }
-        i += 1;
-    }
-    true
+    s.len() == word.len() && s.iter().zip(word).all(|(b, w)| raised_byte(*b) == *w)
 }
 
 // Zeros in the whole buffer.
 pub fn clear(buf: &mut [u8])
     ensures { buf.new ≡ replicate (length buf.old) 0 }
 {
-    let mut i = 0;
-    while i < buf.len() {
-        buf[i] = 0;
-        i += 1;
-    }
+    buf.fill(0);
+}
+
+// An array with the same value in each place.
+pub fn filled<T: Copy, const N: usize>(value: T) -> [T; N]
+    ensures { result ≡ replicate N value }
+{
+    [value; N]
 }
 
 // The place n bytes on, at most the largest number.
 pub fn advance(at: usize, n: usize) -> usize
     ensures { result ≡ min (at + n) (2 ^ 64 - 1) }
 {
-    if n <= usize::MAX - at {
-        return at + n;
-    }
-    usize::MAX
+    at.saturating_add(n)
 }
 
 // A byte at a place, where it lies in the buffer.
@@ -135,10 +103,7 @@ pub fn put(buf: &mut [u8], at: usize, b: u8) -> usize
 fn room_for(len: usize, at: usize, n: usize) -> usize
     ensures { result ≡ min n (len - at) }
 {
-    if len <= at {
-        return 0;
-    }
-    if n <= len - at { n } else { len - at }
+    n.min(len.saturating_sub(at))
 }
 
 // The bytes of s from a place on.
@@ -146,10 +111,8 @@ pub fn put_all(buf: &mut [u8], at: usize, s: &[u8]) -> usize
     ensures { Put buf.old buf.new at s.now result }
 {
     let n = room_for(buf.len(), at, s.len());
-    let mut i = 0;
-    while i < n {
-        buf[at + i] = s[i];
-        i += 1;
+    if 0 < n {
+        buf[at..at + n].copy_from_slice(&s[..n]);
     }
     advance(at, s.len())
 }
@@ -158,16 +121,9 @@ pub fn put_all(buf: &mut [u8], at: usize, s: &[u8]) -> usize
 fn escapes(s: &[u8]) -> usize
     ensures { length s.now + result ≡ length (escaped s.now) }
 {
-    let mut n: usize = 0;
-    let mut i = 0;
-    while i < s.len() {
-        let b = s[i];
-        if (b == QUOTE) | (b == BACKSLASH) {
-            n += 1;
-        }
-        i += 1;
-    }
-    n
+    s.iter()
+        .filter(|b| **b == QUOTE || **b == BACKSLASH)
+        .count()
 }
 
 // A byte as it stands in quotes: behind a backslash where it is a quote or a backslash.
@@ -186,10 +142,8 @@ fn put_escapes(buf: &mut [u8], at: usize, s: &[u8]) -> usize
     ensures { Put buf.old buf.new at (escaped s.now) result }
 {
     let mut to = at;
-    let mut i = 0;
-    while i < s.len() {
-        to = put_escape(buf, to, s[i]);
-        i += 1;
+    for b in s {
+        to = put_escape(buf, to, *b);
     }
     to
 }

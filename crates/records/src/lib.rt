@@ -7,7 +7,7 @@ ghost use Rattle.std.specs.Prelude.{◌≡◌, map, ◌-◌, min, length, take, 
 ghost use Rattle.std.proofs.Math.Seq.{paste};
 ghost use Rattle.records.specs.Words.{word_of, record_of, struct_of, meant};
 
-use octets::least;
+use octets::filled;
 
 // "records, each with flags, name start and name length", and "a set of eight readers" (W9), bit r for reader r
 #[repr(C)]
@@ -25,24 +25,28 @@ pub const MAX_ROWS: usize = 512;
 pub const MAX_BYTES: usize = 32768;
 
 // The record as one number. The number tells the record.
-pub fn word_of(r: Record) -> u64
-    ensures { (result ≡ word_of r) × (record_of result ≡ meant r) }
-{
-    (r.flags as u64)
-        + 65536 * (r.start as u64)
-        + 4294967296 * (r.len as u64)
-        + 281474976710656 * (r.readers as u64)
+impl From<Record> for u64 {
+    ghost from_gives = { λ r w. (w ≡ word_of r) × (record_of w ≡ meant r) };
+
+    fn from(r: Record) -> u64 {
+        u64::from(r.flags)
+            + 65536 * u64::from(r.start)
+            + 4294967296 * u64::from(r.len)
+            + 281474976710656 * u64::from(r.readers)
+    }
 }
 
 // The record of a number.
-fn record_of(w: u64) -> Record
-    ensures { result ≡ struct_of w }
-{
-    Record {
-        flags: (w % 65536) as u16,
-        start: (w / 65536 % 65536) as u16,
-        len: (w / 4294967296 % 256) as u8,
-        readers: (w / 281474976710656 % 256) as u8,
+impl From<u64> for Record {
+    ghost from_gives = { λ w r. r ≡ struct_of w };
+
+    fn from(w: u64) -> Record {
+        Record {
+            flags: (w % 65536) as u16,
+            start: (w / 65536 % 65536) as u16,
+            len: (w / 4294967296 % 256) as u8,
+            readers: (w / 281474976710656 % 256) as u8,
+        }
     }
 }
 
@@ -50,14 +54,7 @@ fn record_of(w: u64) -> Record
 pub fn no_words() -> [u64; MAX_ROWS]
     ensures { result ≡ replicate 512 0 }
 {
-    [0u64; MAX_ROWS]
-}
-
-// The least of three numbers.
-fn least_of(a: usize, b: usize, c: usize) -> usize
-    ensures { result ≡ min a (min b c) }
-{
-    least(a, least(b, c))
+    filled(0)
 }
 
 // The first words become those of the first records: as many as `count`, the records and the words allow. The other words stay.
@@ -66,11 +63,9 @@ pub fn copy_in(records: &[Record], count: usize, words: &mut [u64]) -> usize
         × (words.new ≡ paste words.old 0 (map word_of records.now) result)
         × (map record_of (take result words.new) ≡ map meant (take result records.now)) }
 {
-    let n = least_of(count, records.len(), words.len());
-    let mut i = 0;
-    while i < n {
-        words[i] = word_of(records[i]);
-        i += 1;
+    let n = count.min(records.len()).min(words.len());
+    for i in 0..n {
+        words[i] = u64::from(records[i]);
     }
     n
 }
@@ -80,10 +75,8 @@ pub fn copy_back(records: &mut [Record], from: usize, to: usize, words: &[u64])
     ensures { records.new ≡ paste records.old from (map struct_of (drop from words.now))
         (min to (min (length records.old) (length words.now)) - from) }
 {
-    let end = least_of(to, records.len(), words.len());
-    let mut i = from;
-    while i < end {
-        records[i] = record_of(words[i]);
-        i += 1;
+    let end = to.min(records.len()).min(words.len());
+    for i in from..end {
+        records[i] = Record::from(words[i]);
     }
 }

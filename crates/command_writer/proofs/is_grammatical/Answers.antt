@@ -4,4 +4,4 @@ use Rattle.command_writer.proofs.is_grammatical.Goals as goal
 
 pub returns : goal.returns
 returns c =
-    rw (c.is_tag.ensures, c.patterns_fill.ensures, empty_is c.args.patterns.now)
+    rw (c.is_empty.ensures, c.is_tag.ensures, c.patterns_fill.ensures, empty_is c.args.patterns.now)

@@ -1,7 +1,6 @@
 -- `names::no_pair` meets its contract: what is kept and the pairs from i - 1 on decide. By the laws of pairs in NameShape.
 use Rattle.listing_rules.proofs.Prelude.{◌∙◌, refl, sym, and-true, arith}
 use Rattle.names.proofs.NameShape.{pair_more, pair_end}
-use Rattle.listing_rules.proofs.Prelude.{◌-◌}
 use Rattle.names.proofs.no_pair.Goals as goal
 
 pub loop-i-init : goal.loop-i-init

@@ -4,7 +4,7 @@ use Rattle.listing_rules.specs.Namespaces.{lawful_entry}
 use Rattle.namespace_list.specs.Entries.{meaning}
 use Rattle.namespace_list.proofs.Passing.{rest_whole, rest_end, rest_past, rest_unlawful, rest_fall, rest_full, rest_same}
 use Rattle.namespace_list.proofs.Passing.{rest_rise}
-use Rattle.listing_rules.proofs.Prelude.{◌≡◌, ◌-◌}
+use Rattle.listing_rules.proofs.Prelude.{◌≡◌}
 use Rattle.namespace_list.proofs.check.Goals as goal
 
 pub loop-at-init : goal.loop-at-init

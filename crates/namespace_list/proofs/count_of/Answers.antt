@@ -1,7 +1,7 @@
 -- `count_of` meets its contract: those counted, and those of the class from `at` on, are all of the class.
 use Rattle.listing_rules.proofs.Prelude.{ap, arith, length}
 use Rattle.namespace_list.proofs.Entries.{class_here, class_other, class_end}
-use Rattle.listing_rules.proofs.Prelude.{◌-◌, length}
+use Rattle.listing_rules.proofs.Prelude.{length}
 use Rattle.namespace_list.proofs.count_of.Goals as goal
 
 pub loop-at-init : goal.loop-at-init

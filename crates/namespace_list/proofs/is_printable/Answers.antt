@@ -1,24 +1,14 @@
--- `is_printable` meets its contract: the bytes from `i` on decide. By octets' laws of Every.
-use Rattle.listing_rules.proofs.Prelude.{◌∙◌, refl, sym}
+-- `is_printable` meets its contract: the closure tests one byte.
+use Rattle.std.proofs.Common.{◌∙◌, rules, tests}
+use Rattle.std.proofs.lemmas.Iterator.{YieldsList-from_slice}
+use Rattle.std.proofs.lemmas.Iterator.Search.{all_from_yields_List}
 use Rattle.listing_rules.specs.Bytes.{within}
-use Rattle.octets.proofs.Every.{all_step, all_stop, all_end}
-use Rattle.listing_rules.proofs.Prelude.{◌-◌}
-use Rattle.listing_rules.specs.Bytes.{within}
+use Rattle.octets.proofs.Every.{all_list}
 use Rattle.namespace_list.proofs.is_printable.Goals as goal
 
-pub loop-i-init : goal.loop-i-init
-loop-i-init c = refl
-
-pub returns-then-not-b : goal.returns-then-not-b
-unfolding within
-returns-then-not-b c =
-    sym (all_stop (within 32 126) _ _ c.loop-i-test.true c.if-not-b.true) ∙ c.loop-i.invariant
-
-pub loop-i-preserved : goal.loop-i-preserved
-unfolding within
-loop-i-preserved c =
-    sym (all_step (within 32 126) _ _ c.loop-i-test.true c.if-not-b.false) ∙ c.loop-i.invariant
-
 pub returns : goal.returns
+unfolding within
 returns c =
-    sym (all_end (within 32 126) _ _ c.loop-i-test.false) ∙ c.loop-i.invariant
+    let s = c.args.s.now in
+    all_from_yields_List (within 32 126) c.all.new.self _ c.all.result c.all.ensures.ran (YieldsList-from_slice s cc) (λ x b q k. search (rules, tests))
+    ∙ all_list (within 32 126) s

@@ -7,7 +7,6 @@ use Rattle.octets.proofs.Puts.{putting_none, putting_more, putting_on, putting_a
 use Rattle.namespace_list.specs.Line.{entries_text}
 use Rattle.namespace_list.proofs.Entries.{class_other}
 use Rattle.namespace_list.proofs.Line.{text_here, text_end}
-use Rattle.listing_rules.proofs.Prelude.{◌-◌}
 use Rattle.namespace_list.specs.Line.{entries_text}
 use Rattle.namespace_list.proofs.put_entries.Goals as goal
 

@@ -13,4 +13,4 @@ loop-i-init c =
 pub loop-i-preserved : goal.loop-i-preserved
 loop-i-preserved c =
     let more = copied_same struct_of c.args.records.now c.args.from c.args.words.now 0 c.loop-i.i (omega arith) (omega arith) (omega arith) in
-    (omega arith, omega arith, rw (c.loop-i.invariant.2, c.record_of.ensures) more)
+    (omega arith, omega arith, rw (c.loop-i.invariant.2, c.from.ensures) more)

@@ -7,6 +7,3 @@ use Rattle.records.proofs.copy_back.Given as goal
 abbrev pub invariant-loop-i : goal.invariant-loop-i
 invariant-loop-i l =
     (l.from ≤ l.i) × (l.i - l.from ≤ l.end - l.from) × (l.records ≡ paste l.initial.records l.from (map struct_of (drop l.from l.words)) (l.i - l.from))
-
-abbrev pub decreases-loop-i : goal.decreases-loop-i
-decreases-loop-i l = l.end - l.i

@@ -1,22 +1,13 @@
--- `all_not_zero` meets its contract: the bytes from `i` on decide. By octets' laws of Every.
-use Rattle.listing_rules.proofs.Prelude.{◌∙◌, ap, refl, sym, Bool, not, ℕ, eqb, eq-eqb, ne_eqb}
-use Rattle.octets.proofs.Every.{all_step, all_stop, all_end}
+-- `all_not_zero` meets its contract: the closure tests one byte.
+use Rattle.std.proofs.Common.{◌∙◌, rules, tests}
+use Rattle.std.proofs.lemmas.Iterator.{YieldsList-from_slice}
+use Rattle.std.proofs.lemmas.Iterator.Search.{all_from_yields_List}
+use Rattle.listing_rules.proofs.Prelude.{not, eqb}
+use Rattle.octets.proofs.Every.{all_list}
 use Rattle.command_writer.proofs.strings.all_not_zero.Goals as goal
-
-abbrev notZero : ℕ → Bool
-notZero b = not (eqb b 0)
-
-pub loop-i-init : goal.loop-i-init
-loop-i-init c = refl
-
-pub returns-then-s-i-eq0 : goal.returns-then-s-i-eq0
-returns-then-s-i-eq0 c =
-    sym (all_stop notZero _ _ c.loop-i-test.true (ap not (eq-eqb _ 0 c.if-s-i-eq0.true))) ∙ c.loop-i.invariant
-
-pub loop-i-preserved : goal.loop-i-preserved
-loop-i-preserved c =
-    sym (all_step notZero _ _ c.loop-i-test.true (ap not (ne_eqb _ 0 c.if-s-i-eq0.false))) ∙ c.loop-i.invariant
 
 pub returns : goal.returns
 returns c =
-    sym (all_end notZero _ _ c.loop-i-test.false) ∙ c.loop-i.invariant
+    let s = c.args.s.now in
+    all_from_yields_List (λ x. not (eqb x 0)) c.all.new.self _ c.all.result c.all.ensures.ran (YieldsList-from_slice s cc) (λ x b q k. search (rules, tests))
+    ∙ all_list (λ x. not (eqb x 0)) s

@@ -1,22 +1,13 @@
--- `all_of_tag` meets its contract: the bytes from `i` on decide. By octets' laws of Every.
-use Rattle.listing_rules.proofs.Prelude.{◌∙◌, refl, sym}
+-- `all_of_tag` meets its contract: the closure tests one byte.
+use Rattle.std.proofs.Common.{◌∙◌, rules, tests}
+use Rattle.std.proofs.lemmas.Iterator.{YieldsList-from_slice}
+use Rattle.std.proofs.lemmas.Iterator.Search.{all_from_yields_List}
 use Rattle.listing_rules.specs.Tokens.{tag_byte}
-use Rattle.octets.proofs.Every.{all_step, all_stop, all_end}
+use Rattle.octets.proofs.Every.{all_list}
 use Rattle.command_writer.proofs.strings.all_of_tag.Goals as goal
-
-pub loop-i-init : goal.loop-i-init
-loop-i-init c = refl
-
-pub returns-then-not-is_tag_byte : goal.returns-then-not-is_tag_byte
-returns-then-not-is_tag_byte c =
-    sym (all_stop tag_byte _ _ c.loop-i-test.true (sym c.is_tag_byte.ensures ∙ c.if-not-is_tag_byte.true)) ∙
-    c.loop-i.invariant
-
-pub loop-i-preserved : goal.loop-i-preserved
-loop-i-preserved c =
-    sym (all_step tag_byte _ _ c.loop-i-test.true (sym c.is_tag_byte.ensures ∙ c.if-not-is_tag_byte.false)) ∙
-    c.loop-i.invariant
 
 pub returns : goal.returns
 returns c =
-    sym (all_end tag_byte _ _ c.loop-i-test.false) ∙ c.loop-i.invariant
+    let s = c.args.s.now in
+    all_from_yields_List tag_byte c.all.new.self _ c.all.result c.all.ensures.ran (YieldsList-from_slice s cc) (λ x b q k. search (rules, tests))
+    ∙ all_list tag_byte s

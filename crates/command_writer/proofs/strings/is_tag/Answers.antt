@@ -4,4 +4,4 @@ use Rattle.command_writer.proofs.strings.is_tag.Goals as goal
 
 pub returns : goal.returns
 returns c =
-    rw (c.all_of_tag.ensures, empty_is c.args.tag.now)
+    rw (c.is_empty.ensures, c.all_of_tag.ensures, empty_is c.args.tag.now)

@@ -1,5 +1,6 @@
 -- Names moved together by the words of the rows: the map's bytes are those that rows use, the words mean the records whose names have moved, and so
 -- the store is the compacted one. Rests on UsedBytes of the definitions, MapLaws of subscriptions, StartLaws.
+use Rattle.std.specs.Prelude.{Result, Ok, Err}
 use Rattle.listing_rules.proofs.ListLaws.{map_drop}
 use Rattle.listing_rules.proofs.Prelude.{◌∙◌, ◌≡◌, ap, refl, subst, sym, Bool, cond, false, not, true, List, [], ◌++◌, ◌∷◌, append-nil, map}
 use Rattle.listing_rules.proofs.Prelude.{map-append, ◌%◌, ◌+◌, ◌-◌, ◌/◌, ◌<◌, ◌≤◌, suc, zero, ℕ, zero-add, arith, leb, drop, drop_of_length-le, get_or}
@@ -23,9 +24,9 @@ use Rattle.records.specs.Lent.{lent_of, word_store, word_summed, words_summed, w
 use Rattle.records.specs.Stores.{word_compaction, Between}
 use Rattle.records.proofs.WordsAlike.{map_take}
 use Rattle.compaction.specs.Gathered.{kept, kept_before, Gathers}
-use Rattle.compaction.specs.declared.Compacted.{Compacted}
+use Rattle.subscriptions.specs.declared.Change.{Change}
 use Rattle.compaction.specs.Moves.{with_start, restarted, moved_words, Starts, Within, together, MovesBytes, MovesNames}
-use Rattle.compaction.specs.Result.{compacted_is, cells_compacted}
+use Rattle.compaction.specs.Result.{rows_changed, compacted_is, cells_compacted}
 use Rattle.compaction.proofs.StartLaws.{start_means}
 
 -- the bytes that the map of free bytes keeps are those that rows use
@@ -233,16 +234,16 @@ module _ (ws : List ℕ) (lent count : ℕ) (area sums : List ℕ) (n : ℕ) (n-
   same_front : words_summed (take n ws) count area (take n sums) ≡ whole
   same_front = λ i. record { store = word_store ws (n-is i) count area; summary = map summary_of (take (n-is i) sums) }
 
-  refused_result : compacted_is 1 count ≡ record { number = 1; from = 0; to = 0 }
+  refused_result : compacted_is 1 count ≡ Err 1
   unfolding compacted_is
   refused_result = refl
 
-  done_result : compacted_is 0 count ≡ record { number = 0; from = 0; to = count }
+  done_result : compacted_is 0 count ≡ Ok (rows_changed count)
   unfolding compacted_is
   done_result = refl
 
   -- what a call leaves: its result, the area, the words, and the records that they mean
-  abbrev pub Leaves : Compacted → List ℕ → List ℕ → Type 0
+  abbrev pub Leaves : Result Change ℕ → List ℕ → List ℕ → Type 0
   Leaves r vs area' =
       (r ≡ compacted_is (word_compaction ws lent count area sums).number count)
       × ((area' ≡ (word_compaction ws lent count area sums).area)
@@ -253,10 +254,9 @@ module _ (ws : List ℕ) (lent count : ℕ) (area sums : List ℕ) (n : ℕ) (n-
   checked : (b : Bool) → passes (words_table (take n ws) count area (take n sums)) ≡ b → passes (summed_table whole) ≡ b
   checked b e = ap (λ (m : Summed). passes (summed_table m)) (sym same_front) ∙ e
 
-  result_is : (number to : ℕ) (left : Summed) → summed_compaction whole ≡ record { number = number; left = left } →
-      compacted_is number count ≡ record { number = number; from = 0; to = to }
-      → record { number = number; from = 0; to = to } ≡ compacted_is (word_compaction ws lent count area sums).number count
-  result_is number to left x e = sym e ∙ ap (λ (c : SummedCompaction). compacted_is c.number count) (sym x)
+  result_is : (number : ℕ) (r : Result Change ℕ) (left : Summed) → summed_compaction whole ≡ record { number = number; left = left } →
+      compacted_is number count ≡ r → r ≡ compacted_is (word_compaction ws lent count area sums).number count
+  result_is number r left x e = sym e ∙ ap (λ (c : SummedCompaction). compacted_is c.number count) (sym x)
 
   cells_stay : passes (summed_table whole) ≡ false → ws ≡ cells_compacted ws lent count area sums
   unfolding cells_compacted
@@ -267,10 +267,10 @@ module _ (ws : List ℕ) (lent count : ℕ) (area sums : List ℕ) (n : ℕ) (n-
   cells_move e = rw e
 
   -- the table does not pass: 1, and nothing changes
-  pub refused : passes (words_table (take n ws) count area (take n sums)) ≡ false → Leaves (record { number = 1; from = 0; to = 0 }) ws area
+  pub refused : passes (words_table (take n ws) count area (take n sums)) ≡ false → Leaves (Err 1) ws area
   refused e =
       let x : summed_compaction whole ≡ record { number = 1; left = whole } = unfold summed_compaction in rw (checked false e) in (
-        result_is 1 0 whole x refused_result,
+        result_is 1 (Err 1) whole x refused_result,
         (
           ap (λ (c : SummedCompaction). c.left.store.area) (sym x),
           (cells_stay (checked false e), ap (λ (c : SummedCompaction). c.left.store.records) (sym x)),
@@ -282,11 +282,11 @@ module _ (ws : List ℕ) (lent count : ℕ) (area sums : List ℕ) (n : ℕ) (n-
     good = (grown_parts (words_summed (take n ws) count area (take n sums)) e).0
 
     pub done : (vs area' : List ℕ) → MovesNames (take count ws) area vs area'
-        → Leaves (record { number = 0; from = 0; to = count }) (vs ++ drop count ws) area'
+        → Leaves (Ok (rows_changed count)) (vs ++ drop count ws) area'
     done vs area' m =
         let x : summed_compaction whole ≡ record { number = 0; left = record { store = compacted whole.store; summary = whole.summary } } =
         unfold summed_compaction in rw (checked true e) in (
-          result_is 0 count (record { store = compacted whole.store; summary = whole.summary }) x done_result,
+          result_is 0 (Ok (rows_changed count)) (record { store = compacted whole.store; summary = whole.summary }) x done_result,
           (
             area_moved ws n count area front_inside good vs area' m
                 ∙ ap (λ (k : ℕ). (compacted (word_store ws k count area)).area) n-is

@@ -1,28 +1,12 @@
 // The bytes that rows use, gathered at the front of the area.
-ghost use Rattle.std.specs.Prelude.{◌≡◌, map, ◌≤◌, length, replicate};
+ghost use Rattle.std.specs.Prelude.{◌≡◌, map, ◌≤◌, length};
 ghost use Rattle.records.specs.Words.{record_of};
 ghost use Rattle.compaction.specs.Gathered.{Gathers};
 ghost use Rattle.compaction.specs.Moves.{MovesBytes};
 
-use octets::clear;
+use octets::{clear, filled};
 use records::MAX_BYTES;
-use subscriptions::free::{all_free, unmark_names};
-
-pub(crate) const SHORT_BYTES: usize = 4096;
-
-// Room for the place of each byte of a short area, which takes less time to clear.
-pub(crate) fn few_places() -> [u16; SHORT_BYTES]
-    ensures { result ≡ replicate 4096 0 }
-{
-    [0u16; SHORT_BYTES]
-}
-
-// Room for the place of each byte of any area that passes.
-pub(crate) fn no_places() -> [u16; MAX_BYTES]
-    ensures { result ≡ replicate 32768 0 }
-{
-    [0u16; MAX_BYTES]
-}
+use subscriptions::free::unmark_names;
 
 // The bytes of the words' names at the front of the area, in their order, zeros after them, and for each place of the area how many of
 // those bytes lay before it.
@@ -30,7 +14,7 @@ pub(crate) fn move_bytes(words: &[u64], area: &mut [u8], places: &mut [u16])
     requires { (length area.old ≤ 32768) × (length area.old ≤ length places.old) }
     ensures { MovesBytes (map record_of words.now) area.old area.new places.new }
 {
-    let mut marks = all_free();
+    let mut marks = filled::<bool, MAX_BYTES>(true);
     unmark_names(&mut marks, words);
     let n = area.len();
     let end = gather(area, &marks[..n], places);
@@ -43,14 +27,12 @@ fn gather(area: &mut [u8], marks: &[bool], places: &mut [u16]) -> usize
     ensures { Gathers marks.now area.old area.new places.new result }
 {
     let mut end = 0;
-    let mut i = 0;
-    while i < marks.len() {
+    for (i, free) in marks.iter().enumerate() {
         places[i] = end as u16;
-        if !marks[i] {
+        if !*free {
             area[end] = area[i];
             end += 1;
         }
-        i += 1;
     }
     end
 }

@@ -7,11 +7,8 @@ pub(crate) fn restart(words: &mut [u64], places: &[u16])
     requires { Starts words.old (length places.now) }
     ensures { words.new ≡ map (restarted places.now) words.old }
 {
-    let mut i = 0;
-    while i < words.len() {
-        let w = words[i];
-        let start = w / 65536 % 65536;
-        words[i] = w - 65536 * start + 65536 * (places[start as usize] as u64);
-        i += 1;
+    for w in words.iter_mut() {
+        let start = *w / 65536 % 65536;
+        *w = *w - 65536 * start + 65536 * (places[start as usize] as u64);
     }
 }

@@ -1,9 +1,9 @@
 -- Names without overlap, by a map of used bytes: the marks of one name, the loop over the names, and that two names of which neither is
 -- empty are apart exactly if no byte belongs to both. Rests on the laws of records in listing_rules.
 use Rattle.listing_rules.proofs.Prelude.{◌∙◌, ◌≡◌, ap, refl, sym, Bool, ◌&&◌, ◌||◌, false, false≢true, not, true, ◌⊎◌, inl, inr, ⊎_elim, List, []}
-use Rattle.listing_rules.proofs.Prelude.{◌++◌, ◌∷◌, map, map-append, ◌+◌, ◌<◌, ◌≤◌, suc, zero, ℕ, add-one, dec_le, ℕ_discrete, arith, leb, ltb, drop}
-use Rattle.listing_rules.proofs.Prelude.{get_or, length, length-replicate, length-set, replicate, set, take, get_or-set_other, get_or-set_same, split_at}
-use Rattle.listing_rules.proofs.Prelude.{take_all, take-suc, le-leb, leb-false, leb-true, lt-ltb, ltb-false, ltb-true}
+use Rattle.listing_rules.proofs.Prelude.{◌++◌, ◌∷◌, map, map-append, ◌+◌, ◌<◌, ◌≤◌, suc, zero, ℕ, add-one, dec_le, arith, leb, ltb, drop}
+use Rattle.listing_rules.proofs.Prelude.{get_or, length, length-replicate, replicate, take, split_at}
+use Rattle.listing_rules.proofs.Prelude.{take-suc, le-leb, leb-false, leb-true, lt-ltb, ltb-false, ltb-true}
 use Rattle.listing_rules.specs.Lists.{every, any_of}
 use Rattle.listing_rules.specs.Records.{Record, apart, all_apart}
 use Rattle.listing_rules.proofs.Bools.{and_l, and_r, and_i, or_cases, or_none_l, or_none_r}
@@ -11,7 +11,7 @@ use Rattle.listing_rules.proofs.RecordPlaces.{all_apart_snoc, all_apart_at}
 use Rattle.mailbox_table.specs.Words.{row_of_word}
 use Rattle.records.specs.Words.{record_of}
 use Rattle.mailbox_table.specs.Index.{nth_row}
-use Rattle.mailbox_table.specs.Layout.{covers, Maps, Marked, Mapped}
+use Rattle.mailbox_table.specs.Layout.{covers, Marked, Mapped}
 
 module _ (start len k : ℕ) where
   covers_true : covers start len k ≡ true → (start ≤ k) × (k < start + len)
@@ -44,44 +44,7 @@ pub record Marking (before : List Bool) (start len : ℕ) (used : List Bool) (ta
   pub marked : (j : ℕ) → start ≤ j → j < k → get_or used j false ≡ true
   pub others : (j : ℕ) → (j < start) ⊎ (k ≤ j) → get_or used j false ≡ get_or before j false
 
-pub marking_none : (used : List Bool) (start len : ℕ) → Marking used start len used false start
-marking_none used start len =
-    record { low = omega arith; high = omega arith; size = refl; seen = λ j h g. absurd (omega arith); marked = λ j h g. absurd (omega arith); others = λ j h. refl }
-
--- one byte more is seen
-seen_more : (before : List Bool) (start k : ℕ) (taken b : Bool) → start ≤ k → get_or before k false ≡ b → Seen before start k taken → Seen before start (k + 1) (taken || b)
-seen_more before start k true b h e s = (s.0, s.1, omega (arith, s.2), s.3)
-seen_more before start k false true h e s = (k, h, omega arith, e)
-seen_more before start k false false h e s = λ j a b. go j a b (dec_le k j)
-  where
-    go : (j : ℕ) → start ≤ j → j < k + 1 → Dec (k ≤ j) → get_or before j false ≡ false
-    go j a b (yes d) = let w : j ≡ k = omega arith in rw w e
-    go j a b (no d) = s j a (omega arith)
-
 module _ {before : List Bool} {start len : ℕ} {used : List Bool} {taken : Bool} {k : ℕ} (c : Marking before start len used taken k) where
-  pub marking_more : k < start + len → k < length used → Marking before start len (set used k true) (taken || get_or used k false) (k + 1)
-  marking_more h l =
-      record {
-        low = omega (arith, c.low);
-        high = omega arith;
-        size = length-set used k true ∙ c.size;
-        seen = seen_more before start k taken (get_or used k false) c.low (sym (c.others k (inr (omega arith)))) c.seen;
-        marked = λ j a b. marked_more j a b (ℕ_discrete j k);
-        others = λ j a. get_or-set_other used k j true false (differs j a) ∙ c.others j (beyond j a);
-      }
-    where
-      marked_more : (j : ℕ) → start ≤ j → j < k + 1 → Dec (j ≡ k) → get_or (set used k true) j false ≡ true
-      marked_more j a b (yes d) = rw d (get_or-set_same used k true false l)
-      marked_more j a b (no d) = get_or-set_other used k j true false d ∙ c.marked j a (omega arith)
-
-      differs : (j : ℕ) → (j < start) ⊎ (k + 1 ≤ j) → j ≡ k → ⊥
-      differs j (inl a) d = omega (arith, c.low)
-      differs j (inr a) d = omega arith
-
-      beyond : (j : ℕ) → (j < start) ⊎ (k + 1 ≤ j) → (j < start) ⊎ (k ≤ j)
-      beyond j (inl a) = inl a
-      beyond j (inr a) = inr (omega arith)
-
   pub marking_done : start + len ≤ k → Marked before used start len (not taken)
   marking_done h = go taken c.seen
     where
@@ -197,10 +160,6 @@ module _ {words : List ℕ} {used : List Bool} {i : ℕ} (c : Laying words used 
   abbrev earlier : List Record
   earlier = map record_of (take i words)
 
-  -- what the code asks for a name's marks
-  pub laying_maps : Maps used (nth_row words i).start (nth_row words i).len
-  laying_maps = record { size = c.size; inside = m.inside i h }
-
   parted : map record_of words ≡ earlier ++ here ∷ map record_of (drop (suc i) words)
   parted = ap (map record_of) (split_at words i 0 h) ∙ map-append record_of (take i words) (get_or words i 0 ∷ drop (suc i) words)
 
@@ -230,6 +189,3 @@ module _ {words : List ℕ} {used : List Bool} {i : ℕ} (c : Laying words used 
 
       fresh : every (apart here) earlier ≡ true
       fresh = free_apart here earlier (m.full i h) (full_take words m.full i) (λ k a. sym (c.marks k) ∙ w.1 k a)
-
-pub laying_done : {words : List ℕ} {used : List Bool} {i : ℕ} → Laying words used i → length words ≤ i → all_apart (map record_of words) ≡ true
-laying_done {words} {used} {i} c h = rw (take_all i words h) at c.no_overlap

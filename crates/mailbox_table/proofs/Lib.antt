@@ -10,7 +10,6 @@ mod AnswerLaws
 mod PackedLaws
 mod LinkLaws
 mod LayoutLaws
-mod CopyLaws
 mod PassLaws
 mod FindLaws
 mod FlagBits

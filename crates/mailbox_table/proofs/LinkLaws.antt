@@ -1,5 +1,6 @@
 -- The pass over words in row order: a word against the name before it, the loop's invariant, and what the pass answers. Rests on KeptLaws,
 -- RightLaws and WordLaws.
+use Rattle.std.specs.Prelude.{Option, Some, None}
 use Rattle.listing_rules.proofs.Prelude.{◌∙◌, ◌≡◌, ap, refl, sym, Bool, ◌&&◌, and-false, cond, false, true, List, [], ◌++◌, ◌∷◌, append-nil, map}
 use Rattle.listing_rules.proofs.Prelude.{map-append, ◌+◌, ◌<◌, ◌≤◌, ℕ, add-zero, add-one, arith, leb, drop, drop_of_length-le, get_or, length}
 use Rattle.listing_rules.proofs.Prelude.{length-drop, length-set, length-take, set, take, append_snoc, drop-cons, drop-drop, drop-set-lt, get_or-drop}
@@ -13,8 +14,6 @@ use Rattle.listing_rules.specs.Records.{lies_inside}
 use Rattle.listing_rules.proofs.Bools.{and_l, and_r}
 use Rattle.listing_rules.proofs.LawfulNames.{GoodParts, good_parts}
 use Rattle.mailbox_table.specs.declared.rows.Row.{Row}
-use Rattle.mailbox_table.specs.declared.rows.Step.{Step}
-use Rattle.mailbox_table.specs.declared.rows.Step.TheVariants.{Next, Bad}
 use Rattle.mailbox_table.specs.Words.{word_of, row_of_word, with_shared, Packs}
 use Rattle.records.specs.Words.{record_of}
 use Rattle.mailbox_table.specs.Index.{name_at, rows_at, linked_words}
@@ -30,38 +29,38 @@ use Rattle.mailbox_table.proofs.KeptLaws.{Kept, kept_none, kept_indexed, kept_mo
 
 -- a word after the name x, by the tests of the code
 module _ (area x : List ℕ) (w : ℕ) where
-  pub step_outside : length area < (row_of_word w).start + (row_of_word w).len → step_of area x w ≡ Bad
+  pub step_outside : length area < (row_of_word w).start + (row_of_word w).len → step_of area x w ≡ None
   unfolding step_of good_word lies_inside record_of row_of_word
   step_outside h = rw (lt-leb ((row_of_word w).start + (row_of_word w).len) (length area) h)
 
-  pub step_flags : lawful_flags (row_of_word w).flags.bits ≡ false → step_of area x w ≡ Bad
+  pub step_flags : lawful_flags (row_of_word w).flags.bits ≡ false → step_of area x w ≡ None
   unfolding step_of good_word
   step_flags e = simp (e, and-false)
 
-  pub step_name : lawful_name (name_at area w) ≡ false → step_of area x w ≡ Bad
+  pub step_name : lawful_name (name_at area w) ≡ false → step_of area x w ≡ None
   unfolding step_of good_word
   step_name e = simp (e, and-false)
 
-  pub step_order : is_lt (byte_order x (name_at area w)) ≡ false → step_of area x w ≡ Bad
+  pub step_order : is_lt (byte_order x (name_at area w)) ≡ false → step_of area x w ≡ None
   unfolding step_of good_word
   step_order e = simp (e, and-false)
 
   pub step_good : (row_of_word w).start + (row_of_word w).len ≤ length area → lawful_flags (row_of_word w).flags.bits ≡ true →
       lawful_name (name_at area w) ≡ true
-      → is_lt (byte_order x (name_at area w)) ≡ true → step_of area x w ≡ Next (linked_row area x w)
+      → is_lt (byte_order x (name_at area w)) ≡ true → step_of area x w ≡ Some (linked_row area x w)
   unfolding step_of good_word lies_inside record_of row_of_word
   step_good h f n o = simp (le-leb ((row_of_word w).start + (row_of_word w).len) (length area) h, f, n, o)
 
   -- what a step says
-  abbrev pub StepIs : Step → Type 0
-  StepIs (Next r) = (r ≡ linked_row area x w) × (good_word area x w ≡ true)
-  StepIs Bad = good_word area x w ≡ false
+  abbrev pub StepIs : Option Row → Type 0
+  StepIs (Some r) = (r ≡ linked_row area x w) × (good_word area x w ≡ true)
+  StepIs None = good_word area x w ≡ false
 
   pub step_is_lem : StepIs (step_of area x w)
   unfolding step_of
   step_is_lem = go (good_word area x w) refl
     where
-      go : (a : Bool) → good_word area x w ≡ a → StepIs (cond a (Next (linked_row area x w)) Bad)
+      go : (a : Bool) → good_word area x w ≡ a → StepIs (cond a (Some (linked_row area x w)) None)
       go true p = (refl, p)
       go false p = p
 
@@ -88,8 +87,8 @@ abbrev relinked_word : ℕ → Row → ℕ
 relinked_word w r = with_marks (marks_of w) (word_of r)
 
 -- a row that a step gives, and its word
-module _ (area x : List ℕ) (w : ℕ) (r : Row) (e : step_of area x w ≡ Next r) where
-  step_next : StepIs area x w (Next r)
+module _ (area x : List ℕ) (w : ℕ) (r : Row) (e : step_of area x w ≡ Some r) where
+  step_next : StepIs area x w (Some r)
   step_next = rw e at (step_is_lem area x w)
 
   pub step_packs : Packs r
@@ -181,13 +180,13 @@ module _ {area before words : List ℕ} {previous : Row} {i : ℕ} (c : Linking 
       let e : i + 0 ≡ i = add-zero i in
       rw e at (sym (get_or-drop i words 0 0) ∙ ap (λ (l : List ℕ). get_or l 0 0) c.later ∙ get_or-drop i before 0 0)
 
-  pub linking_bad : step_of area (name_in area previous) (get_or words i 0) ≡ Bad → linked area [] before ≡ false
+  pub linking_bad : step_of area (name_in area previous) (get_or words i 0) ≡ None → linked area [] before ≡ false
   linking_bad e = sym c.left ∙ linked_cons area (name_in area previous) before i h ∙ rw bad
     where
       bad : good_word area (name_in area previous) (get_or before i 0) ≡ false
       bad = rw word_here at (rw e at (step_is_lem area (name_in area previous) (get_or words i 0)))
 
-  module _ (r : Row) (e : step_of area (name_in area previous) (get_or words i 0) ≡ Next r) where
+  module _ (r : Row) (e : step_of area (name_in area previous) (get_or words i 0) ≡ Some r) where
     abbrev v : ℕ
     v = relinked_word (get_or words i 0) r
 

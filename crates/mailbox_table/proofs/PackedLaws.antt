@@ -1,8 +1,9 @@
 -- The pass over the packed bytes: the row at a place, the loop's invariant, and what the pass answers. Rests on the laws of packed rows and
 -- records in listing_rules, and on WordLaws.
+use Rattle.std.specs.Prelude.{Option, Some, None}
 use Rattle.listing_rules.proofs.Prelude.{◌∙◌, ◌≡◌, ap, refl, sym, Bool, ◌&&◌, and-false, cond, false, true, List, [], ◌++◌, ◌∷◌, append-nil, map, ◌%◌}
 use Rattle.listing_rules.proofs.Prelude.{◌*◌, ◌+◌, ◌-◌, ◌<◌, ◌≤◌, min, suc, ℕ, add-zero, zero-add, add-one, arith, leb, drop, get_or, length}
-use Rattle.listing_rules.proofs.Prelude.{length-map, length-set, length-take, set, take, append_snoc, drop-drop, drop-set-lt, take-suc-set, le-leb}
+use Rattle.listing_rules.proofs.Prelude.{length-drop, length-map, length-set, length-take, set, take, take_all, get_or-drop, append_snoc, drop-drop, drop-set-lt, take-suc-set, le-leb}
 use Rattle.listing_rules.proofs.Prelude.{leb-false, leb-true, lt-leb}
 use Rattle.listing_rules.specs.Table.{rows_fill, packed_table}
 use Rattle.listing_rules.specs.Records.{Record, records_after, packed_records}
@@ -11,27 +12,39 @@ use Rattle.listing_rules.proofs.Passes.{packed_some, packed_none}
 use Rattle.listing_rules.proofs.Rows.{at_end_lem, at_stub, at_bad, at_row}
 use Rattle.listing_rules.proofs.RecordLaws.{packed_count}
 use Rattle.listing_rules.proofs.RecordPlaces.{record_there, records_at, records_end}
-use Rattle.mailbox_table.specs.declared.Indexing.TheVariants.{Rows, Fails}
 use Rattle.mailbox_table.specs.declared.rows.Row.{Row}
-use Rattle.mailbox_table.specs.declared.rows.Step.{Step}
-use Rattle.mailbox_table.specs.declared.rows.Step.TheVariants.{Next, Bad}
 use Rattle.mailbox_table.specs.Words.{word_of, Packs}
 use Rattle.records.specs.Words.{cell_of, record_of}
 use Rattle.mailbox_table.specs.Below.{with_marks}
 use Rattle.mailbox_table.specs.Packed.{whole_there, row_there, step_at, has_room, unpacking_of, Splits}
 use Rattle.mailbox_table.proofs.WordLaws.{record_word, row_cell}
 
+-- the bytes from a place on, as the code reads them
+module _ (t : List ℕ) (at : ℕ) where
+  rest_whole : take (length t - at) (drop at t) ≡ drop at t
+  rest_whole = take_all (length t - at) (drop at t) (omega (arith, length-drop at t))
+
+  pub rest_length : length (take (length t - at) (drop at t)) ≡ length t - at
+  rest_length = ap length rest_whole ∙ length-drop at t
+
+  pub rest_at : (k : ℕ) → get_or (take (length t - at) (drop at t)) k 0 ≡ get_or t (at + k) 0
+  rest_at k = ap (λ (l : List ℕ). get_or l k 0) rest_whole ∙ get_or-drop at t k 0
+
+  -- and behind the four bytes before a name
+  pub behind_length : length (take (length (take (length t - at) (drop at t)) - 4) (drop 4 (take (length t - at) (drop at t)))) ≡ length t - at - 4
+  behind_length = simp (length-take, length-drop) (omega (arith, length-drop at t))
+
 -- the row at a place, by the tests of the code
 module _ (t : List ℕ) (at : ℕ) where
-  pub step_stub : length t - at < 4 → step_at t at ≡ Bad
+  pub step_stub : length t - at < 4 → step_at t at ≡ None
   unfolding step_at whole_there
   step_stub h = rw (lt-leb 4 (length t - at) h)
 
-  pub step_short : length t - at - 4 < get_or t (at + 3) 0 → step_at t at ≡ Bad
+  pub step_short : length t - at - 4 < get_or t (at + 3) 0 → step_at t at ≡ None
   unfolding step_at whole_there
   step_short h = simp (lt-leb (get_or t (at + 3) 0) (length t - at - 4) h, and-false)
 
-  pub step_whole : 4 ≤ length t - at → get_or t (at + 3) 0 ≤ length t - at - 4 → step_at t at ≡ Next (row_there t at)
+  pub step_whole : 4 ≤ length t - at → get_or t (at + 3) 0 ≤ length t - at - 4 → step_at t at ≡ Some (row_there t at)
   unfolding step_at whole_there
   step_whole h k = simp (le-leb 4 (length t - at) h, le-leb (get_or t (at + 3) 0) (length t - at - 4) k)
 
@@ -41,15 +54,15 @@ module _ (t : List ℕ) (at : ℕ) where
   row_there_lem f l = λ i. record { flags = record { bits = f i }; start = at + 4; len = l i; shared = 0 }
 
   -- what a step says
-  abbrev pub StepIs : Step → Type 0
-  StepIs (Next r) = (r ≡ row_there t at) × (whole_there t at ≡ true)
-  StepIs Bad = whole_there t at ≡ false
+  abbrev pub StepIs : Option Row → Type 0
+  StepIs (Some r) = (r ≡ row_there t at) × (whole_there t at ≡ true)
+  StepIs None = whole_there t at ≡ false
 
   pub step_is_lem : StepIs (step_at t at)
   unfolding step_at
   step_is_lem = go (whole_there t at) refl
     where
-      go : (a : Bool) → whole_there t at ≡ a → StepIs (cond a (Next (row_there t at)) Bad)
+      go : (a : Bool) → whole_there t at ≡ a → StepIs (cond a (Some (row_there t at)) None)
       go true p = (refl, p)
       go false p = p
 
@@ -65,8 +78,8 @@ abbrev word_there : List ℕ → ℕ → Row → ℕ
 word_there t at r = with_marks (get_or t (at + 2) 0) (word_of r)
 
 -- a row that a step gives: where it lies, and what its word tells
-module _ (t : List ℕ) (at : ℕ) (r : Row) (e : step_at t at ≡ Next r) where
-  step_next : StepIs t at (Next r)
+module _ (t : List ℕ) (at : ℕ) (r : Row) (e : step_at t at ≡ Some r) where
+  step_next : StepIs t at (Some r)
   step_next = rw e at (step_is_lem t at)
 
   pub step_inside : r.start + r.len ≤ length t
@@ -154,13 +167,13 @@ module _ {t before : List ℕ} {limit : ℕ} {words : List ℕ} {n at : ℕ} (c 
     pub splitting_full : limit ≤ n → splits limit 0 0 t ≡ false
     splitting_full h = sym c.left ∙ splits_full t limit n at inside h
 
-    pub splitting_bad : step_at t at ≡ Bad → splits limit 0 0 t ≡ false
+    pub splitting_bad : step_at t at ≡ None → splits limit 0 0 t ≡ false
     splitting_bad e = sym c.left ∙ splits_bad t limit n at inside bad
       where
-        bad : StepIs t at Bad
+        bad : StepIs t at None
         bad = rw e at (step_is_lem t at)
 
-    pub splitting_more : length t ≤ 32768 → ((k : ℕ) → get_or t k 0 < 256) → n < limit → limit ≤ length before → (r : Row) → step_at t at ≡ Next r
+    pub splitting_more : length t ≤ 32768 → ((k : ℕ) → get_or t k 0 < 256) → n < limit → limit ≤ length before → (r : Row) → step_at t at ≡ Some r
         → Splitting t before limit (set words n (word_there t at r)) (n + 1) (r.start + r.len)
     splitting_more h b k l r e =
         record {
@@ -196,7 +209,7 @@ module _ {t before : List ℕ} {limit : ℕ} {words : List ℕ} {n at : ℕ} (c 
   )
 
 -- what the pass answers
-pub unpacking_long : (t : List ℕ) (room : ℕ) → 32768 < length t → unpacking_of t room ≡ Fails
+pub unpacking_long : (t : List ℕ) (room : ℕ) → 32768 < length t → unpacking_of t room ≡ None
 unfolding unpacking_of has_room
 unpacking_long t room h = rw (packed_none t (rw (lt-leb (length t) 32768 h)))
 
@@ -209,15 +222,15 @@ has_room_lem t room h = go (rows_fill 0 t) refl
     go false e = rw (packed_none t (rw (le-leb (length t) 32768 h, e)), e)
 
 module _ {t before after : List ℕ} (limit : ℕ) (e : limit ≡ min (length before) 512) (h : length t ≤ 32768) where
-  pub splits_fails : splits limit 0 0 t ≡ false → length after ≡ length before → Splits t before after Fails
+  pub splits_fails : splits limit 0 0 t ≡ false → length after ≡ length before → Splits t before after None
   unfolding unpacking_of
   splits_fails d k = record { answer = rw (has_room_lem t (length before) h, ← e, d); room = k; records = tt; stays = tt }
 
-  pub splits_rows : {n at : ℕ} → Splitting t before limit after n at → length t ≤ at → Splits t before after (Rows n)
+  pub splits_rows : {n at : ℕ} → Splitting t before limit after n at → length t ≤ at → Splits t before after (Some n)
   unfolding unpacking_of
   splits_rows {n} c k =
       let w = splitting_done c k in
       let number : n ≡ length (packed_records t) = omega
       (arith, ap length w.1, length-map (take n after) record_of, length-take n after, c.size, c.count) in
       record
-      { answer = rw (has_room_lem t (length before) h, ← e, w.0) (ap Rows number); room = c.size; records = (number, w.1, w.2); stays = c.later }
+      { answer = rw (has_room_lem t (length before) h, ← e, w.0) (ap Some number); room = c.size; records = (number, w.1, w.2); stays = c.later }

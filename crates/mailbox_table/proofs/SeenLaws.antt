@@ -1,7 +1,7 @@
 -- The rows that a reader sees, of an index: the bit of a reader, a word with another number of shared bytes, that the seen words tell the seen
 -- records and are an index of their rows, and the pass that moves them to the front. Rests on WordLaws, SharedLaws, and the sets of octets.
 use Rattle.listing_rules.proofs.Prelude.{◌∙◌, ◌≡◌, ap, refl, sym, Bool, cond, false, false≢true, or-false, true, List, [], ◌++◌, ◌∷◌, append_assoc}
-use Rattle.listing_rules.proofs.Prelude.{append-nil, map, ◌%◌, ◌*◌, ◌+◌, ◌-◌, ◌/◌, ◌<◌, ◌^◌, ◌≤◌, min, suc, zero, ℕ, div-eq_of_lt, pow-suc, add-one}
+use Rattle.listing_rules.proofs.Prelude.{append-nil, map, ◌%◌, ◌*◌, ◌+◌, ◌-◌, ◌/◌, ◌<◌, ◌^◌, ◌≤◌, min, suc, zero, ℕ, div-eq_of_lt, add-one}
 use Rattle.listing_rules.proofs.Prelude.{arith, eqb, leb, drop, drop_of_length-le, get_or, length, length-append, length-drop, length-map, length-set}
 use Rattle.listing_rules.proofs.Prelude.{length-take, set, take, take-append-drop, append_snoc, drop-cons, drop-drop, drop-set-lt, get_or-drop}
 use Rattle.listing_rules.proofs.Prelude.{length-take-le, take_at, take-suc-set, eq-eqb, eqb-false, eqb-true, le-leb, leb-false, lt-leb, ltb-true}
@@ -89,20 +89,15 @@ module _ (n w : ℕ) (h : n < 256) where
   unfolding name_at
   shared_name area = rw shared_with
 
--- the bit of a reader, doubled from that of reader 0 on
+-- the bit of a reader
 pub member_none : (reader : ℕ) → 7 < reader → 0 ≡ member_of reader
 unfolding member_of is_reader
 member_none reader h = rw (lt-leb reader 7 h)
 
-pub member_is : (reader : ℕ) → reader ≤ 7 → 2 ^ reader ≡ member_of reader
+pub member_is : (reader : ℕ) → reader ≤ 7 → 1 * 2 ^ reader % 256 ≡ member_of reader
 unfolding member_of is_reader
-member_is reader h = rw (le-leb reader 7 h)
-
-pub member_next : (i : ℕ) → 2 ^ i * 2 ≡ 2 ^ (i + 1)
-member_next i = rw (add-one i, pow-suc 2 i)
-
-pub member_fits : (i : ℕ) → i < 7 → 2 ^ i * 2 < 2 ^ 8
-member_fits i h = let small : 2 ^ i ≤ 2 ^ 6 = pow_mono {i = i} {j = 6} (omega arith) in omega (arith, small)
+member_is reader h =
+    let small : 2 ^ reader ≤ 2 ^ 7 = pow_mono {i = reader} {j = 7} h in rw (le-leb reader 7 h) (omega (arith, small))
 
 -- the number of a word's shared bytes, in the word
 pub shared_fits : (w : ℕ) → (row_of_word w).shared < 256

@@ -1,7 +1,15 @@
 -- How far two names are alike, and what that says of their order. Rests on the order of bytes in listing_rules.
-use Rattle.listing_rules.proofs.Prelude.{◌∙◌, ◌≡◌, refl, sym, Bool, cond, false, false≢true, true, ◌⊎◌, inl, inr, List, [], ◌∷◌, ◌+◌, ◌<◌, ◌≤◌}
-use Rattle.listing_rules.proofs.Prelude.{compare, min, suc, ℕ, add-zero, add-one, dec_le, arith, eqb, ltb, drop, drop_of_length-le, get_or, length}
-use Rattle.listing_rules.proofs.Prelude.{drop-cons, eq-eqb, eqb-false, eqb-true, le-ltb, lt-ltb, ne_eqb}
+use Rattle.std.specs.Prelude.{Option, Some, None, MatchOption}
+use Rattle.std.specs.Option.{option_partial_cmp}
+use Rattle.std.specs.Ordering as Ordering
+use Rattle.std.specs.Ordering.{nat_cmp, partial_lt}
+use Rattle.std.specs.List.{HoldsAt, prefix_len, zip}
+use Rattle.std.proofs.lemmas.List.Folds.{length-prefix_len}
+use Rattle.std.proofs.lemmas.Bool.Decides.{nat_tests}
+use denote.Ref.{Bor}
+use Rattle.listing_rules.proofs.Prelude.{◌∙◌, ◌≡◌, ap, take, refl, sym, Bool, cond, false, false≢true, true, List, [], ◌∷◌, ◌<◌, ◌≤◌}
+use Rattle.listing_rules.proofs.Prelude.{compare, suc, ℕ, dec_le, arith, eqb, ltb, get_or, length}
+use Rattle.listing_rules.proofs.Prelude.{eqb-false, eqb-true, le-ltb, lt-ltb}
 use Rattle.listing_rules.specs.Orders.{lex_by, byte_order, then_by, is_lt}
 use Rattle.listing_rules.proofs.Order.{View, less, equal, more, view, eq_compare}
 use Rattle.mailbox_table.specs.Shared.{shared_len}
@@ -34,11 +42,6 @@ pub shared_nil_l : (b : List ℕ) → shared_len [] b ≡ 0
 unfolding shared_len
 shared_nil_l b = refl
 
-shared_nil : (a : List ℕ) → shared_len a [] ≡ 0
-unfolding shared_len
-shared_nil [] = refl
-shared_nil (x ∷ a) = refl
-
 shared_le_l : (a b : List ℕ) → shared_len a b ≤ length a
 unfolding shared_len
 shared_le_l [] b = omega arith
@@ -59,31 +62,16 @@ shared_le_r (x ∷ a) (y ∷ b) = go (eqb x y) (shared_le_r a b)
     go true h = omega arith
     go false h = omega arith
 
--- a loop over the bytes that are alike
-module _ (a b : List ℕ) (i : ℕ) where
-  pub shared_more : i < length a → i < length b → get_or a i 0 ≡ get_or b i 0 → i + shared_len (drop i a) (drop i b) ≡ i + 1 + shared_len (drop (i + 1) a) (drop (i + 1) b)
-  shared_more h k e =
-      rw
-      (add-one i, drop-cons a i 0 h, drop-cons b i 0 k, shared_same (get_or a i 0) (get_or b i 0) (drop (suc i) a) (drop (suc i) b) (eq-eqb (get_or a i 0) (get_or b i 0) e))
-      (omega arith)
+-- what is taken from the front of both while it is equal
+shared_front : (a b : List ℕ) → prefix_len (λ (p : ℕ × ℕ). eqb p.0 p.1) (zip a b) ≡ shared_len a b
+unfolding shared_len
+shared_front [] b = refl
+shared_front (x ∷ a) [] = refl
+shared_front (x ∷ a) (y ∷ b) = rw (shared_front a b) (ap (λ (n : ℕ). cond (eqb x y) n 0) (omega arith))
 
-  pub shared_stop : i < length a → i < length b → (get_or a i 0 ≡ get_or b i 0 → ⊥) → i + shared_len (drop i a) (drop i b) ≡ i
-  shared_stop h k e =
-      rw
-      (drop-cons a i 0 h, drop-cons b i 0 k, shared_other (get_or a i 0) (get_or b i 0) (drop (suc i) a) (drop (suc i) b) (ne_eqb (get_or a i 0) (get_or b i 0) e))
-      (add-zero i)
-
-  pub least : min (length a) (length b) ≤ i → (length a ≤ i) ⊎ (length b ≤ i)
-  least h = go (dec_le (length a) i)
-    where
-      go : Dec (length a ≤ i) → (length a ≤ i) ⊎ (length b ≤ i)
-      go (yes k) = inl k
-      go (no k) = inr (omega arith)
-
-  pub shared_out : (length a ≤ i) ⊎ (length b ≤ i) → i + shared_len (drop i a) (drop i b) ≡ i
-  unfolding shared_len
-  shared_out (inl h) = rw (drop_of_length-le a h) (add-zero i)
-  shared_out (inr h) = rw (drop_of_length-le b h, shared_nil (drop i a)) (add-zero i)
+pub shared_taken : (a b : List ℕ) →
+    length (take (prefix_len (λ (p : ℕ × ℕ). eqb p.0 p.1) (zip a b)) (zip a b)) ≡ shared_len a b
+shared_taken a b = length-prefix_len (λ (p : ℕ × ℕ). eqb p.0 p.1) (zip a b) ∙ shared_front a b
 
 -- a prefix first
 order_nil_nil : is_lt (byte_order [] []) ≡ false
@@ -131,6 +119,22 @@ order_differs (x ∷ a) (y ∷ b) h k = go (eqb x y) refl (order_differs a b)
         → is_lt (byte_order (x ∷ a) (y ∷ b)) ≡ ltb (get_or (x ∷ a) (shared_len (x ∷ a) (y ∷ b)) 0) (get_or (y ∷ b) (shared_len (x ∷ a) (y ∷ b)) 0)
     go true e ih = rw (order_same x y a b e, shared_same x y a b e) (ih (omega (arith, shared_same x y a b e)) (omega (arith, shared_same x y a b e)))
     go false e ih = rw (order_other x y a b e, shared_other x y a b e)
+
+-- where both are read behind what they share: nothing stands before a byte, and of two bytes the less stands first
+pub order_decides : (a b : List ℕ) (s : ℕ) → s ≡ shared_len a b → (x y : Option (Bor ℕ))
+    → MatchOption x (length a ≤ s) (λ v. (s < length a) × HoldsAt (λ z. v.now ≡ z) a s)
+    → MatchOption y (length b ≤ s) (λ v. (s < length b) × HoldsAt (λ z. v.now ≡ z) b s)
+    → partial_lt (option_partial_cmp (λ (v w : Bor ℕ). Some (nat_cmp v.now w.now))) x y ≡ is_lt (byte_order a b)
+order_decides a b s e None None h k = sym (order_ends a b (omega (arith, e)))
+order_decides a b s e (Some v) None h k = sym (order_ends a b (omega (arith, e)))
+order_decides a b s e None (Some w) h k = sym (order_begins a b (omega (arith, e)) (omega (arith, e)))
+order_decides a b s e (Some v) (Some w) h k =
+    less_first v.now w.now
+    ∙ (λ i. ltb (h.1 0 i) (k.1 0 i))
+    ∙ ap (λ (n : ℕ). ltb (get_or a n 0) (get_or b n 0)) e ∙ sym (order_differs a b (omega (arith, e)) (omega (arith, e)))
+  where
+    less_first : (m n : ℕ) → Ordering.is_lt (nat_cmp m n) ≡ ltb m n
+    less_first m n = grind (arith, nat_tests)
 
 -- of two names that ascend, the second goes on behind what they share
 pub ascending_goes_on : (a b : List ℕ) → is_lt (byte_order a b) ≡ true → shared_len a b < length b

@@ -1,6 +1,5 @@
 -- A row's number tells the row and its record, with marks or readers above it too, and a name that is clamped to its area is the name. Rests on the library alone.
-use Rattle.listing_rules.proofs.Prelude.{◌∙◌, ◌≡◌, ap, refl, sym, List, [], ◌∷◌, map, ◌%◌, ◌*◌, ◌+◌, ◌-◌, ◌/◌, ◌<◌, ◌≤◌, ℕ, le_refl, arith, drop}
-use Rattle.listing_rules.proofs.Prelude.{drop_of_length-le, length, length-drop, take, take_all, take-nil}
+use Rattle.listing_rules.proofs.Prelude.{◌∙◌, ◌≡◌, ap, refl, sym, List, [], ◌∷◌, map, ◌%◌, ◌*◌, ◌+◌, ◌/◌, ◌<◌, ℕ, arith}
 use Rattle.listing_rules.specs.Table as Table
 use Rattle.listing_rules.specs.Records.{row_of, record_rows}
 use Rattle.mailbox_table.specs.declared.rows.Row.{Row}
@@ -24,17 +23,6 @@ row_word r h p = λ i. record { flags = record { bits = bits_are i }; start = st
 
     shared_is : word_of r / 1099511627776 % 256 ≡ r.shared
     shared_is = omega arith
-
-module _ (area : List ℕ) (start len : ℕ) where
-  pub name_out : length area ≤ start → take (length area - length area) (drop (length area) area) ≡ take len (drop start area)
-  name_out h =
-      rw (drop_of_length-le area (le_refl (length area)), drop_of_length-le area h, take-nil {A = ℕ} len)
-      (take-nil {A = ℕ} (length area - length area))
-
-  pub name_cut : length area - start < len → take (length area - start) (drop start area) ≡ take len (drop start area)
-  name_cut h =
-      take_all (length area - start) (drop start area) (omega (arith, length-drop start area)) ∙ sym
-      (take_all len (drop start area) (omega (arith, length-drop start area)))
 
 -- a marked word has its marks, and tells its row
 pub marks_with : (m w : ℕ) → m < 65536 → marks_of (with_marks m w) ≡ m

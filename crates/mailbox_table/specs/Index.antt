@@ -1,4 +1,5 @@
 -- The index of a table's rows: a word for each, over the area where the names lie.
+use Rattle.std.specs.Prelude.{Option, Some, None}
 use Rattle.std.specs.Prelude.{◌≡◌, true, cond, ◌&&◌, List, [], ◌∷◌, map, ℕ, ◌+◌, ◌<◌, ◌≤◌, leb, length, take, drop, get_or, replicate}
 use Rattle.listing_rules.specs.Lists.{every}
 use Rattle.listing_rules.specs.Orders.{ascends}
@@ -7,8 +8,6 @@ use Rattle.listing_rules.specs.Table as Table
 use Rattle.listing_rules.specs.Table.{rows, names, passes}
 use Rattle.listing_rules.specs.Records.{Record}
 use Rattle.records.specs.Words.{record_of}
-use Rattle.mailbox_table.specs.declared.Indexing.{Indexing}
-use Rattle.mailbox_table.specs.declared.Indexing.TheVariants.{Rows, Fails}
 use Rattle.mailbox_table.specs.declared.rows.Row.{Row}
 use Rattle.mailbox_table.specs.Words.{row_of_word, with_shared}
 use Rattle.mailbox_table.specs.Shared.{shared_len}
@@ -60,14 +59,14 @@ pub record Index (area words : List ℕ) : Type 0 where
   pub lawful : Lawful (rows_at area words)
 
 -- The number of rows, exactly if the table passes and there is room for a word for each: with room for 512, if it passes.
-unfoldable pub indexing_of : Table.Table → ℕ → Indexing
-indexing_of t room = cond (passes t && leb (length (rows t)) room) (Rows (length (rows t))) Fails
+unfoldable pub indexing_of : Table.Table → ℕ → Option ℕ
+indexing_of t room = cond (passes t && leb (length (rows t)) room) (Some (length (rows t))) None
 
 -- where rows are found, the words at the front are their index over the area, and mean their records; every bit of them is decided by `cells`,
 -- the words of these records
-abbrev pub Found : List ℕ → List Table.Row → List Record → List ℕ → List ℕ → Indexing → Type 0
-Found area rs records cells words Fails = Unit {0}
-Found area rs records cells words (Rows n) =
+abbrev pub Found : List ℕ → List Table.Row → List Record → List ℕ → List ℕ → Option ℕ → Type 0
+Found area rs records cells words None = Unit {0}
+Found area rs records cells words (Some n) =
     (n ≡ length rs)
     × (rows_at area (take n words) ≡ rs)
     × Indexed area (take n words)
@@ -75,13 +74,13 @@ Found area rs records cells words (Rows n) =
     × (take n words ≡ linked_words area [] cells)
 
 -- the lent words that hold no row: after the rows they stay as they were lent, and on failure every word is zero
-abbrev pub Rest : List ℕ → List ℕ → Indexing → Type 0
-Rest before after Fails = after ≡ replicate (length before) 0
-Rest before after (Rows n) = drop n after ≡ drop n before
+abbrev pub Rest : List ℕ → List ℕ → Option ℕ → Type 0
+Rest before after None = after ≡ replicate (length before) 0
+Rest before after (Some n) = drop n after ≡ drop n before
 
 -- What an index promises of a table with these records and their words `cells`, whose names lie in the area, of the lent words before and
 -- after it, and of its answer.
-pub record Indexes (area : List ℕ) (t : Table.Table) (records : List Record) (cells before after : List ℕ) (r : Indexing) : Type 0 where
+pub record Indexes (area : List ℕ) (t : Table.Table) (records : List Record) (cells before after : List ℕ) (r : Option ℕ) : Type 0 where
   pub answer : r ≡ indexing_of t (length before)
   pub room : length after ≡ length before
   pub found : Found area (rows t) records cells after r

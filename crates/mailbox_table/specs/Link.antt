@@ -1,4 +1,5 @@
 -- One pass over words in row order: each row is judged against the name before it, and its word gets what the two share.
+use Rattle.std.specs.Prelude.{Option, Some, None}
 use Rattle.std.specs.Prelude.{◌≡◌, Bool, true, false, cond, ◌&&◌, List, [], ◌∷◌, map, ℕ, length, take, drop}
 use Rattle.listing_rules.specs.Lists.{every}
 use Rattle.listing_rules.specs.Orders.{byte_order, is_lt}
@@ -8,8 +9,6 @@ use Rattle.listing_rules.specs.Table as Table
 use Rattle.listing_rules.specs.Table.{rows_pass}
 use Rattle.listing_rules.specs.Records.{lies_inside}
 use Rattle.mailbox_table.specs.declared.rows.Row.{Row}
-use Rattle.mailbox_table.specs.declared.rows.Step.{Step}
-use Rattle.mailbox_table.specs.declared.rows.Step.TheVariants.{Next, Bad}
 use Rattle.records.specs.Words.{record_of}
 use Rattle.mailbox_table.specs.Words.{row_of_word}
 use Rattle.mailbox_table.specs.Shared.{shared_len}
@@ -36,8 +35,8 @@ abbrev pub linked_row : List ℕ → List ℕ → ℕ → Row
 linked_row area x w =
     record { flags = (row_of_word w).flags; start = (row_of_word w).start; len = (row_of_word w).len; shared = shared_len x (name_at area w) }
 
-unfoldable pub step_of : List ℕ → List ℕ → ℕ → Step
-step_of area x w = cond (good_word area x w) (Next (linked_row area x w)) Bad
+unfoldable pub step_of : List ℕ → List ℕ → ℕ → Option Row
+step_of area x w = cond (good_word area x w) (Some (linked_row area x w)) None
 
 -- every word is good after the one before it, the first after x
 unfoldable pub linked : List ℕ → List ℕ → List ℕ → Bool

@@ -1,11 +1,26 @@
 // The flags of a row: a set of named members, bit by bit as document 01 numbers them.
 ghost use Rattle.std.specs.Prelude.{◌≡◌};
 ghost use Rattle.listing_rules.specs.Flags.{lawful_flags, has_use};
-ghost use Rattle.octets.specs.Sets.{contains, union, touches};
 
-#[derive(Clone, Copy)]
+use octets::Members;
+
+#[derive(Clone, Copy, PartialEq, Eq)]
 pub struct Flags {
     pub bits: u16,
+}
+
+impl Members for Flags {
+    ghost number = { λ s. s.bits };
+
+    ghost width = { 16 };
+
+    fn number(self) -> u16 {
+        self.bits
+    }
+
+    fn of_number(n: u16) -> Flags {
+        Flags { bits: n }
+    }
 }
 
 impl Flags {
@@ -64,29 +79,6 @@ impl Flags {
                 | Flags::USES.bits),
     };
 
-    // What is in either set.
-    pub fn union(self, other: Flags) -> Flags
-        ensures { result.bits ≡ union self.bits other.bits }
-    {
-        Flags {
-            bits: self.bits | other.bits,
-        }
-    }
-
-    // Whether every one of these members is in the set.
-    pub fn has(self, members: Flags) -> bool
-        ensures { result ≡ contains self.bits members.bits }
-    {
-        self.bits & members.bits == members.bits
-    }
-
-    // Whether some of these members are in the set.
-    fn has_some(self, members: Flags) -> bool
-        ensures { result ≡ touches self.bits members.bits }
-    {
-        self.bits & members.bits != Flags::NONE.bits
-    }
-
     // Whether some special use is in the set.
     pub fn has_use(self) -> bool
         ensures { result ≡ has_use self.bits }
@@ -99,7 +91,7 @@ impl Flags {
         ensures { result ≡ lawful_flags self.bits }
     {
         // A row that does not exist is subscribed and nothing else.
-        let stands = self.has(Flags::EXISTS) | (self.bits == Flags::SUBSCRIBED.bits);
+        let stands = self.has(Flags::EXISTS) | (self == Flags::SUBSCRIBED);
         let both_marks = self.has(Flags::MARKED) & self.has(Flags::UNMARKED);
         !self.has_some(Flags::UNNAMED) & stands & !both_marks
     }

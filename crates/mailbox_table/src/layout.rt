@@ -1,11 +1,12 @@
 // Names without overlap. Each byte of a name is marked in a map of the area, and a byte that is marked already tells: the time goes
 // with the bytes of the names, and no row is held against another.
-ghost use Rattle.std.specs.Prelude.{◌≡◌, false, map, replicate};
+ghost use Rattle.std.specs.Prelude.{◌≡◌, map};
 ghost use Rattle.listing_rules.specs.Records.{all_apart};
 ghost use Rattle.records.specs.Words.{record_of};
 ghost use Rattle.mailbox_table.specs.Layout.{Maps, Marked, Mapped};
 
 use super::rows::Row;
+use octets::filled;
 use records::MAX_BYTES;
 
 // Whether no byte belongs to two names.
@@ -13,14 +14,12 @@ pub(crate) fn lie_apart(words: &[u64]) -> bool
     requires { Mapped words.now }
     ensures { result ≡ all_apart (map record_of words.now) }
 {
-    let mut used = no_marks();
-    let mut i = 0;
-    while i < words.len() {
-        let row = Row::of_word(words[i]);
+    let mut used = filled(false);
+    for word in words {
+        let row = Row::of_word(*word);
         if !mark_name(&mut used, row.start, row.len) {
             return false;
         }
-        i += 1;
     }
     true
 }
@@ -31,19 +30,10 @@ fn mark_name(used: &mut [bool; MAX_BYTES], start: usize, len: usize) -> bool
     requires { Maps used.old start len }
     ensures { Marked used.old used.new start len result }
 {
-    let end = start + len;
     let mut taken = false;
-    let mut k = start;
-    while k < end {
-        taken = taken | used[k];
+    for k in start..start + len {
+        taken |= used[k];
         used[k] = true;
-        k += 1;
     }
     !taken
-}
-
-fn no_marks() -> [bool; MAX_BYTES]
-    ensures { result ≡ replicate 32768 false }
-{
-    [false; MAX_BYTES]
 }

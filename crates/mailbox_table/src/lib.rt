@@ -8,6 +8,7 @@
 #![tactic(auto)]
 
 pub mod flags;
+mod indexed;
 mod inferiors;
 mod layout;
 mod link;
@@ -17,69 +18,54 @@ mod readers;
 pub mod rows;
 pub mod scan;
 
-ghost use Rattle.std.specs.Prelude.{◌≡◌, map, length, take, replicate};
+ghost use Rattle.std.specs.Prelude.{◌≡◌, cond, is_some, map, length, take, replicate};
 ghost use Rattle.listing_rules.specs.Table.{passes, packed_table};
 ghost use Rattle.listing_rules.specs.Records.{packed_records};
 ghost use Rattle.records.specs.Words.{cell_of, record_of};
 ghost use Rattle.records.specs.Lent.{word_table};
 ghost use Rattle.mailbox_table.specs.Index.{Indexes};
 
+pub use indexed::IndexedRows;
 use packed::find_rows;
 use raw::find_words;
 pub use readers::{MAX_READER, Readers, readers_of, see_rows};
 pub use records::{MAX_ROWS, no_words};
-
-// What an index of a table answers: the number of its rows, or that the table does not pass (or has more rows than there is
-// room for).
-#[derive(Clone, Copy)]
-pub enum Indexing {
-    Rows(usize),
-    Fails,
-}
 
 // Check 1: whether the packed table passes.
 pub fn check(table: &[u8]) -> bool
     ensures { result ≡ passes (packed_table table.now) }
 {
     let mut words = no_words();
-    match index(table, &mut words) {
-        Indexing::Rows(_) => true,
-        Indexing::Fails => false,
-    }
+    index(table, &mut words).is_some()
 }
 
 // Check 1, and the index of the rows at the front of `words`: with room for 512 words it fails exactly if the table does not
 // pass. The words after the rows stay as they were lent. Where it fails, every word is zero.
-pub fn index(table: &[u8], words: &mut [u64]) -> Indexing
+pub fn index(table: &[u8], words: &mut [u64]) -> Option<usize>
     ensures { Indexes table.now (packed_table table.now) (packed_records table.now)
         (map cell_of (packed_records table.now)) words.old words.new result }
 {
-    let Indexing::Rows(n) = find_rows(table, words) else {
-        clear_words(words);
-        return Indexing::Fails;
-    };
-    Indexing::Rows(n)
+    let found = find_rows(table, words);
+    clear_if_none(found, words);
+    found
 }
 
-// Check 1 of the first `count` of the records, and the index of their rows as `index` gives it.
-pub fn index_words(area: &[u8], raw: &[u64], count: usize, words: &mut [u64]) -> Indexing
+// Check 1 of the first `count` of the records, and the index of their rows as `index` gives it. The count stands beside the records, since
+// the promise speaks of one above their number, too.
+pub fn index_words(area: &[u8], raw: &[u64], count: usize, words: &mut [u64]) -> Option<usize>
     ensures { Indexes area.now (word_table area.now raw.now count)
         (take count (map record_of raw.now)) (take count raw.now) words.old words.new result }
 {
-    let Indexing::Rows(n) = find_words(area, raw, count, words) else {
-        clear_words(words);
-        return Indexing::Fails;
-    };
-    Indexing::Rows(n)
+    let found = find_words(area, raw, count, words);
+    clear_if_none(found, words);
+    found
 }
 
-// Zeros in all words.
-pub fn clear_words(words: &mut [u64])
-    ensures { words.new ≡ replicate (length words.old) 0 }
+// Where nothing was found, zeros in all words; else they stay.
+fn clear_if_none(found: Option<usize>, words: &mut [u64])
+    ensures { words.new ≡ cond (is_some found) words.old (replicate (length words.old) 0) }
 {
-    let mut i = 0;
-    while i < words.len() {
-        words[i] = 0;
-        i += 1;
+    if found.is_none() {
+        words.fill(0);
     }
 }

@@ -7,11 +7,11 @@ ghost use Rattle.mailbox_table.specs.Below.{marks_of, with_marks};
 ghost use Rattle.mailbox_table.specs.Shared.{shared_len};
 ghost use Rattle.mailbox_table.specs.Link.{name_in, step_of, linked, Links, words_pass};
 
+use super::indexed::IndexedRows;
 use super::inferiors::inferiors_pass;
-use super::rows::{Row, Step, name_of};
+use super::rows::{Row, name_of};
 use super::scan::{marks_of, with_marks};
 use names::lawful_name;
-use octets::least;
 
 // Check 1 of rows, whatever form they come from; where they pass, the words become their index.
 pub(crate) fn rows_pass(area: &[u8], words: &mut [u64]) -> bool
@@ -21,7 +21,7 @@ pub(crate) fn rows_pass(area: &[u8], words: &mut [u64]) -> bool
     if !link_rows(area, words) {
         return false;
     }
-    inferiors_pass(area, words)
+    inferiors_pass(IndexedRows { area, words })
 }
 
 // Whether each name lies in the area, flags and names are lawful, and the names ascend: then the words are the index of their
@@ -31,15 +31,12 @@ fn link_rows(area: &[u8], words: &mut [u64]) -> bool
         (linked area.now [] words.old) result }
 {
     let mut previous = Row::of_word(0);
-    let mut i = 0;
-    while i < words.len() {
-        let word = words[i];
-        let Step::Next(row) = next_row(area, previous, word) else {
+    for word in words.iter_mut() {
+        let Some(row) = next_row(area, previous, *word) else {
             return false;
         };
-        words[i] = relinked(row, word);
+        *word = relinked(row, *word);
         previous = row;
-        i += 1;
     }
     true
 }
@@ -53,49 +50,33 @@ fn relinked(row: Row, word: u64) -> u64
 }
 
 // The row of a word, linked to the row before it.
-fn next_row(area: &[u8], previous: Row, word: u64) -> Step
+fn next_row(area: &[u8], previous: Row, word: u64) -> Option<Row>
     ensures { result ≡ step_of area.now (name_in area.now previous) word }
 {
     let row = Row::of_word(word);
-    let start = row.start;
-    let len = row.len;
-    if area.len() < start + len {
-        return Step::Bad;
+    if area.len() < row.start + row.len {
+        return None;
     }
-    let flags = row.flags;
-    if !flags.lawful() {
-        return Step::Bad;
+    if !row.flags.lawful() {
+        return None;
     }
     let name = name_of(area, row);
     if !lawful_name(name) {
-        return Step::Bad;
+        return None;
     }
     let before = name_of(area, previous);
     let shared = common(before, name);
     if !ascends_at(before, name, shared) {
-        return Step::Bad;
+        return None;
     }
-    Step::Next(Row {
-        flags,
-        start,
-        len,
-        shared,
-    })
+    Some(Row { shared, ..row })
 }
 
 // How many bytes the two begin with alike.
 fn common(a: &[u8], b: &[u8]) -> usize
     ensures { result ≡ shared_len a.now b.now }
 {
-    let n = least(a.len(), b.len());
-    let mut i = 0;
-    while i < n {
-        if a[i] != b[i] {
-            return i;
-        }
-        i += 1;
-    }
-    i
+    a.iter().zip(b).take_while(|(x, y)| x == y).count()
 }
 
 // Whether a comes before b by bytes, a prefix first: the first place where they differ decides.
@@ -103,11 +84,5 @@ fn ascends_at(a: &[u8], b: &[u8], shared: usize) -> bool
     requires { shared ≡ shared_len a.now b.now }
     ensures { result ≡ is_lt (byte_order a.now b.now) }
 {
-    if b.len() <= shared {
-        return false;
-    }
-    if a.len() <= shared {
-        return true;
-    }
-    a[shared] < b[shared]
+    a.get(shared) < b.get(shared)
 }

@@ -9,54 +9,50 @@ ghost use Rattle.mailbox_table.specs.Words.{word_of, Packs};
 ghost use Rattle.mailbox_table.specs.Below.{with_marks};
 ghost use Rattle.mailbox_table.specs.Packed.{step_at, Placed, Splits};
 
-use super::Indexing;
 use super::flags::Flags;
 use super::link::rows_pass;
-use super::rows::{Row, Step};
+use super::rows::Row;
 use super::scan::with_marks;
-use octets::{byte_at, least, wide};
+use octets::{byte_at, wide};
 use records::{MAX_BYTES, MAX_ROWS};
 
 // Flags, readers and length come before a name.
 const HEAD: usize = 4;
 
 // Check 1 of the packed table, and the index of its rows. Where it fails, the words are what the passes left.
-pub(crate) fn find_rows(table: &[u8], words: &mut [u64]) -> Indexing
+pub(crate) fn find_rows(table: &[u8], words: &mut [u64]) -> Option<usize>
     ensures { Finds table.now (packed_table table.now) (packed_records table.now)
         (map cell_of (packed_records table.now)) words.old words.new result }
 {
-    let Indexing::Rows(n) = split_rows(table, words) else {
-        return Indexing::Fails;
-    };
+    let n = split_rows(table, words)?;
     if !rows_pass(table, &mut words[..n]) {
-        return Indexing::Fails;
+        return None;
     }
-    Indexing::Rows(n)
+    Some(n)
 }
 
 // The rows of the table as words, if they fill it exactly and are no more than there is room for. Where it fails, the words are
 // what the pass left.
-pub(crate) fn split_rows(table: &[u8], words: &mut [u64]) -> Indexing
+pub(crate) fn split_rows(table: &[u8], words: &mut [u64]) -> Option<usize>
     ensures { Splits table.now words.old words.new result }
 {
     if MAX_BYTES < table.len() {
-        return Indexing::Fails;
+        return None;
     }
-    let limit = least(words.len(), MAX_ROWS);
+    let limit = words.len().min(MAX_ROWS);
     let mut n = 0;
     let mut at = 0;
+    // A `for` would be no plainer: the place goes on by the length of each row.
     while at < table.len() {
         if limit <= n {
-            return Indexing::Fails;
+            return None;
         }
-        let Step::Next(row) = row_at(table, at) else {
-            return Indexing::Fails;
-        };
+        let row = row_at(table, at)?;
         words[n] = word_at(table, at, row);
         n += 1;
         at = row.start + row.len;
     }
-    Indexing::Rows(n)
+    Some(n)
 }
 
 // The word of the row that begins at a place, with its record's readers above it, which stand before the length.
@@ -70,33 +66,24 @@ fn word_at(table: &[u8], at: usize, row: Row) -> u64
 }
 
 // The row that begins at a place, if it ends inside the table.
-fn row_at(table: &[u8], at: usize) -> Step
+fn row_at(table: &[u8], at: usize) -> Option<Row>
     requires { Placed table.now at }
     ensures { result ≡ step_at table.now at }
 {
-    let left = table.len() - at;
-    if left < HEAD {
-        return Step::Bad;
-    }
-    let len = wide(table[at + 3]);
-    if left - HEAD < len {
-        return Step::Bad;
+    let [high, low, _, len, behind @ ..] = &table[at..] else {
+        return None;
+    };
+    let len = wide(*len);
+    if behind.len() < len {
+        return None;
     }
     let flags = Flags {
-        bits: pair(table[at], table[at + 1]),
+        bits: u16::from_be_bytes([*high, *low]),
     };
-    let start = at + HEAD;
-    Step::Next(Row {
+    Some(Row {
         flags,
-        start,
+        start: at + HEAD,
         len,
         shared: 0,
     })
-}
-
-// Two bytes as a number, the high one first.
-fn pair(high: u8, low: u8) -> u16
-    ensures { result ≡ 256 * high + low }
-{
-    256 * (high as u16) + (low as u16)
 }

@@ -1,13 +1,12 @@
 // The rows of an index that a reader sees (document 02, W9), moved to its front in one pass. A row shares with the one before it the
 // least of what the rows from that one on share, since the names ascend.
 ghost use Rattle.std.specs.Prelude.{◌≡◌, ◌++◌, ◌<◌, length, drop};
-ghost use Rattle.octets.specs.Sets.{touches};
 ghost use Rattle.records.specs.Words.{record_of};
 ghost use Rattle.mailbox_table.specs.Words.{with_shared};
 ghost use Rattle.mailbox_table.specs.Seen.{member_of, seen_words};
 
 use super::rows::Row;
-use octets::least;
+use octets::Members;
 
 // No name shares more than it has bytes.
 const MOST_SHARED: usize = 255;
@@ -31,20 +30,23 @@ impl Readers {
         if MAX_READER < reader {
             return Readers { bits: 0 };
         }
-        let mut bits = 1;
-        let mut i = 0;
-        while i < reader {
-            bits *= 2;
-            i += 1;
-        }
-        Readers { bits }
+        Readers { bits: 1 << reader }
+    }
+}
+
+impl Members for Readers {
+    ghost number = { λ s. s.bits };
+
+    ghost width = { 8 };
+
+    fn number(self) -> u16 {
+        u16::from(self.bits)
     }
 
-    // Whether some member is in both sets.
-    pub(crate) fn meets(self, other: Readers) -> bool
-        ensures { result ≡ touches self.bits other.bits }
-    {
-        self.bits & other.bits != 0
+    fn of_number(n: u16) -> Readers {
+        Readers {
+            bits: (n % 256) as u8,
+        }
     }
 }
 
@@ -66,18 +68,16 @@ pub fn see_rows(words: &mut [u64], reader: u8) -> usize
     let own = Readers::one(reader);
     let mut seen = 0;
     let mut low = MOST_SHARED;
-    let mut i = 0;
-    while i < words.len() {
+    for i in 0..words.len() {
         let word = words[i];
         let row = Row::of_word(word);
-        low = least(low, row.shared);
+        low = low.min(row.shared);
         let readers = readers_of(word);
-        if readers.meets(own) {
+        if readers.has_some(own) {
             words[seen] = with_shared(word, low);
             seen += 1;
             low = MOST_SHARED;
         }
-        i += 1;
     }
     seen
 }

@@ -13,13 +13,6 @@ pub struct Row {
     pub shared: usize,
 }
 
-// A row that stands where it should, or none.
-#[derive(Clone, Copy)]
-pub(crate) enum Step {
-    Next(Row),
-    Bad,
-}
-
 impl Row {
     // The row as one number. Only `packed` and `link` make words, of rows whose places they have tested.
     pub(crate) fn word(self) -> u64
@@ -33,7 +26,7 @@ impl Row {
             + 1099511627776 * (self.shared as u64)
     }
 
-    // The row of a number.
+    // The row of a number. It is no `From`, since the record's readers, which the number tells too, are not the row's.
     pub fn of_word(w: u64) -> Row
         ensures { result ≡ row_of_word w }
     {
@@ -52,15 +45,6 @@ impl Row {
 pub fn name_of(area: &[u8], row: Row) -> &[u8]
     ensures { result.now ≡ take row.len (drop row.start area.now) }
 {
-    let n = area.len();
-    let start = row.start;
-    let len = row.len;
-    if n <= start {
-        return &area[n..n];
-    }
-    if n - start < len {
-        return &area[start..];
-    }
-    let end = start + len;
-    &area[start..end]
+    let behind = &area[row.start.min(area.len())..];
+    &behind[..row.len.min(behind.len())]
 }

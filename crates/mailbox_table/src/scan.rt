@@ -59,8 +59,7 @@ fn some_after(area: &[u8], words: &[u64], marks: u16, i: usize, len: usize) -> b
     ensures { Begins area.now words.now i len →
         result ≡ below_from area.now words.now marks (prefix_of area.now words.now i len) (i + 1) }
 {
-    let mut k = i + 1;
-    while k < words.len() {
+    for k in i + 1..words.len() {
         let row = Row::of_word(words[k]);
         if row.shared < len {
             return false;
@@ -72,7 +71,6 @@ fn some_after(area: &[u8], words: &[u64], marks: u16, i: usize, len: usize) -> b
         if (b == SLASH) & is_marked(words[k], marks) {
             return true;
         }
-        k += 1;
     }
     false
 }

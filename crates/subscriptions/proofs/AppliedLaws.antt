@@ -1,4 +1,5 @@
 -- What is done to the words is done to the records of a store. Rests on the library and on the word of a record.
+use Rattle.std.specs.Prelude.{Ok, Err}
 use Rattle.listing_rules.proofs.Prelude.{◌∙◌, ◌≡◌, ap, refl, subst, sym, List, [], ◌++◌, ◌∷◌, map, map-append, ◌%◌, ◌+◌, ◌-◌, ◌/◌, ◌<◌, suc, ℕ}
 use Rattle.listing_rules.proofs.Prelude.{add-one, arith, drop, get_or, length, length-append, set, take, append_snoc, drop_at, get_or-take}
 use Rattle.listing_rules.proofs.Prelude.{length-take-le, set_split, take_at}
@@ -7,9 +8,8 @@ use Rattle.listing_rules.specs.Subscriptions.{Store, held, stored, flagged, inse
 use Rattle.listing_rules.proofs.ListLaws.{map_drop}
 use Rattle.records.specs.Words.{record_of, meant}
 use Rattle.records.proofs.WordLaws.{word_tells}
-use Rattle.subscriptions.specs.declared.Plan.{Plan}
-use Rattle.subscriptions.specs.declared.Plan.TheVariants.{Keep, Flag, Insert, Remove, Refused}
-use Rattle.subscriptions.specs.Plans.{carried}
+use Rattle.subscriptions.specs.declared.Plan.TheVariants.{Keep, Flag, Insert, Remove}
+use Rattle.subscriptions.specs.Plans.{Decision, carried}
 use Rattle.subscriptions.specs.Applied.{with_flags, new_word, inserted_at, removed_at, words_after, freed, area_after, change_of, changed_records}
 use Rattle.subscriptions.specs.Applied.{Applies, Fits, FlagFits, InsertFits, RemoveFits}
 use Rattle.subscriptions.proofs.FitLaws.{record_at_lem}
@@ -124,28 +124,28 @@ module _ (s : Store) (ws : List ℕ) (told : take s.count s.records ≡ map reco
       )
 
   -- the plan by its cases
-  applied : (p : Plan) (t : Store) (n : List ℕ) → Fits p ws s.count s.area n → carried s n p ≡ stored t →
+  applied : (p : Decision) (t : Store) (n : List ℕ) → Fits p ws s.count s.area n → carried s n p ≡ stored t →
       Applies p s t ws s.count s.area n
   unfolding carried words_after area_after change_of changed_records flagged inserted removed freed
-  applied Keep t n fit e =
+  applied (Ok Keep) t n fit e =
       let q : s ≡ t = cc in
-      subst (λ (u : Store). Applies Keep s u ws s.count s.area n) q (record { area_is = refl; count_is = refl; records_are = refl })
-  applied (Flag k f) t n fit e =
+      subst (λ (u : Store). Applies (Ok Keep) s u ws s.count s.area n) q (record { area_is = refl; count_is = refl; records_are = refl })
+  applied (Ok (Flag k f)) t n fit e =
       let q : flagged s k f ≡ t = cc in
-      subst (λ (u : Store). Applies (Flag k f) s u ws s.count s.area n) q
+      subst (λ (u : Store). Applies (Ok (Flag k f)) s u ws s.count s.area n) q
       (record { area_is = refl; count_is = refl; records_are = flag_applies k f fit })
-  applied (Insert k start) t n fit e =
+  applied (Ok (Insert k start)) t n fit e =
       let q : inserted s k start n ≡ t = cc in
-      subst (λ (u : Store). Applies (Insert k start) s u ws s.count s.area n) q
+      subst (λ (u : Store). Applies (Ok (Insert k start)) s u ws s.count s.area n) q
       (record { area_is = refl; count_is = sym (add-one s.count); records_are = insert_applies k start n fit })
-  applied (Remove k) t n fit e =
+  applied (Ok (Remove k)) t n fit e =
       let q : removed s k ≡ t = cc in
-      subst (λ (u : Store). Applies (Remove k) s u ws s.count s.area n) q
+      subst (λ (u : Store). Applies (Ok (Remove k)) s u ws s.count s.area n) q
       (record { area_is = rw (nth_told k fit.row); count_is = refl; records_are = remove_applies k fit })
-  applied (Refused x) t n fit e = let z : ◌≡◌ {A = ℕ} 0 1 = cc in absurd (omega arith)
+  applied (Err x) t n fit e = let z : ◌≡◌ {A = ℕ} 0 1 = cc in absurd (omega arith)
 
 -- What `carried` makes of a store is what the plan done on its words and area leaves, a refusal apart, which leaves nothing to say.
-pub applied_store : (p : Plan) (s t : Store) (ws : List ℕ) (count : ℕ) (area n : List ℕ) → s.area ≡ area → s.count ≡ count
+pub applied_store : (p : Decision) (s t : Store) (ws : List ℕ) (count : ℕ) (area n : List ℕ) → s.area ≡ area → s.count ≡ count
     → take count s.records ≡ map record_of (take count ws) → Fits p ws count area n → carried s n p ≡ stored t → Applies p s t ws count area n
 applied_store p s t ws count area n ea ec =
     subst (λ (a : List ℕ). take count s.records ≡ map record_of (take count ws) → Fits p ws count a n → carried s n p ≡ stored t →

@@ -1,5 +1,6 @@
 -- An edit over lent words: what its plan is, and that it fits where the table passes. Rests on FitLaws, PlanSums and StoredLaws.
-use Rattle.listing_rules.proofs.Prelude.{◌≡◌, Bool, false, true, List, map, ℕ, length, take}
+use Rattle.std.specs.Prelude.{Ok, Err}
+use Rattle.listing_rules.proofs.Prelude.{◌∙◌, ◌≡◌, refl, Bool, false, true, List, map, ℕ, length, take}
 use Rattle.listing_rules.specs.Table.{passes}
 use Rattle.listing_rules.specs.Subscriptions.{store_table}
 use Rattle.listing_rules.specs.Summary.{agrees}
@@ -7,7 +8,6 @@ use Rattle.listing_rules.proofs.SummaryAlike.{grown_parts}
 use Rattle.records.specs.Words.{record_of}
 use Rattle.records.specs.Lent.{words_summed, words_table}
 use Rattle.subscriptions.specs.declared.Plan.{Plan}
-use Rattle.subscriptions.specs.declared.Plan.TheVariants.{Keep, Flag, Insert, Remove, Refused}
 use Rattle.subscriptions.specs.Plans.{plan_for}
 use Rattle.subscriptions.specs.Applied.{Fits}
 use Rattle.subscriptions.specs.Summed.{SumsFit}
@@ -17,28 +17,9 @@ use Rattle.subscriptions.proofs.FitLaws.{plan_fits}
 use Rattle.subscriptions.proofs.StoredLaws.{Passing, words_pass_lem}
 use Rattle.subscriptions.proofs.PlanSums.{plan_sums_fit}
 
--- a plan that fits still fits where it is refused with 9 instead
-pub if_fits_fits : (fits : Bool) (p : Plan) (ws : List ℕ) (count : ℕ) (area n : List ℕ) → Fits p ws count area n → Fits (if_fits fits p) ws count area n
-unfolding if_fits
-if_fits_fits true p ws count area n h = h
-if_fits_fits false Keep ws count area n h = tt
-if_fits_fits false (Flag k f) ws count area n h = tt
-if_fits_fits false (Insert k start) ws count area n h = tt
-if_fits_fits false (Remove k) ws count area n h = tt
-if_fits_fits false (Refused k) ws count area n h = tt
-
-pub if_fits_sums : (fits : Bool) (p : Plan) (sums ws area n : List ℕ) → SumsFit p sums ws area n → SumsFit (if_fits fits p) sums ws area n
-unfolding if_fits
-if_fits_sums true p sums ws area n h = h
-if_fits_sums false Keep sums ws area n h = tt
-if_fits_sums false (Flag k f) sums ws area n h = tt
-if_fits_sums false (Insert k start) sums ws area n h = tt
-if_fits_sums false (Remove k) sums ws area n h = tt
-if_fits_sums false (Refused k) sums ws area n h = tt
-
 -- where the table does not pass
 pub plan_refused : (d : Cells) (count : ℕ) (b : Bool) (n : List ℕ) (fits : Bool) → passes (words_table d.words count d.area d.sums) ≡ false
-    → plan_over d count b n fits ≡ Refused 1
+    → plan_over d count b n fits ≡ Err 1
 unfolding plan_over
 plan_refused d count b n fits h = rw h
 
@@ -56,14 +37,30 @@ module _ (d : Cells) (count : ℕ) (passed : passes (words_table d.words count d
   pub cells_pass : Passing d.words count d.area
   cells_pass = words_pass_lem d.words count d.area parts.0
 
-  pub plan_fits_cells : (b : Bool) (n : List ℕ) (fits : Bool)
-      → Fits (if_fits fits (plan_for (map record_of (take count d.words)) (length d.words) d.area b n)) d.words count d.area n
-  plan_fits_cells b n fits =
-      if_fits_fits fits _ d.words count d.area n
-      (plan_fits d.words count (length d.words) d.area b n cells_pass.ordered cells_pass.counted cells_pass.small (λ a b. b))
+  pub plan_fits_cells : (b : Bool) (n : List ℕ)
+      → Fits (plan_for (map record_of (take count d.words)) (length d.words) d.area b n) d.words count d.area n
+  plan_fits_cells b n =
+      plan_fits d.words count (length d.words) d.area b n cells_pass.ordered cells_pass.counted cells_pass.small (λ a b. b)
 
-  pub plan_sums_cells : length d.words ≡ length d.sums → (b : Bool) (n : List ℕ) (fits : Bool)
-      → SumsFit (if_fits fits (plan_for (map record_of (take count d.words)) (length d.words) d.area b n)) d.sums (take count d.words) d.area n
-  plan_sums_cells sized b n fits =
-      if_fits_sums fits _ d.sums (take count d.words) d.area n
-      (plan_sums_fit d.words count d.area d.sums parts.0 parts.1 sized b n)
+  pub plan_sums_cells : length d.words ≡ length d.sums → (b : Bool) (n : List ℕ)
+      → SumsFit (plan_for (map record_of (take count d.words)) (length d.words) d.area b n) d.sums (take count d.words) d.area n
+  plan_sums_cells sized b n = plan_sums_fit d.words count d.area d.sums parts.0 parts.1 sized b n
+
+  -- by what was decided: a refusal, then 9, then the plan
+  pub plan_denied : (b : Bool) (n : List ℕ) (fits : Bool) (k : ℕ) → plan_for (map record_of (take count d.words)) (length d.words) d.area b n ≡ Err k
+      → plan_over d count b n fits ≡ Err k
+  unfolding if_fits
+  plan_denied b n fits k e = plan_passed b n fits ∙ rw e (go fits)
+    where
+      go : (f : Bool) → if_fits f (Err k) ≡ Err k
+      go true = refl
+      go false = refl
+
+  module _ (b : Bool) (n : List ℕ) (fits : Bool) (p : Plan) (decided : plan_for (map record_of (take count d.words)) (length d.words) d.area b n ≡ Ok p) where
+    pub plan_short : fits ≡ false → plan_over d count b n fits ≡ Err 9
+    unfolding if_fits
+    plan_short f = plan_passed b n fits ∙ rw (decided, f)
+
+    pub plan_made : fits ≡ true → plan_over d count b n fits ≡ Ok p
+    unfolding if_fits
+    plan_made f = plan_passed b n fits ∙ rw (f, decided)

@@ -1,4 +1,5 @@
 -- What an edit of an index comes to fits. Rests on PlanLaws and FlagLaws.
+use Rattle.std.specs.Prelude.{Ok, Err}
 use Rattle.listing_rules.proofs.Prelude.{◌∙◌, ◌≡◌, refl, subst, sym, Bool, ◌&&◌, cond, false, not, true, Option, none, some, List, [], ◌∷◌, map, ◌+◌}
 use Rattle.listing_rules.proofs.Prelude.{◌-◌, ◌<◌, ◌≤◌, suc, ℕ, arith, eqb, leb, ltb, list_get_or_map, get_or, length, length-map, take, get_or-take}
 use Rattle.listing_rules.proofs.Prelude.{length-take-le, leb-true, ltb-true}
@@ -14,7 +15,7 @@ use Rattle.listing_rules.proofs.FreeRuns.{front_bound, free_length}
 use Rattle.listing_rules.proofs.SpareLaws.{before_most, before_fewer}
 use Rattle.records.specs.Words.{record_of}
 use Rattle.mailbox_table.specs.Words.{row_of_word}
-use Rattle.subscriptions.specs.declared.Plan.TheVariants.{Keep, Flag, Remove, Refused}
+use Rattle.subscriptions.specs.declared.Plan.TheVariants.{Keep, Flag, Remove}
 use Rattle.subscriptions.specs.Plans.{Ordered, setting_plan, clearing_plan, room_plan, fresh_plan, plan_for}
 use Rattle.subscriptions.specs.Applied.{Fits}
 use Rattle.subscriptions.proofs.PlanLaws.{record_rows_length}
@@ -51,19 +52,19 @@ index_inside area ws count x words k h =
     subst (λ (w : ℕ). (row_of_word w).start + (row_of_word w).len ≤ length area) (get_or-take count ws k 0 h) (x.inside k (omega (arith, length-take-le count ws words)))
 
 module _ (ws : List ℕ) (count : ℕ) (area n : List ℕ) (words : count ≤ length ws) where
-  set_fit : (k f : ℕ) → k < count → f < 65536 → Fits (setting_plan k f) ws count area n
+  set_fit : (k f : ℕ) → k < count → f < 65536 → Fits (Ok (setting_plan k f)) ws count area n
   unfolding setting_plan with_subscribed
   set_fit k f h g = go (subscribed f) refl
     where
-      go : (o : Bool) → subscribed f ≡ o → Fits (cond o Keep (Flag k (cond o f (f + 2)))) ws count area n
+      go : (o : Bool) → subscribed f ≡ o → Fits (Ok (cond o Keep (Flag k (cond o f (f + 2))))) ws count area n
       go true e = tt
       go false e = record { row = h; words = words; flags = set_fits f g e }
 
-  clear_fit : (k f : ℕ) → k < count → f < 65536 → (record_of (get_or ws k 0)).start + (record_of (get_or ws k 0)).len ≤ length area → Fits (clearing_plan k f) ws count area n
+  clear_fit : (k f : ℕ) → k < count → f < 65536 → (record_of (get_or ws k 0)).start + (record_of (get_or ws k 0)).len ≤ length area → Fits (Ok (clearing_plan k f)) ws count area n
   unfolding clearing_plan without_subscribed
   clear_fit k f h g i = go (eqb f 2) (subscribed f)
     where
-      go : (t o : Bool) → Fits (cond t (Remove k) (cond o (Flag k (cond o (f - 2) f)) Keep)) ws count area n
+      go : (t o : Bool) → Fits (Ok (cond t (Remove k) (cond o (Flag k (cond o (f - 2) f)) Keep))) ws count area n
       go true o = record { row = h; words = words; inside = i }
       go false true = record { row = h; words = words; flags = omega arith }
       go false false = tt
@@ -75,7 +76,7 @@ module _ (ws : List ℕ) (count : ℕ) (area n : List ℕ) (words : count ≤ le
         go (lawful_name n && not (below_no_inferiors (record_rows area rs) n)) (ltb (length rs) 512 && ltb (length rs) lent) (lowest_run (length n) 0 (free_from rs 0 area)) refl refl refl
       where
         go : (o t : Bool) (a : Option ℕ) → (lawful_name n && not (below_no_inferiors (record_rows area rs) n)) ≡ o → (ltb (length rs) 512 && ltb (length rs) lent) ≡ t
-            → lowest_run (length n) 0 (free_from rs 0 area) ≡ a → Fits (cond o (room_plan k t a) (Refused 14)) ws count area n
+            → lowest_run (length n) 0 (free_from rs 0 area) ≡ a → Fits (cond o (room_plan k t a) (Err 14)) ws count area n
         go false t a e f g = tt
         go true t none e f g = tt
         go true false (some start) e f g = tt
@@ -119,7 +120,7 @@ plan_fits ws count lent area b n x words bound room = go (has_row rows n) b refl
     small : f < 65536
     small = subst (λ (r : Record). r.flags < 65536) (sym (record_at_lem (take count ws) k)) (flags_small (get_or (take count ws) k 0))
 
-    go : (o b : Bool) → has_row rows n ≡ o → Fits (cond o (cond b (setting_plan k f) (clearing_plan k f)) (cond b (fresh_plan rs lent area k n) Keep)) ws count area n
+    go : (o b : Bool) → has_row rows n ≡ o → Fits (cond o (cond b (Ok (setting_plan k f)) (Ok (clearing_plan k f))) (cond b (fresh_plan rs lent area k n) (Ok Keep))) ws count area n
     go true true e = set_fit ws count area n words k f (omega (arith, before_fewer rows n e, rows_number)) small
     go true false e = let h : k < count = omega (arith, before_fewer rows n e, rows_number) in clear_fit ws count area n words k f h small (index_inside area ws count x words k h)
     go false true e = fresh_fit ws count area n words rs lent number bound room k (omega (arith, before_most rows n, rows_number))

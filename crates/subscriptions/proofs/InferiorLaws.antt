@@ -1,12 +1,12 @@
 -- A name below a row with no inferiors, as the code's tests find it. Rests on the library alone.
-use Rattle.listing_rules.proofs.Prelude.{◌≡◌, refl, sym, ◌&&◌, and_assoc, and-false, false, true, List, [], ◌∷◌, ◌+◌, ◌<◌, ◌≤◌, ℕ, add-one, arith}
-use Rattle.listing_rules.proofs.Prelude.{eqb, drop, drop_of_length-le, get_or, length, take}
+use Rattle.std.specs.List.{list_any}
+use Rattle.listing_rules.proofs.Prelude.{◌≡◌, refl, sym, ◌&&◌, and_assoc, and-false, false, List, [], ◌∷◌, ◌<◌, ◌≤◌, ℕ, arith}
+use Rattle.listing_rules.proofs.Prelude.{eqb, get_or, length, take}
 use Rattle.listing_rules.specs.Bytes.{slash, same}
 use Rattle.listing_rules.specs.Lists.{any_of}
 use Rattle.listing_rules.specs.Names.{below}
 use Rattle.listing_rules.specs.Subscriptions.{below_no_inferiors}
 use Rattle.mailbox_table.specs.Index.{row_at_word, rows_at}
-use Rattle.mailbox_table.proofs.IndexLaws.{rows_length, rows_cons}
 use Rattle.subscriptions.specs.Plans.{bars_below}
 
 -- a name that goes on after another lies below it by the bytes that they share and the byte after them
@@ -23,17 +23,8 @@ below_short [] (c ∷ n) h = absurd (omega arith)
 below_short (b ∷ a) [] h = refl
 below_short (b ∷ a) (c ∷ n) h = rw (below_short a n (omega arith)) (and-false (eqb b c))
 
--- a loop over the rows
-module _ (area words n : List ℕ) (i : ℕ) where
-  pub bars_step : i < length words → bars_below n (row_at_word area (get_or words i 0)) ≡ false
-      → below_no_inferiors (drop i (rows_at area words)) n ≡ below_no_inferiors (drop (i + 1) (rows_at area words)) n
-  unfolding below_no_inferiors any_of bars_below
-  bars_step h e = rw (add-one i, rows_cons area words i h, e)
-
-  pub bars_stop : i < length words → bars_below n (row_at_word area (get_or words i 0)) ≡ true → below_no_inferiors (drop i (rows_at area words)) n ≡ true
-  unfolding below_no_inferiors any_of bars_below
-  bars_stop h e = rw (rows_cons area words i h, e)
-
-  pub bars_end : length words ≤ i → below_no_inferiors (drop i (rows_at area words)) n ≡ false
-  unfolding below_no_inferiors any_of
-  bars_end h = rw (drop_of_length-le (rows_at area words) {i = i} (omega (arith, rows_length area words)))
+-- some row of the words bars it
+pub bars_any : (area words n : List ℕ) → list_any (λ w. bars_below n (row_at_word area w)) words ≡ below_no_inferiors (rows_at area words) n
+unfolding below_no_inferiors any_of bars_below
+bars_any area [] n = refl
+bars_any area (w ∷ ws) n = rw (bars_any area ws n)

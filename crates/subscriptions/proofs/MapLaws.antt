@@ -1,8 +1,10 @@
 -- The map of free bytes: names taken out of it one by one, and what it says then. Rests on the library alone.
+use borrow.Rule.Slice.PartMut.{put_mid}
+use Rattle.listing_rules.proofs.Prelude.{◌++◌, drop-drop, get_or-append-add, get_or-drop, length-append, length-drop, length-take, list_get_or_append}
 use Rattle.listing_rules.proofs.Prelude.{◌∙◌, ◌≡◌, ap, refl, sym, Bool, ◌&&◌, ◌||◌, and-false, and-true, false, not, true, List, [], ◌∷◌, map, ◌+◌}
 use Rattle.listing_rules.proofs.Prelude.{◌-◌, ◌<◌, ◌≤◌, min, suc, zero, ℕ, add-one, dec_le, arith, leb, drop, drop_of_length-le, get_or, get_or-replicate}
-use Rattle.listing_rules.proofs.Prelude.{length, length-replicate, length-set, replicate, set, take, drop-cons, ext_get_or, get_or-set_other}
-use Rattle.listing_rules.proofs.Prelude.{get_or-set_same, get_or-take, length-take-le, le-leb, le-ltb, lt-leb, lt-ltb}
+use Rattle.listing_rules.proofs.Prelude.{length, length-replicate, replicate, take, drop-cons, ext_get_or}
+use Rattle.listing_rules.proofs.Prelude.{get_or-take, length-take-le, le-leb, le-ltb, lt-leb, lt-ltb}
 use Rattle.listing_rules.specs.Lists.{any_of}
 use Rattle.listing_rules.specs.Records.{Record}
 use Rattle.listing_rules.specs.Subscriptions.{uses, free_from}
@@ -11,14 +13,6 @@ use Rattle.listing_rules.proofs.FreeRuns.{free_at}
 use Rattle.records.specs.Words.{record_of}
 use Rattle.mailbox_table.specs.Words.{row_of_word}
 use Rattle.subscriptions.specs.Runs.{used_between, used_by, Unmarks}
-
-dec_eq : (j i : ℕ) → Dec (j ≡ i)
-dec_eq j i = go (dec_le j i) (dec_le i j)
-  where
-    go : Dec (j ≤ i) → Dec (i ≤ j) → Dec (j ≡ i)
-    go (no a) b = no (λ e. omega arith)
-    go (yes a) (no b) = no (λ e. omega arith)
-    go (yes a) (yes b) = yes (omega arith)
 
 -- nothing stands after the end
 behind : (l : List Bool) (j : ℕ) → length l ≤ j → get_or l j false ≡ false
@@ -40,52 +34,89 @@ module _ (start end j : ℕ) where
   unfolding used_between
   between_after h = rw (le-ltb j end h) (and-false (leb start j))
 
--- a loop that unmarks the bytes from a start on
-pub unmarked_none : (start : ℕ) (d : List Bool) → Unmarks (used_between start start) d d
-unmarked_none start d = record { size = refl; marks = λ j. sym (at_place j (dec_le start j)) }
+-- bytes filled in the middle of a map
+module _ (d : List Bool) (start n : ℕ) (h : start + n ≤ length d) where
+  abbrev filled_part : List Bool
+  filled_part = put_mid start n d (replicate n false)
+
+  size_front : length (take start d) ≡ start
+  size_front = length-take-le start d (omega arith)
+
+  size_filled : length filled_part ≡ length d
+  size_filled =
+      omega (
+        arith,
+        size_front,
+        length-append (take start d) (replicate n false ++ drop n (drop start d)),
+        length-append (replicate n false) (drop n (drop start d)),
+        length-replicate n false,
+        length-drop n (drop start d),
+        length-drop start d,
+      )
+
+  at_front : (j : ℕ) → j < start → get_or filled_part j false ≡ get_or d j false
+  at_front j g =
+      list_get_or_append (take start d) (replicate n false ++ drop n (drop start d)) false j (omega (arith, size_front)) ∙ get_or-take start d j false g
+
+  at_filled : (j : ℕ) → start ≤ j → j < start + n → get_or filled_part j false ≡ false
+  at_filled j g l =
+      let z : j ≡ length (take start d) + (j - start) = omega (arith, size_front) in
+      ap (λ (i : ℕ). get_or filled_part i false) z
+      ∙ get_or-append-add (take start d) (replicate n false ++ drop n (drop start d)) (j - start) false
+      ∙ list_get_or_append (replicate n false) (drop n (drop start d)) false (j - start) (omega (arith, length-replicate n false))
+      ∙ get_or-replicate n (j - start) false false (omega arith)
+
+  at_rest : (j : ℕ) → start + n ≤ j → get_or filled_part j false ≡ get_or d j false
+  at_rest j g =
+      let z : j ≡ length (take start d) + (length (replicate n false) + (j - (start + n))) = omega (arith, size_front, length-replicate n false) in
+      let y : start + n + (j - (start + n)) ≡ j = omega arith in
+      ap (λ (i : ℕ). get_or filled_part i false) z
+      ∙ get_or-append-add (take start d) (replicate n false ++ drop n (drop start d)) (length (replicate n false) + (j - (start + n))) false
+      ∙ get_or-append-add (replicate n false) (drop n (drop start d)) (j - (start + n)) false
+      ∙ ap (λ (l : List Bool). get_or l (j - (start + n)) false) (drop-drop n start d)
+      ∙ get_or-drop (start + n) d (j - (start + n)) false
+      ∙ ap (λ (i : ℕ). get_or d i false) y
+
+-- the bytes from a start up to an end, as far as the map goes, are unmarked
+pub filled_unmarks : (d ys : List Bool) (start end stop : ℕ) → stop ≡ min end (length d) → start < stop
+    → ys ≡ replicate (length (take (stop - start) (drop start d))) false
+    → Unmarks (used_between start end) d (put_mid start (stop - start) d ys)
+filled_unmarks d ys start end stop e h w = rw filled (record { size = size_filled d start (stop - start) inside; marks = λ j. at_place j (dec_le start j) (dec_le stop j) })
   where
-    at_place : (j : ℕ) → Dec (start ≤ j) → (get_or d j false && not (used_between start start j)) ≡ get_or d j false
-    at_place j (yes h) = rw (between_after start start j h) (and-true (get_or d j false))
-    at_place j (no h) = rw (between_before start start j (omega arith)) (and-true (get_or d j false))
+    inside : start + (stop - start) ≤ length d
+    inside = omega (arith, e)
 
-module _ {start i : ℕ} {d e : List Bool} (u : Unmarks (used_between start i) d e) where
-  pub unmarked_more : start ≤ i → i < length e → Unmarks (used_between start (i + 1)) d (set e i false)
-  unmarked_more g h = record { size = length-set e i false ∙ u.size; marks = λ j. at_place j (dec_eq j i) }
-    where
-      other : (j : ℕ) → (j ≡ i → ⊥) → used_between start (i + 1) j ≡ used_between start i j
-      other j n = go (dec_le start j) (dec_le i j)
-        where
-          go : Dec (start ≤ j) → Dec (i ≤ j) → used_between start (i + 1) j ≡ used_between start i j
-          go (no a) b = between_before start (i + 1) j (omega arith) ∙ sym (between_before start i j (omega arith))
-          go (yes a) (yes b) = between_after start (i + 1) j (omega arith) ∙ sym (between_after start i j b)
-          go (yes a) (no b) = between_in start (i + 1) j a (omega arith) ∙ sym (between_in start i j a (omega arith))
+    filled : ys ≡ replicate (stop - start) false
+    filled =
+        let z : length (take (stop - start) (drop start d)) ≡ stop - start = omega (arith, length-take (stop - start) (drop start d), length-drop start d, e) in
+        w ∙ rw z
 
-      at_place : (j : ℕ) → Dec (j ≡ i) → get_or (set e i false) j false ≡ (get_or d j false && not (used_between start (i + 1) j))
-      at_place j (yes q) = rw (q, get_or-set_same e i false false h, between_in start (i + 1) i g (omega arith)) (sym (and-false (get_or d i false)))
-      at_place j (no q) = get_or-set_other e i j false false q ∙ u.marks j ∙ rw (other j q)
+    at_place : (j : ℕ) → Dec (start ≤ j) → Dec (stop ≤ j)
+        → get_or (put_mid start (stop - start) d (replicate (stop - start) false)) j false ≡ (get_or d j false && not (used_between start end j))
+    at_place j (no a) b = at_front d start (stop - start) inside j (omega arith) ∙ sym (rw (between_before start end j (omega arith)) (and-true (get_or d j false)))
+    at_place j (yes a) (no b) =
+        at_filled d start (stop - start) inside j a (omega arith) ∙ sym (rw (between_in start end j a (omega (arith, e))) (and-false (get_or d j false)))
+    at_place j (yes a) (yes b) = at_rest d start (stop - start) inside j (omega arith) ∙ sym (rest (dec_le end j))
+      where
+        rest : Dec (end ≤ j) → (get_or d j false && not (used_between start end j)) ≡ get_or d j false
+        rest (yes q) = rw (between_after start end j q) (and-true (get_or d j false))
+        rest (no q) = rw (behind d j (omega (arith, e)))
 
-  -- the loop has come to the end of the bytes or of the map
-  pub unmarked_all : (end : ℕ) → start ≤ i → i ≤ start + (min end (length d) - start) → min end (length d) ≤ i → Unmarks (used_between start end) d e
-  unmarked_all end g most least = record { size = u.size; marks = λ j. u.marks j ∙ at_place j (dec_le (length d) j) }
-    where
-      inside : (j : ℕ) → j < length d → used_between start i j ≡ used_between start end j
-      inside j l = go (dec_le start j) (dec_le end j)
-        where
-          go : Dec (start ≤ j) → Dec (end ≤ j) → used_between start i j ≡ used_between start end j
-          go (no a) b = between_before start i j (omega arith) ∙ sym (between_before start end j (omega arith))
-          go (yes a) (yes b) = between_after start i j (omega arith) ∙ sym (between_after start end j b)
-          go (yes a) (no b) = between_in start i j a (omega arith) ∙ sym (between_in start end j a (omega arith))
-
-      at_place : (j : ℕ) → Dec (length d ≤ j) → (get_or d j false && not (used_between start i j)) ≡ (get_or d j false && not (used_between start end j))
-      at_place j (yes q) = rw (behind d j q)
-      at_place j (no q) = rw (inside j (omega arith))
+-- where they are none, nothing is unmarked
+pub none_unmarks : (d : List Bool) (start end : ℕ) → min end (length d) ≤ start → Unmarks (used_between start end) d d
+none_unmarks d start end h = record { size = refl; marks = λ j. sym (at_place j (dec_le start j) (dec_le end j)) }
+  where
+    at_place : (j : ℕ) → Dec (start ≤ j) → Dec (end ≤ j) → (get_or d j false && not (used_between start end j)) ≡ get_or d j false
+    at_place j (no a) b = rw (between_before start end j (omega arith)) (and-true (get_or d j false))
+    at_place j (yes a) (yes b) = rw (between_after start end j b) (and-true (get_or d j false))
+    at_place j (yes a) (no b) = rw (behind d j (omega arith))
 
 -- the end of a name fits
 pub end_fits : (w : ℕ) → (row_of_word w).start + (row_of_word w).len < 65792
 unfolding row_of_word
 end_fits w = omega arith
 
--- a loop that unmarks the names of the words
+-- a pass over the words that unmarks their names
 pub record Left (words : List ℕ) (d e : List Bool) (i : ℕ) : Type 0 where
   pub size : length e ≡ length d
   pub marks : (j : ℕ) → (get_or e j false && not (used_by (drop i words) j)) ≡ (get_or d j false && not (used_by words j))

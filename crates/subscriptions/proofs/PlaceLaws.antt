@@ -1,8 +1,16 @@
--- The place of a name among rows whose names ascend, as the code's loops find it. Rests on the order of names in listing_rules and
+-- The place of a name among rows whose names ascend, as the code finds it. Rests on the order of names in listing_rules and
 -- on the laws of an index.
-use Rattle.listing_rules.proofs.Prelude.{◌∙◌, ◌≡◌, ap, refl, subst, sym, Bool, ◌&&◌, ◌||◌, cond, false, false≢true, true, List, [], ◌∷◌, map}
-use Rattle.listing_rules.proofs.Prelude.{Ordering, ordering_eq, ordering_gt, ordering_lt, ◌+◌, ◌<◌, ◌≤◌, min, suc, zero, ℕ, add-zero, add-one, dec_le}
-use Rattle.listing_rules.proofs.Prelude.{arith, ltb, drop, drop_of_length-le, get_or, length, drop-cons, eq-eqb, le-ltb, lt-ltb, ne_eqb}
+use Rattle.std.specs.Prelude.{Some}
+use Rattle.std.specs.declared.cmp.Ordering.{Ordering as Compared}
+use Rattle.std.specs.declared.cmp.Ordering.TheVariants.{Less, Equal, Greater}
+use Rattle.std.specs.Ordering.{is_lt as std_lt}
+use Rattle.std.specs.Ordering.{MatchOrdering, nat_cmp, is_some_and}
+use Rattle.std.specs.Cmp.Lexicographic.{slice_partial_cmp}
+use Rattle.std.specs.List.Sorted.{IsPartitionedBy, IsPartitionPoint}
+use Rattle.std.proofs.lemmas.Cmp.{same_from_slice_cmp_tested, ranked}
+use Rattle.listing_rules.proofs.Prelude.{◌∙◌, ◌≡◌, ap, refl, sym, Bool, ◌&&◌, ◌||◌, cond, false, false≢true, true, List, [], ◌∷◌, map}
+use Rattle.listing_rules.proofs.Prelude.{Ordering, ordering_eq, ordering_gt, ordering_lt, ◌<◌, ◌≤◌, suc, zero, ℕ, dec_le}
+use Rattle.listing_rules.proofs.Prelude.{arith, ltb, drop, drop_of_length-le, get_or, length, eq-eqb, le-ltb, lt-ltb, ne_eqb}
 use Rattle.listing_rules.specs.Bytes.{same}
 use Rattle.listing_rules.specs.Lists.{any_of, keep}
 use Rattle.listing_rules.specs.Orders.{byte_order, is_lt, ascends, ascends_from}
@@ -17,30 +25,21 @@ use Rattle.records.specs.Words.{record_of}
 use Rattle.mailbox_table.specs.Words.{row_of_word}
 use Rattle.mailbox_table.specs.Index.{name_at, nth_row, nth_name, row_at_word, rows_at}
 use Rattle.mailbox_table.proofs.IndexLaws.{rows_length, rows_cons}
-use Rattle.mailbox_table.proofs.SharedLaws.{order_same, order_other, order_to_nil, order_nil_cons}
+use Rattle.mailbox_table.proofs.SharedLaws.{order_same, order_other, order_to_nil, order_nil_cons, order_cons_nil}
 use Rattle.subscriptions.specs.Plans.{Ordered, stands_at}
 
--- two names compared byte by byte: what is left from a place on decides
-module _ (a b : List ℕ) (i : ℕ) where
-  pub order_step : i < length a → i < length b → get_or a i 0 ≡ get_or b i 0 → is_lt (byte_order (drop i a) (drop i b)) ≡ is_lt (byte_order (drop (i + 1) a) (drop (i + 1) b))
-  order_step h g e =
-      rw
-      (add-one i, drop-cons a i 0 h, drop-cons b i 0 g, order_same (get_or a i 0) (get_or b i 0) (drop (suc i) a) (drop (suc i) b) (eq-eqb (get_or a i 0) (get_or b i 0) e))
-
-  pub order_stop : i < length a → i < length b → (get_or a i 0 ≡ get_or b i 0 → ⊥) → is_lt (byte_order (drop i a) (drop i b)) ≡ ltb (get_or a i 0) (get_or b i 0)
-  order_stop h g e =
-      rw
-      (drop-cons a i 0 h, drop-cons b i 0 g)
-      (order_other (get_or a i 0) (get_or b i 0) (drop (suc i) a) (drop (suc i) b) (ne_eqb (get_or a i 0) (get_or b i 0) e))
-
-  pub order_end : i ≡ min (length a) (length b) → is_lt (byte_order (drop i a) (drop i b)) ≡ ltb (length a) (length b)
-  order_end e = go (dec_le (length b) i)
-    where
-      go : Dec (length b ≤ i) → is_lt (byte_order (drop i a) (drop i b)) ≡ ltb (length a) (length b)
-      go (yes g) = rw (drop_of_length-le b g, order_to_nil (drop i a), le-ltb (length a) (length b) (omega arith))
-      go (no g) =
-          let l : length a ≤ i = omega arith in
-          rw (drop_of_length-le a l, drop-cons b i 0 (omega arith), order_nil_cons (get_or b i 0) (drop (suc i) b), lt-ltb (length a) (length b) (omega arith))
+-- the library's `<` on names is the order of the definitions
+pub lt_is : (a b : List ℕ) (r : Bool) → r ≡ is_some_and std_lt (slice_partial_cmp (λ x y. Some (nat_cmp x y)) a b) → r ≡ is_lt (byte_order a b)
+lt_is =
+    same_from_slice_cmp_tested nat_cmp std_lt (λ a b. is_lt (byte_order a b)) (order_to_nil []) order_nil_cons order_cons_nil
+    (λ x y xs ys o h. more x y xs ys o (ranked x y o h))
+  where
+    more : (x y : ℕ) (xs ys : List ℕ) (o : Compared) → MatchOrdering o (x < y) (x ≡ y) (y < x)
+        → MatchOrdering o (is_lt (byte_order (x ∷ xs) (y ∷ ys)) ≡ true) (is_lt (byte_order (x ∷ xs) (y ∷ ys)) ≡ is_lt (byte_order xs ys))
+        (is_lt (byte_order (x ∷ xs) (y ∷ ys)) ≡ false)
+    more x y xs ys Less h = order_other x y xs ys (ne_eqb x y (λ e. omega arith)) ∙ lt-ltb x y h
+    more x y xs ys Equal h = ap is_lt (order_same x y xs ys (eq-eqb x y h))
+    more x y xs ys Greater h = order_other x y xs ys (ne_eqb x y (λ e. omega arith)) ∙ le-ltb x y (omega arith)
 
 -- what does not come before n is followed by nothing that does
 not_before : (x y n : List ℕ) → is_lt (byte_order x y) ≡ true → is_lt (byte_order x n) ≡ false → is_lt (byte_order y n) ≡ false
@@ -92,12 +91,6 @@ unfolding ascends ascends_from names
 ascends_rest x [] h = refl
 ascends_rest x (r ∷ rs) h = and_r (is_lt (byte_order x r.name)) (ascends_from r.name (names rs)) h
 
-ascends_drop : (rs : List Row) (i : ℕ) → ascends (names rs) ≡ true → ascends (names (drop i rs)) ≡ true
-unfolding ascends names
-ascends_drop rs zero h = h
-ascends_drop [] (suc i) h = h
-ascends_drop (r ∷ rs) (suc i) h = ascends_drop rs i (ascends_rest r.name rs h)
-
 -- the first row has the name
 abbrev first_is : List Row → List ℕ → Bool
 first_is [] n = false
@@ -135,29 +128,45 @@ flags_are [] k h = absurd (omega arith)
 flags_are (w ∷ ws) zero h = refl
 flags_are (w ∷ ws) (suc k) h = flags_are ws k (omega arith)
 
--- a loop over the rows
-module _ (area words n : List ℕ) (i : ℕ) where
-  pub place_step : i < length words → is_lt (byte_order (nth_name area words i) n) ≡ true
-      → i + 1 + rows_before (drop (i + 1) (rows_at area words)) n ≡ i + rows_before (drop i (rows_at area words)) n
-  unfolding rows_before keep
-  place_step h e = rw (add-one i, rows_cons area words i h, e) (omega arith)
+-- the words whose rows come before a name stand at the front, since names ascend
+module _ (area n : List ℕ) where
+  abbrev pub is_before : ℕ → Bool
+  is_before w = is_lt (byte_order (name_at area w) n)
 
-  pub place_stop : Ordered area words → i < length words → is_lt (byte_order (nth_name area words i) n) ≡ false → i + rows_before (drop i (rows_at area words)) n ≡ i
-  unfolding rows_before keep ascends names
-  place_stop x h e = rw none (add-zero i)
+  none_after : (x ws : List ℕ) → is_lt (byte_order x n) ≡ false → ascends_from x (names (rows_at area ws)) ≡ true
+      → (j d : ℕ) → j < length ws → is_before (get_or ws j d) ≡ false
+  unfolding names ascends_from
+  none_after x [] e h j d l = absurd (omega arith)
+  none_after x (w ∷ ws) e h zero d l = not_before x (name_at area w) n (and_l _ _ h) e
+  none_after x (w ∷ ws) e h (suc j) d l =
+      none_after (name_at area w) ws (not_before x (name_at area w) n (and_l _ _ h) e) (and_r _ _ h) j d (omega arith)
+
+  pub parted : (ws : List ℕ) → ascends (names (rows_at area ws)) ≡ true → IsPartitionedBy is_before ws
+  unfolding names ascends
+  parted [] h i j d o l e = absurd (omega arith)
+  parted (w ∷ ws) h zero zero d o l e = e
+  parted (w ∷ ws) h zero (suc j) d o l e = go (is_before w) refl
     where
-      rest : List Row
-      rest = drop (suc i) (rows_at area words)
+      go : (b : Bool) → is_before w ≡ b → b ≡ true
+      go true q = refl
+      go false q = sym (none_after (name_at area w) ws q h j d (omega arith)) ∙ e
+  parted (w ∷ ws) h (suc i) zero d o l e = absurd (omega arith)
+  parted (w ∷ ws) h (suc i) (suc j) d o l e =
+      parted ws (ascends_rest (name_at area w) (rows_at area ws) h) i j d (omega arith) (omega arith) e
 
-      up : ascends (names (row_at_word area (get_or words i 0) ∷ rest)) ≡ true
-      up = subst (λ (rs : List Row). ascends (names rs) ≡ true) (rows_cons area words i h) (ascends_drop (rows_at area words) i x.ascend)
-
-      none : rows_before (drop i (rows_at area words)) n ≡ 0
-      none = rw (rows_cons area words i h, e) (none_before n (nth_name area words i) rest e up)
-
-  pub place_end : length words ≤ i → i + rows_before (drop i (rows_at area words)) n ≡ i
+  pub part_counted : (ws : List ℕ) (r : ℕ) → r ≤ length ws → IsPartitionPoint (λ w. is_before w ≡ true) (λ w. is_before w ≡ false) ws r
+      → r ≡ rows_before (rows_at area ws) n
   unfolding rows_before keep
-  place_end h = rw (drop_of_length-le (rows_at area words) {i = i} (omega (arith, rows_length area words))) (add-zero i)
+  part_counted [] zero l p = refl
+  part_counted [] (suc r) l p = absurd (omega arith)
+  part_counted (w ∷ ws) zero l p =
+      rw (p.1 0 0 (omega arith) (omega arith))
+      (part_counted ws 0 (omega arith) (λ k d a b. absurd (omega arith), λ k d a b. p.1 (suc k) d (omega arith) (omega arith)))
+  part_counted (w ∷ ws) (suc r) l p =
+      rw (p.0 0 0 (omega arith) (omega arith))
+      (ap suc
+      (part_counted ws r (omega arith)
+      (λ k d a b. p.0 (suc k) d (omega arith) (omega arith), λ k d a b. p.1 (suc k) d (omega arith) (omega arith))))
 
 -- the row at a name's place has the name, if there is one that has it
 pub has_stands : {area words : List ℕ} → Ordered area words → (n : List ℕ) (k : ℕ) → k ≡ rows_before (rows_at area words) n

@@ -1,4 +1,5 @@
 -- A plan carried out is the edit. Rests on the order of names in listing_rules.
+use Rattle.std.specs.Prelude.{Ok, Err}
 use Rattle.listing_rules.proofs.Prelude.{◌≡◌, ap, refl, sym, Bool, ◌&&◌, cond, false, not, true, Option, none, some, List, [], ◌∷◌, ◌+◌, ◌-◌, ◌<◌}
 use Rattle.listing_rules.proofs.Prelude.{◌≤◌, suc, ℕ, arith, eqb, ltb, length, get_or-take, length-take-le, split_at}
 use Rattle.listing_rules.specs.Names.{lawful_name}
@@ -10,9 +11,8 @@ use Rattle.listing_rules.specs.Subscriptions.{Store, held, store_rows, denied, s
 use Rattle.listing_rules.specs.Subscriptions.{rows_before, below_no_inferiors, free_from, lowest_run, with_subscribed, without_subscribed, zero_record, nth}
 use Rattle.listing_rules.specs.Subscriptions.{flagged, inserted, removed}
 use Rattle.listing_rules.proofs.SpareLaws.{before_fewer}
-use Rattle.subscriptions.specs.declared.Plan.{Plan}
-use Rattle.subscriptions.specs.declared.Plan.TheVariants.{Keep, Flag, Remove, Refused}
-use Rattle.subscriptions.specs.Plans.{subscribes, edited_name, setting_plan, clearing_plan, room_plan, fresh_plan, plan_for, carried}
+use Rattle.subscriptions.specs.declared.Plan.TheVariants.{Keep, Flag, Remove}
+use Rattle.subscriptions.specs.Plans.{Decision, subscribes, edited_name, setting_plan, clearing_plan, room_plan, fresh_plan, plan_for, carried}
 
 -- a row with the flags that it has
 flagged_same : (s : Store) (k : ℕ) → k < length s.records → flagged s k (nth s.records k).flags ≡ s
@@ -33,20 +33,20 @@ module _ (s : Store) (n : List ℕ) (h : s.count ≤ length s.records) where
   unfolding held nth
   held_flags k g = ap (λ (r : Record). r.flags) (get_or-take s.count s.records k zero_record g)
 
-  set_is : (k : ℕ) → k < length s.records → (f : ℕ) → f ≡ (nth s.records k).flags → stored (flagged s k (with_subscribed f)) ≡ carried s n (setting_plan k f)
+  set_is : (k : ℕ) → k < length s.records → (f : ℕ) → f ≡ (nth s.records k).flags → stored (flagged s k (with_subscribed f)) ≡ carried s n (Ok (setting_plan k f))
   unfolding carried setting_plan with_subscribed
   set_is k g f e = go (subscribed f)
     where
-      go : (o : Bool) → stored (flagged s k (cond o f (f + 2))) ≡ carried s n (cond o Keep (Flag k (cond o f (f + 2))))
+      go : (o : Bool) → stored (flagged s k (cond o f (f + 2))) ≡ carried s n (Ok (cond o Keep (Flag k (cond o f (f + 2)))))
       go true = ap stored (rw e (flagged_same s k g))
       go false = refl
 
   cleared_is : (k : ℕ) → k < length s.records → (f : ℕ) → f ≡ (nth s.records k).flags
-      → cond (eqb f 2) (stored (removed s k)) (stored (flagged s k (without_subscribed f))) ≡ carried s n (clearing_plan k f)
+      → cond (eqb f 2) (stored (removed s k)) (stored (flagged s k (without_subscribed f))) ≡ carried s n (Ok (clearing_plan k f))
   unfolding carried clearing_plan without_subscribed
   cleared_is k g f e = go (eqb f 2) (subscribed f)
     where
-      go : (t o : Bool) → cond t (stored (removed s k)) (stored (flagged s k (cond o (f - 2) f))) ≡ carried s n (cond t (Remove k) (cond o (Flag k (cond o (f - 2) f)) Keep))
+      go : (t o : Bool) → cond t (stored (removed s k)) (stored (flagged s k (cond o (f - 2) f))) ≡ carried s n (Ok (cond t (Remove k) (cond o (Flag k (cond o (f - 2) f)) Keep)))
       go true o = refl
       go false true = refl
       go false false = ap stored (rw e (flagged_same s k g))
@@ -73,10 +73,10 @@ module _ (s : Store) (n : List ℕ) (h : s.count ≤ length s.records) where
   unfolding fresh_plan store_rows carried
   fresh_is = go (lawful_name n && not (below_no_inferiors (store_rows s) n)) (insertion_is (rows_before (store_rows s) n) refl)
     where
-      room : Plan
+      room : Decision
       room = room_plan (rows_before (store_rows s) n) (ltb (length (held s)) 512 && ltb (length (held s)) (length s.records)) (lowest_run (length n) 0 (free_from (held s) 0 s.area))
 
-      go : (o : Bool) → insertion s n ≡ carried s n room → cond o (insertion s n) (denied 14) ≡ carried s n (cond o room (Refused 14))
+      go : (o : Bool) → insertion s n ≡ carried s n room → cond o (insertion s n) (denied 14) ≡ carried s n (cond o room (Err 14))
       go true e = e
       go false e = refl
 
@@ -87,12 +87,12 @@ module _ (s : Store) (n : List ℕ) (h : s.count ≤ length s.records) where
       k : ℕ
       k = rows_before (store_rows s) n
 
-      fresh : Plan
+      fresh : Decision
       fresh = fresh_plan (held s) (length s.records) s.area k n
 
       go : (o : Bool) → has_row (store_rows s) n ≡ o
           → cond o (stored (flagged s k (with_subscribed (nth s.records k).flags))) (cond (lawful_name n && not (below_no_inferiors (store_rows s) n)) (insertion s n) (denied 14))
-          ≡ carried s n (cond o (setting_plan k (nth (held s) k).flags) fresh)
+          ≡ carried s n (cond o (Ok (setting_plan k (nth (held s) k).flags)) fresh)
       go true e =
           let g = row_there_lem e in
           rw (held_flags k g) (set_is k (omega arith) (nth s.records k).flags refl)
@@ -110,7 +110,7 @@ module _ (s : Store) (n : List ℕ) (h : s.count ≤ length s.records) where
 
       go : (o : Bool) → has_row (store_rows s) n ≡ o
           → cond o (cond (eqb f 2) (stored (removed s k)) (stored (flagged s k (without_subscribed f)))) (stored s)
-          ≡ carried s n (cond o (clearing_plan k (nth (held s) k).flags) Keep)
+          ≡ carried s n (cond o (Ok (clearing_plan k (nth (held s) k).flags)) (Ok Keep))
       go true e =
           let g = row_there_lem e in
           rw (held_flags k g) (cleared_is k (omega arith) f refl)

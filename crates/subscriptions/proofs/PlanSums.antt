@@ -1,5 +1,6 @@
 -- The numbers that the plan for an edit leaves of a summary that agrees are what the edit leaves by the definitions (W13). Rests on SumLaws and
 -- SummaryLaws.
+use Rattle.std.specs.Prelude.{Ok, Err}
 use Rattle.listing_rules.proofs.Prelude.{◌∙◌, ◌≡◌, ap, refl, sym, Bool, ◌&&◌, cond, false, false≢true, not, true, Option, none, some, List, [], ◌++◌}
 use Rattle.listing_rules.proofs.Prelude.{◌∷◌, map, map-append, ◌<◌, ◌≤◌, ℕ, arith, eqb, ltb, get_or, length, length-append, length-map, take}
 use Rattle.listing_rules.proofs.Prelude.{get_or-append_seam, subst, eqb-true, ltb-true, lt-ltb, length-take-le, inl, inr, ◌+◌}
@@ -13,7 +14,7 @@ use Rattle.listing_rules.specs.Server.{changes}
 use Rattle.listing_rules.specs.Summary.{Summary, afresh, same_summaries, agrees, sums_edited, counted, Summed, ancestors_resummed, put_in, taken_out}
 use Rattle.listing_rules.specs.Summary.{subscribing_sums, unsubscribing_sums}
 use Rattle.records.specs.Lent.{words_summed}
-use Rattle.subscriptions.specs.Plans.{subscribes, edited_name, setting_plan, clearing_plan, room_plan, fresh_plan, plan_for}
+use Rattle.subscriptions.specs.Plans.{Decision, subscribes, edited_name, setting_plan, clearing_plan, room_plan, fresh_plan, plan_for}
 use Rattle.listing_rules.specs.Bytes.{bit}
 use Rattle.listing_rules.specs.Flags.{subscribed}
 use Rattle.listing_rules.specs.Listing.{implied}
@@ -31,8 +32,7 @@ use Rattle.mailbox_table.proofs.IndexLaws.{rows_length}
 use Rattle.records.specs.Numbers.{summary_of}
 use Rattle.summary.specs.Counts.{one_word, words_agree}
 use Rattle.summary.proofs.AgreeLaws.{row_at}
-use Rattle.subscriptions.specs.declared.Plan.{Plan}
-use Rattle.subscriptions.specs.declared.Plan.TheVariants.{Keep, Flag, Insert, Remove, Refused}
+use Rattle.subscriptions.specs.declared.Plan.TheVariants.{Keep, Flag, Insert, Remove}
 use Rattle.subscriptions.specs.Stored.{whole_store, plan_of, is_done, KeepsSums}
 use Rattle.subscriptions.specs.Resums.{Resums}
 use Rattle.subscriptions.specs.Summed.{FlagSums, SumsFit, numbers_after}
@@ -88,7 +88,7 @@ module _ (area all sums : List ℕ) (count : ℕ) (h : passes (store_table (whol
 
     -- a name that has a row
     pub set_row_meant : has_row (store_rows (whole_store all count area)) n ≡ true
-        → map summary_of (numbers_after (setting_plan k f) sums (take count all) area n) ≡ subscribing_sums m n
+        → map summary_of (numbers_after (Ok (setting_plan k f)) sums (take count all) area n) ≡ subscribing_sums m n
     unfolding subscribing_sums
     set_row_meant e =
         set_meant area ws sums n few agree (lower_than (store_rows s) n) (higher_than (store_rows s) n) k f (own_flags e) (rows_same ∙ row_split s n sp e)
@@ -97,7 +97,7 @@ module _ (area all sums : List ℕ) (count : ℕ) (h : passes (store_table (whol
         (put_in count k (counted (store_rows s) n) (ancestors_resummed 0 0x0002 n (store_rows s) (map summary_of sums)))) e)
 
     pub clear_row_meant : has_row (store_rows (whole_store all count area)) n ≡ true
-        → map summary_of (numbers_after (clearing_plan k f) sums (take count all) area n) ≡ unsubscribing_sums m n
+        → map summary_of (numbers_after (Ok (clearing_plan k f)) sums (take count all) area n) ≡ unsubscribing_sums m n
     unfolding unsubscribing_sums
     clear_row_meant e =
         clear_meant area ws sums n few agree (lower_than (store_rows s) n) (higher_than (store_rows s) n) k f (own_flags e)
@@ -109,7 +109,7 @@ module _ (area all sums : List ℕ) (count : ℕ) (h : passes (store_table (whol
 
     -- a name that has none
     pub put_row_meant : has_row (store_rows (whole_store all count area)) n ≡ false → (start : ℕ)
-        → map summary_of (numbers_after (Insert k start) sums (take count all) area n) ≡ subscribing_sums m n
+        → map summary_of (numbers_after (Ok (Insert k start)) sums (take count all) area n) ≡ subscribing_sums m n
     unfolding subscribing_sums numbers_after
     put_row_meant e start =
         insert_meant area ws sums n few agree (lower_than (store_rows s) n) (higher_than (store_rows s) n) (rows_same ∙ gap_split s n sp e) k
@@ -118,7 +118,7 @@ module _ (area all sums : List ℕ) (count : ℕ) (h : passes (store_table (whol
         (put_in count k (counted (store_rows s) n) (ancestors_resummed 0 0x0002 n (store_rows s) (map summary_of sums)))) e)
 
     pub left_meant : has_row (store_rows (whole_store all count area)) n ≡ false →
-        map summary_of (numbers_after Keep sums (take count all) area n) ≡ unsubscribing_sums m n
+        map summary_of (numbers_after (Ok Keep) sums (take count all) area n) ≡ unsubscribing_sums m n
     unfolding unsubscribing_sums numbers_after
     left_meant e =
         sym (ap (λ (o : Bool). cond o (cond (eqb f 0x0002) (taken_out count k (ancestors_resummed 0x0002 0 n (store_rows s) (map summary_of sums)))
@@ -132,14 +132,14 @@ module _ (area all sums : List ℕ) (count : ℕ) (h : passes (store_table (whol
     plan_flags e = flags_are ws k (omega (arith, before_fewer (store_rows s) n e, ap length rows_same, rows_length area ws)) ∙ own_flags e
 
     fresh_inserts : (rs : List Record) (lent j : ℕ) → is_done (fresh_plan rs lent area j n) ≡ true →
-        (start : ℕ) × (fresh_plan rs lent area j n ≡ Insert j start)
+        (start : ℕ) × (fresh_plan rs lent area j n ≡ Ok (Insert j start))
     unfolding fresh_plan room_plan
     fresh_inserts rs lent j e =
         go (lawful_name n && not (below_no_inferiors (record_rows area rs) n)) (lowest_run (length n) 0 (free_from rs 0 area))
         (ltb (length rs) 512 && ltb (length rs) lent) e
       where
-        go : (b : Bool) (o : Option ℕ) (room : Bool) → is_done (cond b (room_plan j room o) (Refused 14)) ≡ true
-            → (start : ℕ) × (cond b (room_plan j room o) (Refused 14) ≡ Insert j start)
+        go : (b : Bool) (o : Option ℕ) (room : Bool) → is_done (cond b (room_plan j room o) (Err 14)) ≡ true
+            → (start : ℕ) × (cond b (room_plan j room o) (Err 14) ≡ Ok (Insert j start))
         go true none room q = absurd (false≢true q)
         go true (some start) true q = (start, refl)
         go true (some start) false q = absurd (false≢true q)
@@ -149,45 +149,45 @@ module _ (area all sums : List ℕ) (count : ℕ) (h : passes (store_table (whol
     pub subscribe_meant : (lent : ℕ) → is_done (plan_for (map record_of (take count all)) lent area true n) ≡ true
         → map summary_of (numbers_after (plan_for (map record_of (take count all)) lent area true n) sums (take count all) area n) ≡ subscribing_sums m n
     subscribe_meant lent e =
-        ap (λ (p : Plan). map summary_of (numbers_after p sums ws area n)) plan
+        ap (λ (p : Decision). map summary_of (numbers_after p sums ws area n)) plan
         ∙ go (has_row (store_rows s) n) refl (sym (ap is_done plan) ∙ e)
       where
-        fresh : Plan
+        fresh : Decision
         fresh = fresh_plan (map record_of (take count all)) lent area k n
 
         plan : plan_for (map record_of (take count all)) lent area true n
-            ≡ cond (has_row (store_rows s) n) (setting_plan k (nth (map record_of (take count all)) k).flags)
+            ≡ cond (has_row (store_rows s) n) (Ok (setting_plan k (nth (map record_of (take count all)) k).flags))
             (fresh_plan (map record_of (take count all)) lent area k n)
         plan = unfold plan_for in
-            ap (λ (rs : List Row). cond (has_row rs n) (setting_plan (rows_before rs n) (nth (map record_of ws) (rows_before rs n)).flags)
+            ap (λ (rs : List Row). cond (has_row rs n) (Ok (setting_plan (rows_before rs n) (nth (map record_of ws) (rows_before rs n)).flags))
             (fresh_plan (map record_of ws) lent area (rows_before rs n) n)) rows_of
 
-        go : (o : Bool) → has_row (store_rows s) n ≡ o → is_done (cond o (setting_plan k (nth (map record_of ws) k).flags) fresh) ≡ true
-            → map summary_of (numbers_after (cond o (setting_plan k (nth (map record_of ws) k).flags) fresh) sums ws area n) ≡ subscribing_sums m n
-        go true q d = ap (λ (x : ℕ). map summary_of (numbers_after (setting_plan k x) sums ws area n)) (plan_flags q) ∙ set_row_meant q
+        go : (o : Bool) → has_row (store_rows s) n ≡ o → is_done (cond o (Ok (setting_plan k (nth (map record_of ws) k).flags)) fresh) ≡ true
+            → map summary_of (numbers_after (cond o (Ok (setting_plan k (nth (map record_of ws) k).flags)) fresh) sums ws area n) ≡ subscribing_sums m n
+        go true q d = ap (λ (x : ℕ). map summary_of (numbers_after (Ok (setting_plan k x)) sums ws area n)) (plan_flags q) ∙ set_row_meant q
         go false q d =
             let w = fresh_inserts (map record_of ws) lent k d in
-            ap (λ (p : Plan). map summary_of (numbers_after p sums ws area n)) w.1 ∙ put_row_meant q w.0
+            ap (λ (p : Decision). map summary_of (numbers_after p sums ws area n)) w.1 ∙ put_row_meant q w.0
 
     pub unsubscribe_meant : (lent : ℕ) →
         map summary_of (numbers_after (plan_for (map record_of (take count all)) lent area false n) sums (take count all) area n) ≡ unsubscribing_sums m n
-    unsubscribe_meant lent = ap (λ (p : Plan). map summary_of (numbers_after p sums ws area n)) plan ∙ go (has_row (store_rows s) n) refl
+    unsubscribe_meant lent = ap (λ (p : Decision). map summary_of (numbers_after p sums ws area n)) plan ∙ go (has_row (store_rows s) n) refl
       where
         plan : plan_for (map record_of (take count all)) lent area false n
-            ≡ cond (has_row (store_rows s) n) (clearing_plan k (nth (map record_of (take count all)) k).flags) Keep
+            ≡ cond (has_row (store_rows s) n) (Ok (clearing_plan k (nth (map record_of (take count all)) k).flags)) (Ok Keep)
         plan = unfold plan_for in
-            ap (λ (rs : List Row). cond (has_row rs n) (clearing_plan (rows_before rs n) (nth (map record_of ws) (rows_before rs n)).flags) Keep) rows_of
+            ap (λ (rs : List Row). cond (has_row rs n) (Ok (clearing_plan (rows_before rs n) (nth (map record_of ws) (rows_before rs n)).flags)) (Ok Keep)) rows_of
 
         go : (o : Bool) → has_row (store_rows s) n ≡ o
-            → map summary_of (numbers_after (cond o (clearing_plan k (nth (map record_of ws) k).flags) Keep) sums ws area n) ≡ unsubscribing_sums m n
-        go true q = ap (λ (x : ℕ). map summary_of (numbers_after (clearing_plan k x) sums ws area n)) (plan_flags q) ∙ clear_row_meant q
+            → map summary_of (numbers_after (cond o (Ok (clearing_plan k (nth (map record_of ws) k).flags)) (Ok Keep)) sums ws area n) ≡ unsubscribing_sums m n
+        go true q = ap (λ (x : ℕ). map summary_of (numbers_after (Ok (clearing_plan k x)) sums ws area n)) (plan_flags q) ∙ clear_row_meant q
         go false q = left_meant q
 
     no_row_flags : (rs : List Row) (m : List ℕ) → has_row rs m ≡ false → flags_of rs m ≡ 0
     no_row_flags rs m e = implied_flags rs m (unfold implied in ap not e)
 
     -- whether a row changes: exactly where the subscription was another before
-    changed : Plan → Bool
+    changed : Decision → Bool
     changed p = ltb (change_of p count).from (change_of p count).to
 
     -- flags 0002, and none
@@ -202,23 +202,23 @@ module _ (area all sums : List ℕ) (count : ℕ) (h : passes (store_table (whol
     below_count : has_row (store_rows s) n ≡ true → k < count
     below_count e = omega (arith, before_fewer (store_rows s) n e, ap length rows_same, rows_length area ws, many)
 
-    set_changes : changed (setting_plan k f) ≡ not (subscribed f)
+    set_changes : changed (Ok (setting_plan k f)) ≡ not (subscribed f)
     unfolding changed change_of setting_plan
     set_changes = go (subscribed f)
       where
-        go : (o : Bool) → changed (cond o Keep (Flag k (with_subscribed f))) ≡ not o
+        go : (o : Bool) → changed (Ok (cond o Keep (Flag k (with_subscribed f)))) ≡ not o
         go true = refl
         go false = lt-ltb k (k + 1) (omega arith)
 
-    clear_changes : has_row (store_rows s) n ≡ true → changed (clearing_plan k f) ≡ subscribed f
+    clear_changes : has_row (store_rows s) n ≡ true → changed (Ok (clearing_plan k f)) ≡ subscribed f
     unfolding changed change_of clearing_plan
     clear_changes e = go (eqb f 0x0002) refl
       where
-        kept : (o : Bool) → changed (cond o (Flag k (without_subscribed f)) Keep) ≡ o
+        kept : (o : Bool) → changed (Ok (cond o (Flag k (without_subscribed f)) Keep)) ≡ o
         kept true = lt-ltb k (k + 1) (omega arith)
         kept false = refl
 
-        go : (b : Bool) → eqb f 0x0002 ≡ b → changed (cond b (Remove k) (cond (subscribed f) (Flag k (without_subscribed f)) Keep)) ≡ subscribed f
+        go : (b : Bool) → eqb f 0x0002 ≡ b → changed (Ok (cond b (Remove k) (cond (subscribed f) (Flag k (without_subscribed f)) Keep))) ≡ subscribed f
         go true q = lt-ltb k count (below_count e) ∙ sym (ap subscribed (eqb-true f 0x0002 q) ∙ alone)
         go false q = kept (subscribed f)
 
@@ -240,20 +240,20 @@ module _ (area all sums : List ℕ) (count : ℕ) (h : passes (store_table (whol
         ap (λ (rows : List Row). changed (plan rows)) rows_of ∙ go (has_row (store_rows s) n) refl b
         (sym (ap (λ (rows : List Row). is_done (plan rows)) rows_of) ∙ d)
       where
-        plan : List Row → Plan
+        plan : List Row → Decision
         plan rows =
             let j = rows_before rows n in
             let g = (nth (map record_of ws) j).flags in
-            cond (has_row rows n) (cond b (setting_plan j g) (clearing_plan j g)) (cond b (fresh_plan (map record_of ws) lent area j n) Keep)
+            cond (has_row rows n) (cond b (Ok (setting_plan j g)) (Ok (clearing_plan j g))) (cond b (fresh_plan (map record_of ws) lent area j n) (Ok Keep))
 
         go : (o : Bool) → has_row (store_rows s) n ≡ o → (b : Bool)
-            → is_done (let g = (nth (map record_of ws) k).flags in cond o (cond b (setting_plan k g) (clearing_plan k g))
-            (cond b (fresh_plan (map record_of ws) lent area k n) Keep)) ≡ true
-            → changed (let g = (nth (map record_of ws) k).flags in cond o (cond b (setting_plan k g) (clearing_plan k g))
-            (cond b (fresh_plan (map record_of ws) lent area k n) Keep))
+            → is_done (let g = (nth (map record_of ws) k).flags in cond o (cond b (Ok (setting_plan k g)) (Ok (clearing_plan k g)))
+            (cond b (fresh_plan (map record_of ws) lent area k n) (Ok Keep))) ≡ true
+            → changed (let g = (nth (map record_of ws) k).flags in cond o (cond b (Ok (setting_plan k g)) (Ok (clearing_plan k g)))
+            (cond b (fresh_plan (map record_of ws) lent area k n) (Ok Keep)))
             ≡ cond b (not (subscribed f)) (subscribed f)
-        go true q true d = ap (λ (g : ℕ). changed (setting_plan k g)) (plan_flags q) ∙ set_changes
-        go true q false d = ap (λ (g : ℕ). changed (clearing_plan k g)) (plan_flags q) ∙ clear_changes q
+        go true q true d = ap (λ (g : ℕ). changed (Ok (setting_plan k g))) (plan_flags q) ∙ set_changes
+        go true q false d = ap (λ (g : ℕ). changed (Ok (clearing_plan k g))) (plan_flags q) ∙ clear_changes q
         go false q true d = fresh_changes lent q d
         go false q false d = unfold change_of in sym (ap subscribed (no_row_flags (store_rows s) n q) ∙ none_subscribed)
 
@@ -276,26 +276,26 @@ module _ (area all sums : List ℕ) (count : ℕ) (h : passes (store_table (whol
       flag_fits e g =
           record { row = within e; resums = subst (λ (x : ℕ). Resums area ws n (one_word x) (one_word g) sums) (sym (own_flags e)) (row_resums e g) }
 
-      set_fits : has_row (store_rows s) n ≡ true → SumsFit (setting_plan k f) sums ws area n
+      set_fits : has_row (store_rows s) n ≡ true → SumsFit (Ok (setting_plan k f)) sums ws area n
       unfolding setting_plan
       set_fits e = go (subscribed f)
         where
-          go : (o : Bool) → SumsFit (cond o Keep (Flag k (with_subscribed f))) sums ws area n
+          go : (o : Bool) → SumsFit (Ok (cond o Keep (Flag k (with_subscribed f)))) sums ws area n
           go true = tt
           go false = flag_fits e (with_subscribed f)
 
-      clear_fits : has_row (store_rows s) n ≡ true → SumsFit (clearing_plan k f) sums ws area n
+      clear_fits : has_row (store_rows s) n ≡ true → SumsFit (Ok (clearing_plan k f)) sums ws area n
       unfolding clearing_plan
       clear_fits e = go (eqb f 0x0002) refl (subscribed f)
         where
-          go : (b : Bool) → eqb f 0x0002 ≡ b → (o : Bool) → SumsFit (cond b (Remove k) (cond o (Flag k (without_subscribed f)) Keep)) sums ws area n
+          go : (b : Bool) → eqb f 0x0002 ≡ b → (o : Bool) → SumsFit (Ok (cond b (Remove k) (cond o (Flag k (without_subscribed f)) Keep))) sums ws area n
           go true q o =
               record
               { row = within e; resums = subst (λ (x : ℕ). Resums area ws n (one_word x) (one_word 0) sums) (eqb-true f 0x0002 q) (row_resums e 0) }
           go false q true = flag_fits e (without_subscribed f)
           go false q false = tt
 
-      put_fits : has_row (store_rows s) n ≡ false → (start : ℕ) → count < lent → SumsFit (Insert k start) sums ws area n
+      put_fits : has_row (store_rows s) n ≡ false → (start : ℕ) → count < lent → SumsFit (Ok (Insert k start)) sums ws area n
       put_fits e start h =
           record {
             place = omega (arith, before_most (store_rows s) n, ap length rows_same, rows_length area ws);
@@ -315,7 +315,7 @@ module _ (area all sums : List ℕ) (count : ℕ) (h : passes (store_table (whol
           rs = map record_of ws
 
           go : (b room : Bool) → (ltb (length rs) 512 && ltb (length rs) lent) ≡ room → (o : Option ℕ)
-              → SumsFit (cond b (room_plan k room o) (Refused 14)) sums ws area n
+              → SumsFit (cond b (room_plan k room o) (Err 14)) sums ws area n
           go false room q o = tt
           go true room q none = tt
           go true false q (some start) = tt
@@ -328,17 +328,17 @@ module _ (area all sums : List ℕ) (count : ℕ) (h : passes (store_table (whol
       unfolding plan_for
       sums_fit b = subst (λ (rows : List Row). SumsFit (plan rows) sums ws area n) (sym rows_of) (go (has_row (store_rows s) n) refl b)
         where
-          plan : List Row → Plan
+          plan : List Row → Decision
           plan rows =
               let j = rows_before rows n in
               let g = (nth (map record_of ws) j).flags in
-              cond (has_row rows n) (cond b (setting_plan j g) (clearing_plan j g)) (cond b (fresh_plan (map record_of ws) lent area j n) Keep)
+              cond (has_row rows n) (cond b (Ok (setting_plan j g)) (Ok (clearing_plan j g))) (cond b (fresh_plan (map record_of ws) lent area j n) (Ok Keep))
 
           go : (o : Bool) → has_row (store_rows s) n ≡ o → (b : Bool)
               → SumsFit (let g = (nth (map record_of ws) k).flags in
-              cond o (cond b (setting_plan k g) (clearing_plan k g)) (cond b (fresh_plan (map record_of ws) lent area k n) Keep)) sums ws area n
-          go true q true = subst (λ (g : ℕ). SumsFit (setting_plan k g) sums ws area n) (sym (plan_flags q)) (set_fits q)
-          go true q false = subst (λ (g : ℕ). SumsFit (clearing_plan k g) sums ws area n) (sym (plan_flags q)) (clear_fits q)
+              cond o (cond b (Ok (setting_plan k g)) (Ok (clearing_plan k g))) (cond b (fresh_plan (map record_of ws) lent area k n) (Ok Keep))) sums ws area n
+          go true q true = subst (λ (g : ℕ). SumsFit (Ok (setting_plan k g)) sums ws area n) (sym (plan_flags q)) (set_fits q)
+          go true q false = subst (λ (g : ℕ). SumsFit (Ok (clearing_plan k g)) sums ws area n) (sym (plan_flags q)) (clear_fits q)
           go false q true = fresh_fits q
           go false q false = tt
 

@@ -1,8 +1,8 @@
 -- The lowest free run, by one pass over the map. Rests on the library alone.
+use Rattle.std.specs.Prelude.{Some, None}
 use Rattle.listing_rules.proofs.Prelude.{◌∙◌, ◌≡◌, ap, refl, sym, Bool, false, true, none, some, List, [], ◌++◌, ◌∷◌, ◌+◌, ◌-◌, ◌<◌, ◌≤◌, suc, zero}
 use Rattle.listing_rules.proofs.Prelude.{ℕ, add-one, arith, drop, drop_of_length-le, get_or, length, replicate, drop-cons, le-leb, lt-leb}
 use Rattle.listing_rules.specs.Subscriptions.{free_front, lowest_run}
-use Rattle.subscriptions.specs.declared.free.Run.TheVariants.{At, Missing}
 use Rattle.subscriptions.specs.Runs.{run_is}
 
 -- free bytes at the front of a list
@@ -53,7 +53,7 @@ module _ {len : ℕ} {marks : List Bool} {from i : ℕ} (p : Passed len marks fr
       let z : i + 1 - from ≡ suc (i - from) = omega (arith, p.order) in
       record { order = omega (arith, p.order); short = omega (arith, p.order); free = rw (z, add-one i) (one_more h e); left = p.left }
 
-  pub passed_found : i < length marks → get_or marks i false ≡ true → len ≤ i + 1 - from → At from ≡ run_is (lowest_run len 0 marks)
+  pub passed_found : i < length marks → get_or marks i false ≡ true → len ≤ i + 1 - from → Some from ≡ run_is (lowest_run len 0 marks)
   unfolding run_is
   passed_found h e g = sym (ap run_is run)
     where
@@ -79,7 +79,7 @@ module _ {len : ℕ} {marks : List Bool} {from i : ℕ} (p : Passed len marks fr
           (lowest_pass len (i - from) from (false ∷ drop (suc i) marks) (omega (arith, p.order, p.short)) refl
           ∙ rw z (lowest_used len i (drop (suc i) marks) (omega (arith, p.order, p.short))))))
 
-  pub passed_end : length marks ≤ i → Missing ≡ run_is (lowest_run len 0 marks)
+  pub passed_end : length marks ≤ i → None ≡ run_is (lowest_run len 0 marks)
   unfolding run_is lowest_run free_front
   passed_end h = sym (ap run_is run)
     where

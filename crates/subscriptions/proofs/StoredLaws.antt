@@ -1,5 +1,6 @@
 -- An edit of a store whose records are the words: the plan for it fits, and done it leaves that store. Rests on PlanLaws, FitLaws and
 -- AppliedLaws, and on the parts of a store that passes.
+use Rattle.std.specs.Prelude.{Ok, Err}
 use Rattle.listing_rules.proofs.Prelude.{◌∙◌, ◌≡◌, ap, refl, subst, sym, true, List, [], ◌++◌, ◌∷◌, append_assoc, map, map-append, ◌+◌, ◌-◌, ◌<◌, ◌≤◌}
 use Rattle.listing_rules.proofs.Prelude.{suc, zero, ℕ, add-one, arith, leb, drop, get_or, length, length-append, length-drop, length-map, length-set}
 use Rattle.listing_rules.proofs.Prelude.{set, take, append_snoc, drop_at, length-take-le, paste-zero, set_split, leb-true}
@@ -15,10 +16,9 @@ use Rattle.listing_rules.proofs.EditPasses.{StoreParts, store_parts, rows_count}
 use Rattle.records.specs.Words.{record_of}
 use Rattle.records.specs.Stores.{Between}
 use Rattle.mailbox_table.specs.Words.{row_of_word}
-use Rattle.subscriptions.specs.declared.Plan.{Plan}
-use Rattle.subscriptions.specs.declared.Plan.TheVariants.{Keep, Flag, Insert, Remove, Refused}
+use Rattle.subscriptions.specs.declared.Plan.TheVariants.{Keep, Flag, Insert, Remove}
 use Rattle.subscriptions.specs.declared.Change.{Change}
-use Rattle.subscriptions.specs.Plans.{Ordered, subscribes, edited_name}
+use Rattle.subscriptions.specs.Plans.{Decision, Ordered, subscribes, edited_name}
 use Rattle.subscriptions.specs.Applied.{with_flags, new_word, inserted_at, removed_at, words_after, area_after, change_of, changed_records, Applies}
 use Rattle.subscriptions.specs.Applied.{Fits, FlagFits, InsertFits, RemoveFits}
 use Rattle.subscriptions.specs.Stored.{whole_store, plan_of, Decides}
@@ -159,14 +159,14 @@ module _ (ws : List ℕ) where
             (append_assoc (take k ws) (drop (suc k) (take count ws) ++ (0 ∷ [])) (drop count ws)));
       }
 
-  plan_between : (p : Plan) (count : ℕ) (area n : List ℕ) → Fits p ws count area n
+  plan_between : (p : Decision) (count : ℕ) (area n : List ℕ) → Fits p ws count area n
       → Between ws (words_after p ws count n) (length ws) (change_of p count).from (change_of p count).to
   unfolding words_after change_of
-  plan_between Keep count area n fit = nothing_between
-  plan_between (Flag k f) count area n fit = flag_between count k f fit
-  plan_between (Insert k start) count area n fit = insert_between count area n k start fit
-  plan_between (Remove k) count area n fit = remove_between count area k fit
-  plan_between (Refused x) count area n fit = nothing_between
+  plan_between (Ok Keep) count area n fit = nothing_between
+  plan_between (Ok (Flag k f)) count area n fit = flag_between count k f fit
+  plan_between (Ok (Insert k start)) count area n fit = insert_between count area n k start fit
+  plan_between (Ok (Remove k)) count area n fit = remove_between count area k fit
+  plan_between (Err x) count area n fit = nothing_between
 
 -- the records that changed, between those that stay, are those of the words
 changed_words : (ws vs : List ℕ) (c : Change) → Between ws vs (length ws) c.from c.to → changed_records (map record_of ws) c vs ≡ map record_of vs
@@ -192,7 +192,7 @@ plan_decides ws count area e h =
     s : Store
     s = whole_store ws count area
 
-    p : Plan
+    p : Decision
     p = plan_of ws count area e
 
     n : List ℕ

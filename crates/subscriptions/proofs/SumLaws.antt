@@ -1,4 +1,5 @@
 -- The numbers that a plan leaves of a summary tell what the definitions say (W13). Rests on MeantLaws of summary.
+use Rattle.std.specs.Prelude.{Ok}
 use Rattle.listing_rules.proofs.Prelude.{◌∙◌, ◌≡◌, ap, refl, List, [], ◌++◌, ◌∷◌, map, map-append, suc, ℕ, drop, take, length, true, inl, inr, ◌<◌}
 use Rattle.listing_rules.proofs.Prelude.{◌≤◌, arith, get_or, sym, Bool, cond, false, ◌+◌, ◌-◌, eqb, eqb-true}
 use Rattle.listing_rules.specs.Names.{below}
@@ -134,31 +135,31 @@ module _ (area ws sums n : List ℕ) (few : length ws ≤ 512) (agree : words_ag
       ∙ ancestors_told area ws sums n few agree lower (row_for f n ∷ []) upper parts f (inl refl) g
 
   -- SUBSCRIBE
-  pub set_meant : map summary_of (numbers_after (setting_plan k f) sums ws area n) ≡ ancestors_resummed f (with_subscribed f) n (rows_at area ws)
+  pub set_meant : map summary_of (numbers_after (Ok (setting_plan k f)) sums ws area n) ≡ ancestors_resummed f (with_subscribed f) n (rows_at area ws)
       (map summary_of sums)
   unfolding setting_plan with_subscribed numbers_after
   set_meant = go (subscribed f) (flagged_told (f + 2))
     where
       go : (b : Bool) → map summary_of (flagged_sums sums ws area n k (f + 2)) ≡ ancestors_resummed f (f + 2) n (rows_at area ws) (map summary_of sums)
-          → map summary_of (numbers_after (cond b Keep (Flag k (cond b f (f + 2)))) sums ws area n) ≡ ancestors_resummed f (cond b f (f + 2)) n
+          → map summary_of (numbers_after (Ok (cond b Keep (Flag k (cond b f (f + 2))))) sums ws area n) ≡ ancestors_resummed f (cond b f (f + 2)) n
           (rows_at area ws) (map summary_of sums)
       go true e = kept_told
       go false e = e
 
   -- UNSUBSCRIBE
-  pub clear_meant : map summary_of (numbers_after (clearing_plan k f) sums ws area n)
+  pub clear_meant : map summary_of (numbers_after (Ok (clearing_plan k f)) sums ws area n)
       ≡ cond (eqb f 0x0002) (taken_out (length ws) k (ancestors_resummed 0x0002 0 n (rows_at area ws) (map summary_of sums)))
       (ancestors_resummed f (without_subscribed f) n (rows_at area ws) (map summary_of sums))
   unfolding clearing_plan without_subscribed numbers_after
   clear_meant = two (eqb f 0x0002) refl
     where
-      one' : (b : Bool) → map summary_of (numbers_after (cond b (Flag k (cond b (f - 2) f)) Keep) sums ws area n)
+      one' : (b : Bool) → map summary_of (numbers_after (Ok (cond b (Flag k (cond b (f - 2) f)) Keep)) sums ws area n)
           ≡ ancestors_resummed f (cond b (f - 2) f) n (rows_at area ws) (map summary_of sums)
       one' true = flagged_told (f - 2)
       one' false = kept_told
 
       two : (b : Bool) → eqb f 0x0002 ≡ b
-          → map summary_of (numbers_after (cond b (Remove k) (cond (subscribed f) (Flag k (cond (subscribed f) (f - 2) f)) Keep)) sums ws area n)
+          → map summary_of (numbers_after (Ok (cond b (Remove k) (cond (subscribed f) (Flag k (cond (subscribed f) (f - 2) f)) Keep))) sums ws area n)
           ≡ cond b (taken_out (length ws) k (ancestors_resummed 0x0002 0 n (rows_at area ws) (map summary_of sums)))
           (ancestors_resummed f (cond (subscribed f) (f - 2) f) n (rows_at area ws) (map summary_of sums))
       two true e =

@@ -1,15 +1,14 @@
 -- Free runs as the code finds them: on a map of the area.
+use Rattle.std.specs.Prelude.{Option as Maybe, Some, None}
 use Rattle.std.specs.Prelude.{◌≡◌, List, map, Bool, false, ◌&&◌, not, leb, ltb, length, get_or, ℕ}
 use Rattle.std.proofs.Math.Option.{Option, none, some}
 use Rattle.listing_rules.specs.Lists.{any_of}
 use Rattle.listing_rules.specs.Subscriptions.{uses}
 use Rattle.records.specs.Words.{record_of}
-use Rattle.subscriptions.specs.declared.free.Run.{Run}
-use Rattle.subscriptions.specs.declared.free.Run.TheVariants.{At, Missing}
 
-unfoldable pub run_is : Option ℕ → Run
-run_is none = Missing
-run_is (some k) = At k
+unfoldable pub run_is : Option ℕ → Maybe ℕ
+run_is none = None
+run_is (some k) = Some k
 
 -- a place lies between two places, or in the name of one of the words
 unfoldable pub used_between : ℕ → ℕ → ℕ → Bool

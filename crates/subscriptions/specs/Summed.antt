@@ -1,10 +1,10 @@
 -- What a plan leaves of the numbers of a summary, and what it needs of them.
-use Rattle.std.specs.Prelude.{List, length, get_or, ℕ, ◌≤◌, ◌<◌}
+use Rattle.std.specs.Prelude.{Ok, Err, List, length, get_or, ℕ, ◌≤◌, ◌<◌}
 use Rattle.mailbox_table.specs.Words.{row_of_word}
 use Rattle.summary.specs.Counts.{one_word, sum_below}
 use Rattle.subscriptions.specs.Resums.{Resums, resummed_words}
-use Rattle.subscriptions.specs.declared.Plan.{Plan}
-use Rattle.subscriptions.specs.declared.Plan.TheVariants.{Keep, Flag, Insert, Remove, Refused}
+use Rattle.subscriptions.specs.declared.Plan.TheVariants.{Keep, Flag, Insert, Remove}
+use Rattle.subscriptions.specs.Plans.{Decision}
 use Rattle.subscriptions.specs.Applied.{inserted_at, removed_at}
 
 -- the flags of row k change; a row is put in at place k; row k goes. The words are those of the rows as they were, n is the name
@@ -33,16 +33,16 @@ pub record RemoveSums (sums ws area n : List ℕ) (k : ℕ) : Type 0 where
   pub resums : Resums area ws n (one_word 0x0002) (one_word 0) sums
 
 -- by the cases of a plan
-unfoldable pub numbers_after : Plan → List ℕ → List ℕ → List ℕ → List ℕ → List ℕ
-numbers_after Keep sums ws area n = sums
-numbers_after (Flag k f) sums ws area n = flagged_sums sums ws area n k f
-numbers_after (Insert k start) sums ws area n = inserted_sums sums ws area n k
-numbers_after (Remove k) sums ws area n = removed_sums sums ws area n k
-numbers_after (Refused x) sums ws area n = sums
+unfoldable pub numbers_after : Decision → List ℕ → List ℕ → List ℕ → List ℕ → List ℕ
+numbers_after (Ok Keep) sums ws area n = sums
+numbers_after (Ok (Flag k f)) sums ws area n = flagged_sums sums ws area n k f
+numbers_after (Ok (Insert k start)) sums ws area n = inserted_sums sums ws area n k
+numbers_after (Ok (Remove k)) sums ws area n = removed_sums sums ws area n k
+numbers_after (Err x) sums ws area n = sums
 
-abbrev pub SumsFit : Plan → List ℕ → List ℕ → List ℕ → List ℕ → Type 0
-SumsFit Keep sums ws area n = Unit {0}
-SumsFit (Flag k f) sums ws area n = FlagSums sums ws area n k f
-SumsFit (Insert k start) sums ws area n = InsertSums sums ws area n k
-SumsFit (Remove k) sums ws area n = RemoveSums sums ws area n k
-SumsFit (Refused x) sums ws area n = Unit {0}
+abbrev pub SumsFit : Decision → List ℕ → List ℕ → List ℕ → List ℕ → Type 0
+SumsFit (Ok Keep) sums ws area n = Unit {0}
+SumsFit (Ok (Flag k f)) sums ws area n = FlagSums sums ws area n k f
+SumsFit (Ok (Insert k start)) sums ws area n = InsertSums sums ws area n k
+SumsFit (Ok (Remove k)) sums ws area n = RemoveSums sums ws area n k
+SumsFit (Err x) sums ws area n = Unit {0}

@@ -5,22 +5,18 @@ ghost use Rattle.listing_rules.specs.Subscriptions.{below_no_inferiors};
 ghost use Rattle.mailbox_table.specs.Index.{row_at_word, rows_at};
 ghost use Rattle.subscriptions.specs.Plans.{bars_below};
 
+use super::rows::Rows;
 use mailbox_table::flags::Flags;
 use mailbox_table::rows::{Row, name_of};
-use octets::{SLASH, same_bytes};
+use octets::{Members, SLASH, same_bytes};
 
-// Whether the name lies below some row with no inferiors.
-pub(crate) fn below_no_inferiors(area: &[u8], words: &[u64], name: &[u8]) -> bool
-    ensures { result ≡ below_no_inferiors (rows_at area.now words.now) name.now }
-{
-    let mut i = 0;
-    while i < words.len() {
-        if bars(area, words[i], name) {
-            return true;
-        }
-        i += 1;
+impl Rows<'_> {
+    // Whether the name lies below some row with no inferiors.
+    pub(crate) fn below_no_inferiors(self, name: &[u8]) -> bool
+        ensures { result ≡ below_no_inferiors (rows_at self.entry.area.now self.entry.words.now) name.now }
+    {
+        self.words.iter().any(|w| bars(self.area, *w, name))
     }
-    false
 }
 
 // Whether the row of this word has no inferiors and the name lies below it. The names of other rows are not looked at.
@@ -28,10 +24,7 @@ fn bars(area: &[u8], word: u64, name: &[u8]) -> bool
     ensures { result ≡ bars_below name.now (row_at_word area.now word) }
 {
     let row = Row::of_word(word);
-    if !row.flags.has(Flags::NO_INFERIORS) {
-        return false;
-    }
-    is_below(name_of(area, row), name)
+    row.flags.has(Flags::NO_INFERIORS) && is_below(name_of(area, row), name)
 }
 
 // Whether n lies below a: it begins with a and goes on with a slash.

@@ -1,7 +1,7 @@
 // SUBSCRIBE and UNSUBSCRIBE over lent words (document 02, W6): checked, decided, and only then applied.
 //
 // `edit` is the one entry. `decide` touches nothing: it returns what is to be done as a plan, by value, so that every refusal is known before a
-// record or a byte changes. `carry_out` does it on the summary, on the words and on the area of name bytes, and returns which words changed or
+// record or a byte changes. It is then done on the summary, on the words and on the area of name bytes, and `edit` returns which words changed or
 // moved: only those are to be copied back. A word that is put in does not say what its name shares with the name before: an index is made anew.
 #![tactic(auto)]
 
@@ -10,38 +10,35 @@ pub mod free;
 mod inferiors;
 mod order;
 mod resum;
+mod rows;
 mod shift;
 mod sums;
 
-ghost use Rattle.std.specs.Prelude.{◌≡◌, map, ◌≤◌, length, take};
+ghost use Rattle.std.specs.Prelude.{Ok, ◌≡◌, map, ◌≤◌, length, take};
+ghost use Rattle.octets.specs.Refusals.{numbered};
 ghost use Rattle.records.specs.Words.{record_of};
-ghost use Rattle.subscriptions.specs.Plans.{Ordered, plan_for, setting_plan, clearing_plan, fresh_plan};
+ghost use Rattle.subscriptions.specs.Plans.{plan_for, setting_plan, clearing_plan, fresh_plan};
 ghost use Rattle.subscriptions.specs.Applied.{Fits, words_after, area_after, change_of};
 ghost use Rattle.subscriptions.specs.Summed.{SumsFit, numbers_after};
-ghost use Rattle.subscriptions.specs.Editing.{cells, if_fits, plan_over, answer_for, edited_is, cells_after, Edits};
+ghost use Rattle.subscriptions.specs.Editing.{cells, plan_over, edited_is, cells_after, Edits};
 
 use apply::{flag_row, insert_row, remove_row, unchanged};
-use free::{Run, lowest_run};
-use inferiors::below_no_inferiors;
 use mailbox_table::flags::Flags;
 use mailbox_table::rows::Row;
 use names::lawful_name;
-use octets::least;
-use octets::refusals::{NO_ROOM, SHORT_BUFFER, TABLE, UNLAWFUL_NAME};
-use order::{place_of, stands_at};
+use octets::{Members, Refusal};
 use records::MAX_ROWS;
+use rows::Rows;
 use summary::check_summed;
 use sums::carry_sums;
 
-// What an edit is to do: nothing; row k gets these flags; a row 0002 is put in at place k, its name at an offset; row k goes; or the number of its
-// refusal.
+// What an edit is to do: nothing; row k gets these flags; a row 0002 is put in at place k, its name at an offset; or row k goes.
 #[derive(Clone, Copy)]
 pub enum Plan {
     Keep,
     Flag(usize, u16),
     Insert(usize, usize),
     Remove(usize),
-    Refused(u8),
 }
 
 // The words that changed or moved, `from` up to `to`, and how many words are rows now.
@@ -50,13 +47,6 @@ pub struct Change {
     pub from: usize,
     pub to: usize,
     pub count: usize,
-}
-
-// The result of an edit: the change that was made, or the number of its refusal.
-#[derive(Clone, Copy)]
-pub enum Edited {
-    Done(Change),
-    Refused(u8),
 }
 
 // SUBSCRIBE, or UNSUBSCRIBE, of a name that is spelled, over the words of records and the numbers of their summary: as many records are lent as there
@@ -70,11 +60,11 @@ pub fn edit(
     subscribe: bool,
     name: &[u8],
     fits: bool,
-) -> Edited
+) -> Result<Change, Refusal>
     ensures { Edits (cells words.old sums.old area.old) (cells words.new sums.new area.new)
         count subscribe name.now fits result }
 {
-    let n = least(words.len(), sums.len());
+    let n = words.len().min(sums.len());
     edit_front(
         &mut words[..n],
         &mut sums[..n],
@@ -95,70 +85,68 @@ fn edit_front(
     subscribe: bool,
     name: &[u8],
     fits: bool,
-) -> Edited
+) -> Result<Change, Refusal>
     requires { length words.old ≡ length sums.old }
-    ensures { (result ≡ edited_is (plan_over (cells words.old sums.old area.old) count subscribe name.now fits) count)
+    ensures { (numbered result ≡ edited_is (plan_over (cells words.old sums.old area.old) count subscribe name.now fits) count)
         × (cells words.new sums.new area.new ≡ cells_after
         (plan_over (cells words.old sums.old area.old) count subscribe name.now fits)
         (cells words.old sums.old area.old) count name.now) }
 {
     if !check_summed(words, count, area, sums) {
-        return Edited::Refused(TABLE);
+        return Err(Refusal::Table);
     }
     let lent = words.len();
-    let decided = decide(area, &words[..count], lent, subscribe, name);
-    let plan = if_fits(decided, fits);
-    let change = carry_out(plan, words, sums, count, area, name);
-    answer_for(plan, change)
+    let rows = Rows {
+        area,
+        words: &words[..count],
+    };
+    let plan = rows.decide(lent, subscribe, name)?;
+    if !fits {
+        return Err(Refusal::ShortBuffer);
+    }
+    // the numbers first, over the rows as they were
+    carry_sums(plan, sums, rows, name);
+    Ok(apply_plan(plan, words, count, area, name))
 }
 
-// The plan, or 9 where it is no refusal and the answer does not fit its buffer.
-fn if_fits(plan: Plan, fits: bool) -> Plan
-    ensures { result ≡ if_fits fits plan }
-{
-    if fits {
-        return plan;
-    }
-    match plan {
-        Plan::Keep => Plan::Refused(SHORT_BUFFER),
-        Plan::Flag(_, _) => Plan::Refused(SHORT_BUFFER),
-        Plan::Insert(_, _) => Plan::Refused(SHORT_BUFFER),
-        Plan::Remove(_) => Plan::Refused(SHORT_BUFFER),
-        Plan::Refused(number) => Plan::Refused(number),
-    }
-}
-
-// The result of an edit whose plan made this change.
-fn answer_for(plan: Plan, change: Change) -> Edited
-    ensures { result ≡ answer_for plan change }
-{
-    match plan {
-        Plan::Keep => Edited::Done(change),
-        Plan::Flag(_, _) => Edited::Done(change),
-        Plan::Insert(_, _) => Edited::Done(change),
-        Plan::Remove(_) => Edited::Done(change),
-        Plan::Refused(number) => Edited::Refused(number),
-    }
-}
-
-// The plan for an edit of this name, spelled, over the words of the rows; `lent` records hold them and the spare ones. The rows are those of a table
-// that passes.
-fn decide(area: &[u8], words: &[u64], lent: usize, subscribe: bool, name: &[u8]) -> Plan
-    requires { Ordered area.now words.now × (length words.now ≤ 512) × (length area.now ≤ 32768) }
-    ensures { result ≡ plan_for (map record_of words.now) lent area.now subscribe name.now }
-{
-    let k = place_of(area, words, name);
-    if !stands_at(area, words, k, name) {
-        if subscribe {
-            return insertion(area, words, lent, k, name);
+impl Rows<'_> {
+    // The plan for an edit of this name, spelled; `lent` records hold the rows and the spare ones.
+    fn decide(self, lent: usize, subscribe: bool, name: &[u8]) -> Result<Plan, Refusal>
+        ensures { numbered result ≡ plan_for (map record_of self.entry.words.now) lent self.entry.area.now subscribe name.now }
+    {
+        let k = self.place_of(name);
+        if !self.stands_at(k, name) {
+            if subscribe {
+                return self.insertion(lent, k, name);
+            }
+            return Ok(Plan::Keep);
         }
-        return Plan::Keep;
+        let row = Row::of_word(self.words[k]);
+        if subscribe {
+            return Ok(setting(k, row.flags));
+        }
+        Ok(clearing(k, row.flags))
     }
-    let row = Row::of_word(words[k]);
-    if subscribe {
-        return setting(k, row.flags);
+
+    // A row put in at place k for a name that has none.
+    fn insertion(self, lent: usize, k: usize, name: &[u8]) -> Result<Plan, Refusal>
+        ensures { numbered result ≡ fresh_plan (map record_of self.entry.words.now) lent self.entry.area.now k name.now }
+    {
+        if !lawful_name(name) {
+            return Err(Refusal::UnlawfulName);
+        }
+        if self.below_no_inferiors(name) {
+            return Err(Refusal::UnlawfulName);
+        }
+        if MAX_ROWS <= self.words.len() {
+            return Err(Refusal::NoRoom);
+        }
+        if lent <= self.words.len() {
+            return Err(Refusal::NoRoom);
+        }
+        let start = self.lowest_run(name.len()).ok_or(Refusal::NoRoom)?;
+        Ok(Plan::Insert(k, start))
     }
-    clearing(k, row.flags)
 }
 
 // The flag set.
@@ -184,62 +172,17 @@ fn clearing(k: usize, flags: Flags) -> Plan
     Plan::Keep
 }
 
-// A row put in at place k for a name that has none.
-fn insertion(area: &[u8], words: &[u64], lent: usize, k: usize, name: &[u8]) -> Plan
-    requires { length area.now ≤ 32768 }
-    ensures { result ≡ fresh_plan (map record_of words.now) lent area.now k name.now }
-{
-    if !lawful_name(name) {
-        return Plan::Refused(UNLAWFUL_NAME);
-    }
-    if below_no_inferiors(area, words, name) {
-        return Plan::Refused(UNLAWFUL_NAME);
-    }
-    if MAX_ROWS <= words.len() {
-        return Plan::Refused(NO_ROOM);
-    }
-    if lent <= words.len() {
-        return Plan::Refused(NO_ROOM);
-    }
-    let Run::At(start) = lowest_run(area, words, name.len()) else {
-        return Plan::Refused(NO_ROOM);
-    };
-    Plan::Insert(k, start)
-}
-
-// The plan done: the first `count` words are rows, the words after them are spare, and `sums` are the numbers of their summary. These first, over the
-// rows as they were.
-fn carry_out(
-    plan: Plan,
-    words: &mut [u64],
-    sums: &mut [u64],
-    count: usize,
-    area: &mut [u8],
-    name: &[u8],
-) -> Change
-    requires fits { Fits plan words.old count area.old name.now × (count ≤ length words.old) }
-    requires sums_fit { SumsFit plan sums.old (take count words.old) area.old name.now }
-    ensures { (result ≡ change_of plan count)
-        × (words.new ≡ words_after plan words.old count name.now)
-        × (sums.new ≡ numbers_after plan sums.old (take count words.old) area.old name.now)
-        × (area.new ≡ area_after plan words.old area.old name.now) }
-{
-    carry_sums(plan, sums, &words[..count], area, name);
-    apply_plan(plan, words, count, area, name)
-}
-
-// The plan done on words and area.
+// The plan done on words and area: the first `count` words are rows, the words after them are spare.
 fn apply_plan(plan: Plan, words: &mut [u64], count: usize, area: &mut [u8], name: &[u8]) -> Change
-    requires { Fits plan words.old count area.old name.now }
-    ensures { (result ≡ change_of plan count)
-        × (words.new ≡ words_after plan words.old count name.now)
-        × (area.new ≡ area_after plan words.old area.old name.now) }
+    requires { Fits (Ok plan) words.old count area.old name.now }
+    ensures { (result ≡ change_of (Ok plan) count)
+        × (words.new ≡ words_after (Ok plan) words.old count name.now)
+        × (area.new ≡ area_after (Ok plan) words.old area.old name.now) }
 {
     match plan {
         Plan::Keep => unchanged(count),
         Plan::Flag(k, flags) => flag_row(words, count, k, flags),
         Plan::Insert(k, start) => insert_row(words, count, area, k, start, name),
         Plan::Remove(k) => remove_row(words, count, area, k),
-        Plan::Refused(_) => unchanged(count),
     }
 }

@@ -1,11 +1,10 @@
-// Words and bytes changed in place: flags set, a word put in or taken out, a name cleared. Rows move by one place; the loop of an
-// insertion begins at the far end, that of a removal at the near one, so that no word is lost.
-ghost use Rattle.std.specs.Prelude.{◌≡◌, ◌++◌, ◌+◌, ◌-◌, ◌≤◌, ◌<◌, suc, length, get_or, set, take, drop, replicate};
+// Words and bytes changed in place: flags set, a word put in or taken out, a name cleared. Rows move by one place.
+ghost use Rattle.std.specs.Prelude.{◌≡◌, ◌+◌, ◌≤◌, ◌<◌, length, get_or, set, replicate};
 ghost use Rattle.listing_rules.specs.Subscriptions.{overwritten};
 ghost use Rattle.subscriptions.specs.Applied.{with_flags, new_word, inserted_at, removed_at};
 
 use mailbox_table::Readers;
-use records::{Record, word_of};
+use records::Record;
 
 // The flags of a row that is put in: subscribed and nothing else.
 const FRESH: u16 = 2;
@@ -27,36 +26,22 @@ pub(crate) fn insert_word(words: &mut [u64], count: usize, k: usize, start: usiz
     requires { (k ≤ count) × (count < length words.old) × (start < 65536) × (len < 256) }
     ensures { words.new ≡ inserted_at words.old count k (new_word start len) }
 {
-    let word = word_of(Record {
+    let word = u64::from(Record {
         flags: FRESH,
         start: start as u16,
         len: len as u8,
         readers: SEEN_BY.bits,
     });
-    shift_up(words, count, k);
-    words[k] = word;
+    put_word(words, count, k, word);
 }
 
-// A word put in at place k; the words from there on move up by one.
+// A word put in at place k; the words from there on move up by one, over the first spare word.
 pub(crate) fn put_word(words: &mut [u64], count: usize, k: usize, word: u64)
     requires { (k ≤ count) × (count < length words.old) }
     ensures { words.new ≡ inserted_at words.old count k word }
 {
-    shift_up(words, count, k);
+    words[k..count + 1].rotate_right(1);
     words[k] = word;
-}
-
-// The words from k up to `count` move up by one place, over the first spare word.
-fn shift_up(words: &mut [u64], count: usize, k: usize)
-    requires { (k ≤ count) × (count < length words.old) }
-    ensures { words.new ≡ take (suc k) words.old
-        ++ (drop k (take count words.old) ++ drop (suc count) words.old) }
-{
-    let mut i = count;
-    while k < i {
-        words[i] = words[i - 1];
-        i -= 1;
-    }
 }
 
 // Word k taken out; the rows after it move down by one, and the place that the last one leaves is zero.
@@ -65,21 +50,8 @@ pub(crate) fn remove_word(words: &mut [u64], count: usize, k: usize)
     ensures { words.new ≡ removed_at words.old count k }
 {
     let last = count - 1;
-    shift_down(words, last, k);
+    words[k..count].rotate_left(1);
     words[last] = 0;
-}
-
-// The words after k, up to the one at `last`, move down by one place, over word k.
-fn shift_down(words: &mut [u64], last: usize, k: usize)
-    requires { (k ≤ last) × (last < length words.old) }
-    ensures { words.new ≡ take k words.old
-        ++ (drop (suc k) (take (suc last) words.old) ++ drop last words.old) }
-{
-    let mut i = k;
-    while i < last {
-        words[i] = words[i + 1];
-        i += 1;
-    }
 }
 
 // Zeros in the `len` bytes from a start on.
@@ -87,9 +59,5 @@ pub(crate) fn clear_bytes(area: &mut [u8], start: usize, len: usize)
     requires { start + len ≤ length area.old }
     ensures { area.new ≡ overwritten area.old start (replicate len 0) }
 {
-    let mut i = 0;
-    while i < len {
-        area[start + i] = 0;
-        i += 1;
-    }
+    area[start..start + len].fill(0);
 }

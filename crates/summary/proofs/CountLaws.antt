@@ -20,6 +20,10 @@ use Rattle.mailbox_table.proofs.ScanLaws.{scan_end, scan_byte, scan_shared}
 use Rattle.records.specs.Numbers.{summary_word}
 use Rattle.summary.specs.Counts.{one_word, sum_below}
 
+-- where a count begins: at a row of an index, with a length within its name
+pub row_begins : {area words : List ℕ} {i len : ℕ} → Indexed area words → (i < length words) × (len ≤ (nth_row words i).len) → Begins area words i len
+row_begins x h = record { indexed = x; row = h.0; within = h.1 }
+
 -- one is 0 or 1, so a row adds at most 1 to each number
 pub one_small : (b : Bool) → one b ≤ 1
 unfolding one

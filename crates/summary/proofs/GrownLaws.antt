@@ -1,4 +1,5 @@
 -- Check 1 with the summary, over the index of a table that passes without it; and a first summary. Rests on SummaryAlike of listing_rules and AgreeLaws.
+use Rattle.std.specs.Prelude.{Option, Some, None}
 use Rattle.listing_rules.proofs.Prelude.{◌∙◌, ◌≡◌, ap, refl, subst, sym, Bool, false, true, none, List, [], ◌++◌, ◌∷◌, map, map-append, ◌+◌, ◌<◌, ◌≤◌}
 use Rattle.listing_rules.proofs.Prelude.{ℕ, arith, drop, length, length-map, paste, replicate, take, take_all, le-leb, lt-leb}
 use Rattle.listing_rules.specs.Table.{Row, Table, rows, passes}
@@ -12,8 +13,6 @@ use Rattle.listing_rules.proofs.SummaryCommands.{table_with}
 use Rattle.records.specs.Words.{record_of}
 use Rattle.records.specs.Numbers.{summary_word, summary_of}
 use Rattle.records.specs.Lent.{word_table, words_summed, words_table}
-use Rattle.mailbox_table.specs.declared.Indexing.{Indexing}
-use Rattle.mailbox_table.specs.declared.Indexing.TheVariants.{Rows, Fails}
 use Rattle.mailbox_table.specs.Index.{rows_at, indexing_of, Indexes}
 use Rattle.summary.specs.Counts.{fresh_words, words_agree, numbered_table}
 use Rattle.summary.proofs.AgreeLaws.{told_counted}
@@ -64,34 +63,34 @@ module _ (area raw sums : List ℕ) (count : ℕ) (before after : List ℕ) wher
   unfolding store_table
   same_table e = table_with m e
 
-  pub index_fails : (r : Indexing) → Indexes area (word_table area raw count) (take count (map record_of raw)) (take count raw) before after r →
-      r ≡ Fails
-      → Indexes area (words_table raw count area sums) (take count (map record_of raw)) (take count raw) before after Fails
+  pub index_fails : (r : Option ℕ) → Indexes area (word_table area raw count) (take count (map record_of raw)) (take count raw) before after r →
+      r ≡ None
+      → Indexes area (words_table raw count area sums) (take count (map record_of raw)) (take count raw) before after None
   index_fails r x e =
-      let y : Indexes area (word_table area raw count) kept cells before after Fails = subst
+      let y : Indexes area (word_table area raw count) kept cells before after None = subst
       (Indexes area (word_table area raw count) kept cells before after) e
       x in
       go y (agrees m) refl
     where
-      go : Indexes area (word_table area raw count) kept cells before after Fails → (b : Bool) → agrees m ≡ b
-          → Indexes area (words_table raw count area sums) kept cells before after Fails
-      go y true a = subst (λ (t : Table). Indexes area t kept cells before after Fails) (sym (same_table a)) y
+      go : Indexes area (word_table area raw count) kept cells before after None → (b : Bool) → agrees m ≡ b
+          → Indexes area (words_table raw count area sums) kept cells before after None
+      go y true a = subst (λ (t : Table). Indexes area t kept cells before after None) (sym (same_table a)) y
       go y false a =
-          subst (λ (t : Table). Indexes area t kept cells before after Fails) (sym (no_table a))
+          subst (λ (t : Table). Indexes area t kept cells before after None) (sym (no_table a))
           (record { answer = unfold indexing_of passes in refl; room = y.room; found = tt; rest = y.rest })
 
-  pub index_agrees : (r : Indexing) (n : ℕ) →
-      Indexes area (word_table area raw count) (take count (map record_of raw)) (take count raw) before after r → r ≡ Rows n
+  pub index_agrees : (r : Option ℕ) (n : ℕ) →
+      Indexes area (word_table area raw count) (take count (map record_of raw)) (take count raw) before after r → r ≡ Some n
       → agrees (words_summed raw count area sums) ≡ true
-      → Indexes area (words_table raw count area sums) (take count (map record_of raw)) (take count raw) before after (Rows n)
+      → Indexes area (words_table raw count area sums) (take count (map record_of raw)) (take count raw) before after (Some n)
   index_agrees r n x e a =
-      subst (λ (t : Table). Indexes area t kept cells before after (Rows n)) (sym (same_table a))
+      subst (λ (t : Table). Indexes area t kept cells before after (Some n)) (sym (same_table a))
       (subst (Indexes area (word_table area raw count) kept cells before after) e x)
 
   pub index_disagrees : length after ≡ length before → after ≡ replicate (length before) 0 → agrees (words_summed raw count area sums) ≡ false
-      → Indexes area (words_table raw count area sums) (take count (map record_of raw)) (take count raw) before after Fails
+      → Indexes area (words_table raw count area sums) (take count (map record_of raw)) (take count raw) before after None
   index_disagrees size zeros a =
-      subst (λ (t : Table). Indexes area t kept cells before after Fails) (sym (no_table a))
+      subst (λ (t : Table). Indexes area t kept cells before after None) (sym (no_table a))
       (record { answer = unfold indexing_of passes in refl; room = size; found = tt; rest = zeros })
 
 -- A first summary.

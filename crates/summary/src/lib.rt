@@ -12,15 +12,14 @@ ghost use Rattle.listing_rules.specs.Summary.{counted, summarized};
 ghost use Rattle.records.specs.Words.{record_of};
 ghost use Rattle.records.specs.Numbers.{summary_word, summary_of};
 ghost use Rattle.records.specs.Lent.{words_table};
-ghost use Rattle.mailbox_table.specs.Index.{Indexed, Indexes, nth_name, rows_at};
-ghost use Rattle.mailbox_table.specs.Below.{prefix_of, Begins};
-ghost use Rattle.summary.specs.Counts.{one_word, sum_below, fresh_words, words_agree, numbered_table};
+ghost use Rattle.mailbox_table.specs.Index.{Indexes, nth_row, nth_name, rows_at};
+ghost use Rattle.mailbox_table.specs.Below.{prefix_of};
+ghost use Rattle.summary.specs.Counts.{one_word, sum_below, fresh_words, words_agree, numbered_table, number_or_0};
 
 use mailbox_table::flags::Flags;
 use mailbox_table::rows::{Row, name_of};
-use mailbox_table::{Indexing, clear_words, index_words};
-use octets::refusals::TABLE;
-use octets::{SLASH, byte_at};
+use mailbox_table::{IndexedRows, index_words};
+use octets::{Members, Refusal, SLASH, byte_at};
 use records::no_words;
 
 // One row more in each of the four numbers, subscribed local lowest.
@@ -36,10 +35,7 @@ const EXISTING_REMOTE: u64 = 281474976710656;
 pub fn if_so(holds: bool, number: u64) -> u64
     ensures { result ≡ cond holds number 0 }
 {
-    if holds {
-        return number;
-    }
-    0
+    if holds { number } else { 0 }
 }
 
 // What a row with these flags adds to the summary of a row that it lies below.
@@ -54,7 +50,7 @@ pub fn one_of(flags: Flags) -> u64
     if_so(subscribed, SUBSCRIBED_LOCAL) + if_so(exists, EXISTING_LOCAL)
 }
 
-// Check 1 with the summary: the first `count` of the records, each as a number (`records::word_of`), pass over the area of name bytes, and their summary
+// Check 1 with the summary: the first `count` of the records, each as a number (`word_of` of records/specs), pass over the area of name bytes, and their summary
 // agrees. The index of their rows lies at the front of `words` then, as `mailbox_table::index_words` gives it; else every word is zero.
 pub fn index_summed(
     area: &[u8],
@@ -62,18 +58,20 @@ pub fn index_summed(
     count: usize,
     sums: &[u64],
     words: &mut [u64],
-) -> Indexing
+) -> Option<usize>
     ensures { Indexes area.now (words_table raw.now count area.now sums.now)
         (take count (map record_of raw.now)) (take count raw.now) words.old words.new result }
 {
-    let Indexing::Rows(n) = index_words(area, raw, count, words) else {
-        return Indexing::Fails;
+    let n = index_words(area, raw, count, words)?;
+    let rows = IndexedRows {
+        area,
+        words: &words[..n],
     };
-    if !agrees(area, &words[..n], sums) {
-        clear_words(words);
-        return Indexing::Fails;
+    if !agrees(rows, sums) {
+        words.fill(0);
+        return None;
     }
-    Indexing::Rows(n)
+    Some(n)
 }
 
 // Whether they pass.
@@ -81,88 +79,87 @@ pub fn check_summed(raw: &[u64], count: usize, area: &[u8], sums: &[u64]) -> boo
     ensures { result ≡ passes (words_table raw.now count area.now sums.now) }
 {
     let mut words = no_words();
-    match index_summed(area, raw, count, sums, &mut words) {
-        Indexing::Rows(_) => true,
-        Indexing::Fails => false,
-    }
+    index_summed(area, raw, count, sums, &mut words).is_some()
 }
 
-// A caller's first summary: 0, and the numbers of the rows are what counting afresh gives, the others stay; or the number of the refusal of a table that
-// does not pass without a summary, or has more rows than there are numbers, and all stay.
-pub fn summarize_words(raw: &[u64], count: usize, area: &[u8], sums: &mut [u64]) -> u8
-    ensures result { result ≡ (summarized (numbered_table raw.now count area.now sums.old)
+// A caller's first summary: the numbers of the rows are what counting afresh gives, the others stay; or the refusal of a table that does not
+// pass without a summary, or has more rows than there are numbers, and all stay.
+pub fn summarize_words(
+    raw: &[u64],
+    count: usize,
+    area: &[u8],
+    sums: &mut [u64],
+) -> Result<(), Refusal>
+    ensures result { number_or_0 result ≡ (summarized (numbered_table raw.now count area.now sums.old)
         (map summary_of sums.old)).number }
     ensures summary { map summary_of sums.new
         ≡ (summarized (numbered_table raw.now count area.now sums.old) (map summary_of sums.old)).summary }
 {
     if sums.len() < count {
-        return TABLE;
+        return Err(Refusal::Table);
     }
     let mut words = no_words();
-    let Indexing::Rows(n) = index_words(area, raw, count, &mut words) else {
-        return TABLE;
+    let n = index_words(area, raw, count, &mut words).ok_or(Refusal::Table)?;
+    let rows = IndexedRows {
+        area,
+        words: &words[..n],
     };
-    count_all(area, &words[..n], sums);
-    0
+    count_all(rows, sums);
+    Ok(())
 }
 
 // The summary of row i, counted afresh.
-fn count_below(area: &[u8], words: &[u64], i: usize) -> u64
-    requires { Indexed area.now words.now × (length words.now ≤ 512) × (i < length words.now) }
-    ensures { result ≡ summary_word (counted (rows_at area.now words.now) (nth_name area.now words.now i)) }
+fn count_below(rows: IndexedRows, i: usize) -> u64
+    requires { i < length rows.words.now }
+    ensures { result ≡ summary_word (counted (rows_at rows.entry.area.now rows.entry.words.now)
+        (nth_name rows.entry.area.now rows.entry.words.now i)) }
 {
-    let row = Row::of_word(words[i]);
-    count_after(area, words, i, row.len)
+    let row = Row::of_word(rows.words[i]);
+    count_after(rows, i, row.len)
 }
 
 // The summary of every row, counted afresh, at the front of `sums`; the numbers after them stay.
-fn count_all(area: &[u8], words: &[u64], sums: &mut [u64])
-    requires { Indexed area.now words.now × (length words.now ≤ 512) × (length words.now ≤ length sums.old) }
-    ensures { sums.new ≡ paste sums.old 0 (fresh_words area.now words.now) (length words.now) }
+fn count_all(rows: IndexedRows, sums: &mut [u64])
+    requires { length rows.words.now ≤ length sums.old }
+    ensures { sums.new ≡ paste sums.old 0 (fresh_words rows.entry.area.now rows.entry.words.now) (length rows.entry.words.now) }
 {
-    let mut i = 0;
-    while i < words.len() {
-        sums[i] = count_below(area, words, i);
-        i += 1;
+    for i in 0..rows.words.len() {
+        sums[i] = count_below(rows, i);
     }
 }
 
 // What the rows after row i add up to that lie below the first `len` bytes of its name.
-fn count_after(area: &[u8], words: &[u64], i: usize, len: usize) -> u64
-    requires { Begins area.now words.now i len × (length words.now ≤ 512) }
-    ensures { result ≡ sum_below area.now (prefix_of area.now words.now i len) (drop (i + 1) words.now) }
+fn count_after(rows: IndexedRows, i: usize, len: usize) -> u64
+    requires { (i < length rows.words.now) × (len ≤ (nth_row rows.words.now i).len) }
+    ensures { result ≡ sum_below rows.entry.area.now (prefix_of rows.entry.area.now rows.entry.words.now i len)
+        (drop (i + 1) rows.entry.words.now) }
 {
     let mut sum = 0;
-    let mut k = i + 1;
-    while k < words.len() {
-        let row = Row::of_word(words[k]);
+    for k in i + 1..rows.words.len() {
+        let row = Row::of_word(rows.words[k]);
         if row.shared < len {
             return sum;
         }
-        let b = byte_at(name_of(area, row), len);
+        let b = byte_at(name_of(rows.area, row), len);
         if SLASH < b {
             return sum;
         }
         sum += if_so(b == SLASH, one_of(row.flags));
-        k += 1;
     }
     sum
 }
 
 // Whether the summary that is lent is what counting afresh gives, row by row; that of spare records is not looked at.
-fn agrees(area: &[u8], words: &[u64], sums: &[u64]) -> bool
-    requires { Indexed area.now words.now × (length words.now ≤ 512) }
-    ensures { result ≡ words_agree area.now words.now sums.now }
+fn agrees(rows: IndexedRows, sums: &[u64]) -> bool
+    ensures { result ≡ words_agree rows.entry.area.now rows.entry.words.now sums.now }
 {
-    if sums.len() < words.len() {
+    if sums.len() < rows.words.len() {
         return false;
     }
-    let mut i = 0;
-    while i < words.len() {
-        if count_below(area, words, i) != sums[i] {
+    for i in 0..rows.words.len() {
+        if count_below(rows, i) != sums[i] {
             return false;
         }
-        i += 1;
     }
     true
 }

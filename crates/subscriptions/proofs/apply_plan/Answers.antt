@@ -33,7 +33,3 @@ pub returns-in-Remove : goal.returns-in-Remove
 unfolding words_after area_after change_of
 returns-in-Remove c =
     rw c.in-Remove.is c.remove_row.ensures
-
-pub returns-in-Refused : goal.returns-in-Refused
-unfolding words_after area_after change_of
-returns-in-Refused c = rw c.in-Refused.is (c.unchanged-in-Refused.ensures, refl, refl)

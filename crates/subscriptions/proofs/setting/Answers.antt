@@ -1,5 +1,5 @@
 -- `subscriptions::setting` meets its contract. By FlagLaws.
-use Rattle.listing_rules.proofs.Prelude.{◌∙◌, sym, ◌<◌, arith}
+use Rattle.listing_rules.proofs.Prelude.{◌∙◌, sym, ◌<◌, arith, rules}
 use Rattle.subscriptions.proofs.FlagLaws.{has_subscribed, set_fits, setting_keep, setting_flag}
 use Rattle.subscriptions.proofs.setting.Goals as goal
 
@@ -10,7 +10,7 @@ pub overflow_add-result : goal.overflow_add-result
 overflow_add-result c =
     let f = c.args.flags.bits in
     let off = sym (has_subscribed f) ∙ sym c.has.ensures ∙ c.if-has.false in
-    let small : f < 65536 = omega (arith, c.struct_known-1.given.0) in
+    let small : f < 65536 = search rules in
     omega (arith, set_fits f small off)
 
 pub returns : goal.returns

@@ -2,7 +2,7 @@
 use Rattle.listing_rules.proofs.Prelude.{◌<◌, arith, length}
 use Rattle.compaction.proofs.GatherLaws.{gathering_none, gathering_free, gathering_used, gathering_all, end_most}
 use Rattle.compaction.proofs.gather.gather.Goals as goal
-use Rattle.compaction.proofs.gather.gather.Goals.{then-not-marks-i, else-not-marks-i}
+use Rattle.compaction.proofs.gather.gather.Goals.{then-not-free, else-not-free}
 
 pub loop-i-init : goal.loop-i-init
 loop-i-init c = let a = c.args in gathering_none _ _ _
@@ -21,9 +21,9 @@ pub loop-i-preserved : goal.loop-i-preserved
 loop-i-preserved c =
     let v = c.loop-i.invariant in
     let here : c.loop-i.i < length c.args.area.now = omega (arith, c.loop-i-test.true, c.requires.1) in
-    elim c.if-not-marks-i.branch [
-      | then-not-marks-i w ↦ rw (w.area-is, w.end-is) (gathering_used v c.requires.1 here c.requires.2 w.if-not-marks-i.true)
-      | else-not-marks-i w ↦ rw (w.area-is, w.end-is) (gathering_free v c.requires.1 here c.requires.2 w.if-not-marks-i.false)
+    elim c.if-not-free.branch [
+      | then-not-free w ↦ rw (w.area-is, w.end-is) (gathering_used v c.requires.1 here c.requires.2 w.if-not-free.true)
+      | else-not-free w ↦ rw (w.area-is, w.end-is) (gathering_free v c.requires.1 here c.requires.2 w.if-not-free.false)
     ]
 
 pub returns : goal.returns

@@ -1,10 +1,10 @@
 -- `mailbox_table::link::next_row` meets its contract: each refusal is one part of `step_of`. By the laws of a step in LinkLaws.
+use Rattle.std.specs.Prelude.{Some}
 use Rattle.listing_rules.proofs.Prelude.{◌∙◌, ◌≡◌, ap, subst, sym, ◌+◌, ◌<◌, ◌≤◌, arith, length}
 use Rattle.listing_rules.specs.Orders.{byte_order, is_lt}
 use Rattle.listing_rules.specs.Names.{lawful_name}
 use Rattle.listing_rules.specs.Flags.{lawful_flags}
 use Rattle.mailbox_table.specs.declared.rows.Row.{Row}
-use Rattle.mailbox_table.specs.declared.rows.Step.TheVariants.{Next}
 use Rattle.mailbox_table.specs.Words.{row_of_word}
 use Rattle.mailbox_table.specs.Shared.{shared_len}
 use Rattle.mailbox_table.specs.Index.{name_at}
@@ -13,17 +13,17 @@ use Rattle.mailbox_table.proofs.WordLaws.{place_fits}
 use Rattle.mailbox_table.proofs.LinkLaws.{step_outside, step_flags, step_name, step_order, step_good}
 use Rattle.mailbox_table.proofs.link.next_row.Goals as goal
 
-pub overflow_add-start : goal.overflow_add-start
-overflow_add-start c =
+pub overflow_add-row : goal.overflow_add-row
+overflow_add-row c =
     let fits = place_fits c.args.word in
     rw c.of_word-row.ensures (record { fits = omega (arith, fits) })
 
-pub returns-then-area-start : goal.returns-then-area-start
-returns-then-area-start c =
+pub returns-then-area-row : goal.returns-then-area-row
+returns-then-area-row c =
     let a = c.args in
     sym
     (step_outside a.area.now (name_in a.area.now a.previous) a.word
-    (subst (λ (r : Row). length a.area.now < r.start + r.len) c.of_word-row.ensures c.if-area-start.true))
+    (subst (λ (r : Row). length a.area.now < r.start + r.len) c.of_word-row.ensures c.if-area-row.true))
 
 pub returns-then-not-lawful : goal.returns-then-not-lawful
 returns-then-not-lawful c =
@@ -59,10 +59,10 @@ returns c =
     let x = name_in area a.previous in
     let row = c.of_word-row.ensures in
     let shared = shared_is in
-    ap Next (λ i. record { flags = (row i).flags; start = (row i).start; len = (row i).len; shared = shared i })
+    ap Some (λ i. record { flags = (row i).flags; start = (row i).start; len = (row i).len; shared = shared i })
     ∙ sym
     (step_good area x a.word
-    (subst (λ (r : Row). r.start + r.len ≤ length area) row c.if-area-start.false)
+    (subst (λ (r : Row). r.start + r.len ≤ length area) row c.if-area-row.false)
     (sym flagged ∙ c.if-not-lawful.false)
     (sym named ∙ c.if-not-lawful_name.false)
     (sym ordered ∙ c.if-not-ascends_at.false))

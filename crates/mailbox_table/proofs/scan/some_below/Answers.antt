@@ -8,9 +8,6 @@ use Rattle.mailbox_table.proofs.BelowLaws.{starts_take}
 use Rattle.mailbox_table.proofs.ScanLaws.{scan_byte, scan_found, scan_on}
 use Rattle.mailbox_table.proofs.scan.some_below.Goals as goal
 
-pub returns-then-words-i : goal.returns-then-words-i
-returns-then-words-i c = λ from-i. absurd (omega (arith, from-i.row, c.if-words-i.true))
-
 pub returns-then-own-gt-SLASH : goal.returns-then-own-gt-SLASH
 returns-then-own-gt-SLASH c =
     let byte : let a = c.args in c.byte_at-own.result ≡ get_or

@@ -9,14 +9,16 @@ use Rattle.mailbox_table.specs.Index.{name_at}
 use Rattle.subscriptions.specs.Plans.{bars_below}
 use Rattle.subscriptions.proofs.inferiors.bars.Goals as goal
 
-pub returns-then-not-has : goal.returns-then-not-has
+pub returns-else-has : goal.returns-else-has
 unfolding bars_below
-returns-then-not-has c =
-    let flag : c.has.result ≡ no_inferiors (row_of_word c.args.word).flags.bits = unfold no_inferiors in c.has.ensures ∙ contains_bit 4 _ ∙ ap (λ (r : Row). bit 4 r.flags.bits) c.of_word-row.ensures in
-    rw (sym flag ∙ c.if-not-has.true)
+returns-else-has c =
+    let flag : c.has.result ≡ no_inferiors (row_of_word c.args.word).flags.bits = unfold no_inferiors in c.has.ensures ∙ contains_bit 4 _ ∙ ap
+    (λ (r : Row). bit 4 r.flags.bits) c.of_word-row.ensures in
+    rw (sym flag ∙ c.if-has.false) c.if-has.false
 
-pub returns : goal.returns
+pub returns-then-has : goal.returns-then-has
 unfolding bars_below name_at
-returns c =
-    let flag : c.has.result ≡ no_inferiors (row_of_word c.args.word).flags.bits = unfold no_inferiors in c.has.ensures ∙ contains_bit 4 _ ∙ ap (λ (r : Row). bit 4 r.flags.bits) c.of_word-row.ensures in
-    c.is_below.ensures ∙ rw (c.name_of.ensures, c.of_word-row.ensures, sym flag ∙ c.if-not-has.false)
+returns-then-has c =
+    let flag : c.has.result ≡ no_inferiors (row_of_word c.args.word).flags.bits = unfold no_inferiors in c.has.ensures ∙ contains_bit 4 _ ∙ ap
+    (λ (r : Row). bit 4 r.flags.bits) c.of_word-row.ensures in
+    c.is_below.ensures ∙ rw (c.name_of.ensures, c.of_word-row.ensures, sym flag ∙ c.if-has.true)

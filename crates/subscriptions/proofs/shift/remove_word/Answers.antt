@@ -1,7 +1,6 @@
--- `subscriptions::shift::remove_word` meets its contract: a zero stands where the last word lay. By ShiftLaws.
-use Rattle.subscriptions.proofs.ShiftLaws.{removed_set}
+-- `subscriptions::shift::remove_word` meets its contract: the words from its place on are turned, and a zero stands after them. By ShiftLaws.
+use Rattle.subscriptions.proofs.ShiftLaws.{turned_out}
 use Rattle.subscriptions.proofs.shift.remove_word.Goals as goal
 
 pub returns : goal.returns
-returns c =
-    rw c.shift_down.ensures (removed_set _ _ _ c.requires.0 c.requires.1)
+returns c = turned_out _ _ _ _ c.requires.0 c.requires.1 c.rotate_left.ensures.after

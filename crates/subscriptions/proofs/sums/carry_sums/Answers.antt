@@ -30,7 +30,3 @@ returns-in-Insert c = rw c.in-Insert.is c.insert_sums.ensures
 pub returns-in-Remove : goal.returns-in-Remove
 unfolding numbers_after
 returns-in-Remove c = rw c.in-Remove.is c.remove_sums.ensures
-
-pub returns-in-Refused : goal.returns-in-Refused
-unfolding numbers_after
-returns-in-Refused c = rw c.in-Refused.is refl

@@ -6,4 +6,4 @@ use Rattle.subscriptions.proofs.sums.insert_sums.Goals as goal
 pub returns : goal.returns
 unfolding inserted_sums
 returns c =
-    c.put_word.ensures ∙ rw (c.resum_above.ensures, c.sum_rows.ensures)
+    c.put_word.ensures ∙ rw (c.resum_above.ensures, c.sum_below.ensures)

@@ -14,4 +14,5 @@ returns c =
       c.has.ensures ∙ contains_bit 0 f,
       c.has-2.ensures ∙ contains_bit 5 f,
       c.has-3.ensures ∙ contains_bit 6 f,
+      c.eq.ensures,
     )

@@ -1,5 +1,6 @@
 -- What stands after the word LIST, as the code reads it: part by part, and what is kept of the parts is judged. Rests on Members,
 -- Returning and Refusing.
+use Rattle.std.specs.Prelude.{Option as Maybe, Some}
 use Rattle.listing_rules.proofs.Prelude.{◌∙◌, ◌≡◌, ap, refl, sym, Bool, ◌&&◌, ◌||◌, cond, false, not, true, Option, none, some, List, [], ℕ, dec_le}
 use Rattle.listing_rules.proofs.Prelude.{arith, eqb, leb, ltb, drop, get_or, length, eqb-false, eqb-true, le-ltb, lt-ltb}
 use Rattle.listing_rules.specs.Bytes.{text, is_empty}
@@ -10,8 +11,6 @@ use Rattle.listing_rules.specs.Command.{Opt, ListArgs, Parsed, refused, listing,
 use Rattle.listing_rules.specs.Command.{extended, known_in, selection_words, return_words, options_of, canonical, few_patterns, asks_root, judged, or_refuse}
 use Rattle.octets.specs.Sets.{union}
 use Rattle.command_tokens.specs.declared.Cursor.{Cursor}
-use Rattle.command_tokens.specs.declared.Behind.{Behind}
-use Rattle.command_tokens.specs.declared.Behind.TheVariants.{At}
 use Rattle.command_tokens.specs.Tokens.{behind_is}
 use Rattle.command_tokens.proofs.Bytes.{at_here, at_other}
 use Rattle.command_patterns.specs.Places.{eight, join_to, up_to_eight}
@@ -23,7 +22,7 @@ use Rattle.command_line.proofs.Refusing.{refuse_bind, refuse_map, refuse_cong, r
 use Rattle.command_line.proofs.Members.{marked_known, options_named}
 
 -- a command is extended: by its selection list, by parentheses, by what stands after the patterns
-pub extended_list : (x : Option (List ℕ)) (s : List ℕ) {r : Behind} {c : Cursor} (a b : Bool) → behind_is s r ≡ x → r ≡ At c → true ≡ (is_some x || a || b)
+pub extended_list : (x : Option (List ℕ)) (s : List ℕ) {r : Maybe Cursor} {c : Cursor} (a b : Bool) → behind_is s r ≡ x → r ≡ Some c → true ≡ (is_some x || a || b)
 unfolding is_some behind_is
 extended_list x s a b e q = rw (← e, q)
 

@@ -1,20 +1,24 @@
 -- The judgement: which refusal, or which command, what is kept gives; and that a command's parts lie inside the line. Rests on Counting
 -- and Filling of command_patterns.
-use Rattle.listing_rules.proofs.Prelude.{◌∙◌, ◌≡◌, ap, refl, sym, Bool, ◌&&◌, cond, false, not, true, none, some, List as Seq, [], ◌++◌, ◌∷◌, ◌-◌}
-use Rattle.listing_rules.proofs.Prelude.{◌<◌, ◌≤◌, suc, zero, ℕ, arith, eqb, get_or, length, replicate, take, take-append-drop, le-leb, lt-leb}
+use Rattle.std.specs.Prelude.{Result, Ok, Err}
+use Rattle.listing_rules.proofs.Prelude.{◌∙◌, ◌≡◌, ap, refl, sym, Bool, ◌&&◌, cond, false, not, true, none, some, List as Seq, [], ◌++◌, ◌∷◌}
+use Rattle.listing_rules.proofs.Prelude.{◌<◌, ◌≤◌, suc, zero, ℕ, arith, eqb, get_or, length, take, take-append-drop, le-leb, lt-leb}
 use Rattle.listing_rules.specs.Lists.{every}
 use Rattle.listing_rules.specs.Options.{lawful_options}
 use Rattle.listing_rules.specs.Command.{Parsed, refused, namespace, listing, root_of, canonical}
+use Rattle.octets.specs.declared.refusals.Refusal.{Refusal}
+use Rattle.octets.specs.Refusals.{number_of, numbered}
 use Rattle.command_tokens.specs.declared.Span.{Span}
 use Rattle.command_line.specs.declared.Kind.{Kind}
-use Rattle.command_line.specs.declared.Kind.TheVariants.{List, Root, Namespace, Lsub, Refused}
+use Rattle.command_line.specs.declared.Kind.TheVariants.{List, Root, Namespace, Lsub, Subscribe, Unsubscribe}
 use Rattle.command_line.specs.declared.Options.{Options}
 use Rattle.command_line.specs.declared.Command.{Command}
 use Rattle.command_patterns.specs.declared.Patterns.{Patterns}
 use Rattle.command_line.specs.declared.list_command.Arguments.{Arguments}
 use Rattle.command_tokens.specs.Spans.{span_bytes, Lies, nowhere}
-use Rattle.command_patterns.specs.Places.{held, kept, Places, Placed}
-use Rattle.command_line.specs.Commands.{meaning, meaning_as, Inside, no_options, named_command, bare_command, refused_with, with_patterns, used_only}
+use Rattle.command_patterns.specs.Places.{no_patterns, held, kept, Places, Placed}
+use Rattle.command_line.specs.Commands.{meaning, meaning_of, meaning_as, Inside, no_options, named_command, bare_command, first_places, with_patterns}
+use Rattle.command_line.specs.Commands.{used_only}
 use Rattle.command_line.specs.Commands.{short, Kept, decided, decided_as, TagIn, Given, Answers}
 use Rattle.command_patterns.proofs.Counting.{none_written}
 use Rattle.command_tokens.proofs.Cuts.{lies_nowhere}
@@ -65,16 +69,12 @@ module _ (tag : Seq ℕ) (k : Kept) where
           decided_list e = asks false e
 
 -- a command of which nothing but its kind and its tag is kept
-meaning_refused : (s : Seq ℕ) (k : ℕ) → meaning s (refused_with k) ≡ refused k
-unfolding meaning meaning_as
-meaning_refused s k = refl
-
-meaning_root : (s : Seq ℕ) (t : Span) → meaning s (bare_command Root t) ≡ root_of (span_bytes s t)
-unfolding meaning meaning_as
+meaning_root : (s : Seq ℕ) (t : Span) → meaning_of s (bare_command Root t) ≡ root_of (span_bytes s t)
+unfolding meaning_of meaning_as
 meaning_root s t = refl
 
-meaning_namespace : (s : Seq ℕ) (t : Span) → meaning s (bare_command Namespace t) ≡ namespace (span_bytes s t)
-unfolding meaning meaning_as
+meaning_namespace : (s : Seq ℕ) (t : Span) → meaning_of s (bare_command Namespace t) ≡ namespace (span_bytes s t)
+unfolding meaning_of meaning_as
 meaning_namespace s t = refl
 
 -- the places of a list of them lie inside the line
@@ -91,7 +91,7 @@ inside_named s k t n h l e =
       front = h.front;
       seven = omega arith;
       reference = l;
-      patterns = places_at s (replicate 8 nowhere) (filled_none s).places;
+      patterns = places_at s no_patterns.spans (filled_none s).places;
       few = omega arith;
       rest = e;
     }
@@ -107,16 +107,12 @@ inside_namespace : (s : Seq ℕ) (t : Span) → TagIn s t → Inside s (bare_com
 unfolding used_only
 inside_namespace s t h = inside_bare s Namespace t h refl
 
-inside_refused : (s : Seq ℕ) (k : ℕ) → Inside s (refused_with k)
-unfolding used_only
-inside_refused s k = inside_bare s (Refused k) nowhere (record { lies = lies_nowhere s; bare = refl; front = refl }) refl
-
 -- the command of the parts that were read
 unfoldable pub command_of : Kind → Options → Span → Span → Patterns → Command
-command_of k o t r p = record { kind = k; tag = t; options = o; reference = r; patterns = p.spans; count = p.count }
+command_of k o t r p = record { kind = k; tag = t; options = o; reference = r; patterns = p }
 
 inside_parts : (s : Seq ℕ) (c : Command) → TagIn s c.tag → c.options.bits < 128 → Lies s c.reference →
-    Placed s (record { spans = c.patterns; count = c.count }) → c.count ≤ 8 → used_only c.kind c ≡ with_patterns c.kind c.options c →
+    Placed s c.patterns → c.patterns.count ≤ 8 → used_only c.kind c ≡ with_patterns c.kind c.options c →
     Inside s c
 inside_parts s c t o r p h e =
     record {
@@ -125,13 +121,13 @@ inside_parts s c t o r p h e =
       front = t.front;
       seven = o;
       reference = r;
-      patterns = places_at s c.patterns p.places;
+      patterns = places_at s c.patterns.spans p.places;
       few = h;
-      rest = (λ i. record { kind = c.kind; tag = c.tag; options = c.options; reference = c.reference; patterns = places i; count = c.count }) ∙ sym e;
+      rest = (λ i. record { kind = c.kind; tag = c.tag; options = c.options; reference = c.reference; patterns = record { spans = places i; count = c.patterns.count } }) ∙ sym e;
     }
   where
-    places : c.patterns ≡ take c.count c.patterns ++ replicate (8 - c.count) nowhere
-    places = sym (take-append-drop c.count c.patterns) ∙ ap (λ (x : Seq Span). take c.count c.patterns ++ x) p.unused
+    places : c.patterns.spans ≡ (first_places c.patterns).spans
+    places = sym (take-append-drop c.patterns.count c.patterns.spans) ∙ ap (λ (x : Seq Span). take c.patterns.count c.patterns.spans ++ x) p.unused
 
 module _ (s : Seq ℕ) (t : Span) where
   pub inside_list : (a : Arguments) → Given s t a → a.patterns.count ≤ 8 → Inside s (command_of List a.options t a.reference a.patterns)
@@ -142,22 +138,31 @@ module _ (s : Seq ℕ) (t : Span) where
   unfolding used_only command_of
   inside_lsub r p g l w h = inside_parts s _ g (omega arith) l w h refl
 
--- A refusal is decided whole: its number, and else the empty command.
-pub refused_whole : (s : Seq ℕ) (c : Command) (k : ℕ) → Inside s c → c.kind ≡ Refused k → c ≡ refused_with k
-unfolding used_only
-refused_whole s c k h e = h.rest ∙ ap (λ (x : Kind). used_only x c) e
+-- a line that document 01 refuses is refused by just that number
+pub refused_whole : (s : Seq ℕ) (r : Result Command Refusal) (k : ℕ) → meaning s r ≡ refused k → numbered r ≡ Err k
+unfolding meaning_of meaning_as
+refused_whole s (Err e) k h = cc
+refused_whole s (Ok c) k h = go c.kind h
+  where
+    go : (q : Kind) → meaning_as q s c ≡ refused k → numbered (Ok c) ≡ Err k
+    go List e = cc
+    go Root e = cc
+    go Namespace e = cc
+    go Lsub e = cc
+    go Subscribe e = cc
+    go Unsubscribe e = cc
 
 -- a refusal, where the definition gives its number
-pub refuses : (s : Seq ℕ) (k : ℕ) {r : Command} {p : Parsed} {g : Type 0} → r ≡ refused_with k → p ≡ refused k → Answers s p g r
-refuses s k e f = record { means = ap (meaning s) e ∙ meaning_refused s k ∙ sym f; inside = λ h. rw e (inside_refused s k) }
+pub refuses : (s : Seq ℕ) (e : Refusal) {p : Parsed} {g : Type 0} → p ≡ refused (number_of e) → Answers s p g (Err e)
+refuses s e f = record { means = sym f; inside = λ h. tt }
 
 -- NAMESPACE, and the root line
-pub asks_namespace : (s : Seq ℕ) (t : Span) {r : Command} {p : Parsed} {g : Type 0} → r ≡ bare_command Namespace t → p ≡ namespace (span_bytes s t) → (g → TagIn s t) → Answers s p g r
-asks_namespace s t e f h = record { means = ap (meaning s) e ∙ meaning_namespace s t ∙ sym f; inside = λ x. rw e (inside_namespace s t (h x)) }
+pub asks_namespace : (s : Seq ℕ) (t : Span) {c : Command} {p : Parsed} {g : Type 0} → c ≡ bare_command Namespace t → p ≡ namespace (span_bytes s t) → (g → TagIn s t) → Answers s p g (Ok c)
+asks_namespace s t e f h = record { means = ap (meaning_of s) e ∙ meaning_namespace s t ∙ sym f; inside = λ x. rw e (inside_namespace s t (h x)) }
 
-pub asks_root_lem : (s : Seq ℕ) (t : Span) {r : Command} {p : Parsed} {g : Type 0} → r ≡ bare_command Root t → p ≡ root_of (span_bytes s t) → (g → TagIn s t) → Answers s p g r
-asks_root_lem s t e f h = record { means = ap (meaning s) e ∙ meaning_root s t ∙ sym f; inside = λ x. rw e (inside_root s t (h x)) }
+pub asks_root_lem : (s : Seq ℕ) (t : Span) {c : Command} {p : Parsed} {g : Type 0} → c ≡ bare_command Root t → p ≡ root_of (span_bytes s t) → (g → TagIn s t) → Answers s p g (Ok c)
+asks_root_lem s t e f h = record { means = ap (meaning_of s) e ∙ meaning_root s t ∙ sym f; inside = λ x. rw e (inside_root s t (h x)) }
 
 -- an answer to the same, given as much
-pub answers_as : {s : Seq ℕ} {p q : Parsed} {g h : Type 0} {r : Command} → Answers s p g r → q ≡ p → (h → g) → Answers s q h r
+pub answers_as : {s : Seq ℕ} {p q : Parsed} {g h : Type 0} {r : Result Command Refusal} → Answers s p g r → q ≡ p → (h → g) → Answers s q h r
 answers_as w e f = record { means = w.means ∙ sym e; inside = λ x. w.inside (f x) }

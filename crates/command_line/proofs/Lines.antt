@@ -1,15 +1,17 @@
 -- The line against its text, which stands before CR LF: what a command of the text is in the line. Rests on nothing.
+use Rattle.std.specs.Prelude.{Result, Ok, Err, IfOk}
 use Rattle.listing_rules.proofs.Prelude.{◌∙◌, ◌≡◌, ap, refl, sym, cond, false, true, List as Seq, [], ◌∷◌, map, ◌-◌, suc, zero, ℕ, arith, drop, get_or}
 use Rattle.listing_rules.proofs.Prelude.{length, length-drop, length-take, take, take-append-drop, drop-append-le, take-append-le}
 use Rattle.listing_rules.specs.Feeder.{first, one_command}
 use Rattle.listing_rules.specs.Command.{refused, line_text, or_refuse, tagged, parsed}
+use Rattle.octets.specs.declared.refusals.Refusal.{Refusal}
 use Rattle.command_tokens.specs.declared.Span.{Span}
 use Rattle.command_line.specs.declared.Kind.{Kind}
-use Rattle.command_line.specs.declared.Kind.TheVariants.{List, Root, Namespace, Lsub, Subscribe, Unsubscribe, Refused}
+use Rattle.command_line.specs.declared.Kind.TheVariants.{List, Root, Namespace, Lsub, Subscribe, Unsubscribe}
 use Rattle.command_line.specs.declared.Command.{Command}
 use Rattle.command_tokens.specs.Spans.{plain, raw_bytes, span_bytes, Lies, nowhere}
 use Rattle.command_patterns.specs.Places.{held}
-use Rattle.command_line.specs.Commands.{patterns_of, name_of, meaning, meaning_as, Inside}
+use Rattle.command_line.specs.Commands.{patterns_of, name_of, meaning, meaning_of, meaning_as, Inside}
 
 -- the line is not one command, or is
 module _ (l : Seq ℕ) where
@@ -45,15 +47,15 @@ module _ (l : Seq ℕ) (n : ℕ) where
       let rest : map (span_bytes (take n l)) (take k ts) ≡ map (span_bytes l) (take k ts) = spans_line k ts (λ i. h (suc i)) in
       cc
 
-  pub meaning_line : (c : Command) → Inside (take n l) c → meaning (take n l) c ≡ meaning l c
-  unfolding meaning meaning_as patterns_of name_of held
-  meaning_line c h = go c.kind
+  command_line : (c : Command) → Inside (take n l) c → meaning_of (take n l) c ≡ meaning_of l c
+  unfolding meaning_of meaning_as patterns_of name_of held
+  command_line c h = go c.kind
     where
       tag : span_bytes (take n l) c.tag ≡ span_bytes l c.tag
       tag = span_line c.tag h.tag
 
       patterns : patterns_of (take n l) c ≡ patterns_of l c
-      patterns = rw (span_line c.reference h.reference, spans_line c.count c.patterns h.patterns)
+      patterns = rw (span_line c.reference h.reference, spans_line c.patterns.count c.patterns.spans h.patterns)
 
       name : name_of (take n l) c ≡ name_of l c
       name = span_line c.reference h.reference
@@ -65,17 +67,25 @@ module _ (l : Seq ℕ) (n : ℕ) where
       go Lsub = rw (tag, patterns)
       go Subscribe = rw (tag, name)
       go Unsubscribe = rw (tag, name)
-      go (Refused k) = refl
 
-  pub inside_line : (c : Command) → Inside (take n l) c → Inside l c
-  inside_line c h =
+  command_inside : (c : Command) → Inside (take n l) c → Inside l c
+  command_inside c h =
       record {
         tag = lies_line c.tag h.tag;
         bare = h.bare;
         front = h.front;
         seven = h.seven;
         reference = lies_line c.reference h.reference;
-        patterns = λ k. lies_line (get_or c.patterns k nowhere) (h.patterns k);
+        patterns = λ k. lies_line (get_or c.patterns.spans k nowhere) (h.patterns k);
         few = h.few;
         rest = h.rest;
       }
+
+  -- what the reading of the text comes to is the same of the line
+  pub meaning_line : (r : Result Command Refusal) → IfOk r (Inside (take n l)) → meaning (take n l) r ≡ meaning l r
+  meaning_line (Ok c) h = command_line c h
+  meaning_line (Err e) h = refl
+
+  pub inside_line : (r : Result Command Refusal) → IfOk r (Inside (take n l)) → IfOk r (Inside l)
+  inside_line (Ok c) h = command_inside c h
+  inside_line (Err e) h = tt

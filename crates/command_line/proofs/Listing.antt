@@ -1,21 +1,17 @@
 -- Options as they are written: one option, and a list of them in parentheses. Rests on Members, and on Bytes of command_tokens.
+use Rattle.std.specs.Prelude.{Option as Maybe, Some, None}
 use Rattle.listing_rules.proofs.Prelude.{◌∙◌, ◌≡◌, ap, refl, subst, sym, Bool, ◌&&◌, and_assoc, false, not, true, Option, none, some, List, [], ◌+◌}
 use Rattle.listing_rules.proofs.Prelude.{◌<◌, ◌≤◌, ℕ, arith, eqb, drop, get_or, length}
 use Rattle.listing_rules.specs.Bytes.{text}
 use Rattle.listing_rules.specs.Tokens.{Got, got, ◌>>=◌, after, atom, with_first}
 use Rattle.octets.specs.Sets.{union}
 use Rattle.listing_rules.specs.Command.{Opt, option, options, parted, known_in}
-use Rattle.command_tokens.specs.declared.Span.{Span}
-use Rattle.command_tokens.specs.declared.Cursor.{Cursor}
-use Rattle.command_line.specs.declared.Options.{Options}
 use Rattle.command_line.specs.declared.option_list.Place.{Place}
 use Rattle.command_line.specs.declared.option_list.Written.{Written}
-use Rattle.command_line.specs.declared.option_list.Written.TheVariants.{Word, Absent}
 use Rattle.command_line.specs.declared.option_list.Listed.{Listed}
-use Rattle.command_line.specs.declared.option_list.Listed.TheVariants.{Read, Broken}
 use Rattle.command_tokens.specs.Spans.{span_bytes}
 use Rattle.command_tokens.specs.Values.{value_of}
-use Rattle.command_line.specs.OptionSets.{member_of, words_of, written_is, WrittenIn, Marks, marking, marked, summed, listed_is}
+use Rattle.command_line.specs.OptionSets.{member_of, words_of, written_is, WrittenIn, Marks, marking, marked, summed, marks_read, listed_is}
 use Rattle.command_tokens.proofs.Binds.{bind_none, bind_go}
 use Rattle.command_tokens.proofs.Bytes.{after_here, after_other}
 use Rattle.command_line.proofs.Members.{member_known}
@@ -64,26 +60,26 @@ module _ (s : List ℕ) (i : ℕ) where
   options_some h = rw (after_other s i 41 h, options)
 
 -- an option that was read, or was not
-module _ (s : List ℕ) {r : Written} {x : Option (Got Opt)} (e : written_is s r ≡ x) where
-  pub written_word : {t : Span} {v : Bool} {c : Cursor} → r ≡ Word t v c → x ≡ some (got (record { word = span_bytes s t; valued = v }) (drop c.at s))
+module _ (s : List ℕ) {r : Maybe Written} {x : Option (Got Opt)} (e : written_is s r ≡ x) where
+  pub written_word : {w : Written} → r ≡ Some w → x ≡ some (got (record { word = span_bytes s w.word; valued = w.valued }) (drop w.behind.at s))
   unfolding written_is
   written_word q = sym e ∙ ap (written_is s) q
 
-  pub written_absent : r ≡ Absent → x ≡ none
+  pub written_absent : r ≡ None → x ≡ none
   unfolding written_is
   written_absent q = sym e ∙ ap (written_is s) q
 
-pub written_ahead : (s : List ℕ) (i : ℕ) {r : Written} {t : Span} {v : Bool} {c : Cursor} → WrittenIn s i r → r ≡ Word t v c → (t.quoted ≡ false) × (i < c.at) × (c.at ≤ length s)
+pub written_ahead : (s : List ℕ) (i : ℕ) {r : Maybe Written} {w : Written} → WrittenIn s i r → r ≡ Some w → (w.word.quoted ≡ false) × (i < w.behind.at) × (w.behind.at ≤ length s)
 unfolding WrittenIn
 written_ahead s i h q = subst (WrittenIn s i) q h
 
 -- a list that was read, or was not
-module _ (s : List ℕ) {r : Listed} {x : Option (Got Marks)} (e : listed_is s r ≡ x) where
-  pub listed_read : {o : Options} {k : Bool} {c : Cursor} → r ≡ Read o k c → x ≡ some (got (record { set = o.bits; known = k }) (drop c.at s))
+module _ (s : List ℕ) {r : Maybe Listed} {x : Option (Got Marks)} (e : listed_is s r ≡ x) where
+  pub listed_read : {l : Listed} → r ≡ Some l → x ≡ some (got (marks_read l) (drop l.behind.at s))
   unfolding listed_is
   listed_read q = sym e ∙ ap (listed_is s) q
 
-  pub listed_broken : r ≡ Broken → x ≡ none
+  pub listed_broken : r ≡ None → x ≡ none
   unfolding listed_is
   listed_broken q = sym e ∙ ap (listed_is s) q
 

@@ -34,36 +34,6 @@ worded_is tag g =
     cond_word true w v p e = refl
     cond_word false w v p e = e
 
--- the table, word by word
-module _ (w : List ℕ) where
-  pub word_list : spells w (text "LIST") ≡ true → word_of w ≡ ListWord
-  unfolding word_of
-  word_list e = rw e
-
-  module _ (list : spells w (text "LIST") ≡ false) where
-    pub word_namespace : spells w (text "NAMESPACE") ≡ true → word_of w ≡ Namespace
-    unfolding word_of
-    word_namespace e = rw (list, e)
-
-    module _ (namespace : spells w (text "NAMESPACE") ≡ false) where
-      pub word_lsub : spells w (text "LSUB") ≡ true → word_of w ≡ Lsub
-      unfolding word_of
-      word_lsub e = rw (list, namespace, e)
-
-      module _ (lsub : spells w (text "LSUB") ≡ false) where
-        pub word_subscribe : spells w (text "SUBSCRIBE") ≡ true → word_of w ≡ Subscribe
-        unfolding word_of
-        word_subscribe e = rw (list, namespace, lsub, e)
-
-        module _ (subscribe : spells w (text "SUBSCRIBE") ≡ false) where
-          pub word_unsubscribe : spells w (text "UNSUBSCRIBE") ≡ true → word_of w ≡ Unsubscribe
-          unfolding word_of
-          word_unsubscribe e = rw (list, namespace, lsub, subscribe, e)
-
-          pub word_unknown : spells w (text "UNSUBSCRIBE") ≡ false → word_of w ≡ Other
-          unfolding word_of
-          word_unknown e = rw (list, namespace, lsub, subscribe, e)
-
 -- a word that was found is the run, and one that was not is empty
 some_same : {A : Type 0} {a b : A} → some a ≡ some b → a ≡ b
 some_same e = cc

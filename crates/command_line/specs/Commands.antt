@@ -1,27 +1,31 @@
 -- What a command that was read means in document 01, and where its spans lie.
-use Rattle.std.specs.Prelude.{◌≡◌, Bool, false, cond, ◌&&◌, ◌||◌, not, List as Seq, ◌++◌, ℕ, ◌-◌, ◌≤◌, ◌<◌, take, drop, get_or, replicate}
+use Rattle.std.specs.Prelude.{Result, Ok, Err, IfOk, ◌≡◌, Bool, false, cond, ◌&&◌, ◌||◌, not, List as Seq, ◌++◌, ℕ, ◌-◌, ◌≤◌, ◌<◌, take, drop, get_or, replicate}
 use Rattle.std.proofs.Math.Option.{Option, none, some}
 use Rattle.listing_rules.specs.Bytes.{text, is_empty}
 use Rattle.listing_rules.specs.Tokens.{at, after}
 use Rattle.listing_rules.specs.Lists.{every}
 use Rattle.listing_rules.specs.Options.{Options as Named, lawful_options}
 use Rattle.listing_rules.specs.Command.{Parsed, refused, namespace, listing, root_of, subscriptions, editing, subscribe, unsubscribe, canonical, is_some}
+use Rattle.octets.specs.declared.refusals.Refusal.{Refusal}
+use Rattle.octets.specs.declared.refusals.Refusal.TheVariants.{Grammar}
+use Rattle.octets.specs.Refusals.{number_of}
 use Rattle.command_tokens.specs.declared.Span.{Span}
 use Rattle.command_line.specs.declared.Kind.{Kind}
-use Rattle.command_line.specs.declared.Kind.TheVariants.{List, Root, Namespace, Lsub, Subscribe, Unsubscribe, Refused}
+use Rattle.command_line.specs.declared.Kind.TheVariants.{List, Root, Namespace, Lsub, Subscribe, Unsubscribe}
 use Rattle.command_line.specs.declared.Options.{Options}
 use Rattle.command_line.specs.declared.Command.{Command}
 use Rattle.command_line.specs.declared.list_command.Arguments.{Arguments}
 use Rattle.command_tokens.specs.Spans.{span_bytes, Lies, nowhere}
 use Rattle.command_line.specs.OptionSets.{options_is}
-use Rattle.command_patterns.specs.Places.{kept, Placed}
+use Rattle.command_patterns.specs.declared.Patterns.{Patterns}
+use Rattle.command_patterns.specs.Places.{no_patterns, kept, Placed}
 use Rattle.command_patterns.specs.Canonical.{canonical_of}
 pub use Rattle.command_patterns.specs.Canonical.{short, Few}
 unfoldable pub use Rattle.command_patterns.specs.Canonical.{packed_bytes}
 
 -- the canonical patterns of a command: the reference and each pattern that is not empty
 unfoldable pub patterns_of : Seq ℕ → Command → Seq (Seq ℕ)
-patterns_of s c = canonical_of s c.reference (record { spans = c.patterns; count = c.count })
+patterns_of s c = canonical_of s c.reference c.patterns
 
 -- the name of an edit, which stands in the place of the reference
 unfoldable pub name_of : Seq ℕ → Command → Seq ℕ
@@ -35,11 +39,15 @@ meaning_as Namespace s c = namespace (span_bytes s c.tag)
 meaning_as Lsub s c = subscriptions (span_bytes s c.tag) (patterns_of s c)
 meaning_as Subscribe s c = editing (span_bytes s c.tag) (subscribe (name_of s c))
 meaning_as Unsubscribe s c = editing (span_bytes s c.tag) (unsubscribe (name_of s c))
-meaning_as (Refused k) s c = refused k
 
--- the command, as document 01 has it: its number of refusal, or its values
-unfoldable pub meaning : Seq ℕ → Command → Parsed
-meaning s c = meaning_as c.kind s c
+-- a command that was read, as document 01 has it
+unfoldable pub meaning_of : Seq ℕ → Command → Parsed
+meaning_of s c = meaning_as c.kind s c
+
+-- what the reading of a line comes to, as document 01 has it: a command, or the number of its refusal
+abbrev pub meaning : Seq ℕ → Result Command Refusal → Parsed
+meaning s (Ok c) = meaning_of s c
+meaning s (Err e) = refused (number_of e)
 
 -- no option
 abbrev pub no_options : Options
@@ -53,17 +61,16 @@ named_command k t n =
       tag = t;
       options = no_options;
       reference = n;
-      patterns = replicate 8 nowhere;
-      count = 0;
+      patterns = no_patterns;
     }
 
 -- a command of which nothing but its kind and its tag is kept
 abbrev pub bare_command : Kind → Span → Command
 bare_command k t = named_command k t nowhere
 
--- a refusal: its number, and the empty command
-abbrev pub refused_with : ℕ → Command
-refused_with k = bare_command (Refused k) nowhere
+-- of the eight places as many as there are patterns
+abbrev pub first_places : Patterns → Patterns
+first_places p = record { spans = take p.count p.spans ++ replicate (8 - p.count) nowhere; count = p.count }
 
 -- a command with its reference, and of the eight places as many as it has patterns
 abbrev pub with_patterns : Kind → Options → Command → Command
@@ -73,12 +80,11 @@ with_patterns k o c =
       tag = c.tag;
       options = o;
       reference = c.reference;
-      patterns = take c.count c.patterns ++ replicate (8 - c.count) nowhere;
-      count = c.count;
+      patterns = first_places c.patterns;
     }
 
 -- The command of which all is empty that its kind does not use: LIST uses every field, LSUB all but the options; an edit uses the tag
--- and the name, the root line and NAMESPACE the tag alone, a refusal its number alone.
+-- and the name, the root line and NAMESPACE the tag alone.
 unfoldable pub used_only : Kind → Command → Command
 used_only List c = with_patterns List c.options c
 used_only Lsub c = with_patterns Lsub no_options c
@@ -86,7 +92,6 @@ used_only Subscribe c = named_command Subscribe c.tag c.reference
 used_only Unsubscribe c = named_command Unsubscribe c.tag c.reference
 used_only Root c = bare_command Root c.tag
 used_only Namespace c = bare_command Namespace c.tag
-used_only (Refused k) c = refused_with k
 
 -- What a command holds beside its meaning: every part of it lies inside the line, and what its kind does not use is empty.
 pub record Inside (s : Seq ℕ) (c : Command) : Type 0 where
@@ -97,8 +102,8 @@ pub record Inside (s : Seq ℕ) (c : Command) : Type 0 where
   -- no bit but those of the seven options
   pub seven : c.options.bits < 128
   pub reference : Lies s c.reference
-  pub patterns : (k : ℕ) → Lies s (get_or c.patterns k nowhere)
-  pub few : c.count ≤ 8
+  pub patterns : (k : ℕ) → Lies s (get_or c.patterns.spans k nowhere)
+  pub few : c.patterns.count ≤ 8
   pub rest : c ≡ used_only c.kind c
 
 -- what is kept of the words after LIST
@@ -152,12 +157,12 @@ pub record Given (s : Seq ℕ) (tag : Span) (a : Arguments) : Type 0 where
 abbrev pub extended_at : Seq ℕ → ℕ → ℕ → ℕ → Bool
 extended_at s first patterns rest = is_some (after (text " (") (drop first s)) || at 40 (drop patterns s) || not (is_empty (drop rest s))
 
--- The command r of the text s means p; and it holds what it should, where that is given which its parts were made of.
-pub record Answers (s : Seq ℕ) (p : Parsed) (given : Type 0) (r : Command) : Type 0 where
+-- What the reading r of the text s comes to means p; and a command holds what it should, where that is given which its parts were made of.
+pub record Answers (s : Seq ℕ) (p : Parsed) (given : Type 0) (r : Result Command Refusal) : Type 0 where
   pub means : meaning s r ≡ p
-  pub inside : given → Inside s r
+  pub inside : given → IfOk r (Inside s)
 
 -- The command r of this kind and tag has the name that was read of the text s, by a span that lies inside; with no name it is 4.
-unfoldable pub NameRead : Seq ℕ → Kind → Span → Option (Seq ℕ) → Command → Type 0
-NameRead s k t none r = r ≡ refused_with 4
-NameRead s k t (some n) r = (name : Span) × Lies s name × (span_bytes s name ≡ n) × (r ≡ named_command k t name)
+unfoldable pub NameRead : Seq ℕ → Kind → Span → Option (Seq ℕ) → Result Command Refusal → Type 0
+NameRead s k t none r = r ≡ Err Grammar
+NameRead s k t (some n) r = (name : Span) × Lies s name × (span_bytes s name ≡ n) × (r ≡ Ok (named_command k t name))

@@ -1,4 +1,5 @@
 -- Options as a set of bits, and what a list of options as it is written adds to the set.
+use Rattle.std.specs.Prelude.{Option as Maybe, Some, None}
 use Rattle.std.specs.Prelude.{◌≡◌, Bool, true, false, cond, ◌&&◌, List, [], ◌∷◌, ℕ, ◌≤◌, ◌<◌, length, drop}
 use Rattle.std.proofs.Math.Option.{Option, none, some}
 use Rattle.listing_rules.specs.Bytes.{text, bit, spells}
@@ -10,9 +11,8 @@ use Rattle.command_line.specs.declared.Options.{Options}
 use Rattle.command_line.specs.declared.option_list.Place.{Place}
 use Rattle.command_line.specs.declared.option_list.Place.TheVariants.{Selection, Return}
 use Rattle.command_line.specs.declared.option_list.Written.{Written}
-use Rattle.command_line.specs.declared.option_list.Written.TheVariants.{Word, Absent}
 use Rattle.command_line.specs.declared.option_list.Listed.{Listed}
-use Rattle.command_line.specs.declared.option_list.Listed.TheVariants.{Read, Broken}
+use Rattle.command_tokens.specs.declared.Cursor.{Cursor}
 use Rattle.command_tokens.specs.Spans.{span_bytes}
 
 -- the set's members by their names in document 01
@@ -47,14 +47,14 @@ words_of Selection = selection_words
 words_of Return = return_words
 
 -- an option as the paper reads it
-unfoldable pub written_is : List ℕ → Written → Option (Got Opt)
-written_is s (Word t v c) = some (got (record { word = span_bytes s t; valued = v }) (drop c.at s))
-written_is s Absent = none
+unfoldable pub written_is : List ℕ → Maybe Written → Option (Got Opt)
+written_is s (Some w) = some (got (record { word = span_bytes s w.word; valued = w.valued }) (drop w.behind.at s))
+written_is s None = none
 
 -- an option read at `at`: its word is not quoted, and it ends further on inside the line
-unfoldable pub WrittenIn : List ℕ → ℕ → Written → Type 0
-WrittenIn s at (Word t v c) = (t.quoted ≡ false) × (at < c.at) × (c.at ≤ length s)
-WrittenIn s at Absent = Unit {0}
+unfoldable pub WrittenIn : List ℕ → ℕ → Maybe Written → Type 0
+WrittenIn s at (Some w) = (w.word.quoted ≡ false) × (at < w.behind.at) × (w.behind.at ≤ length s)
+WrittenIn s at None = Unit {0}
 
 -- what is kept of a list of options: the set of those it names, and whether each is known and has no value
 pub record Marks : Type 0 where
@@ -79,9 +79,16 @@ summed p m g = some (got (marked p m g.val) g.rest)
 unfoldable pub marks_of : Place → Option (Got (List Opt)) → Option (Got Marks)
 marks_of p x = x >>= summed p no_marks
 
-unfoldable pub listed_is : List ℕ → Listed → Option (Got Marks)
-listed_is s (Read o k c) = some (got (record { set = o.bits; known = k }) (drop c.at s))
-listed_is s Broken = none
+abbrev pub marks_read : Listed → Marks
+marks_read l = record { set = l.set.bits; known = l.known }
+
+unfoldable pub listed_is : List ℕ → Maybe Listed → Option (Got Marks)
+listed_is s (Some l) = some (got (marks_read l) (drop l.behind.at s))
+listed_is s None = none
+
+-- no list of options
+abbrev pub no_list : Cursor → Listed
+no_list c = record { set = record { bits = 0 }; known = true; behind = c }
 
 -- a list of options after which the line ends
 unfoldable pub ended : Option (List Opt) → Option (Got (List Opt))

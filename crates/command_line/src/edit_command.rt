@@ -4,20 +4,23 @@ ghost use Rattle.std.specs.Prelude.{drop};
 ghost use Rattle.listing_rules.specs.Command.{name_arg};
 ghost use Rattle.command_line.specs.Commands.{NameRead};
 
-use crate::reading::{named, refused};
+use crate::reading::named;
 use crate::{Command, Kind};
-use command_tokens::{Cursor, Span, Token};
-use octets::refusals::GRAMMAR;
+use command_tokens::{Cursor, Span};
+use octets::Refusal;
 
 // edit = ("SUBSCRIBE" / "UNSUBSCRIBE") SP astring, after the word, which the kind tells
-pub(crate) fn read_edit(text: &[u8], kind: Kind, tag: Span, first: Cursor) -> Command
+pub(crate) fn read_edit(
+    text: &[u8],
+    kind: Kind,
+    tag: Span,
+    first: Cursor,
+) -> Result<Command, Refusal>
     ensures { NameRead text.now kind tag (name_arg (drop first.at text.now)) result }
 {
-    let Token::Found(name, rest) = first.argument(text) else {
-        return refused(GRAMMAR);
-    };
+    let (name, rest) = first.argument(text).ok_or(Refusal::Grammar)?;
     if rest.at < text.len() {
-        return refused(GRAMMAR);
+        return Err(Refusal::Grammar);
     }
-    named(kind, tag, name)
+    Ok(named(kind, tag, name))
 }

@@ -1,11 +1,11 @@
-// The command line of document 01, read from left to right, one byte at a time: `read_command` gives the command or the number of its
-// refusal, 3 to 8; of a command that was read, `put_patterns` gives the canonical patterns, and `put_name` the name of an edit.
+// The command line of document 01, read from left to right, one byte at a time: `read_command` gives the command or its refusal, 3
+// to 8; of a command that was read, `put_patterns` gives the canonical patterns, and `put_name` the name of an edit.
 //
 // A command holds no bytes of its own: its tag, its reference or name and its patterns are spans of the line. `meaning` of specs/ says
 // what a command is in the terms of document 01. Absent: words other than LIST, NAMESPACE, LSUB, SUBSCRIBE and UNSUBSCRIBE.
 #![tactic(auto)]
 
-ghost use Rattle.std.specs.Prelude.{◌≡◌};
+ghost use Rattle.std.specs.Prelude.{◌≡◌, IfOk};
 ghost use Rattle.listing_rules.specs.Command.{parsed};
 ghost use Rattle.octets.specs.Put.{Put};
 ghost use Rattle.command_line.specs.Commands.{meaning, Inside, patterns_of, packed_bytes, name_of};
@@ -16,12 +16,12 @@ mod lsub_command;
 mod option_list;
 mod reading;
 
-use command_patterns::Patterns;
+pub use command_patterns::Patterns;
 use command_shape::is_one_command;
 pub use command_tokens::Span;
 use command_tokens::put_span;
-use octets::refusals::LINE_SHAPE;
-use reading::{read_text, refused};
+use octets::Refusal;
+use reading::read_text;
 
 // The options of a command: a set of bits, one for each named member.
 #[derive(Clone, Copy)]
@@ -29,7 +29,7 @@ pub struct Options {
     pub bits: u8,
 }
 
-// What a command asks for, or the number of its refusal.
+// What a command asks for.
 #[derive(Clone, Copy)]
 pub enum Kind {
     List,
@@ -38,32 +38,30 @@ pub enum Kind {
     Lsub,
     Subscribe,
     Unsubscribe,
-    Refused(u8),
 }
 
-// A command that was read: its options, its reference and up to eight pattern places, of which the first count hold a pattern. Of an
-// edit, SUBSCRIBE or UNSUBSCRIBE, the mailbox name stands in the place of the reference.
+// A command that was read: its tag, its options, its reference and its patterns, eight at most. Of an edit, SUBSCRIBE or UNSUBSCRIBE,
+// the mailbox name stands in the place of the reference.
 #[derive(Clone, Copy)]
 pub struct Command {
     pub kind: Kind,
     pub tag: Span,
     pub options: Options,
     pub reference: Span,
-    pub patterns: [Span; 8],
-    pub count: usize,
+    pub patterns: Patterns,
 }
 
 // The command, or its refusal: the line's shape 3, the tag 4, another word 5, the rest off the grammar 4, an option that is not known 6,
 // RECURSIVEMATCH with neither SUBSCRIBED nor SPECIAL-USE 7, too many or too long patterns 8, in this order.
 //
-// What the kind does not use is empty: a refusal is its number and else the empty command. Left free is which part of the line a span
-// of the reference, of the name or of a pattern is; it lies inside, and means the bytes that `meaning` says.
-pub fn read_command(line: &[u8]) -> Command
+// What the kind does not use is empty. Left free is which part of the line a span of the reference, of the name or of a pattern is; it
+// lies inside, and means the bytes that `meaning` says.
+pub fn read_command(line: &[u8]) -> Result<Command, Refusal>
     ensures result_value { meaning line.now result ≡ parsed line.now }
-    ensures inside { Inside line.now result }
+    ensures inside { IfOk result (λ c. Inside line.now c) }
 {
     if !is_one_command(line) {
-        return refused(LINE_SHAPE);
+        return Err(Refusal::LineShape);
     }
     let n = line.len() - 2;
     read_text(&line[..n])
@@ -74,12 +72,7 @@ pub fn read_command(line: &[u8]) -> Command
 pub fn put_patterns(line: &[u8], command: Command, buf: &mut [u8]) -> usize
     ensures { Put buf.old buf.new 0 (packed_bytes (patterns_of line.now command)) result }
 {
-    let spans = command.patterns;
-    let patterns = Patterns {
-        spans,
-        count: command.count,
-    };
-    command_patterns::put_patterns(line, command.reference, patterns, buf)
+    command_patterns::put_patterns(line, command.reference, command.patterns, buf)
 }
 
 // The name of an edit of this line, without its quotes and escapes, from the buffer's first place on; the answer is the place after it.

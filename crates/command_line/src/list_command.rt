@@ -6,15 +6,15 @@ ghost use Rattle.command_line.specs.Commands.{arguments_is, decided, extended_at
 ghost use Rattle.command_line.specs.Words.{worded_as};
 ghost use Rattle.command_line.specs.declared.reading.Word.TheVariants.{List as ListWord};
 
-use crate::option_list::{Listed, read_returns, read_selection};
-use crate::reading::{bare, refused};
+use crate::option_list::{read_returns, read_selection};
+use crate::reading::bare;
 use crate::{Command, Kind, Options};
 use command_patterns::{MAX_PATTERNS, Patterns, measure, read_patterns};
-use command_tokens::{Behind, Cursor, Span, Token};
-use octets::byte_at;
-use octets::refusals::{GRAMMAR, OPTION, PATTERNS, RECURSIVEMATCH_ALONE};
+use command_tokens::{Cursor, Span};
+use octets::{Refusal, byte_at};
 
-// What is kept of the words after LIST.
+// What is kept of the words after LIST: whether each option is known, as in a list of them, the options, and whether the command is
+// extended, which is told by the form of the line and by none of the other values.
 #[derive(Clone, Copy)]
 pub(crate) struct Arguments {
     known: bool,
@@ -25,31 +25,18 @@ pub(crate) struct Arguments {
 }
 
 // list = "LIST" [selection] SP astring SP patterns [return], after the word
-pub(crate) fn read_list(text: &[u8], tag: Span, first: Cursor) -> Command
+pub(crate) fn read_list(text: &[u8], tag: Span, first: Cursor) -> Result<Command, Refusal>
     ensures { Answers text.now
         (worded_as ListWord (span_bytes text.now tag) (drop first.at text.now)) (TagIn text.now tag) result }
 {
-    let Listed::Read(selected, known, second) = read_selection(text, first) else {
-        return refused(GRAMMAR);
-    };
-    let Token::Found(reference, third) = second.argument(text) else {
-        return refused(GRAMMAR);
-    };
-    let Behind::At(fourth) = third.space(text) else {
-        return refused(GRAMMAR);
-    };
-    let list = read_patterns(text, fourth);
-    let behind = list.behind;
-    let Behind::At(fifth) = behind else {
-        return refused(GRAMMAR);
-    };
-    let Listed::Read(returned, known_too, _) = read_returns(text, fifth) else {
-        return refused(GRAMMAR);
-    };
-    let patterns = list.patterns;
+    let selection = read_selection(text, first).ok_or(Refusal::Grammar)?;
+    let (reference, third) = selection.behind.argument(text).ok_or(Refusal::Grammar)?;
+    let fourth = third.space(text).ok_or(Refusal::Grammar)?;
+    let (patterns, fifth) = read_patterns(text, fourth).ok_or(Refusal::Grammar)?;
+    let returns = read_returns(text, fifth).ok_or(Refusal::Grammar)?;
     let a = Arguments {
-        known: known & known_too,
-        options: selected.union(returned),
+        known: selection.known & returns.known,
+        options: selection.set.union(returns.set),
         extended: is_extended(text, first, fourth, fifth),
         reference,
         patterns,
@@ -61,44 +48,42 @@ pub(crate) fn read_list(text: &[u8], tag: Span, first: Cursor) -> Command
 fn is_extended(text: &[u8], first: Cursor, patterns: Cursor, rest: Cursor) -> bool
     ensures { result ≡ extended_at text.now first.at patterns.at rest.at }
 {
-    if let Behind::At(_) = first.opening(text) {
+    if let Some(_) = first.opening(text) {
         return true;
     }
     (byte_at(text, patterns.at) == b'(') | (rest.at < text.len())
 }
 
 // 6, then 7, then 8; then the root line or the list.
-fn judge(text: &[u8], tag: Span, a: Arguments) -> Command
+fn judge(text: &[u8], tag: Span, a: Arguments) -> Result<Command, Refusal>
     ensures { Answers text.now
         (decided (span_bytes text.now tag) (arguments_is text.now a)) (Given text.now tag a) result }
 {
     if !a.known {
-        return refused(OPTION);
+        return Err(Refusal::UnknownOption);
     }
     let options = a.options;
     if !options.lawful() {
-        return refused(RECURSIVEMATCH_ALONE);
+        return Err(Refusal::RecursivematchAlone);
     }
     let patterns = a.patterns;
     let count = patterns.count;
     if MAX_PATTERNS < count {
-        return refused(PATTERNS);
+        return Err(Refusal::Patterns);
     }
     let reference = a.reference;
     let size = measure(text, reference, patterns);
     if !size.fit {
-        return refused(PATTERNS);
+        return Err(Refusal::Patterns);
     }
     if !a.extended & (size.count == 0) {
-        return bare(Kind::Root, tag);
+        return Ok(bare(Kind::Root, tag));
     }
-    let places = patterns.spans;
-    Command {
+    Ok(Command {
         kind: Kind::List,
         tag,
         options,
         reference,
-        patterns: places,
-        count,
-    }
+        patterns,
+    })
 }

@@ -6,42 +6,33 @@ ghost use Rattle.command_line.specs.Commands.{TagIn, Answers};
 ghost use Rattle.command_line.specs.Words.{worded_as};
 ghost use Rattle.command_line.specs.declared.reading.Word.TheVariants.{Lsub as LsubWord};
 
-use crate::reading::refused;
 use crate::{Command, Kind, Options};
 use command_patterns::{Patterns, measure};
-use command_tokens::{Behind, Cursor, Span, Token};
-use octets::refusals::{GRAMMAR, PATTERNS};
+use command_tokens::{Cursor, Span};
+use octets::Refusal;
 
 // lsub = "LSUB" SP astring SP pattern, after the word
-pub(crate) fn read_lsub(text: &[u8], tag: Span, first: Cursor) -> Command
+pub(crate) fn read_lsub(text: &[u8], tag: Span, first: Cursor) -> Result<Command, Refusal>
     ensures { Answers text.now
         (worded_as LsubWord (span_bytes text.now tag) (drop first.at text.now)) (TagIn text.now tag) result }
 {
-    let Token::Found(reference, second) = first.argument(text) else {
-        return refused(GRAMMAR);
-    };
-    let Behind::At(third) = second.space(text) else {
-        return refused(GRAMMAR);
-    };
-    let Token::Found(pattern, rest) = third.pattern(text) else {
-        return refused(GRAMMAR);
-    };
+    let (reference, second) = first.argument(text).ok_or(Refusal::Grammar)?;
+    let third = second.space(text).ok_or(Refusal::Grammar)?;
+    let (pattern, rest) = third.pattern(text).ok_or(Refusal::Grammar)?;
     if rest.at < text.len() {
-        return refused(GRAMMAR);
+        return Err(Refusal::Grammar);
     }
     let none = Patterns::none();
     let patterns = none.with(pattern);
     let size = measure(text, reference, patterns);
     if !size.fit {
-        return refused(PATTERNS);
+        return Err(Refusal::Patterns);
     }
-    let places = patterns.spans;
-    Command {
+    Ok(Command {
         kind: Kind::Lsub,
         tag,
         options: Options::NONE,
         reference,
-        patterns: places,
-        count: patterns.count,
-    }
+        patterns,
+    })
 }

@@ -1,18 +1,13 @@
 -- Canonical patterns, one place at a time: an empty pattern has none, and each other one counts. Rests on nothing.
 use Rattle.listing_rules.proofs.Prelude.{◌∙◌, ◌≡◌, ap, refl, subst, sym, Bool, ◌&&◌, and_assoc, and-true, false, true, List, [], ◌++◌, ◌∷◌, map, ◌+◌}
-use Rattle.listing_rules.proofs.Prelude.{◌-◌, ◌<◌, ◌≤◌, min, suc, ℕ, add-one, dec_le, arith, eqb, leb, list_get_or_map, drop, drop_of_length-le, get_or}
-use Rattle.listing_rules.proofs.Prelude.{length, length-append, length-map, length-take, take, drop-cons, get_or-take, le-leb, lt-leb, ne_eqb}
+use Rattle.listing_rules.proofs.Prelude.{◌<◌, ◌≤◌, suc, ℕ, add-one, arith, eqb, leb, drop, drop_of_length-le, get_or}
+use Rattle.listing_rules.proofs.Prelude.{length, length-append, drop-cons, ne_eqb}
 use Rattle.listing_rules.specs.Bytes.{is_empty}
 use Rattle.listing_rules.specs.Lists.{every}
 use Rattle.listing_rules.specs.Command.{canonical}
+use Rattle.command_tokens.specs.declared.Span.{Span}
 use Rattle.command_tokens.specs.Spans.{span_bytes, nowhere}
-use Rattle.command_patterns.specs.declared.Patterns.{Patterns}
-use Rattle.command_patterns.specs.Places.{held}
 use Rattle.command_patterns.specs.Canonical.{short, measured_is}
-
--- a sum against a bound, and a summand against what is left of it
-pub leb_moved : (a b m : ℕ) → a ≤ m → leb b (m - a) ≡ leb (a + b) m
-leb_moved a b m h = elim (dec_le b (m - a)) [ yes k ↦ le-leb b (m - a) k ∙ sym (le-leb (a + b) m (omega arith)) | no k ↦ lt-leb b (m - a) (omega arith) ∙ sym (lt-leb (a + b) m (omega arith)) ]
 
 empty_length : (p : List ℕ) → length p ≡ 0 → is_empty p ≡ true
 unfolding is_empty
@@ -31,42 +26,29 @@ none_written r [] = refl
 none_written r ([] ∷ ps) = none_written r ps
 none_written r ((b ∷ p) ∷ ps) = sym (ne_eqb (suc (length (canonical r ps))) 0 (λ e. omega arith))
 
--- the canonical patterns from a place on, after the reference r
-abbrev pub canonical_from : List ℕ → List ℕ → Patterns → ℕ → List (List ℕ)
-canonical_from s r p i = canonical r (drop i (held s p))
+-- the canonical patterns of the spans from a place on, after the reference r
+abbrev pub canonical_from : List ℕ → List ℕ → List Span → ℕ → List (List ℕ)
+canonical_from s r ts i = canonical r (map (span_bytes s) (drop i ts))
 
 -- ---- one place
 
-module _ (s r : List ℕ) (p : Patterns) (size : length p.spans ≡ 8) where
-  held_length : length (held s p) ≡ min p.count 8
-  unfolding held
-  held_length = length-map (take p.count p.spans) (span_bytes s) ∙ omega (arith, length-take p.count p.spans)
-
+module _ (s r : List ℕ) (ts : List Span) (i : ℕ) where
   -- no place is left
-  pub from_out : (i : ℕ) → min p.count 8 ≤ i → canonical_from s r p i ≡ []
+  pub from_out : length ts ≤ i → canonical_from s r ts i ≡ []
   unfolding canonical
-  from_out i h = ap (canonical r) (drop_of_length-le (held s p) {i = i} (omega (arith, held_length)))
+  from_out h = rw (drop_of_length-le ts h)
 
-  module _ (i : ℕ) (h : i < min p.count 8) where
-    here : List ℕ
-    here = span_bytes s (get_or p.spans i nowhere)
-
-    held_at : drop i (held s p) ≡ here ∷ drop (i + 1) (held s p)
-    unfolding held here
-    held_at =
-        let places = take p.count p.spans in
-        let long : i < length (map (span_bytes s) places) = omega (arith, held_length) in
-        rw (add-one, drop-cons (map (span_bytes s) places) i (span_bytes s nowhere) long, list_get_or_map (span_bytes s) places i nowhere, get_or-take p.count p.spans i nowhere (omega arith))
-
+  module _ (h : i < length ts) where
     -- an empty pattern
-    pub from_skip : length (span_bytes s (get_or p.spans i nowhere)) ≡ 0 → canonical_from s r p i ≡ canonical_from s r p (i + 1)
-    unfolding canonical here
-    from_skip e = ap (canonical r) held_at ∙ rw (empty_length here e)
+    pub from_skip : length (span_bytes s (get_or ts i nowhere)) ≡ 0 → canonical_from s r ts i ≡ canonical_from s r ts (i + 1)
+    unfolding canonical
+    from_skip e = rw (add-one, drop-cons ts i nowhere h, empty_length (span_bytes s (get_or ts i nowhere)) e)
 
     -- any other one
-    pub from_keep : (length (span_bytes s (get_or p.spans i nowhere)) ≡ 0 → ⊥) → canonical_from s r p i ≡ (r ++ span_bytes s (get_or p.spans i nowhere)) ∷ canonical_from s r p (i + 1)
-    unfolding canonical here
-    from_keep e = ap (canonical r) held_at ∙ rw (full_length here e)
+    pub from_keep : (length (span_bytes s (get_or ts i nowhere)) ≡ 0 → ⊥) →
+        canonical_from s r ts i ≡ (r ++ span_bytes s (get_or ts i nowhere)) ∷ canonical_from s r ts (i + 1)
+    unfolding canonical
+    from_keep e = rw (add-one, drop-cons ts i nowhere h, full_length (span_bytes s (get_or ts i nowhere)) e)
 
 -- ---- counting
 

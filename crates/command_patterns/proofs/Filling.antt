@@ -1,20 +1,17 @@
 -- The eight places: they hold what was read, with one pattern more as before it; and how a list of patterns is read into them. Rests on
 -- Bytes and Cuts of command_tokens.
-use Rattle.listing_rules.proofs.Prelude.{◌∙◌, ◌≡◌, ap, refl, sym, cond, Option, none, some, List, [], ◌++◌, ◌∷◌, map, ◌+◌, ◌-◌, ◌<◌, ◌≤◌, min, suc}
+use Rattle.std.specs.Prelude.{Option as Maybe, Some, None}
+use Rattle.listing_rules.proofs.Prelude.{◌∙◌, ◌≡◌, ap, refl, subst, sym, cond, Option, none, some, List, [], ◌++◌, ◌∷◌, map, ◌+◌, ◌-◌, ◌<◌, ◌≤◌, min, suc}
 use Rattle.listing_rules.proofs.Prelude.{zero, ℕ, add-one, dec_le, arith, leb, drop, drop_of_length-le, get_or, length, length-append, length-set}
 use Rattle.listing_rules.proofs.Prelude.{replicate, set, take, append_snoc, drop-drop, drop-set-lt, take-suc-set, le-leb, lt-leb}
 use Rattle.listing_rules.specs.Bytes.{text}
 use Rattle.listing_rules.specs.Tokens.{Got, got, ◌>>=◌, with_first, pattern}
 use Rattle.listing_rules.specs.Command.{parted, patterns}
 use Rattle.command_tokens.specs.declared.Span.{Span}
-use Rattle.command_tokens.specs.declared.Behind.{Behind}
-use Rattle.command_tokens.specs.declared.Behind.TheVariants.{At, Nothing}
 use Rattle.command_patterns.specs.declared.Patterns.{Patterns}
-use Rattle.command_patterns.specs.declared.PatternList.{PatternList}
 use Rattle.command_tokens.specs.declared.Cursor.{Cursor}
-use Rattle.command_tokens.specs.Tokens.{behind_is}
 use Rattle.command_tokens.specs.Spans.{span_bytes, Lies, nowhere}
-use Rattle.command_patterns.specs.Places.{no_patterns, with_span, held, kept, eight, join_to, up_to_eight, patterns_is, Places, Placed}
+use Rattle.command_patterns.specs.Places.{no_patterns, with_span, held, kept, eight, join_to, up_to_eight, patterns_is, Places, Placed, PlacedIn}
 use Rattle.command_tokens.proofs.Cuts.{lies_nowhere}
 use Rattle.command_tokens.proofs.Bytes.{after_here, after_other}
 
@@ -123,11 +120,15 @@ module _ (s : List ℕ) (i : ℕ) where
   patterns_single a u h e = rw (patterns_one h, e)
 
 -- patterns that were read, or were not
-module _ (s : List ℕ) (r : PatternList) {x : Option (Got (Option (List (List ℕ))))} (e : patterns_is s r ≡ x) where
-  pub patterns_behind : {c : Cursor} → r.behind ≡ At c → x ≡ some (got (kept s r.patterns) (drop c.at s))
-  unfolding patterns_is behind_is ◌>>=◌
-  patterns_behind q = sym e ∙ ap (λ (b : Behind). behind_is s b >>= λ u. some (got (kept s r.patterns) u)) q
+module _ (s : List ℕ) {r : Maybe (Patterns × Cursor)} {x : Option (Got (Option (List (List ℕ))))} (e : patterns_is s r ≡ x) where
+  pub patterns_behind : {p : Patterns} {c : Cursor} → r ≡ Some (p, c) → x ≡ some (got (kept s p) (drop c.at s))
+  unfolding patterns_is
+  patterns_behind q = sym e ∙ ap (patterns_is s) q
 
-  pub patterns_nothing : r.behind ≡ Nothing → x ≡ none
-  unfolding patterns_is behind_is ◌>>=◌
-  patterns_nothing q = sym e ∙ ap (λ (b : Behind). behind_is s b >>= λ u. some (got (kept s r.patterns) u)) q
+  pub patterns_nothing : r ≡ None → x ≡ none
+  unfolding patterns_is
+  patterns_nothing q = sym e ∙ ap (patterns_is s) q
+
+pub patterns_placed : (s : List ℕ) {r : Maybe (Patterns × Cursor)} {p : Patterns} {c : Cursor} → PlacedIn s r → r ≡ Some (p, c) → Placed s p
+unfolding PlacedIn
+patterns_placed s h q = subst (PlacedIn s) q h

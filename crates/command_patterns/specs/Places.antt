@@ -1,12 +1,12 @@
 -- The patterns of a command: eight places, and how many patterns were read.
+use Rattle.std.specs.Prelude.{Option as Maybe, Some, None}
 use Rattle.std.specs.Prelude.{◌≡◌, cond, List, [], ◌∷◌, ◌++◌, map, ℕ, ◌+◌, ◌-◌, leb, length, take, drop, set, replicate}
 use Rattle.std.proofs.Math.Option.{Option, none, some}
 use Rattle.listing_rules.specs.Tokens.{Got, got, ◌>>=◌}
 use Rattle.command_tokens.specs.declared.Span.{Span}
 use Rattle.command_patterns.specs.declared.Patterns.{Patterns}
-use Rattle.command_patterns.specs.declared.PatternList.{PatternList}
+use Rattle.command_tokens.specs.declared.Cursor.{Cursor}
 use Rattle.command_tokens.specs.Spans.{span_bytes, Lies, nowhere}
-use Rattle.command_tokens.specs.Tokens.{behind_is}
 
 abbrev pub no_patterns : Patterns
 no_patterns = record { spans = replicate 8 nowhere; count = 0 }
@@ -35,8 +35,9 @@ unfoldable pub up_to_eight : Option (Got (List (List ℕ))) → Option (Got (Opt
 up_to_eight x = x >>= join_to []
 
 -- patterns that were read, and what is left of the line after them
-unfoldable pub patterns_is : List ℕ → PatternList → Option (Got (Option (List (List ℕ))))
-patterns_is s r = behind_is s r.behind >>= λ u. some (got (kept s r.patterns) u)
+unfoldable pub patterns_is : List ℕ → Maybe (Patterns × Cursor) → Option (Got (Option (List (List ℕ))))
+patterns_is s (Some (p, c)) = some (got (kept s p) (drop c.at s))
+patterns_is s None = none
 
 -- every place lies inside the line
 abbrev pub Places : List ℕ → List Span → Type 0
@@ -48,3 +49,8 @@ pub record Placed (s : List ℕ) (p : Patterns) : Type 0 where
   pub places : Places s p.spans
   -- and those after the patterns are empty
   pub unused : drop p.count p.spans ≡ replicate (8 - p.count) nowhere
+
+-- the places of patterns that were read
+unfoldable pub PlacedIn : List ℕ → Maybe (Patterns × Cursor) → Type 0
+PlacedIn s (Some (p, c)) = Placed s p
+PlacedIn s None = Unit {0}

@@ -1,11 +1,11 @@
 // Canonical patterns: "the reference followed by the pattern, at most 255 bytes after unquoting". An empty pattern has none.
 
-ghost use Rattle.std.specs.Prelude.{◌≡◌, ◌++◌, ◌+◌, ◌%◌, min, leb};
+ghost use Rattle.std.specs.Prelude.{◌≡◌, ◌++◌, ◌+◌, ◌%◌, leb};
 ghost use Rattle.octets.specs.Put.{Put};
 ghost use Rattle.command_tokens.specs.Spans.{span_bytes};
 ghost use Rattle.command_patterns.specs.Canonical.{canonical_of, measured_is, packed_one, packed_bytes};
 
-use crate::{MAX_PATTERNS, Measured, Patterns};
+use crate::{Measured, Patterns};
 use command_tokens::{Span, put_span, span_len};
 use octets::put;
 
@@ -16,21 +16,7 @@ const MAX_CANONICAL: usize = 255;
 fn is_short(head: usize, tail: usize) -> bool
     ensures { result ≡ leb (head + tail) 255 }
 {
-    if MAX_CANONICAL < head {
-        return false;
-    }
-    tail <= MAX_CANONICAL - head
-}
-
-// The number of patterns that have a place.
-fn placed(count: usize) -> usize
-    ensures { result ≡ min count 8 }
-{
-    if count < MAX_PATTERNS {
-        count
-    } else {
-        MAX_PATTERNS
-    }
+    head.saturating_add(tail) <= MAX_CANONICAL
 }
 
 // How many canonical patterns there are, and whether each is short enough.
@@ -38,18 +24,13 @@ pub fn measure(text: &[u8], reference: Span, patterns: Patterns) -> Measured
     ensures { result ≡ measured_is (canonical_of text.now reference patterns) }
 {
     let head = span_len(text, reference);
-    let n = placed(patterns.count);
-    let mut count: usize = 0;
+    let mut count = 0;
     let mut fit = true;
-    let mut i = 0;
-    while i < n {
-        let tail = span_len(text, patterns.spans[i]);
-        if tail == 0 {
-            i += 1;
-        } else {
+    for pattern in patterns.places() {
+        let tail = span_len(text, *pattern);
+        if tail != 0 {
             fit = fit & is_short(head, tail);
             count += 1;
-            i += 1;
         }
     }
     Measured { count, fit }
@@ -59,16 +40,10 @@ pub fn measure(text: &[u8], reference: Span, patterns: Patterns) -> Measured
 pub fn put_patterns(line: &[u8], reference: Span, patterns: Patterns, buf: &mut [u8]) -> usize
     ensures { Put buf.old buf.new 0 (packed_bytes (canonical_of line.now reference patterns)) result }
 {
-    let n = placed(patterns.count);
-    let mut to: usize = 0;
-    let mut i = 0;
-    while i < n {
-        let pattern = patterns.spans[i];
-        if span_len(line, pattern) == 0 {
-            i += 1;
-        } else {
-            to = put_canonical(buf, to, line, reference, pattern);
-            i += 1;
+    let mut to = 0;
+    for pattern in patterns.places() {
+        if span_len(line, *pattern) != 0 {
+            to = put_canonical(buf, to, line, reference, *pattern);
         }
     }
     to
@@ -90,5 +65,5 @@ fn put_canonical(buf: &mut [u8], at: usize, line: &[u8], reference: Span, patter
 fn length_byte(head: usize, tail: usize) -> u8
     ensures { result ≡ (head + tail) % 256 }
 {
-    ((head % 256 + tail % 256) % 256) as u8
+    (head.wrapping_add(tail) % 256) as u8
 }

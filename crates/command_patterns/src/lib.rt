@@ -8,27 +8,22 @@ mod canonical;
 mod places;
 
 pub use canonical::{measure, put_patterns};
-use command_tokens::{Behind, Span};
+use command_tokens::Span;
 pub use places::read_patterns;
 
 // "At most 8 patterns, empty ones counted."
 pub const MAX_PATTERNS: usize = 8;
 
 // The places of the patterns that were read, and how many they are: nine where there are more than eight.
+//
+// A list that knows its length would be no plainer: the ninth pattern is counted, and has no place.
 #[derive(Clone, Copy)]
 pub struct Patterns {
-    pub spans: [Span; 8],
+    pub spans: [Span; MAX_PATTERNS],
     pub count: usize,
 }
 
-// The patterns, and what stands after them.
-#[derive(Clone, Copy)]
-pub struct PatternList {
-    pub behind: Behind,
-    pub patterns: Patterns,
-}
-
-// How many canonical patterns a command has, and whether each is short enough.
+// How many canonical patterns a command has, and whether each is short enough; no Option, since `measure` promises both.
 #[derive(Clone, Copy)]
 pub struct Measured {
     pub count: usize,

@@ -1,12 +1,12 @@
 // The patterns of a command as they stand in the line: one, or a list in parentheses.
 
-ghost use Rattle.std.specs.Prelude.{◌≡◌, length, drop};
+ghost use Rattle.std.specs.Prelude.{◌≡◌, length, take, drop};
 ghost use Rattle.listing_rules.specs.Tokens.{pattern};
 ghost use Rattle.listing_rules.specs.Command.{parted, patterns};
-ghost use Rattle.command_patterns.specs.Places.{no_patterns, with_span, patterns_is, up_to_eight, Placed};
+ghost use Rattle.command_patterns.specs.Places.{no_patterns, with_span, patterns_is, up_to_eight, PlacedIn};
 
-use crate::{MAX_PATTERNS, PatternList, Patterns};
-use command_tokens::{Behind, Cursor, Span, Token};
+use crate::{MAX_PATTERNS, Patterns};
+use command_tokens::{Cursor, Span};
 use octets::byte_at;
 
 impl Patterns {
@@ -34,61 +34,51 @@ impl Patterns {
         next.count = at + 1;
         next
     }
+
+    // The places that hold a pattern.
+    pub(crate) fn places(&self) -> &[Span]
+        ensures { result.now ≡ take self.now.count self.now.spans }
+    {
+        &self.spans[..self.count.min(MAX_PATTERNS)]
+    }
 }
 
-// pattern *(SP pattern) ")", after the opening parenthesis
-fn read_parted(text: &[u8], first: Cursor) -> PatternList
+// pattern *(SP pattern) ")", after the opening parenthesis: the patterns, and what stands after them
+fn read_parted(text: &[u8], first: Cursor) -> Option<(Patterns, Cursor)>
     ensures result_value { patterns_is text.now result
         ≡ up_to_eight (parted pattern (length (drop first.at text.now)) (drop first.at text.now)) }
-    ensures placed { Placed text.now result.patterns }
+    ensures placed { PlacedIn text.now result }
 {
     let mut found = Patterns::none();
     let mut at = first.at;
+
+    // A `for` would be no plainer: the place goes on by what each pattern takes of the line.
     loop {
         let here = Cursor { at };
-        let Token::Found(span, next) = here.pattern(text) else {
-            return PatternList {
-                behind: Behind::Nothing,
-                patterns: found,
-            };
-        };
+        let (span, next) = here.pattern(text)?;
         found = found.with(span);
         let end = next.at;
         let b = byte_at(text, end);
         if b == b')' {
-            return PatternList {
-                behind: Behind::At(Cursor { at: end + 1 }),
-                patterns: found,
-            };
+            return Some((found, Cursor { at: end + 1 }));
         }
         if b != b' ' {
-            return PatternList {
-                behind: Behind::Nothing,
-                patterns: found,
-            };
+            return None;
         }
         at = end + 1;
     }
 }
 
-// pattern / "(" pattern *(SP pattern) ")"
-pub fn read_patterns(text: &[u8], first: Cursor) -> PatternList
+// pattern / "(" pattern *(SP pattern) ")": the patterns, and what stands after them
+pub fn read_patterns(text: &[u8], first: Cursor) -> Option<(Patterns, Cursor)>
     ensures result_value { patterns_is text.now result ≡ up_to_eight (patterns (drop first.at text.now)) }
-    ensures placed { Placed text.now result.patterns }
+    ensures placed { PlacedIn text.now result }
 {
     let at = first.at;
     if byte_at(text, at) == b'(' {
         return read_parted(text, Cursor { at: at + 1 });
     }
+    let (span, next) = first.pattern(text)?;
     let none = Patterns::none();
-    let Token::Found(span, next) = first.pattern(text) else {
-        return PatternList {
-            behind: Behind::Nothing,
-            patterns: none,
-        };
-    };
-    PatternList {
-        behind: Behind::At(next),
-        patterns: none.with(span),
-    }
+    Some((none.with(span), next))
 }

@@ -3,7 +3,7 @@
 // `Machine` is what is kept between two bytes; `is_one_command` runs it over a line. No public function asks anything of its caller.
 #![tactic(auto)]
 
-ghost use Rattle.std.specs.Prelude.{◌≡◌, ◌+◌, ◌-◌, ◌*◌, min};
+ghost use Rattle.std.specs.Prelude.{◌≡◌};
 ghost use Rattle.listing_rules.specs.Tokens.{line_byte, digit_byte};
 ghost use Rattle.listing_rules.specs.Feeder.{first, one_command};
 ghost use Rattle.command_shape.specs.Machine.{with_digit};
@@ -12,7 +12,7 @@ mod machine;
 mod shaping;
 
 pub use machine::{MAX_COMMAND, Machine, Place, Signal, Stepped, Tail};
-use octets::{CR, LF, wide};
+use octets::{CR, LF};
 use shaping::Shaping;
 
 // "n up to 1,024".
@@ -26,33 +26,20 @@ pub fn is_line_byte(b: u8) -> bool
 }
 
 // A decimal digit.
+#[tactic(auto, unfolding(listing_rules::specs::Bytes::within, listing_rules::specs::Tokens::digit_byte))]
 pub fn is_digit(b: u8) -> bool
     ensures { result ≡ digit_byte b }
 {
-    (b'0' <= b) & (b <= b'9')
+    b.is_ascii_digit()
 }
 
 // A number with one digit more; above the largest literal it stays at one more than that, so it never overflows.
 pub fn with_digit(n: usize, digit: u8) -> usize
     ensures { result ≡ with_digit n digit }
 {
-    if MAX_LITERAL < n {
-        return MAX_LITERAL + 1;
-    }
-    if digit < b'0' {
-        return no_more(10 * n);
-    }
-    no_more(10 * n + wide(digit - b'0'))
-}
-
-// A number, or one more than the largest literal for any above that.
-fn no_more(n: usize) -> usize
-    ensures { result ≡ min n 1025 }
-{
-    if MAX_LITERAL < n {
-        return MAX_LITERAL + 1;
-    }
-    n
+    let kept = n.min(MAX_LITERAL + 1);
+    let value = usize::from(digit.saturating_sub(b'0'));
+    (10 * kept + value).min(MAX_LITERAL + 1)
 }
 
 // line = *(*line-byte "{" number "}" CR LF *byte) *line-byte CR LF, the bytes after each number as many as it says
@@ -62,9 +49,8 @@ pub fn is_one_command(line: &[u8]) -> bool
     ensures { result ≡ one_command first line.now }
 {
     let mut machine = Machine::FIRST;
-    let mut i = 0;
-    while i < line.len() {
-        match machine.shapes(line[i]) {
+    for (i, b) in line.iter().enumerate() {
+        match machine.shapes(*b) {
             Shaping::Bad => {
                 return false;
             }
@@ -75,7 +61,6 @@ pub fn is_one_command(line: &[u8]) -> bool
                 machine = next;
             }
         }
-        i += 1;
     }
     false
 }

@@ -67,32 +67,22 @@ impl Machine {
     pub fn takes(self, b: u8) -> bool
         ensures { result ≡ takes self b }
     {
-        let place = self.place;
-        !place.drops() & !offends(self.size, b)
+        !self.place.drops() & !offends(self.size, b)
     }
 
     // One byte more. "Where two causes meet, the earlier byte decides, and at one byte the length of the command comes before n".
+    #[tactic(auto, unfolding(crate::specs::Machine::step_at))]
     pub fn step(self, b: u8) -> Stepped
         ensures { result ≡ step_is self b }
     {
-        let place = self.place;
-        match place {
-            Place::Line(tail) => {
-                if offends(self.size, b) {
-                    return refused(self.cr, b);
-                }
-                line_byte(tail, self.size + 1, b)
-            }
-            Place::Literal(n) => {
-                if offends(self.size, b) {
-                    return refused(self.cr, b);
-                }
-                literal_byte(n, self.size + 1, b)
-            }
+        match self.place {
             Place::Dropping => Stepped {
                 machine: dropped(self.cr, b),
                 signal: Signal::Quiet,
             },
+            _ if offends(self.size, b) => refused(self.cr, b),
+            Place::Line(tail) => line_byte(tail, self.size + 1, b),
+            Place::Literal(n) => literal_byte(n, self.size + 1, b),
         }
     }
 }
@@ -101,11 +91,7 @@ impl Place {
     fn drops(self) -> bool
         ensures { result ≡ is_dropping self }
     {
-        match self {
-            Place::Line(_) => false,
-            Place::Literal(_) => false,
-            Place::Dropping => true,
-        }
+        matches!(self, Place::Dropping)
     }
 }
 
@@ -114,17 +100,11 @@ impl Tail {
     pub(crate) fn at_cr(self) -> bool
         ensures { result ≡ at_cr self }
     {
-        match self {
-            Tail::Text => false,
-            Tail::Cr => true,
-            Tail::Open => false,
-            Tail::Digits(_) => false,
-            Tail::Closed(_) => false,
-            Tail::Ending(_) => true,
-        }
+        matches!(self, Tail::Cr | Tail::Ending(_))
     }
 
     // With a byte more, which does not end the line.
+    #[tactic(auto, unfolding(crate::specs::Machine::tail_is, crate::specs::Machine::tail_as, crate::specs::Machine::plain_is))]
     fn with(self, b: u8) -> Tail
         ensures { result ≡ tail_is self b }
     {
@@ -132,35 +112,17 @@ impl Tail {
             return Tail::Open;
         }
         match self {
-            Tail::Text => plain_tail(b),
-            Tail::Cr => plain_tail(b),
-            Tail::Open => {
-                if is_digit(b) {
-                    return Tail::Digits(with_digit(0, b));
-                }
-                plain_tail(b)
-            }
-            Tail::Digits(n) => {
-                if is_digit(b) {
-                    return Tail::Digits(with_digit(n, b));
-                }
-                if b == b'}' {
-                    return Tail::Closed(n);
-                }
-                plain_tail(b)
-            }
-            Tail::Closed(n) => {
-                if b == CR {
-                    return Tail::Ending(n);
-                }
-                plain_tail(b)
-            }
-            Tail::Ending(_) => plain_tail(b),
+            Tail::Open if is_digit(b) => Tail::Digits(with_digit(0, b)),
+            Tail::Digits(n) if is_digit(b) => Tail::Digits(with_digit(n, b)),
+            Tail::Digits(n) if b == b'}' => Tail::Closed(n),
+            Tail::Closed(n) if b == CR => Tail::Ending(n),
+            _ => plain_tail(b),
         }
     }
 }
 
 // With a byte more that belongs to no header.
+#[tactic(auto, unfolding(crate::specs::Machine::plain_is))]
 fn plain_tail(b: u8) -> Tail
     ensures { result ≡ plain_is b }
 {
@@ -175,6 +137,7 @@ fn offends(size: usize, b: u8) -> bool
 }
 
 // A byte that is dropped, after a CR or not: "bytes are dropped through the next CR LF".
+#[tactic(auto, unfolding(crate::specs::Machine::dropped_is))]
 fn dropped(cr: bool, b: u8) -> Machine
     ensures { result ≡ dropped_is cr b }
 {
@@ -213,29 +176,17 @@ fn stands(place: Place, size: usize, b: u8, signal: Signal) -> Stepped
 }
 
 // A byte of a line outside literals: LF after CR ends it.
+#[tactic(auto, unfolding(crate::specs::Machine::line_is))]
 fn line_byte(tail: Tail, size: usize, b: u8) -> Stepped
     ensures { result ≡ line_is tail size b }
 {
     match tail {
-        Tail::Text => text_byte(tail, size, b),
-        Tail::Cr => {
-            if b == LF {
-                return Stepped {
-                    machine: Machine::FIRST,
-                    signal: Signal::Whole,
-                };
-            }
-            text_byte(tail, size, b)
-        }
-        Tail::Open => text_byte(tail, size, b),
-        Tail::Digits(_) => text_byte(tail, size, b),
-        Tail::Closed(_) => text_byte(tail, size, b),
-        Tail::Ending(n) => {
-            if b == LF {
-                return announced(n, size);
-            }
-            text_byte(tail, size, b)
-        }
+        Tail::Cr if b == LF => Stepped {
+            machine: Machine::FIRST,
+            signal: Signal::Whole,
+        },
+        Tail::Ending(n) if b == LF => announced(n, size),
+        _ => text_byte(tail, size, b),
     }
 }
 
@@ -247,6 +198,7 @@ fn text_byte(tail: Tail, size: usize, b: u8) -> Stepped
 }
 
 // The line has ended that announces a literal of n bytes.
+#[tactic(auto, unfolding(crate::specs::Machine::announced_is, crate::specs::Machine::awaiting_is))]
 fn announced(n: usize, size: usize) -> Stepped
     ensures { result ≡ announced_is n size }
 {
@@ -263,6 +215,7 @@ fn announced(n: usize, size: usize) -> Stepped
 }
 
 // A byte of a literal of which n bytes were to come.
+#[tactic(auto, unfolding(crate::specs::Machine::awaiting_is))]
 fn literal_byte(n: usize, size: usize, b: u8) -> Stepped
     ensures { result ≡ literal_is n size b }
 {

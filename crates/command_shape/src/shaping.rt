@@ -16,22 +16,18 @@ pub(crate) enum Shaping {
 
 impl Machine {
     // Whether the byte may stand there: in a literal any, after CR the LF, and else a line byte or CR.
+    #[tactic(auto, unfolding(crate::specs::Shaping::allowed_by, crate::specs::Shaping::allowed_at))]
     fn allows(self, b: u8) -> bool
         ensures { result ≡ allowed_by self b }
     {
-        let place = self.place;
-        match place {
-            Place::Line(tail) => {
-                if tail.at_cr() {
-                    return b == LF;
-                }
-                is_line_byte(b) | (b == CR)
-            }
-            Place::Literal(_) => true,
-            Place::Dropping => true,
+        match self.place {
+            Place::Line(tail) if tail.at_cr() => b == LF,
+            Place::Line(_) => is_line_byte(b) | (b == CR),
+            Place::Literal(_) | Place::Dropping => true,
         }
     }
 
+    #[tactic(auto, unfolding(crate::specs::Shaping::shape_step, crate::specs::Shaping::shaping_as))]
     pub(crate) fn shapes(self, b: u8) -> Shaping
         ensures { result ≡ shape_step self b }
     {
@@ -39,11 +35,8 @@ impl Machine {
             return Shaping::Bad;
         }
         let stepped = self.step(b);
-        let signal = stepped.signal;
-        let next = stepped.machine;
-        match signal {
-            Signal::Quiet => Shaping::Further(next),
-            Signal::GoOn => Shaping::Further(next),
+        match stepped.signal {
+            Signal::Quiet | Signal::GoOn => Shaping::Further(stepped.machine),
             Signal::Whole => Shaping::Last,
             Signal::Refused => Shaping::Bad,
         }

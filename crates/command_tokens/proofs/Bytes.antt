@@ -1,35 +1,17 @@
--- Laws of single bytes: what stands behind one, which class holds one, and where a string begins.
-use Rattle.listing_rules.proofs.Prelude.{◌≡◌, refl, sym, Bool, ◌||◌, cond, false, or_assoc, or-false, true, none, some, List, [], ◌∷◌, ◌+◌, ◌<◌, ◌≤◌}
+-- Laws of single bytes: what stands behind one, and where a string begins.
+use Rattle.std.specs.Prelude.{Option, Some, None}
+use Rattle.listing_rules.proofs.Prelude.{◌≡◌, refl, sym, Bool, cond, false, true, none, some, List, [], ◌∷◌, ◌+◌, ◌<◌, ◌≤◌}
 use Rattle.listing_rules.proofs.Prelude.{ℕ, add-one, dec_le, arith, eqb, list_get_or_eq_default, drop, drop_of_length-le, get_or, length, drop-cons}
-use Rattle.listing_rules.proofs.Prelude.{eq-eqb, eqb-true, ne_eqb}
-use Rattle.command_tokens.specs.declared.Token.{Token}
-use Rattle.command_tokens.specs.declared.Token.TheVariants.{Found, Missing}
-use Rattle.command_tokens.specs.declared.Behind.{Behind}
-use Rattle.command_tokens.specs.declared.Behind.TheVariants.{At, Nothing}
+use Rattle.listing_rules.proofs.Prelude.{eq-eqb, ne_eqb}
+use Rattle.command_tokens.specs.declared.Span.{Span}
+use Rattle.command_tokens.specs.declared.Cursor.{Cursor}
 use Rattle.command_tokens.specs.Tokens.{TokenIn, BehindIn}
-use Rattle.listing_rules.specs.Bytes.{text, one_of, quote, is_empty}
+use Rattle.listing_rules.specs.Bytes.{quote, is_empty}
 use Rattle.listing_rules.specs.Tokens.{got, ◌>>=◌, at, after, run, run₁, unless_empty, quoted_text, literal, string_or}
 
 -- a byte that is not 0 lies inside
 pub inside : (s : List ℕ) (i : ℕ) → 0 < get_or s i 0 → i < length s
 inside s i h = elim (dec_le (length s) i) [ yes l ↦ absurd (omega (arith, list_get_or_eq_default s 0 l)) | no l ↦ omega arith ]
-
-eqb_turned : (a b : ℕ) → eqb a b ≡ eqb b a
-eqb_turned a b = go (eqb a b) refl
-  where
-    go : (t : Bool) → eqb a b ≡ t → t ≡ eqb b a
-    go true e = sym (eq-eqb b a (sym (eqb-true a b e)))
-    go false e = sym (ne_eqb b a (λ q. borrow.Author.Tests.eqb-false a b e (sym q)))
-
--- the eight bytes that no atom holds
-pub special_is : (b : ℕ) → (eqb b 40 || eqb b 41 || eqb b 123 || eqb b 37 || eqb b 42 || eqb b 34 || eqb b 92 || eqb b 93) ≡ one_of (text "(){%*\"\\]") b
-unfolding text one_of
-special_is b = rw (eqb_turned b 40, eqb_turned b 41, eqb_turned b 123, eqb_turned b 37, eqb_turned b 42, eqb_turned b 34, eqb_turned b 92, eqb_turned b 93) (simp (or_assoc, or-false))
-
--- a byte of a pattern
-pub pattern_is : (a : Bool) (b : ℕ) → (a || eqb b 93 || eqb b 37 || eqb b 42) ≡ (a || one_of (text "]%*") b)
-unfolding text one_of
-pattern_is a b = rw (eqb_turned b 93, eqb_turned b 37, eqb_turned b 42) (simp (or_assoc, or-false))
 
 module _ (s : List ℕ) (i b : ℕ) where
   pub after_out : length s ≤ i → after (b ∷ []) (drop i s) ≡ none
@@ -99,12 +81,12 @@ module _ (p : ℕ → Bool) (s : List ℕ) (i : ℕ) where
       here l = rw (drop-cons s i 0 l, ne_eqb (get_or s i 0) 34 e, ne_eqb (get_or s i 0) 123 f)
 
 -- a place behind one that is further on
-pub behind_later : (s : List ℕ) (i to : ℕ) (r : Behind) → i < to → BehindIn s to r → BehindIn s i r
+pub behind_later : (s : List ℕ) (i to : ℕ) (r : Option Cursor) → i < to → BehindIn s to r → BehindIn s i r
 unfolding BehindIn
-behind_later s i to (At c) h b = (omega arith, b.1)
-behind_later s i to Nothing h b = tt
+behind_later s i to (Some c) h b = (omega arith, b.1)
+behind_later s i to None h b = tt
 
-pub token_later : (s : List ℕ) (i to : ℕ) (r : Token) → i < to → TokenIn s to r → TokenIn s i r
+pub token_later : (s : List ℕ) (i to : ℕ) (r : Option (Span × Cursor)) → i < to → TokenIn s to r → TokenIn s i r
 unfolding TokenIn
-token_later s i to (Found t c) h b = record { order = b.order; within = b.within; past = omega arith; inside = b.inside }
-token_later s i to Missing h b = tt
+token_later s i to (Some (t, c)) h b = record { order = b.order; within = b.within; past = omega arith; inside = b.inside }
+token_later s i to None h b = tt

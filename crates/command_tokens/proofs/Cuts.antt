@@ -1,5 +1,5 @@
 -- A part of the line between two places: where there is none, and that a token lies inside the line. Rests on nothing.
-use Rattle.listing_rules.proofs.Prelude.{◌∙◌, ◌≡◌, sym, List, [], ◌-◌, ◌≤◌, ℕ, arith, drop, drop_of_length-le, length, length-drop, take, take_all}
+use Rattle.listing_rules.proofs.Prelude.{◌∙◌, ◌≡◌, sym, List, [], ◌-◌, ◌≤◌, min, ℕ, arith, dec_le, drop, drop_of_length-le, length, length-drop, take, take_all}
 use Rattle.listing_rules.proofs.Prelude.{take-nil}
 use Rattle.command_tokens.specs.declared.Span.{Span}
 use Rattle.command_tokens.specs.declared.Cursor.{Cursor}
@@ -7,24 +7,33 @@ use Rattle.command_tokens.specs.Spans.{Lies, nowhere}
 use Rattle.command_tokens.specs.Tokens.{Ahead}
 
 module _ (s : List ℕ) where
-  -- nothing stands at the end
-  pub cut_none : take (length s - length s) (drop (length s) s) ≡ []
-  cut_none = rw (drop_of_length-le s {i = length s} (omega arith)) (take-nil (length s - length s))
+  -- nothing stands from a place back to one before it
+  cut_back : (a e : ℕ) → e ≤ a → take (e - a) (drop a s) ≡ []
+  cut_back a e h = let none : e - a ≡ 0 = omega arith in rw none
 
-  module _ (a e : ℕ) where
-    -- nor behind it
-    pub cut_out : length s ≤ a → take (e - a) (drop a s) ≡ []
-    cut_out h = rw (drop_of_length-le s h) (take-nil (e - a))
+  -- nor behind the end
+  cut_out : (a e : ℕ) → length s ≤ a → take (e - a) (drop a s) ≡ []
+  cut_out a e h = rw (drop_of_length-le s h) (take-nil (e - a))
 
-    -- nor from a place back to one before it
-    pub cut_back : e ≤ a → take (e - a) (drop a s) ≡ []
-    cut_back h = let none : e - a ≡ 0 = omega arith in rw none
+  -- a part that ends behind the line ends with it
+  cut_rest : (a e : ℕ) → length s ≤ e → take (length s - a) (drop a s) ≡ take (e - a) (drop a s)
+  cut_rest a e h =
+      take_all (length s - a) (drop a s) (omega (arith, length-drop a s))
+      ∙ sym (take_all (e - a) (drop a s) (omega (arith, length-drop a s)))
 
-    -- a part that ends behind the line ends with it
-    pub cut_rest : length s ≤ e → take (length s - a) (drop a s) ≡ take (e - a) (drop a s)
-    cut_rest h =
-        take_all (length s - a) (drop a s) (omega (arith, length-drop a s))
-        ∙ sym (take_all (e - a) (drop a s) (omega (arith, length-drop a s)))
+  -- the part up to a place that lies inside
+  cut_ordered : (a e : ℕ) → take (e - min a e) (drop (min a e) s) ≡ take (e - a) (drop a s)
+  cut_ordered a e = elim (dec_le a e) [
+    | yes h ↦ let here : min a e ≡ a = omega arith in rw here
+    | no h ↦ cut_back (min a e) e (omega arith) ∙ sym (cut_back a e (omega arith))
+  ]
+
+  -- places that lie inside, for any two
+  pub cut_within : (a e : ℕ) → take (min e (length s) - min a (min e (length s))) (drop (min a (min e (length s))) s) ≡ take (e - a) (drop a s)
+  cut_within a e = cut_ordered a (min e (length s)) ∙ elim (dec_le (length s) e) [
+    | yes h ↦ let last : min e (length s) ≡ length s = omega arith in rw last (cut_rest a e h)
+    | no h ↦ let here : min e (length s) ≡ e = omega arith in rw here
+  ]
 
 -- no part of the line lies inside it
 pub lies_nowhere : (s : List ℕ) → Lies s nowhere

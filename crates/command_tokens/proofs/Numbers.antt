@@ -1,4 +1,5 @@
 -- Laws of a literal: the number in its header, one digit at a time, and the bytes behind it as a token.
+use Rattle.std.specs.Prelude.{Option, Some}
 use Rattle.listing_rules.proofs.Prelude.{◌∙◌, ◌≡◌, ap, refl, sym, Bool, ◌&&◌, cond, false, true, none, some, List, ◌++◌, ◌*◌, ◌+◌, ◌-◌, ◌<◌, ◌≤◌, min}
 use Rattle.listing_rules.proofs.Prelude.{suc, ℕ, add-one, arith, leb, drop, drop_of_length-le, get_or, length, take, drop-cons, drop-drop, le-leb}
 use Rattle.listing_rules.proofs.Prelude.{lt-leb}
@@ -7,8 +8,6 @@ use Rattle.listing_rules.specs.Tokens.{got, ◌>>=◌, after, run₁, digit_byte
 use Rattle.command_shape.proofs.Tails.{capped_decimal}
 use Rattle.command_tokens.specs.declared.Span.{Span}
 use Rattle.command_tokens.specs.declared.Cursor.{Cursor}
-use Rattle.command_tokens.specs.declared.Token.{Token}
-use Rattle.command_tokens.specs.declared.Token.TheVariants.{Found}
 use Rattle.command_tokens.specs.Spans.{raw_bytes, span_bytes}
 use Rattle.command_tokens.specs.Tokens.{token_is, BareIn}
 use Rattle.command_tokens.proofs.Binds.{bare_ahead, bare_bytes}
@@ -56,11 +55,11 @@ module _ (t : List ℕ) where
       literal_whole h k = let same : decimal 0 v ≡ n = omega arith in behind ∙ rw (same, le-leb n 1024 h, le-leb n (length u) k)
 
 -- the number of the digits that a bare token holds
-pub digits_number : (s : List ℕ) (at : ℕ) {r : Token} {t : Span} {c : Cursor} → BareIn s at r → r ≡ Found t c → {n : ℕ} {b : List ℕ} →
+pub digits_number : (s : List ℕ) (at : ℕ) {r : Option (Span × Cursor)} {t : Span} {c : Cursor} → BareIn s at r → r ≡ Some (t, c) → {n : ℕ} {b : List ℕ} →
     n ≡ min (decimal 0 b) 1025 → b ≡ raw_bytes s t → n ≡ min (decimal 0 (span_bytes s t)) 1025
 digits_number s at {t} h q e f = e ∙ ap (λ (x : List ℕ). min (decimal 0 x) 1025) (f ∙ sym (bare_bytes s t (bare_ahead s at h q).bare))
 
 -- n bytes from a place on, as a token
-pub bytes_token : (s : List ℕ) (i n : ℕ) → token_is s (Found (record { start = i; end = i + n; quoted = false }) (record { at = i + n })) ≡ some (got (take n (drop i s)) (drop n (drop i s)))
+pub bytes_token : (s : List ℕ) (i n : ℕ) → token_is s (Some ((record { start = i; end = i + n; quoted = false }), (record { at = i + n }))) ≡ some (got (take n (drop i s)) (drop n (drop i s)))
 unfolding token_is span_bytes raw_bytes got
 bytes_token s i n = let here : i + n - i ≡ n = omega arith in rw (here, drop-drop n i s)

@@ -1,17 +1,17 @@
 -- Laws of a quoted string: one byte at a time, that its bytes are those of a line, and what the string is as a token.
+use Rattle.std.specs.Prelude.{Some, None}
 use Rattle.listing_rules.proofs.Prelude.{◌∙◌, ◌≡◌, ap, refl, sym, Bool, ◌&&◌, ◌||◌, cond, false, false≢true, not, true, Option, none, some, List, []}
 use Rattle.listing_rules.proofs.Prelude.{◌∷◌, ◌+◌, ◌-◌, ◌<◌, ◌≤◌, suc, ℕ, add-zero, add-one, arith, eqb, drop, drop_of_length-le, get_or, length, take}
 use Rattle.listing_rules.proofs.Prelude.{drop-cons, drop-drop, eqb-true}
 use Rattle.listing_rules.specs.Bytes.{quote, backslash, within, all}
 use Rattle.listing_rules.specs.Tokens.{Got, got, ◌>>=◌, with_first, unquoted, line_byte, quoted_text}
 use Rattle.command_tokens.specs.declared.tokens.Quote.TheVariants.{More, End, Bad}
-use Rattle.command_tokens.specs.declared.Token.TheVariants.{Found, Missing}
 use Rattle.command_tokens.specs.Spans.{plain, raw_bytes, span_bytes}
 use Rattle.command_tokens.specs.Tokens.{token_is, quoted_step, closing, closed_at}
 
 module _ (s : List ℕ) (b i : ℕ) (esc : Bool) where
   -- the line ends before the string does
-  pub quoted_out : length s ≤ i → closed_at b i (closing esc (drop i s)) ≡ Missing
+  pub quoted_out : length s ≤ i → closed_at b i (closing esc (drop i s)) ≡ None
   unfolding closing closed_at
   quoted_out h = rw (drop_of_length-le s h)
 
@@ -24,11 +24,11 @@ module _ (s : List ℕ) (b i : ℕ) (esc : Bool) where
         one_more none = refl
         one_more (some k) = let w : i + suc k ≡ suc i + k = omega arith in rw w
 
-    pub quoted_end : quoted_step esc (get_or s i 0) ≡ End → closed_at b i (closing esc (drop i s)) ≡ Found (record { start = b; end = i; quoted = true }) (record { at = i + 1 })
+    pub quoted_end : quoted_step esc (get_or s i 0) ≡ End → closed_at b i (closing esc (drop i s)) ≡ Some ((record { start = b; end = i; quoted = true }), (record { at = i + 1 }))
     unfolding closing closed_at
     quoted_end q = rw (drop-cons s i 0 h, q, closing, add-zero)
 
-    pub quoted_bad : quoted_step esc (get_or s i 0) ≡ Bad → closed_at b i (closing esc (drop i s)) ≡ Missing
+    pub quoted_bad : quoted_step esc (get_or s i 0) ≡ Bad → closed_at b i (closing esc (drop i s)) ≡ None
     unfolding closing closed_at
     quoted_bad q = rw (drop-cons s i 0 h, q, closing)
 

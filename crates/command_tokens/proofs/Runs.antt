@@ -1,6 +1,8 @@
--- Laws of runs: how `runEnd` moves by one byte, and what a run is as a token.
-use Rattle.listing_rules.proofs.Prelude.{◌∙◌, ◌≡◌, ap, refl, sym, Bool, cond, false, true, none, some, List, [], ◌++◌, ◌∷◌, ◌+◌, ◌-◌, ◌<◌, ◌≤◌, suc}
-use Rattle.listing_rules.proofs.Prelude.{ℕ, add-one, arith, drop, drop_of_length-le, get_or, length, take, drop_at, drop-cons, drop-drop, take_at}
+-- Laws of runs: where a run ends, and what it is as a token.
+use Rattle.std.specs.List.{prefix_len, take_while}
+use Rattle.std.proofs.lemmas.List.Sums.{take_while-cons}
+use Rattle.listing_rules.proofs.Prelude.{◌∙◌, ◌≡◌, ap, refl, sym, Bool, cond, false, true, none, some, List, [], ◌++◌, ◌∷◌, ◌+◌, ◌-◌, ◌<◌, ◌≤◌}
+use Rattle.listing_rules.proofs.Prelude.{ℕ, arith, drop, length, length-drop, length-take, take, drop_at, drop-drop, take_at}
 use Rattle.listing_rules.specs.Bytes.{is_empty}
 use Rattle.listing_rules.specs.Tokens.{Got, got, with_first, run, run₁, unless_empty}
 use Rattle.listing_rules.proofs.TokenLaws.{run_split}
@@ -8,28 +10,22 @@ use Rattle.command_tokens.specs.Spans.{raw_bytes}
 use Rattle.command_tokens.specs.Tokens.{run_end}
 
 module _ (p : ℕ → Bool) where
-  run_yes : (x : ℕ) (xs : List ℕ) → p x ≡ true → length (run p (x ∷ xs)).val ≡ suc (length (run p xs).val)
+  -- the run is what `take_while` takes
+  run_taken : (t : List ℕ) → (run p t).val ≡ take_while p t
   unfolding run with_first got
-  run_yes x xs e = rw e
+  run_taken [] = refl
+  run_taken (x ∷ xs) = go (p x) (run_taken xs) ∙ sym (take_while-cons p x xs)
+    where
+      go : (o : Bool) → (run p xs).val ≡ take_while p xs →
+          (cond o (got (x ∷ (run p xs).val) (run p xs).rest) (got [] (x ∷ xs))).val ≡ cond o (x ∷ take_while p xs) []
+      go true e = ap (λ (v : List ℕ). x ∷ v) e
+      go false e = refl
 
-  run_no : (x : ℕ) (xs : List ℕ) → p x ≡ false → length (run p (x ∷ xs)).val ≡ 0
-  unfolding run got
-  run_no x xs e = rw e
-
-  -- a byte that passes is stepped over
-  pub run_step : (s : List ℕ) (i : ℕ) → i < length s → p (get_or s i 0) ≡ true → run_end p s (i + 1) ≡ run_end p s i
+  -- it ends as far on as it has bytes, which lie inside the line
+  pub run_counted : (s : List ℕ) (at : ℕ) → (run_end p s at ≡ at + length (take_while p (drop at s))) × (length (take_while p (drop at s)) ≤ length s - at)
   unfolding run_end
-  run_step s i h e = rw (add-one, drop-cons s i 0 h, run_yes (get_or s i 0) (drop (suc i) s) e) (omega arith)
-
-  -- a byte that does not pass ends the run
-  pub run_stop : (s : List ℕ) (i : ℕ) → i < length s → p (get_or s i 0) ≡ false → run_end p s i ≡ i
-  unfolding run_end
-  run_stop s i h e = rw (drop-cons s i 0 h, run_no (get_or s i 0) (drop (suc i) s) e) (omega arith)
-
-  -- the end of the line ends the run
-  pub run_out : (s : List ℕ) (i : ℕ) → length s ≤ i → run_end p s i ≡ i
-  unfolding run_end run got
-  run_out s i h = rw (drop_of_length-le s h) (omega arith)
+  run_counted s at =
+      (ap (λ (v : List ℕ). at + length v) (run_taken (drop at s)), omega (arith, length-take (prefix_len p (drop at s)) (drop at s), length-drop at s))
 
   -- an empty run is none
   pub run_missing : (s : List ℕ) (at : ℕ) → run_end p s at ≡ at → run₁ p (drop at s) ≡ none

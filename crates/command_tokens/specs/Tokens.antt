@@ -1,14 +1,11 @@
 -- What the cursor's methods answer, in the terms of document 01: a token is its bytes and what is left of the line behind it.
+use Rattle.std.specs.Prelude.{Option as Maybe, Some, None}
 use Rattle.std.specs.Prelude.{◌≡◌, Bool, true, false, cond, ◌||◌, List, [], ◌∷◌, ℕ, suc, ◌+◌, ◌≤◌, ◌<◌, eqb, length, drop}
 use Rattle.std.proofs.Math.Option.{Option, none, some}
 use Rattle.listing_rules.specs.Bytes.{text}
 use Rattle.listing_rules.specs.Tokens.{Got, got, ◌>>=◌, after, astring, run, tag_byte, atom_byte, astring_byte, pattern_byte, digit_byte, line_byte}
 use Rattle.command_tokens.specs.declared.Span.{Span}
 use Rattle.command_tokens.specs.declared.Cursor.{Cursor}
-use Rattle.command_tokens.specs.declared.Token.{Token}
-use Rattle.command_tokens.specs.declared.Token.TheVariants.{Found, Missing}
-use Rattle.command_tokens.specs.declared.Behind.{Behind}
-use Rattle.command_tokens.specs.declared.Behind.TheVariants.{At, Nothing}
 use Rattle.command_tokens.specs.declared.tokens.Class.{Class}
 use Rattle.command_tokens.specs.declared.tokens.Class.TheVariants.{Tag, Atom, Astring, Pattern, Digit}
 use Rattle.command_tokens.specs.declared.tokens.Quote.{Quote}
@@ -24,14 +21,14 @@ class_byte Pattern = pattern_byte
 class_byte Digit = digit_byte
 
 -- a token as the paper reads it
-unfoldable pub token_is : List ℕ → Token → Option (Got (List ℕ))
-token_is s (Found t c) = some (got (span_bytes s t) (drop c.at s))
-token_is s Missing = none
+unfoldable pub token_is : List ℕ → Maybe (Span × Cursor) → Option (Got (List ℕ))
+token_is s (Some (t, c)) = some (got (span_bytes s t) (drop c.at s))
+token_is s None = none
 
 -- what is left of the line, as the paper has it
-unfoldable pub behind_is : List ℕ → Behind → Option (List ℕ)
-behind_is s (At c) = some (drop c.at s)
-behind_is s Nothing = none
+unfoldable pub behind_is : List ℕ → Maybe Cursor → Option (List ℕ)
+behind_is s (Some c) = some (drop c.at s)
+behind_is s None = none
 
 -- a token read at `at`: it ends further on, inside the line
 pub record Ahead (s : List ℕ) (at : ℕ) (t : Span) (c : Cursor) : Type 0 where
@@ -40,9 +37,9 @@ pub record Ahead (s : List ℕ) (at : ℕ) (t : Span) (c : Cursor) : Type 0 wher
   pub past : at < c.at
   pub inside : c.at ≤ length s
 
-unfoldable pub TokenIn : List ℕ → ℕ → Token → Type 0
-TokenIn s at (Found t c) = Ahead s at t c
-TokenIn s at Missing = Unit {0}
+unfoldable pub TokenIn : List ℕ → ℕ → Maybe (Span × Cursor) → Type 0
+TokenIn s at (Some (t, c)) = Ahead s at t c
+TokenIn s at None = Unit {0}
 
 -- a token that is not quoted: it begins where it was read
 pub record Bare (s : List ℕ) (at : ℕ) (t : Span) (c : Cursor) : Type 0 where
@@ -50,13 +47,13 @@ pub record Bare (s : List ℕ) (at : ℕ) (t : Span) (c : Cursor) : Type 0 where
   pub front : t.start ≡ at
   pub ahead : Ahead s at t c
 
-unfoldable pub BareIn : List ℕ → ℕ → Token → Type 0
-BareIn s at (Found t c) = Bare s at t c
-BareIn s at Missing = Unit {0}
+unfoldable pub BareIn : List ℕ → ℕ → Maybe (Span × Cursor) → Type 0
+BareIn s at (Some (t, c)) = Bare s at t c
+BareIn s at None = Unit {0}
 
-unfoldable pub BehindIn : List ℕ → ℕ → Behind → Type 0
-BehindIn s at (At c) = (at < c.at) × (c.at ≤ length s)
-BehindIn s at Nothing = Unit {0}
+unfoldable pub BehindIn : List ℕ → ℕ → Maybe Cursor → Type 0
+BehindIn s at (Some c) = (at < c.at) × (c.at ≤ length s)
+BehindIn s at None = Unit {0}
 
 -- the place behind the longest run of bytes that pass the test
 unfoldable pub run_end : (ℕ → Bool) → List ℕ → ℕ → ℕ
@@ -74,9 +71,9 @@ closing esc [] = none
 closing esc (x ∷ xs) = elim (quoted_step esc x) [ More e ↦ (closing e xs >>= λ k. some (suc k)) | End ↦ some 0 | Bad ↦ none ]
 
 -- the token of a quoted string that began at `b`, of which `i` is the next place
-unfoldable pub closed_at : ℕ → ℕ → Option ℕ → Token
-closed_at b i none = Missing
-closed_at b i (some k) = Found (record { start = b; end = i + k; quoted = true }) (record { at = i + k + 1 })
+unfoldable pub closed_at : ℕ → ℕ → Option ℕ → Maybe (Span × Cursor)
+closed_at b i none = None
+closed_at b i (some k) = Some ((record { start = b; end = i + k; quoted = true }), (record { at = i + k + 1 }))
 
 -- "a space and the reference (astring)"
 unfoldable pub argument : List ℕ → Option (Got (List ℕ))

@@ -13,6 +13,8 @@ pub use spans::{put_span, raw, span_len};
 
 // A part of the line, from start up to end. The span of a quoted string is what stands between its quotes, escapes and all; that of a
 // literal is its bytes after the header.
+//
+// `quoted` is a flag, as an enum would be no plainer: both kinds have the same two places, and differ in their escapes alone.
 #[derive(Clone, Copy)]
 pub struct Span {
     pub start: usize,
@@ -24,20 +26,6 @@ pub struct Span {
 #[derive(Clone, Copy)]
 pub struct Cursor {
     pub at: usize,
-}
-
-// A token and the cursor after it.
-#[derive(Clone, Copy)]
-pub enum Token {
-    Found(Span, Cursor),
-    Missing,
-}
-
-// The cursor after something that is not kept: a space, a parenthesis, an option's value.
-#[derive(Clone, Copy)]
-pub enum Behind {
-    At(Cursor),
-    Nothing,
 }
 
 impl Span {

@@ -8,7 +8,7 @@ ghost use Rattle.command_tokens.specs.Tokens.{token_is, behind_is, TokenIn, Behi
 
 use crate::spans::raw;
 use crate::tokens::Class;
-use crate::{Behind, Cursor, Span, Token};
+use crate::{Cursor, Span};
 use command_shape::{MAX_LITERAL, with_digit};
 use octets::{CR, LF};
 
@@ -16,56 +16,46 @@ use octets::{CR, LF};
 fn number(digits: &[u8]) -> usize
     ensures { result ≡ min (decimal 0 digits.now) 1025 }
 {
-    let mut n: usize = 0;
-    let mut i = 0;
-    while i < digits.len() {
-        n = with_digit(n, digits[i]);
-        i += 1;
+    let mut n = 0;
+    for digit in digits {
+        n = with_digit(n, *digit);
     }
     n
 }
 
 impl Cursor {
     // "}" CR LF
-    fn header_end(self, text: &[u8]) -> Behind
+    fn header_end(self, text: &[u8]) -> Option<Cursor>
         ensures result_value { behind_is text.now result ≡ after (spelled "}" ++ crlf) (drop self.at text.now) }
         ensures behind_in { BehindIn text.now self.at result }
     {
-        let Behind::At(second) = self.byte(text, b'}') else {
-            return Behind::Nothing;
-        };
-        let Behind::At(third) = second.byte(text, CR) else {
-            return Behind::Nothing;
-        };
+        let second = self.byte(text, b'}')?;
+        let third = second.byte(text, CR)?;
         third.byte(text, LF)
     }
 
     // 1*digit "}" CR LF *byte, after the opening brace; as many bytes as the number says
-    pub(crate) fn literal(self, text: &[u8]) -> Token
+    pub(crate) fn literal(self, text: &[u8]) -> Option<(Span, Cursor)>
         ensures result_value { token_is text.now result ≡ literal (drop self.at text.now) }
         ensures token_in { TokenIn text.now self.at result }
     {
-        let Token::Found(digits, behind) = self.run(text, Class::Digit) else {
-            return Token::Missing;
-        };
+        let (digits, behind) = self.run(text, Class::Digit)?;
         let size = number(raw(text, digits));
-        let Behind::At(first) = behind.header_end(text) else {
-            return Token::Missing;
-        };
+        let first = behind.header_end(text)?;
         if MAX_LITERAL < size {
-            return Token::Missing;
+            return None;
         }
         let start = first.at;
         if text.len() - start < size {
-            return Token::Missing;
+            return None;
         }
-        Token::Found(
+        Some((
             Span {
                 start,
                 end: start + size,
                 quoted: false,
             },
             Cursor { at: start + size },
-        )
+        ))
     }
 }

@@ -11,18 +11,8 @@ use octets::{BACKSLASH, put, put_all};
 pub fn raw(text: &[u8], span: Span) -> &[u8]
     ensures { result.now ≡ raw_bytes text.now span }
 {
-    let start = span.start;
-    let end = span.end;
-    let n = text.len();
-    if n < end {
-        if n < start {
-            return &text[n..];
-        }
-        return &text[start..];
-    }
-    if end < start {
-        return &text[n..];
-    }
+    let end = span.end.min(text.len());
+    let start = span.start.min(end);
     &text[start..end]
 }
 
@@ -30,17 +20,12 @@ pub fn raw(text: &[u8], span: Span) -> &[u8]
 fn plain_len(s: &[u8]) -> usize
     ensures { result ≡ length (plain false s.now) }
 {
-    let mut n: usize = 0;
-    let mut i = 0;
+    let mut n = 0;
     let mut escaped = false;
-    while i < s.len() {
-        if !escaped & (s[i] == BACKSLASH) {
-            escaped = true;
-            i += 1;
-        } else {
+    for b in s {
+        escaped = !escaped & (*b == BACKSLASH);
+        if !escaped {
             n += 1;
-            escaped = false;
-            i += 1;
         }
     }
     n
@@ -62,16 +47,11 @@ fn put_plain(buf: &mut [u8], at: usize, s: &[u8]) -> usize
     ensures { Put buf.old buf.new at (plain false s.now) result }
 {
     let mut to = at;
-    let mut i = 0;
     let mut escaped = false;
-    while i < s.len() {
-        if !escaped & (s[i] == BACKSLASH) {
-            escaped = true;
-            i += 1;
-        } else {
-            to = put(buf, to, s[i]);
-            escaped = false;
-            i += 1;
+    for b in s {
+        escaped = !escaped & (*b == BACKSLASH);
+        if !escaped {
+            to = put(buf, to, *b);
         }
     }
     to

@@ -8,7 +8,7 @@ ghost use Rattle.listing_rules.specs.Bytes.{text as spelled};
 ghost use Rattle.listing_rules.specs.Tokens.{after, run₁, atom, quoted_text, string_or, astring, pattern, atom_byte, tag_byte};
 ghost use Rattle.command_tokens.specs.Tokens.{class_byte, token_is, behind_is, TokenIn, BareIn, BehindIn, quoted_step, argument};
 
-use crate::{Behind, Cursor, Span, Token};
+use crate::{Cursor, Span};
 use command_shape::{is_digit, is_line_byte};
 use octets::{BACKSLASH, QUOTE, byte_at};
 
@@ -26,15 +26,7 @@ pub(crate) enum Class {
 fn is_atom(b: u8) -> bool
     ensures { result ≡ atom_byte b }
 {
-    let special = (b == b'(')
-        | (b == b')')
-        | (b == b'{')
-        | (b == b'%')
-        | (b == b'*')
-        | (b == QUOTE)
-        | (b == BACKSLASH)
-        | (b == b']');
-    (0x21 <= b) & (b <= 0x7E) & !special
+    b.is_ascii_graphic() & !b"(){%*\"\\]".contains(&b)
 }
 
 impl Class {
@@ -47,7 +39,7 @@ impl Class {
             Class::Tag => (is_atom(b) | (b == b']')) & !(b == b'+'),
             Class::Atom => is_atom(b),
             Class::Astring => is_atom(b) | (b == b']'),
-            Class::Pattern => is_atom(b) | (b == b']') | (b == b'%') | (b == b'*'),
+            Class::Pattern => is_atom(b) | b"]%*".contains(&b),
             Class::Digit => is_digit(b),
         }
     }
@@ -71,80 +63,69 @@ fn quoted_step(escaped: bool, b: u8) -> Quote
         } else {
             Quote::Bad
         }
+    } else if b == QUOTE {
+        Quote::End
+    } else if is_line_byte(b) {
+        Quote::More(b == BACKSLASH)
     } else {
-        if b == QUOTE {
-            Quote::End
-        } else {
-            if is_line_byte(b) {
-                Quote::More(b == BACKSLASH)
-            } else {
-                Quote::Bad
-            }
-        }
+        Quote::Bad
     }
 }
 
 impl Cursor {
     // 1*byte: the longest run of bytes of the class
-    pub(crate) fn run(self, text: &[u8], class: Class) -> Token
+    pub(crate) fn run(self, text: &[u8], class: Class) -> Option<(Span, Cursor)>
         ensures result_value { token_is text.now result ≡ run₁ (class_byte class) (drop self.at text.now) }
         ensures bare_in { BareIn text.now self.at result }
     {
-        let at = self.at;
-        let mut i = at;
-        while i < text.len() {
-            if !class.holds(text[i]) {
-                break;
-            }
-            i += 1;
+        let start = self.at;
+        let length = text
+            .iter()
+            .skip(start)
+            .take_while(|b| class.holds(**b))
+            .count();
+        if length == 0 {
+            return None;
         }
-        if i == at {
-            return Token::Missing;
-        }
-        Token::Found(
+        let end = start + length;
+        Some((
             Span {
-                start: at,
-                end: i,
+                start,
+                end,
                 quoted: false,
             },
-            Cursor { at: i },
-        )
+            Cursor { at: end },
+        ))
     }
 
     // *(line-byte / "\" (QUOTE / "\")) QUOTE, after the first quote
-    fn quoted(self, text: &[u8]) -> Token
+    fn quoted(self, text: &[u8]) -> Option<(Span, Cursor)>
         ensures result_value { token_is text.now result ≡ quoted_text (drop self.at text.now) }
         ensures token_in { TokenIn text.now self.at result }
     {
-        let at = self.at;
-        let mut i = at;
+        let start = self.at;
         let mut escaped = false;
-        while i < text.len() {
-            match quoted_step(escaped, text[i]) {
+        for end in start..text.len() {
+            match quoted_step(escaped, text[end]) {
+                Quote::More(e) => escaped = e,
                 Quote::End => {
-                    return Token::Found(
+                    return Some((
                         Span {
-                            start: at,
-                            end: i,
+                            start,
+                            end,
                             quoted: true,
                         },
-                        Cursor { at: i + 1 },
-                    );
+                        Cursor { at: end + 1 },
+                    ));
                 }
-                Quote::Bad => {
-                    return Token::Missing;
-                }
-                Quote::More(e) => {
-                    escaped = e;
-                }
+                Quote::Bad => return None,
             }
-            i += 1;
         }
-        Token::Missing
+        None
     }
 
     // quoted / literal / 1*byte
-    fn string_or(self, text: &[u8], class: Class) -> Token
+    fn string_or(self, text: &[u8], class: Class) -> Option<(Span, Cursor)>
         ensures result_value { token_is text.now result ≡ string_or (class_byte class) (drop self.at text.now) }
         ensures token_in { TokenIn text.now self.at result }
     {
@@ -161,8 +142,10 @@ impl Cursor {
         self.run(text, class)
     }
 
+    // A method for each token stays over `run` and `string_or`: other crates call them, and each promises a rule of document 01.
+
     // tag = 1*(atom-byte / "]"), no "+"
-    pub fn tag(self, text: &[u8]) -> Token
+    pub fn tag(self, text: &[u8]) -> Option<(Span, Cursor)>
         ensures result_value { token_is text.now result ≡ run₁ tag_byte (drop self.at text.now) }
         ensures bare_in { BareIn text.now self.at result }
     {
@@ -170,7 +153,7 @@ impl Cursor {
     }
 
     // atom = 1*atom-byte; the word of a command is one too
-    pub fn atom(self, text: &[u8]) -> Token
+    pub fn atom(self, text: &[u8]) -> Option<(Span, Cursor)>
         ensures result_value { token_is text.now result ≡ atom (drop self.at text.now) }
         ensures bare_in { BareIn text.now self.at result }
     {
@@ -178,7 +161,7 @@ impl Cursor {
     }
 
     // astring = quoted / literal / 1*(atom-byte / "]")
-    pub(crate) fn astring(self, text: &[u8]) -> Token
+    pub(crate) fn astring(self, text: &[u8]) -> Option<(Span, Cursor)>
         ensures result_value { token_is text.now result ≡ astring (drop self.at text.now) }
         ensures token_in { TokenIn text.now self.at result }
     {
@@ -186,7 +169,7 @@ impl Cursor {
     }
 
     // pattern = quoted / literal / 1*(atom-byte / "]" / "%" / "*")
-    pub fn pattern(self, text: &[u8]) -> Token
+    pub fn pattern(self, text: &[u8]) -> Option<(Span, Cursor)>
         ensures result_value { token_is text.now result ≡ pattern (drop self.at text.now) }
         ensures token_in { TokenIn text.now self.at result }
     {
@@ -194,22 +177,16 @@ impl Cursor {
     }
 
     // one given byte
-    pub(crate) fn byte(self, text: &[u8], b: u8) -> Behind
+    pub(crate) fn byte(self, text: &[u8], b: u8) -> Option<Cursor>
         ensures result_value { behind_is text.now result ≡ after (b ∷ []) (drop self.at text.now) }
         ensures behind_in { BehindIn text.now self.at result }
     {
-        let at = self.at;
-        if text.len() <= at {
-            return Behind::Nothing;
-        }
-        if text[at] == b {
-            return Behind::At(Cursor { at: at + 1 });
-        }
-        Behind::Nothing
+        let here = *text.get(self.at)?;
+        (here == b).then_some(Cursor { at: self.at + 1 })
     }
 
     // SP
-    pub fn space(self, text: &[u8]) -> Behind
+    pub fn space(self, text: &[u8]) -> Option<Cursor>
         ensures result_value { behind_is text.now result ≡ after (spelled " ") (drop self.at text.now) }
         ensures behind_in { BehindIn text.now self.at result }
     {
@@ -217,24 +194,20 @@ impl Cursor {
     }
 
     // SP "("
-    pub fn opening(self, text: &[u8]) -> Behind
+    pub fn opening(self, text: &[u8]) -> Option<Cursor>
         ensures result_value { behind_is text.now result ≡ after (spelled " (") (drop self.at text.now) }
         ensures behind_in { BehindIn text.now self.at result }
     {
-        let Behind::At(next) = self.byte(text, b' ') else {
-            return Behind::Nothing;
-        };
+        let next = self.byte(text, b' ')?;
         next.byte(text, b'(')
     }
 
     // SP astring: the reference of LIST
-    pub fn argument(self, text: &[u8]) -> Token
+    pub fn argument(self, text: &[u8]) -> Option<(Span, Cursor)>
         ensures result_value { token_is text.now result ≡ argument (drop self.at text.now) }
         ensures token_in { TokenIn text.now self.at result }
     {
-        let Behind::At(next) = self.space(text) else {
-            return Token::Missing;
-        };
+        let next = self.space(text)?;
         next.astring(text)
     }
 }

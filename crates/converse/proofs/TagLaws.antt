@@ -1,124 +1,55 @@
--- The tag of a line by its length: what the code's tests say of it.
-use Rattle.listing_rules.proofs.Prelude.{◌∙◌, ◌≡◌, ap, refl, sym, Bool, ◌||◌, cond, false, true, none, some, List, [], ◌∷◌, ℕ, suc, zero}
-use Rattle.listing_rules.proofs.Prelude.{◌+◌, ◌-◌, ◌≤◌, ◌<◌, ◌^◌, min, eqb, length, take, drop, get_or, get_or-drop, ne_eqb, eq-eqb, arith, option_some_injective, sub-zero}
-use Rattle.listing_rules.specs.Bytes.{crlf, is_empty}
-use Rattle.listing_rules.specs.Tokens.{Got, got, at, after, tag_byte, run₁, unless_empty, run}
+-- The tag of a line: what the code's tests say of it.
+use Rattle.std.specs.Prelude.{Option as Maybe, Some}
+use Rattle.std.specs.List.{starts_with}
+use Rattle.listing_rules.proofs.Prelude.{◌∙◌, ◌≡◌, ap, refl, Bool, ◌||◌, ◌&&◌, and-true, cond, false, true, Option, none, some, List, [], ◌∷◌, ℕ}
+use Rattle.listing_rules.proofs.Prelude.{◌-◌, arith, eqb, drop, length, length-drop, take, take_all}
+use Rattle.listing_rules.specs.Bytes.{crlf}
+use Rattle.listing_rules.specs.Tokens.{got, at, after, tag_byte, run₁}
 use Rattle.listing_rules.specs.Command.{is_some}
 use Rattle.command_tokens.specs.declared.Span.{Span}
 use Rattle.command_tokens.specs.declared.Cursor.{Cursor}
-use Rattle.command_tokens.specs.declared.Token.{Token}
-use Rattle.command_tokens.specs.declared.Token.TheVariants.{Found}
-use Rattle.command_tokens.specs.Spans.{raw_bytes, span_bytes}
-use Rattle.command_tokens.specs.Tokens.{token_is, Bare, BareIn}
-use Rattle.command_tokens.proofs.Binds.{bare_bytes, bare_ahead}
+use Rattle.command_tokens.specs.Spans.{raw_bytes}
+use Rattle.command_tokens.specs.Tokens.{token_is, BareIn}
+use Rattle.command_tokens.proofs.Binds.{bare_bytes, bare_ahead, token_found}
 use Rattle.conversation.specs.Texts.{no_tag}
 use Rattle.conversation.specs.Conversation.{tag_among, tag_of}
-use Rattle.converse.specs.Tags.{TagIs}
 
 -- no run of tag bytes
-pub tag_missing : (l : List ℕ) → none ≡ run₁ tag_byte l → TagIs l 0
+pub tag_missing : (l : List ℕ) → run₁ tag_byte l ≡ none → tag_of l ≡ no_tag
 unfolding tag_of tag_among
-tag_missing l e = record { inside = omega arith; tag = ap tag_among (sym e) }
+tag_missing l e = ap tag_among e
 
--- a run of one byte or more is not empty
-run₁_full : (p : ℕ → Bool) (t : List ℕ) (g : Got (List ℕ)) → run₁ p t ≡ some g → is_empty g.val ≡ false
-unfolding run₁ unless_empty
-run₁_full p t g e = go (run p t) (is_empty (run p t).val) refl e
+-- a space, or the end of the line
+space_begins : (d : List ℕ) → starts_with eqb d (32 ∷ []) ≡ at 32 d
+unfolding at
+space_begins [] = refl
+space_begins (c ∷ d) = and-true (eqb 32 c)
+
+line_ends : (d : List ℕ) → starts_with eqb d (13 ∷ 10 ∷ []) ≡ is_some (after crlf d)
+unfolding after is_some crlf
+line_ends [] = refl
+line_ends (c ∷ []) = go (eqb 13 c)
   where
-    go : (r : Got (List ℕ)) (b : Bool) → is_empty r.val ≡ b → cond b none (some r) ≡ some g → is_empty g.val ≡ false
-    go r true q e = absurd (Rattle.listing_rules.proofs.Prelude.option_none_ne_some g e)
-    go r false q e = ap (λ (x : Got (List ℕ)). is_empty x.val) (sym (option_some_injective r g e)) ∙ q
-
-full_take : (n : ℕ) (l : List ℕ) → is_empty (take n l) ≡ false → eqb n 0 ≡ false
-unfolding is_empty
-full_take zero l h = absurd (Rattle.listing_rules.proofs.Prelude.false≢true (sym h))
-full_take (suc n) l h = ne_eqb (suc n) 0 (λ e. omega arith)
+    go : (o : Bool) → (o && false) ≡ is_some (cond {A = Option (List ℕ)} o none none)
+    go true = refl
+    go false = refl
+line_ends (c ∷ b ∷ d) = go (eqb 13 c) (eqb 10 b)
+  where
+    go : (o u : Bool) → (o && (u && true)) ≡ is_some (cond {A = Option (List ℕ)} o (cond u (some d) none) none)
+    go true true = refl
+    go true false = refl
+    go false u = refl
 
 -- a run is there; whether it is a tag hangs on what comes after it
-pub tag_found : (l : List ℕ) (r : Token) (t : Span) (c : Cursor) → r ≡ Found t c → token_is l r ≡ run₁ tag_byte l → BareIn l 0 r → (b : Bool)
-    → (at 32 (drop c.at l) || is_some (after crlf (drop c.at l))) ≡ b → (n : ℕ) → n ≡ cond b t.end 0 → TagIs l n
-unfolding tag_of tag_among token_is got
-tag_found l r t c q e h b test n k = go b test n k
-  where
-    bare : Bare l 0 t c
-    bare = bare_ahead l 0 h q
+module _ (l : List ℕ) {r : Maybe (Span × Cursor)} {t : Span} {c : Cursor} (q : r ≡ Some (t, c)) (e : token_is l r ≡ run₁ tag_byte l) (h : BareIn l 0 r) where
+  abbrev behind : List ℕ
+  behind = take (length l - c.at) (drop c.at l)
 
-    read : run₁ tag_byte l ≡ some (got (span_bytes l t) (drop c.at l))
-    read = sym e ∙ ap (token_is l) q
-
-    raw_is : raw_bytes l t ≡ take (t.end - 0) l
-    raw_is = unfold raw_bytes in ap (λ (s : ℕ). take (t.end - s) (drop s l)) bare.front
-
-    bytes : span_bytes l t ≡ take t.end l
-    bytes = bare_bytes l t bare.bare ∙ raw_is ∙ ap (λ (k : ℕ). take k l) (sub-zero t.end)
-
-    full : eqb t.end 0 ≡ false
-    full = full_take t.end l (ap is_empty (sym bytes) ∙ run₁_full tag_byte l (got (span_bytes l t) (drop c.at l)) read)
-
-    tag_is : tag_of l ≡ cond (at 32 (drop c.at l) || is_some (after crlf (drop c.at l))) (span_bytes l t) no_tag
-    tag_is = ap tag_among read
-
-    inside : t.end ≤ length l
-    inside = omega (arith, bare.ahead.within, bare.ahead.inside)
-
-    go : (b : Bool) → (at 32 (drop c.at l) || is_some (after crlf (drop c.at l))) ≡ b → (n : ℕ) → n ≡ cond b t.end 0 → TagIs l n
-    go true test n k =
-        record {
-          inside = omega (arith, inside, k);
-          tag = tag_is ∙ rw (test, k, full) bytes;
-        }
-    go false test n k =
-        record {
-          inside = omega (arith, k);
-          tag = tag_is ∙ rw (test, k);
-        }
-
-pub next_place_lem : (l : List ℕ) (r : Token) (t : Span) (c : Cursor) → r ≡ Found t c → BareIn l 0 r → length l + 1 < 2 ^ 64 → (j : ℕ) →
-    j ≡ min (c.at + 1) (2 ^ 64 - 1) → j ≡ c.at + 1
-next_place_lem l r t c q h fits j e = omega (arith, (bare_ahead l 0 h q).ahead.inside)
-
--- ---- the tests after it
-
-head_is : (l : List ℕ) (i : ℕ) → get_or (drop i l) 0 0 ≡ get_or l i 0
-head_is l i = get_or-drop i l 0 0 ∙ ap (λ (k : ℕ). get_or l k 0) (omega arith)
-
-module _ (l : List ℕ) (i : ℕ) where
-  pub space_there : get_or l i 0 ≡ 32 → (at 32 (drop i l) || is_some (after crlf (drop i l))) ≡ true
-  unfolding at
-  space_there e = go (drop i l) (head_is l i ∙ e)
-    where
-      go : (d : List ℕ) → get_or d 0 0 ≡ 32 → (at 32 d || is_some (after crlf d)) ≡ true
-      go [] q = absurd (omega (arith, q))
-      go (c ∷ d) q = rw (eq-eqb 32 c (sym q))
-
-  pub end_there : (j : ℕ) → j ≡ i + 1 → get_or l i 0 ≡ 13 → get_or l j 0 ≡ 10 → (at 32 (drop i l) || is_some (after crlf (drop i l))) ≡ true
-  unfolding at after is_some crlf
-  end_there j k e f = go (drop i l) (head_is l i ∙ e) (next_is j k ∙ f)
-    where
-      next_is : (j : ℕ) → j ≡ i + 1 → get_or (drop i l) 1 0 ≡ get_or l j 0
-      next_is j k = get_or-drop i l 1 0 ∙ ap (λ (m : ℕ). get_or l m 0) (sym k)
-
-      go : (d : List ℕ) → get_or d 0 0 ≡ 13 → get_or d 1 0 ≡ 10 → (at 32 d || is_some (after (13 ∷ 10 ∷ []) d)) ≡ true
-      go [] q r = absurd (omega (arith, q))
-      go (c ∷ []) q r = absurd (omega (arith, r))
-      go (c ∷ b ∷ d) q r = rw (q, r)
-
-  pub no_end : (get_or l i 0 ≡ 32 → ⊥) → (get_or l i 0 ≡ 13 → ⊥) → (at 32 (drop i l) || is_some (after crlf (drop i l))) ≡ false
-  unfolding at after is_some crlf
-  no_end e f = go (drop i l) (λ q. e (sym (head_is l i) ∙ q)) (λ q. f (sym (head_is l i) ∙ q))
-    where
-      go : (d : List ℕ) → (get_or d 0 0 ≡ 32 → ⊥) → (get_or d 0 0 ≡ 13 → ⊥) → (at 32 d || is_some (after (13 ∷ 10 ∷ []) d)) ≡ false
-      go [] q r = refl
-      go (c ∷ d) q r = rw (ne_eqb 32 c (λ z. q (sym z)), ne_eqb 13 c (λ z. r (sym z)))
-
-  pub no_line : (j : ℕ) → j ≡ i + 1 → get_or l i 0 ≡ 13 → (get_or l j 0 ≡ 10 → ⊥) → (at 32 (drop i l) || is_some (after crlf (drop i l))) ≡ false
-  unfolding at after is_some crlf
-  no_line j k e f = go (drop i l) (head_is l i ∙ e) (λ q. f (sym (next_is j k) ∙ q))
-    where
-      next_is : (j : ℕ) → j ≡ i + 1 → get_or (drop i l) 1 0 ≡ get_or l j 0
-      next_is j k = get_or-drop i l 1 0 ∙ ap (λ (m : ℕ). get_or l m 0) (sym k)
-
-      go : (d : List ℕ) → get_or d 0 0 ≡ 13 → (get_or d 1 0 ≡ 10 → ⊥) → (at 32 d || is_some (after (13 ∷ 10 ∷ []) d)) ≡ false
-      go [] q r = refl
-      go (c ∷ []) q r = rw q
-      go (c ∷ b ∷ d) q r = rw (q, ne_eqb 10 b (λ z. r (sym z)))
+  pub tag_found : {o u : Bool} → o ≡ starts_with eqb behind (32 ∷ []) → u ≡ starts_with eqb behind (13 ∷ 10 ∷ []) → (b : Bool) → (o || u) ≡ b →
+      tag_of l ≡ cond b (raw_bytes l t) no_tag
+  unfolding tag_of tag_among got
+  tag_found {o} {u} i j b k =
+      let all : behind ≡ drop c.at l = take_all (length l - c.at) (drop c.at l) (omega (arith, length-drop c.at l)) in
+      let space : o ≡ at 32 (drop c.at l) = i ∙ ap (λ (x : List ℕ). starts_with eqb x (32 ∷ [])) all ∙ space_begins (drop c.at l) in
+      let end : u ≡ is_some (after crlf (drop c.at l)) = j ∙ ap (λ (x : List ℕ). starts_with eqb x (13 ∷ 10 ∷ [])) all ∙ line_ends (drop c.at l) in
+      ap tag_among (token_found l e q) ∙ rw (← space, ← end, k, bare_bytes l t (bare_ahead l 0 h q).bare)

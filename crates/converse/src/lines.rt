@@ -1,4 +1,5 @@
-// The lines that the server sends beside the library's answers.
+// The lines that the server sends beside the library's answers. The buffer and the place in it stay two parameters, as of octets' `put`,
+// whose promise is made here too.
 
 ghost use Rattle.std.specs.Prelude.{◌≡◌};
 ghost use Rattle.octets.specs.Put.{Put};
@@ -29,7 +30,7 @@ pub fn put_untagged(buf: &mut [u8], at: usize, body: &[u8]) -> usize
     put_all(buf, b, b"\r\n")
 }
 
-// A number below 100 in decimal digits; of any other the last two digits.
+// A number below 100 in decimal digits; of any other the last two digits, where Display has a third one.
 pub(crate) fn put_number(buf: &mut [u8], at: usize, k: u8) -> usize
     ensures { Put buf.old buf.new at (number_text k) result }
 {

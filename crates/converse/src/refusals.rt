@@ -47,7 +47,7 @@ const NO_ROOM: [u8; 83] =
 
 const READER: [u8; 66] = *b"the reader is above 7, or an edit comes from another reader than 0";
 
-// The meaning of a number of refusal.
+// The meaning of a number of refusal; by the number and no `Refusal`, since `put_refusal` promises an answer to any number.
 fn put_meaning(buf: &mut [u8], at: usize, k: u8) -> usize
     ensures { Put buf.old buf.new at (meaning k) result }
 {

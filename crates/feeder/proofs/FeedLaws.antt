@@ -40,9 +40,9 @@ module _ (chunk : List ℕ) (i : ℕ) (m : Machine) (d e : List ℕ) (r : Fed) w
   unfolding feed_from
   feed_stop h f q = rw (drop-cons chunk i 0 h, f.bytes, sym f.answer, loud r.event q)
 
-  pub feed_end : length chunk ≤ i → feed_from i m d (drop i chunk) ≡ outcome m i Quiet d
+  pub feed_end : i ≡ length chunk → feed_from i m d (drop i chunk) ≡ outcome m (length chunk) Quiet d
   unfolding feed_from
-  feed_end h = rw (drop_of_length-le chunk h)
+  feed_end e = let h : length chunk ≤ i = omega arith in rw (drop_of_length-le chunk h) (ap (λ (n : ℕ). outcome m n Quiet d) e)
 
 -- ---- one byte, in document 02's terms
 

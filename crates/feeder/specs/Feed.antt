@@ -2,6 +2,8 @@
 use Rattle.std.specs.Prelude.{◌≡◌, List, [], ◌∷◌, Bool, true, false, cond, ◌&&◌, leb, length, take, set, ℕ, suc, ◌+◌, ◌≤◌, ◌<◌, ◌^◌, ◌-◌, min}
 use Rattle.std.proofs.lemmas.List.Edits.{sets}
 use Rattle.listing_rules.specs.Feeder.{Feeder, reading, in_literal, dropping, Event as Meant, quiet, handed, go_on, denied, fed_byte, feed_all}
+use Rattle.octets.specs.declared.refusals.Refusal.TheVariants.{LineShape}
+use Rattle.octets.specs.Refusals.{number_of}
 use Rattle.command_shape.specs.declared.machine.Machine.{Machine}
 use Rattle.command_shape.specs.declared.machine.Signal.{Signal}
 use Rattle.command_shape.specs.declared.machine.Signal.TheVariants.{Quiet as quietly, GoOn as going_on, Whole, Refused as refusing}
@@ -21,7 +23,7 @@ unfoldable pub event_is : Signal → ℕ → Event
 event_is quietly size = Quiet
 event_is going_on size = GoOn
 event_is Whole size = Command size
-event_is refusing size = Refused 3
+event_is refusing size = Refused LineShape
 
 -- the place of the command's next byte, up to the largest number
 unfoldable pub next_place : ℕ → ℕ
@@ -52,7 +54,7 @@ unfoldable pub is_quiet : Event → Bool
 is_quiet Quiet = true
 is_quiet (Command n) = false
 is_quiet GoOn = false
-is_quiet (Refused k) = false
+is_quiet (Refused e) = false
 is_quiet TooSmall = false
 
 -- the bytes of a chunk behind the first `used` ones, through the first that something comes of, or all
@@ -93,7 +95,7 @@ unfoldable pub events_of : List ℕ → Event → List Meant
 events_of d Quiet = []
 events_of d (Command n) = handed (take n d) ∷ []
 events_of d GoOn = go_on ∷ []
-events_of d (Refused k) = denied k ∷ []
+events_of d (Refused e) = denied (number_of e) ∷ []
 events_of d TooSmall = []
 
 unfoldable pub nothing : Meant → Bool

@@ -10,16 +10,16 @@ ghost use Rattle.listing_rules.specs.Feeder.{go_on_line};
 ghost use Rattle.feeder.specs.Feed.{stored_is, event_is, FedByte, Feeds};
 
 use command_shape::{MAX_COMMAND, Machine, Signal};
-use octets::refusals::LINE_SHAPE;
+use octets::Refusal;
 
 // What comes of bytes: nothing yet; a whole command, so many bytes at the front of the lent memory; that the continuation line is
-// due; a refusal's number. Or that the lent memory is too small.
+// due; a refusal. Or that the lent memory is too small.
 #[derive(Clone, Copy)]
 pub enum Event {
     Quiet,
     Command(usize),
     GoOn,
-    Refused(u8),
+    Refused(Refusal),
     TooSmall,
 }
 
@@ -37,38 +37,29 @@ pub struct Fed {
 pub fn feed(state: Machine, command: &mut [u8], chunk: &[u8]) -> Fed
     ensures { Feeds state command.old command.new chunk.now result }
 {
-    if command.len() < MAX_COMMAND {
+    if command.len() < MAX_COMMAND || MAX_COMMAND < state.size {
         return Fed {
-            state: state,
-            used: 0,
-            event: Event::TooSmall,
-        };
-    }
-    if MAX_COMMAND < state.size {
-        return Fed {
-            state: state,
+            state,
             used: 0,
             event: Event::TooSmall,
         };
     }
     let mut current = state;
-    let mut i = 0;
-    while i < chunk.len() {
-        let fed = feed_byte(current, command, chunk[i]);
-        i += 1;
+    for (i, b) in chunk.iter().enumerate() {
+        let fed = feed_byte(current, command, *b);
         current = fed.state;
         let event = fed.event;
         let Event::Quiet = event else {
             return Fed {
                 state: current,
-                used: i,
-                event: event,
+                used: i + 1,
+                event,
             };
         };
     }
     Fed {
         state: current,
-        used: i,
+        used: chunk.len(),
         event: Event::Quiet,
     }
 }
@@ -90,6 +81,7 @@ fn feed_byte(state: Machine, command: &mut [u8], b: u8) -> Fed
 }
 
 // The byte at its place, where the command takes it.
+#[tactic(auto, unfolding(crate::specs::Feed::stored_is))]
 fn store(state: Machine, command: &mut [u8], b: u8)
     ensures { command.new ≡ stored_is state command.old b }
 {
@@ -101,6 +93,7 @@ fn store(state: Machine, command: &mut [u8], b: u8)
 
 // What comes of a byte, the command's byte of number `size`: "a larger n, a byte 00 anywhere, or a command over 2,048 bytes in all is
 // refused with 3".
+#[tactic(auto, unfolding(crate::specs::Feed::event_is))]
 fn event_of(signal: Signal, size: usize) -> Event
     ensures { result ≡ event_is signal size }
 {
@@ -108,11 +101,12 @@ fn event_of(signal: Signal, size: usize) -> Event
         Signal::Quiet => Event::Quiet,
         Signal::GoOn => Event::GoOn,
         Signal::Whole => Event::Command(size),
-        Signal::Refused => Event::Refused(LINE_SHAPE),
+        Signal::Refused => Event::Refused(Refusal::LineShape),
     }
 }
 
 // "the continuation line `+ go` CR LF".
+#[tactic(auto, unfolding(listing_rules::proofs::Keys::open_bytes, listing_rules::specs::Feeder::go_on_line))]
 pub fn put_go_on(buf: &mut [u8], at: usize) -> usize
     ensures { Put buf.old buf.new at go_on_line result }
 {

@@ -1,13 +1,12 @@
 -- The attributes of a line one by one: what is read, and what is left to read.
-use Rattle.listing_rules.proofs.Prelude.{◌∙◌, ◌≡◌, ap, refl, sym, Bool, false, true, none, some, List, [], ◌++◌, ◌∷◌, append_assoc, append-nil, ◌*◌}
-use Rattle.listing_rules.proofs.Prelude.{◌+◌, ◌<◌, ◌^◌, ◌≤◌, ℕ, pow-suc, add-one, arith, drop, drop_of_length-le, length, length-append}
-use lib.Pow.{pow_mono}
+use Rattle.listing_rules.proofs.Prelude.{◌∙◌, ◌≡◌, ap, refl, sym, Bool, false, true, ◌%◌, none, some, List, [], ◌++◌, ◌∷◌, append_assoc, append-nil, ◌*◌}
+use Rattle.listing_rules.proofs.Prelude.{◌+◌, ◌<◌, ◌^◌, ◌≤◌, ℕ, arith, drop, drop_of_length-le, length, length-append}
 use Rattle.listing_rules.specs.Lines.{attribute_names}
 use Rattle.listing_rules.specs.Tokens.{Got, got, after, with_first}
 use Rattle.listing_rules.specs.LineReader.{separated, read_chosen}
 use Rattle.list_line.specs.Members.{set_of}
 use Rattle.list_line.specs.Names.{name_of}
-use Rattle.list_line.proofs.Members.{set_of_below, set_of_in, set_of_out}
+use Rattle.list_line.proofs.Members.{one_bit, set_of_below, set_of_in, set_of_out}
 use Rattle.list_line.proofs.Writing.{from, from_name_lem}
 use Rattle.line_reader.specs.Parts.{Chooses}
 
@@ -30,50 +29,41 @@ module _ (k : ℕ) (first : Bool) (h : k < 16) (t : List ℕ) where
   chosen_out e = rw (from_name_lem k h, e, read_chosen)
 
 -- the names before name k are read
-pub record Choosing (l : List ℕ) (start at bits member : ℕ) (first : Bool) (k : ℕ) : Type 0 where
+pub record Choosing (l : List ℕ) (start at bits : ℕ) (first : Bool) (k : ℕ) : Type 0 where
   pub turns : k ≤ 16
   pub acc : List Bool
   pub counted : length acc ≡ k
   pub set : bits ≡ set_of acc
-  pub weight : member ≡ 2 ^ k
   pub inside : at ≤ length l
   pub whole : read_chosen true attribute_names (drop start l) ≡ following acc (read_chosen first (from k) (drop at l))
 
-pub choosing_none : (l : List ℕ) (start : ℕ) → start ≤ length l → Choosing l start start 0 1 true 0
+pub choosing_none : (l : List ℕ) (start : ℕ) → start ≤ length l → Choosing l start start 0 true 0
 unfolding set_of following got
-choosing_none l start h = record { turns = omega arith; acc = []; counted = refl; set = refl; weight = refl; inside = h; whole = refl }
+choosing_none l start h = record { turns = omega arith; acc = []; counted = refl; set = refl; inside = h; whole = refl }
 
-module _ {l : List ℕ} {start at bits member : ℕ} {first : Bool} {k : ℕ} (s : Choosing l start at bits member first k) where
-  -- what the numbers are below
-  pub choosing_bits : bits < member
-  choosing_bits = rw (s.set, s.weight) (rw s.counted at (set_of_below s.acc))
+module _ {l : List ℕ} {start at bits : ℕ} {first : Bool} {k : ℕ} (s : Choosing l start at bits first k) where
+  -- what the set is below
+  pub choosing_bits : bits < 2 ^ k
+  choosing_bits = rw s.set (rw s.counted at (set_of_below s.acc))
 
-  pub choosing_member : k < 16 → member ≤ 32768
-  choosing_member h = rw s.weight (pow_mono {i = k} {j = 15} (omega arith))
-
-  pub choosing_fits : bits < 65536
-  choosing_fits = omega (arith, choosing_bits, s.weight, pow_mono {i = k} {j = 16} s.turns)
-
-  pub choosing_in : (j : ℕ) → k < 16 → after (separated first (name_of k)) (drop at l) ≡ some (drop j l) → j ≤ length l → Choosing l start j (bits + member) (member * 2) false (k + 1)
+  pub choosing_in : (j : ℕ) → k < 16 → after (separated first (name_of k)) (drop at l) ≡ some (drop j l) → j ≤ length l → Choosing l start j (bits + 1 * 2 ^ k % 65536) false (k + 1)
   choosing_in j h e g =
       record {
         turns = omega arith;
         acc = s.acc ++ (true ∷ []);
         counted = omega (arith, length-append s.acc (true ∷ []), s.counted);
-        set = rw (set_of_in s.acc, s.set, s.counted, s.weight);
-        weight = rw (s.weight, add-one, pow-suc);
+        set = rw ((one_bit k h).0, set_of_in s.acc, s.set, s.counted);
         inside = g;
         whole = s.whole ∙ rw (chosen_in k first h (drop at l) (drop j l) e) (following_one s.acc true _);
       }
 
-  pub choosing_out : k < 16 → after (separated first (name_of k)) (drop at l) ≡ none → Choosing l start at bits (member * 2) first (k + 1)
+  pub choosing_out : k < 16 → after (separated first (name_of k)) (drop at l) ≡ none → Choosing l start at bits first (k + 1)
   choosing_out h e =
       record {
         turns = omega arith;
         acc = s.acc ++ (false ∷ []);
         counted = omega (arith, length-append s.acc (false ∷ []), s.counted);
         set = rw (set_of_out s.acc) s.set;
-        weight = rw (s.weight, add-one, pow-suc);
         inside = s.inside;
         whole = s.whole ∙ rw (chosen_out k first h (drop at l) e) (following_one s.acc false _);
       }

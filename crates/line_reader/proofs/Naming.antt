@@ -1,4 +1,5 @@
 -- A quoted name byte by byte: what stands next, what is read, and what is left to read.
+use Rattle.std.specs.Prelude.{Some, None}
 use Rattle.listing_rules.proofs.Prelude.{◌∙◌, ◌≡◌, ap, refl, subst, sym, ◌||◌, false, true, ⊎_elim, IsSome, Option, none, some, List, [], ◌++◌}
 use Rattle.listing_rules.proofs.Prelude.{◌∷◌, append_assoc, append-nil, ◌+◌, ◌<◌, ◌≤◌, suc, ℕ, zero-add, add-one, dec_le, arith, eqb}
 use Rattle.listing_rules.proofs.Prelude.{list_get_or_eq_default, drop, drop_of_length-le, get_or, length, length-append, length-set, set, drop-cons, sets}
@@ -8,7 +9,6 @@ use Rattle.listing_rules.specs.Tokens.{Got, got, with_first, unquoted, ◌>>=◌
 use Rattle.octets.proofs.Puts.{either, sets_append}
 use Rattle.line_reader.specs.Parts.{Next, Names}
 use Rattle.line_reader.specs.declared.Piece.TheVariants.{Byte, End, Missing as NoPiece}
-use Rattle.line_reader.specs.declared.Name.TheVariants.{Of, Missing as NoName}
 
 -- what stands at a place
 module _ (l : List ℕ) (i : ℕ) where
@@ -109,19 +109,19 @@ module _ {l : List ℕ} {start : ℕ} {d e : List ℕ} {len i : ℕ} (s : Naming
         whole = one_more b j n;
       }
 
-  pub naming_full : (b j : ℕ) → Next l i (Byte b j) → length e ≤ len → Names l start d e NoName
+  pub naming_full : (b j : ℕ) → Next l i (Byte b j) → length e ≤ len → Names l start d e None
   naming_full b j n h g w =
       let z = afterwards_long (s.acc ++ (b ∷ [])) (unquoted false (drop j l)) g (sym (one_more b j n) ∙ w) in
       omega (arith, z, length-append s.acc (b ∷ []), s.counted, s.long)
 
-  pub naming_end : (j : ℕ) → Next l i (End j) → Names l start d e (Of len j)
+  pub naming_end : (j : ℕ) → Next l i (End j) → Names l start d e (Some (len, j))
   unfolding afterwards ◌>>=◌ got
   naming_end j n = (s.acc, s.whole ∙ rw n.0 done, n.1, sym s.counted, s.room, s.bytes)
     where
       done : afterwards s.acc (some (got [] (drop j l))) ≡ some (got s.acc (drop j l))
       done = rw append-nil
 
-  pub naming_torn : Next l i NoPiece → Names l start d e NoName
+  pub naming_torn : Next l i NoPiece → Names l start d e None
   unfolding afterwards ◌>>=◌
   naming_torn n g w =
       let z : none ≡ some g = sym (s.whole ∙ rw n) ∙ w in

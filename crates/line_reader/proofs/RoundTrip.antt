@@ -1,6 +1,7 @@
 -- The line writer and the reader undo each other, over their own parts: the number of a set of attributes, a name, and the number of a
 -- set of criteria. Rests on the definitions' RoundTrip and on Members of `list_line`.
-use Rattle.listing_rules.proofs.Prelude.{◌∙◌, ◌≡◌, ap, refl, sym, ◌⊎◌, inl, inr, List, ◌++◌, ◌-◌, ◌<◌, ℕ, arith, length, replicate, take}
+use Rattle.std.specs.Prelude.{Option as Maybe, Some, None, Ok, ok_or}
+use Rattle.listing_rules.proofs.Prelude.{◌∙◌, ◌≡◌, ap, refl, subst, sym, ◌⊎◌, inl, inr, List, ◌++◌, ◌-◌, ◌<◌, ℕ, arith, length, replicate, take}
 use Rattle.listing_rules.proofs.Prelude.{take-append_seam}
 use Rattle.listing_rules.specs.Options.{criteria_number}
 use Rattle.listing_rules.specs.Lines.{root_line}
@@ -10,30 +11,27 @@ use Rattle.listing_rules.proofs.Keys.{open_options, open_reader}
 use Rattle.listing_rules.proofs.ReaderWriter.{Taken, read_line_only}
 use Rattle.listing_rules.proofs.RoundTrip.{written_is_read, read_is_written}
 use Rattle.list_line.specs.Members.{members, set_of}
-use Rattle.list_line.specs.declared.attributes.Attributes.{Attributes}
-use Rattle.list_line.specs.declared.criteria.Criteria.{Criteria as CriteriaSet}
 use Rattle.list_line.proofs.Members.{members_set_of, set_of_members, length_members}
-use Rattle.line_reader.specs.Lines.{line_is}
-use Rattle.line_reader.specs.declared.Line.{Line}
-use Rattle.line_reader.specs.declared.Line.TheVariants.{Parts}
+use Rattle.line_reader.specs.Lines.{parts_of, line_is}
+use Rattle.line_reader.specs.declared.Parts.{Parts}
 
--- the code's case of the parts
-abbrev pub parts_case : ℕ → ℕ → ℕ → Line
-parts_case a m k = Parts (record { bits = a }) m (record { bits = k })
+-- these parts: the name in 200 bytes, zero after it
+abbrev pub these_parts : ℕ → List ℕ → ℕ → Parts
+these_parts a n k = record { attributes = record { bits = a }; name = n ++ replicate (200 - length n) 0; len = length n; criteria = record { bits = k } }
 
--- what is read is the case of its parts
-read_case : (r : Read) → read_number r ≡ 0 → line_is r ≡ parts_case (set_of (attributes_read r)) (length (name_read r)) (criteria_number (child_info_of r))
-unfolding line_is read_number attributes_read name_read child_info_of
-read_case (line bs n c) e = refl
-read_case root e = unfold open_reader open_options set_of in refl
-read_case bad e = absurd (omega (arith, e))
+-- what is read has its parts
+read_parts_of : (r : Read) → read_number r ≡ 0 → parts_of r ≡ Some (these_parts (set_of (attributes_read r)) (name_read r) (criteria_number (child_info_of r)))
+unfolding parts_of read_number attributes_read name_read name_bytes child_info_of
+read_parts_of (line bs n c) e = refl
+read_parts_of root e = unfold open_reader open_options set_of in refl
+read_parts_of bad e = absurd (omega (arith, e))
 
--- the code's case of parts is that of a line that was read
-case_read : (r : Read) (a : Attributes) (m : ℕ) (k : CriteriaSet) → line_is r ≡ Parts a m k → read_number r ≡ 0
-unfolding line_is read_number
-case_read (line bs n c) a m k e = refl
-case_read root a m k e = refl
-case_read bad a m k e = absurd (let z : ◌≡◌ {A = ℕ} 0 1 = cc in omega arith)
+-- parts are those of a line that was read
+parts_read : (r : Read) (p : Parts) → parts_of r ≡ Some p → read_number r ≡ 0
+unfolding parts_of read_number
+parts_read (line bs n c) p e = refl
+parts_read root p e = refl
+parts_read bad p e = cc
 
 sixteen_read : (l : List ℕ) → read_number (read_line l) ≡ 0 → length (attributes_read (read_line l)) ≡ 16
 unfolding read_number attributes_read
@@ -44,37 +42,37 @@ sixteen_read l h = go (read_line_only l)
     go (inr (inl w)) = rw w.1 (unfold open_reader in refl)
     go (inr (inr T)) = rw T.is T.sixteen
 
--- the name's 200 bytes begin with the name
-name_front : (r : Read) → take (length (name_read r)) (name_bytes r) ≡ name_read r
-unfolding name_bytes
-name_front r = take-append_seam (name_read r) (replicate (200 - length (name_read r)) 0)
-
 -- What the line writer writes, the reader gives back: the same three parts, the name in 200 bytes, zero after it.
-pub writer_then_reader : (a k : ℕ) (n l : List ℕ) → a < 65536 → line_from (members a) n k ≡ answered l →
-    (line_is (read_line l) ≡ parts_case a (length n) k) × (name_bytes (read_line l) ≡ n ++ replicate (200 - length n) 0)
+pub writer_then_reader : (a k : ℕ) (n l : List ℕ) → a < 65536 → line_from (members a) n k ≡ answered l → line_is (read_line l) ≡ Ok (these_parts a n k)
+unfolding line_is
 writer_then_reader a k n l h e =
     let w = written_is_read (members a) n k l (length_members a) e in
     let is : set_of (attributes_read (read_line l)) ≡ a = ap set_of w.1 ∙ set_of_members a h in
-    (read_case (read_line l) w.0 ∙ (λ i. parts_case (is i) (length (w.2 i)) (w.3 i)), unfold name_bytes in ap (λ (m : List ℕ). m ++ replicate (200 - length m) 0) w.2)
+    let parts : parts_of (read_line l) ≡ Some (these_parts a n k) = read_parts_of (read_line l) w.0 ∙ (λ i. Some (these_parts (is i) (w.2 i) (w.3 i))) in
+    ap (λ (o : Maybe Parts). ok_or {E = ℕ} o 12) parts
 
 -- What the reader takes, the line writer writes again from the parts that the reader gave.
-pub reader_then_writer : (l : List ℕ) (a : Attributes) (m : ℕ) (k : CriteriaSet) → line_is (read_line l) ≡ Parts a m k →
-    line_from (members a.bits) (take m (name_bytes (read_line l))) k.bits ≡ answered l
-reader_then_writer l a m k e = (λ i. line_from (bs i) (name i) (set i)) ∙ read_is_written l read
+pub reader_then_writer : (l : List ℕ) (p : Parts) → line_is (read_line l) ≡ Ok p → line_from (members p.attributes.bits) (take p.len p.name) p.criteria.bits ≡ answered l
+unfolding line_is
+reader_then_writer l p e = subst (λ (q : Parts). line_from (members q.attributes.bits) (take q.len q.name) q.criteria.bits ≡ answered l) same written
   where
+    some_parts : (o : Maybe Parts) → ok_or {E = ℕ} o 12 ≡ Ok p → o ≡ Some p
+    some_parts None f = cc
+    some_parts (Some q) f = cc
+
+    taken : parts_of (read_line l) ≡ Some p
+    taken = some_parts (parts_of (read_line l)) e
+
     read : read_number (read_line l) ≡ 0
-    read = case_read (read_line l) a m k e
+    read = parts_read (read_line l) p taken
 
-    same_case : parts_case (set_of (attributes_read (read_line l))) (length (name_read (read_line l))) (criteria_number (child_info_of (read_line l))) ≡ Parts a m k
-    same_case = sym (read_case (read_line l) read) ∙ e
+    mine : Parts
+    mine = these_parts (set_of (attributes_read (read_line l))) (name_read (read_line l)) (criteria_number (child_info_of (read_line l)))
 
-    bs : members a.bits ≡ attributes_read (read_line l)
-    bs =
-        let w : record { bits = set_of (attributes_read (read_line l)) } ≡ a = cc same_case in sym (ap (λ (x : Attributes). members x.bits) w) ∙
-        members_set_of (attributes_read (read_line l)) (sixteen_read l read)
+    same : mine ≡ p
+    same = let w : Some mine ≡ Some p = sym (read_parts_of (read_line l) read) ∙ taken in cc
 
-    name : take m (name_bytes (read_line l)) ≡ name_read (read_line l)
-    name = let w : length (name_read (read_line l)) ≡ m = cc same_case in sym (ap (λ (j : ℕ). take j (name_bytes (read_line l))) w) ∙ name_front (read_line l)
-
-    set : k.bits ≡ criteria_number (child_info_of (read_line l))
-    set = let w : record { bits = criteria_number (child_info_of (read_line l)) } ≡ k = cc same_case in sym (ap (λ (x : CriteriaSet). x.bits) w)
+    written : line_from (members mine.attributes.bits) (take mine.len mine.name) mine.criteria.bits ≡ answered l
+    written =
+        (λ i. line_from (members_set_of (attributes_read (read_line l)) (sixteen_read l read) i) (take-append_seam (name_read (read_line l)) (replicate (200 - length (name_read (read_line l))) 0) i) (criteria_number (child_info_of (read_line l)))) ∙
+        read_is_written l read

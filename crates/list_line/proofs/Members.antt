@@ -1,7 +1,7 @@
 -- The number of a set and its sixteen members decide each other.
 use Rattle.listing_rules.proofs.Prelude.{◌∙◌, ◌≡◌, ap, refl, sym, Bool, ◌&&◌, cond, false, true, List, [], ◌++◌, ◌∷◌, ◌%◌, ◌*◌, ◌+◌, ◌/◌, ◌<◌, ◌^◌}
 use Rattle.listing_rules.proofs.Prelude.{◌≤◌, suc, zero, ℕ, add-suc, add-zero, div-div-eq-div-mul, div-one, pow-suc, pow-succ', suc-add, zero-add}
-use Rattle.listing_rules.proofs.Prelude.{zero-div, add-one, arith, eqb, drop, drop_of_length-le, get_or, length, length-drop, drop-cons, eq-eqb}
+use Rattle.listing_rules.proofs.Prelude.{zero-div, add-one, arith, eqb, get_or, length, length-take, take, take-suc, eq-eqb}
 use Rattle.listing_rules.proofs.Prelude.{eqb-true, ne_eqb}
 use lib.Pow.{pow_mono}
 use Rattle.listing_rules.specs.Bytes.{bit, is_empty}
@@ -86,23 +86,9 @@ set_of_below [] = omega arith
 set_of_below (true ∷ bs) = omega (arith, set_of_below bs, pow-suc 2 (length bs))
 set_of_below (false ∷ bs) = omega (arith, set_of_below bs, pow-suc 2 (length bs))
 
--- the members from a place on, the one there first
-module _ (bs : List Bool) (k : ℕ) (h : k < length bs) where
-  pub set_of_here : get_or bs k false ≡ true → set_of (drop k bs) ≡ set_of (drop (k + 1) bs) * 2 + 1
-  unfolding set_of
-  set_of_here e = rw (add-one k, drop-cons bs k false h, e) (omega arith)
-
-  pub set_of_not_here : get_or bs k false ≡ false → set_of (drop k bs) ≡ set_of (drop (k + 1) bs) * 2
-  unfolding set_of
-  set_of_not_here e = rw (add-one k, drop-cons bs k false h, e) (omega arith)
-
-pub set_of_none : (bs : List Bool) (k : ℕ) → length bs ≤ k → set_of (drop k bs) ≡ 0
-unfolding set_of
-set_of_none bs k h = rw (drop_of_length-le bs h)
-
--- fewer than sixteen members leave room for one
-pub set_of_room : (bs : List Bool) (k : ℕ) → length bs ≡ 16 → 0 < k → set_of (drop k bs) < 32768
-set_of_room bs k h g = omega (arith, set_of_below (drop k bs), pow_mono {i = length (drop k bs)} {j = 15} (omega (arith, length-drop k bs)))
+-- one bit of sixteen, as the code shifts it
+pub one_bit : (k : ℕ) → k < 16 → (1 * 2 ^ k % 65536 ≡ 2 ^ k) × (2 ^ k ≤ 32768)
+one_bit k h = let p : 2 ^ k ≤ 32768 = pow_mono {i = k} {j = 15} (omega arith) in (omega arith, p)
 
 -- one member more
 pub set_of_in : (bs : List Bool) → set_of (bs ++ (true ∷ [])) ≡ set_of bs + 2 ^ length bs
@@ -114,6 +100,20 @@ pub set_of_out : (bs : List Bool) → set_of (bs ++ (false ∷ [])) ≡ set_of b
 unfolding set_of
 set_of_out [] = refl
 set_of_out (b ∷ bs) = omega (arith, set_of_out bs)
+
+-- the members before a place, and the one there
+module _ (bs : List Bool) (k : ℕ) (h : k < length bs) where
+  before : length (take k bs) ≡ k
+  before = omega (arith, length-take k bs)
+
+  pub set_of_before : set_of (take k bs) < 2 ^ k
+  set_of_before = rw before at (set_of_below (take k bs))
+
+  pub set_of_here : get_or bs k false ≡ true → set_of (take k bs) + 2 ^ k ≡ set_of (take (k + 1) bs)
+  set_of_here e = sym (rw (add-one k, take-suc bs k false h, e, set_of_in, before))
+
+  pub set_of_not_here : get_or bs k false ≡ false → set_of (take k bs) ≡ set_of (take (k + 1) bs)
+  set_of_not_here e = sym (rw (add-one k, take-suc bs k false h, e, set_of_out))
 
 shifted : (x k : ℕ) → x / 2 ^ suc k ≡ x / 2 / 2 ^ k
 shifted x k = rw pow-succ' (sym (div-div-eq-div-mul x 2 (2 ^ k)))

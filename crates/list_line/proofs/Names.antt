@@ -7,6 +7,7 @@ use Rattle.listing_rules.specs.LineReader.{separated}
 use Rattle.listing_rules.proofs.Bools.{and_l, and_r}
 use Rattle.listing_rules.proofs.ListLaws.{same_true}
 use Rattle.list_line.specs.declared.texts.Span.{Span}
+use Rattle.list_line.specs.declared.texts.TheConstants.{NAMES, PLACES}
 use Rattle.list_line.specs.Names.{all_names, name_places, name_of, span_in, NameSpan}
 
 -- the test passes at each number below n
@@ -50,6 +51,15 @@ module _ (k : ℕ) (h : k < 16) where
   span_later : NameSpan k false (record { start = get_or name_places k 0; end = get_or name_places (k + 1) 0 })
   unfolding separated
   span_later = record { order = omega (arith, order); inside = inside; name = behind_space }
+
+-- the code's two tables
+pub names_are : NAMES ≡ all_names
+unfolding open_bytes open_lines all_names
+names_are = refl
+
+pub places_are : PLACES ≡ name_places
+unfolding name_places
+places_are = refl
 
 length_places : length name_places ≡ 17
 unfolding name_places

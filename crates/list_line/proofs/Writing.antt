@@ -1,6 +1,8 @@
 -- The attributes' names one by one, what is written and what is left to write; the line writer's cases.
-use Rattle.listing_rules.proofs.Prelude.{◌∙◌, ◌≡◌, ap, refl, sym, Bool, false, true, List, [], ◌++◌, ◌∷◌, append_assoc, append-nil, ◌%◌, ◌+◌, ◌-◌}
-use Rattle.listing_rules.proofs.Prelude.{◌/◌, ◌<◌, ◌^◌, ◌≤◌, suc, ℕ, add-one, arith, drop, length, drop-cons, eq-eqb, ne_eqb}
+use Rattle.std.specs.Prelude.{Err}
+use Rattle.listing_rules.proofs.Prelude.{◌∙◌, ◌≡◌, ap, refl, sym, Bool, false, true, List, [], ◌++◌, ◌∷◌, append_assoc, append-nil, ◌%◌, ◌+◌}
+use Rattle.listing_rules.proofs.Prelude.{◌/◌, ◌<◌, ◌^◌, ◌≤◌, ℕ, add-one, arith, drop, drop_of_length-le, length, drop-cons, eq-eqb, ne_eqb}
+use Rattle.listing_rules.specs.Bytes.{bit}
 use Rattle.listing_rules.proofs.Keys.{open_bytes}
 use Rattle.listing_rules.specs.Options.{lawful_criteria, criteria_of}
 use Rattle.listing_rules.specs.Lines.{attribute_names, chosen, spaced, spaced_tail, list_line, root_line}
@@ -8,12 +10,13 @@ use Rattle.listing_rules.specs.Names.{lawful_name}
 use Rattle.listing_rules.specs.LineReader.{separated, root_parts, line_from}
 use Rattle.listing_rules.specs.Server.{refusal, answered, limited, buffer_after}
 use Rattle.octets.specs.Put.{Put}
+use Rattle.octets.specs.declared.refusals.Refusal.{Refusal}
+use Rattle.octets.specs.Refusals.{number_of}
 use Rattle.octets.specs.Written.{written_is, Gives}
-use Rattle.octets.specs.declared.Written.TheVariants.{Refused}
 use Rattle.octets.proofs.Puts.{put_none, put_then}
 use Rattle.list_line.specs.Members.{members}
 use Rattle.list_line.specs.Names.{name_of}
-use Rattle.list_line.proofs.Members.{digits, members_digits}
+use Rattle.list_line.proofs.Members.{get_or_members, length_members}
 
 -- the names from name k on
 abbrev pub from : ℕ → List (List ℕ)
@@ -39,57 +42,50 @@ tail_none true = refl
 tail_none false = refl
 
 -- the next name, which is shown or not
-module _ (n k left : ℕ) (first : Bool) (h : k < 16) where
-  name_in_lem : left % 2 ≡ 1 → tail_text first (chosen (digits (suc n) left) (from k)) ≡ separated first (name_of k) ++ tail_text false (chosen (digits n (left / 2)) (from (k + 1)))
-  unfolding digits chosen
-  name_in_lem t = rw (from_name_lem k h, eq-eqb (left % 2) 1 t) (tail_first first (name_of k) (chosen (digits n (left / 2)) (from (k + 1))))
+module _ (bits k : ℕ) (first : Bool) (h : k < 16) where
+  next_member : {o : Bool} → bit k bits ≡ o → drop k (members bits) ≡ o ∷ drop (k + 1) (members bits)
+  next_member e = rw (add-one k, drop-cons (members bits) k false (omega (arith, length_members bits)), get_or_members k bits h, e)
 
-  name_out : (left % 2 ≡ 1 → ⊥) → tail_text first (chosen (digits (suc n) left) (from k)) ≡ tail_text first (chosen (digits n (left / 2)) (from (k + 1)))
-  unfolding digits chosen
-  name_out t = rw (from_name_lem k h, ne_eqb (left % 2) 1 t)
+  name_in_lem : bits / 2 ^ k % 2 ≡ 1 → tail_text first (chosen (drop k (members bits)) (from k)) ≡ separated first (name_of k) ++ tail_text false (chosen (drop (k + 1) (members bits)) (from (k + 1)))
+  unfolding bit chosen
+  name_in_lem t =
+      let e : bit k bits ≡ true = eq-eqb (bits / 2 ^ k % 2) 1 t in
+      rw (from_name_lem k h, next_member e) (tail_first first (name_of k) (chosen (drop (k + 1) (members bits)) (from (k + 1))))
 
--- the names before name k are written, and `count` are left
-pub record Spelled (d e : List ℕ) (at to bits left : ℕ) (first : Bool) (k : ℕ) : Type 0 where
-  pub count : ℕ
-  pub turns : count + k ≡ 16
+  name_out : (bits / 2 ^ k % 2 ≡ 1 → ⊥) → tail_text first (chosen (drop k (members bits)) (from k)) ≡ tail_text first (chosen (drop (k + 1) (members bits)) (from (k + 1)))
+  unfolding bit chosen
+  name_out t = let e : bit k bits ≡ false = ne_eqb (bits / 2 ^ k % 2) 1 t in rw (from_name_lem k h, next_member e)
+
+-- the names before name k are written
+pub record Spelled (d e : List ℕ) (at to bits : ℕ) (first : Bool) (k : ℕ) : Type 0 where
   pub acc : List ℕ
   pub put : Put d e at acc to
-  pub rest : acc ++ tail_text first (chosen (digits count left) (from k)) ≡ spaced (chosen (members bits) attribute_names)
+  pub rest : acc ++ tail_text first (chosen (drop k (members bits)) (from k)) ≡ spaced (chosen (members bits) attribute_names)
 
-pub spelled_none : (d : List ℕ) (at bits : ℕ) → length d + 1 < 2 ^ 64 → at < 2 ^ 64 → Spelled d d at at bits bits true 0
+pub spelled_none : (d : List ℕ) (at bits : ℕ) → length d + 1 < 2 ^ 64 → at < 2 ^ 64 → Spelled d d at at bits true 0
 unfolding tail_text
-spelled_none d at bits h g = record { count = 16; turns = refl; acc = []; put = put_none d at h g; rest = rw members_digits }
+spelled_none d at bits h g = record { acc = []; put = put_none d at h g; rest = refl }
 
-module _ {d e : List ℕ} {at to bits left : ℕ} {first : Bool} {k : ℕ} (s : Spelled d e at to bits left first k) where
-  one_less : k < 16 → suc (s.count - 1) ≡ s.count
-  one_less h = omega (arith, s.turns)
-
-  pub spelled_in : {f : List ℕ} {r : ℕ} → k < 16 → left % 2 ≡ 1 → Put e f to (separated first (name_of k)) r → Spelled d f at r bits (left / 2) false (k + 1)
+module _ {d e : List ℕ} {at to bits : ℕ} {first : Bool} {k : ℕ} (s : Spelled d e at to bits first k) where
+  pub spelled_in : {f : List ℕ} {r : ℕ} → k < 16 → bits / 2 ^ k % 2 ≡ 1 → Put e f to (separated first (name_of k)) r → Spelled d f at r bits false (k + 1)
   spelled_in h t p =
       record {
-        count = s.count - 1;
-        turns = omega (arith, s.turns);
         acc = s.acc ++ separated first (name_of k);
         put = put_then s.put p;
-        rest = append_assoc s.acc _ _ ∙ ap (◌++◌ s.acc) (sym (name_in_lem (s.count - 1) k left first h t)) ∙ rw (one_less h) s.rest;
+        rest = append_assoc s.acc _ _ ∙ ap (◌++◌ s.acc) (sym (name_in_lem bits k first h t)) ∙ s.rest;
       }
 
-  pub spelled_out : k < 16 → (left % 2 ≡ 1 → ⊥) → Spelled d e at to bits (left / 2) first (k + 1)
+  pub spelled_out : k < 16 → (bits / 2 ^ k % 2 ≡ 1 → ⊥) → Spelled d e at to bits first (k + 1)
   spelled_out h t =
       record {
-        count = s.count - 1;
-        turns = omega (arith, s.turns);
         acc = s.acc;
         put = s.put;
-        rest = ap (◌++◌ s.acc) (sym (name_out (s.count - 1) k left first h t)) ∙ rw (one_less h) s.rest;
+        rest = ap (◌++◌ s.acc) (sym (name_out bits k first h t)) ∙ s.rest;
       }
 
   pub spelled_all : 16 ≤ k → Put d e at (spaced (chosen (members bits) attribute_names)) to
-  unfolding digits chosen
-  spelled_all h = rw (← s.rest, none_left, tail_none first, append-nil) s.put
-    where
-      none_left : s.count ≡ 0
-      none_left = omega (arith, s.turns)
+  unfolding chosen
+  spelled_all h = let none_left : length (members bits) ≤ k = omega (arith, length_members bits) in rw (← s.rest, drop_of_length-le (members bits) none_left, tail_none first, append-nil) s.put
 
 pub root_length : length root_line ≡ 27
 unfolding open_bytes root_line
@@ -114,6 +110,6 @@ module _ (bs : List Bool) (n : List ℕ) (k : ℕ) where
   line_other g h p = rw (g, h, p)
 
 -- a refusal has its number and changes no byte
-pub gives_refusal : (d : List ℕ) (k : ℕ) → Gives (refusal k) d d (Refused k)
+pub gives_refusal : (d : List ℕ) (e : Refusal) → Gives (refusal (number_of e)) d d (Err e)
 unfolding limited written_is buffer_after
-gives_refusal d k = (refl, refl)
+gives_refusal d e = (refl, refl)

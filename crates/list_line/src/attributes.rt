@@ -1,12 +1,27 @@
 // The attributes of a LIST line: a set with named members.
 ghost use Rattle.std.specs.Prelude.{◌≡◌};
-ghost use Rattle.octets.specs.Sets.{contains, union};
 ghost use Rattle.list_line.specs.Members.{set_of};
 
+use octets::Members;
+
 // Member k is 2 to the k, in the order of document 01.
-#[derive(Clone, Copy)]
+#[derive(Clone, Copy, PartialEq, Eq)]
 pub struct Attributes {
     pub bits: u16,
+}
+
+impl Members for Attributes {
+    ghost number = { λ s. s.bits };
+
+    ghost width = { 16 };
+
+    fn number(self) -> u16 {
+        self.bits
+    }
+
+    fn of_number(n: u16) -> Attributes {
+        Attributes { bits: n }
+    }
 }
 
 impl Attributes {
@@ -49,30 +64,11 @@ impl Attributes {
         ensures { result.bits ≡ set_of shown }
     {
         let mut bits: u16 = 0;
-        let mut k = 16;
-        while 0 < k {
-            k -= 1;
-            bits = bits * 2;
-            if shown[k] {
-                bits += 1;
+        for (k, is_in) in shown.iter().enumerate() {
+            if *is_in {
+                bits += 1 << k;
             }
         }
         Attributes { bits }
-    }
-
-    // What is in either.
-    pub fn union(self, other: Attributes) -> Attributes
-        ensures { result.bits ≡ union self.bits other.bits }
-    {
-        Attributes {
-            bits: self.bits | other.bits,
-        }
-    }
-
-    // Whether every one of `member` is in.
-    pub fn has(self, member: Attributes) -> bool
-        ensures { result ≡ contains self.bits member.bits }
-    {
-        self.bits & member.bits == member.bits
     }
 }

@@ -1,13 +1,30 @@
 // The criteria that CHILDINFO names: a set with named members.
 ghost use Rattle.std.specs.Prelude.{◌≡◌};
 ghost use Rattle.listing_rules.specs.Options.{is_none, lawful_criteria, criteria_of, criteria_number};
-ghost use Rattle.octets.specs.Sets.{contains, union};
 ghost use Rattle.list_line.specs.CriteriaSets.{these};
+
+use octets::Members;
 
 // Member k is 2 to the k. A set with another bit is not lawful, and no line has it: the line writer refuses it.
 #[derive(Clone, Copy)]
 pub struct Criteria {
     pub bits: u8,
+}
+
+impl Members for Criteria {
+    ghost number = { λ s. s.bits };
+
+    ghost width = { 8 };
+
+    fn number(self) -> u16 {
+        u16::from(self.bits)
+    }
+
+    fn of_number(n: u16) -> Criteria {
+        Criteria {
+            bits: (n % 256) as u8,
+        }
+    }
 }
 
 impl Criteria {
@@ -21,38 +38,20 @@ impl Criteria {
     const ALL: Criteria = Criteria { bits: 3 };
 
     // The set of those that are named.
+    #[tactic(auto, unfolding(listing_rules::specs::Options::criteria_number))]
     pub fn of(subscribed: bool, special: bool) -> Criteria
         ensures { result.bits ≡ criteria_number (these subscribed special) }
     {
-        if subscribed {
-            if special {
-                return Criteria::SUBSCRIBED.union(Criteria::SPECIAL_USE);
-            }
-            return Criteria::SUBSCRIBED;
+        match (subscribed, special) {
+            (true, true) => Criteria::ALL,
+            (true, false) => Criteria::SUBSCRIBED,
+            (false, true) => Criteria::SPECIAL_USE,
+            (false, false) => Criteria::NONE,
         }
-        if special {
-            return Criteria::SPECIAL_USE;
-        }
-        Criteria::NONE
-    }
-
-    // What is in either.
-    pub fn union(self, other: Criteria) -> Criteria
-        ensures { result.bits ≡ union self.bits other.bits }
-    {
-        Criteria {
-            bits: self.bits | other.bits,
-        }
-    }
-
-    // Whether every one of `member` is in.
-    pub fn has(self, member: Criteria) -> bool
-        ensures { result ≡ contains self.bits member.bits }
-    {
-        self.bits & member.bits == member.bits
     }
 
     // Whether it has no members but these two.
+    #[tactic(auto, unfolding(listing_rules::specs::Options::lawful_criteria))]
     pub fn lawful(self) -> bool
         ensures { result ≡ lawful_criteria self.bits }
     {

@@ -2,7 +2,7 @@
 ghost use Rattle.std.specs.Prelude.{◌≡◌};
 ghost use Rattle.list_line.specs.Names.{span_in};
 
-use octets::{byte_at, wide};
+use octets::byte_at;
 
 // How a line begins, for each word.
 pub const LINE_START: [u8; 8] = *b"* LIST (";
@@ -31,12 +31,12 @@ pub(crate) const OK_END: [u8; 10] = *b" OK done\r\n";
 pub const ATTRIBUTE_COUNT: usize = 16;
 
 // The attributes' names in document 01's order, each behind a space.
-pub const NAMES: [u8; 152] =
+pub static NAMES: [u8; 152] =
     *b" \\Marked \\Unmarked \\Noselect \\NoInferiors \\Remote \\Subscribed \\NonExistent \
      \\All \\Archive \\Drafts \\Flagged \\Junk \\Sent \\Trash \\HasChildren \\HasNoChildren";
 
 // Where the space before each name stands, and the end of the last.
-pub const PLACES: [u8; 17] = [
+pub static PLACES: [u8; 17] = [
     0, 8, 18, 28, 41, 49, 61, 74, 79, 88, 96, 105, 111, 117, 124, 137, 152,
 ];
 
@@ -48,15 +48,15 @@ pub struct Span {
 }
 
 // Where attribute k stands in NAMES, by the table PLACES: with the space before it unless it is the first on its line; past the table,
-// nowhere. The table is lent, so that a loop over the attributes makes it once.
+// nowhere.
 pub fn name_span(places: &[u8], k: usize, first: bool) -> Span
     ensures { result ≡ span_in places.now k first }
 {
     if places.len() <= k {
         return Span { start: 0, end: 0 };
     }
-    let start = wide(places[k]);
-    let end = wide(byte_at(places, k + 1));
+    let start = usize::from(places[k]);
+    let end = usize::from(byte_at(places, k + 1));
     if first {
         return Span {
             start: start + 1,

@@ -8,7 +8,6 @@ ghost use Rattle.listing_rules.specs.Server.{answered};
 ghost use Rattle.octets.specs.Put.{Put};
 ghost use Rattle.octets.specs.Written.{Gives};
 ghost use Rattle.list_line.specs.Members.{members};
-ghost use Rattle.list_line.specs.Names.{all_names, name_places};
 ghost use Rattle.list_line.specs.Words.{start_of};
 
 use super::attributes::Attributes;
@@ -16,8 +15,7 @@ use super::criteria::Criteria;
 use super::texts;
 use super::words::LineWord;
 use names::lawful_name;
-use octets::refusals::{NOT_SUCH_LINE, SHORT_BUFFER};
-use octets::{Written, put_all, put_quoted};
+use octets::{Members, Refusal, put_all, put_quoted};
 
 // A line with this word.
 pub fn put_line(
@@ -31,7 +29,7 @@ pub fn put_line(
     ensures { Put buf.old buf.new at
         (word_line (start_of word) (members attributes.bits) name.now (criteria_of criteria.bits)) result }
 {
-    let a = put_start(buf, at, word);
+    let a = put_all(buf, at, &word.start());
     let b = put_attributes(buf, a, attributes.bits);
     let c = put_all(buf, b, &texts::DELIMITER);
     let d = put_quoted(buf, c, name);
@@ -39,6 +37,7 @@ pub fn put_line(
 }
 
 // The root line, which a command with an empty pattern asks for.
+#[tactic(auto, unfolding(listing_rules::proofs::Keys::open_bytes, listing_rules::proofs::Keys::open_lines))]
 pub fn put_root_line(buf: &mut [u8], at: usize) -> usize
     ensures { Put buf.old buf.new at root_line result }
 {
@@ -60,58 +59,33 @@ pub fn write_line(
     name: &[u8],
     criteria: Criteria,
     buf: &mut [u8],
-) -> Written
+) -> Result<usize, Refusal>
     ensures { Gives (line_from (members attributes.bits) name.now criteria.bits) buf.old buf.new result }
 {
     if !criteria.lawful() {
-        return Written::Refused(NOT_SUCH_LINE);
+        return Err(Refusal::NotSuchLine);
     }
     if lawful_name(name) {
         return write_named(attributes, name, criteria, buf);
     }
     if !root_parts(attributes, name, criteria) {
-        return Written::Refused(NOT_SUCH_LINE);
+        return Err(Refusal::NotSuchLine);
     }
     write_root(buf)
-}
-
-// How a line with this word begins.
-fn put_start(buf: &mut [u8], at: usize, word: LineWord) -> usize
-    ensures { Put buf.old buf.new at (start_of word) result }
-{
-    match word {
-        LineWord::List => put_all(buf, at, &texts::LINE_START),
-        LineWord::Lsub => put_all(buf, at, &texts::LSUB_START),
-    }
 }
 
 // The names of the attributes in the set, with one space between two.
 fn put_attributes(buf: &mut [u8], at: usize, bits: u16) -> usize
     ensures { Put buf.old buf.new at (spaced (chosen (members bits) attribute_names)) result }
 {
-    put_chosen(buf, at, bits, &texts::NAMES, &texts::PLACES)
-}
-
-// The same. The tables are lent, so that they are made once and not at each turn.
-fn put_chosen(buf: &mut [u8], at: usize, bits: u16, names: &[u8], places: &[u8]) -> usize
-    requires names_value { names.now ≡ all_names }
-    requires places_value { places.now ≡ name_places }
-    ensures { Put buf.old buf.new at (spaced (chosen (members bits) attribute_names)) result }
-{
     let mut to = at;
-    let mut left = bits;
     let mut first = true;
-    let mut k = 0;
-    while k < texts::ATTRIBUTE_COUNT {
-        if left % 2 == 1 {
-            let span = texts::name_span(places, k, first);
-            let a = span.start;
-            let e = span.end;
-            to = put_all(buf, to, &names[a..e]);
+    for k in 0..texts::ATTRIBUTE_COUNT {
+        if (bits >> k) % 2 == 1 {
+            let span = texts::name_span(&texts::PLACES, k, first);
+            to = put_all(buf, to, &texts::NAMES[span.start..span.end]);
             first = false;
         }
-        left = left / 2;
-        k += 1;
     }
     to
 }
@@ -122,43 +96,44 @@ fn put_line_end(buf: &mut [u8], at: usize, criteria: Criteria) -> usize
 {
     let subscribed = criteria.has(Criteria::SUBSCRIBED);
     let special = criteria.has(Criteria::SPECIAL_USE);
-    if subscribed {
-        if special {
-            return put_all(buf, at, &texts::BOTH_END);
-        }
-        return put_all(buf, at, &texts::SUBSCRIBED_END);
+    match (subscribed, special) {
+        (true, true) => put_all(buf, at, &texts::BOTH_END),
+        (true, false) => put_all(buf, at, &texts::SUBSCRIBED_END),
+        (false, true) => put_all(buf, at, &texts::SPECIAL_USE_END),
+        (false, false) => put_all(buf, at, &texts::PLAIN_END),
     }
-    if special {
-        return put_all(buf, at, &texts::SPECIAL_USE_END);
-    }
-    put_all(buf, at, &texts::PLAIN_END)
 }
 
 // Whether the parts are those of the root line.
 fn root_parts(attributes: Attributes, name: &[u8], criteria: Criteria) -> bool
     ensures { result ≡ root_parts (members attributes.bits) name.now (criteria_of criteria.bits) }
 {
-    (attributes.bits == Attributes::NOSELECT.bits) & (name.len() == 0) & criteria.is_none()
+    (attributes == Attributes::NOSELECT) & name.is_empty() & criteria.is_none()
 }
 
 // A line of a lawful name at the front, if there is room.
-fn write_named(attributes: Attributes, name: &[u8], criteria: Criteria, buf: &mut [u8]) -> Written
+fn write_named(
+    attributes: Attributes,
+    name: &[u8],
+    criteria: Criteria,
+    buf: &mut [u8],
+) -> Result<usize, Refusal>
     ensures { Gives (answered (list_line (members attributes.bits) name.now (criteria_of criteria.bits))) buf.old buf.new result }
 {
     let mut none = [0u8; 0];
     let need = put_line(&mut none, 0, LineWord::List, attributes, name, criteria);
     if buf.len() < need {
-        return Written::Refused(SHORT_BUFFER);
+        return Err(Refusal::ShortBuffer);
     }
-    Written::Done(put_line(buf, 0, LineWord::List, attributes, name, criteria))
+    Ok(put_line(buf, 0, LineWord::List, attributes, name, criteria))
 }
 
 // The root line at the front, if there is room.
-fn write_root(buf: &mut [u8]) -> Written
+fn write_root(buf: &mut [u8]) -> Result<usize, Refusal>
     ensures { Gives (answered root_line) buf.old buf.new result }
 {
     if buf.len() < texts::ROOT_LINE.len() {
-        return Written::Refused(SHORT_BUFFER);
+        return Err(Refusal::ShortBuffer);
     }
-    Written::Done(put_root_line(buf, 0))
+    Ok(put_root_line(buf, 0))
 }

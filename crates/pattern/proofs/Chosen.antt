@@ -1,6 +1,7 @@
 -- Patterns that count, one by one over a packed run. Rests on Packed and Folded.
 use Rattle.listing_rules.proofs.Prelude.{◌∙◌, ◌≡◌, ap, refl, sym, Bool, ◌&&◌, ◌||◌, cond, false, false≢true, not, true, List, [], ◌∷◌, ◌+◌, ◌-◌, ◌<◌}
-use Rattle.listing_rules.proofs.Prelude.{◌≤◌, min, suc, ℕ, arith, eqb, drop, drop_of_length-le, get_or, length, take}
+use Rattle.listing_rules.proofs.Prelude.{◌≤◌, min, suc, ℕ, arith, eqb, drop, drop_of_length-le, get_or, length, take, eqb-false, eqb-true, ne_eqb}
+use Rattle.std.specs.List.{ends_with}
 use Rattle.listing_rules.specs.Bytes.{same}
 use Rattle.listing_rules.specs.Names.{inbox}
 use Rattle.listing_rules.specs.Lists.{any_of, keep}
@@ -13,19 +14,22 @@ use Rattle.pattern.proofs.Folded.{matches_folded}
 use Rattle.pattern.proofs.Packed.{unpacked_next, unpacked_none}
 
 -- the last byte decides
-pub percent_last : (p : List ℕ) → 0 < length p → eqb (get_or p (length p - 1) 0) 37 ≡ ends_in_percent p
+percent_alone : (c : ℕ) → (eqb 37 c && true) ≡ eqb c 37
+percent_alone c = go (eqb c 37) refl
+  where
+    go : (o : Bool) → eqb c 37 ≡ o → (eqb 37 c && true) ≡ o
+    go true e = rw (eqb-true c 37 e)
+    go false e = rw (ne_eqb 37 c (λ f. eqb-false c 37 e (sym f)))
+
+-- as the library compares the end
+pub percent_ends : (p : List ℕ) → ends_with eqb p (37 ∷ []) ≡ ends_in_percent p
 unfolding ends_in_percent
-percent_last [] h = absurd (omega arith)
-percent_last (c ∷ []) h = refl
-percent_last (c ∷ d ∷ t) h =
+percent_ends [] = refl
+percent_ends (c ∷ []) = percent_alone c
+percent_ends (c ∷ d ∷ t) =
     let w : length (c ∷ d ∷ t) - 1 ≡ suc (length t) = omega arith in
     let v : length (d ∷ t) - 1 ≡ length t = omega arith in
-    rw w (rw v at (percent_last (d ∷ t) (omega arith)))
-
-pub percent_none : (p : List ℕ) → length p ≡ 0 → ends_in_percent p ≡ false
-unfolding ends_in_percent
-percent_none [] h = refl
-percent_none (c ∷ p) h = absurd (omega arith)
+    rw w (rw v at (percent_ends (d ∷ t)))
 
 -- without levels all patterns count, with them those that end in "%"
 pub chosen_all : (ps : List (List ℕ)) → chosen false ps ≡ ps

@@ -111,62 +111,41 @@ impl Front {
     }
 
     // Whether the next step is none of these.
+    #[tactic(auto, unfolding(crate::specs::Steps::front_ends))]
     pub(crate) fn ends(self) -> bool
         ensures { result ≡ front_ends self.next }
     {
-        let next = self.next;
-        match next {
-            Next::Front => false,
-            Next::Level => true,
-            Next::Any => true,
-            Next::Matched => true,
-            Next::Missed => true,
-        }
+        !matches!(self.next, Next::Front)
     }
 
     // Whether there is no step left.
+    #[tactic(auto, unfolding(crate::specs::Steps::is_over))]
     pub(crate) fn is_over(self) -> bool
         ensures { result ≡ is_over self.next }
     {
-        let next = self.next;
-        match next {
-            Next::Front => false,
-            Next::Level => false,
-            Next::Any => false,
-            Next::Matched => true,
-            Next::Missed => true,
-        }
+        matches!(self.next, Next::Matched | Next::Missed)
     }
 
     // The answer, if there is no step left.
+    #[tactic(auto, unfolding(crate::specs::Steps::is_match))]
     pub(crate) fn answer(self) -> Counted
         ensures { result ≡ record { matched = is_match self.next; steps = self.steps } }
     {
-        let next = self.next;
-        let matched = match next {
-            Next::Front => false,
-            Next::Level => false,
-            Next::Any => false,
-            Next::Matched => true,
-            Next::Missed => false,
-        };
         Counted {
-            matched,
+            matched: matches!(self.next, Next::Matched),
             steps: self.steps,
         }
     }
 
     // The wildcard, if that is where the last step led.
+    #[tactic(auto, unfolding(crate::specs::Steps::wildcard_of))]
     pub(crate) fn wildcard(self) -> Kind
         ensures { result ≡ wildcard_of self.next }
     {
-        let next = self.next;
-        match next {
-            Next::Front => Kind::Plain,
+        match self.next {
             Next::Level => Kind::Level,
             Next::Any => Kind::Any,
-            Next::Matched => Kind::Plain,
-            Next::Missed => Kind::Plain,
+            Next::Front | Next::Matched | Next::Missed => Kind::Plain,
         }
     }
 }

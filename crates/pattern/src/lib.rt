@@ -18,7 +18,7 @@ ghost use Rattle.pattern.specs.Packed.{unpacked};
 ghost use Rattle.pattern.specs.Chosen.{chosen};
 ghost use Rattle.pattern.specs.Steps.{counted_is};
 
-use octets::{least, raised_byte, same_bytes, wide};
+use octets::{raised_byte, same_bytes};
 use run::run_steps;
 pub use steps::Counted;
 
@@ -29,11 +29,7 @@ pub const MAX_NAME: usize = 255;
 pub fn matches(pattern: &[u8], name: &[u8]) -> bool
     ensures { result ≡ (leb (length name.now) 255 && matches pattern.now name.now) }
 {
-    if MAX_NAME < name.len() {
-        return false;
-    }
-    let counted = run_steps(pattern, name, is_inbox(name));
-    counted.matched
+    match_steps(pattern, name).matched
 }
 
 // The same, with the number of steps that it took.
@@ -61,6 +57,7 @@ pub fn matches_any(patterns: &[u8], levels: bool, name: &[u8]) -> bool
     }
     let fold = is_inbox(name);
     let mut at = 0;
+    // No `for`: where the next pattern begins, the length byte of this one says.
     while at < patterns.len() {
         let start = at + 1;
         let end = item_end(patterns, at);
@@ -77,6 +74,7 @@ pub fn some_level(patterns: &[u8]) -> bool
     ensures { result ≡ any_of ends_in_percent (unpacked patterns.now) }
 {
     let mut at = 0;
+    // As in `matches_any`.
     while at < patterns.len() {
         let start = at + 1;
         let next = item_end(patterns, at);
@@ -92,11 +90,7 @@ pub fn some_level(patterns: &[u8]) -> bool
 fn ends_in_percent(pattern: &[u8]) -> bool
     ensures { result ≡ ends_in_percent pattern.now }
 {
-    let n = pattern.len();
-    if n == 0 {
-        return false;
-    }
-    pattern[n - 1] == b'%'
+    pattern.ends_with(b"%")
 }
 
 // Whether the name matches the pattern, and the pattern counts: with `levels`, only if it ends in "%".
@@ -106,8 +100,7 @@ fn chosen_match(pattern: &[u8], levels: bool, name: &[u8], fold: bool) -> bool
     if levels & !ends_in_percent(pattern) {
         return false;
     }
-    let counted = run_steps(pattern, name, fold);
-    counted.matched
+    run_steps(pattern, name, fold).matched
 }
 
 // Where the item at this place of a packed run ends: after its bytes, or where the run ends.
@@ -115,10 +108,11 @@ fn item_end(run: &[u8], at: usize) -> usize
     requires { at < length run.now }
     ensures { result ≡ min (at + 1 + get_or run.now at 0) (length run.now) }
 {
-    at + 1 + least(wide(run[at]), run.len() - at - 1)
+    at + 1 + usize::from(run[at]).min(run.len() - at - 1)
 }
 
 // Whether the name is INBOX, in capitals.
+#[tactic(auto, unfolding(listing_rules::specs::Bytes::text, listing_rules::specs::Names::inbox))]
 fn is_inbox(name: &[u8]) -> bool
     ensures { result ≡ same name.now inbox }
 {

@@ -7,6 +7,7 @@ use crate::steps::{At, Counted, Going, Run, Star, step};
 
 // All steps, up to the last. Only the second loop calls `step`, and its first state is written out here: with a second caller, or with a
 // state that a function gives, the compiler would copy the state through memory.
+// Pattern, name and `fold` are passed one by one: in a struct of the three, a step took nearly half as long again.
 pub(crate) fn run_steps(pattern: &[u8], name: &[u8], fold: bool) -> Counted
     ensures { Ran fold pattern.now name.now result }
 {
@@ -14,6 +15,7 @@ pub(crate) fn run_steps(pattern: &[u8], name: &[u8], fold: bool) -> Counted
     if front.is_over() {
         return front.answer();
     }
+    // No `for`, here and below: the state, and no count, tells the last step.
     loop {
         front = front_step(pattern, name, fold, front);
         if front.ends() {

@@ -63,7 +63,7 @@ pub(crate) struct At {
     pub going: Going,
 }
 
-// Whether the name matches, and the steps that it took.
+// Whether the name matches, and the steps that it took. No Option: they are counted of a name that does not match, too.
 #[derive(Clone, Copy)]
 pub struct Counted {
     pub matched: bool,
@@ -114,13 +114,11 @@ pub(crate) fn step(pattern: &[u8], name: &[u8], fold: bool, at: At) -> At
 }
 
 // The count with one step more. It stays at the largest number, which only a pattern of over 2^55 bytes could come to.
+#[tactic(auto, unfolding(crate::specs::Steps::capped))]
 pub(crate) fn one_more(steps: usize) -> usize
     ensures { result ≡ capped (steps + 1) }
 {
-    if steps == usize::MAX {
-        return steps;
-    }
-    steps + 1
+    steps.saturating_add(1)
 }
 
 impl At {
@@ -177,6 +175,7 @@ impl At {
     }
 
     // At "*": what is after it begins here, or anywhere later. A last one takes all that is left.
+    #[tactic(auto, unfolding(crate::specs::Steps::star_is))]
     fn star_step(self, last: bool) -> At
         requires { self.i < 2 ^ 64 - 1 }
         ensures { result ≡ capped_at (star_is last self) }
@@ -189,6 +188,7 @@ impl At {
 
     // At "%": what is after it begins here, or later in this level. The "*" to go back to is the one that the run began after, or
     // the one before that.
+    #[tactic(auto, unfolding(crate::specs::Steps::pending_as))]
     fn level_step(self) -> At
         requires { self.i < 2 ^ 64 - 1 }
         ensures { result ≡ capped_at (level_is self) }
@@ -236,6 +236,7 @@ impl At {
     }
 
     // A "/" of both ends what a "%" could take, and settles where the "*" before it begins again.
+    #[tactic(auto, unfolding(crate::specs::Steps::settled_as))]
     fn slash_step(self) -> At
         requires i_bound { self.i < 2 ^ 64 - 1 }
         requires j_bound { self.j < 2 ^ 64 - 1 }
@@ -263,6 +264,9 @@ impl At {
     }
 
     // No match here, where the name has the byte d: the run begins again a byte later, unless a "/" would be passed within a level.
+    //
+    // Where it is called apart, the compiler copies the state through memory at every step, which takes ten times as long.
+    #[inline(always)]
     fn give_up(self, d: u8) -> At
         requires j_bound { self.j < 2 ^ 64 - 1 }
         requires backed { Backed self }
@@ -298,6 +302,7 @@ impl At {
     }
 
     // No match in this level: the "*" before it goes on.
+    #[tactic(auto, unfolding(crate::specs::Steps::resumed_as))]
     fn resume(self) -> At
         requires { self.j < 2 ^ 64 - 1 }
         ensures { result ≡ capped_at (resumed_is self) }
@@ -314,6 +319,7 @@ impl At {
 
 impl Star {
     // After a "/", with the next place of the name.
+    #[tactic(auto, unfolding(crate::specs::Steps::fixed_as))]
     fn settle(self, next: usize) -> Star
         ensures { result ≡ fixed_is self next }
     {

@@ -1,6 +1,7 @@
 -- `read_command`: check 3, and then the text before CR LF. Rests on Lines.
-use Rattle.listing_rules.proofs.Prelude.{◌∙◌, ◌≡◌, sym, true, ◌-◌, arith, length, length-take}
+use Rattle.listing_rules.proofs.Prelude.{◌∙◌, ◌≡◌, sym, true, ◌-◌, arith, length}
 use Rattle.listing_rules.specs.Feeder.{first, one_command}
+use Rattle.octets.specs.declared.refusals.Refusal.TheVariants.{LineShape}
 use Rattle.command_line.specs.Commands.{Answers}
 use Rattle.command_shape.proofs.Shapes.{one_long}
 use Rattle.command_line.proofs.Judging.{refuses}
@@ -9,19 +10,13 @@ use Rattle.command_line.proofs.read_command.Goals as goal
 
 pub returns-then-not-is_one_command : goal.returns-then-not-is_one_command
 returns-then-not-is_one_command c =
-    let off : Answers _ _ Unit _ = refuses _ 3 c.refused.ensures (line_off _ (sym c.is_one_command.ensures ∙ c.if-not-is_one_command.true)) in
+    let off : Answers _ _ Unit _ = refuses c.args.line.now LineShape (line_off _ (sym c.is_one_command.ensures ∙ c.if-not-is_one_command.true)) in
     record { result_value = off.means; inside = off.inside tt }
 
 pub overflow_sub-n : goal.overflow_sub-n
 overflow_sub-n c =
     let one : one_command first c.args.line.now ≡ true = sym c.is_one_command.ensures ∙ c.if-not-is_one_command.false in
     omega (arith, one_long _ one)
-
-pub slice_bounds-read_text-end : goal.slice_bounds-read_text-end
-slice_bounds-read_text-end c =
-    let one : one_command first c.args.line.now ≡ true = sym c.is_one_command.ensures ∙ c.if-not-is_one_command.false in
-    let line = c.args.line.now in
-    omega (arith, length-take (length line - 2) line, one_long line one)
 
 pub returns : goal.returns
 returns c =

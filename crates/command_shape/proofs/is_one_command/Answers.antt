@@ -1,7 +1,6 @@
 -- `is_one_command`: the line from the loop's place on is one command exactly if the whole line is. Rests on Shapes.
 use Rattle.listing_rules.proofs.Prelude.{◌∙◌, sym}
 use Rattle.command_shape.proofs.Shapes.{shaped_first, shaped_out, shaped_bad, shaped_last, shaped_on}
-use Rattle.listing_rules.proofs.Prelude.{◌-◌}
 use Rattle.command_shape.proofs.is_one_command.Goals as goal
 
 pub loop-i-init : goal.loop-i-init

@@ -6,14 +6,16 @@ use Rattle.feeder.specs.Feed.{outcome, answers}
 use Rattle.feeder.proofs.FeedLaws.{feed_on, feed_stop, feed_end}
 use Rattle.feeder.proofs.FeedBytes.{feeds_not, small_memory, large_state, feeds}
 use Rattle.feeder.proofs.feed.Goals as goal
+use Rattle.feeder.proofs.feed.Goals.{then-command-lt-MAX_COMMAND-via-then-command-lt-MAX_COMMAND as small}
+use Rattle.feeder.proofs.feed.Goals.{then-command-lt-MAX_COMMAND-via-else-command-lt-MAX_COMMAND+then-state-gt-MAX_COMMAND as large}
 
 pub returns-then-command-lt-MAX_COMMAND : goal.returns-then-command-lt-MAX_COMMAND
 returns-then-command-lt-MAX_COMMAND c =
-    let a = c.args in feeds_not _ _ _ (small_memory a.command.now _ c.if-command-lt-MAX_COMMAND.true)
-
-pub returns-then-state-gt-MAX_COMMAND : goal.returns-then-state-gt-MAX_COMMAND
-returns-then-state-gt-MAX_COMMAND c =
-    let a = c.args in feeds_not _ _ _ (large_state a.command.now _ c.if-state-gt-MAX_COMMAND.true)
+    let d = c.args.command.now in
+    elim c.then-command-lt-MAX_COMMAND.branch [
+      | small w ↦ feeds_not _ _ _ (small_memory d _ w.if-command-lt-MAX_COMMAND.true)
+      | large w ↦ feeds_not _ _ _ (large_state d _ w.if-state-gt-MAX_COMMAND.true)
+    ]
 
 pub loop-i-init : goal.loop-i-init
 loop-i-init c = (refl, refl)
@@ -36,4 +38,4 @@ unfolding outcome answers
 returns c =
     let a = c.args in feeds _ _ _ _ _ c.if-command-lt-MAX_COMMAND.false c.if-state-gt-MAX_COMMAND.false
     (sym c.loop-i.invariant.1 ∙ feed_end _ _ _ _ c.loop-i.command (record { state = c.loop-i.current; used = 0; event = Quiet })
-    c.loop-i-test.false)
+    (omega arith))

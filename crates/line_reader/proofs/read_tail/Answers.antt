@@ -1,7 +1,7 @@
 -- `read_tail` meets its contract, by its four texts (`Reading`).
+use Rattle.std.specs.Prelude.{Some}
 use Rattle.listing_rules.proofs.Prelude.{◌∙◌, sym}
 use Rattle.listing_rules.specs.Bytes.{text}
-use Rattle.line_reader.specs.declared.Tail.TheVariants.{ChildInfo}
 use Rattle.line_reader.proofs.Reading.{tail_plain, tail_subscribed, tail_special, tail_both, tail_other}
 use Rattle.line_reader.proofs.read_tail.Goals as goal
 
@@ -25,7 +25,7 @@ returns-then-same_bytes-3 c =
 pub returns-then-same_bytes-4 : goal.returns-then-same_bytes-4
 unfolding text
 returns-then-same_bytes-4 c =
-    (λ i. ChildInfo (record { bits = c.union.ensures i })) ∙ tail_both _ (sym c.same_bytes.ensures ∙ c.if-same_bytes.false)
+    (λ i. Some (record { bits = c.union.ensures i })) ∙ tail_both _ (sym c.same_bytes.ensures ∙ c.if-same_bytes.false)
     (sym c.same_bytes-2.ensures ∙ c.if-same_bytes-2.false)
     (sym c.same_bytes-3.ensures ∙ c.if-same_bytes-3.false)
     (sym c.same_bytes-4.ensures ∙ c.if-same_bytes-4.true)

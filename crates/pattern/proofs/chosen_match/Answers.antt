@@ -9,4 +9,4 @@ returns-then-levels-ends_in_percent c =
 
 pub returns : goal.returns
 returns c =
-    c.run_steps-counted.ensures.right ∙ chosen_in c.args.levels _ _ _ c.ends_in_percent.ensures c.if-levels-ends_in_percent.false
+    c.run_steps.ensures.right ∙ chosen_in c.args.levels _ _ _ c.ends_in_percent.ensures c.if-levels-ends_in_percent.false

@@ -4,9 +4,9 @@ use Rattle.command_tokens.proofs.Binds.{behind_nothing}
 use Rattle.command_line.proofs.Grammar.{extended_list, extended_else}
 use Rattle.command_line.proofs.list_command.is_extended.Goals as goal
 
-pub returns-in-At : goal.returns-in-At
-returns-in-At c =
-    extended_list _ c.args.text.now _ _ c.opening.ensures.result_value c.in-At.is
+pub returns-in-Some : goal.returns-in-Some
+returns-in-Some c =
+    extended_list _ c.args.text.now _ _ c.opening.ensures.result_value c.in-Some.is
 
 pub returns : goal.returns
 returns c =

@@ -2,10 +2,11 @@
 use Rattle.listing_rules.proofs.Prelude.{◌∙◌, ◌≡◌, ap, sym, ◌&&◌, not, true, eqb, not-false, not-true}
 use Rattle.listing_rules.specs.Lists.{every}
 use Rattle.listing_rules.specs.Options.{lawful_options}
+use Rattle.octets.specs.declared.refusals.Refusal.TheVariants.{UnknownOption, RecursivematchAlone, Patterns as RefusedPatterns}
 use Rattle.command_patterns.specs.Canonical.{canonical_of}
 use Rattle.command_patterns.specs.declared.Measured.{Measured}
 use Rattle.command_line.specs.OptionSets.{options_is}
-use Rattle.command_line.specs.Commands.{meaning, meaning_as, patterns_of, short, arguments_is}
+use Rattle.command_line.specs.Commands.{meaning_of, meaning_as, patterns_of, short, arguments_is}
 use Rattle.command_line.proofs.Judging.{kept_few, kept_many, decided_6, decided_7, decided_many, decided_long, decided_root, decided_list}
 use Rattle.command_line.proofs.Judging.{command_of, inside_list, refuses, asks_root_lem}
 use Rattle.command_line.proofs.list_command.judge.Goals as goal
@@ -13,19 +14,19 @@ use Rattle.command_line.proofs.list_command.judge.Goals as goal
 pub returns-then-not-a : goal.returns-then-not-a
 unfolding arguments_is
 returns-then-not-a c =
-    refuses _ 6 c.refused.ensures (decided_6 _ _ (not-true _ c.if-not-a.true))
+    refuses _ UnknownOption (decided_6 _ _ (not-true _ c.if-not-a.true))
 
 pub returns-then-not-lawful : goal.returns-then-not-lawful
 unfolding arguments_is
 returns-then-not-lawful c =
-    refuses _ 7 c.refused-then-not-lawful.ensures
+    refuses _ RecursivematchAlone
     (decided_7 _ _ (not-false _ c.if-not-a.false) (sym c.lawful.ensures ∙ c.if-not-lawful.true))
 
 pub returns-then-count-gt-MAX_PATTERNS : goal.returns-then-count-gt-MAX_PATTERNS
 unfolding arguments_is
 returns-then-count-gt-MAX_PATTERNS c =
     let lawful : lawful_options (options_is c.args.a.options) ≡ true = sym c.lawful.ensures ∙ c.if-not-lawful.false in
-    refuses _ 8 c.refused-then-count-gt-MAX_PATTERNS.ensures
+    refuses _ RefusedPatterns
     (decided_many _ _ (not-false _ c.if-not-a.false) lawful (kept_many _ _ c.if-count-gt-MAX_PATTERNS.true))
 
 pub returns-then-not-size : goal.returns-then-not-size
@@ -33,7 +34,7 @@ unfolding arguments_is
 returns-then-not-size c =
     let lawful : lawful_options (options_is c.args.a.options) ≡ true = sym c.lawful.ensures ∙ c.if-not-lawful.false in
     let long = sym (ap (λ (m : Measured). m.fit) c.measure-size.ensures) ∙ not-true _ c.if-not-size.true in
-    refuses _ 8 c.refused-then-not-size.ensures
+    refuses _ RefusedPatterns
     (decided_long _ _ (not-false _ c.if-not-a.false) lawful _ (kept_few _ _ c.if-count-gt-MAX_PATTERNS.false)
     long)
 
@@ -51,7 +52,7 @@ returns-then-a-size c =
     (λ g. g.tagged)
 
 pub returns : goal.returns
-unfolding arguments_is meaning meaning_as patterns_of command_of
+unfolding arguments_is meaning_of meaning_as patterns_of command_of
 returns c =
     let lawful : lawful_options (options_is c.args.a.options) ≡ true = sym c.lawful.ensures ∙ c.if-not-lawful.false in
     let fit : every short (canonical_of c.args.text.now c.args.a.reference c.args.a.patterns) ≡ true = sym (ap (λ (m : Measured). m.fit) c.measure-size.ensures) ∙ not-false _ c.if-not-size.false in

@@ -10,8 +10,8 @@ use Rattle.command_line.proofs.option_list.read_selection.Goals as goal
 pub returns-in_default : goal.returns-in_default
 unfolding listed_is marks_of summed marked ◌>>=◌ got
 returns-in_default c =
-    sym (ap (marks_of Selection) (selection_none _ (behind_nothing _ c.opening.ensures.result_value c.in_default.is)))
+    rw c.none.ensures (sym (ap (marks_of Selection) (selection_none _ (behind_nothing _ c.opening.ensures.result_value c.in_default.is))))
 
 pub returns : goal.returns
 returns c =
-    c.read_options.ensures ∙ sym (ap (marks_of Selection) (selection_list _ _ (behind_at _ c.opening.ensures.result_value c.in-At.is)))
+    c.read_options.ensures ∙ sym (ap (marks_of Selection) (selection_list _ _ (behind_at _ c.opening.ensures.result_value c.in-Some.is)))

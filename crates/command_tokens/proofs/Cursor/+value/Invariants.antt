@@ -6,8 +6,8 @@ use Rattle.command_tokens.proofs.Cursor.+value.Given as goal
 abbrev pub decreases-value : goal.decreases-value
 decreases-value l = length l.text.now - l.self.at
 
-abbrev pub invariant-loop-inside : goal.invariant-loop-inside
-invariant-loop-inside l = (l.initial.at ≤ l.at) × (value_of (drop l.at l.text) ≡ value_of (drop l.initial.at l.text))
+abbrev pub invariant-loop-at : goal.invariant-loop-at
+invariant-loop-at l = (l.initial.at ≤ l.at) × (value_of (drop l.at l.text) ≡ value_of (drop l.initial.at l.text))
 
-abbrev pub decreases-loop-inside : goal.decreases-loop-inside
-decreases-loop-inside l = length l.text - l.at
+abbrev pub decreases-loop-at : goal.decreases-loop-at
+decreases-loop-at l = length l.text - l.at

@@ -5,13 +5,13 @@ use Rattle.command_tokens.proofs.Binds.{bind_none, bind_go, behind_at, behind_no
 use Rattle.command_tokens.proofs.Bytes.{token_later}
 use Rattle.command_tokens.proofs.Cursor.argument.Goals as goal
 
-pub returns-in_default : goal.returns-in_default
+pub returns-in_err-next : goal.returns-in_err-next
 unfolding token_is TokenIn argument
-returns-in_default c =
-    record { result_value = sym (bind_none _ (behind_nothing _ c.space.ensures.result_value c.in_default.is)); token_in = tt }
+returns-in_err-next c =
+    rw c.from_residual.ensures (record { result_value = sym (bind_none _ (behind_nothing _ c.space.ensures.result_value c.in_err-next.was)); token_in = tt })
 
 pub returns : goal.returns
 unfolding argument
 returns c =
-    let next = c.in-At.is in
+    let next = c.in_ok-next.was in
     record { result_value = c.astring.ensures.result_value ∙ sym (bind_go _ (behind_at _ c.space.ensures.result_value next)); token_in = token_later _ _ _ _ (behind_ahead _ _ c.space.ensures.behind_in next).0 c.astring.ensures.token_in }

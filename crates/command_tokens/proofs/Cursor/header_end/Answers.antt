@@ -6,28 +6,29 @@ use Rattle.command_tokens.proofs.Binds.{bind_none, bind_go, behind_at, behind_no
 use Rattle.command_tokens.proofs.Bytes.{after_then, behind_later}
 use Rattle.command_tokens.proofs.Cursor.header_end.Goals as goal
 
-pub returns-in_default : goal.returns-in_default
+pub returns-in_err-second : goal.returns-in_err-second
 unfolding text crlf behind_is BehindIn
-returns-in_default c =
-    record { result_value = sym (after_then 125 (13 ∷ 10 ∷ []) _ ∙ bind_none _ (behind_nothing _ c.byte.ensures.result_value c.in_default.is)); behind_in = tt }
+returns-in_err-second c = rw c.from_residual.ensures (record {
+  result_value = sym (after_then 125 (13 ∷ 10 ∷ []) _ ∙ bind_none _ (behind_nothing _ c.byte.ensures.result_value c.in_err-second.was));
+  behind_in = tt;
+})
 
-pub returns-in_default-byte : goal.returns-in_default-byte
+pub returns-in_err-third : goal.returns-in_err-third
 unfolding text crlf behind_is BehindIn
-returns-in_default-byte c =
-    record {
-      result_value = sym (after_then 125 (13 ∷ 10 ∷ []) _ ∙ bind_go _ (behind_at _ c.byte.ensures.result_value c.in-At.is) ∙ after_then 13
-          (10 ∷ []) _ ∙ bind_none _ (behind_nothing _ c.byte-2.ensures.result_value c.in_default-byte.is));
-      behind_in = tt;
-    }
+returns-in_err-third c = rw c.from_residual-in_err-third.ensures (record {
+  result_value = sym (after_then 125 (13 ∷ 10 ∷ []) _ ∙ bind_go _ (behind_at _ c.byte.ensures.result_value c.in_ok-second.was) ∙ after_then 13
+      (10 ∷ []) _ ∙ bind_none _ (behind_nothing _ c.byte-2.ensures.result_value c.in_err-third.was));
+  behind_in = tt;
+})
 
 pub returns : goal.returns
 unfolding text crlf
 returns c =
     let s = c.args.text.now in
-    let two = behind_ahead s _ c.byte.ensures.behind_in c.in-At.is in
-    let three = behind_ahead s _ c.byte-2.ensures.behind_in c.in-At-byte.is in record {
+    let two = behind_ahead s _ c.byte.ensures.behind_in c.in_ok-second.was in
+    let three = behind_ahead s _ c.byte-2.ensures.behind_in c.in_ok-third.was in record {
       result_value = c.byte-3.ensures.result_value ∙ sym (after_then 125 (13 ∷ 10 ∷ []) _ ∙ bind_go _
-          (behind_at s c.byte.ensures.result_value c.in-At.is) ∙ after_then 13 (10 ∷ []) _ ∙ bind_go _
-          (behind_at s c.byte-2.ensures.result_value c.in-At-byte.is));
+          (behind_at s c.byte.ensures.result_value c.in_ok-second.was) ∙ after_then 13 (10 ∷ []) _ ∙ bind_go _
+          (behind_at s c.byte-2.ensures.result_value c.in_ok-third.was));
       behind_in = behind_later s _ _ _ (omega (arith, two.0, three.0)) c.byte-3.ensures.behind_in;
     }

@@ -1,10 +1,7 @@
--- What holds at each turn of a loop of `quoted`, and what falls.
-use Rattle.listing_rules.proofs.Prelude.{◌≡◌, false, ◌-◌, ◌≤◌, drop, length}
+-- What holds at each turn of the loop of `quoted`.
+use Rattle.listing_rules.proofs.Prelude.{◌≡◌, false, ◌≤◌, drop}
 use Rattle.command_tokens.specs.Tokens.{closing, closed_at}
 use Rattle.command_tokens.proofs.Cursor.quoted.Given as goal
 
-abbrev pub invariant-loop-i : goal.invariant-loop-i
-invariant-loop-i l = (l.at ≤ l.i) × (closed_at l.at l.i (closing l.escaped (drop l.i l.text)) ≡ closed_at l.at l.at (closing false (drop l.at l.text)))
-
-abbrev pub decreases-loop-i : goal.decreases-loop-i
-decreases-loop-i l = length l.text - l.i
+abbrev pub invariant-loop-end : goal.invariant-loop-end
+invariant-loop-end l = (l.start ≤ l.end) × (closed_at l.start l.end (closing l.escaped (drop l.end l.text)) ≡ closed_at l.start l.start (closing false (drop l.start l.text)))

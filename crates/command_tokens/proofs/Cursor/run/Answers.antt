@@ -1,34 +1,39 @@
--- `Cursor::run`: the loop stops at the end of the longest run of bytes of the class. Rests on Runs.
-use Rattle.command_tokens.specs.Tokens.{BareIn, class_byte, token_is, run_end}
-use Rattle.listing_rules.proofs.Prelude.{◌∙◌, ◌≡◌, refl, sym, arith}
+-- `Cursor::run`: as many bytes are counted as the longest run has. Rests on Runs.
+use Rattle.std.specs.List.{take_while}
+use Rattle.std.proofs.Common.{rules, tests}
+use Rattle.std.proofs.lemmas.Iterator.{YieldsList-from_slice}
+use Rattle.std.proofs.lemmas.Iterator.Adapters.{YieldsList-from_skip}
+use Rattle.std.proofs.lemmas.Iterator.Consumers.{count_from_yields_List}
+use Rattle.std.proofs.lemmas.Iterator.Search.{YieldsList-from_take_while}
+use Rattle.listing_rules.proofs.Prelude.{◌∙◌, ◌≡◌, ◌+◌, ◌≤◌, ap, refl, sym, arith, drop, length}
 use Rattle.command_tokens.specs.Spans.{span_bytes}
-use Rattle.command_tokens.proofs.Runs.{run_step, run_stop, run_out, run_missing, run_found}
+use Rattle.command_tokens.specs.Tokens.{BareIn, class_byte, token_is, run_end}
+use Rattle.command_tokens.proofs.Runs.{run_counted, run_missing, run_found}
 use Rattle.command_tokens.proofs.Cursor.run.Goals as goal
-use Rattle.command_tokens.proofs.Cursor.run.Goals.{else-loop-i-test, then-loop-i-test+then-not-holds}
+use Rattle.command_tokens.proofs.Cursor.run.Goals.{After-count-length}
 
-pub loop-i-init : goal.loop-i-init
-loop-i-init c = (omega arith, omega arith, refl)
+counted : (c : After-count-length) → c.count-length.result ≡ length (take_while (class_byte c.args.class) (drop c.args.self.at c.args.text.now))
+counted c =
+    count_from_yields_List c.take_while.result _ c.count-length.ensures.ran
+    (YieldsList-from_take_while _ (class_byte c.args.class)
+    (YieldsList-from_skip c.args.self.at (YieldsList-from_slice c.args.text.now cc) cc) c.take_while.ensures.closure c.take_while.ensures.done
+    (λ x b q k. search (rules, tests)))
 
-pub loop-i-preserved : goal.loop-i-preserved
-loop-i-preserved c =
-    (omega arith, omega arith, run_step _ _ _ c.loop-i-test.true (sym c.holds.ensures ∙ c.if-not-holds.false) ∙ c.loop-i.invariant.2)
-
-pub returns-then-i-at : goal.returns-then-i-at
+pub returns-then-length-eq0 : goal.returns-then-length-eq0
 unfolding token_is BareIn
-returns-then-i-at c =
-    let ended : run_end (class_byte c.args.class) c.args.text.now c.args.self.at ≡ c.loop-i.i = sym c.loop-i.invariant.2
-    ∙ elim c.loop-i-test.branch [
-      | else-loop-i-test w ↦ run_out _ _ _ w.loop-i-test.false
-      | then-loop-i-test+then-not-holds w ↦ run_stop _ _ _ w.loop-i-test.true (sym w.holds.ensures ∙ w.if-not-holds.true)
-    ] in
-    record { result_value = sym (run_missing _ _ _ (ended ∙ c.if-i-at.true)); bare_in = tt }
+returns-then-length-eq0 c =
+    let n = counted (goal.at.returns-then-length-eq0 c).After-count-length in
+    let end = run_counted (class_byte c.args.class) c.args.text.now c.args.self.at in
+    let none : run_end (class_byte c.args.class) c.args.text.now c.args.self.at ≡ c.args.self.at = omega (arith, n, end) in
+    record { result_value = sym (run_missing _ _ _ none); bare_in = tt }
 
 pub returns : goal.returns
 unfolding token_is span_bytes BareIn
 returns c =
-    let ended : run_end (class_byte c.args.class) c.args.text.now c.args.self.at ≡ c.loop-i.i = sym c.loop-i.invariant.2
-    ∙ elim c.loop-i-test.branch [
-      | else-loop-i-test w ↦ run_out _ _ _ w.loop-i-test.false
-      | then-loop-i-test+then-not-holds w ↦ run_stop _ _ _ w.loop-i-test.true (sym w.holds.ensures ∙ w.if-not-holds.true)
-    ] in
-    record { result_value = sym (run_found _ _ _ _ ended (omega arith)); bare_in = record { bare = refl; front = refl; ahead = record { order = omega arith; within = omega arith; past = omega arith; inside = omega arith } } }
+    let n = counted (goal.at.returns c).After-count-length in
+    let end = run_counted (class_byte c.args.class) c.args.text.now c.args.self.at in
+    let inside : c.args.self.at + c.count-length.result ≤ length c.args.text.now = omega (arith, n, end) in
+    record {
+      result_value = sym (run_found _ _ _ _ (end.0 ∙ ap (λ x. c.args.self.at + x) (sym n)) (omega arith));
+      bare_in = record { bare = refl; front = refl; ahead = record { order = omega arith; within = omega arith; past = omega arith; inside = inside } };
+    }

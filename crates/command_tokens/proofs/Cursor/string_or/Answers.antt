@@ -1,20 +1,12 @@
 -- `Cursor::string_or`: the first byte tells a quoted string, a literal and a bare run apart. Rests on Bytes and Binds.
 use Rattle.listing_rules.proofs.Prelude.{◌∙◌, sym, arith}
 use Rattle.command_tokens.proofs.Binds.{bare_token}
-use Rattle.command_tokens.proofs.Bytes.{inside, string_quoted, string_literal, string_bare, token_later}
+use Rattle.command_tokens.proofs.Bytes.{string_quoted, string_literal, string_bare, token_later}
 use Rattle.command_tokens.proofs.Cursor.string_or.Goals as goal
-
-pub overflow_add-inside : goal.overflow_add-inside
-overflow_add-inside c =
-    omega (arith, inside c.args.text.now c.args.self.at (omega arith))
 
 pub returns-then-b-eq-QUOTE : goal.returns-then-b-eq-QUOTE
 returns-then-b-eq-QUOTE c =
     record { result_value = c.quoted.ensures.result_value ∙ sym (string_quoted _ _ c.args.self.at (sym c.byte_at-b.ensures ∙ c.if-b-eq-QUOTE.true)); token_in = token_later _ _ _ _ (omega arith) c.quoted.ensures.token_in }
-
-pub overflow_add-header : goal.overflow_add-header
-overflow_add-header c =
-    omega (arith, inside c.args.text.now c.args.self.at (omega arith))
 
 pub returns-then-b-eq123 : goal.returns-then-b-eq123
 returns-then-b-eq123 c =

@@ -1,10 +1,7 @@
--- What holds at each turn of a loop of `number`, and what falls.
-use Rattle.listing_rules.proofs.Prelude.{◌≡◌, ◌-◌, ◌≤◌, min, drop, length}
+-- What holds at each turn of the loop of `number`.
+use Rattle.listing_rules.proofs.Prelude.{◌≡◌, ◌≤◌, min, drop}
 use Rattle.listing_rules.specs.Tokens.{decimal}
 use Rattle.command_tokens.proofs.literals.number.Given as goal
 
-abbrev pub invariant-loop-i : goal.invariant-loop-i
-invariant-loop-i l = (l.n ≤ 1025) × (min (decimal l.n (drop l.i l.digits)) 1025 ≡ min (decimal 0 l.digits) 1025)
-
-abbrev pub decreases-loop-i : goal.decreases-loop-i
-decreases-loop-i l = length l.digits - l.i
+abbrev pub invariant-loop-digit : goal.invariant-loop-digit
+invariant-loop-digit l = (l.n ≤ 1025) × (min (decimal l.n (drop l.digit-index l.digits)) 1025 ≡ min (decimal 0 l.digits) 1025)

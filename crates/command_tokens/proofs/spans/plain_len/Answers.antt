@@ -1,19 +1,21 @@
 -- `plain_len`: what is counted so far and what is left to count come to the length without escapes. Rests on Plain.
-use Rattle.listing_rules.proofs.Prelude.{ap, arith, length}
+use Rattle.listing_rules.proofs.Prelude.{◌≡◌, ◌&&◌, not, false, true, ap, arith, eqb, get_or, length}
 use Rattle.command_tokens.proofs.Plain.{plain_skip, plain_keep, plain_out}
 use Rattle.command_tokens.proofs.spans.plain_len.Goals as goal
+use Rattle.command_tokens.proofs.spans.plain_len.Goals.{then-not-escaped, else-not-escaped}
 
-pub loop-i-init : goal.loop-i-init
-loop-i-init c = (omega arith, omega arith)
-
-pub loop-i-preserved-then-escaped-s : goal.loop-i-preserved-then-escaped-s
-loop-i-preserved-then-escaped-s c =
-    (omega arith, rw (← plain_skip _ _ c.loop-i.escaped c.loop-i-test.true c.if-escaped-s.true) c.loop-i.invariant.1)
-
-pub loop-i-preserved : goal.loop-i-preserved
-loop-i-preserved c =
-    (omega arith, omega (arith, c.loop-i.invariant.1, ap length (plain_keep c.args.s.now _ c.loop-i.escaped c.loop-i-test.true c.if-escaped-s.false)))
+pub loop-b-preserved : goal.loop-b-preserved
+loop-b-preserved c =
+    let so_far = c.loop-b.invariant in
+    elim c.if-not-escaped.branch [
+      | then-not-escaped w ↦
+          let kept : (not c.loop-b.escaped && eqb (get_or c.args.s.now c.loop-b.b-index 0) 92) ≡ false = w.if-not-escaped.true in
+          rw (w.n-is, kept) (omega arith, omega (arith, so_far.1, ap length (plain_keep c.args.s.now _ c.loop-b.escaped c.loop-b-test.true kept)))
+      | else-not-escaped w ↦
+          let skipped : (not c.loop-b.escaped && eqb (get_or c.args.s.now c.loop-b.b-index 0) 92) ≡ true = w.if-not-escaped.false in
+          rw (w.n-is, skipped) (omega arith, rw (← plain_skip _ _ c.loop-b.escaped c.loop-b-test.true skipped) so_far.1)
+    ]
 
 pub returns : goal.returns
 returns c =
-    omega (arith, c.loop-i.invariant.1, ap length (plain_out c.args.s.now _ c.loop-i.escaped c.loop-i-test.false))
+    omega (arith, c.loop-b.invariant.1, ap length (plain_out c.args.s.now _ c.loop-b.escaped c.loop-b-test.false))

@@ -6,6 +6,6 @@ use Rattle.list_line.proofs.write.put_line.Goals as goal
 
 pub returns : goal.returns
 unfolding open_bytes word_line
-returns c =
-    put_then c.put_start-a.ensures (put_then c.put_attributes-b.ensures
-    (put_then c.put_all-c.ensures (put_then c.put_quoted-d.ensures c.put_line_end.ensures)))
+returns c = rw (← c.start.ensures)
+    (put_then c.put_all-a.ensures (put_then c.put_attributes-b.ensures
+    (put_then c.put_all-c.ensures (put_then c.put_quoted-d.ensures c.put_line_end.ensures))))

@@ -1,5 +1,0 @@
--- `At::goes` is the definition.
-use Rattle.pattern.proofs.steps.At.goes.Goals as goal
-
-pub returns : goal.returns
-returns c = rw c.one_more.ensures

@@ -1,7 +1,11 @@
 -- One command: its line in a local buffer, the server's reply, and what the lines of the answer give. Rests on the laws of writes.
+use Rattle.std.specs.Prelude.{Result, Ok, Err}
+use Rattle.octets.specs.declared.refusals.Refusal.{Refusal}
 use Rattle.listing_rules.proofs.Prelude.{◌∙◌, ◌≡◌, ap, refl, subst, sym, Bool, false, not, true, List, [], ◌∷◌, ◌*◌, ◌+◌, ◌≤◌, ℕ, arith, drop, length}
 use Rattle.listing_rules.proofs.Prelude.{length-append, length-replicate, replicate, take, take_at}
 use Rattle.listing_rules.specs.Table.{Table}
+use Rattle.listing_rules.specs.Readers.{is_reader}
+use Rattle.listing_rules.specs.Command.{is_edit, parsed}
 use Rattle.listing_rules.specs.Bytes.{text, crlf, quote}
 use Rattle.listing_rules.proofs.Keys.{open_bytes}
 use Rattle.listing_rules.specs.Lines.{escaped, quoted}
@@ -9,16 +13,16 @@ use Rattle.listing_rules.specs.Server.{Reply, refusal, answered, answer, limited
 use Rattle.listing_rules.specs.Walk.{Lists, Step, stop, go, ◌then◌, when, wants_remote, wants_special, drops_subscribed, command_line, replied, asked}
 use Rattle.listing_rules.proofs.TokenLaws.{length_escaped}
 use Rattle.octets.specs.Put.{Put}
-use Rattle.octets.specs.Written.{written_is}
-use Rattle.octets.specs.declared.Written.{Written}
-use Rattle.octets.specs.declared.Written.TheVariants.{Done, Refused}
+use Rattle.listing_rules.proofs.WalkReads.{walk_command_reads}
+use Rattle.octets.specs.Written.{written_is, Gives}
+use Rattle.server.specs.Replies.{read_to}
+use Rattle.server.proofs.ReadLaws.{gives_served}
+use Rattle.octets.specs.Refusals.{number_of, numbered}
 use Rattle.octets.proofs.Puts.{front, put_length}
 use Rattle.collector.specs.Options.{byte_of}
 use Rattle.collector.specs.Rooms.{reference_room, command_room}
 use Rattle.collector.specs.Taking.{Takes, answer_step, command_step}
 use Rattle.collector.specs.declared.lines.Progress.{Progress}
-use Rattle.collector.specs.declared.lines.Taken.{Taken}
-use Rattle.collector.specs.declared.lines.Taken.TheVariants.{All, Refused as Stopped}
 use Rattle.collector.specs.declared.options.WalkOptions.{WalkOptions}
 
 -- the bytes stand at the front of a buffer
@@ -81,25 +85,38 @@ command_length o reference =
 pub command_fits : (o : ℕ) (reference : List ℕ) → length reference ≤ reference_room → length (command_line o reference) ≤ command_room
 command_fits o reference h = omega (arith, command_length o reference)
 
+-- the command stands at the front of the line, which had room for it
+pub sent : (w : WalkOptions) (reference : List ℕ) {line line' : List ℕ} {n : ℕ} → line ≡ replicate command_room 0 → length reference ≤ reference_room →
+    Put line line' 0 (command_line (byte_of w) reference) n → Fronts line' n (command_line (byte_of w) reference)
+sent w reference {line} {line'} {n} z few put = put_fronts line line' (command_line (byte_of w) reference) n command_room z put (command_fits (byte_of w) reference few)
+
+-- it is no edit, so the server serves it
+pub serves : (w : WalkOptions) (reference : List ℕ) {line : List ℕ} {n : ℕ} (reader : ℕ) (table : Table) (scratch : List ℕ) {scratch' : List ℕ} (r : Result ℕ Refusal) →
+    Fronts line n (command_line (byte_of w) reference) → is_reader reader ≡ true → Gives (read_to reader table [] (take n line)) scratch scratch' r →
+    (numbered r ≡ written_is (served table [] (take n line) scratch)) × (scratch' ≡ buffer_after scratch (served table [] (take n line) scratch))
+serves w reference {line} {n} reader table scratch {scratch'} r F known g =
+    gives_served reader table [] (take n line) scratch scratch' r known
+    (ap (λ (l : List ℕ). is_edit (parsed l)) F.bytes ∙ walk_command_reads (byte_of w) reference) g
+
 -- the server's reply to a line, by the code's answer
 abbrev pub reply : Table → List ℕ → List ℕ → Step (List ℕ)
 reply table l scratch = replied (limited (length scratch) (answer table [] l))
 
 module _ (table : Table) (l scratch : List ℕ) where
-  server_refused : {r : Written} (k : ℕ) → r ≡ written_is (served table [] l scratch) → r ≡ Refused k → reply table l scratch ≡ stop 9
+  server_refused : {r : Result ℕ Refusal} (k : Refusal) → numbered r ≡ written_is (served table [] l scratch) → r ≡ Err k → reply table l scratch ≡ stop 9
   unfolding served written_is replied
-  server_refused k a e = pick (served table [] l scratch) (sym a ∙ e)
+  server_refused k a e = pick (served table [] l scratch) (sym a ∙ ap numbered e)
     where
-      pick : (x : Reply) → written_is x ≡ Refused k → replied x ≡ stop 9
+      pick : (x : Reply) → written_is x ≡ Err (number_of k) → replied x ≡ stop 9
       pick (refusal j) z = refl
       pick (answered a) z = cc
 
-  pub server_done : {r : Written} (scratch' : List ℕ) (len : ℕ) → r ≡ written_is (served table [] l scratch) → r ≡ Done len →
+  pub server_done : {r : Result ℕ Refusal} (scratch' : List ℕ) (len : ℕ) → numbered r ≡ written_is (served table [] l scratch) → r ≡ Ok len →
       scratch' ≡ buffer_after scratch (served table [] l scratch) → (len ≤ length scratch') × (reply table l scratch ≡ go (take len scratch'))
   unfolding served written_is replied buffer_after
-  server_done scratch' len a e g = pick (served table [] l scratch) (sym a ∙ e) g
+  server_done scratch' len a e g = pick (served table [] l scratch) (sym a ∙ ap numbered e) g
     where
-      pick : (x : Reply) → written_is x ≡ Done len → scratch' ≡ buffer_after scratch x → (len ≤ length scratch') × (replied x ≡ go (take len scratch'))
+      pick : (x : Reply) → written_is x ≡ Ok len → scratch' ≡ buffer_after scratch x → (len ≤ length scratch') × (replied x ≡ go (take len scratch'))
       pick (refusal j) z f = let y : ◌≡◌ {A = ℕ} 0 1 = cc in absurd (omega arith)
       pick (answered a) z f =
           let y : length a ≡ len = cc in
@@ -112,7 +129,7 @@ module _ (table : Table) (w : WalkOptions) (reference scratch : List ℕ) {line 
   unfolding asked
   asks_as found pending s x e = ap (λ (y : Step (List ℕ)). y then λ a. answer_step w a found pending s) (ap (λ (l : List ℕ). reply table l scratch) (sym F.bytes) ∙ e)
 
-  pub asked_refused : {r : Written} {k : ℕ} → r ≡ written_is (served table [] (take n line) scratch) → r ≡ Refused k →
+  pub asked_refused : {r : Result ℕ Refusal} {k : Refusal} → numbered r ≡ written_is (served table [] (take n line) scratch) → r ≡ Err k →
       (found pending : List ℕ) (s : Lists) → command_step table w reference scratch found pending s ≡ stop 9
   unfolding ◌then◌
   asked_refused {k} a e found pending s = asks_as found pending s (stop 9) (server_refused table (take n line) scratch k a e)
@@ -123,14 +140,14 @@ module _ (table : Table) (w : WalkOptions) (reference scratch : List ℕ) {line 
   asked_done {a} e found pending s = asks_as found pending s (go a) e
 
 -- another name for a step, which begins with another count
-pub takes_step : (step step' : Lists → Step Lists) (count n : ℕ) (p : Progress) (found pending found' pending' : List ℕ) (r : Taken) →
+pub takes_step : (step step' : Lists → Step Lists) (count n : ℕ) (p : Progress) (found pending found' pending' : List ℕ) (r : Result Progress Refusal) →
     ((s : Lists) → step' s ≡ step s) →
     Takes step count (record { count = n; found = p.found; pending = p.pending }) found pending found' pending' r →
     Takes step' count p found pending found' pending' r
-takes_step step step' count n p found pending found' pending' (All q) e t =
+takes_step step step' count n p found pending found' pending' (Ok q) e t =
     record {
       inside = t.inside;
       counted = t.counted;
       lists = λ s h. let u = t.lists s (record { finds = h.finds; asks = h.asks }) in (u.0, e s ∙ u.1, u.2);
     }
-takes_step step step' count n p found pending found' pending' (Stopped k) e t = λ s h. e s ∙ t s (record { finds = h.finds; asks = h.asks })
+takes_step step step' count n p found pending found' pending' (Err k) e t = λ s h. e s ∙ t s (record { finds = h.finds; asks = h.asks })

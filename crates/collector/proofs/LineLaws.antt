@@ -1,68 +1,66 @@
--- The first line of what is left of an answer, and the lines after it. Rests on the library alone.
-use Rattle.listing_rules.proofs.Prelude.{◌∙◌, ◌≡◌, ap, refl, Bool, cond, false, true, List, [], ◌∷◌, ◌+◌, ◌-◌, ◌<◌, ◌≤◌, suc, ℕ, add-one, arith, eqb}
-use Rattle.listing_rules.proofs.Prelude.{drop, drop_of_length-le, get_or, length, length-drop, take, drop-cons, drop-drop, eq-eqb, ne_eqb}
+-- The lines of an answer, as the library cuts it after each line feed. Rests on the library alone.
+use Rattle.std.specs.Prelude.{Option as Maybe, Some, MatchOption}
+use Rattle.std.specs.Fn.{ComputesKey}
+use Rattle.std.specs.List.{IsFirstMatchOrLen}
+use Rattle.std.proofs.lemmas.Iterator.{YieldsList}
+use Rattle.std.proofs.lemmas.Iterator.Splits.{YieldsList-from_shown_while}
+use denote.Param.Members.{Mut}
+use denote.Ref.{Bor}
+use Rattle.listing_rules.proofs.Prelude.{◌∙◌, ◌≡◌, ap, refl, Bool, List, [], ◌++◌, ◌∷◌, ◌+◌, ◌<◌, min, suc, zero, ℕ, arith, eqb}
+use Rattle.listing_rules.proofs.Prelude.{drop, length, take}
 use Rattle.listing_rules.specs.Lists.{on_first}
 use Rattle.listing_rules.specs.Walk.{lines_of}
-use Rattle.collector.specs.Lines.{line_length}
 
--- from a place on, as the code looks at it
-module _ (s : List ℕ) (i : ℕ) where
-  pub line_out : length s ≤ i → line_length (drop i s) ≡ 0
-  unfolding line_length
-  line_out h = rw (drop_of_length-le s h)
+-- a byte is a line feed
+abbrev pub feeds : ℕ → Bool
+feeds b = eqb b 10
 
-  pub line_end_lem : i < length s → get_or s i 0 ≡ 10 → line_length (drop i s) ≡ 1
-  unfolding line_length
-  line_end_lem h e = rw (drop-cons s i 0 h, eq-eqb (get_or s i 0) 10 e)
+-- the first line ends at the first line feed, or at the end; and the other lines
+first_line : (s : List ℕ) (i : ℕ) → IsFirstMatchOrLen feeds s i → 0 < length s → lines_of s ≡ take (suc i) s ∷ lines_of (drop (suc i) s)
+unfolding lines_of on_first
+first_line [] i f h = absurd (omega arith)
+first_line (b ∷ t) zero f h = rw (f.1 (omega arith) b)
+first_line (b ∷ []) (suc i) f h = rw (f.0 0 b (omega arith) (omega arith))
+first_line (b ∷ c ∷ t) (suc i) f h =
+    rw (f.0 0 b (omega arith) (omega arith))
+    (ap (on_first b)
+    (first_line (c ∷ t) i (λ k d lo hi. f.0 (suc k) d (omega arith) (omega arith), λ h d. f.1 (omega arith) d) (omega arith)))
 
-  pub line_more : i < length s → (get_or s i 0 ≡ 10 → ⊥) → line_length (drop i s) ≡ suc (line_length (drop (i + 1) s))
-  unfolding line_length
-  line_more h e = rw (drop-cons s i 0 h, ne_eqb (get_or s i 0) 10 e, add-one i)
+-- a list in two parts, by the length of the first
+parts : (x t : List ℕ) (n : ℕ) → length x ≡ min n (length (x ++ t)) → (take n (x ++ t) ≡ x) × (drop n (x ++ t) ≡ t)
+parts [] [] zero e = (refl, refl)
+parts [] [] (suc n) e = (refl, refl)
+parts [] (b ∷ t) zero e = (refl, refl)
+parts [] (b ∷ t) (suc n) e = absurd (omega arith)
+parts (b ∷ x) t zero e = absurd (omega arith)
+parts (b ∷ x) t (suc n) e = let p = parts x t n (omega arith) in (ap (λ (l : List ℕ). b ∷ l) p.0, p.1)
 
-line_some : (s : List ℕ) → 0 < length s → 0 < line_length s
-unfolding line_length
-line_some [] h = h
-line_some (b ∷ t) h = go (eqb b 10)
-  where
-    go : (o : Bool) → 0 < cond o 1 (suc (line_length t))
-    go true = omega arith
-    go false = omega arith
+cut : (x t : List ℕ) (i : ℕ) → length x ≡ min (i + 1) (length (x ++ t)) → IsFirstMatchOrLen feeds (x ++ t) i → 0 < length (x ++ t)
+    → lines_of (x ++ t) ≡ x ∷ lines_of t
+cut x t i e f h =
+    let p = parts x t (suc i) (omega arith) in
+    first_line (x ++ t) i f h ∙ λ j. p.0 j ∷ lines_of (p.1 j)
 
-line_fits : (s : List ℕ) → line_length s ≤ length s
-unfolding line_length
-line_fits [] = omega arith
-line_fits (b ∷ t) = go (eqb b 10) (line_fits t)
-  where
-    go : (o : Bool) → line_length t ≤ length t → cond o 1 (suc (line_length t)) ≤ suc (length t)
-    go true h = omega arith
-    go false h = omega arith
+no_lines : (l : List ℕ) → length l ≡ 0 → length (lines_of l) ≡ 0
+unfolding lines_of
+no_lines [] e = refl
+no_lines (b ∷ t) e = absurd (omega arith)
 
--- the first line, and the others
-pub first_line : (s : List ℕ) → 0 < length s → lines_of s ≡ take (line_length s) s ∷ lines_of (drop (line_length s) s)
-unfolding lines_of line_length on_first
-first_line [] h = absurd (omega arith)
-first_line (b ∷ []) h = go (eqb b 10)
-  where
-    go : (o : Bool) → cond o ((b ∷ []) ∷ []) ((b ∷ []) ∷ []) ≡ take (cond o 1 1) (b ∷ []) ∷ lines_of (drop (cond o 1 1) (b ∷ []))
-    go true = refl
-    go false = refl
-first_line (b ∷ c ∷ t) h = go (eqb b 10) (first_line (c ∷ t) (omega arith))
-  where
-    L : ℕ
-    L = line_length (c ∷ t)
+-- The library's iterator, by what is left of the answer and by the test.
+module _ {S F : Type 0} (rest : S → List ℕ) (callee : S → F) (g : Mut F (Bor ℕ × Unit {0}) Bool) where
+  -- what a call of `next` gives
+  abbrev steps : S → Maybe (Bor (List ℕ)) → S → Type 0
+  steps s r t = MatchOption r ((length (rest s) ≡ 0) × (t ≡ s)) (λ x. (rest s ≡ x.now ++ rest t) × ((i : ℕ) × (length x.now ≡ min (i + 1) (length (rest s))) × ((p : ℕ → Bool) → ComputesKey g p (callee s) → ComputesKey g p (callee t) × IsFirstMatchOrLen p (rest s) i)) × (0 < length (rest s)))
 
-    go : (o : Bool) → lines_of (c ∷ t) ≡ take L (c ∷ t) ∷ lines_of (drop L (c ∷ t)) →
-        cond o ((b ∷ []) ∷ lines_of (c ∷ t)) (on_first b (lines_of (c ∷ t))) ≡ take (cond o 1 (suc L)) (b ∷ c ∷ t) ∷
-        lines_of (drop (cond o 1 (suc L)) (b ∷ c ∷ t))
-    go true ih = refl
-    go false ih = ap (on_first b) ih
-
--- the line from a place on, to the place after it
-module _ (s : List ℕ) (at end : ℕ) (h : at < length s) (e : end ≡ at + line_length (drop at s)) where
-  pub line_lies : (at < end) × (end ≤ length s)
-  line_lies = (omega (arith, line_some (drop at s) (omega (arith, length-drop at s))), omega (arith, line_fits (drop at s), length-drop at s))
-
-  pub lines_on : lines_of (drop at s) ≡ take (end - at) (drop at s) ∷ lines_of (drop end s)
-  lines_on =
-      let w : end - at ≡ line_length (drop at s) = omega arith in
-      first_line (drop at s) (omega (arith, length-drop at s)) ∙ rw (w, e, ← drop-drop (line_length (drop at s)) at s)
+  -- it gives the lines
+  pub yields_lines : (s : S) → ComputesKey g feeds (callee s) → YieldsList steps (λ (x : Bor (List ℕ)). x.now) s (lines_of (rest s))
+  yields_lines =
+      YieldsList-from_shown_while steps (λ (x : Bor (List ℕ)). x.now) (λ (s : S). lines_of (rest s)) (λ (s : S). ComputesKey g feeds (callee s))
+      (λ s t k n. no_lines (rest s) n.0) more
+    where
+      more : (s : S) (x : Bor (List ℕ)) (t : S) → ComputesKey g feeds (callee s) → steps s (Some x) t →
+          ComputesKey g feeds (callee t) × (lines_of (rest s) ≡ x.now ∷ lines_of (rest t))
+      more s x t k n =
+          let after = n.1.2 feeds k in
+          let whole = n.0 in
+          (after.0, ap lines_of whole ∙ cut x.now (rest t) n.1.0 (rw whole at n.1.1) (rw whole at after.1) (rw whole at n.2))

@@ -1,17 +1,34 @@
 -- The six lawful option bytes and a walk's options are one to one, and the options tell what their byte selects. Rests on the law
 -- of octets on a member by its place.
+use Rattle.std.specs.Prelude.{Option, Some, None, Ok, Err, ok_or}
 use Rattle.listing_rules.proofs.Prelude.{◌∙◌, ◌≡◌, ap, refl, sym, Bool, ◌||◌, cond, false, not, true, ◌≤◌, suc, zero, ℕ, arith, leb, leb-true}
 use Rattle.listing_rules.proofs.Keys.{open_bytes}
 use Rattle.listing_rules.specs.Walk.{wants_remote, wants_special, drops_subscribed, lawful_byte}
 use Rattle.listing_rules.proofs.Bools.{and_l}
+use Rattle.octets.specs.declared.refusals.Refusal.{Refusal}
+use Rattle.octets.specs.declared.refusals.Refusal.TheVariants.{UnknownOption}
 use Rattle.octets.specs.Sets.{contains}
 use Rattle.octets.proofs.Sets.{contains_bit}
 use Rattle.collector.specs.Options.{with_subscribed, with_special_use, byte_of, criteria_of, asked_by}
-use Rattle.collector.specs.declared.options.Asked.{Asked}
-use Rattle.collector.specs.declared.options.Asked.TheVariants.{Of, Unlawful}
 use Rattle.collector.specs.declared.options.WalkCriteria.{WalkCriteria}
 use Rattle.collector.specs.declared.options.WalkCriteria.TheVariants.{Subscribed, Both, SpecialUse}
 use Rattle.collector.specs.declared.options.WalkOptions.{WalkOptions}
+
+-- nothing was there where `ok_or` refuses, and what it took was there
+module _ {A : Type 0} (k : Refusal) where
+  pub none_refused : {r : Option A} {e : Refusal} → Err e ≡ ok_or r k → (r ≡ None) × (e ≡ k)
+  none_refused {r} {e} a = pick r a
+    where
+      pick : (r : Option A) → Err e ≡ ok_or r k → (r ≡ None) × (e ≡ k)
+      pick (Some x) z = cc
+      pick None z = (refl, cc)
+
+  pub some_kept : {r : Option A} {x : A} → Ok x ≡ ok_or r k → r ≡ Some x
+  some_kept {r} {x} a = pick r a
+    where
+      pick : (r : Option A) → Ok x ≡ ok_or r k → r ≡ Some x
+      pick (Some y) z = cc
+      pick None z = cc
 
 -- the members of a byte, as the code tests them
 pub has_remote : (o : ℕ) → contains o 1 ≡ wants_remote o
@@ -64,9 +81,9 @@ unfolding byte_of drops_subscribed open_bytes
 byte_subscribed = each (λ w. not (drops_subscribed (byte_of w)) ≡ with_subscribed w.criteria) refl refl refl refl refl refl
 
 -- the byte asks for the options that it is of
-pub byte_asks : (w : WalkOptions) → asked_by (byte_of w) ≡ Of w
+pub byte_asks : (w : WalkOptions) → asked_by (byte_of w) ≡ Some w
 unfolding byte_of asked_by criteria_of lawful_byte wants_remote wants_special drops_subscribed open_bytes
-byte_asks = each (λ w. asked_by (byte_of w) ≡ Of w) refl refl refl refl refl refl
+byte_asks = each (λ w. asked_by (byte_of w) ≡ Some w) refl refl refl refl refl refl
 
 -- the byte of the options that a lawful byte asks for is that byte
 lawful_back : (o : ℕ) → lawful_byte o ≡ true → byte_of (these (criteria_of o) (wants_remote o)) ≡ o
@@ -84,27 +101,33 @@ lawful_back o h = go o (leb-true o 7 (and_l (leb o 7) (not (drops_subscribed o) 
     go (suc (suc (suc (suc (suc (suc (suc zero))))))) few h = refl
     go (suc (suc (suc (suc (suc (suc (suc (suc o)))))))) few h = absurd (omega arith)
 
-pub lawful_asks : (o : ℕ) → lawful_byte o ≡ true → (w : WalkOptions) × (asked_by o ≡ Of w) × (byte_of w ≡ o)
+pub lawful_asks : (o : ℕ) → lawful_byte o ≡ true → (w : WalkOptions) × (asked_by o ≡ Some w) × (byte_of w ≡ o)
 unfolding asked_by
 lawful_asks o h = (these (criteria_of o) (wants_remote o), rw h, lawful_back o h)
 
-pub unlawful_asks : (o : ℕ) → lawful_byte o ≡ false → asked_by o ≡ Unlawful
+pub unlawful_asks : (o : ℕ) → lawful_byte o ≡ false → asked_by o ≡ None
 unfolding asked_by
 unlawful_asks o h = rw h
 
 -- what is known of a byte by what it asks for
-pub asked_byte : (o : ℕ) {w : WalkOptions} {r : Asked} → r ≡ asked_by o → r ≡ Of w → byte_of w ≡ o
+asked_byte : (o : ℕ) {w : WalkOptions} → asked_by o ≡ Some w → byte_of w ≡ o
 unfolding asked_by
-asked_byte o {w} a e = pick (lawful_byte o) refl (sym a ∙ e)
+asked_byte o {w} e = pick (lawful_byte o) refl e
   where
-    pick : (b : Bool) → lawful_byte o ≡ b → cond b (Of (these (criteria_of o) (wants_remote o))) Unlawful ≡ Of w → byte_of w ≡ o
+    pick : (b : Bool) → lawful_byte o ≡ b → cond b (Some (these (criteria_of o) (wants_remote o))) None ≡ Some w → byte_of w ≡ o
     pick true h g = let y : these (criteria_of o) (wants_remote o) ≡ w = cc in ap byte_of (sym y) ∙ lawful_back o h
     pick false h g = cc
 
-pub asked_none : (o : ℕ) {r : Asked} → r ≡ asked_by o → r ≡ Unlawful → lawful_byte o ≡ false
+asked_none : (o : ℕ) → asked_by o ≡ None → lawful_byte o ≡ false
 unfolding asked_by
-asked_none o a e = pick (lawful_byte o) (sym a ∙ e)
+asked_none o e = pick (lawful_byte o) e
   where
-    pick : (b : Bool) → cond b (Of (these (criteria_of o) (wants_remote o))) Unlawful ≡ Unlawful → b ≡ false
+    pick : (b : Bool) → cond b (Some (these (criteria_of o) (wants_remote o))) None ≡ None → b ≡ false
     pick true g = cc
     pick false g = refl
+
+pub byte_taken : (o : ℕ) {w : WalkOptions} → Ok w ≡ ok_or (asked_by o) UnknownOption → byte_of w ≡ o
+byte_taken o e = asked_byte o (some_kept UnknownOption e)
+
+pub byte_refused : (o : ℕ) {e : Refusal} → Err e ≡ ok_or (asked_by o) UnknownOption → (lawful_byte o ≡ false) × (e ≡ UnknownOption)
+byte_refused o e = let n = none_refused UnknownOption e in (asked_none o n.0, n.1)

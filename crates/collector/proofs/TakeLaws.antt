@@ -1,6 +1,7 @@
 -- One line of an answer taken in: what the reader's answer tells of the line, and what is kept of it. Rests on PackLaws and
 -- FindLaws and on the laws of the reader.
-use Rattle.listing_rules.proofs.Prelude.{◌∙◌, ◌≡◌, ap, refl, subst, sym, Bool, false, not, ◌⊎◌, inl, inr, List, ◌-◌, ◌≤◌, ℕ, arith, length}
+use Rattle.std.specs.Prelude.{Option as Maybe, Some, None, Result, Ok, Err, ok_or}
+use Rattle.listing_rules.proofs.Prelude.{◌∙◌, ◌≡◌, ap, refl, subst, sym, Bool, false, not, ◌⊎◌, inl, inr, List, ◌++◌, ◌-◌, ◌≤◌, ℕ, arith, length}
 use Rattle.listing_rules.proofs.Prelude.{length-append, replicate, take, take_at}
 use Rattle.listing_rules.proofs.Keys.{open_bytes}
 use Rattle.listing_rules.specs.Options.{Criteria, is_none, criteria_of, criteria_number}
@@ -10,18 +11,17 @@ use Rattle.listing_rules.specs.Walk.{Lists, Step, stop, go, ◌then◌, packed, 
 use Rattle.listing_rules.proofs.LawfulNames.{good_parts}
 use Rattle.listing_rules.proofs.ReaderWriter.{Taken, read_line_only}
 use Rattle.list_line.specs.Members.{members, set_of}
-use Rattle.line_reader.specs.Lines.{line_is}
+use Rattle.octets.specs.declared.refusals.Refusal.{Refusal}
+use Rattle.octets.specs.Refusals.{numbered}
+use Rattle.line_reader.specs.Lines.{parts_of, line_is}
 use Rattle.list_line.specs.declared.attributes.Attributes.{Attributes}
 use Rattle.list_line.specs.declared.criteria.Criteria.{Criteria as Set}
-use Rattle.line_reader.specs.declared.Line.{Line}
-use Rattle.line_reader.specs.declared.Line.TheVariants.{Parts, Refused}
+use Rattle.line_reader.specs.declared.Parts.{Parts}
 use Rattle.list_line.proofs.Members.{members_set_of}
 use Rattle.listing_rules.proofs.RoundTrip.{criteria_number_lem}
 use Rattle.collector.specs.Names.{Keeps}
 use Rattle.collector.specs.Options.{byte_of}
 use Rattle.collector.specs.Taking.{Inside, Holds, Goes, line_step}
-use Rattle.collector.specs.declared.keeping.Kept.{Kept}
-use Rattle.collector.specs.declared.keeping.Kept.TheVariants.{To, Full}
 use Rattle.collector.specs.declared.lines.Progress.{Progress}
 use Rattle.collector.specs.declared.options.WalkOptions.{WalkOptions}
 use Rattle.collector.proofs.FindLaws.{root_finds_none}
@@ -42,123 +42,142 @@ finds_with w t n s = with_name (is_find (byte_of w) (members t.bits)) n s.finds
 abbrev pub asks_with : Bool → List ℕ → Lists → List (List ℕ)
 asks_with c n s = with_name c n s.asks
 
--- The line is read: these attributes, this length of the name, CHILDINFO or not; the name stands at the front of the bytes.
-pub record ReadAs (l : List ℕ) (t : Attributes) (n : ℕ) (c : Bool) (name : List ℕ) : Type 0 where
-  pub short : n ≤ 200
-  pub inside : n ≤ length name
+-- The line is read into these parts: the length of the name, whose bytes stand at the front, and what the line adds to the two lists.
+pub record ReadAs (l : List ℕ) (q : Parts) : Type 0 where
+  pub short : q.len ≤ 200
+  pub inside : q.len ≤ length q.name
   pub taken : (w : WalkOptions) (found pending : ℕ) (s : Lists) → length (packed s.finds) ≤ found → length (packed s.asks) ≤ pending →
-      taken_in (byte_of w) found pending s (read_line l) ≡ both_fit found pending (finds_with w t (take n name) s) (asks_with c (take n name) s)
+      taken_in (byte_of w) found pending s (read_line l) ≡ both_fit found pending (finds_with w q.attributes (take q.len q.name) s) (asks_with (parent_of q.criteria) (take q.len q.name) s)
 
-module _ (l : List ℕ) (t : Attributes) (n : ℕ) (k : Set) (name : List ℕ) where
+module _ (l : List ℕ) (q : Parts) where
   as_line : (bs : List Bool) (m : List ℕ) (d : Criteria) → read_line l ≡ line bs m d → length bs ≡ 16 → length m ≤ 200 →
-      Parts (record { bits = set_of bs }) (length m) (record { bits = criteria_number d }) ≡ Parts t n k → name ≡ name_bytes (line bs m d) →
-      ReadAs l t n (parent_of k) name
-  unfolding name_bytes name_read taken_in
-  as_line bs m d r h f e g =
+      parts_of (line bs m d) ≡ Some q → ReadAs l q
+  unfolding parts_of name_bytes name_read taken_in
+  as_line bs m d r h f e =
       record {
         short = omega (arith, size);
-        inside = omega (arith, size, ap length g, length-append m (replicate (200 - length m) 0));
-        taken = λ w found pending s p q. rw r (λ i. both_fit found pending (with_name (is_find (byte_of w) (attributes i)) (bytes i) s.finds) (with_name (child i) (bytes i) s.asks));
+        inside = omega (arith, size, ap length whole, length-append m (replicate (200 - length m) 0));
+        taken = λ w found pending s x y. rw r (λ i. both_fit found pending (with_name (is_find (byte_of w) (attributes i)) (bytes i) s.finds) (with_name (child i) (bytes i) s.asks));
       }
     where
-      size : length m ≡ n
-      size = cc
+      same : record { attributes = record { bits = set_of bs }; name = m ++ replicate (200 - length m) 0; len = length m; criteria = record { bits = criteria_number d } } ≡ q
+      same = cc
 
-      child : not (is_none d) ≡ parent_of k
-      child = let x : record { bits = criteria_number d } ≡ k = cc in ap (λ (y : Criteria). not (is_none y)) (sym (criteria_number_lem d)) ∙ ap parent_of x
+      size : length m ≡ q.len
+      size = ap (λ (x : Parts). x.len) same
 
-      attributes : bs ≡ members t.bits
-      attributes = let x : record { bits = set_of bs } ≡ t = cc in sym (members_set_of bs h) ∙ ap (λ (y : Attributes). members y.bits) x
+      whole : m ++ replicate (200 - length m) 0 ≡ q.name
+      whole = ap (λ (x : Parts). x.name) same
 
-      bytes : m ≡ take n name
-      bytes = sym (ap (take n) g ∙ take_at m (replicate (200 - length m) 0) n size)
+      child : not (is_none d) ≡ parent_of q.criteria
+      child = ap (λ (y : Criteria). not (is_none y)) (sym (criteria_number_lem d)) ∙ ap (λ (x : Parts). parent_of x.criteria) same
+
+      attributes : bs ≡ members q.attributes.bits
+      attributes = sym (members_set_of bs h) ∙ ap (λ (x : Parts). members x.attributes.bits) same
+
+      bytes : m ≡ take q.len q.name
+      bytes = sym (ap (take q.len) (sym whole) ∙ take_at m (replicate (200 - length m) 0) q.len size)
 
   -- the root line is no find and has no CHILDINFO
-  as_root : read_line l ≡ root → Parts (record { bits = 4 }) 0 (record { bits = 0 }) ≡ Parts t n k → ReadAs l t n (parent_of k) name
-  unfolding taken_in with_name is_none criteria_of open_bytes ◌then◌
+  as_root : read_line l ≡ root → parts_of root ≡ Some q → ReadAs l q
+  unfolding parts_of taken_in with_name is_none criteria_of open_bytes ◌then◌
   as_root r e =
       record {
-        short = let x : 0 ≡ n = cc in omega arith;
-        inside = let x : 0 ≡ n = cc in omega arith;
+        short = omega (arith, size);
+        inside = omega (arith, size);
         taken =
-            λ w found pending s p q. rw r (sym (rw (root_finds_none w, fits_go 10 found s.finds p, fits_go 11 pending s.asks q)) ∙ λ i. both_fit
-            found pending (finds_with w (attributes i) (take n name) s) (asks_with (child i) (take n name) s));
+            λ w found pending s x y. rw r (sym (rw (root_finds_none w, fits_go 10 found s.finds x, fits_go 11 pending s.asks y)) ∙ λ i. both_fit
+            found pending (finds_with w (attributes i) (take q.len q.name) s) (asks_with (child i) (take q.len q.name) s));
       }
     where
-      child : false ≡ parent_of k
-      child = let x : record { bits = 0 } ≡ k = cc in ap parent_of x
+      same : record { attributes = record { bits = 4 }; name = name_bytes root; len = 0; criteria = record { bits = 0 } } ≡ q
+      same = cc
 
-      attributes : record { bits = 4 } ≡ t
-      attributes = cc
+      size : 0 ≡ q.len
+      size = ap (λ (x : Parts). x.len) same
+
+      child : false ≡ parent_of q.criteria
+      child = ap (λ (x : Parts). parent_of x.criteria) same
+
+      attributes : record { bits = 4 } ≡ q.attributes
+      attributes = ap (λ (x : Parts). x.attributes) same
+
+  bad_has_none : parts_of bad ≡ Some q → ⊥
+  unfolding parts_of
+  bad_has_none z = cc
 
   -- what the code learns of the reader's answer
-  pub read_as : {r : Line} → r ≡ line_is (read_line l) → r ≡ Parts t n k → name ≡ name_bytes (read_line l) → ReadAs l t n (parent_of k) name
+  pub read_as : {r : Result Parts Refusal} → numbered r ≡ line_is (read_line l) → r ≡ Ok q → ReadAs l q
   unfolding line_is
-  read_as a told g = pick (read_line_only l)
+  read_as a told = pick (read_line_only l)
     where
-      e : line_is (read_line l) ≡ Parts t n k
-      e = sym a ∙ told
+      is : (x : Maybe Parts) → ok_or {E = ℕ} x 12 ≡ Ok q → x ≡ Some q
+      is (Some x) z = cc
+      is None z = cc
 
-      pick : (read_line l ≡ bad) ⊎ ((l ≡ root_line) × (read_line l ≡ root)) ⊎ Taken l (read_line l) → ReadAs l t n (parent_of k) name
-      pick (inl r) = let z : Refused 12 ≡ Parts t n k = ap line_is (sym r) ∙ e in let y : ◌≡◌ {A = ℕ} 0 1 = cc in absurd (omega arith)
-      pick (inr (inl r)) = as_root r.1 (ap line_is (sym r.1) ∙ e)
-      pick (inr (inr r)) = as_line r.attrs r.name r.child r.is r.sixteen (good_parts r.name r.good).most (ap line_is (sym r.is) ∙ e) (g ∙ ap name_bytes r.is)
+      e : parts_of (read_line l) ≡ Some q
+      e = is (parts_of (read_line l)) (sym a ∙ ap numbered told)
+
+      pick : (read_line l ≡ bad) ⊎ ((l ≡ root_line) × (read_line l ≡ root)) ⊎ Taken l (read_line l) → ReadAs l q
+      pick (inl r) = absurd (bad_has_none (ap parts_of (sym r) ∙ e))
+      pick (inr (inl r)) = as_root r.1 (ap parts_of (sym r.1) ∙ e)
+      pick (inr (inr r)) = as_line r.attrs r.name r.child r.is r.sixteen (good_parts r.name r.good).most (ap parts_of (sym r.is) ∙ e)
 
 -- a line that the reader refuses
-read_bad : (l : List ℕ) {k : ℕ} → line_is (read_line l) ≡ Refused k → read_line l ≡ bad
-unfolding line_is
+read_bad : (l : List ℕ) {k : ℕ} → line_is (read_line l) ≡ Err k → read_line l ≡ bad
+unfolding line_is parts_of
 read_bad l {k} e = pick (read_line l) e
   where
-    pick : (r : Read) → line_is r ≡ Refused k → r ≡ bad
+    pick : (r : Read) → line_is r ≡ Err k → r ≡ bad
     pick (line bs m d) z = cc
     pick root z = cc
     pick bad z = refl
 
-pub line_skipped : (l : List ℕ) (w : WalkOptions) {r : Line} {k : ℕ} {d b : List ℕ} {p : Progress} → r ≡ line_is (read_line l) → r ≡ Refused k →
+pub line_skipped : (l : List ℕ) (w : WalkOptions) {r : Result Parts Refusal} {k : Refusal} {d b : List ℕ} {p : Progress} → numbered r ≡ line_is (read_line l) → r ≡ Err k →
     Inside d b p → Goes (line_step w l d b) p.count d b p d b p
 unfolding taken_in
-line_skipped l w a e h = record { inside = h; counted = refl; lists = λ s g. (s, rw (read_bad l (sym a ∙ e)), g) }
+line_skipped l w a e h = record { inside = h; counted = refl; lists = λ s g. (s, rw (read_bad l (sym a ∙ ap numbered e)), g) }
 
 -- the promise of `keep` where its question and its answer are known
-keeps_as : {v v' : Bool} {r r' : Kept} (n d : List ℕ) (at : ℕ) (e : List ℕ) → v ≡ v' → r ≡ r' → Keeps v n d at e r → Keeps v' n d at e r'
-keeps_as {v} {v'} {r} {r'} n d at e p q k = subst (λ (x : Bool). Keeps x n d at e r') p (subst (λ (y : Kept). Keeps v n d at e y) q k)
+keeps_as : {v v' : Bool} {r r' : Maybe ℕ} (n d : List ℕ) (at : ℕ) (e : List ℕ) → v ≡ v' → r ≡ r' → Keeps v n d at e r → Keeps v' n d at e r'
+keeps_as {v} {v'} {r} {r'} n d at e p q k = subst (λ (x : Bool). Keeps x n d at e r') p (subst (λ (y : Maybe ℕ). Keeps v n d at e y) q k)
 
 -- a line that is read: its name is kept in found, in pending, in both or in neither
-module _ {l : List ℕ} {t : Attributes} {n : ℕ} {c : Bool} {name : List ℕ} (R : ReadAs l t n c name) (w : WalkOptions) {d b : List ℕ} {p : Progress} where
-  parts_step : {s : Lists} → Holds s d b p → line_step w l d b s ≡ both_fit (length d) (length b) (finds_with w t (take n name) s) (asks_with c (take n name) s)
+module _ {l : List ℕ} {x : Parts} (R : ReadAs l x) (w : WalkOptions) {d b : List ℕ} {p : Progress} where
+  parts_step : {s : Lists} → Holds s d b p → line_step w l d b s ≡ both_fit (length d) (length b) (finds_with w x.attributes (take x.len x.name) s) (asks_with (parent_of x.criteria) (take x.len x.name) s)
   parts_step {s} h = R.taken w (length d) (length b) s (omega (arith, h.finds.counted, h.finds.room)) (omega (arith, h.asks.counted, h.asks.room))
 
-  pub find_full : {v : Bool} {r : Kept} (d' : List ℕ) → v ≡ is_find (byte_of w) (members t.bits) → r ≡ Full →
-      Keeps v (take n name) d p.found d' r → (s : Lists) → Holds s d b p → line_step w l d b s ≡ stop 10
+  pub find_full : {v : Bool} {r : Maybe ℕ} (d' : List ℕ) → v ≡ is_find (byte_of w) (members x.attributes.bits) → r ≡ None →
+      Keeps v (take x.len x.name) d p.found d' r → (s : Lists) → Holds s d b p → line_step w l d b s ≡ stop 10
   unfolding ◌then◌
   find_full d' a e k s h =
-      let full = keeps_as (take n name) d p.found d' a e k in
-      parts_step h ∙ rw (fits_stop 10 (length d) (finds_with w t (take n name) s) (full s.finds h.finds))
+      let full = keeps_as (take x.len x.name) d p.found d' a e k in
+      parts_step h ∙ rw (fits_stop 10 (length d) (finds_with w x.attributes (take x.len x.name) s) (full s.finds h.finds))
 
-  module _ {v : Bool} {r : Kept} {f : ℕ} (d' : List ℕ) (a : v ≡ is_find (byte_of w) (members t.bits)) (e : r ≡ To f) (k : Keeps v (take n name) d p.found d' r) (same : length d' ≡ length d) where
-    found_fits : {s : Lists} → Holds s d b p → fits 10 (length d) (finds_with w t (take n name) s) ≡ go (finds_with w t (take n name) s)
+  module _ {v : Bool} {r : Maybe ℕ} {f : ℕ} (d' : List ℕ) (a : v ≡ is_find (byte_of w) (members x.attributes.bits)) (e : r ≡ Some f) (k : Keeps v (take x.len x.name) d p.found d' r) (same : length d' ≡ length d) where
+    found_fits : {s : Lists} → Holds s d b p → fits 10 (length d) (finds_with w x.attributes (take x.len x.name) s) ≡ go (finds_with w x.attributes (take x.len x.name) s)
     found_fits {s} h =
-        let x = (keeps_as (take n name) d p.found d' a e k).1 s.finds h.finds in
-        fits_go 10 (length d) (finds_with w t (take n name) s) (omega (arith, x.counted, x.room))
+        let y = (keeps_as (take x.len x.name) d p.found d' a e k).1 s.finds h.finds in
+        fits_go 10 (length d) (finds_with w x.attributes (take x.len x.name) s) (omega (arith, y.counted, y.room))
 
-    pub ask_full : {u : Bool} {q : Kept} (b' : List ℕ) → u ≡ c → q ≡ Full → Keeps u (take n name) b p.pending b' q → (s : Lists) → Holds s d b p → line_step w l d b s ≡ stop 11
+    pub ask_full : {u : Bool} {q : Maybe ℕ} (b' : List ℕ) → u ≡ parent_of x.criteria → q ≡ None → Keeps u (take x.len x.name) b p.pending b' q → (s : Lists) → Holds s d b p → line_step w l d b s ≡ stop 11
     unfolding ◌then◌
     ask_full b' a' e' k' s h =
-        let full = keeps_as (take n name) b p.pending b' a' e' k' in
-        parts_step h ∙ rw (found_fits h, fits_stop 11 (length b) (asks_with c (take n name) s) (full s.asks h.asks))
+        let full = keeps_as (take x.len x.name) b p.pending b' a' e' k' in
+        parts_step h ∙ rw (found_fits h, fits_stop 11 (length b) (asks_with (parent_of x.criteria) (take x.len x.name) s) (full s.asks h.asks))
 
-    pub line_taken : {u : Bool} {q : Kept} {g : ℕ} (b' : List ℕ) → u ≡ c → q ≡ To g → Keeps u (take n name) b p.pending b' q →
+    pub line_taken : {u : Bool} {q : Maybe ℕ} {g : ℕ} (b' : List ℕ) → u ≡ parent_of x.criteria → q ≡ Some g → Keeps u (take x.len x.name) b p.pending b' q →
         length b' ≡ length b → Goes (line_step w l d b) p.count d b p d' b' (record { count = p.count; found = f; pending = g })
     unfolding ◌then◌
     line_taken b' a' e' k' same' =
-        let finds = keeps_as (take n name) d p.found d' a e k in
-        let asks = keeps_as (take n name) b p.pending b' a' e' k' in
+        let finds = keeps_as (take x.len x.name) d p.found d' a e k in
+        let asks = keeps_as (take x.len x.name) b p.pending b' a' e' k' in
         record {
           inside = record { finds = finds.0; asks = asks.0 };
           counted = refl;
-          lists = λ s h. let x = asks.1 s.asks h.asks in (
-            record { finds = finds_with w t (take n name) s; asks = asks_with c (take n name) s },
-            parts_step h ∙ rw (found_fits h, fits_go 11 (length b) (asks_with c (take n name) s) (omega (arith, x.counted, x.room))),
-            record { finds = finds.1 s.finds h.finds; asks = x },
+          lists = λ s h. let y = asks.1 s.asks h.asks in (
+            record { finds = finds_with w x.attributes (take x.len x.name) s; asks = asks_with (parent_of x.criteria) (take x.len x.name) s },
+            parts_step h ∙ rw (found_fits h, fits_go 11 (length b) (asks_with (parent_of x.criteria) (take x.len x.name) s) (omega (arith, y.counted, y.room))),
+            record { finds = finds.1 s.finds h.finds; asks = y },
           );
         }

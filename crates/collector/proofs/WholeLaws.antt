@@ -1,5 +1,6 @@
 -- The collector's promise: its answer's number, count and length, the order of its refusals, what a refused walk and one that came to
 -- its end leave, demand 3 and the numbers that it can give, which follow from the equations. Rests on the laws `demand-3-holds` and `walk-allowed`.
+use Rattle.std.specs.Prelude.{Result, Ok, Err}
 use Rattle.listing_rules.proofs.Prelude.{◌∙◌, ◌≡◌, ap, refl, subst, sym, false, true, List, [], ◌∷◌, ◌+◌, ◌<◌, ◌≤◌, ℕ, arith, length, replicate}
 use Rattle.listing_rules.proofs.Prelude.{le-leb, lt-leb}
 use Rattle.listing_rules.specs.Bytes.{one_of}
@@ -14,8 +15,9 @@ use Rattle.listing_rules.proofs.OwnCommands.{walk_allowed}
 use Rattle.collector.specs.Result.{collected_is, number_of_walk, is_allowed, count_of, length_of, collected_of, scratch_of, found_of, pending_of}
 use Rattle.collector.specs.Result.{WholeWalk, OwesDemand3}
 use Rattle.collector.specs.Ends.{Comes, Collects}
-use Rattle.collector.specs.declared.Collected.{Collected}
-use Rattle.collector.specs.declared.Collected.TheVariants.{Done, Refused}
+use Rattle.octets.specs.declared.refusals.Refusal.{Refusal}
+use Rattle.octets.specs.Refusals.{number_of, numbered}
+use Rattle.collector.specs.declared.Walked.{Walked}
 
 -- the number, the count and the length of an answer are those of the reply
 pub number_of_walk_lem : (w : WalkReply) → number_of_walk (collected_is w) ≡ walk_number w
@@ -66,27 +68,31 @@ module _ (reader : ℕ) (table : Table) (o : ℕ) (scratch found pending : List 
   reader_walks_long h f p lf lp = (λ i. walk table o (length scratch) (lf i) (lp i)) ∙ sym (reader_walks h)
 
 -- the promise of `collect`, of its answer and what lies in the buffers after it: of the rows that the reader sees, and of all where they pass
-abbrev pub Promise : ℕ → Table → Table → ℕ → List ℕ → List ℕ → List ℕ → Collected → List ℕ → List ℕ → List ℕ → Type 0
-Promise reader all table o scratch found pending r s f p =
-    (r ≡ collected_of reader table o scratch found pending)
-    × ((s ≡ scratch_of reader table o scratch found pending)
-    × ((f ≡ found_of reader table o scratch found pending)
-    × ((p ≡ pending_of reader table o scratch found pending)
-    × (OwesDemand3 reader all table o scratch found pending r f p × (is_allowed r ≡ true)))))
+abbrev pub Promise : ℕ → Table → Table → ℕ → List ℕ → List ℕ → List ℕ → Result Walked Refusal → List ℕ → List ℕ → List ℕ → Type 0
+Promise reader all table o s₀ f₀ p₀ r s f p =
+    record {
+      result : numbered r ≡ collected_of reader table o s₀ f₀ p₀;
+      scratch : s ≡ scratch_of reader table o s₀ f₀ p₀;
+      found : f ≡ found_of reader table o s₀ f₀ p₀;
+      pending : p ≡ pending_of reader table o s₀ f₀ p₀;
+      demand3 : OwesDemand3 reader all table o s₀ f₀ p₀ (numbered r) f p;
+      numbers : is_allowed (numbered r) ≡ true;
+    }
 
 -- it follows from the answer and what lies in the buffers, where what is seen passes as all rows do; and so it does from those over a table that is the same
 pub promised : (reader : ℕ) (all table : Table) (o : ℕ) (scratch found pending : List ℕ) → passes table ≡ passes all →
-    (r : Collected) (s f p : List ℕ) → Collects reader table o scratch found pending r s f p →
+    (r : Result Walked Refusal) (s f p : List ℕ) → Collects reader table o scratch found pending r s f p →
     Promise reader all table o scratch found pending r s f p
 unfolding collected_by walk_by
-promised reader all table o scratch found pending alike r s f p c = (c.0, (c.1, (c.2, (c.3, (whole, numbers)))))
+promised reader all table o scratch found pending alike r s f p c =
+    record { result = c.0; scratch = c.1; found = c.2; pending = c.3; demand3 = whole; numbers = numbers }
   where
-    numbers : is_allowed r ≡ true
+    numbers : is_allowed (numbered r) ≡ true
     numbers =
         ap is_allowed c.0 ∙ allowed_of_walk (collected_by reader table o scratch found pending)
         ∙ walk_allowed reader table o (length scratch) (length found) (length pending)
 
-    whole : OwesDemand3 reader all table o scratch found pending r f p
+    whole : OwesDemand3 reader all table o scratch found pending (numbered r) f p
     whole is ok lawful =
         let by : walk_by reader table o (length scratch) (length found) (length pending) ≡ walk table o (length scratch) (length found)
         (length pending) = rw is in
@@ -99,48 +105,50 @@ promised reader all table o scratch found pending alike r s f p c = (c.0, (c.1, 
         }
 
 pub promised_same : (reader : ℕ) (all table : Table) (o : ℕ) (scratch found pending : List ℕ) → passes table ≡ passes all →
-    (r : Collected) (s f p : List ℕ) {held : Table} → held ≡ table → Collects reader held o scratch found pending r s f p
+    (r : Result Walked Refusal) (s f p : List ℕ) {held : Table} → held ≡ table → Collects reader held o scratch found pending r s f p
     → Promise reader all table o scratch found pending r s f p
 promised_same reader all table o scratch found pending alike r s f p e c =
     promised reader all table o scratch found pending alike r s f p (subst (λ (v : Table). Collects reader v o scratch found pending r s f p) e c)
 
 -- of a walk that was refused, and of one that came to its end
 module _ (reader : ℕ) (table : Table) (o : ℕ) (scratch found pending : List ℕ) {s f p : List ℕ} (zs : s ≡ replicate (length scratch) 0) where
-  pub collects_refused : {r : Collected} {k : ℕ} → r ≡ Refused k → collected_by reader table o scratch found pending ≡ walk_refused k
+  pub collects_refused : {r : Result Walked Refusal} {k : Refusal} → r ≡ Err k → collected_by reader table o scratch found pending ≡ walk_refused (number_of k)
       → f ≡ replicate (length found) 0 → p ≡ replicate (length pending) 0 → Collects reader table o scratch found pending r s f p
   unfolding collected_is scratch_after found_after pending_after
   collects_refused {r} {k} er e zf zp = (
-    er ∙ sym (ap collected_is e),
+    ap numbered er ∙ sym (ap collected_is e),
     zs,
     zf ∙ sym (ap (found_after (length found)) e),
     zp ∙ sym (ap (pending_after (length pending)) e),
   )
 
   pub collects_done : {count len : ℕ} → Comes (collected_by reader table o scratch found pending) f p count len → length f ≡ length found →
-      length p ≡ length pending → Collects reader table o scratch found pending (Done count len) s f p
+      length p ≡ length pending → Collects reader table o scratch found pending (Ok (record { count = count; found = len })) s f p
   unfolding collected_is scratch_after found_after pending_after
   collects_done {count} {len} C lf lp = (
-    ap (Done count) C.counted ∙ sym (ap collected_is C.is),
+    ap (λ (n : ℕ). Ok (record { count = count; found = n })) C.counted ∙ sym (ap collected_is C.is),
     zs,
     C.found ∙ ap (λ (k : ℕ). zero_behind k C.finds) lf ∙ sym (ap (found_after (length found)) C.is),
     C.pending ∙ ap (λ (k : ℕ). zero_behind k C.asks) lp ∙ sym (ap (pending_after (length pending)) C.is),
   )
 
 -- a reply by the collector's answer
-reply_refused : (w : WalkReply) {k : ℕ} → collected_is w ≡ Refused k → w ≡ walk_refused k
+reply_refused : (w : WalkReply) {k : ℕ} → collected_is w ≡ Err k → w ≡ walk_refused k
 unfolding collected_is
 reply_refused (walk_refused j) {k} e = let y : j ≡ k = cc in ap walk_refused y
 reply_refused (walked c f p) e = cc
 
-reply_done : (w : WalkReply) {count len : ℕ} → collected_is w ≡ Done count len →
+reply_done : (w : WalkReply) {count len : ℕ} → collected_is w ≡ Ok (record { count = count; found = len }) →
     (f : List ℕ) × (p : List ℕ) × (w ≡ walked count f p) × (length f ≡ len)
 unfolding collected_is
 reply_done (walk_refused j) e = let y : ◌≡◌ {A = ℕ} 0 1 = cc in absurd (omega arith)
-reply_done (walked c f p) {count} {len} e = let y : c ≡ count = cc in let z : length f ≡ len = cc in (f, p, ap (λ (n : ℕ). walked n f p) y, z)
+reply_done (walked c f p) {count} {len} e =
+    let same : record { count = c; found = length f } ≡ record { count = count; found = len } = cc in
+    (f, p, ap (λ (r : Walked). walked r.count f p) same, ap (λ (r : Walked). r.found) same)
 
 -- What `WholeWalk` says of a refusal, and of a walk that came to its end.
 module _ {table : Table} {o scratch found pending : ℕ} {f p : List ℕ} where
-  pub whole_refused : {k : ℕ} → WholeWalk table o scratch found pending (Refused k) f p →
+  pub whole_refused : {k : ℕ} → WholeWalk table o scratch found pending (Err k) f p →
       (too_small (rows table) o scratch found pending ≡ true)
       × (one_of (9 ∷ 10 ∷ 11 ∷ []) k ≡ true)
       × (f ≡ replicate found 0)
@@ -151,7 +159,7 @@ module _ {table : Table} {o scratch found pending : ℕ} {f p : List ℕ} where
       let d : Demand3 table o scratch found pending (walk_refused k) = rw e at W.owed in
       (d.0, d.1, W.found_holds ∙ ap (found_after found) e, W.pending_holds ∙ ap (pending_after pending) e)
 
-  pub whole_done : {count len : ℕ} → WholeWalk table o scratch found pending (Done count len) f p →
+  pub whole_done : {count len : ℕ} → WholeWalk table o scratch found pending (Ok (record { count = count; found = len })) f p →
       (too_small (rows table) o scratch found pending ≡ false)
       × (count ≡ 1 + length (meeting_ancestors (rows table) o))
       × (len ≡ length (packed (meeting_names (rows table) o)))

@@ -3,7 +3,6 @@ pub mod Result
 pub mod Options
 pub mod Held
 pub mod Rooms
-pub mod Lines
 pub mod Names
 pub mod Taking
 pub mod Walking

@@ -1,8 +1,7 @@
 -- The six lawful option bytes, and what each asks for.
+use Rattle.std.specs.Prelude.{Option, Some, None}
 use Rattle.std.specs.Prelude.{Bool, true, false, cond, ℕ, ◌+◌}
 use Rattle.listing_rules.specs.Walk.{wants_remote, wants_special, drops_subscribed, lawful_byte}
-use Rattle.collector.specs.declared.options.Asked.{Asked}
-use Rattle.collector.specs.declared.options.Asked.TheVariants.{Of, Unlawful}
 use Rattle.collector.specs.declared.options.WalkCriteria.{WalkCriteria}
 use Rattle.collector.specs.declared.options.WalkCriteria.TheVariants.{Subscribed, Both, SpecialUse}
 use Rattle.collector.specs.declared.options.WalkOptions.{WalkOptions}
@@ -27,5 +26,5 @@ unfoldable pub criteria_of : ℕ → WalkCriteria
 criteria_of o = cond (drops_subscribed o) SpecialUse (cond (wants_special o) Both Subscribed)
 
 -- what a byte asks for, if it is lawful
-unfoldable pub asked_by : ℕ → Asked
-asked_by o = cond (lawful_byte o) (Of (record { criteria = criteria_of o; remote = wants_remote o })) Unlawful
+unfoldable pub asked_by : ℕ → Option WalkOptions
+asked_by o = cond (lawful_byte o) (Some (record { criteria = criteria_of o; remote = wants_remote o })) None

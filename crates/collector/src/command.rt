@@ -1,18 +1,17 @@
 // The commands of the walk: one line, made from the options and a reference.
-ghost use Rattle.std.specs.Prelude.{◌≡◌, [], ◌∷◌, ◌++◌, replicate};
+ghost use Rattle.std.specs.Prelude.{◌≡◌, [], ◌∷◌, ◌++◌};
 ghost use Rattle.listing_rules.specs.Bytes.{slash};
 ghost use Rattle.listing_rules.specs.Walk.{when, command_line};
 ghost use Rattle.octets.specs.Put.{Put};
 ghost use Rattle.collector.specs.Options.{byte_of};
-ghost use Rattle.collector.specs.Rooms.{reference_room, command_room};
 
 use super::options::WalkOptions;
 use octets::{SLASH, put, put_all, put_quoted};
 
 // Room for a reference, which is a name of at most 255 bytes and "/", and for a command with it, whose quotes may double it.
-const REFERENCE_ROOM: usize = 256;
+pub(crate) const REFERENCE_ROOM: usize = 256;
 
-const COMMAND_ROOM: usize = 640;
+pub(crate) const COMMAND_ROOM: usize = 640;
 
 const START: [u8; 8] = *b"w LIST (";
 
@@ -48,19 +47,6 @@ pub(crate) fn put_below(buf: &mut [u8], name: &[u8]) -> usize
 {
     let a = put_all(buf, 0, name);
     put(buf, a, SLASH)
-}
-
-// An empty reference, and an empty command.
-pub(crate) fn no_reference() -> [u8; REFERENCE_ROOM]
-    ensures { result ≡ replicate reference_room 0 }
-{
-    [0u8; REFERENCE_ROOM]
-}
-
-pub(crate) fn no_command() -> [u8; COMMAND_ROOM]
-    ensures { result ≡ replicate command_room 0 }
-{
-    [0u8; COMMAND_ROOM]
 }
 
 // The text, if it is asked for.

@@ -11,28 +11,30 @@ mod keeping;
 mod lines;
 mod options;
 mod packed;
+mod seen;
 mod walk;
 
-ghost use Rattle.std.specs.Prelude.{◌≡◌, true, length, replicate};
+ghost use Rattle.std.specs.Prelude.{◌≡◌, true, length, replicate, Err};
+ghost use Rattle.octets.specs.Refusals.{numbered};
 ghost use Rattle.records.specs.Lent.{words_table, words_seen};
-ghost use Rattle.collector.specs.declared.Collected.TheVariants.{Refused};
 ghost use Rattle.collector.specs.Result.{is_allowed, collected_of, scratch_of, found_of, pending_of, OwesDemand3};
 
 use indexed::collect_index;
-use mailbox_table::{Indexing, MAX_READER};
-use octets::{clear, refusals};
+use mailbox_table::MAX_READER;
+use octets::{Refusal, clear};
 pub use packed::collect_packed;
 use records::no_words;
+use seen::Seen;
 use summary::index_summed;
 
-// What a walk answers: how many commands were sent, and the length of what lies in found; or the number of the refusal.
+// A walk that came to its end: how many commands were sent, and the length of what lies in found.
 #[derive(Clone, Copy)]
-pub enum Collected {
-    Done(usize, usize),
-    Refused(u8),
+pub struct Walked {
+    pub count: usize,
+    pub found: usize,
 }
 
-// The whole walk of a reader. The first `count` words are the rows, each as a number (`records::word_of`), over the area of names, and `sums` the numbers
+// The whole walk of a reader. The first `count` words are the rows, each as a number (`word_of` of records/specs), over the area of names, and `sums` the numbers
 // of their summary (`summary`). Finds lie at the front of `found` and the names that were asked below at the front of `pending`, zero after them;
 // `scratch` takes the answers, and is zero in the end. A refusal zeroes all three.
 pub fn collect_words(
@@ -45,8 +47,8 @@ pub fn collect_words(
     scratch: &mut [u8],
     found: &mut [u8],
     pending: &mut [u8],
-) -> Collected
-    ensures result { result ≡ collected_of reader (words_seen reader words.now count area.now sums.now)
+) -> Result<Walked, Refusal>
+    ensures result { numbered result ≡ collected_of reader (words_seen reader words.now count area.now sums.now)
         option scratch.old found.old pending.old }
     ensures scratch { scratch.new ≡ scratch_of reader (words_seen reader words.now count area.now sums.now)
         option scratch.old found.old pending.old }
@@ -56,27 +58,32 @@ pub fn collect_words(
         option scratch.old found.old pending.old }
     ensures demand3 { OwesDemand3 reader (words_table words.now count area.now sums.now)
         (words_seen reader words.now count area.now sums.now)
-        option scratch.old found.old pending.old result found.new pending.new }
-    ensures numbers { is_allowed result ≡ true }
+        option scratch.old found.old pending.old (numbered result) found.new pending.new }
+    ensures numbers { is_allowed (numbered result) ≡ true }
 {
     if MAX_READER < reader {
-        return refuse(refusals::READER, scratch, found, pending);
+        return refuse(Refusal::Reader, scratch, found, pending);
     }
     let mut rows = no_words();
-    let Indexing::Rows(n) = index_summed(area, words, count, sums, &mut rows) else {
-        return refuse(refusals::TABLE, scratch, found, pending);
+    let Some(n) = index_summed(area, words, count, sums, &mut rows) else {
+        return refuse(Refusal::Table, scratch, found, pending);
     };
-    collect_index(&rows[..n], area, reader, option, scratch, found, pending)
+    let seen = Seen {
+        words: &rows[..n],
+        area,
+        reader,
+    };
+    collect_index(seen, option, scratch, found, pending)
 }
 
 // A refusal, which zeroes the three buffers.
 pub(crate) fn refuse(
-    number: u8,
+    refusal: Refusal,
     scratch: &mut [u8],
     found: &mut [u8],
     pending: &mut [u8],
-) -> Collected
-    ensures { (result ≡ Refused number)
+) -> Result<Walked, Refusal>
+    ensures { (result ≡ Err refusal)
         × (scratch.new ≡ replicate (length scratch.old) 0)
         × (found.new ≡ replicate (length found.old) 0)
         × (pending.new ≡ replicate (length pending.old) 0) }
@@ -84,5 +91,5 @@ pub(crate) fn refuse(
     clear(scratch);
     clear(found);
     clear(pending);
-    Collected::Refused(number)
+    Err(refusal)
 }

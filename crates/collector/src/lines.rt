@@ -1,16 +1,15 @@
 // The lines of an answer, taken in: finds to found, names with CHILDINFO to pending.
-ghost use Rattle.std.specs.Prelude.{◌≡◌, ◌+◌, drop};
-ghost use Rattle.listing_rules.specs.Walk.{use_attr, is_find};
+ghost use Rattle.std.specs.Prelude.{◌≡◌};
+ghost use Rattle.listing_rules.specs.Walk.{is_find};
 ghost use Rattle.list_line.specs.Members.{members};
-ghost use Rattle.collector.specs.Lines.{line_length};
 ghost use Rattle.collector.specs.Options.{byte_of};
 ghost use Rattle.collector.specs.Taking.{Inside, TakesLine, TakesAnswer};
 
-use super::keeping::{Kept, keep};
+use super::keeping::keep;
 use super::options::WalkOptions;
-use line_reader::{Line, read_line};
+use line_reader::read_line;
 use list_line::Attributes;
-use octets::{LF, refusals};
+use octets::{LF, Members, Refusal};
 
 // How far a walk is: the commands sent, and the lengths of what lies in found and in pending.
 #[derive(Clone, Copy)]
@@ -29,12 +28,16 @@ impl Progress {
     };
 }
 
-// How far it is after a line, an answer or a command; or the number of the refusal.
-#[derive(Clone, Copy)]
-pub(crate) enum Taken {
-    All(Progress),
-    Refused(u8),
-}
+// The seven uses.
+const USES: Attributes = Attributes {
+    bits: Attributes::ALL.bits
+        | Attributes::ARCHIVE.bits
+        | Attributes::DRAFTS.bits
+        | Attributes::FLAGGED.bits
+        | Attributes::JUNK.bits
+        | Attributes::SENT.bits
+        | Attributes::TRASH.bits,
+};
 
 // Every line of an answer, in order.
 pub(crate) fn take_lines(
@@ -43,26 +46,16 @@ pub(crate) fn take_lines(
     found: &mut [u8],
     pending: &mut [u8],
     start: Progress,
-) -> Taken
+) -> Result<Progress, Refusal>
     requires { Inside found.old pending.old start }
     ensures { TakesAnswer options answer.now start
         found.old pending.old found.new pending.new result }
 {
     let mut progress = start;
-    let mut at = 0;
-    while at < answer.len() {
-        let end = next_line(answer, at);
-        match take_line(&answer[at..end], options, found, pending, progress) {
-            Taken::All(next) => {
-                progress = next;
-                at = end;
-            }
-            Taken::Refused(number) => {
-                return Taken::Refused(number);
-            }
-        }
+    for line in answer.split_inclusive(|b| *b == LF) {
+        progress = take_line(line, options, found, pending, progress)?;
     }
-    Taken::All(progress)
+    Ok(progress)
 }
 
 // One line. What is no LIST line, as the tagged line at the end, adds nothing; nor does the root line.
@@ -72,26 +65,20 @@ fn take_line(
     found: &mut [u8],
     pending: &mut [u8],
     start: Progress,
-) -> Taken
+) -> Result<Progress, Refusal>
     requires { Inside found.old pending.old start }
     ensures { TakesLine options line.now start
         found.old pending.old found.new pending.new result }
 {
-    let read = read_line(line);
-    let parts = read.line;
-    let Line::Parts(attributes, n, child_info) = parts else {
-        return Taken::All(start);
+    let Ok(parts) = read_line(line) else {
+        return Ok(start);
     };
-    let name = read.name;
-    let find = is_find(options, attributes);
-    let parent = !child_info.is_none();
-    let Kept::To(found_end) = keep(find, found, start.found, &name[..n]) else {
-        return Taken::Refused(refusals::FOUND_FULL);
-    };
-    let Kept::To(pending_end) = keep(parent, pending, start.pending, &name[..n]) else {
-        return Taken::Refused(refusals::PENDING_FULL);
-    };
-    Taken::All(Progress {
+    let name = &parts.name[..parts.len];
+    let find = is_find(options, parts.attributes);
+    let parent = !parts.criteria.is_none();
+    let found_end = keep(find, found, start.found, name).ok_or(Refusal::FoundFull)?;
+    let pending_end = keep(parent, pending, start.pending, name).ok_or(Refusal::PendingFull)?;
+    Ok(Progress {
         count: start.count,
         found: found_end,
         pending: pending_end,
@@ -104,33 +91,6 @@ fn is_find(options: WalkOptions, attributes: Attributes) -> bool
 {
     let subscribed = !options.subscribed() | attributes.has(Attributes::SUBSCRIBED);
     let near = !attributes.has(Attributes::REMOTE) | options.remote;
-    let used = !options.special_use() | has_use(attributes);
+    let used = !options.special_use() | attributes.has_some(USES);
     subscribed & near & used
-}
-
-// Whether one of the seven uses is there.
-fn has_use(attributes: Attributes) -> bool
-    ensures { result ≡ use_attr (members attributes.bits) }
-{
-    attributes.has(Attributes::ALL)
-        | attributes.has(Attributes::ARCHIVE)
-        | attributes.has(Attributes::DRAFTS)
-        | attributes.has(Attributes::FLAGGED)
-        | attributes.has(Attributes::JUNK)
-        | attributes.has(Attributes::SENT)
-        | attributes.has(Attributes::TRASH)
-}
-
-// The place after the line that begins at a place: after its line feed, or the end.
-fn next_line(answer: &[u8], at: usize) -> usize
-    ensures { result ≡ at + line_length (drop at answer.now) }
-{
-    let mut i = at;
-    while i < answer.len() {
-        if answer[i] == LF {
-            return i + 1;
-        }
-        i += 1;
-    }
-    i
 }

@@ -1,9 +1,11 @@
 // The options of a walk. The option byte is a set with named members; a lawful one is turned into what it asks for at the
 // border, and everything after that goes by the options alone.
-ghost use Rattle.std.specs.Prelude.{◌≡◌};
+ghost use Rattle.std.specs.Prelude.{◌≡◌, ok_or};
 ghost use Rattle.listing_rules.specs.Walk.{lawful_byte};
-ghost use Rattle.octets.specs.Sets.{contains};
+ghost use Rattle.octets.specs.declared.refusals.Refusal.TheVariants.{UnknownOption};
 ghost use Rattle.collector.specs.Options.{with_subscribed, with_special_use, criteria_of, asked_by};
+
+use octets::{Members, Refusal};
 
 // The option byte: a set with named members.
 #[derive(Clone, Copy)]
@@ -26,35 +28,30 @@ pub(crate) struct WalkOptions {
     pub remote: bool,
 }
 
-// What an option byte asks for.
-#[derive(Clone, Copy)]
-pub(crate) enum Asked {
-    Of(WalkOptions),
-    Unlawful,
-}
+// The options of a lawful byte, and refusal 6 for any other.
+impl TryFrom<u8> for WalkOptions {
+    type Error = Refusal;
 
-impl WalkOptions {
-    // The options of a lawful byte.
-    pub(crate) fn of_byte(byte: u8) -> Asked
-        ensures { result ≡ asked_by byte }
-    {
+    ghost try_from_gives = { λ byte r. r ≡ ok_or (asked_by byte) UnknownOption };
+
+    fn try_from(byte: u8) -> Result<WalkOptions, Refusal> {
         let set = OptionByte { bits: byte };
         if !set.lawful() {
-            return Asked::Unlawful;
+            return Err(Refusal::UnknownOption);
         }
         let criteria = set.criteria();
         let remote = set.has(OptionByte::REMOTE);
-        Asked::Of(WalkOptions { criteria, remote })
+        Ok(WalkOptions { criteria, remote })
     }
+}
 
+impl WalkOptions {
     // Whether SUBSCRIBED is selected.
     pub(crate) fn subscribed(self) -> bool
         ensures { result ≡ with_subscribed self.criteria }
     {
-        let criteria = self.criteria;
-        match criteria {
-            WalkCriteria::Subscribed => true,
-            WalkCriteria::Both => true,
+        match self.criteria {
+            WalkCriteria::Subscribed | WalkCriteria::Both => true,
             WalkCriteria::SpecialUse => false,
         }
     }
@@ -63,11 +60,25 @@ impl WalkOptions {
     pub(crate) fn special_use(self) -> bool
         ensures { result ≡ with_special_use self.criteria }
     {
-        let criteria = self.criteria;
-        match criteria {
+        match self.criteria {
             WalkCriteria::Subscribed => false,
-            WalkCriteria::Both => true,
-            WalkCriteria::SpecialUse => true,
+            WalkCriteria::Both | WalkCriteria::SpecialUse => true,
+        }
+    }
+}
+
+impl Members for OptionByte {
+    ghost number = { λ s. s.bits };
+
+    ghost width = { 8 };
+
+    fn number(self) -> u16 {
+        u16::from(self.bits)
+    }
+
+    fn of_number(n: u16) -> OptionByte {
+        OptionByte {
+            bits: (n % 256) as u8,
         }
     }
 }
@@ -80,13 +91,6 @@ impl OptionByte {
     pub(crate) const WITHOUT_SUBSCRIBED: OptionByte = OptionByte { bits: 4 };
 
     pub(crate) const ALL: OptionByte = OptionByte { bits: 7 };
-
-    // Whether every one of `member` is in.
-    pub(crate) fn has(self, member: OptionByte) -> bool
-        ensures { result ≡ contains self.bits member.bits }
-    {
-        self.bits & member.bits == member.bits
-    }
 
     // Whether it has no members but these, and drops SUBSCRIBED only where SPECIAL-USE is selected.
     pub(crate) fn lawful(self) -> bool

@@ -1,9 +1,10 @@
 -- Laws of the store that packed bytes become: names placed one after the other, as the loop of `place_names` meets them, words copied,
 -- the whole store, and its first summary. Rests on listing_rules' ProgramStore.
+use Rattle.std.specs.Prelude.{Option, Some, None}
 use Rattle.listing_rules.proofs.Prelude.{◌∙◌, ◌≡◌, ap, refl, subst, sym, Bool, cond, false, true, none, leb, le-leb, List, [], ◌++◌, ◌∷◌}
 use Rattle.listing_rules.proofs.Prelude.{append_assoc, append-nil, map, map-append, ◌%◌, ◌+◌, ◌-◌, ◌/◌, ◌<◌, ◌≤◌, suc, zero, ℕ, arith, drop}
 use Rattle.listing_rules.proofs.Prelude.{drop_of_length-le, get_or, length, length-append, length-drop, length-map, length-replicate, length-set}
-use Rattle.listing_rules.proofs.Prelude.{length-take, replicate, set, take, drop-cons, drop-drop, drop-set-lt, paste, paste-suc, sets, sets-eq}
+use Rattle.listing_rules.proofs.Prelude.{length-take, replicate, set, take, drop-cons, drop-drop, drop-set-lt, sets, sets-eq}
 use Rattle.listing_rules.proofs.Prelude.{take_all, take-suc-set}
 use Rattle.listing_rules.specs.Lists.{joined, filled_to}
 use Rattle.listing_rules.specs.Table.{Row, Table, names, passes, packed_rows, packed_table}
@@ -27,8 +28,6 @@ use Rattle.summary.specs.Counts.{numbered_table}
 use Rattle.mailbox_table.specs.declared.rows.Row.{Row as CodeRow}
 use Rattle.mailbox_table.specs.Words.{row_of_word}
 use Rattle.mailbox_table.specs.Index.{name_at, rows_at, Rest, Indexes}
-use Rattle.mailbox_table.specs.declared.Indexing.{Indexing}
-use Rattle.mailbox_table.specs.declared.Indexing.TheVariants.{Rows, Fails}
 use Rattle.mailbox_table.proofs.HeldLaws.{Held, index_held}
 use Rattle.kept_table.specs.Laying.{Short, Inside, Blank, Lays}
 
@@ -157,13 +156,6 @@ module _ {table ws₀ a₀ ws a : List ℕ} {at i : ℕ} (p : Placing table ws�
       let exact = sym (append-nil (take i ws)) ∙ sym (ap (λ (l : List ℕ). take i ws ++ map cell_of (records_from at (map record_of l))) none) ∙ p.cells in
       (sym (ap (map record_of) (take_all i ws h)) ∙ told, p.bytes ∙ ap (sets a₀ 0) named, sym (take_all i ws h) ∙ exact)
 
--- Words copied one by one.
-pub copied_more : (d s : List ℕ) (i : ℕ) → i < length s → length s ≤ length d → set (paste d 0 s i) i (get_or s i 0) ≡ paste d 0 s (i + 1)
-copied_more d s i h few =
-    let here : i ≡ 0 + i = omega arith in
-    let one : suc i ≡ i + 1 = omega arith in
-    ap (λ (k : ℕ). set (paste d 0 s i) k (get_or s i 0)) here ∙ paste-suc d 0 s i 0 (omega arith) h ∙ ap (paste d 0 s) one
-
 -- Zeros at the end of words and area.
 abbrev zeros : ℕ → List ℕ
 zeros n = replicate n 0
@@ -209,12 +201,12 @@ cells_filled m n vs rs exact size =
     (λ i. exact i ++ rest i) ∙ sym (map-append cell_of rs (replicate (m - length rs) zero_record))
 
 -- A table's index, with room for 512 rows, where its rows are found.
-module _ {t cells ws us : List ℕ} {r : Indexing} (x : Indexes t (packed_table t) (packed_records t) cells ws us r) (h : length ws ≡ 512) (n : ℕ)
-    (e : r ≡ Rows n) where
+module _ {t cells ws us : List ℕ} {r : Option ℕ} (x : Indexes t (packed_table t) (packed_records t) cells ws us r) (h : length ws ≡ 512) (n : ℕ)
+    (e : r ≡ Some n) where
   held : Held x n
   held = index_held x n e
 
-  rest : Rest ws us (Rows n)
+  rest : Rest ws us (Some n)
   rest = subst (Rest ws us) e x.rest
 
   pub rows_short : length t ≤ 16384 → Short (rows_at t (take n us))
@@ -225,7 +217,7 @@ module _ {t cells ws us : List ℕ} {r : Indexing} (x : Indexes t (packed_table 
 
   -- the names placed, and zeros after them
   pub lays_rows : (a b vs : List ℕ) → Blank t ws a → map record_of vs ≡ records_from 0 (map record_of (take n us)) →
-      b ≡ sets a 0 (joined (names (rows_at t (take n us)))) → vs ≡ map cell_of (records_from 0 (map record_of (take n us))) → Lays t (vs ++ drop n us) b (Rows n)
+      b ≡ sets a 0 (joined (names (rows_at t (take n us)))) → vs ≡ map cell_of (records_from 0 (map record_of (take n us))) → Lays t (vs ++ drop n us) b (Some n)
   unfolding program_store names
   lays_rows a b vs blank told put exact =
       let rs = packed_records t in
@@ -244,7 +236,7 @@ module _ {t cells ws us : List ℕ} {r : Indexing} (x : Indexes t (packed_table 
       (held.table_passes, (λ i. record { records = records_are i; count = number i; area = area_is i }), cells_are)
 
 -- no more rows than records
-pub laid_few : (t ws a : List ℕ) (count : ℕ) → Lays t ws a (Rows count) → count ≤ 512
+pub laid_few : (t ws a : List ℕ) (count : ℕ) → Lays t ws a (Some count) → count ≤ 512
 unfolding program_store
 laid_few t ws a count x = omega (arith, ap (λ (s : Store). s.count) x.1, packed_count t, (packed_parts t x.0).parts.few)
 
@@ -258,7 +250,7 @@ sums_left : (n k : ℕ) → drop k (map summary_of (zeros n)) ≡ replicate (n -
 sums_left n k = sym (map_drop summary_of k (zeros n)) ∙ ap (map summary_of) (drop_zeros n k) ∙ zero_sums (n - k)
 
 -- The first summary of the store, counted over zeros: with it the words are the program's records and their summary.
-module _ (t ws a : List ℕ) (count : ℕ) (short : length t ≤ 16384) (laid : Lays t ws a (Rows count)) (size : length ws ≡ 512) where
+module _ (t ws a : List ℕ) (count : ℕ) (short : length t ≤ 16384) (laid : Lays t ws a (Some count)) (size : length ws ≡ 512) where
   few : length (packed_records t) ≤ 512
   few = omega (arith, packed_count t, (packed_parts t laid.0).parts.few)
 
@@ -291,9 +283,9 @@ module _ (t ws a : List ℕ) (count : ℕ) (short : length t ≤ 16384) (laid : 
       λ i. record { store = laid.1 i; summary = summed i }
 
 -- the answer tells which
-module _ (t ws a : List ℕ) {r : Indexing} where
-  pub laid_not : Lays t ws a r → r ≡ Fails → passes (packed_table t) ≡ false
+module _ (t ws a : List ℕ) {r : Option ℕ} where
+  pub laid_not : Lays t ws a r → r ≡ None → passes (packed_table t) ≡ false
   laid_not x e = subst (Lays t ws a) e x
 
-  pub laid_rows : {n : ℕ} → Lays t ws a r → r ≡ Rows n → Lays t ws a (Rows n)
+  pub laid_rows : {n : ℕ} → Lays t ws a r → r ≡ Some n → Lays t ws a (Some n)
   laid_rows x e = subst (Lays t ws a) e x

@@ -1,7 +1,7 @@
 -- Laws of the lent memory: lines of output and their lengths, the tests of its sizes, the parts that hold what is stored, records and summary put
 -- there, and a frame that only says a line.
-use Rattle.listing_rules.proofs.Prelude.{◌∙◌, ◌≡◌, ap, refl, sym, List, [], ◌++◌, ◌∷◌, append-nil, ◌*◌, ◌+◌, ◌≤◌, ℕ, arith, drop, drop_of_length-le}
-use Rattle.listing_rules.proofs.Prelude.{length, length-append, length-drop, take, drop_at, drop-drop, length-take-le, paste, take-append-drop, take_at, take-length}
+use Rattle.listing_rules.proofs.Prelude.{◌∙◌, ◌≡◌, ap, refl, sym, List, [], ◌++◌, ◌∷◌, ◌*◌, ◌+◌, ◌≤◌, ℕ, arith, drop}
+use Rattle.listing_rules.proofs.Prelude.{length, length-append, length-drop, take, drop_at, drop-drop, length-take-le, take-append-drop, take_at}
 use Rattle.listing_rules.proofs.Prelude.{◌&&◌, true, leb, le-leb, leb-true}
 use Rattle.listing_rules.proofs.Bools.{and_i, and_l, and_r}
 use Rattle.listing_rules.specs.Frames.{hex, answer_line, refusal_line, answering}
@@ -101,24 +101,10 @@ module _ (words sums numbers : List ℕ) (hw : length words ≡ 512) (hs : lengt
       ∙ ap (drop 512) (drop_at words (drop 512 numbers) 512 hw) ∙ drop-drop 512 512 numbers in
       λ i. front i ++ (sums ++ rest i)
 
--- words copied over the first numbers, over others that are as many, and a summary over the 512 numbers after the first 512
-pub copied_front : (words numbers : List ℕ) → length words ≡ 512 → paste numbers 0 words (length words) ≡ words ++ drop 512 numbers
-copied_front words numbers hw =
-    let all = take-length words in
-    let size : 0 + length words ≡ 512 = omega (arith, hw) in
-    λ i. all i ++ drop (size i) numbers
-
-pub copied_all : (words numbers : List ℕ) → length words ≡ 512 → length numbers ≡ 512 → paste numbers 0 words (length words) ≡ words
-copied_all words numbers hw hn =
-    copied_front words numbers hw
-    ∙ ap (λ (l : List ℕ). words ++ l) (drop_of_length-le numbers {i = 512} (omega (arith, hn)))
-    ∙ append-nil words
-
-pub copied_sums : (sums numbers copied : List ℕ) → length sums ≡ 512 → length (take 512 (drop 512 numbers)) ≡ 512 →
-    copied ≡ paste (take 512 (drop 512 numbers)) 0 sums (length sums)
+-- a summary copied over the 512 numbers after the first 512
+pub copied_sums : (sums numbers copied : List ℕ) → copied ≡ sums
     → take 512 numbers ++ (copied ++ drop 512 (drop 512 numbers)) ≡ numbers_with (take 512 numbers) sums numbers
-copied_sums sums numbers copied hs hn e =
-    let is = e ∙ copied_all sums (take 512 (drop 512 numbers)) hs hn in
+copied_sums sums numbers copied is =
     let rest = drop-drop 512 512 numbers in
     λ i. take 512 numbers ++ (is i ++ rest i)
 

@@ -1,5 +1,8 @@
 -- Laws of commands: the line of the server's answer, what document 02 has a command leave of what is kept, and the memory that holds it.
 -- Rests on LentLaws and on listing_rules' CommandLaws, SummaryCommands and ProgramStore.
+use Rattle.std.specs.Prelude.{Result, Ok, Err}
+use Rattle.std.specs.Result.{is_err}
+use Rattle.octets.specs.declared.refusals.Refusal.{Refusal}
 use Rattle.listing_rules.proofs.Prelude.{◌∙◌, ◌≡◌, ap, refl, subst, sym, Bool, and-false, cond, false, false≢true, true, List, [], ◌++◌, ◌∷◌}
 use Rattle.listing_rules.proofs.Prelude.{append-nil, map, min, ◌+◌, ◌<◌, ◌≤◌, ℕ, arith, drop, drop_of_length-le, length, length-append, length-map}
 use Rattle.listing_rules.proofs.Prelude.{length-take, take, drop_at, length-take-le, sets, sets-eq, take_all, take_at, take-take, le-leb, lt-leb}
@@ -20,9 +23,8 @@ use Rattle.listing_rules.proofs.CommandLaws.{refused_leaves, read_leaves, read_a
 use Rattle.listing_rules.proofs.ReaderLaws.{packed_seen_passes}
 use Rattle.listing_rules.proofs.ReplayLaws.{not_accepted_leaves}
 use Rattle.octets.specs.Put.{Put}
+use Rattle.octets.specs.Refusals.{number_of, numbered}
 use Rattle.octets.specs.Written.{written_is}
-use Rattle.octets.specs.declared.Written.{Written}
-use Rattle.octets.specs.declared.Written.TheVariants.{Done, Refused}
 use Rattle.records.specs.Words.{record_of, cell_of}
 use Rattle.records.specs.Numbers.{summary_word, summary_of}
 use Rattle.records.specs.Lent.{word_store, lent_of, word_summed}
@@ -36,33 +38,33 @@ use Rattle.kept_table.specs.Commanding.{command_line, written_line, answer_lengt
 use Rattle.kept_table.proofs.LentLaws.{length_line, says, says_refusal, whole_area, with_words, with_sums_lem, with_rest_lem, with_over, whole_numbers, carries_said}
 
 -- The line of an answer that lies in its buffer.
-module _ {w : Written} {a : List ℕ} (f : Fits w a) where
-  pub answer_size_lem : (n : ℕ) → w ≡ Done n → n ≡ length (take n a)
+module _ {w : Result ℕ ℕ} {a : List ℕ} (f : Fits w a) where
+  pub answer_size_lem : (n : ℕ) → w ≡ Ok n → n ≡ length (take n a)
   unfolding answer_length
   answer_size_lem n e = sym (length-take-le n a (rw e at f.inside))
 
-  pub answer_says : (n : ℕ) (o p : List ℕ) (r : ℕ) → w ≡ Done n → Put o p 0 (answer_line (0x41 ∷ take n a)) r → Says (written_line w a) o p r
+  pub answer_says : (n : ℕ) (o p : List ℕ) (r : ℕ) → w ≡ Ok n → Put o p 0 (answer_line (0x41 ∷ take n a)) r → Says (written_line w a) o p r
   unfolding written_line
   answer_says n o p r e put = rw e (says (omega (arith, length_line (0x41 ∷ take n a), length-take n a, f.small)) put)
 
-  pub refusal_says : (k : ℕ) (o p : List ℕ) (r : ℕ) → w ≡ Refused k → Put o p 0 (refusal_line k) r → Says (written_line w a) o p r
+  pub refusal_says : (k : ℕ) (o p : List ℕ) (r : ℕ) → w ≡ Err k → Put o p 0 (refusal_line k) r → Says (written_line w a) o p r
   unfolding written_line
   refusal_says k o p r e put = rw e (says_refusal k put)
 
 -- The server's answer `w` in the buffer `a`, which was `b`, is the reply r.
-reply_line_lem : (r : Reply) {w : Written} (b a : List ℕ) → w ≡ written_is r → a ≡ buffer_after b r → written_line w a ≡ reply_line r
+reply_line_lem : (r : Reply) {w : Result ℕ ℕ} (b a : List ℕ) → w ≡ written_is r → a ≡ buffer_after b r → written_line w a ≡ reply_line r
 unfolding written_line written_is reply_line buffer_after
-reply_line_lem r b a e m = ap (λ (w : Written). written_line w a) e ∙ go r m
+reply_line_lem r b a e m = ap (λ (w : Result ℕ ℕ). written_line w a) e ∙ go r m
   where
     go : (r : Reply) → a ≡ buffer_after b r → written_line (written_is r) a ≡ reply_line r
     go (refusal k) m = refl
     go (answered x) m = ap (λ (l : List ℕ). answer_line (0x41 ∷ l)) (ap (take (length x)) m ∙ take_at x (drop (length x) b) (length x) refl)
 
-reply_says : (r : Reply) {w : Written} (b a : List ℕ) {o p : List ℕ} {k : ℕ} → w ≡ written_is r → a ≡ buffer_after b r →
+reply_says : (r : Reply) {w : Result ℕ ℕ} (b a : List ℕ) {o p : List ℕ} {k : ℕ} → w ≡ written_is r → a ≡ buffer_after b r →
     Says (written_line w a) o p k → Says (reply_line r) o p k
 reply_says r b a {o} {p} {k} e m x = subst (λ (line : List ℕ). Says line o p k) (reply_line_lem r b a e m) x
 
-pub reply_fits : (r : Reply) {w : Written} (b a : List ℕ) → w ≡ written_is r → a ≡ buffer_after b r → length a ≡ 16384 → Fits w a
+pub reply_fits : (r : Reply) {w : Result ℕ ℕ} (b a : List ℕ) → w ≡ written_is r → a ≡ buffer_after b r → length a ≡ 16384 → Fits w a
 unfolding answer_length written_is buffer_after
 reply_fits r b a e m size = record { inside = rw e (go r m); small = omega (arith, size) }
   where
@@ -70,20 +72,29 @@ reply_fits r b a e m size = record { inside = rw e (go r m); small = omega (arit
     go (refusal k) m = omega arith
     go (answered x) m = omega (arith, ap length m, length-append x (drop (length x) b))
 
+-- a test tells which it is
+pub was_err : (w : Result ℕ Refusal) → is_err w ≡ true → (j : Refusal) × (w ≡ Err j)
+was_err (Err j) e = (j, refl)
+was_err (Ok n) e = absurd (false≢true e)
+
+pub was_ok : (w : Result ℕ Refusal) → is_err w ≡ false → (n : ℕ) × (w ≡ Ok n)
+was_ok (Ok n) e = (n, refl)
+was_ok (Err j) e = absurd (false≢true (sym e))
+
 -- it is a refusal, or it is none
-reply_refused : (r : Reply) (k : ℕ) → Refused k ≡ written_is r → r ≡ refusal k
+reply_refused : (r : Reply) (k : ℕ) → Err k ≡ written_is r → r ≡ refusal k
 unfolding written_is
 reply_refused (refusal j) k e = cc
 reply_refused (answered a) k e = cc
 
-reply_answered : (r : Reply) (n : ℕ) → Done n ≡ written_is r → is_answered r ≡ true
+reply_answered : (r : Reply) (n : ℕ) → Ok n ≡ written_is r → is_answered r ≡ true
 unfolding written_is is_answered
 reply_answered (refusal j) n e = cc
 reply_answered (answered a) n e = refl
 
 -- What the server's command over 512 words and their summary comes to: what it wrote, and the words, the summary, the area and the answer buffer then.
 pub record Came (c : SummedCommand) (b vs ss us e : List ℕ) (r : Answered) : Type 0 where
-  pub written : r.written ≡ written_is c.reply
+  pub written : numbered r.written ≡ written_is c.reply
   pub count : r.count ≡ c.left.store.count
   pub bytes : e ≡ buffer_after b c.reply
   pub area : us ≡ c.left.store.area
@@ -334,7 +345,7 @@ module _ (reader : ℕ) (t spaces l : List ℕ) where
           ∙ sym (ap (λ (c : SummedCommand). c.reply) (command_over_bytes reader t short p spaces l b size))
       go false p = fails (is_reader reader) refl p
 
-  pub reads_line : (b a o p : List ℕ) (w : Written) (r : ℕ) → length b ≡ 16384 → length t ≤ 16384 → is_edit (parsed l) ≡ false →
+  pub reads_line : (b a o p : List ℕ) (w : Result ℕ ℕ) (r : ℕ) → length b ≡ 16384 → length t ≤ 16384 → is_edit (parsed l) ≡ false →
       w ≡ written_is (served_to reader (packed_seen reader t) spaces l b) → a ≡ buffer_after b (served_to reader (packed_seen reader t) spaces l b)
       → Says (written_line w a) o p r → Says (command_line reader (bytes t) spaces l) o p r
   reads_line b a o p w r size short e i m x =
@@ -491,7 +502,7 @@ module _ (d : Lent) (n : Lengths) (x : Within n d.table d.records d.namespaces) 
         → vs ≡ words_left (parsed l) (summed_command reader (record
         { store = word_store (take 512 d.records) 512 n.table (take 16384 d.table); summary = map summary_of sums }) spaces l b).reply
         (take 512 d.records) 512 n.table (take 16384 d.table)
-        → length us ≡ length (take 16384 d.table) → length ss ≡ 512 → Says (written_line r.written f) d.out o k
+        → length us ≡ length (take 16384 d.table) → length ss ≡ 512 → Says (written_line (numbered r.written) f) d.out o k
         → Obeys n reader l d
         (lent (us ++ drop 16384 d.table) (numbers_with (take 512 (vs ++ drop 512 d.records)) ss (vs ++ drop 512 d.records)) d.namespaces o)
         (outcome_is (lengths_is r.count n.namespaces true) k)
@@ -517,11 +528,11 @@ module _ (d : Lent) (n : Lengths) (x : Within n d.table d.records d.namespaces) 
     over_made = first_over reader packed spaces l m b size (omega (arith, length-take n.table d.table, x.held.rows)) p is
 
     -- it is refused
-    pub first_refused : (vs ss us f o : List ℕ) (r : Answered) (j k : ℕ) → Came (summed_command reader m spaces l b) b vs ss us f r →
-        r.written ≡ Refused j → Says (written_line r.written f) d.out o k →
+    pub first_refused : (vs ss us f o : List ℕ) (r : Answered) (j : Refusal) (k : ℕ) → Came (summed_command reader m spaces l b) b vs ss us f r →
+        r.written ≡ Err j → Says (written_line (numbered r.written) f) d.out o k →
         Obeys n reader l d (lent d.table d.records d.namespaces o) (outcome_is n k)
     first_refused vs ss us f o r j k c q s =
-        obeys_refused j o k e (ap (λ (y : SummedCommand). y.reply) over_made ∙ reply_refused made.reply j (sym q ∙ c.written))
+        obeys_refused (number_of j) o k e (ap (λ (y : SummedCommand). y.reply) over_made ∙ reply_refused made.reply (number_of j) (ap numbered (sym q) ∙ c.written))
         (rw over_made (reply_says made.reply b f c.written c.bytes s))
 
     step_made : is_answered made.reply ≡ true →
@@ -538,7 +549,7 @@ module _ (d : Lent) (n : Lengths) (x : Within n d.table d.records d.namespaces) 
     pub first_accepted : (vs ss us f o : List ℕ) (r : Answered) (j k : ℕ) → Came (summed_command reader m spaces l b) b vs ss us f r →
         (ws : List ℕ) → ws ≡ map cell_of (program_store packed).records
         → vs ≡ words_left (parsed l) (summed_command reader m spaces l b).reply ws 512 m.store.count m.store.area →
-        r.written ≡ Done j → m.store.count ≤ 16384 → length us ≡ 16384 → length ss ≡ 512 → Says (written_line r.written f) d.out o k
+        r.written ≡ Ok j → m.store.count ≤ 16384 → length us ≡ 16384 → length ss ≡ 512 → Says (written_line (numbered r.written) f) d.out o k
         → Obeys n reader l d (lent (sets d.table 0 us) (numbers_with vs ss d.records) d.namespaces o)
         (outcome_is (lengths_is r.count n.namespaces true) k)
     first_accepted vs ss us f o r j k c ws cells words q counted hu hs s =
@@ -546,7 +557,7 @@ module _ (d : Lent) (n : Lengths) (x : Within n d.table d.records d.namespaces) 
         let bytes_are : sets d.table 0 us ≡ us ++ drop 16384 d.table = sets-eq us d.table 0 (omega (arith, hu, x.held.table)) ∙ ap
         (λ (i : ℕ). us ++ drop i d.table) end in
         let few = few_after reader m spaces l b counted (few_records made us vs ss c.area c.records c.summary hu c.size hs) in
-        let answered-so = reply_answered made.reply j (sym q ∙ c.written) in
+        let answered-so = reply_answered made.reply j (ap numbered (sym q) ∙ c.written) in
         let summed : m ≡ kept_summed (bytes packed) = is ∙ bytes_summed packed in
         let words-first : words_left (parsed l) made.reply ws 512 m.store.count m.store.area
         ≡ words_left (parsed l) made.reply (cells_of (bytes packed) d.records) 512 (kept_summed (bytes packed)).store.count

@@ -1,4 +1,5 @@
 -- A command over what is kept: its line, by the server's answer, and what it leaves.
+use Rattle.std.specs.Prelude.{Result, Ok, Err}
 use Rattle.std.specs.Prelude.{◌≡◌, true, false, cond, List, ◌∷◌, map, length, take, ℕ, ◌≤◌}
 use Rattle.listing_rules.specs.Command.{parsed}
 use Rattle.listing_rules.specs.Frames.{Kept, bytes, records, Stored, program_store, kept_summed, accepted, answer_line, refusal_line, reply_line}
@@ -6,8 +7,6 @@ use Rattle.listing_rules.specs.Frames.{command_over, command_step}
 use Rattle.records.specs.Words.{cell_of}
 use Rattle.records.specs.Numbers.{summary_word}
 use Rattle.server.specs.Answering.{words_left}
-use Rattle.octets.specs.declared.Written.{Written}
-use Rattle.octets.specs.declared.Written.TheVariants.{Done, Refused}
 use Rattle.kept_table.specs.declared.Lengths.{Lengths}
 use Rattle.kept_table.specs.declared.outcome.Outcome.{Outcome}
 use Rattle.kept_table.specs.Kept.{Lent, stored_in, numbers_with, is_within, outcome_is, Carries}
@@ -16,18 +15,18 @@ use Rattle.kept_table.specs.Kept.{Lent, stored_in, numbers_with, is_within, outc
 abbrev pub command_line : ℕ → Kept → List ℕ → List ℕ → List ℕ
 command_line reader kept namespaces command = reply_line (command_over reader kept namespaces command).reply
 
--- the line of what the server answers: an answer lies at the front of its buffer
-unfoldable pub written_line : Written → List ℕ → List ℕ
-written_line (Done n) answer = answer_line (0x41 ∷ take n answer)
-written_line (Refused k) answer = refusal_line k
+-- the line of what the server answers, with the number of a refusal: an answer lies at the front of its buffer
+unfoldable pub written_line : Result ℕ ℕ → List ℕ → List ℕ
+written_line (Ok n) answer = answer_line (0x41 ∷ take n answer)
+written_line (Err k) answer = refusal_line k
 
 -- how many bytes of the buffer are the answer
-unfoldable pub answer_length : Written → ℕ
-answer_length (Done n) = n
-answer_length (Refused k) = 0
+unfoldable pub answer_length : Result ℕ ℕ → ℕ
+answer_length (Ok n) = n
+answer_length (Err k) = 0
 
 -- the answer lies in its buffer, which has 16,384 bytes at most
-pub record Fits (w : Written) (answer : List ℕ) : Type 0 where
+pub record Fits (w : Result ℕ ℕ) (answer : List ℕ) : Type 0 where
   pub inside : answer_length w ≤ length answer
   pub small : length answer ≤ 16384
 

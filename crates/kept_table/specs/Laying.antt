@@ -1,4 +1,5 @@
 -- The store that the packed bytes become at the first accepted edit.
+use Rattle.std.specs.Prelude.{Option, Some, None}
 use Rattle.std.specs.Prelude.{◌≡◌, true, false, List, map, length, replicate, ℕ, ◌+◌, ◌≤◌, ◌<◌}
 use Rattle.listing_rules.specs.Lists.{joined}
 use Rattle.listing_rules.specs.Table.{Row, names, passes, packed_table}
@@ -6,8 +7,6 @@ use Rattle.listing_rules.specs.Frames.{program_store}
 use Rattle.records.specs.Words.{cell_of}
 use Rattle.records.specs.Lent.{word_store}
 use Rattle.mailbox_table.specs.Index.{nth_row}
-use Rattle.mailbox_table.specs.declared.Indexing.{Indexing}
-use Rattle.mailbox_table.specs.declared.Indexing.TheVariants.{Rows, Fails}
 
 -- names that the area of 16,384 bytes has room for
 abbrev pub Short : List Row → Type 0
@@ -24,9 +23,9 @@ pub record Blank (t w a : List ℕ) : Type 0 where
   pub area : a ≡ replicate 16384 0
 
 -- The words and the area are the store of the packed table's rows, to the last bit, where the table passes; else that it does not.
-abbrev pub Lays : List ℕ → List ℕ → List ℕ → Indexing → Type 0
-Lays table words area Fails = passes (packed_table table) ≡ false
-Lays table words area (Rows n) =
+abbrev pub Lays : List ℕ → List ℕ → List ℕ → Option ℕ → Type 0
+Lays table words area None = passes (packed_table table) ≡ false
+Lays table words area (Some n) =
     (passes (packed_table table) ≡ true)
     × (word_store words 512 n area ≡ program_store table)
     × (words ≡ map cell_of (program_store table).records)

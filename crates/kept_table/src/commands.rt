@@ -2,29 +2,38 @@
 ghost use Rattle.std.specs.Prelude.{◌≡◌, true, false, ◌≤◌, length};
 ghost use Rattle.listing_rules.specs.Command.{is_edit, parsed};
 ghost use Rattle.listing_rules.specs.Frames.{bytes};
+ghost use Rattle.octets.specs.Refusals.{numbered};
 ghost use Rattle.kept_table.specs.Kept.{lent, Within, Says};
 ghost use Rattle.kept_table.specs.Commanding.{command_line, written_line, Fits, Obeys, ObeysLent};
 
 use crate::Lengths;
 use crate::outcome::{MAX_TABLE, Outcome, said, with_records};
 use crate::sizes::is_within;
-use crate::store::{keep_store, keep_sums, kept_sums, lay_out, no_bytes};
+use crate::store::{keep_store, keep_sums, kept_sums, lay_out};
 use frames::{ANSWER, put_line, put_refusal};
-use mailbox_table::{Indexing, MAX_READER};
-use octets::Written;
-use octets::refusals::{READER, TABLE};
+use mailbox_table::MAX_READER;
+use octets::{Refusal, filled};
 use records::{MAX_ROWS, no_words};
 use server::{answer_words, is_edit_line, read_packed};
 use summary::summarize_words;
 
+// A reader's command, beside the namespace list and how much is stored.
+#[derive(Clone, Copy)]
+struct Asked<'a> {
+    stored: Lengths,
+    reader: u8,
+    command: &'a [u8],
+    namespaces: &'a [u8],
+}
+
 // The line of an answer that lies at the front of its buffer, or of a refusal.
-fn put_reply(written: Written, answer: &[u8], out: &mut [u8]) -> usize
-    requires { Fits written answer.now }
-    ensures { Says (written_line written answer.now) out.old out.new result }
+fn put_reply(written: Result<usize, Refusal>, answer: &[u8], out: &mut [u8]) -> usize
+    requires { Fits (numbered written) answer.now }
+    ensures { Says (written_line (numbered written) answer.now) out.old out.new result }
 {
     match written {
-        Written::Done(n) => put_line(out, 0, ANSWER, &answer[..n]),
-        Written::Refused(number) => put_refusal(out, 0, number),
+        Ok(n) => put_line(out, 0, ANSWER, &answer[..n]),
+        Err(refusal) => put_refusal(out, 0, refusal.number()),
     }
 }
 
@@ -46,34 +55,34 @@ pub fn obey(
     if !within {
         return said(stored, 0);
     }
-    obey_within(stored, reader, command, table, records, namespaces, out)
+    let asked = Asked {
+        stored,
+        reader,
+        command,
+        namespaces,
+    };
+    obey_within(asked, table, records, out)
 }
 
-// A command over what lies within the memory.
-fn obey_within(
-    stored: Lengths,
-    reader: u8,
-    command: &[u8],
-    table: &mut [u8],
-    records: &mut [u64],
-    namespaces: &[u8],
-    out: &mut [u8],
-) -> Outcome
-    requires { Within stored table.old records.old namespaces.now }
-    ensures { Obeys stored reader command.now
-        (lent table.old records.old namespaces.now out.old)
-        (lent table.new records.new namespaces.now out.new) result }
+// A command over what lies within the memory, of which the parts go down apart: of a struct behind a reference each contract would also have to say
+// that they stay the same memory, of the same lengths.
+fn obey_within(asked: Asked, table: &mut [u8], records: &mut [u64], out: &mut [u8]) -> Outcome
+    requires { Within asked.stored table.old records.old asked.namespaces.now }
+    ensures { Obeys asked.entry.stored asked.entry.reader asked.entry.command.now
+        (lent table.old records.old asked.entry.namespaces.now out.old)
+        (lent table.new records.new asked.entry.namespaces.now out.new) result }
 {
+    let stored = asked.stored;
     if stored.edited {
-        return obey_records(stored, reader, command, table, records, namespaces, out);
+        return obey_records(asked, table, records, out);
     }
-    if is_edit_line(command) {
-        return first_edit(stored, reader, command, table, records, namespaces, out);
+    if is_edit_line(asked.command) {
+        return first_edit(asked, table, records, out);
     }
     let rows = stored.table;
     let entries = stored.namespaces;
-    let spaces = &namespaces[..entries];
-    let written = read_line(&table[..rows], reader, spaces, command, out);
+    let spaces = &asked.namespaces[..entries];
+    let written = read_line(&table[..rows], asked.reader, spaces, asked.command, out);
     said(stored, written)
 }
 
@@ -84,39 +93,32 @@ fn read_line(table: &[u8], reader: u8, namespaces: &[u8], command: &[u8], out: &
     ensures { Says (command_line reader (bytes table.now) namespaces.now command.now)
         out.old out.new result }
 {
-    let mut answer = no_bytes();
+    let mut answer: [u8; MAX_TABLE] = filled(0);
     let written = read_packed(table, reader, namespaces, command, &mut answer);
     put_reply(written, &answer, out)
 }
 
 // A command over the records and their summary.
-fn obey_records(
-    stored: Lengths,
-    reader: u8,
-    command: &[u8],
-    table: &mut [u8],
-    records: &mut [u64],
-    namespaces: &[u8],
-    out: &mut [u8],
-) -> Outcome
-    requires within { Within stored table.old records.old namespaces.now }
-    requires edited_value { stored.edited ≡ true }
-    ensures { Obeys stored reader command.now
-        (lent table.old records.old namespaces.now out.old)
-        (lent table.new records.new namespaces.now out.new) result }
+fn obey_records(asked: Asked, table: &mut [u8], records: &mut [u64], out: &mut [u8]) -> Outcome
+    requires within { Within asked.stored table.old records.old asked.namespaces.now }
+    requires edited_value { asked.stored.edited ≡ true }
+    ensures { Obeys asked.entry.stored asked.entry.reader asked.entry.command.now
+        (lent table.old records.old asked.entry.namespaces.now out.old)
+        (lent table.new records.new asked.entry.namespaces.now out.new) result }
 {
+    let stored = asked.stored;
     let count = stored.table;
     let entries = stored.namespaces;
     let mut sums = kept_sums(records);
-    let mut answer = no_bytes();
+    let mut answer: [u8; MAX_TABLE] = filled(0);
     let done = answer_words(
         &mut records[..MAX_ROWS],
         &mut sums,
         count,
-        reader,
+        asked.reader,
         &mut table[..MAX_TABLE],
-        &namespaces[..entries],
-        command,
+        &asked.namespaces[..entries],
+        asked.command,
         &mut answer,
     );
     keep_sums(records, &sums);
@@ -126,49 +128,42 @@ fn obey_records(
 }
 
 // An edit over the packed bytes: judged on the store that they become, with its first summary; both are kept if the edit is accepted.
-fn first_edit(
-    stored: Lengths,
-    reader: u8,
-    command: &[u8],
-    table: &mut [u8],
-    records: &mut [u64],
-    namespaces: &[u8],
-    out: &mut [u8],
-) -> Outcome
-    requires within { Within stored table.old records.old namespaces.now }
-    requires edited_value { (stored.edited ≡ false) × (is_edit (parsed command.now) ≡ true) }
-    ensures { Obeys stored reader command.now
-        (lent table.old records.old namespaces.now out.old)
-        (lent table.new records.new namespaces.now out.new) result }
+fn first_edit(asked: Asked, table: &mut [u8], records: &mut [u64], out: &mut [u8]) -> Outcome
+    requires within { Within asked.stored table.old records.old asked.namespaces.now }
+    requires edited_value { (asked.stored.edited ≡ false) × (is_edit (parsed asked.command.now) ≡ true) }
+    ensures { Obeys asked.entry.stored asked.entry.reader asked.entry.command.now
+        (lent table.old records.old asked.entry.namespaces.now out.old)
+        (lent table.new records.new asked.entry.namespaces.now out.new) result }
 {
-    if MAX_READER < reader {
-        return said(stored, put_refusal(out, 0, READER));
+    let stored = asked.stored;
+    if MAX_READER < asked.reader {
+        return said(stored, put_refusal(out, 0, Refusal::Reader.number()));
     }
     let rows = stored.table;
     let entries = stored.namespaces;
     let mut words = no_words();
-    let mut area = no_bytes();
-    let Indexing::Rows(count) = lay_out(&table[..rows], &mut words, &mut area) else {
-        return said(stored, put_refusal(out, 0, TABLE));
+    let mut area: [u8; MAX_TABLE] = filled(0);
+    let Some(count) = lay_out(&table[..rows], &mut words, &mut area) else {
+        return said(stored, put_refusal(out, 0, Refusal::Table.number()));
     };
     let mut sums = no_words();
-    summarize_words(&words, count, &area, &mut sums);
-    let mut answer = no_bytes();
+    let _ = summarize_words(&words, count, &area, &mut sums);
+    let mut answer: [u8; MAX_TABLE] = filled(0);
     let made = answer_words(
         &mut words,
         &mut sums,
         count,
-        reader,
+        asked.reader,
         &mut area,
-        &namespaces[..entries],
-        command,
+        &asked.namespaces[..entries],
+        asked.command,
         &mut answer,
     );
     let reply = made.written;
     let written = put_reply(reply, &answer, out);
-    let Written::Done(_) = reply else {
+    if reply.is_err() {
         return said(stored, written);
-    };
+    }
     keep_store(table, records, &area, &words, &sums);
     with_records(stored, made.count, written)
 }

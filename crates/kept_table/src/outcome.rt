@@ -27,11 +27,7 @@ pub fn said(stored: Lengths, written: usize) -> Outcome
 pub fn with_rows(stored: Lengths, table: usize, written: usize) -> Outcome
     ensures { result ≡ outcome_is (lengths_is table stored.namespaces stored.edited) written }
 {
-    let stored = Lengths {
-        table,
-        namespaces: stored.namespaces,
-        edited: stored.edited,
-    };
+    let stored = Lengths { table, ..stored };
     Outcome { stored, written }
 }
 
@@ -40,9 +36,8 @@ pub fn with_entries(stored: Lengths, namespaces: usize, written: usize) -> Outco
     ensures { result ≡ outcome_is (lengths_is stored.table namespaces stored.edited) written }
 {
     let stored = Lengths {
-        table: stored.table,
         namespaces,
-        edited: stored.edited,
+        ..stored
     };
     Outcome { stored, written }
 }
@@ -53,8 +48,8 @@ pub(crate) fn with_records(stored: Lengths, count: usize, written: usize) -> Out
 {
     let stored = Lengths {
         table: count,
-        namespaces: stored.namespaces,
         edited: true,
+        ..stored
     };
     Outcome { stored, written }
 }

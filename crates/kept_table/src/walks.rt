@@ -1,24 +1,22 @@
 // A reader's walk over what is kept, and its line.
-ghost use Rattle.std.specs.Prelude.{◌≡◌, cond, [], replicate};
+ghost use Rattle.std.specs.Prelude.{◌≡◌, cond, []};
 ghost use Rattle.listing_rules.specs.Walk.{walk_by};
 ghost use Rattle.listing_rules.specs.Frames.{kept_seen, walk_line};
+ghost use Rattle.octets.specs.Refusals.{numbered};
 ghost use Rattle.collector.specs.Result.{collected_of, found_of};
 ghost use Rattle.kept_table.specs.Kept.{kept_of, Held, is_held, Says};
 
 use crate::Lengths;
 use crate::outcome::MAX_TABLE;
 use crate::sizes::is_held;
-use crate::store::{MAX_NUMBERS, no_bytes};
-use collector::{Collected, collect_packed, collect_words};
+use crate::store::MAX_NUMBERS;
+use collector::{Walked, collect_packed, collect_words};
 use frames::{put_refusal, put_walk};
+use octets::{Refusal, filled};
 use records::MAX_ROWS;
 
 // "found and pending 8,192 each".
-fn names_buffer() -> [u8; 8192]
-    ensures { result ≡ replicate 8192 0 }
-{
-    [0; 8192]
-}
+const MAX_FOUND: usize = 8192;
 
 // The line of a walk: the number of commands and what was found, or the number of its refusal. Where what is kept does not lie within the
 // memory, none is written.
@@ -54,9 +52,9 @@ fn walk_held(
     ensures { Says (walk_line (walk_by reader (kept_seen reader (kept_of stored table.now records.now)) option 16384 8192 8192))
         out.old out.new result }
 {
-    let mut scratch = no_bytes();
-    let mut found = names_buffer();
-    let mut pending = names_buffer();
+    let mut scratch: [u8; MAX_TABLE] = filled(0);
+    let mut found: [u8; MAX_FOUND] = filled(0);
+    let mut pending: [u8; MAX_FOUND] = filled(0);
     match collect_kept(
         stored,
         reader,
@@ -67,8 +65,8 @@ fn walk_held(
         &mut found,
         &mut pending,
     ) {
-        Collected::Done(count, n) => put_walk(out, 0, count, &found[..n]),
-        Collected::Refused(number) => put_refusal(out, 0, number),
+        Ok(walked) => put_walk(out, 0, walked.count, &found[..walked.found]),
+        Err(refusal) => put_refusal(out, 0, refusal.number()),
     }
 }
 
@@ -82,9 +80,9 @@ fn collect_kept(
     scratch: &mut [u8],
     found: &mut [u8],
     pending: &mut [u8],
-) -> Collected
+) -> Result<Walked, Refusal>
     requires { Held stored table.now records.now }
-    ensures result { result ≡ collected_of reader (kept_seen reader (kept_of stored table.now records.now))
+    ensures result { numbered result ≡ collected_of reader (kept_seen reader (kept_of stored table.now records.now))
         option scratch.old found.old pending.old }
     ensures found { found.new ≡ found_of reader (kept_seen reader (kept_of stored table.now records.now))
         option scratch.old found.old pending.old }

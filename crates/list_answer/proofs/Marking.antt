@@ -1,7 +1,7 @@
 -- The marks of rows: what the code finds is what they say, and words with marks are an index of the same rows.
-use Rattle.listing_rules.proofs.Prelude.{◌∙◌, ◌≡◌, ap, refl, subst, sym, Bool, ◌&&◌, ◌||◌, false, not, true, List, [], ◌∷◌, map, map-append, ◌+◌, ◌/◌}
+use Rattle.listing_rules.proofs.Prelude.{◌∙◌, ◌≡◌, ap, refl, subst, sym, Bool, ◌&&◌, ◌||◌, false, not, true, List, [], ◌∷◌, ◌++◌, map, ◌+◌, ◌/◌}
 use Rattle.listing_rules.proofs.Prelude.{◌<◌, ◌^◌, ◌≤◌, suc, zero, ℕ, mod-lt, zero-lt-suc, add-one, arith, leb, drop, get_or, length, length-map}
-use Rattle.listing_rules.proofs.Prelude.{length-take, set, take, take_all, take-suc, take-suc-set, le-leb}
+use Rattle.listing_rules.proofs.Prelude.{length-take, set, take, le-leb}
 use Rattle.listing_rules.specs.Table.{Row, names}
 use Rattle.listing_rules.specs.Orders.{ascends}
 use Rattle.listing_rules.specs.Options.{Options}
@@ -91,14 +91,26 @@ module _ (area words : List ℕ) (o : Options) (ps : List (List ℕ)) (marked : 
 
 -- Marks made one by one
 
-module _ (f : ℕ → ℕ) (words : List ℕ) where
-  pub words_more : (ms : List ℕ) (i : ℕ) → i < length words → i < length ms → take i ms ≡ map f (take i words) →
-      take (i + 1) (set ms i (f (get_or words i 0))) ≡ map f (take (i + 1) words)
-  words_more ms i h g e =
-      rw (add-one, take-suc-set ms i (f (get_or words i 0)) g, take-suc words i 0 h, map-append f (take i words) (get_or words i 0 ∷ []), e)
+module _ (f : ℕ → ℕ) where
+  -- the words of which the first i are marked
+  abbrev pub marked_up_to : ℕ → List ℕ → List ℕ
+  marked_up_to i ws = map f (take i ws) ++ drop i ws
 
-  pub words_all : (ms : List ℕ) (i : ℕ) → i ≡ length words → take i ms ≡ map f (take i words) → take (length words) ms ≡ map f words
-  words_all ms i h e = ap (λ (n : ℕ). take n ms) (sym h) ∙ e ∙ ap (map f) (take_all i words (omega arith))
+  marked_next : (ws : List ℕ) (i : ℕ) → i < length ws →
+      set (map f (take i ws) ++ drop i ws) i (f (get_or (map f (take i ws) ++ drop i ws) i 0)) ≡ map f (take (suc i) ws) ++ drop (suc i) ws
+  marked_next [] i h = absurd (omega arith)
+  marked_next (w ∷ ws) zero h = refl
+  marked_next (w ∷ ws) (suc i) h = ap (λ (l : List ℕ). f w ∷ l) (marked_next ws i (omega arith))
+
+  pub marked_more : (ws : List ℕ) (i : ℕ) → i < length ws →
+      set (marked_up_to i ws) i (f (get_or (marked_up_to i ws) i 0)) ≡ marked_up_to (i + 1) ws
+  marked_more ws i h = marked_next ws i h ∙ ap (λ (k : ℕ). marked_up_to k ws) (sym (add-one i))
+
+  pub marked_all : (ws : List ℕ) (i : ℕ) → length ws ≤ i → map f (take i ws) ++ drop i ws ≡ map f ws
+  marked_all [] zero h = refl
+  marked_all [] (suc i) h = refl
+  marked_all (w ∷ ws) zero h = absurd (omega arith)
+  marked_all (w ∷ ws) (suc i) h = ap (λ (l : List ℕ). f w ∷ l) (marked_all ws i (omega arith))
 
 -- An index by its rows
 

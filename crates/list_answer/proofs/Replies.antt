@@ -1,5 +1,7 @@
 -- The reply to a question is that of the LIST or the LSUB command that asked it, and which packed patterns LSUB refuses. LSUB rests on
 -- listing_rules' LsubLaws.
+use Rattle.std.specs.Prelude.{Err}
+use Rattle.octets.specs.declared.refusals.Refusal.TheVariants.{Grammar}
 use Rattle.listing_rules.proofs.Prelude.{◌∙◌, ◌≡◌, ap, refl, sym, Bool, cond, false, true, List, [], ◌++◌, ◌∷◌, map, ◌+◌, ◌<◌, ◌≤◌, suc, zero, ℕ}
 use Rattle.listing_rules.proofs.Prelude.{dec_le, arith, leb, get_or, length, take, le-leb, leb-true, lt-leb}
 use Rattle.listing_rules.specs.Bytes.{bit}
@@ -11,7 +13,6 @@ use Rattle.listing_rules.specs.Lines.{list_line, ok_line}
 use Rattle.listing_rules.specs.Lsub.{lsub_line}
 use Rattle.listing_rules.specs.Server.{refusal, answered, limited, buffer_after, line_of, list_answer, lsub_answer}
 use Rattle.listing_rules.proofs.LsubLaws.{subscribing, lsub_as_list}
-use Rattle.octets.specs.declared.Written.TheVariants.{Refused}
 use Rattle.octets.specs.Written.{written_is, Gives}
 use Rattle.list_line.specs.declared.words.LineWord.TheVariants.{List as OfList, Lsub as OfLsub}
 use Rattle.list_line.specs.Words.{start_of}
@@ -65,7 +66,7 @@ module _ (area words patterns tag : List ℕ) (q : Question) where
 
 -- a second pattern is refused, and no byte of the buffer changes
 pub lsub_second : (area words patterns tag d : List ℕ) → leb (length (unpacked patterns)) 1 ≡ false →
-    Gives (lsub_reply area words patterns tag) d d (Refused 4)
+    Gives (lsub_reply area words patterns tag) d d (Err Grammar)
 unfolding limited written_is buffer_after
 lsub_second area words patterns tag d e = rw e (refl, refl)
 

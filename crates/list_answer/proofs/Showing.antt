@@ -1,4 +1,5 @@
 -- What is shown of a name, by the tests of `decide`; and its text. Rests on Levels.
+use Rattle.std.specs.Prelude.{Some, None}
 use Rattle.listing_rules.proofs.Prelude.{◌∙◌, ◌≡◌, ap, refl, sym, Bool, ◌&&◌, ◌||◌, and-false, cond, false, not, true, List, [], ℕ, drop, length}
 use Rattle.listing_rules.proofs.Prelude.{take, length-take-le, take_all, min, dec_le, arith}
 use Rattle.listing_rules.specs.Flags.{exists, subscribed}
@@ -20,9 +21,8 @@ use Rattle.list_line.proofs.Members.{members_set_of}
 use Rattle.mailbox_table.specs.declared.rows.Row.{Row as Place}
 use Rattle.mailbox_table.specs.Words.{row_of_word}
 use Rattle.mailbox_table.specs.Index.{name_at}
-use Rattle.list_answer.specs.declared.decide.Shown.TheVariants.{Line, Nothing}
 use Rattle.list_answer.specs.Marks.{levels_asked}
-use Rattle.list_answer.specs.Shown.{by_right, as_level, matches_for, attributes_on, criteria_on, line_on, shown_is, shown_text}
+use Rattle.list_answer.specs.Shown.{by_right, as_level, matches_for, attributes_on, criteria_on, line_on, line_of, shown_is, shown_text}
 use Rattle.list_answer.proofs.Levels.{listed_for, level_matched}
 
 -- the name of a row that was looked up
@@ -82,29 +82,28 @@ module _ (w : LineWord) (rs : List Row) (o : Options) (ps : List (List ℕ)) (n 
     counts_are : counts ≡ (by_right rs o ps n || as_level rs o ps n)
     counts_are = ec ∙ ap (λ (b : Bool). by_right rs o ps n || b) el
 
-    out : listed rs o ps n ≡ false → Nothing ≡ shown_is w rs o ps n
+    out : listed rs o ps n ≡ false → None ≡ shown_is w rs o ps n
     unfolding shown_is
     out e = rw e
 
-    pub shown_not : counts ≡ false → Nothing ≡ shown_is w rs o ps n
+    pub shown_not : counts ≡ false → None ≡ shown_is w rs o ps n
     shown_not e = out (listed_for rs o ps n ∙ ap (λ (b : Bool). matches_for rs o ps n && b) (sym counts_are ∙ e) ∙ and-false (matches_for rs o ps n))
 
     module _ (e : counts ≡ true) (m : Bool) (em : (by_right rs o ps n || as_level rs o ps n) ≡ true → m ≡ matches_for rs o ps n) where
       match_is : matches_for rs o ps n ≡ m
       match_is = sym (em (sym counts_are ∙ e))
 
-      pub shown_unmatched : m ≡ false → Nothing ≡ shown_is w rs o ps n
+      pub shown_unmatched : m ≡ false → None ≡ shown_is w rs o ps n
       shown_unmatched f = out (listed_for rs o ps n ∙ ap (λ (b : Bool). b && (by_right rs o ps n || as_level rs o ps n)) (match_is ∙ f))
 
       -- what matches is shown, with what stands on a line with this word
       line : m ≡ true → (bits : Attributes) → set_of (attributes_on w rs o ps n) ≡ bits.bits → (named : CriteriaBits) →
-          criteria_number (criteria_on w rs o n) ≡ named.bits → Line bits named ≡ shown_is w rs o ps n
+          criteria_number (criteria_on w rs o n) ≡ named.bits → Some (record { attributes = bits; criteria = named }) ≡ shown_is w rs o ps n
       unfolding shown_is
       line f bits eb named en =
           sym
-          (ap (λ (b : Bool). cond b (Line (record { bits = set_of (attributes_on w rs o ps n) })
-          (record { bits = criteria_number (criteria_on w rs o n) })) Nothing) shows
-          ∙ (λ j. Line (record { bits = eb j }) (record { bits = en j })))
+          (ap (λ (b : Bool). cond b (Some (line_of w rs o ps n)) None) shows
+          ∙ (λ j. Some (record { attributes = record { bits = eb j }; criteria = record { bits = en j } })))
         where
           shows : listed rs o ps n ≡ true
           shows = listed_for rs o ps n ∙ (λ i. (match_is ∙ f) i && (sym counts_are ∙ e) i)
@@ -112,7 +111,7 @@ module _ (w : LineWord) (rs : List Row) (o : Options) (ps : List (List ℕ)) (n 
       pub shown_list : w ≡ OfList → m ≡ true → (flags : ℕ) → flags ≡ flags_of rs n → (children : Bool) →
           children ≡ (o.ret_children && has_children rs o n) → (bits : Attributes) → bits.bits ≡ set_of (attributes_for flags o children level) →
           (info : Bool) → info ≡ (o.sel_recursive && meets_below rs o n) → (named : CriteriaBits) →
-          named.bits ≡ criteria_number (cond info (criteria o) no_criteria) → Line bits named ≡ shown_is w rs o ps n
+          named.bits ≡ criteria_number (cond info (criteria o) no_criteria) → Some (record { attributes = bits; criteria = named }) ≡ shown_is w rs o ps n
       shown_list ew f flags ef children ek bits eb info ei named en = line f bits shown_bits named shown_info
         where
           above : level_above rs o ps n ≡ level
@@ -129,7 +128,7 @@ module _ (w : LineWord) (rs : List Row) (o : Options) (ps : List (List ℕ)) (n 
 
       pub shown_lsub : w ≡ OfLsub → m ≡ true → (flags : ℕ) → flags ≡ flags_of rs n → (bits : Attributes) →
           bits.bits ≡ set_of (lsub_attributes (not (subscribed flags))) → (named : CriteriaBits) → named.bits ≡ 0 →
-          Line bits named ≡ shown_is w rs o ps n
+          Some (record { attributes = bits; criteria = named }) ≡ shown_is w rs o ps n
       unfolding no_criteria criteria_number
       shown_lsub ew f flags ef bits eb named en =
           line f bits (ap set_of (lsub_shows ew ∙ ap (λ (k : ℕ). lsub_attributes (not (subscribed k))) (sym ef)) ∙ sym eb)
@@ -151,12 +150,11 @@ module _ (w : LineWord) (rs : List Row) (o : Options) (ps : List (List ℕ)) (n 
           ∙ go o.sel_recursive (levels_asked o ps) (meets_unmatched_below rs o ps n) (not (exists (flags_of rs n))) (meets_below rs o n) f
 
   -- The text of what is shown
-  pub text_none : shown_is w rs o ps n ≡ Nothing → shown_text w rs o ps n ≡ []
+  pub text_none : shown_is w rs o ps n ≡ None → shown_text w rs o ps n ≡ []
   unfolding shown_is shown_text
   text_none e = go (listed rs o ps n) e
     where
-      go : (b : Bool) → cond b (Line (record { bits = set_of (attributes_on w rs o ps n) }) (record { bits = criteria_number (criteria_on w rs o n) }))
-          Nothing ≡ Nothing → cond b (line_on w rs o ps n) [] ≡ []
+      go : (b : Bool) → cond b (Some (line_of w rs o ps n)) None ≡ None → cond b (line_on w rs o ps n) [] ≡ []
       go true f = cc
       go false f = refl
 
@@ -167,17 +165,16 @@ module _ (w : LineWord) (rs : List Row) (o : Options) (ps : List (List ℕ)) (n 
       go OfList = unfold attributes_on attributes attributes_for in_order in refl
       go OfLsub = unfold attributes_on lsub_attributes in_order in refl
 
-  pub text_line : (a : Attributes) (c : CriteriaBits) → shown_is w rs o ps n ≡ Line a c →
+  pub text_line : (a : Attributes) (c : CriteriaBits) → shown_is w rs o ps n ≡ Some (record { attributes = a; criteria = c }) →
       shown_text w rs o ps n ≡ word_line (start_of w) (members a.bits) n (criteria_of c.bits)
   unfolding shown_is shown_text line_on
   text_line a c e = go (listed rs o ps n) e
     where
-      go : (b : Bool) → cond b (Line (record { bits = set_of (attributes_on w rs o ps n) }) (record { bits = criteria_number (criteria_on w rs o n) }))
-          Nothing ≡ Line a c → cond b (word_line (start_of w) (attributes_on w rs o ps n) n (criteria_on w rs o n)) [] ≡ word_line (start_of w)
+      go : (b : Bool) → cond b (Some (line_of w rs o ps n)) None ≡ Some (record { attributes = a; criteria = c }) → cond b (word_line (start_of w) (attributes_on w rs o ps n) n (criteria_on w rs o n)) [] ≡ word_line (start_of w)
           (members a.bits) n (criteria_of c.bits)
       go true f =
-          let g : record { bits = set_of (attributes_on w rs o ps n) } ≡ a = cc in
-          let h : record { bits = criteria_number (criteria_on w rs o n) } ≡ c = cc in
+          let g : (line_of w rs o ps n).attributes ≡ a = cc in
+          let h : (line_of w rs o ps n).criteria ≡ c = cc in
           ap (λ (k : Criteria). word_line (start_of w) (attributes_on w rs o ps n) n k)
           (sym (criteria_number_lem (criteria_on w rs o n)) ∙ ap (λ (x : CriteriaBits). criteria_of x.bits) h)
           ∙ ap (λ (l : List Bool). word_line (start_of w) l n (criteria_of c.bits))

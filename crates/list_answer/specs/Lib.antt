@@ -5,3 +5,4 @@ pub mod Attributes
 pub mod Marks
 pub mod Ready
 pub mod Shown
+pub mod Measured

@@ -11,6 +11,7 @@ use Rattle.mailbox_table.specs.Below.{marks_of}
 use Rattle.pattern.specs.Packed.{unpacked}
 use Rattle.list_answer.specs.declared.question.Question.{Question}
 use Rattle.list_answer.specs.declared.decide.Beginning.{Beginning}
+use Rattle.list_answer.specs.declared.view.View.{View}
 use Rattle.list_answer.specs.Marks.{levels_asked, row_marks}
 
 -- a question knows whether levels are listed
@@ -38,6 +39,10 @@ pub record Ready (area words patterns : List ℕ) (q : Question) : Type 0 where
   pub index : Index area words
   pub marked : Marked area words (options_is q.options) (unpacked patterns)
   pub knows : Knows patterns q
+
+-- the rows of a view are ready for its question and its patterns
+abbrev pub IsReady : View → Type 0
+IsReady v = Ready v.area.now v.words.now v.patterns.now v.question
 
 -- a beginning of a row's name, longer than what it shares with the name before
 pub record At (words : List ℕ) (b : Beginning) : Type 0 where

@@ -1,4 +1,5 @@
 -- What the answer shows of a name.
+use Rattle.std.specs.Prelude.{Option, Some, None}
 use Rattle.std.specs.Prelude.{◌≡◌, Bool, true, cond, ◌&&◌, ◌||◌, not, List, [], ◌++◌, map, ℕ, leb, length}
 use Rattle.listing_rules.specs.Lists.{joined}
 use Rattle.listing_rules.specs.Table.{Row, flags_of}
@@ -20,9 +21,9 @@ use Rattle.command_line.specs.declared.Options.{Options as OptionSet}
 use Rattle.command_line.specs.OptionSets.{options_is}
 use Rattle.list_answer.specs.declared.question.Question.{Question}
 use Rattle.list_answer.specs.declared.decide.Beginning.{Beginning}
+use Rattle.list_answer.specs.declared.decide.Line.{Line}
+use Rattle.list_answer.specs.declared.view.View.{View}
 use Rattle.list_answer.specs.declared.decide.Standing.{Standing}
-use Rattle.list_answer.specs.declared.decide.Shown.{Shown}
-use Rattle.list_answer.specs.declared.decide.Shown.TheVariants.{Line, Nothing}
 use Rattle.list_answer.specs.Prefixes.{longer, prefixes}
 use Rattle.list_answer.specs.Marks.{level_only}
 use Rattle.list_answer.specs.Ready.{Ready, At}
@@ -56,12 +57,17 @@ criteria_on OfLsub rs o n = no_criteria
 unfoldable pub line_on : LineWord → List Row → Options → List (List ℕ) → List ℕ → List ℕ
 line_on w rs o ps n = word_line (start_of w) (attributes_on w rs o ps n) n (criteria_on w rs o n)
 
--- a line with these attributes and these criteria in CHILDINFO, or nothing
-unfoldable pub shown_is : LineWord → List Row → Options → List (List ℕ) → List ℕ → Shown
-shown_is w rs o ps n =
-    cond (listed rs o ps n)
-    (Line (record { bits = set_of (attributes_on w rs o ps n) }) (record { bits = criteria_number (criteria_on w rs o n) }))
-    Nothing
+-- what it shows of the name: the attributes, and the criteria in CHILDINFO
+abbrev pub line_of : LineWord → List Row → Options → List (List ℕ) → List ℕ → Line
+line_of w rs o ps n =
+    record {
+      attributes = record { bits = set_of (attributes_on w rs o ps n) };
+      criteria = record { bits = criteria_number (criteria_on w rs o n) };
+    }
+
+-- a line, or nothing
+unfoldable pub shown_is : LineWord → List Row → Options → List (List ℕ) → List ℕ → Option Line
+shown_is w rs o ps n = cond (listed rs o ps n) (Some (line_of w rs o ps n)) None
 
 -- the text of a name's line, or none
 unfoldable pub shown_text : LineWord → List Row → Options → List (List ℕ) → List ℕ → List ℕ
@@ -77,13 +83,13 @@ begun area words b = prefix_of area words b.row b.len
 abbrev pub found_below : List ℕ → List ℕ → ℕ → Beginning → Bool
 found_below area words m b = below_from area words m (begun area words b) b.row
 
-abbrev pub shown_at : List ℕ → List ℕ → List ℕ → Question → Beginning → Shown
+abbrev pub shown_at : List ℕ → List ℕ → List ℕ → Question → Beginning → Option Line
 shown_at area words patterns q b = shown_is q.word (rows_at area words) (options_is q.options) (unpacked patterns) (begun area words b)
 
 -- What the code promises of a name, where the rows are ready for the question and the patterns and the name is one to look at
 
 -- what `decide` promises
-abbrev pub Decided : List ℕ → List ℕ → List ℕ → Question → Beginning → Shown → Type 0
+abbrev pub Decided : List ℕ → List ℕ → List ℕ → Question → Beginning → Option Line → Type 0
 Decided area words patterns q b r = Ready area words patterns q → At words b → r ≡ shown_at area words patterns q b
 
 -- what the rows say of a name
@@ -127,6 +133,20 @@ answer_text area words patterns q tag = answer_for q.word (rows_at area words) t
 
 abbrev pub reply_to : List ℕ → List ℕ → List ℕ → Question → List ℕ → Reply
 reply_to area words patterns q tag = answered (answer_text area words patterns q tag)
+
+-- The same of a view: of a name, of the names that begin at row i, of all rows, and the whole answer
+
+abbrev pub view_name : View → Beginning → List ℕ
+view_name v b = text_at v.area.now v.words.now v.patterns.now v.question b
+
+abbrev pub view_row : View → ℕ → List ℕ
+view_row v i = row_text v.area.now v.words.now v.patterns.now v.question i
+
+abbrev pub view_rows : View → List ℕ
+view_rows v = rows_text v.area.now v.words.now v.patterns.now v.question
+
+abbrev pub view_answer : View → List ℕ → List ℕ
+view_answer v tag = answer_text v.area.now v.words.now v.patterns.now v.question tag
 
 -- The replies of the two commands
 

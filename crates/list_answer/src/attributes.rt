@@ -9,9 +9,11 @@ ghost use Rattle.list_line.specs.Members.{set_of};
 ghost use Rattle.list_answer.specs.Sets.{with_member, adds};
 ghost use Rattle.list_answer.specs.Attributes.{own_attributes, use_attributes};
 
+use super::members::with;
 use super::question::Question;
 use list_line::Attributes;
 use mailbox_table::flags::Flags;
+use octets::Members;
 
 // The attributes of a LIST line, for a name with these flags. A level shows \HasChildren, asked or not.
 pub(crate) fn attributes_of(
@@ -84,14 +86,4 @@ fn with_flag(set: Attributes, flags: Flags, flag: Flags, attribute: Attributes) 
     ensures { result.bits ≡ with_member set.bits (contains flags.bits flag.bits) attribute.bits }
 {
     with(set, flags.has(flag), attribute)
-}
-
-// The set with this attribute, where it is shown.
-fn with(set: Attributes, shown: bool, attribute: Attributes) -> Attributes
-    ensures { result.bits ≡ with_member set.bits shown attribute.bits }
-{
-    if shown {
-        return set.union(attribute);
-    }
-    set
 }

@@ -10,6 +10,10 @@ mod answer;
 mod attributes;
 mod decide;
 mod marks;
+mod measured;
+mod members;
 mod question;
+mod view;
 
 pub use answer::{write_list, write_lsub};
+pub use measured::write_measured;

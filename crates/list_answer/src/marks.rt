@@ -1,25 +1,39 @@
 // The marks of the rows: what the answer asks of a row more than once is found once, and kept in the row's word.
-ghost use Rattle.std.specs.Prelude.{◌≡◌, ◌&&◌, map, ◌≤◌, leb, length, take};
+ghost use Rattle.std.specs.Prelude.{◌≡◌, ◌&&◌, map, leb, length};
 ghost use Rattle.listing_rules.specs.Match.{matches_any};
-ghost use Rattle.octets.specs.Sets.{contains, union};
 ghost use Rattle.command_line.specs.OptionSets.{options_is};
 ghost use Rattle.mailbox_table.specs.Below.{marks_of};
 ghost use Rattle.mailbox_table.specs.Index.{row_at_word};
 ghost use Rattle.pattern.specs.Packed.{unpacked};
 ghost use Rattle.pattern.specs.Chosen.{chosen};
-ghost use Rattle.list_answer.specs.Sets.{with_member};
 ghost use Rattle.list_answer.specs.Marks.{row_marks, marked_word};
 ghost use Rattle.list_answer.specs.Ready.{Knows};
 
+use super::members::with;
 use super::question::Question;
 use mailbox_table::rows::{Row, name_of};
 use mailbox_table::scan::{marks_of, with_marks};
+use octets::Members;
 use pattern::matches_any;
 
 // A set with named members, bit by bit as `row_marks` of specs/ numbers them.
 #[derive(Clone, Copy)]
 pub(crate) struct Marks {
     pub(crate) bits: u16,
+}
+
+impl Members for Marks {
+    ghost number = { λ s. s.bits };
+
+    ghost width = { 16 };
+
+    fn number(self) -> u16 {
+        self.bits
+    }
+
+    fn of_number(n: u16) -> Marks {
+        Marks { bits: n }
+    }
 }
 
 impl Marks {
@@ -44,32 +58,6 @@ impl Marks {
         Marks {
             bits: marks_of(word),
         }
-    }
-
-    // What is in either set.
-    fn union(self, other: Marks) -> Marks
-        ensures { result.bits ≡ union self.bits other.bits }
-    {
-        Marks {
-            bits: self.bits | other.bits,
-        }
-    }
-
-    // Whether every one of these members is in the set.
-    pub(crate) fn has(self, members: Marks) -> bool
-        ensures { result ≡ contains self.bits members.bits }
-    {
-        self.bits & members.bits == members.bits
-    }
-
-    // The set with these members, where they hold.
-    fn with(self, holds: bool, members: Marks) -> Marks
-        ensures { result.bits ≡ with_member self.bits holds members.bits }
-    {
-        if holds {
-            return self.union(members);
-        }
-        self
     }
 }
 
@@ -96,30 +84,19 @@ fn marks_for(area: &[u8], word: u64, patterns: &[u8], question: Question) -> Mar
     let level = question.asks_level(row.flags);
     let asked = meeting | recursive | level;
     let matched = asked_match(asked, patterns, level, name_of(area, row));
-    Marks::NONE
-        .with(meeting, Marks::MEETING)
-        .with(recursive & meeting & !matched, Marks::UNMATCHED)
-        .with(question.counts_child(row.flags), Marks::CHILD)
-        .with(matched, Marks::MATCHED)
+    let mut set = with(Marks::NONE, meeting, Marks::MEETING);
+    set = with(set, recursive & meeting & !matched, Marks::UNMATCHED);
+    set = with(set, question.counts_child(row.flags), Marks::CHILD);
+    with(set, matched, Marks::MATCHED)
 }
 
-// The words of the rows with their marks, at the front of `marked`.
-pub(crate) fn mark_rows(
-    area: &[u8],
-    words: &[u64],
-    patterns: &[u8],
-    question: Question,
-    marked: &mut [u64],
-)
-    requires knows { Knows patterns.now question }
-    requires words_in_bounds { length words.now ≤ length marked.old }
-    ensures { take (length words.now) marked.new
-        ≡ map (marked_word area.now patterns.now question) words.now }
+// The words of the rows get their marks.
+pub(crate) fn mark_rows(area: &[u8], words: &mut [u64], patterns: &[u8], question: Question)
+    requires { Knows patterns.now question }
+    ensures { words.new ≡ map (marked_word area.now patterns.now question) words.old }
 {
-    let mut i = 0;
-    while i < words.len() {
-        let marks = marks_for(area, words[i], patterns, question);
-        marked[i] = with_marks(words[i], marks.bits);
-        i += 1;
+    for word in words.iter_mut() {
+        let marks = marks_for(area, *word, patterns, question);
+        *word = with_marks(*word, marks.bits);
     }
 }

@@ -9,7 +9,7 @@ ghost use Rattle.list_answer.specs.Ready.{Asks, AsksLsub, lsub_set};
 use command_line::Options;
 use list_line::LineWord;
 use mailbox_table::flags::Flags;
-use octets::{byte_at, wide};
+use octets::{Members, byte_at};
 use pattern::some_level;
 
 // The options; whether the command lists levels, names that do not exist above those that meet the criteria; and the word of its lines.
@@ -123,5 +123,5 @@ fn is_unselective(options: Options) -> bool
 pub(crate) fn is_one_at_most(patterns: &[u8]) -> bool
     ensures { result ≡ leb (length (unpacked patterns.now)) 1 }
 {
-    patterns.len() <= 1 + wide(byte_at(patterns, 0))
+    patterns.len() <= 1 + usize::from(byte_at(patterns, 0))
 }

@@ -1,7 +1,11 @@
--- One command over words and numbers of which as many are lent as there are of both: from what it comes to over those alone. Rests on EditLaws.
+-- One command over words and numbers of which as many are lent as there are of both: from what it comes to over those alone. Rests on Order and EditLaws.
+use Rattle.std.specs.Prelude.{Result, Err}
+use Rattle.octets.specs.declared.refusals.Refusal.{Refusal}
+use Rattle.octets.specs.declared.refusals.Refusal.TheVariants.{Reader, Table}
+use Rattle.octets.specs.Refusals.{number_of, numbered}
 use Rattle.listing_rules.proofs.Prelude.{◌∙◌, ◌≡◌, ap, refl, subst, sym, eqb, false, false≢true, true, List, ◌++◌, append_assoc, map, ◌+◌, ◌-◌, ◌≤◌}
 use Rattle.listing_rules.proofs.Prelude.{min, ℕ, arith, drop, length, length-append, length-drop, take, take-append-drop, drop-append-le}
-use Rattle.listing_rules.proofs.Prelude.{length-take-le, paste, paste-zero, take-append-le}
+use Rattle.listing_rules.proofs.Prelude.{length-take-le, Bool, paste, paste-zero, take-append-le}
 use Rattle.listing_rules.specs.Table.{passes}
 use Rattle.listing_rules.specs.Command.{Parsed, refused, namespace, listing, root_of, subscriptions, editing, parsed, is_edit}
 use Rattle.listing_rules.specs.Namespaces.{namespaces_pass}
@@ -11,8 +15,6 @@ use Rattle.listing_rules.specs.Server.{Reply, refusal, limited, buffer_after, ch
 use Rattle.listing_rules.specs.Summary.{Summary, Summed, summed_table, SummedCommand, summed_command}
 use Rattle.listing_rules.proofs.ListLaws.{map_take}
 use Rattle.listing_rules.proofs.SummaryCommands.{untouched, changes_refused, changes_read}
-use Rattle.octets.specs.declared.Written.{Written}
-use Rattle.octets.specs.declared.Written.TheVariants.{Refused}
 use Rattle.octets.specs.Written.{written_is, Gives}
 use Rattle.records.specs.Words.{record_of}
 use Rattle.records.specs.Numbers.{summary_of}
@@ -23,10 +25,11 @@ use Rattle.mailbox_table.specs.Index.{rows_at}
 use Rattle.mailbox_table.specs.Seen.{seen_words}
 use Rattle.mailbox_table.proofs.SeenLaws.{seen_rows}
 use Rattle.server.specs.declared.Stored.{Stored}
-use Rattle.server.specs.Replies.{read_only, command_reply}
+use Rattle.server.specs.Replies.{read_only, command_reply, seen_reply}
 use Rattle.server.specs.Answering.{Memory, memory, words_left, change_left, Answers}
-use Rattle.server.specs.Edits.{Reads, edit_kind}
-use Rattle.server.proofs.EditLaws.{no_edit, an_edit, comes_16, comes_1, comes_2, comes_read, comes_edit}
+use Rattle.server.specs.Edits.{Reading}
+use Rattle.server.proofs.Order.{refused_with_lem, seen_2, seen_16, seen_on}
+use Rattle.server.proofs.EditLaws.{an_edit, reads, edit_read, comes_16, comes_1, comes_2, comes_read, comes_edit}
 
 -- words that change at the front of others
 paste_front : (f es rest : List ℕ) (from m : ℕ) → length es ≡ length f → from + m ≤ length f → es ≡ paste f from (drop from es) m
@@ -105,10 +108,10 @@ module _ (ws sums : List ℕ) (count reader : ℕ) (area spaces l out : List ℕ
   lent_is = omega arith
 
   -- nothing changed
-  pub alone : (w : Written) (out' : List ℕ) (r : Stored) → C.left ≡ m → changes m.store (parsed l) C.reply ≡ false
+  pub alone : (w : Result ℕ Refusal) (out' : List ℕ) (r : Stored) → C.left ≡ m → changes m.store (parsed l) C.reply ≡ false
       → (words_left (parsed l) C.reply ws (min (length ws) (length sums)) count area ≡ ws)
       × (change_left (parsed l) C.reply ws (min (length ws) (length sums)) count area ≡ record { from = 0; to = 0; count = count })
-      → w ≡ written_is C.reply → out' ≡ buffer_after out C.reply
+      → numbered w ≡ written_is C.reply → out' ≡ buffer_after out C.reply
       → r ≡ record { written = w; count = count; from = 0; to = 0 } → Answers before (memory ws sums area out') count reader spaces l r
   alone w out' r e d stay f g h =
       rw h (record {
@@ -127,19 +130,24 @@ module _ (ws sums : List ℕ) (count reader : ℕ) (area spaces l out : List ℕ
         between = record { order = omega arith; lent_only = omega arith; within = omega arith; size = refl; others = paste-zero ws 0 ws };
       })
 
-  pub alone_refused : (k : ℕ) (r : Stored) → C ≡ untouched m k → r ≡ record { written = Refused k; count = count; from = 0; to = 0 }
-      → Answers before before count reader spaces l r
-  unfolding written_is buffer_after
-  alone_refused k r e h =
-      alone (Refused k) out r (ap (λ (x : SummedCommand). x.left) e)
+  -- by a refusal
+  pub alone_short : (k : ℕ) (w : Result ℕ Refusal) (out' : List ℕ) (r : Stored) → C ≡ untouched m k → Gives (refusal k) out out' w
+      → r ≡ record { written = w; count = count; from = 0; to = 0 } → Answers before (memory ws sums area out') count reader spaces l r
+  unfolding limited
+  alone_short k w out' r e g h =
+      alone w out' r (ap (λ (x : SummedCommand). x.left) e)
       (ap (λ (x : SummedCommand). changes m.store (parsed l) x.reply) e ∙ changes_refused m.store (parsed l) k)
       (rw e (left_refused (parsed l) k ws (min (length ws) (length sums)) count area))
-      (ap (λ (x : SummedCommand). written_is x.reply) (sym e)) (ap (λ (x : SummedCommand). buffer_after out x.reply) (sym e)) h
+      (g.0 ∙ ap (λ (x : SummedCommand). written_is x.reply) (sym e)) (g.1 ∙ ap (λ (x : SummedCommand). buffer_after out x.reply) (sym e)) h
+
+  pub alone_refused : (e : Refusal) (r : Stored) → C ≡ untouched m (number_of e) → r ≡ record { written = Err e; count = count; from = 0; to = 0 }
+      → Answers before before count reader spaces l r
+  alone_refused e r f h = alone_short (number_of e) (Err e) out r f (refused_with_lem e out) h
 
   -- 16 above reader 7
-  pub refused_16 : (r : Stored) → is_reader reader ≡ false → r ≡ record { written = Refused 16; count = count; from = 0; to = 0 }
+  pub refused_16 : (r : Stored) → is_reader reader ≡ false → r ≡ record { written = Err Reader; count = count; from = 0; to = 0 }
       → Answers before before count reader spaces l r
-  refused_16 r h e = alone_refused 16 r (comes_16 reader m spaces l out h) e
+  refused_16 r h e = alone_refused Reader r (comes_16 reader m spaces l out h) e
 
   -- the words and numbers that are lent, n of them
   module _ (n : ℕ) (least : n ≡ min (length ws) (length sums)) where
@@ -155,36 +163,52 @@ module _ (ws sums : List ℕ) (count reader : ℕ) (area spaces l out : List ℕ
       comes_unsound h = comes_1 reader m spaces l out known (ap (λ (t : Summed). passes (summed_table t)) (sym front_is_lem) ∙ h)
 
       pub refused_1 : (r : Stored) → passes (words_table (take n ws) count area (take n sums)) ≡ false
-          → r ≡ record { written = Refused 1; count = count; from = 0; to = 0 } → Answers before before count reader spaces l r
-      refused_1 r h e = alone_refused 1 r (comes_unsound h) e
+          → r ≡ record { written = Err Table; count = count; from = 0; to = 0 } → Answers before before count reader spaces l r
+      refused_1 r h e = alone_refused Table r (comes_unsound h) e
 
       module _ (passed : passes (words_table (take n ws) count area (take n sums)) ≡ true) where
         pub passes_on : passes (summed_table m) ≡ true
         passes_on = ap (λ (t : Summed). passes (summed_table t)) (sym front_is_lem) ∙ passed
 
-        pub refused_2 : (r : Stored) → namespaces_pass spaces ≡ false → r ≡ record { written = Refused 2; count = count; from = 0; to = 0 }
-            → Answers before before count reader spaces l r
-        refused_2 r h e = alone_refused 2 r (comes_2 reader m spaces l out known passes_on h) e
+        -- over an index that tells the records: 2, then the line, where an edit is of another reader than 0
+        module _ (read : Result Command Refusal) (told : Reading l read)
+            (other : namespaces_pass spaces ≡ true → is_edit (parsed l) ≡ true → eqb reader 0 ≡ false)
+            (index : List ℕ) (is_told : map record_of index ≡ take count (map record_of (take n ws))) where
+          stranger : namespaces_pass spaces ≡ true → is_edit (parsed l) ≡ true → C ≡ untouched m 16
+          stranger listed edits =
+              let c = edit_read l read told edits in
+              comes_edit reader m spaces l out known passes_on listed c.0 (an_edit l c.0 (reads l read told c.0 c.1) c.2) ∙ rw (other listed edits)
 
-        module _ (listed : namespaces_pass spaces ≡ true) (c : Command) (reads : Reads l c) where
-          -- an edit of another reader than 0
-          pub stranger_edit : (r : Stored) → edit_kind c.kind ≡ true → eqb reader 0 ≡ false
-              → r ≡ record { written = Refused 16; count = count; from = 0; to = 0 } → Answers before before count reader spaces l r
-          stranger_edit r k other e = alone_refused 16 r (comes_edit reader m spaces l out known passes_on listed c (an_edit l c reads k) ∙ rw other) e
+          module _ {out' : List ℕ} {w : Result ℕ Refusal} (r : Stored) (e : r ≡ record { written = w; count = count; from = 0; to = 0 }) where
+            -- the rows that the reader sees
+            reading : namespaces_pass spaces ≡ true → is_edit (parsed l) ≡ false
+                → Gives (command_reply area (seen_words reader index) spaces l) out out' w
+                → Answers before (memory ws sums area out') count reader spaces l r
+            unfolding held read_only
+            reading listed plain g =
+                let x = comes_read reader m spaces l out known passes_on listed plain in
+                let rows_are : rows_at area (seen_words reader index) ≡ visible reader area (take count m.store.records)
+                = seen_rows reader area index ∙ ap (visible reader area) (is_told ∙ ap (λ (t : Summed). take count t.store.records) front_is_lem) in
+                let y : C ≡ record { reply = limited (length out) (command_reply area (seen_words reader index) spaces l); left = m } = x ∙ rw
+                (rows_are, plain) in
+                alone w out' r (ap (λ (d : SummedCommand). d.left) y) (changes_read m.store (parsed l) C.reply plain)
+                (left_read (parsed l) C.reply ws (min (length ws) (length sums)) count area plain)
+                (g.0 ∙ ap (λ (d : SummedCommand). written_is d.reply) (sym y))
+                (g.1 ∙ ap (λ (d : SummedCommand). buffer_after out d.reply) (sym y)) e
 
-          -- the rows that the reader sees, of an index that tells the records
-          pub read_only_lem : (index : List ℕ) → map record_of index ≡ take count (map record_of (take n ws)) → edit_kind c.kind ≡ false
-              → {out' : List ℕ} {w : Written} → Gives (command_reply area (seen_words reader index) spaces l) out out' w
-              → (r : Stored) → r ≡ record { written = w; count = count; from = 0; to = 0 }
-              → Answers before (memory ws sums area out') count reader spaces l r
-          unfolding held read_only
-          read_only_lem index told k {out'} {w} g r e =
-              let x = comes_read reader m spaces l out known passes_on listed (no_edit l c reads k) in
-              let rows_are : rows_at area (seen_words reader index) ≡ visible reader area (take count m.store.records)
-              = seen_rows reader area index ∙ ap (visible reader area) (told ∙ ap (λ (t : Summed). take count t.store.records) front_is_lem) in
-              let y : C ≡ record { reply = limited (length out) (command_reply area (seen_words reader index) spaces l); left = m } = x ∙ rw
-              (rows_are, no_edit l c reads k) in
-              alone w out' r (ap (λ (d : SummedCommand). d.left) y) (changes_read m.store (parsed l) C.reply (no_edit l c reads k))
-              (left_read (parsed l) C.reply ws (min (length ws) (length sums)) count area (no_edit l c reads k))
-              (g.0 ∙ ap (λ (d : SummedCommand). written_is d.reply) (sym y))
-              (g.1 ∙ ap (λ (d : SummedCommand). buffer_after out d.reply) (sym y)) e
+            pub answered_read : Gives (seen_reply area (seen_words reader index) spaces l) out out' w
+                → Answers before (memory ws sums area out') count reader spaces l r
+            answered_read g = go (namespaces_pass spaces) refl
+              where
+                by : (p : Reply) → seen_reply area (seen_words reader index) spaces l ≡ p → Gives p out out' w
+                by p h = subst (λ (q : Reply). Gives q out out' w) h g
+
+                on : namespaces_pass spaces ≡ true → (b : Bool) → is_edit (parsed l) ≡ b → Answers before (memory ws sums area out') count reader spaces l r
+                on f true h = alone_short 16 w out' r (stranger f h) (by (refusal 16) (seen_16 area (seen_words reader index) spaces l f h)) e
+                on f false h = reading f h (by (command_reply area (seen_words reader index) spaces l) (seen_on area (seen_words reader index) spaces l f h))
+
+                go : (b : Bool) → namespaces_pass spaces ≡ b → Answers before (memory ws sums area out') count reader spaces l r
+                go false f =
+                    alone_short 2 w out' r (comes_2 reader m spaces l out known passes_on f)
+                    (by (refusal 2) (seen_2 area (seen_words reader index) spaces l f)) e
+                go true f = on f (is_edit (parsed l)) refl

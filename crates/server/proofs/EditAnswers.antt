@@ -1,4 +1,6 @@
 -- An edit of reader 0: what `subscriptions::edit` returned and left is what the command comes to. Rests on AnswerLaws and EditedLaws.
+use Rattle.std.specs.Prelude.{Result, Ok, Err}
+use Rattle.octets.specs.declared.refusals.Refusal.{Refusal}
 use Rattle.listing_rules.proofs.Prelude.{◌∙◌, ◌≡◌, ap, refl, sym, Bool, false, false≢true, true, List, ◌++◌, map, map-append, min, ℕ, arith, leb, leb-true}
 use Rattle.listing_rules.proofs.Prelude.{drop, length, take, take-append-drop, take_at}
 use Rattle.listing_rules.specs.Table.{passes}
@@ -11,7 +13,7 @@ use Rattle.listing_rules.specs.Server.{answered, limited, changes}
 use Rattle.listing_rules.specs.Summary.{Summed, sums_edited, SummedCommand, summed_command}
 use Rattle.listing_rules.proofs.ListLaws.{map_drop}
 use Rattle.listing_rules.proofs.SummaryCommands.{untouched}
-use Rattle.octets.specs.declared.Written.TheVariants.{Done, Refused}
+use Rattle.octets.specs.Refusals.{number_of}
 use Rattle.octets.specs.Written.{Gives}
 use Rattle.octets.specs.Put.{Put}
 use Rattle.octets.proofs.Writing.{written_fits}
@@ -20,13 +22,9 @@ use Rattle.records.specs.Numbers.{summary_of}
 use Rattle.records.specs.Lent.{lent_of, word_summed, words_summed, words_table}
 use Rattle.command_line.specs.declared.Command.{Command}
 use Rattle.command_line.specs.Commands.{name_of}
-use Rattle.command_line.specs.Spans.{span_bytes}
-use Rattle.subscriptions.specs.declared.Plan.{Plan}
-use Rattle.subscriptions.specs.declared.Plan.TheVariants.{Refused as Refuses}
+use Rattle.command_tokens.specs.Spans.{span_bytes}
 use Rattle.subscriptions.specs.declared.Change.{Change}
-use Rattle.subscriptions.specs.declared.Edited.{Edited}
-use Rattle.subscriptions.specs.declared.Edited.TheVariants.{Done as Made, Refused as Refusal}
-use Rattle.subscriptions.specs.Plans.{edited_name}
+use Rattle.subscriptions.specs.Plans.{Decision, edited_name}
 use Rattle.subscriptions.specs.Applied.{words_after, area_after, change_of}
 use Rattle.subscriptions.specs.Summed.{numbers_after}
 use Rattle.subscriptions.specs.Stored.{whole_store, plan_of, Decides, is_done, KeepsSums}
@@ -53,13 +51,13 @@ module _ (ws sums : List ℕ) (count : ℕ) (area l : List ℕ) (c : Command) (o
   abbrev all : Summed
   all = words_summed (take n ws) count area (take n sums)
 
-  abbrev own : Plan
+  abbrev own : Decision
   own = plan_of (take n ws) count area (edit_of l c)
 
   abbrev tag : List ℕ
   tag = span_bytes l c.tag
 
-  abbrev plan : Plan
+  abbrev plan : Decision
   plan = lent_plan (cells ws sums area) count (subscribe_kind c.kind) (spelled (name_of l c)) (leb (length (ok_line tag)) (length out))
 
   abbrev result : SummedCommand
@@ -82,7 +80,7 @@ module _ (ws sums : List ℕ) (count : ℕ) (area l : List ℕ) (c : Command) (o
       ∙ sym (comes_edit 0 (word_summed ws (length ws) count area sums) spaces l out known (passes_on ws sums count 0 area spaces l out n refl known h) listed c
       (an_edit l c reads k))
 
-  refuses : (j : ℕ) → plan ≡ Refuses j → result ≡ untouched (word_summed ws (length ws) count area sums) j
+  refuses : (j : ℕ) → plan ≡ Err j → result ≡ untouched (word_summed ws (length ws) count area sums) j
   refuses j e = go (passes (words_table front count area numbers)) refl
     where
       go : (b : Bool) → passes (words_table front count area numbers) ≡ b → result ≡ untouched (word_summed ws (length ws) count area sums) j
@@ -99,15 +97,15 @@ module _ (ws sums : List ℕ) (count : ℕ) (area l : List ℕ) (c : Command) (o
   whole_sums : take n sums ++ drop n sums ≡ sums
   whole_sums = take-append-drop n sums
 
-  pub edit_refused : (j : ℕ) (d : Cells) (r : Stored) → Edits (cells ws sums area) d count (subscribe_kind c.kind) (spelled (name_of l c))
-      (leb (length (ok_line tag)) (length out)) (Refusal j)
-      → r ≡ record { written = Refused j; count = count; from = 0; to = 0 }
+  pub edit_refused : (j : Refusal) (d : Cells) (r : Stored) → Edits (cells ws sums area) d count (subscribe_kind c.kind) (spelled (name_of l c))
+      (leb (length (ok_line tag)) (length out)) (Err j)
+      → r ≡ record { written = Err j; count = count; from = 0; to = 0 }
       → Answers (memory ws sums area out) (memory d.words d.sums d.area out) count 0 spaces l r
   unfolding words_after area_after numbers_after
   edit_refused j d r x e =
-      let p = refused_plan plan count j x.answer in
+      let p = refused_plan plan count (number_of j) x.answer in
       let left : d ≡ cells ws sums area = x.leaves ∙ rw p (λ i. cells (whole_words i) (whole_sums i) area) in
-      rw left (alone_refused ws sums count 0 area spaces l out j r (refuses j p) e)
+      rw left (alone_refused ws sums count 0 area spaces l out j r (refuses (number_of j) p) e)
 
   -- where it was made, the table passes
   sound : is_done plan ≡ true → passes (words_table front count area numbers) ≡ true
@@ -118,10 +116,10 @@ module _ (ws sums : List ℕ) (count : ℕ) (area l : List ℕ) (c : Command) (o
       go false e = absurd (false≢true (ap is_done (sym (plan_1 front numbers count area l c out sized e)) ∙ h))
 
   pub edit_done : (ch : Change) (d : Cells) (out' : List ℕ) (end : ℕ) → Edits (cells ws sums area) d count (subscribe_kind c.kind) (spelled (name_of l c))
-      (leb (length (ok_line tag)) (length out)) (Made ch)
+      (leb (length (ok_line tag)) (length out)) (Ok ch)
       → Put out out' 0 (ok_line tag) end
       → Answers (memory ws sums area out) (memory d.words d.sums d.area out') count 0 spaces l
-      (record { written = Done end; count = ch.count; from = ch.from; to = ch.to })
+      (record { written = Ok end; count = ch.count; from = ch.from; to = ch.to })
   unfolding words_left change_left limited
   edit_done ch d out' end x put =
       rw (left, changed) (record {
@@ -163,7 +161,7 @@ module _ (ws sums : List ℕ) (count : ℕ) (area l : List ℕ) (c : Command) (o
       done = ap is_done (sym own_is) ∙ planned.1
 
       changed : ch ≡ change_of own count
-      changed = planned.0 ∙ ap (λ (p : Plan). change_of p count) own_is
+      changed = planned.0 ∙ ap (λ (p : Decision). change_of p count) own_is
 
       deciding : Decides front count area (edit_of l c) own
       deciding = decided front numbers count area l c out sized h
@@ -194,7 +192,7 @@ module _ (ws sums : List ℕ) (count : ℕ) (area l : List ℕ) (c : Command) (o
       fits : leb (length ok) (length out) ≡ true
       fits = plan_fitting front numbers count area l c out sized h planned.1
 
-      gives : Gives (answered ok) out out' (Done end)
+      gives : Gives (answered ok) out out' (Ok end)
       gives = written_fits out ok put (leb-true (length ok) (length out) fits)
 
       whole : n ≡ lent_of ws (length ws) sums
@@ -207,15 +205,15 @@ module _ (ws sums : List ℕ) (count : ℕ) (area l : List ℕ) (c : Command) (o
 module _ (ws sums : List ℕ) (count : ℕ) (area l : List ℕ) (c : Command) (out : List ℕ) (reads : Reads l c) (k : edit_kind c.kind ≡ true)
     (spaces : List ℕ) (listed : namespaces_pass spaces ≡ true) (b : Bool) (n t : List ℕ) (f : Bool) (eb : b ≡ subscribe_kind c.kind)
     (en : n ≡ spelled (name_of l c)) (et : t ≡ span_bytes l c.tag) (ef : f ≡ leb (length (ok_line t)) (length out)) where
-  pub line_refused : (j : ℕ) (d : Cells) (res : Edited) (r : Stored) → Edits (cells ws sums area) d count b n f res → res ≡ Refusal j
-      → r ≡ record { written = Refused j; count = count; from = 0; to = 0 }
+  pub line_refused : (j : Refusal) (d : Cells) (res : Result Change Refusal) (r : Stored) → Edits (cells ws sums area) d count b n f res → res ≡ Err j
+      → r ≡ record { written = Err j; count = count; from = 0; to = 0 }
       → Answers (memory ws sums area out) (memory d.words d.sums d.area out) count 0 spaces l r
   line_refused j d res r x e h =
       edit_refused ws sums count area l c out reads k spaces listed j d r (rw (eb, en, ef, et, e) at x) h
 
-  pub line_done : (ch : Change) (d : Cells) (res : Edited) (out' : List ℕ) (end : ℕ) → Edits (cells ws sums area) d count b n f res → res ≡ Made ch
+  pub line_done : (ch : Change) (d : Cells) (res : Result Change Refusal) (out' : List ℕ) (end : ℕ) → Edits (cells ws sums area) d count b n f res → res ≡ Ok ch
       → Put out out' 0 (ok_line t) end
       → Answers (memory ws sums area out) (memory d.words d.sums d.area out') count 0 spaces l
-      (record { written = Done end; count = ch.count; from = ch.from; to = ch.to })
+      (record { written = Ok end; count = ch.count; from = ch.from; to = ch.to })
   line_done ch d res out' end x e put =
       edit_done ws sums count area l c out reads k spaces listed ch d out' end (rw (eb, en, ef, et, e) at x) (rw et at put)

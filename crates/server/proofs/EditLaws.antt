@@ -1,9 +1,12 @@
 -- The result of a command by its kind and the refusals in their order; and the name of an edit in its buffer. Rests on laws of listing_rules.
-use Rattle.listing_rules.proofs.Prelude.{◌∙◌, ◌≡◌, ap, refl, sym, Bool, ◌&&◌, cond, false, false≢true, true, List, ◌++◌, ◌≤◌, ℕ, arith, eqb, drop}
+use Rattle.std.specs.Prelude.{Some, None, Result, Ok, Err}
+use Rattle.octets.specs.declared.refusals.Refusal.{Refusal}
+use Rattle.octets.specs.Refusals.{number_of}
+use Rattle.listing_rules.proofs.Prelude.{◌∙◌, ◌≡◌, ap, refl, subst, sym, Bool, ◌&&◌, cond, false, false≢true, true, List, ◌++◌, ◌≤◌, ℕ, arith, eqb, drop}
 use Rattle.listing_rules.proofs.Prelude.{length, length-append, take, length-take-le, take-append_seam, take_at}
 use Rattle.octets.specs.Put.{Put}
 use Rattle.octets.proofs.Puts.{put_length, front}
-use Rattle.listing_rules.specs.Command.{Parsed, editing, parsed, is_edit}
+use Rattle.listing_rules.specs.Command.{Parsed, refused, editing, parsed, is_edit}
 use Rattle.listing_rules.specs.Namespaces.{entries, namespaces_pass}
 use Rattle.listing_rules.specs.Table.{rows, passes}
 use Rattle.listing_rules.specs.Readers.{is_reader, visible}
@@ -17,16 +20,16 @@ use Rattle.listing_rules.proofs.SummaryCommands.{with_sums, untouched, stranger_
 use Rattle.listing_rules.proofs.SummaryCommands.{refused_with_lem, read_sums}
 use Rattle.listing_rules.proofs.SummaryAlike.{grown_parts}
 use Rattle.command_line.specs.declared.Kind.{Kind}
-use Rattle.command_line.specs.declared.Kind.TheVariants.{List as Listing, Root, Namespace, Lsub, Subscribe, Unsubscribe, Refused as Refusal}
+use Rattle.command_line.specs.declared.Kind.TheVariants.{List as Listing, Root, Namespace, Lsub, Subscribe, Unsubscribe}
 use Rattle.command_line.specs.declared.Command.{Command}
-use Rattle.command_line.specs.Commands.{meaning, meaning_as}
-use Rattle.command_line.specs.Spans.{span_bytes}
-use Rattle.server.specs.Edits.{Fronts, Reads, edit_kind, edit_as, edit_of, edit_stored, edit_parsed, edit_command}
+use Rattle.command_line.specs.Commands.{meaning_of, meaning_as}
+use Rattle.command_tokens.specs.Spans.{span_bytes}
+use Rattle.server.specs.Edits.{Fronts, Reads, Reading, edit_kind, own_edit, edit_as, edit_of, edit_stored, edit_parsed, edit_command}
 
 -- a command that was read is an edit exactly if its kind is one, and then it is this edit
 module _ (l : List ℕ) (c : Command) (r : Reads l c) where
   as_kind : (k : Kind) → c.kind ≡ k → meaning_as k l c ≡ parsed l
-  unfolding meaning
+  unfolding meaning_of
   as_kind k e = ap (λ (q : Kind). meaning_as q l c) (sym e) ∙ r.means
 
   pub no_edit : edit_kind c.kind ≡ false → is_edit (parsed l) ≡ false
@@ -38,7 +41,6 @@ module _ (l : List ℕ) (c : Command) (r : Reads l c) where
       go Root e h = ap is_edit (sym (as_kind Root e))
       go Namespace e h = ap is_edit (sym (as_kind Namespace e))
       go Lsub e h = ap is_edit (sym (as_kind Lsub e))
-      go (Refusal k) e h = ap is_edit (sym (as_kind (Refusal k) e))
       go Subscribe e h = absurd (false≢true (sym h))
       go Unsubscribe e h = absurd (false≢true (sym h))
 
@@ -53,7 +55,6 @@ module _ (l : List ℕ) (c : Command) (r : Reads l c) where
       go Root e h = absurd (false≢true h)
       go Namespace e h = absurd (false≢true h)
       go Lsub e h = absurd (false≢true h)
-      go (Refusal k) e h = absurd (false≢true h)
 
   pub kind_is_lem : edit_kind c.kind ≡ is_edit (parsed l)
   unfolding is_edit
@@ -62,6 +63,59 @@ module _ (l : List ℕ) (c : Command) (r : Reads l c) where
       go : (b : Bool) → edit_kind c.kind ≡ b → b ≡ is_edit (parsed l)
       go true e = ap is_edit (sym (an_edit e))
       go false e = sym (no_edit e)
+
+-- a line that was read as a command, or refused
+module _ (l : List ℕ) (r : Result Command Refusal) (told : Reading l r) where
+  pub reads : (c : Command) → r ≡ Ok c → Reads l c
+  reads c e =
+      let t : Reading l (Ok c) = subst (λ (q : Result Command Refusal). Reading l q) e told in
+      record { means = t.means; inside = t.inside }
+
+  pub refuses : (e : Refusal) → r ≡ Err e → refused (number_of e) ≡ parsed l
+  refuses e h = (subst (λ (q : Result Command Refusal). Reading l q) h told).means
+
+  -- what is an edit was read as one, and is no reader's own but of reader 0
+  pub edit_read : is_edit (parsed l) ≡ true → (c : Command) × (r ≡ Ok c) × (edit_kind c.kind ≡ true)
+  unfolding is_edit
+  edit_read h = go r refl
+    where
+      go : (q : Result Command Refusal) → r ≡ q → (c : Command) × (r ≡ Ok c) × (edit_kind c.kind ≡ true)
+      go (Ok c) e = (c, e, kind_is_lem l c (reads c e) ∙ h)
+      go (Err k) e = absurd (false≢true (ap is_edit (refuses k e) ∙ h))
+
+not_own : (b k n : Bool) → (b && (k && n)) ≡ false → k ≡ true → n ≡ true → b ≡ false
+not_own false k n h e f = refl
+not_own true true true h e f = h
+not_own true true false h e f = sym f
+not_own true false n h e f = sym e
+
+-- an edit that its reader may make
+pub own_edit_is : (r : Result Command Refusal) (reader : ℕ) (spaces : List ℕ) (c : Command) → own_edit r reader spaces ≡ Some c →
+    (r ≡ Ok c) × ((eqb reader 0 && (edit_kind c.kind && namespaces_pass spaces)) ≡ true)
+own_edit_is (Ok d) reader spaces c e = go (eqb reader 0 && (edit_kind d.kind && namespaces_pass spaces)) refl e
+  where
+    go : (b : Bool) → (eqb reader 0 && (edit_kind d.kind && namespaces_pass spaces)) ≡ b → cond b (Some d) None ≡ Some c →
+        (◌≡◌ {A = Result Command Refusal} (Ok d) (Ok c)) × ((eqb reader 0 && (edit_kind c.kind && namespaces_pass spaces)) ≡ true)
+    go true f h = let same : d ≡ c = cc in (ap Ok same, subst (λ (x : Command). (eqb reader 0 && (edit_kind x.kind && namespaces_pass spaces)) ≡ true) same f)
+    go false f h = cc
+own_edit_is (Err k) reader spaces c e = cc
+
+pub not_own_edit : (r : Result Command Refusal) (reader : ℕ) (spaces : List ℕ) → own_edit r reader spaces ≡ None → (c : Command) → r ≡ Ok c →
+    (eqb reader 0 && (edit_kind c.kind && namespaces_pass spaces)) ≡ false
+not_own_edit r reader spaces h c e =
+    go (eqb reader 0 && (edit_kind c.kind && namespaces_pass spaces)) refl (ap (λ (q : Result Command Refusal). own_edit q reader spaces) (sym e) ∙ h)
+  where
+    go : (b : Bool) → (eqb reader 0 && (edit_kind c.kind && namespaces_pass spaces)) ≡ b → cond b (Some c) None ≡ None →
+        (eqb reader 0 && (edit_kind c.kind && namespaces_pass spaces)) ≡ false
+    go true f g = cc
+    go false f g = f
+
+-- an edit that its reader may not make, beside a namespace list that passes, is of another reader than 0
+pub stranger : (l : List ℕ) (r : Result Command Refusal) → Reading l r → (reader : ℕ) (spaces : List ℕ) → own_edit r reader spaces ≡ None →
+    namespaces_pass spaces ≡ true → is_edit (parsed l) ≡ true → eqb reader 0 ≡ false
+stranger l r told reader spaces h listed edits =
+    let c = edit_read l r told edits in
+    not_own (eqb reader 0) (edit_kind c.0.kind) (namespaces_pass spaces) (not_own_edit r reader spaces h c.0 c.1) c.2 listed
 
 -- what a reader's command over a store comes to where its table and the list pass
 module _ (reader : ℕ) (s : Store) (spaces l out : List ℕ) (known : is_reader reader ≡ true) (passed : passes (store_table s) ≡ true) where
@@ -136,13 +190,6 @@ module _ (reader : ℕ) (m : Summed) (spaces l out : List ℕ) where
               ≡ cond b (edit_command m l c out) (untouched m 16)
           go true = ap (λ (p : Parsed). with_sums m p (edit_stored m.store l c out)) g
           go false = refused_with_lem m (parsed l) (unchanged_by m.store 16) 16 refl
-
--- an edit that its reader may not make: it is of another reader than 0
-pub not_own : (b k n : Bool) → (b && (k && n)) ≡ false → k ≡ true → n ≡ true → b ≡ false
-not_own false k n h e f = refl
-not_own true true true h e f = h
-not_own true true false h e f = sym f
-not_own true false n h e f = sym e
 
 -- a name put at the front of a buffer, and spelled there
 pub put_front : (d e bs : List ℕ) (r : ℕ) → Put d e 0 bs r → length bs ≤ length d → Fronts bs e r

@@ -1,5 +1,6 @@
 -- An edit by its plan: what `subscriptions::edit` returns and leaves is what the command comes to. Rests on EditLaws and on the laws of plans.
-use Rattle.listing_rules.proofs.Prelude.{◌∙◌, ◌≡◌, ap, refl, subst, sym, Bool, cond, false, true, List, map, ℕ, arith, leb, length, take}
+use Rattle.std.specs.Prelude.{Ok, Err}
+use Rattle.listing_rules.proofs.Prelude.{◌∙◌, ◌≡◌, ap, refl, subst, sym, Bool, cond, false, false≢true, true, List, map, ℕ, leb, length, take}
 use Rattle.listing_rules.specs.Table.{passes}
 use Rattle.listing_rules.specs.Subscriptions.{Store, spelled, Edited, stored}
 use Rattle.listing_rules.specs.Lines.{ok_line}
@@ -11,106 +12,68 @@ use Rattle.records.specs.Words.{record_of}
 use Rattle.records.specs.Lent.{words_summed, words_table}
 use Rattle.command_line.specs.declared.Command.{Command}
 use Rattle.command_line.specs.Commands.{name_of}
-use Rattle.command_line.specs.Spans.{span_bytes}
-use Rattle.subscriptions.specs.declared.Plan.{Plan}
-use Rattle.subscriptions.specs.declared.Plan.TheVariants.{Keep, Flag, Insert, Remove, Refused as Refuses}
+use Rattle.command_tokens.specs.Spans.{span_bytes}
+use Rattle.subscriptions.specs.declared.Plan.TheVariants.{Keep, Flag, Insert, Remove}
 use Rattle.subscriptions.specs.declared.Change.{Change}
-use Rattle.subscriptions.specs.declared.Edited.TheVariants.{Done, Refused}
-use Rattle.subscriptions.specs.Plans.{plan_for, subscribes, carried, edited_name}
+use Rattle.subscriptions.specs.Plans.{Decision, plan_for, subscribes, carried, edited_name}
 use Rattle.subscriptions.proofs.StoredLaws.{plan_decides}
 use Rattle.subscriptions.proofs.PlanSums.{plan_keeps}
 use Rattle.subscriptions.proofs.EditingLaws.{plan_refused, plan_passed}
 use Rattle.subscriptions.specs.Applied.{words_after, area_after, change_of}
 use Rattle.subscriptions.specs.Stored.{whole_store, plan_of, Decides, is_done, KeepsSums}
-use Rattle.subscriptions.specs.Editing.{cells, if_fits, plan_over, answer_for, edited_is}
+use Rattle.subscriptions.specs.Editing.{cells, if_fits, plan_over, edited_is}
 use Rattle.server.specs.Edits.{subscribe_kind, edit_as, edit_of, edit_stored, edit_parsed, edit_command}
 
--- what is answered to an edit by its plan
-unfoldable plan_reply : Plan → List ℕ → Reply
-plan_reply Keep tag = answered (ok_line tag)
-plan_reply (Flag k f) tag = answered (ok_line tag)
-plan_reply (Insert k start) tag = answered (ok_line tag)
-plan_reply (Remove k) tag = answered (ok_line tag)
-plan_reply (Refuses k) tag = refusal k
+-- what is answered to an edit by what was decided
+abbrev plan_reply : Decision → List ℕ → Reply
+plan_reply (Ok p) tag = answered (ok_line tag)
+plan_reply (Err k) tag = refusal k
 
 -- 9 is given by the plan, too
-limited_plan : (p : Plan) (tag : List ℕ) (size : ℕ) → limited size (plan_reply p tag) ≡ plan_reply (if_fits (leb (length (ok_line tag)) size) p) tag
-unfolding plan_reply limited if_fits
-limited_plan Keep tag size = go (leb (length (ok_line tag)) size)
+limited_plan : (p : Decision) (tag : List ℕ) (size : ℕ) → limited size (plan_reply p tag) ≡ plan_reply (if_fits (leb (length (ok_line tag)) size) p) tag
+unfolding limited if_fits
+limited_plan (Ok p) tag size = go (leb (length (ok_line tag)) size)
   where
-    go : (b : Bool) → cond b (answered (ok_line tag)) (refusal 9) ≡ plan_reply (if_fits b Keep) tag
+    go : (b : Bool) → cond b (answered (ok_line tag)) (refusal 9) ≡ plan_reply (if_fits b (Ok p)) tag
     go true = refl
     go false = refl
-limited_plan (Flag k f) tag size = go (leb (length (ok_line tag)) size)
+limited_plan (Err k) tag size = go (leb (length (ok_line tag)) size)
   where
-    go : (b : Bool) → cond b (answered (ok_line tag)) (refusal 9) ≡ plan_reply (if_fits b (Flag k f)) tag
-    go true = refl
-    go false = refl
-limited_plan (Insert k start) tag size = go (leb (length (ok_line tag)) size)
-  where
-    go : (b : Bool) → cond b (answered (ok_line tag)) (refusal 9) ≡ plan_reply (if_fits b (Insert k start)) tag
-    go true = refl
-    go false = refl
-limited_plan (Remove k) tag size = go (leb (length (ok_line tag)) size)
-  where
-    go : (b : Bool) → cond b (answered (ok_line tag)) (refusal 9) ≡ plan_reply (if_fits b (Remove k)) tag
-    go true = refl
-    go false = refl
-limited_plan (Refuses k) tag size = go (leb (length (ok_line tag)) size)
-  where
-    go : (b : Bool) → refusal k ≡ plan_reply (if_fits b (Refuses k)) tag
+    go : (b : Bool) → refusal k ≡ plan_reply (if_fits b (Err k)) tag
     go true = refl
     go false = refl
 
--- a plan by the answer to it
-pub refused_plan : (p : Plan) (count k : ℕ) → Refused k ≡ edited_is p count → p ≡ Refuses k
-unfolding answer_for
-refused_plan Keep count k e = let z : ◌≡◌ {A = ℕ} 0 1 = cc in absurd (omega arith)
-refused_plan (Flag j f) count k e = let z : ◌≡◌ {A = ℕ} 0 1 = cc in absurd (omega arith)
-refused_plan (Insert j start) count k e = let z : ◌≡◌ {A = ℕ} 0 1 = cc in absurd (omega arith)
-refused_plan (Remove j) count k e = let z : ◌≡◌ {A = ℕ} 0 1 = cc in absurd (omega arith)
-refused_plan (Refuses j) count k e = let z : k ≡ j = cc in ap Refuses (sym z)
+-- what was decided, by the answer to it
+pub refused_plan : (p : Decision) (count k : ℕ) → Err k ≡ edited_is p count → p ≡ Err k
+refused_plan (Ok p) count k e = cc
+refused_plan (Err j) count k e = let z : k ≡ j = cc in ap Err (sym z)
 
-pub refuses_same : (j k : ℕ) → Refuses j ≡ Refuses k → j ≡ k
+pub refuses_same : (j k : ℕ) → ◌≡◌ {A = Decision} (Err j) (Err k) → j ≡ k
 refuses_same j k e = cc
 
-pub done_plan : (p : Plan) (count : ℕ) (c : Change) → Done c ≡ edited_is p count → (c ≡ change_of p count) × (is_done p ≡ true)
-unfolding answer_for
-done_plan Keep count c e = (cc, refl)
-done_plan (Flag j f) count c e = (cc, refl)
-done_plan (Insert j start) count c e = (cc, refl)
-done_plan (Remove j) count c e = (cc, refl)
-done_plan (Refuses j) count c e = let z : ◌≡◌ {A = ℕ} 0 1 = cc in absurd (omega arith)
+pub done_plan : (p : Decision) (count : ℕ) (c : Change) → Ok c ≡ edited_is p count → (c ≡ change_of p count) × (is_done p ≡ true)
+done_plan (Ok p) count c e = (cc, refl)
+done_plan (Err j) count c e = cc
 
 -- a plan that is no refusal fits, and is answered
-if_done : (b : Bool) (p : Plan) → is_done (if_fits b p) ≡ true → if_fits b p ≡ p
+if_done : (b : Bool) (p : Decision) → is_done (if_fits b p) ≡ true → if_fits b p ≡ p
 unfolding if_fits
 if_done true p h = refl
-if_done false Keep h = let z : ◌≡◌ {A = ℕ} 0 1 = cc in absurd (omega arith)
-if_done false (Flag k f) h = let z : ◌≡◌ {A = ℕ} 0 1 = cc in absurd (omega arith)
-if_done false (Insert k start) h = let z : ◌≡◌ {A = ℕ} 0 1 = cc in absurd (omega arith)
-if_done false (Remove k) h = let z : ◌≡◌ {A = ℕ} 0 1 = cc in absurd (omega arith)
-if_done false (Refuses k) h = refl
+if_done false (Ok p) h = absurd (false≢true h)
+if_done false (Err k) h = refl
 
-fitting : (b : Bool) (p : Plan) → is_done (if_fits b p) ≡ true → b ≡ true
+fitting : (b : Bool) (p : Decision) → is_done (if_fits b p) ≡ true → b ≡ true
 unfolding if_fits
 fitting true p h = refl
-fitting false Keep h = h
-fitting false (Flag k f) h = h
-fitting false (Insert k start) h = h
-fitting false (Remove k) h = h
-fitting false (Refuses k) h = h
+fitting false (Ok p) h = h
+fitting false (Err k) h = h
 
-done_reply : (p : Plan) (tag : List ℕ) → is_done p ≡ true → plan_reply p tag ≡ answered (ok_line tag)
-unfolding plan_reply
-done_reply Keep tag h = refl
-done_reply (Flag k f) tag h = refl
-done_reply (Insert k start) tag h = refl
-done_reply (Remove k) tag h = refl
-done_reply (Refuses k) tag h = let z : ◌≡◌ {A = ℕ} 0 1 = cc in absurd (omega arith)
+done_reply : (p : Decision) (tag : List ℕ) → is_done p ≡ true → plan_reply p tag ≡ answered (ok_line tag)
+done_reply (Ok p) tag h = refl
+done_reply (Err k) tag h = absurd (false≢true h)
 
 -- an edit by its plan
-module _ (ws sums : List ℕ) (count : ℕ) (area l : List ℕ) (c : Command) (out : List ℕ) (p : Plan) (d : Decides ws count area (edit_of l c) p)
+module _ (ws sums : List ℕ) (count : ℕ) (area l : List ℕ) (c : Command) (out : List ℕ) (p : Decision) (d : Decides ws count area (edit_of l c) p)
     (q : KeepsSums ws count area sums (edit_of l c) p) where
   abbrev whole : Store
   whole = whole_store ws count area
@@ -148,13 +111,13 @@ module _ (ws sums : List ℕ) (count : ℕ) (area l : List ℕ) (c : Command) (o
       go true = refl
       go false = refl
 
-  by_plan : (x : Plan) → p ≡ x → concluded whole (length out) (carried whole name x) (answered ok) ≡ closing (limited (length out) (plan_reply x tag))
-  unfolding carried plan_reply limited concluded
-  by_plan Keep e = measured whole (d.leaves whole (rw e))
-  by_plan (Flag k f) e = measured _ (d.leaves _ (rw e))
-  by_plan (Insert k start) e = measured _ (d.leaves _ (rw e))
-  by_plan (Remove k) e = measured _ (d.leaves _ (rw e))
-  by_plan (Refuses k) e = refl
+  by_plan : (x : Decision) → p ≡ x → concluded whole (length out) (carried whole name x) (answered ok) ≡ closing (limited (length out) (plan_reply x tag))
+  unfolding carried limited concluded
+  by_plan (Ok Keep) e = measured whole (d.leaves whole (rw e))
+  by_plan (Ok (Flag k f)) e = measured _ (d.leaves _ (rw e))
+  by_plan (Ok (Insert k start)) e = measured _ (d.leaves _ (rw e))
+  by_plan (Ok (Remove k)) e = measured _ (d.leaves _ (rw e))
+  by_plan (Err k) e = refl
 
   edit_comes : edit_stored whole l c out ≡ closing (limited (length out) (plan_reply p tag))
   edit_comes = ap (λ (x : Edited). concluded whole (length out) x (answered ok)) d.comes_to_lem ∙ by_plan p refl
@@ -171,9 +134,8 @@ module _ (ws sums : List ℕ) (count : ℕ) (area l : List ℕ) (c : Command) (o
   abbrev fits : Bool
   fits = leb (length ok) (length out)
 
-  pub comes_refused : (k : ℕ) → if_fits fits p ≡ Refuses k → edit_command all l c out ≡ untouched all k
-  unfolding plan_reply
-  comes_refused k e = sums_come ∙ ap closing_sums (limited_plan p tag (length out) ∙ ap (λ (x : Plan). plan_reply x tag) e)
+  pub comes_refused : (k : ℕ) → if_fits fits p ≡ Err k → edit_command all l c out ≡ untouched all k
+  comes_refused k e = sums_come ∙ ap closing_sums (limited_plan p tag (length out) ∙ ap (λ (x : Decision). plan_reply x tag) e)
 
   pub comes_done : is_done (if_fits fits p) ≡ true → edit_command all l c out
       ≡ record { reply = answered ok; left = record { store = made; summary = sums_edited all (edit_of l c) } }
@@ -187,16 +149,16 @@ edit_parts false n = (refl, refl)
 
 -- The plan that was decided on, over words that are all lent, each with a number.
 module _ (ws sums : List ℕ) (count : ℕ) (area l : List ℕ) (c : Command) (out : List ℕ) (sized : length ws ≡ length sums) where
-  abbrev own : Plan
+  abbrev own : Decision
   own = plan_of ws count area (edit_of l c)
 
   abbrev roomy : Bool
   roomy = leb (length (ok_line (span_bytes l c.tag))) (length out)
 
-  abbrev plan : Plan
+  abbrev plan : Decision
   plan = plan_over (cells ws sums area) count (subscribe_kind c.kind) (spelled (name_of l c)) roomy
 
-  pub plan_1 : passes (words_table ws count area sums) ≡ false → plan ≡ Refuses 1
+  pub plan_1 : passes (words_table ws count area sums) ≡ false → plan ≡ Err 1
   plan_1 h = plan_refused (cells ws sums area) count (subscribe_kind c.kind) (spelled (name_of l c)) roomy h
 
   module _ (passed : passes (words_table ws count area sums) ≡ true) where
@@ -214,12 +176,12 @@ module _ (ws sums : List ℕ) (count : ℕ) (area l : List ℕ) (c : Command) (o
         let parts = grown_parts (words_summed ws count area sums) passed in
         plan_keeps ws count area sums parts.0 parts.1 sized (edit_of l c)
 
-    pub plan_refuses : (k : ℕ) → plan ≡ Refuses k → edit_command (words_summed ws count area sums) l c out ≡ untouched (words_summed ws count area sums) k
+    pub plan_refuses : (k : ℕ) → plan ≡ Err k → edit_command (words_summed ws count area sums) l c out ≡ untouched (words_summed ws count area sums) k
     plan_refuses k e = comes_refused ws sums count area l c out own decided keeps k (sym plan_is ∙ e)
 
     module _ (done : is_done plan ≡ true) where
       own_done : is_done (if_fits roomy own) ≡ true
-      own_done = subst (λ (p : Plan). is_done p ≡ true) plan_is done
+      own_done = subst (λ (p : Decision). is_done p ≡ true) plan_is done
 
       pub plan_own : plan ≡ own
       plan_own = plan_is ∙ if_done roomy own own_done

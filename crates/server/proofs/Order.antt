@@ -1,4 +1,6 @@
 -- The refusals in document 01's order, and the reply to a command by its kind. Rests on FewLaws of command_patterns.
+use Rattle.std.specs.Prelude.{Option, Some, None, Err}
+use Rattle.std.specs.Option.{ok_or}
 use Rattle.listing_rules.proofs.Prelude.{◌∙◌, ◌≡◌, ap, refl, sym, false, true, List, ◌++◌, map, ◌≤◌, ℕ, arith, drop, length, length-append, take}
 use Rattle.listing_rules.proofs.Prelude.{take_at}
 use Rattle.listing_rules.specs.Table.{Table, rows, passes, packed_table}
@@ -6,27 +8,36 @@ use Rattle.listing_rules.specs.Records.{Record, record_table, packed_records}
 use Rattle.listing_rules.specs.Readers.{is_reader, visible, records_seen, packed_seen}
 use Rattle.listing_rules.proofs.ReaderLaws.{records_seen_passes, records_seen_is, packed_seen_passes, packed_seen_is}
 use Rattle.listing_rules.specs.Namespaces.{entries, namespaces_pass}
-use Rattle.listing_rules.specs.Command.{Parsed, is_edit, parsed}
+use Rattle.listing_rules.specs.Command.{Parsed, refused, is_edit, parsed}
 use Rattle.listing_rules.specs.Server.{refusal, answer_to, limited, from_reader, buffer_after}
+use Rattle.octets.specs.declared.refusals.Refusal.{Refusal}
+use Rattle.octets.specs.Refusals.{number_of}
 use Rattle.octets.specs.Written.{written_is, Gives}
-use Rattle.octets.specs.declared.Written.TheVariants.{Refused}
 use Rattle.command_line.specs.declared.Kind.{Kind}
-use Rattle.command_line.specs.declared.Kind.TheVariants.{Root, Namespace, List as Listing, Lsub, Subscribe, Unsubscribe, Refused as Refusal}
+use Rattle.command_line.specs.declared.Kind.TheVariants.{Root, Namespace, List as Listing, Lsub, Subscribe, Unsubscribe}
 use Rattle.command_line.specs.declared.Command.{Command}
 use Rattle.command_line.specs.OptionSets.{options_is}
-use Rattle.command_line.specs.Commands.{meaning, meaning_as, patterns_of, Few}
-use Rattle.command_line.specs.Spans.{span_bytes}
+use Rattle.command_line.specs.Commands.{meaning_of, meaning_as, patterns_of, Few}
+use Rattle.command_tokens.specs.Spans.{span_bytes}
 use Rattle.records.specs.Words.{record_of}
 use Rattle.mailbox_table.specs.Index.{rows_at}
 use Rattle.mailbox_table.specs.Seen.{seen_words}
 use Rattle.mailbox_table.proofs.SeenLaws.{seen_rows}
-use Rattle.server.specs.Replies.{read_only, read_to, command_reply, index_reply, spaces_reply, root_reply, listing_reply, subscriptions_reply}
+use Rattle.server.specs.Replies.{read_only, read_to, command_reply, index_reply, seen_reply, spaces_reply, root_reply, listing_reply, subscriptions_reply}
 use Rattle.command_line.proofs.Packed.{listing_few, subscriptions_few}
 
 -- a number of refusal, and no byte changed
-pub refused_with_lem : (k : ℕ) (d : List ℕ) → Gives (refusal k) d d (Refused k)
+pub refused_with_lem : (e : Refusal) (d : List ℕ) → Gives (refusal (number_of e)) d d (Err e)
 unfolding limited written_is buffer_after
-refused_with_lem k d = (refl, refl)
+refused_with_lem e d = (refl, refl)
+
+-- where `ok_or` refuses, there was nothing
+pub none_refused : {A : Type 0} {r : Option A} {e : Refusal} (k : Refusal) → Err e ≡ ok_or r k → (r ≡ None) × (e ≡ k)
+none_refused {A} {r} {e} k a = go r a
+  where
+    go : (r : Option A) → Err e ≡ ok_or r k → (r ≡ None) × (e ≡ k)
+    go (Some x) z = cc
+    go None z = (refl, cc)
 
 -- a reader's command that only reads: 16, 1, and what is left over the rows that it sees
 module _ (reader : ℕ) (t : Table) (s l : List ℕ) where
@@ -77,17 +88,33 @@ module _ (area words s l : List ℕ) where
   pub index_on : namespaces_pass s ≡ true → index_reply area words s l ≡ command_reply area words s l
   index_on e = rw e
 
+  -- a line that is refused
+  pub reply_refused : (k : ℕ) → refused k ≡ parsed l → refusal k ≡ command_reply area words s l
+  unfolding answer_to read_only is_edit
+  reply_refused k e = ap (λ (p : Parsed). read_only p (answer_to (rows_at area words) (entries s) p)) e
+
+  -- the same where an edit is of another reader
+  pub seen_2 : namespaces_pass s ≡ false → seen_reply area words s l ≡ refusal 2
+  seen_2 e = rw e
+
+  module _ (listed : namespaces_pass s ≡ true) where
+    pub seen_16 : is_edit (parsed l) ≡ true → seen_reply area words s l ≡ refusal 16
+    seen_16 e = rw (listed, e)
+
+    pub seen_on : is_edit (parsed l) ≡ false → seen_reply area words s l ≡ command_reply area words s l
+    seen_on e = rw (listed, e)
+
+    pub seen_refused : (k : ℕ) → refused k ≡ parsed l → refusal k ≡ seen_reply area words s l
+    unfolding is_edit
+    seen_refused k e = reply_refused k e ∙ sym (seen_on (ap is_edit (sym e)))
+
 -- The reply to a command that was read, by its kind
-module _ (area words namespaces l : List ℕ) (c : Command) (m : meaning l c ≡ parsed l) where
+module _ (area words namespaces l : List ℕ) (c : Command) (m : meaning_of l c ≡ parsed l) where
   reply_as : (k : Kind) → c.kind ≡ k
       → read_only (meaning_as k l c) (answer_to (rows_at area words) (entries namespaces) (meaning_as k l c)) ≡ command_reply area words namespaces l
-  unfolding meaning
+  unfolding meaning_of
   reply_as k e =
       ap (λ (p : Parsed). read_only p (answer_to (rows_at area words) (entries namespaces) p)) (ap (λ (q : Kind). meaning_as q l c) (sym e) ∙ m)
-
-  pub reply_refused : (k : ℕ) → c.kind ≡ Refusal k → refusal k ≡ command_reply area words namespaces l
-  unfolding answer_to meaning_as read_only is_edit
-  reply_refused k e = reply_as (Refusal k) e
 
   module _ (tag : List ℕ) (t : tag ≡ span_bytes l c.tag) where
     pub reply_spaces : c.kind ≡ Namespace → spaces_reply namespaces tag ≡ command_reply area words namespaces l
@@ -116,10 +143,10 @@ module _ (area words namespaces l : List ℕ) (c : Command) (m : meaning l c ≡
 
   -- what a listing asks for is few and short
   pub list_few : c.kind ≡ Listing → Few (patterns_of l c)
-  unfolding meaning meaning_as
+  unfolding meaning_of meaning_as
   list_few e = listing_few l (span_bytes l c.tag) (options_is c.options) (patterns_of l c) (sym m ∙ ap (λ (q : Kind). meaning_as q l c) e)
 
   -- and so is what LSUB asks for, which is one pattern at most
   pub lsub_one : c.kind ≡ Lsub → Few (patterns_of l c) × (length (patterns_of l c) ≤ 1)
-  unfolding meaning meaning_as
+  unfolding meaning_of meaning_as
   lsub_one e = subscriptions_few l (span_bytes l c.tag) (patterns_of l c) (sym m ∙ ap (λ (q : Kind). meaning_as q l c) e)

@@ -4,6 +4,7 @@ use Rattle.listing_rules.specs.Command.{Parsed, refused, namespace, listing, roo
 use Rattle.listing_rules.specs.Namespaces.{namespaces_pass}
 use Rattle.listing_rules.specs.Server.{Reply, refusal, answered, buffer_after}
 use Rattle.octets.specs.Written.{written_is}
+use Rattle.octets.specs.Refusals.{numbered}
 use Rattle.records.specs.Words.{record_of}
 use Rattle.records.specs.Numbers.{summary_of}
 use Rattle.records.specs.Stores.{Handed, word_command, Between}
@@ -55,7 +56,7 @@ handed d count reader spaces l = word_command d.words (length d.words) count rea
 
 -- The result, every byte, every number of the summary and every bit of the words. Words changed only from `from` up to `to`, among those that are lent.
 pub record Answers (before after : Memory) (count reader : ℕ) (spaces l : List ℕ) (r : Stored) : Type 0 where
-  pub written : r.written ≡ written_is (handed before count reader spaces l).reply
+  pub written : numbered r.written ≡ written_is (handed before count reader spaces l).reply
   pub count_is : r.count ≡ (handed before count reader spaces l).count
   pub changed : ltb r.from r.to ≡ (handed before count reader spaces l).changed
   pub bytes : after.out ≡ buffer_after before.out (handed before count reader spaces l).reply

@@ -1,15 +1,17 @@
 -- An edit that was read, and what it comes to.
-use Rattle.std.specs.Prelude.{◌≡◌, Bool, true, false, List, ℕ, ◌≤◌, length, take}
+use Rattle.std.specs.Prelude.{◌≡◌, Bool, true, false, cond, ◌&&◌, eqb, Option, Some, None, Result, Ok, Err, IfOk, List, ℕ, ◌≤◌, length, take}
 use Rattle.listing_rules.specs.Command.{Edit, subscribe, unsubscribe, Parsed, editing, parsed}
+use Rattle.listing_rules.specs.Namespaces.{namespaces_pass}
 use Rattle.listing_rules.specs.Subscriptions.{Store, edited}
 use Rattle.listing_rules.specs.Lines.{ok_line}
 use Rattle.listing_rules.specs.Server.{Commanded, answered, concluded, changes}
 use Rattle.listing_rules.specs.Summary.{Summed, SummedCommand, sums_after}
+use Rattle.octets.specs.declared.refusals.Refusal.{Refusal}
 use Rattle.command_tokens.specs.Spans.{span_bytes}
 use Rattle.command_line.specs.declared.Kind.{Kind}
-use Rattle.command_line.specs.declared.Kind.TheVariants.{List as Listing, Root, Namespace, Lsub, Subscribe, Unsubscribe, Refused}
+use Rattle.command_line.specs.declared.Kind.TheVariants.{List as Listing, Root, Namespace, Lsub, Subscribe, Unsubscribe}
 use Rattle.command_line.specs.declared.Command.{Command}
-use Rattle.command_line.specs.Commands.{meaning, name_of, Inside}
+use Rattle.command_line.specs.Commands.{meaning, meaning_of, name_of, Inside}
 
 -- these bytes lie at the front of a buffer, r of them
 pub record Fronts (bs buffer : List ℕ) (r : ℕ) : Type 0 where
@@ -19,8 +21,13 @@ pub record Fronts (bs buffer : List ℕ) (r : ℕ) : Type 0 where
 
 -- the command is what the line says
 pub record Reads (line : List ℕ) (c : Command) : Type 0 where
-  pub means : meaning line c ≡ parsed line
+  pub means : meaning_of line c ≡ parsed line
   pub inside : Inside line c
+
+-- the line was read as this command, or refused as this says
+pub record Reading (line : List ℕ) (r : Result Command Refusal) : Type 0 where
+  pub means : meaning line r ≡ parsed line
+  pub inside : IfOk r (λ c. Inside line c)
 
 abbrev pub edit_kind : Kind → Bool
 edit_kind Subscribe = true
@@ -29,7 +36,6 @@ edit_kind Listing = false
 edit_kind Root = false
 edit_kind Namespace = false
 edit_kind Lsub = false
-edit_kind (Refused k) = false
 
 abbrev pub subscribe_kind : Kind → Bool
 subscribe_kind Subscribe = true
@@ -38,7 +44,11 @@ subscribe_kind Listing = false
 subscribe_kind Root = false
 subscribe_kind Namespace = false
 subscribe_kind Lsub = false
-subscribe_kind (Refused k) = false
+
+-- the edit that its reader may make, beside a namespace list that passes
+abbrev pub own_edit : Result Command Refusal → ℕ → List ℕ → Option Command
+own_edit (Ok c) reader spaces = cond (eqb reader 0 && (edit_kind c.kind && namespaces_pass spaces)) (Some c) None
+own_edit (Err e) reader spaces = None
 
 -- the edit of a command that is one
 unfoldable pub edit_as : Bool → List ℕ → Edit

@@ -29,6 +29,11 @@ command_reply area words namespaces line = read_only (parsed line) (answer_to (r
 abbrev pub index_reply : List ℕ → List ℕ → List ℕ → List ℕ → Reply
 index_reply area words namespaces line = cond (namespaces_pass namespaces) (command_reply area words namespaces line) (refusal 2)
 
+-- the same where an edit is of another reader than 0
+abbrev pub seen_reply : List ℕ → List ℕ → List ℕ → List ℕ → Reply
+seen_reply area words namespaces line =
+    cond (namespaces_pass namespaces) (cond (is_edit (parsed line)) (refusal 16) (command_reply area words namespaces line)) (refusal 2)
+
 -- to NAMESPACE
 abbrev pub spaces_text : List ℕ → List ℕ → List ℕ
 spaces_text namespaces tag = namespace_answer (entries namespaces) tag

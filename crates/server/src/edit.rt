@@ -1,33 +1,25 @@
 // SUBSCRIBE and UNSUBSCRIBE: the name of the line put into a buffer and spelled there, then edited.
-ghost use Rattle.std.specs.Prelude.{◌≡◌, true, ◌&&◌, ◌≤◌, eqb, length, replicate};
-ghost use Rattle.listing_rules.specs.Namespaces.{namespaces_pass};
+ghost use Rattle.std.specs.Prelude.{◌≡◌, true, ◌≤◌, length};
 ghost use Rattle.listing_rules.specs.Subscriptions.{spelled};
 ghost use Rattle.command_line.specs.Commands.{name_of};
-ghost use Rattle.octets.specs.declared.Written.TheVariants.{Refused};
 ghost use Rattle.server.specs.Answering.{AnswersEdit, memory};
-ghost use Rattle.server.specs.Edits.{Fronts, Reads, edit_kind, subscribe_kind};
+ghost use Rattle.server.specs.Edits.{Fronts, edit_kind, subscribe_kind, own_edit};
 
 use super::Stored;
+use super::asked::Asked;
 use super::replies::ok_fits;
 use command_line::{Command, Kind, put_name};
 use command_tokens::raw;
 use list_line::put_ok_line;
 use names::spell;
-use octets::Written;
-use octets::refusals::READER;
-use subscriptions::{Edited, edit};
+use octets::{Refusal, filled};
+use subscriptions::edit;
 
-// A buffer for the name of any command line.
+// Room for the name of any command line.
 const NAME_ROOM: usize = 2048;
 
-fn no_name() -> [u8; NAME_ROOM]
-    ensures { result ≡ replicate 2048 0 }
-{
-    [0u8; NAME_ROOM]
-}
-
 // A command that left the words as they were.
-pub(crate) fn unchanged(written: Written, count: usize) -> Stored
+pub(crate) fn unchanged(written: Result<usize, Refusal>, count: usize) -> Stored
     ensures { result ≡ record { written = written; count = count; from = 0; to = 0 } }
 {
     Stored {
@@ -41,57 +33,44 @@ pub(crate) fn unchanged(written: Written, count: usize) -> Stored
 pub(crate) fn is_edit(kind: Kind) -> bool
     ensures { result ≡ edit_kind kind }
 {
-    match kind {
-        Kind::Subscribe => true,
-        Kind::Unsubscribe => true,
-        Kind::List => false,
-        Kind::Root => false,
-        Kind::Namespace => false,
-        Kind::Lsub => false,
-        Kind::Refused(_) => false,
-    }
+    matches!(kind, Kind::Subscribe | Kind::Unsubscribe)
 }
 
 fn is_subscribe(kind: Kind) -> bool
     ensures { result ≡ subscribe_kind kind }
 {
-    match kind {
-        Kind::Subscribe => true,
-        Kind::Unsubscribe => false,
-        Kind::List => false,
-        Kind::Root => false,
-        Kind::Namespace => false,
-        Kind::Lsub => false,
-        Kind::Refused(_) => false,
-    }
+    matches!(kind, Kind::Subscribe)
 }
 
-// Whether the command is an edit that its reader may make, beside a namespace list that passes: "edits are allowed to reader 0 only".
-pub(crate) fn may_edit(kind: Kind, reader: u8, namespaces: &[u8]) -> bool
-    ensures { result ≡ (eqb reader 0 && (edit_kind kind && namespaces_pass namespaces.now)) }
+// The edit that its reader may make, beside a namespace list that passes: "edits are allowed to reader 0 only".
+pub(crate) fn own_edit(
+    read: Result<Command, Refusal>,
+    reader: u8,
+    namespaces: &[u8],
+) -> Option<Command>
+    ensures { result ≡ own_edit read reader namespaces.now }
 {
+    let Ok(command) = read else {
+        return None;
+    };
     if reader != 0 {
-        return false;
+        return None;
     }
-    if !is_edit(kind) {
-        return false;
+    if !is_edit(command.kind) {
+        return None;
     }
-    namespace_list::check(namespaces)
-}
-
-// An edit from another reader than 0.
-pub(crate) fn refused_edit(count: usize) -> Stored
-    ensures { result ≡ record { written = Refused 16; count = count; from = 0; to = 0 } }
-{
-    unchanged(Written::Refused(READER), count)
+    if !namespace_list::check(namespaces) {
+        return None;
+    }
+    Some(command)
 }
 
 // The name of an edit, spelled, at the front of `name`, and its length.
-fn put_spelled(line: &[u8], command: Command, name: &mut [u8]) -> usize
-    requires { length (name_of line.now command) ≤ length name.old }
-    ensures { Fronts (spelled (name_of line.now command)) name.new result }
+fn put_spelled(asked: Asked, name: &mut [u8]) -> usize
+    requires { length (name_of asked.line.now asked.command) ≤ length name.old }
+    ensures { Fronts (spelled (name_of asked.entry.line.now asked.entry.command)) name.new result }
 {
-    let end = put_name(line, command, name);
+    let end = put_name(asked.line, asked.command, name);
     spell(&mut name[..end]);
     end
 }
@@ -102,26 +81,24 @@ pub(crate) fn edit_line(
     sums: &mut [u64],
     count: usize,
     area: &mut [u8],
-    line: &[u8],
-    command: Command,
+    asked: Asked,
     out: &mut [u8],
 ) -> Stored
-    requires { Reads line.now command × (edit_kind command.kind ≡ true) }
+    requires { edit_kind asked.command.kind ≡ true }
     ensures { AnswersEdit (memory words.old sums.old area.old out.old)
-        (memory words.new sums.new area.new out.new) count line.now result }
+        (memory words.new sums.new area.new out.new) count asked.entry.line.now result }
 {
-    let mut name = no_name();
-    let n = put_spelled(line, command, &mut name);
-    let kind = command.kind;
-    let subscribe = is_subscribe(kind);
-    let tag = raw(line, command.tag);
+    let mut name: [u8; NAME_ROOM] = filled(0);
+    let n = put_spelled(asked, &mut name);
+    let subscribe = is_subscribe(asked.command.kind);
+    let tag = raw(asked.line, asked.command.tag);
     let fits = ok_fits(tag, out.len());
     match edit(words, sums, count, area, subscribe, &name[..n], fits) {
-        Edited::Refused(number) => unchanged(Written::Refused(number), count),
-        Edited::Done(change) => {
+        Err(refusal) => unchanged(Err(refusal), count),
+        Ok(change) => {
             let end = put_ok_line(out, 0, tag);
             Stored {
-                written: Written::Done(end),
+                written: Ok(end),
                 count: change.count,
                 from: change.from,
                 to: change.to,

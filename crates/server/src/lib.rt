@@ -8,18 +8,24 @@
 // check 1 itself (`subscriptions::edit`); for every other command it is made here.
 #![tactic(auto)]
 
+mod asked;
 mod edit;
 mod packed;
 mod reading;
 mod replies;
 
+ghost use Rattle.octets.specs.Written.{Gives};
+ghost use Rattle.mailbox_table.specs.Index.{Index};
+ghost use Rattle.mailbox_table.specs.Seen.{seen_words};
+ghost use Rattle.server.specs.Replies.{seen_reply};
+ghost use Rattle.server.specs.Edits.{Reading};
 ghost use Rattle.server.specs.Answering.{Answers, memory};
 
-use command_line::read_command;
-use edit::{edit_line, is_edit, may_edit, refused_edit, unchanged};
-use mailbox_table::{Indexing, MAX_READER, see_rows};
-use octets::refusals::{NAMESPACES, READER, TABLE};
-use octets::{Written, least};
+use asked::{Asked, Rows};
+use command_line::{Command, read_command};
+use edit::{edit_line, is_edit, own_edit, unchanged};
+use mailbox_table::{MAX_READER, see_rows};
+use octets::Refusal;
 pub use packed::{is_edit_line, read_packed};
 pub use reading::read_words;
 use reading::respond;
@@ -30,13 +36,13 @@ use summary::index_summed;
 // words that changed or moved, `from` up to `to`.
 #[derive(Clone, Copy)]
 pub struct Stored {
-    pub written: Written,
+    pub written: Result<usize, Refusal>,
     pub count: usize,
     pub from: usize,
     pub to: usize,
 }
 
-// The answer to one command of a reader at the front of `out`. The words are the records, each as a number (`records::word_of`), and `sums` the numbers of
+// The answer to one command of a reader at the front of `out`. The words are the records, each as a number (`u64::from`), and `sums` the numbers of
 // their summary (`summary`): as many records are lent as there are of both. The first `count` of them are the table's rows, over the area of name bytes, and
 // the others are spare. SUBSCRIBE and UNSUBSCRIBE change words, summary, area and count; a refusal, and any other command, leaves them. A row changed exactly
 // if `from` is below `to`.
@@ -55,25 +61,49 @@ pub fn answer_words(
         count reader namespaces.now line.now result }
 {
     if MAX_READER < reader {
-        return unchanged(Written::Refused(READER), count);
+        return unchanged(Err(Refusal::Reader), count);
     }
-    let command = read_command(line);
-    let kind = command.kind;
-    if may_edit(kind, reader, namespaces) {
-        return edit_line(words, sums, count, area, line, command, out);
+    let read = read_command(line);
+    if let Some(command) = own_edit(read, reader, namespaces) {
+        return edit_line(words, sums, count, area, Asked { line, command }, out);
     }
     let mut rows = no_words();
-    let n = least(words.len(), sums.len());
-    let Indexing::Rows(m) = index_summed(area, &words[..n], count, &sums[..n], &mut rows) else {
-        return unchanged(Written::Refused(TABLE), count);
+    let n = words.len().min(sums.len());
+    let Some(m) = index_summed(area, &words[..n], count, &sums[..n], &mut rows) else {
+        return unchanged(Err(Refusal::Table), count);
     };
-    if !namespace_list::check(namespaces) {
-        return unchanged(Written::Refused(NAMESPACES), count);
-    }
-    if is_edit(kind) {
-        return refused_edit(count);
-    }
-    let seen = see_rows(&mut rows[..m], reader);
-    let written = respond(area, &rows[..seen], namespaces, line, command, out);
+    let written = answer_read(area, &mut rows[..m], reader, namespaces, line, read, out);
     unchanged(written, count)
+}
+
+// The refusals 2 to 9 over the index of a table that passes, of a line that changes nothing. An edit that comes here is of another
+// reader than 0.
+fn answer_read(
+    area: &[u8],
+    index: &mut [u64],
+    reader: u8,
+    namespaces: &[u8],
+    line: &[u8],
+    read: Result<Command, Refusal>,
+    out: &mut [u8],
+) -> Result<usize, Refusal>
+    requires index { Index area.now index.old }
+    requires reads { Reading line.now read }
+    ensures { Gives
+        (seen_reply area.now (seen_words reader index.old) namespaces.now line.now)
+        out.old out.new result }
+{
+    if !namespace_list::check(namespaces) {
+        return Err(Refusal::Namespaces);
+    }
+    let command = read?;
+    if is_edit(command.kind) {
+        return Err(Refusal::Reader);
+    }
+    let seen = see_rows(index, reader);
+    let rows = Rows {
+        area,
+        words: &index[..seen],
+    };
+    respond(rows, namespaces, Asked { line, command }, out)
 }

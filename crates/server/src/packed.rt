@@ -8,18 +8,18 @@ ghost use Rattle.server.specs.Replies.{read_to};
 use super::edit::is_edit;
 use super::reading::read_seen;
 use command_line::read_command;
-use mailbox_table::{Indexing, MAX_READER, index};
-use octets::Written;
-use octets::refusals::{READER, TABLE};
+use mailbox_table::{MAX_READER, index};
+use octets::Refusal;
 use records::no_words;
 
 // Whether the line is SUBSCRIBE or UNSUBSCRIBE, read to its end.
 pub fn is_edit_line(line: &[u8]) -> bool
     ensures { result ≡ is_edit (parsed line.now) }
 {
-    let command = read_command(line);
-    let kind = command.kind;
-    is_edit(kind)
+    let Ok(command) = read_command(line) else {
+        return false;
+    };
+    is_edit(command.kind)
 }
 
 // A reader's command over a packed table, which has no records to change: as `read_words`.
@@ -29,16 +29,14 @@ pub fn read_packed(
     namespaces: &[u8],
     line: &[u8],
     out: &mut [u8],
-) -> Written
+) -> Result<usize, Refusal>
     ensures { Gives (read_to reader (packed_seen reader table.now) namespaces.now line.now)
         out.old out.new result }
 {
     if MAX_READER < reader {
-        return Written::Refused(READER);
+        return Err(Refusal::Reader);
     }
     let mut words = no_words();
-    let Indexing::Rows(n) = index(table, &mut words) else {
-        return Written::Refused(TABLE);
-    };
+    let n = index(table, &mut words).ok_or(Refusal::Table)?;
     read_seen(table, &mut words[..n], reader, namespaces, line, out)
 }

@@ -6,14 +6,13 @@ ghost use Rattle.octets.specs.Written.{Gives};
 ghost use Rattle.mailbox_table.specs.Index.{Index};
 ghost use Rattle.mailbox_table.specs.Seen.{seen_words};
 ghost use Rattle.server.specs.Replies.{command_reply, index_reply, read_to};
-ghost use Rattle.server.specs.Edits.{Reads};
 
+use super::asked::{Asked, Rows};
 use super::replies::{write_listing, write_namespaces, write_root, write_subscriptions};
-use command_line::{Command, Kind, read_command};
+use command_line::{Kind, read_command};
 use command_tokens::raw;
-use mailbox_table::{Indexing, MAX_READER, index_words, see_rows};
-use octets::Written;
-use octets::refusals::{NAMESPACES, READER, TABLE, WORD};
+use mailbox_table::{MAX_READER, index_words, see_rows};
+use octets::Refusal;
 use records::no_words;
 
 // A reader's command over words that are lent for reading, of which the first `count` are rows: LIST, LSUB and NAMESPACE, over the rows that the reader
@@ -26,18 +25,16 @@ pub fn read_words(
     namespaces: &[u8],
     line: &[u8],
     out: &mut [u8],
-) -> Written
+) -> Result<usize, Refusal>
     ensures { Gives
         (read_to reader (records_seen reader area.now (map record_of words.now) count) namespaces.now line.now)
         out.old out.new result }
 {
     if MAX_READER < reader {
-        return Written::Refused(READER);
+        return Err(Refusal::Reader);
     }
     let mut rows = no_words();
-    let Indexing::Rows(n) = index_words(area, words, count, &mut rows) else {
-        return Written::Refused(TABLE);
-    };
+    let n = index_words(area, words, count, &mut rows).ok_or(Refusal::Table)?;
     read_seen(area, &mut rows[..n], reader, namespaces, line, out)
 }
 
@@ -49,54 +46,50 @@ pub(crate) fn read_seen(
     namespaces: &[u8],
     line: &[u8],
     out: &mut [u8],
-) -> Written
+) -> Result<usize, Refusal>
     requires { Index area.now index.old }
     ensures { Gives
         (index_reply area.now (seen_words reader index.old) namespaces.now line.now)
         out.old out.new result }
 {
     let seen = see_rows(index, reader);
-    read_index(area, &index[..seen], namespaces, line, out)
+    let rows = Rows {
+        area,
+        words: &index[..seen],
+    };
+    read_index(rows, namespaces, line, out)
 }
 
 // The refusals 2 to 9, over the index of a table that passes.
-fn read_index(area: &[u8], words: &[u64], namespaces: &[u8], line: &[u8], out: &mut [u8]) -> Written
-    requires { Index area.now words.now }
+fn read_index(rows: Rows, namespaces: &[u8], line: &[u8], out: &mut [u8]) -> Result<usize, Refusal>
     ensures { Gives
-        (index_reply area.now words.now namespaces.now line.now)
+        (index_reply rows.entry.area.now rows.entry.words.now namespaces.now line.now)
         out.old out.new result }
 {
     if !namespace_list::check(namespaces) {
-        return Written::Refused(NAMESPACES);
+        return Err(Refusal::Namespaces);
     }
-    let command = read_command(line);
-    respond(area, words, namespaces, line, command, out)
+    let command = read_command(line)?;
+    respond(rows, namespaces, Asked { line, command }, out)
 }
 
-// The answer to a command that was read, where the namespace list passes too: the refusals 3 to 9. An edit is refused with 5.
+// The answer to a command that was read, where the namespace list passes too: 9 where it is too long. An edit is refused with 5.
 pub(crate) fn respond(
-    area: &[u8],
-    words: &[u64],
+    rows: Rows,
     namespaces: &[u8],
-    line: &[u8],
-    command: Command,
+    asked: Asked,
     out: &mut [u8],
-) -> Written
-    requires index { Index area.now words.now }
-    requires reads { Reads line.now command }
+) -> Result<usize, Refusal>
     ensures { Gives
-        (command_reply area.now words.now namespaces.now line.now)
+        (command_reply rows.entry.area.now rows.entry.words.now namespaces.now asked.entry.line.now)
         out.old out.new result }
 {
-    let kind = command.kind;
-    let tag = raw(line, command.tag);
-    match kind {
-        Kind::Refused(number) => Written::Refused(number),
+    let tag = raw(asked.line, asked.command.tag);
+    match asked.command.kind {
         Kind::Namespace => write_namespaces(namespaces, tag, out),
         Kind::Root => write_root(tag, out),
-        Kind::List => write_listing(area, words, line, command, tag, out),
-        Kind::Lsub => write_subscriptions(area, words, line, command, tag, out),
-        Kind::Subscribe => Written::Refused(WORD),
-        Kind::Unsubscribe => Written::Refused(WORD),
+        Kind::List => write_listing(rows, asked, tag, out),
+        Kind::Lsub => write_subscriptions(rows, asked, tag, out),
+        Kind::Subscribe | Kind::Unsubscribe => Err(Refusal::Word),
     }
 }

@@ -1,18 +1,17 @@
 // The answers, each measured over an empty buffer before it is written.
-ghost use Rattle.std.specs.Prelude.{◌≡◌, ◌≤◌, leb, length, replicate};
+ghost use Rattle.std.specs.Prelude.{◌≡◌, ◌≤◌, leb, length};
 ghost use Rattle.listing_rules.specs.Lines.{ok_line};
 ghost use Rattle.octets.specs.Put.{Put};
 ghost use Rattle.octets.specs.Written.{Gives};
 ghost use Rattle.command_line.specs.Commands.{patterns_of, Few};
-ghost use Rattle.mailbox_table.specs.Index.{Index};
 ghost use Rattle.server.specs.Replies.{spaces_text, spaces_reply, root_text, root_reply, listing_reply, subscriptions_reply};
 
-use command_line::{Command, put_patterns};
-use list_answer::{write_list, write_lsub};
+use super::asked::{Asked, Rows};
+use command_line::put_patterns;
+use list_answer::{write_list, write_lsub, write_measured};
 use list_line::{put_ok_line, put_root_line};
 use namespace_list::put_namespaces;
-use octets::Written;
-use octets::refusals::SHORT_BUFFER;
+use octets::{Refusal, filled};
 
 // The NAMESPACE answer.
 fn put_spaces(buf: &mut [u8], namespaces: &[u8], tag: &[u8]) -> usize
@@ -22,16 +21,14 @@ fn put_spaces(buf: &mut [u8], namespaces: &[u8], tag: &[u8]) -> usize
     put_ok_line(buf, to, tag)
 }
 
-pub(crate) fn write_namespaces(namespaces: &[u8], tag: &[u8], out: &mut [u8]) -> Written
+pub(crate) fn write_namespaces(
+    namespaces: &[u8],
+    tag: &[u8],
+    out: &mut [u8],
+) -> Result<usize, Refusal>
     ensures { Gives (spaces_reply namespaces.now tag.now) out.old out.new result }
 {
-    let mut none = [0u8; 0];
-    let need = put_spaces(&mut none, namespaces, tag);
-    if out.len() < need {
-        return Written::Refused(SHORT_BUFFER);
-    }
-    let end = put_spaces(out, namespaces, tag);
-    Written::Done(end)
+    write_measured(|buf: &mut [u8]| put_spaces(buf, namespaces, tag), out)
 }
 
 // The root line and the tagged line.
@@ -42,16 +39,10 @@ fn put_root(buf: &mut [u8], tag: &[u8]) -> usize
     put_ok_line(buf, to, tag)
 }
 
-pub(crate) fn write_root(tag: &[u8], out: &mut [u8]) -> Written
+pub(crate) fn write_root(tag: &[u8], out: &mut [u8]) -> Result<usize, Refusal>
     ensures { Gives (root_reply tag.now) out.old out.new result }
 {
-    let mut none = [0u8; 0];
-    let need = put_root(&mut none, tag);
-    if out.len() < need {
-        return Written::Refused(SHORT_BUFFER);
-    }
-    let end = put_root(out, tag);
-    Written::Done(end)
+    write_measured(|buf: &mut [u8]| put_root(buf, tag), out)
 }
 
 // Whether the tagged line alone, the answer to an edit, fits a buffer of this size.
@@ -63,50 +54,46 @@ pub(crate) fn ok_fits(tag: &[u8], size: usize) -> bool
     need <= size
 }
 
-// A buffer for eight canonical patterns, each with a length byte.
-fn no_patterns() -> [u8; 2048]
-    ensures { result ≡ replicate 2048 0 }
-{
-    [0u8; 2048]
-}
+// Room for eight canonical patterns, each with a length byte.
+const PATTERN_ROOM: usize = 2048;
 
 // The LIST answer of a command whose canonical patterns are few and short.
 pub(crate) fn write_listing(
-    area: &[u8],
-    words: &[u64],
-    line: &[u8],
-    command: Command,
+    rows: Rows,
+    asked: Asked,
     tag: &[u8],
     out: &mut [u8],
-) -> Written
-    requires index { Index area.now words.now }
-    requires few { Few (patterns_of line.now command) }
+) -> Result<usize, Refusal>
+    requires { Few (patterns_of asked.line.now asked.command) }
     ensures { Gives
-        (listing_reply area.now words.now line.now command tag.now)
+        (listing_reply rows.entry.area.now rows.entry.words.now asked.entry.line.now asked.entry.command tag.now)
         out.old out.new result }
 {
-    let mut patterns = no_patterns();
-    let end = put_patterns(line, command, &mut patterns);
-    let options = command.options;
-    write_list(area, words, &patterns[..end], options, tag, out)
+    let mut patterns: [u8; PATTERN_ROOM] = filled(0);
+    let end = put_patterns(asked.line, asked.command, &mut patterns);
+    write_list(
+        rows.area,
+        rows.words,
+        &patterns[..end],
+        asked.command.options,
+        tag,
+        out,
+    )
 }
 
 // The LSUB answer of a command with one canonical pattern, or none where its pattern is empty.
 pub(crate) fn write_subscriptions(
-    area: &[u8],
-    words: &[u64],
-    line: &[u8],
-    command: Command,
+    rows: Rows,
+    asked: Asked,
     tag: &[u8],
     out: &mut [u8],
-) -> Written
-    requires index { Index area.now words.now }
-    requires few { Few (patterns_of line.now command) × (length (patterns_of line.now command) ≤ 1) }
+) -> Result<usize, Refusal>
+    requires { Few (patterns_of asked.line.now asked.command) × (length (patterns_of asked.line.now asked.command) ≤ 1) }
     ensures { Gives
-        (subscriptions_reply area.now words.now line.now command tag.now)
+        (subscriptions_reply rows.entry.area.now rows.entry.words.now asked.entry.line.now asked.entry.command tag.now)
         out.old out.new result }
 {
-    let mut patterns = no_patterns();
-    let end = put_patterns(line, command, &mut patterns);
-    write_lsub(area, words, &patterns[..end], tag, out)
+    let mut patterns: [u8; PATTERN_ROOM] = filled(0);
+    let end = put_patterns(asked.line, asked.command, &mut patterns);
+    write_lsub(rows.area, rows.words, &patterns[..end], tag, out)
 }

@@ -15,19 +15,11 @@ pub returns-then-reader-gt-MAX_READER : goal.returns-then-reader-gt-MAX_READER
 returns-then-reader-gt-MAX_READER c =
     let a = c.args in
     let t = words_seen a.reader a.words.now a.count a.area.now a.sums.now in
-    let told = promised a.reader (words_table a.words.now a.count a.area.now a.sums.now) t a.option a.scratch.now a.found.now
+    promised a.reader (words_table a.words.now a.count a.area.now a.sums.now) t a.option a.scratch.now a.found.now
     a.pending.now (summed_seen_passes a.reader (words_summed a.words.now a.count a.area.now a.sums.now)) c.refuse.result c.refuse.new.scratch c.refuse.new.found c.refuse.new.pending
     (collects_refused a.reader t a.option a.scratch.now a.found.now a.pending.now c.refuse.ensures.1 c.refuse.ensures.0
     (refuses_reader a.reader t a.option a.scratch.now a.found.now a.pending.now (omega (arith, c.if-reader-gt-MAX_READER.true)))
-    c.refuse.ensures.2 c.refuse.ensures.3) in
-    record {
-      result = told.0;
-      scratch = told.1.0;
-      found = told.1.1.0;
-      pending = told.1.1.1.0;
-      demand3 = told.1.1.1.1.0;
-      numbers = told.1.1.1.1.1;
-    }
+    c.refuse.ensures.2 c.refuse.ensures.3)
 
 pub returns-in_default : goal.returns-in_default
 returns-in_default c =
@@ -35,61 +27,45 @@ returns-in_default c =
     let t = words_seen a.reader a.words.now a.count a.area.now a.sums.now in
     let alike = summed_seen_passes a.reader (words_summed a.words.now a.count a.area.now a.sums.now) in
     let fails = index_refused c.index_summed.ensures (ap length c.no_words-rows.ensures) c.in_default.is in
-    let told = promised a.reader (words_table a.words.now a.count a.area.now a.sums.now) t a.option a.scratch.now a.found.now
+    promised a.reader (words_table a.words.now a.count a.area.now a.sums.now) t a.option a.scratch.now a.found.now
     a.pending.now alike c.refuse-in_default.result c.refuse-in_default.new.scratch c.refuse-in_default.new.found c.refuse-in_default.new.pending
     (collects_refused a.reader t a.option a.scratch.now a.found.now a.pending.now c.refuse-in_default.ensures.1 c.refuse-in_default.ensures.0
     (refuses_table a.reader t a.option a.scratch.now a.found.now a.pending.now (omega (arith, c.if-reader-gt-MAX_READER.false)) (alike ∙ fails))
-    c.refuse-in_default.ensures.2 c.refuse-in_default.ensures.3) in
-    record {
-      result = told.0;
-      scratch = told.1.0;
-      found = told.1.1.0;
-      pending = told.1.1.1.0;
-      demand3 = told.1.1.1.1.0;
-      numbers = told.1.1.1.1.1;
-    }
+    c.refuse-in_default.ensures.2 c.refuse-in_default.ensures.3)
 
 pub slice_bounds-rows-end : goal.slice_bounds-rows-end
 slice_bounds-rows-end c =
-    let known : Held c.index_summed.ensures c.in-Rows.n = index_held c.index_summed.ensures c.in-Rows.n c.in-Rows.is in
+    let known : Held c.index_summed.ensures c.in-Some.n = index_held c.index_summed.ensures c.in-Some.n c.in-Some.is in
     known.inside
 
-pub slice_bounds-collect_index-end : goal.slice_bounds-collect_index-end
-slice_bounds-collect_index-end c =
-    let known : Held c.index_summed.ensures c.in-Rows.n = index_held c.index_summed.ensures c.in-Rows.n c.in-Rows.is in
+pub slice_bounds-seen-end : goal.slice_bounds-seen-end
+slice_bounds-seen-end c =
+    let known : Held c.index_summed.ensures c.in-Some.n = index_held c.index_summed.ensures c.in-Some.n c.in-Some.is in
     known.size
 
-pub collect_index-requires : goal.collect_index-requires
+pub invariant_of-seen : goal.invariant_of-seen
 unfolding is_reader
-collect_index-requires c =
-    let known : Held c.index_summed.ensures c.in-Rows.n = index_held c.index_summed.ensures c.in-Rows.n c.in-Rows.is in
+invariant_of-seen c =
+    let known : Held c.index_summed.ensures c.in-Some.n = index_held c.index_summed.ensures c.in-Some.n c.in-Some.is in
     let seen : let a = c.args in
-    held_seen a.reader a.area.now (take c.in-Rows.n c.index_summed.new.words)
+    held_seen a.reader a.area.now (take c.in-Some.n c.index_summed.new.words)
     ≡ words_seen a.reader a.words.now a.count a.area.now a.sums.now = let a = c.args in
     summed_held a.reader a.words.now a.count a.area.now a.sums.now
-    (take c.in-Rows.n c.index_summed.new.words) known.table_passes known.told in
+    (take c.in-Some.n c.index_summed.new.words) known.table_passes known.told in
     let a = c.args in
     let alike = summed_seen_passes a.reader (words_summed a.words.now a.count a.area.now a.sums.now) in
-    (le-leb a.reader 7 c.if-reader-gt-MAX_READER.false, ap passes seen ∙ alike ∙ known.table_passes)
+    record { known = le-leb a.reader 7 c.if-reader-gt-MAX_READER.false; table_passes = ap passes seen ∙ alike ∙ known.table_passes }
 
 pub returns : goal.returns
 returns c =
-    let known : Held c.index_summed.ensures c.in-Rows.n = index_held c.index_summed.ensures c.in-Rows.n c.in-Rows.is in
+    let known : Held c.index_summed.ensures c.in-Some.n = index_held c.index_summed.ensures c.in-Some.n c.in-Some.is in
     let seen : let a = c.args in
-    held_seen a.reader a.area.now (take c.in-Rows.n c.index_summed.new.words)
+    held_seen a.reader a.area.now (take c.in-Some.n c.index_summed.new.words)
     ≡ words_seen a.reader a.words.now a.count a.area.now a.sums.now = let a = c.args in
     summed_held a.reader a.words.now a.count a.area.now a.sums.now
-    (take c.in-Rows.n c.index_summed.new.words) known.table_passes known.told in
+    (take c.in-Some.n c.index_summed.new.words) known.table_passes known.told in
     let a = c.args in
-    let told = promised_same a.reader (words_table a.words.now a.count a.area.now a.sums.now)
+    promised_same a.reader (words_table a.words.now a.count a.area.now a.sums.now)
     (words_seen a.reader a.words.now a.count a.area.now a.sums.now) a.option a.scratch.now a.found.now a.pending.now
     (summed_seen_passes a.reader (words_summed a.words.now a.count a.area.now a.sums.now)) c.collect_index.result c.collect_index.new.scratch
-    c.collect_index.new.found c.collect_index.new.pending seen c.collect_index.ensures in
-    record {
-      result = told.0;
-      scratch = told.1.0;
-      found = told.1.1.0;
-      pending = told.1.1.1.0;
-      demand3 = told.1.1.1.1.0;
-      numbers = told.1.1.1.1.1;
-    }
+    c.collect_index.new.found c.collect_index.new.pending seen c.collect_index.ensures

@@ -2,7 +2,7 @@
 use Rattle.listing_rules.proofs.Prelude.{◌∙◌, ap, sym, ◌&&◌, ◌||◌, not, arith}
 use Rattle.listing_rules.specs.Walk.{is_find}
 use Rattle.collector.proofs.OptionLaws.{byte_remote, byte_special, byte_drops}
-use Rattle.collector.proofs.FindLaws.{has_attribute}
+use Rattle.collector.proofs.FindLaws.{has_attribute, some_use}
 use Rattle.collector.proofs.lines.is_find.Goals as goal
 
 pub returns : goal.returns
@@ -14,4 +14,4 @@ returns c =
     let subscribed = c.has.ensures ∙ has_attribute 5 attributes (omega arith) in
     let remote = c.has-2.ensures ∙ has_attribute 4 attributes (omega arith) in
     let special = c.special_use.ensures ∙ sym (byte_special options) in
-    λ i. (dropped i || subscribed i) && (not (remote i) || sym (byte_remote options) i) && (not (special i) || c.has_use.ensures i)
+    λ i. (dropped i || subscribed i) && (not (remote i) || sym (byte_remote options) i) && (not (special i) || (c.has_some.ensures ∙ some_use attributes) i)

@@ -1,49 +1,43 @@
 -- `take_lines` meets its contract. The loop's invariant is `Taking`: the lines that are left give what all lines give (`AnswerLaws`).
-use Rattle.listing_rules.proofs.Prelude.{◌<◌, ◌≤◌, arith, length}
-use Rattle.collector.proofs.LineLaws.{line_lies}
-use Rattle.collector.proofs.AnswerLaws.{taking_none, taking_line, taking_refused, taking_end}
-use Rattle.listing_rules.proofs.Prelude.{length}
+use Rattle.std.proofs.lemmas.Result.{err_from_is_err_and}
+use Rattle.std.proofs.Common.{rules, tests}
+use Rattle.std.proofs.lemmas.List.{length_push}
+use Rattle.std.proofs.lemmas.Fn.{always_returns_same}
+use Rattle.std.proofs.lemmas.Iterator.Consumers.{YieldsList-turn, YieldsList-end}
+use Rattle.std.specs.Slice.Iter.{split_inclusive_rest, split_inclusive_callee}
+use Rattle.listing_rules.proofs.Prelude.{◌∙◌, ◌≡◌, ap, add-one, List, ℕ, length}
+use Rattle.listing_rules.specs.Walk.{lines_of}
+use Rattle.collector.proofs.LineLaws.{feeds, yields_lines}
+use Rattle.collector.proofs.AnswerLaws.{taking_line, taking_refused, taking_end}
 use Rattle.collector.proofs.lines.take_lines.Goals as goal
 
-pub loop-at-init : goal.loop-at-init
-loop-at-init c = taking_none c.requires
+pub loop-line-preserved : goal.loop-line-preserved
+loop-line-preserved c =
+    let s = c.into_iter-line-iterator.result in
+    let rest : split_inclusive_rest s ≡ c.args.answer.now = cc in
+    let feed = always_returns_same _ (λ a r. r ≡ feeds a.0.now) (split_inclusive_callee s) (λ a r f' k. search (rules, tests)) in
+    let road = yields_lines split_inclusive_rest split_inclusive_callee _ s feed in
+    let turn = YieldsList-turn road c.loop-line.yielded _ c.loop-line.yielded_by _ _ c.in-Some.line c.in-Some.is c.next.ensures.steps in
+    let lies = rw rest at turn in
+    taking_line c.loop-line.invariant c.in-Some.line.now lies.0 lies.1 (length_push c.loop-line.yielded c.in-Some.line ∙ add-one _)
+    c.in_ok-progress.ensures c.take_line.auto.found c.take_line.auto.pending
 
-pub slice_bounds-take_line-count : goal.slice_bounds-take_line-count
-slice_bounds-take_line-count c =
-    let lies : (c.loop-at.at < c.next_line-end.result) × (c.next_line-end.result ≤ length
-    c.args.answer.now) = line_lies c.args.answer.now c.loop-at.at c.next_line-end.result c.loop-at-test.true c.next_line-end.ensures in
-    omega (arith, lies)
-
-pub slice_bounds-take_line-start : goal.slice_bounds-take_line-start
-slice_bounds-take_line-start c =
-    let lies : (c.loop-at.at < c.next_line-end.result) × (c.next_line-end.result ≤ length
-    c.args.answer.now) = line_lies c.args.answer.now c.loop-at.at c.next_line-end.result c.loop-at-test.true c.next_line-end.ensures in
-    omega (arith, lies)
-
-pub slice_bounds-take_line-end : goal.slice_bounds-take_line-end
-slice_bounds-take_line-end c =
-    let lies : (c.loop-at.at < c.next_line-end.result) × (c.next_line-end.result ≤ length
-    c.args.answer.now) = line_lies c.args.answer.now c.loop-at.at c.next_line-end.result c.loop-at-test.true c.next_line-end.ensures in
-    lies.1
-
-pub take_line-requires : goal.take_line-requires
-take_line-requires c =
-    c.loop-at.invariant.inside
-
-pub loop-at-smaller : goal.loop-at-smaller
-loop-at-smaller c =
-    let lies : (c.loop-at.at < c.next_line-end.result) × (c.next_line-end.result ≤ length
-    c.args.answer.now) = line_lies c.args.answer.now c.loop-at.at c.next_line-end.result c.loop-at-test.true c.next_line-end.ensures in
-    omega (arith, lies)
-
-pub loop-at-preserved : goal.loop-at-preserved
-loop-at-preserved c =
-    taking_line c.loop-at.invariant c.loop-at-test.true c.next_line-end.ensures (rw c.in-All.is at c.take_line.ensures) c.take_line.auto.found c.take_line.auto.pending
-
-pub returns-in-Refused : goal.returns-in-Refused
-returns-in-Refused c =
-    taking_refused c.loop-at.invariant c.loop-at-test.true c.next_line-end.ensures (rw c.in-Refused.is at c.take_line.ensures)
+pub returns-in_err-progress : goal.returns-in_err-progress
+returns-in_err-progress c =
+    let s = c.into_iter-line-iterator.result in
+    let rest : split_inclusive_rest s ≡ c.args.answer.now = cc in
+    let feed = always_returns_same _ (λ a r. r ≡ feeds a.0.now) (split_inclusive_callee s) (λ a r f' k. search (rules, tests)) in
+    let road = yields_lines split_inclusive_rest split_inclusive_callee _ s feed in
+    let turn = YieldsList-turn road c.loop-line.yielded _ c.loop-line.yielded_by _ _ c.in-Some.line c.in-Some.is c.next.ensures.steps in
+    let lies = rw rest at turn in
+    let p = err_from_is_err_and c.from_residual.result c.from_residual.ensures.1 in
+    rw (p.1, p.2) (taking_refused c.loop-line.invariant c.in-Some.line.now lies.0 lies.1 c.in_err-progress.ensures)
 
 pub returns : goal.returns
 returns c =
-    taking_end c.loop-at.invariant c.loop-at-test.false
+    let s = c.into_iter-line-iterator.result in
+    let rest : split_inclusive_rest s ≡ c.args.answer.now = cc in
+    let feed = always_returns_same _ (λ a r. r ≡ feeds a.0.now) (split_inclusive_callee s) (λ a r f' k. search (rules, tests)) in
+    let road = yields_lines split_inclusive_rest split_inclusive_callee _ s feed in
+    let end = YieldsList-end road c.loop-line.yielded _ c.loop-line.yielded_by _ _ c.in-None.is c.next.ensures.steps in
+    taking_end c.loop-line.invariant (end.1 ∙ ap (λ (l : List ℕ). length (lines_of l)) rest)

@@ -20,14 +20,14 @@ slice_bounds-answer_words-end-6 c =
 pub put_reply-written-requires : goal.put_reply-written-requires
 put_reply-written-requires c =
     let summed : length c.kept_sums-sums.result ≡ 512 = ap length c.kept_sums-sums.ensures ∙ sym (whole_sums c.requires.within.held) in
-    let sized : length c.no_bytes-answer.result ≡ 16384 = ap length c.no_bytes-answer.ensures ∙ length-replicate {A = ℕ} 16384 0 in
+    let sized : length c.filled-answer.result ≡ 16384 = ap length c.filled-answer.ensures ∙ length-replicate {A = ℕ} 16384 0 in
     let outcome = came _ _ _ _ _ _ _ _ (sym (whole_records c.requires.within.held)) summed c.answer_words-done.ensures in
     reply_fits _ _ _ outcome.written outcome.bytes (c.answer_words-done.auto.out ∙ sized)
 
 pub returns : goal.returns
 returns c =
     let summed : length c.kept_sums-sums.result ≡ 512 = ap length c.kept_sums-sums.ensures ∙ sym (whole_sums c.requires.within.held) in
-    let sized : length c.no_bytes-answer.result ≡ 16384 = ap length c.no_bytes-answer.ensures ∙ length-replicate {A = ℕ} 16384 0 in
+    let sized : length c.filled-answer.result ≡ 16384 = ap length c.filled-answer.ensures ∙ length-replicate {A = ℕ} 16384 0 in
     let outcome = came _ _ _ _ _ _ _ _ (sym (whole_records c.requires.within.held)) summed c.answer_words-done.ensures in
     let before = lent _ _ _ _ in
     rw (c.with_records.ensures, c.keep_sums.ensures)

@@ -15,9 +15,9 @@ overflow_cast-name c = omega (arith, name_short _ _ _ _ c.of_word-row.ensures c.
 
 pub loop-i-preserved : goal.loop-i-preserved
 loop-i-preserved c =
-    placing_more c.loop-i.invariant c.loop-i-test.true c.requires.0 c.requires.1 _ _ _ _ _ _ c.of_word-row.ensures
-    c.name_of-name.ensures c.readers_of-readers.ensures c.word_of.ensures.1 c.word_of.ensures.0
+    placing_more c.loop-i.invariant (omega (arith, c.loop-i.invariant.size)) c.requires.0 c.requires.1 _ _ _ _ _ _ c.of_word-row.ensures
+    c.name_of-name.ensures c.readers_of-readers.ensures c.from.ensures.1 c.from.ensures.0
     c.put_all-at.ensures
 
 pub returns : goal.returns
-returns c = placing_all c.loop-i.invariant (omega (arith, c.loop-i-test.false))
+returns c = placing_all c.loop-i.invariant (omega arith)

@@ -8,7 +8,7 @@ use Rattle.list_answer.proofs.answer.put_answer.Goals as goal
 pub returns : goal.returns
 unfolding answer_for
 returns c =
-    let table = rows_at _ c.args.words.now in
+    let table = rows_at _ c.args.view.words.now in
     λ ready.
     rw (← answer_text_lem _ table _ _ ready.index.lawful ready.index.indexed.ascend)
     (put_then (c.put_rows-to.ensures ready) c.put_ok_line.ensures)

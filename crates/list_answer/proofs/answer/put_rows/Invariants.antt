@@ -1,5 +1,4 @@
--- What holds at each turn of a loop of `put_rows`, and what falls.
-use Rattle.listing_rules.proofs.Prelude.{◌≡◌, ◌-◌, ◌≤◌, length}
+-- What holds at each turn of the loop of `put_rows`: the text of the rows before row i is put.
 use Rattle.list_answer.specs.Ready.{Ready}
 use Rattle.list_answer.specs.Shown.{text_of, rows_text}
 use Rattle.list_answer.proofs.RowTexts.{text_from}
@@ -8,10 +7,5 @@ use Rattle.list_answer.proofs.answer.put_rows.Given as goal
 
 abbrev pub invariant-loop-i : goal.invariant-loop-i
 invariant-loop-i l =
-    (l.i ≤ length l.words)
-    × (length l.buf ≡ length l.initial.buf)
-    × (Ready l.area l.words l.patterns l.question →
-    Putting l.initial.buf l.buf l.at l.to (text_from (text_of l.area l.words l.patterns l.question) l.area l.words l.i) (rows_text l.area l.words l.patterns l.question))
-
-abbrev pub decreases-loop-i : goal.decreases-loop-i
-decreases-loop-i l = length l.words - l.i
+    Ready l.view.area.now l.view.words.now l.view.patterns.now l.view.question →
+    Putting l.initial.buf l.buf l.at l.to (text_from (text_of l.view.area.now l.view.words.now l.view.patterns.now l.view.question) l.view.area.now l.view.words.now l.i) (rows_text l.view.area.now l.view.words.now l.view.patterns.now l.view.question)

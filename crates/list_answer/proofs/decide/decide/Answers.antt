@@ -12,10 +12,10 @@ use Rattle.list_answer.proofs.decide.decide.Goals as goal
 pub returns-then-not-standing : goal.returns-then-not-standing
 returns-then-not-standing c =
     let a = c.args in
-    let table = rows_at _ a.words.now in
+    let table = rows_at _ a.view.words.now in
     let o = options_is _ in
     let ps = unpacked _ in
-    let n = begun _ a.words.now a.name in
+    let n = begun _ a.view.words.now a.name in
     λ ready at.
     let stands = c.look_at-standing.ensures _ ready at in
     shown_not _ table o ps n _ _ stands.level stands.counts (not-true _ c.if-not-standing.true)
@@ -23,10 +23,10 @@ returns-then-not-standing c =
 pub returns-then-not-is_matched : goal.returns-then-not-is_matched
 returns-then-not-is_matched c =
     let a = c.args in
-    let table = rows_at _ a.words.now in
+    let table = rows_at _ a.view.words.now in
     let o = options_is _ in
     let ps = unpacked _ in
-    let n = begun _ a.words.now a.name in
+    let n = begun _ a.view.words.now a.name in
     λ ready at.
     let stands = c.look_at-standing.ensures _ ready at in
     shown_unmatched _ table o ps n _ _ stands.level stands.counts (not-false _ c.if-not-standing.false)
@@ -34,7 +34,7 @@ returns-then-not-is_matched c =
 
 pub returns-in-Lsub : goal.returns-in-Lsub
 returns-in-Lsub c =
-    let n = begun _ c.args.words.now c.args.name in
+    let n = begun _ c.args.view.words.now c.args.name in
     λ ready at.
     let stands = c.look_at-standing.ensures _ ready at in
     shown_lsub _ _ _ _ n _ _ stands.level stands.counts (not-false _ c.if-not-standing.false) _ (c.is_matched.ensures ready at)
@@ -45,8 +45,8 @@ returns-in-Lsub c =
 
 pub returns-in-List : goal.returns-in-List
 returns-in-List c =
-    let area = c.args.area.now in
-    let words = c.args.words.now in
+    let area = c.args.view.area.now in
+    let words = c.args.view.words.now in
     let name = c.args.name in
     let o = options_is _ in
     let ps = unpacked _ in

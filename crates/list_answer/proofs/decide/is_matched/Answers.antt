@@ -19,13 +19,13 @@ returns-then-row-len c =
     λ ready at h.
     c.has.ensures
     ∙ ap (λ (m : ℕ). contains m 8) c.of_word.ensures
-    ∙ matched_whole c.args.area.now c.args.words.now ready.index.indexed c.args.name at o ps ready.marked whole h
+    ∙ matched_whole c.args.view.area.now c.args.view.words.now ready.index.indexed c.args.name at o ps ready.marked whole h
 
 pub returns : goal.returns
 returns c =
-    let area = c.args.area.now in
-    let words = c.args.words.now in
-    let levels = c.args.question.levels in
+    let area = c.args.view.area.now in
+    let words = c.args.view.words.now in
+    let levels = c.args.view.question.levels in
     let name = c.args.name in
     let o = options_is _ in
     let ps = unpacked _ in

@@ -17,8 +17,8 @@ pub returns : goal.returns
 returns c =
     λ patterns ready at.
     let level = c.asked_below-level in
-    let area = c.args.area.now in
-    let words = c.args.words.now in
+    let area = c.args.view.area.now in
+    let words = c.args.view.words.now in
     let name = c.args.name in
     let x = ready.index.indexed in
     let here = begins_here area words x name at in

@@ -32,7 +32,7 @@ returns c =
     let unmatched : ((c.is_recursive-recursive.result && c.is_met-meeting.result) && not c.asked_match-matched.result) ≡ unmatched_mark o ps row
     = (λ i. (c.is_recursive-recursive.ensures i && meeting i) && not c.asked_match-matched.result) ∙ unmatched_is o ps row c.asked_match-matched.result matched in
     let none : ◌≡◌ {A = ℕ} 0 0 = refl in
-    let s1 = more 1 none meeting c.with.ensures in
-    let s2 = more 2 s1 unmatched c.with-2.ensures in
-    let s3 = more 4 s2 child c.with-3.ensures in
-    more 8 s3 matched c.with-4.ensures ∙ adds_all (meets_mark o row ∷ unmatched_mark o ps row ∷ child_mark o row ∷ matched_mark o ps row ∷ [])
+    let s1 = more 1 none meeting c.with-set.ensures in
+    let s2 = more 2 s1 unmatched c.with-set-2.ensures in
+    let s3 = more 4 s2 child c.with-set-3.ensures in
+    more 8 s3 matched c.with.ensures ∙ adds_all (meets_mark o row ∷ unmatched_mark o ps row ∷ child_mark o row ∷ matched_mark o ps row ∷ [])

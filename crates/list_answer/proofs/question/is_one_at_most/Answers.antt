@@ -6,4 +6,4 @@ use Rattle.list_answer.proofs.question.is_one_at_most.Goals as goal
 pub returns : goal.returns
 returns c =
     let patterns = c.args.patterns.now in
-    ap (λ (n : ℕ). leb (length patterns) (1 + n)) (c.wide.ensures ∙ c.byte_at.ensures) ∙ one_at_most patterns
+    ap (λ (n : ℕ). leb (length patterns) (1 + n)) (c.from.ensures ∙ c.byte_at.ensures) ∙ one_at_most patterns

@@ -1,10 +1,11 @@
 -- What an entry over lent records hands back, and which records are there then: the words are made as zeros, copied in, worked on, and those that became
 -- others are copied back. Rests on StoreLaws and WordsAlike of records, and on NumberedLaws and LentLaws.
-use Rattle.listing_rules.proofs.Prelude.{◌∙◌, ◌≡◌, ap, subst, List, map, min, ℕ, length, take, replicate}
+use Rattle.listing_rules.proofs.Prelude.{◌∙◌, ◌≡◌, ap, subst, sym, ◌-◌, arith, drop, List, map, min, ℕ, length, take, replicate}
 use Rattle.listing_rules.proofs.Alike.{Alike}
 use Rattle.std.proofs.lemmas.List.{length-replicate}
 use Rattle.records.specs.declared.Record.{Record}
-use Rattle.records.specs.Words.{record_of}
+use Rattle.records.specs.Words.{record_of, struct_of}
+use Rattle.std.proofs.Math.Seq.{paste, paste-zero}
 use Rattle.records.specs.Lent.{lent_of, lent_table, lent_seen, words_table, words_seen}
 use Rattle.records.specs.Stores.{Between, lent_command, word_command, lent_compaction, word_compaction}
 use Rattle.records.proofs.StoreLaws.{Copied, CopiedBack, Answers, Compacts}
@@ -34,6 +35,12 @@ module _ (rs : List Record) (xs us : List ℕ) (n count : ℕ) (area sums : List
 
   pub plain_alike : Alike (numbered_table (take n us) count area sums) (plain_table rs count area sums)
   plain_alike = numbered.numbered_alike rs us count area sums n copied_is c.2
+
+-- nothing is copied back where no word became another
+pub none_back : (rs : List Record) (vs : List ℕ) → CopiedBack rs vs 0 0 rs
+none_back rs vs =
+    let none : min 0 (min (length rs) (length vs)) - 0 ≡ 0 = omega arith in
+    paste-zero rs 0 (map struct_of (drop 0 vs)) ∙ ap (λ (n : ℕ). paste rs 0 (map struct_of (drop 0 vs)) n) (sym none)
 
 -- the records are changed: of the words us those between `start` and `to` became others, vs, and were copied back
 module _ (rs : List Record) (xs us vs sums : List ℕ) (lent start to : ℕ) (made : xs ≡ replicate 512 0) (in-long : length us ≡ length xs)

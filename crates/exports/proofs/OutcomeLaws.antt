@@ -1,13 +1,11 @@
 -- The C forms of the answers, case by case.
-use Rattle.listing_rules.proofs.Prelude.{◌∙◌, ◌≡◌, ap, subst, length, refl, sym, Bool, ◌&&◌, true, List, ℕ, eqb, leb}
-use Rattle.octets.specs.declared.Written.{Written}
-use Rattle.octets.specs.declared.Written.TheVariants.{Done, Refused}
-use Rattle.collector.specs.declared.Collected.{Collected}
-use Rattle.collector.specs.declared.Collected.TheVariants.{Done as Walked, Refused as Stopped}
-use Rattle.list_line.specs.declared.attributes.Attributes.{Attributes}
-use Rattle.list_line.specs.declared.criteria.Criteria.{Criteria}
-use Rattle.line_reader.specs.declared.Line.{Line}
-use Rattle.line_reader.specs.declared.Line.TheVariants.{Parts, Refused as NoLine}
+use Rattle.std.specs.Prelude.{Result, Ok, Err}
+use mir.Val.{bool_byte}
+use Rattle.octets.specs.declared.refusals.Refusal.{Refusal}
+use Rattle.octets.specs.Refusals.{number_of as refused_as, numbered}
+use Rattle.collector.specs.declared.Walked.{Walked}
+use Rattle.line_reader.specs.declared.Parts.{Parts}
+use Rattle.listing_rules.proofs.Prelude.{◌∙◌, ◌≡◌, ap, subst, length, refl, Bool, ◌&&◌, false, true, List, ℕ, eqb, leb, replicate}
 use Rattle.listing_rules.specs.Server.{Reply, refusal, answered, number_of, length_of}
 use Rattle.listing_rules.specs.LineReader.{Read, line, root, bad, name_bytes}
 use Rattle.listing_rules.specs.Table.{Table}
@@ -21,40 +19,49 @@ use Rattle.listing_rules.specs.Walk.{WalkReply, walk_refused, walked, walk_numbe
 use Rattle.octets.specs.Written.{written_is}
 use Rattle.list_line.specs.Members.{set_of}
 use Rattle.line_reader.specs.Lines.{line_is}
+use Rattle.line_reader.specs.Lines as read
 use Rattle.collector.specs.Result.{WholeWalk, collected_is, is_allowed}
 use Rattle.exports.specs.Outcomes.{as_number, outcome_of, walk_outcome, allowed_outcome, WholeOutcome, OwesOutcome, parts_of, written_case}
 use Rattle.exports.specs.Outcomes.{collected_case, line_case}
 
-pub written_done : (w : Written) (changed count n : ℕ) → w ≡ Done n
-    → record { number = 0; changed = changed; length = n; count = count } ≡ written_case w changed count
+-- the number of a bool
+pub from_bool_is : (b : Bool) → bool_byte b ≡ as_number b
+unfolding as_number
+from_bool_is true = refl
+from_bool_is false = refl
+
+-- a result that is known, by its case
+pub written_done : (w : Result ℕ Refusal) (changed count n : ℕ) → w ≡ Ok n
+    → record { number = 0; changed = changed; length = n; count = count } ≡ written_case (numbered w) changed count
 unfolding written_case
-written_done w changed count n e = sym (ap (λ (x : Written). written_case x changed count) e)
+written_done w changed count n e = rw e
 
-pub written_refused : (w : Written) (changed count k : ℕ) → w ≡ Refused k
-    → record { number = k; changed = changed; length = 0; count = count } ≡ written_case w changed count
+pub written_refused : (w : Result ℕ Refusal) (changed count k : ℕ) (r : Refusal) → w ≡ Err r → k ≡ refused_as r
+    → record { number = k; changed = changed; length = 0; count = count } ≡ written_case (numbered w) changed count
 unfolding written_case
-written_refused w changed count k e = sym (ap (λ (x : Written). written_case x changed count) e)
+written_refused w changed count k r e h = rw (e, h)
 
-pub collected_done : (w : Collected) (count n : ℕ) → w ≡ Walked count n →
-    record { number = 0; changed = 0; length = n; count = count } ≡ collected_case w
+pub collected_done : (w : Result Walked Refusal) (x : Walked) → w ≡ Ok x →
+    record { number = 0; changed = 0; length = x.found; count = x.count } ≡ collected_case (numbered w)
 unfolding collected_case
-collected_done w count n e = sym (ap collected_case e)
+collected_done w x e = rw e
 
-pub collected_refused : (w : Collected) (k : ℕ) → w ≡ Stopped k → record { number = k; changed = 0; length = 0; count = 0 } ≡ collected_case w
+pub collected_refused : (w : Result Walked Refusal) (k : ℕ) (r : Refusal) → w ≡ Err r → k ≡ refused_as r
+    → record { number = k; changed = 0; length = 0; count = 0 } ≡ collected_case (numbered w)
 unfolding collected_case
-collected_refused w k e = sym (ap collected_case e)
+collected_refused w k r e h = rw (e, h)
 
-pub parts_read : (l : Line) (bytes : List ℕ) (a : Attributes) (n : ℕ) (c : Criteria) → l ≡ Parts a n c →
-    record { number = 0; criteria = c.bits; attributes = a.bits; length = n; name = bytes } ≡ line_case l bytes
+pub parts_read : (l : Result Parts Refusal) (p : Parts) → l ≡ Ok p →
+    record { number = 0; criteria = p.criteria.bits; attributes = p.attributes.bits; length = p.len; name = p.name } ≡ line_case (numbered l)
 unfolding line_case
-parts_read l bytes a n c e = λ i. line_case (sym e i) bytes
+parts_read l p e = rw e
 
-pub parts_refused : (l : Line) (bytes : List ℕ) (k : ℕ) → l ≡ NoLine k →
-    record { number = k; criteria = 0; attributes = 0; length = 0; name = bytes } ≡ line_case l bytes
+pub parts_refused : (l : Result Parts Refusal) (bytes : List ℕ) (k : ℕ) (r : Refusal) → l ≡ Err r → k ≡ refused_as r → bytes ≡ replicate 200 0
+    → record { number = k; criteria = 0; attributes = 0; length = 0; name = bytes } ≡ line_case (numbered l)
 unfolding line_case
-parts_refused l bytes k e = λ i. line_case (sym e i) bytes
+parts_refused l bytes k r e h g = rw (e, h, g)
 
--- the cases of the entries' enums are document 01's numbers
+-- the cases of the entries' results are document 01's numbers
 pub written_case_lem : (r : Reply) (changed : Bool) (count : ℕ) → written_case (written_is r) (as_number changed) count ≡ outcome_of r changed count
 unfolding written_case written_is outcome_of number_of length_of
 written_case_lem (refusal k) changed count = refl
@@ -66,7 +73,7 @@ collected_case_lem (walk_refused k) = refl
 collected_case_lem (walked c f p) = refl
 
 -- so what demand 3 allows of the one it allows of the other
-pub whole_outcome : {table : Table} {o s f p : ℕ} {w : Collected} {inFound inPending : List ℕ} (r : Outcome) → r ≡ collected_case w
+pub whole_outcome : {table : Table} {o s f p : ℕ} {w : Result Walked ℕ} {inFound inPending : List ℕ} (r : Outcome) → r ≡ collected_case w
     → WholeWalk table o s f p w inFound inPending → WholeOutcome table o s f p r inFound inPending
 whole_outcome r e x =
     record {
@@ -86,13 +93,13 @@ owes_alike reader o scratch found pending r f p a owed is ok lawful =
     (owed is whole lawful)
 
 -- and a walk's number is one that a walk can have
-pub collected_allowed : (w : Collected) → is_allowed w ≡ true → allowed_outcome (collected_case w) ≡ true
+pub collected_allowed : (w : Result Walked ℕ) → is_allowed w ≡ true → allowed_outcome (collected_case w) ≡ true
 unfolding is_allowed allowed_outcome collected_case
-collected_allowed (Walked count n) h = or_r (one_of walk_numbers 0) (leb 1 count) h
-collected_allowed (Stopped k) h = or_l (one_of walk_numbers k) (eqb k 0 && leb 1 0) h
+collected_allowed (Ok w) h = or_r (one_of walk_numbers 0) (leb 1 w.count) h
+collected_allowed (Err k) h = or_l (one_of walk_numbers k) (eqb k 0 && leb 1 0) h
 
-pub line_case_lem : (r : Read) → line_case (line_is r) (name_bytes r) ≡ parts_of r
-unfolding line_case line_is parts_of set_of open_options open_reader
+pub line_case_lem : (r : Read) → line_case (line_is r) ≡ parts_of r
+unfolding line_case line_is read.parts_of parts_of set_of name_bytes open_options open_reader
 line_case_lem (line bs n c) = refl
 line_case_lem root = refl
 line_case_lem bad = refl

@@ -57,7 +57,7 @@ module _ (ws : List ℕ) (lent count reader : ℕ) (area sums spaces l out : Lis
     number : min (length (take n ws)) (length sums) ≡ lent_of ws lent sums
     number = omega (arith, n-is, size)
 
-    pub result : (done_case r).outcome ≡ handed_outcome D
+    pub result : (done_case r).answer ≡ handed_outcome D
     unfolding done_case
     result =
         (λ i. written_case (x.written i) (as_number (x.changed i)) (x.count_is i))

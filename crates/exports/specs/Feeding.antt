@@ -9,6 +9,7 @@ use Rattle.feeder.specs.declared.Event.{Event}
 use Rattle.feeder.specs.declared.Event.TheVariants.{Quiet, Command, GoOn, Refused, TooSmall}
 use Rattle.feeder.specs.declared.Fed.{Fed}
 use Rattle.feeder.specs.Feed.{Feeds}
+use Rattle.octets.specs.Refusals.{number_of}
 use Rattle.exports.specs.Outcomes.{as_number}
 use Rattle.exports.specs.declared.feeding.FeederState.{FeederState}
 use Rattle.exports.specs.declared.feeding.FedChunk.{FedChunk}
@@ -59,7 +60,7 @@ abbrev pub event_numbers : Event → EventNumbers
 event_numbers Quiet = record { event = 0; number = 0; length = 0 }
 event_numbers (Command n) = record { event = 1; number = 0; length = n }
 event_numbers GoOn = record { event = 2; number = 0; length = 0 }
-event_numbers (Refused k) = record { event = 3; number = k; length = 0 }
+event_numbers (Refused e) = record { event = 3; number = number_of e; length = 0 }
 event_numbers TooSmall = record { event = 4; number = 0; length = 0 }
 
 -- C's answer of an answer

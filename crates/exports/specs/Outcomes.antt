@@ -1,5 +1,6 @@
 -- The answers of the entries, in the forms that C takes.
-use Rattle.std.specs.Prelude.{◌≡◌, Bool, false, true, cond, ◌&&◌, ◌||◌, List, ℕ, eqb, leb, ltb, length}
+use Rattle.std.specs.Prelude.{◌≡◌, Bool, false, true, cond, ◌&&◌, ◌||◌, List, ℕ, eqb, leb, ltb, length, replicate, Result, Ok, Err}
+use Rattle.octets.specs.Refusals.{numbered}
 use Rattle.listing_rules.specs.Bytes.{one_of}
 use Rattle.listing_rules.specs.Table.{Table, passes}
 use Rattle.listing_rules.specs.Readers.{is_reader}
@@ -14,12 +15,8 @@ use Rattle.records.specs.declared.Record.{Record}
 use Rattle.records.specs.Lent.{lent_summed}
 use Rattle.records.specs.Stores.{Handed}
 use Rattle.list_line.specs.Members.{set_of}
-use Rattle.octets.specs.declared.Written.{Written}
-use Rattle.octets.specs.declared.Written.TheVariants.{Done, Refused}
-use Rattle.collector.specs.declared.Collected.{Collected}
-use Rattle.collector.specs.declared.Collected.TheVariants.{Done as Walked, Refused as Stopped}
-use Rattle.line_reader.specs.declared.Line.{Line}
-use Rattle.line_reader.specs.declared.Line.TheVariants.{Parts, Refused as NoLine}
+use Rattle.collector.specs.declared.Walked.{Walked}
+use Rattle.line_reader.specs.declared.Parts.{Parts}
 use Rattle.server.specs.declared.Stored.{Stored}
 use Rattle.exports.specs.declared.outcomes.Outcome.{Outcome}
 use Rattle.exports.specs.declared.outcomes.Done.{Done as Ended}
@@ -77,18 +74,18 @@ parts_of r =
 abbrev pub Into : Reply → List ℕ → List ℕ → Outcome → Type 0
 Into reply before after r = (r ≡ outcome_of reply false 0) × (after ≡ buffer_after before reply)
 
--- The same case by case, for the enums of the entries.
-unfoldable pub written_case : Written → ℕ → ℕ → Outcome
-written_case (Done n) changed count = record { number = 0; changed = changed; length = n; count = count }
-written_case (Refused k) changed count = record { number = k; changed = changed; length = 0; count = count }
+-- The same case by case, for the results of the entries with their refusals as numbers.
+unfoldable pub written_case : Result ℕ ℕ → ℕ → ℕ → Outcome
+written_case (Ok n) changed count = record { number = 0; changed = changed; length = n; count = count }
+written_case (Err k) changed count = record { number = k; changed = changed; length = 0; count = count }
 
-unfoldable pub done_case : Stored → Ended
-done_case s = record { outcome = written_case s.written (as_number (ltb s.from s.to)) s.count; from = s.from; to = s.to }
+unfoldable pub done_case : Stored → Ended Outcome
+done_case s = record { answer = written_case (numbered s.written) (as_number (ltb s.from s.to)) s.count; from = s.from; to = s.to }
 
-unfoldable pub collected_case : Collected → Outcome
-collected_case (Walked count n) = record { number = 0; changed = 0; length = n; count = count }
-collected_case (Stopped k) = record { number = k; changed = 0; length = 0; count = 0 }
+unfoldable pub collected_case : Result Walked ℕ → Outcome
+collected_case (Ok w) = record { number = 0; changed = 0; length = w.found; count = w.count }
+collected_case (Err k) = record { number = k; changed = 0; length = 0; count = 0 }
 
-unfoldable pub line_case : Line → List ℕ → LineParts
-line_case (Parts a n c) bytes = record { number = 0; criteria = c.bits; attributes = a.bits; length = n; name = bytes }
-line_case (NoLine k) bytes = record { number = k; criteria = 0; attributes = 0; length = 0; name = bytes }
+unfoldable pub line_case : Result Parts ℕ → LineParts
+line_case (Ok p) = record { number = 0; criteria = p.criteria.bits; attributes = p.attributes.bits; length = p.len; name = p.name }
+line_case (Err k) = record { number = k; criteria = 0; attributes = 0; length = 0; name = replicate 200 0 }

@@ -1,5 +1,5 @@
 -- The replay of a night over lent records (W14), and its report, its state and what comes of a piece in the forms that C takes.
-use Rattle.std.specs.Prelude.{Bool, not, List, map, ◌++◌, ℕ, eqb, length, drop}
+use Rattle.std.specs.Prelude.{Option as Maybe, Bool, not, List, map, ◌++◌, ℕ, eqb, length, drop}
 use Rattle.listing_rules.specs.Records.{Record as Meant}
 use Rattle.listing_rules.specs.Summary.{Summary}
 use Rattle.listing_rules.specs.Replay.{Verdict, Replayed, replay, replay_number, replay_frame}
@@ -11,7 +11,7 @@ use Rattle.replay.specs.declared.Replaying.{Replaying}
 use Rattle.replay.specs.declared.whole.Replayed.{Replayed as Came}
 use Rattle.replay.specs.declared.piece.Piece.{Piece}
 use Rattle.replay.specs.Reports.{meant_by}
-use Rattle.replay.specs.Resuming.{Pieced, pieced}
+use Rattle.replay.specs.Resuming.{Pieced, pieced, is_taken, verdict_then, state_then}
 use Rattle.exports.specs.Outcomes.{as_number}
 use Rattle.exports.specs.declared.replaying.Report.{Report}
 use Rattle.exports.specs.declared.replaying.ReplayState.{ReplayState}
@@ -138,12 +138,13 @@ piece_report h =
       state = state_back h.state;
     }
 
-unfoldable pub fed_case : Piece → FedPiece
-fed_case p =
+-- from the state `st` on
+unfoldable pub fed_case : Replaying → Maybe Piece → FedPiece
+fed_case st p =
     record {
-      taken = as_number p.taken;
-      number = replay_number (meant_by p.verdict);
-      frame = replay_frame (meant_by p.verdict);
-      count = p.state.rows;
-      state = state_back p.state;
+      taken = as_number (is_taken p);
+      number = replay_number (meant_by (verdict_then p));
+      frame = replay_frame (meant_by (verdict_then p));
+      count = (state_then st p).rows;
+      state = state_back (state_then st p);
     }

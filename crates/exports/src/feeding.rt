@@ -4,9 +4,8 @@
 ghost use Rattle.std.specs.Prelude.{◌≡◌};
 ghost use Rattle.octets.specs.Put.{Put};
 ghost use Rattle.listing_rules.specs.Feeder.{go_on_line};
-ghost use Rattle.exports.specs.Feeding.{place_of, machine_of, tail_numbers, place_numbers, state_of, event_numbers, chunk_of, FeedsChunk};
+ghost use Rattle.exports.specs.Feeding.{place_of, machine_of, place_numbers, state_of, event_numbers, chunk_of, FeedsChunk};
 
-use crate::outcomes::as_number;
 use command_shape::{Machine, Place, Tail};
 use feeder::{Event, Fed};
 
@@ -53,7 +52,7 @@ pub(crate) struct EventNumbers {
 pub fn luspemaro_feed(state: FeederState, command: &mut [u8], chunk: &[u8]) -> FedChunk
     ensures { FeedsChunk state command.old command.new chunk.now result }
 {
-    fed_chunk(feeder::feed(machine_of(state), command, chunk))
+    FedChunk::from(feeder::feed(Machine::from(state), command, chunk))
 }
 
 // The continuation line, at a place of the buffer; the place after it.
@@ -63,13 +62,15 @@ pub fn luspemaro_put_go_on(out: &mut [u8], at: usize) -> usize
     feeder::put_go_on(out, at)
 }
 
-fn machine_of(state: FeederState) -> Machine
-    ensures { result ≡ machine_of state }
-{
-    Machine {
-        place: place_of(state.place, state.value),
-        size: state.size,
-        cr: state.cr != 0,
+impl From<FeederState> for Machine {
+    ghost from_gives = { λ state m. m ≡ machine_of state };
+
+    fn from(state: FeederState) -> Machine {
+        Machine {
+            place: place_of(state.place, state.value),
+            size: state.size,
+            cr: state.cr != 0,
+        }
     }
 }
 
@@ -89,84 +90,67 @@ fn place_of(number: u8, value: usize) -> Place
     }
 }
 
-fn fed_chunk(fed: Fed) -> FedChunk
-    ensures { result ≡ chunk_of fed }
-{
-    let event = fed.event;
-    let numbers = event_numbers(event);
-    FedChunk {
-        event: numbers.event,
-        number: numbers.number,
-        length: numbers.length,
-        used: fed.used,
-        state: state_of(fed.state),
+impl From<Fed> for FedChunk {
+    ghost from_gives = { λ fed r. r ≡ chunk_of fed };
+
+    fn from(fed: Fed) -> FedChunk {
+        let numbers = EventNumbers::from(fed.event);
+        FedChunk {
+            event: numbers.event,
+            number: numbers.number,
+            length: numbers.length,
+            used: fed.used,
+            state: FeederState::from(fed.state),
+        }
     }
 }
 
-fn state_of(machine: Machine) -> FeederState
-    ensures { result ≡ state_of machine }
-{
-    let place = machine.place;
-    let numbers = place_numbers(place);
-    FeederState {
-        place: numbers.place,
-        cr: as_number(machine.cr),
-        value: numbers.value,
-        size: machine.size,
+impl From<Machine> for FeederState {
+    ghost from_gives = { λ machine s. s ≡ state_of machine };
+
+    fn from(machine: Machine) -> FeederState {
+        let numbers = PlaceNumbers::from(machine.place);
+        FeederState {
+            place: numbers.place,
+            cr: u8::from(machine.cr),
+            value: numbers.value,
+            size: machine.size,
+        }
     }
 }
 
-fn place_numbers(place: Place) -> PlaceNumbers
-    ensures { result ≡ place_numbers place }
-{
-    match place {
-        Place::Line(tail) => tail_numbers(tail),
-        Place::Literal(value) => PlaceNumbers { place: 6, value },
-        Place::Dropping => PlaceNumbers { place: 7, value: 0 },
+impl From<Place> for PlaceNumbers {
+    ghost from_gives = { λ place r. r ≡ place_numbers place };
+
+    fn from(place: Place) -> PlaceNumbers {
+        match place {
+            Place::Line(Tail::Text) => PlaceNumbers { place: 0, value: 0 },
+            Place::Line(Tail::Cr) => PlaceNumbers { place: 1, value: 0 },
+            Place::Line(Tail::Open) => PlaceNumbers { place: 2, value: 0 },
+            Place::Line(Tail::Digits(value)) => PlaceNumbers { place: 3, value },
+            Place::Line(Tail::Closed(value)) => PlaceNumbers { place: 4, value },
+            Place::Line(Tail::Ending(value)) => PlaceNumbers { place: 5, value },
+            Place::Literal(value) => PlaceNumbers { place: 6, value },
+            Place::Dropping => PlaceNumbers { place: 7, value: 0 },
+        }
     }
 }
 
-fn tail_numbers(tail: Tail) -> PlaceNumbers
-    ensures { result ≡ tail_numbers tail }
-{
-    match tail {
-        Tail::Text => PlaceNumbers { place: 0, value: 0 },
-        Tail::Cr => PlaceNumbers { place: 1, value: 0 },
-        Tail::Open => PlaceNumbers { place: 2, value: 0 },
-        Tail::Digits(value) => PlaceNumbers { place: 3, value },
-        Tail::Closed(value) => PlaceNumbers { place: 4, value },
-        Tail::Ending(value) => PlaceNumbers { place: 5, value },
-    }
-}
+impl From<Event> for EventNumbers {
+    ghost from_gives = { λ event r. r ≡ event_numbers event };
 
-fn event_numbers(event: Event) -> EventNumbers
-    ensures { result ≡ event_numbers event }
-{
-    match event {
-        Event::Quiet => EventNumbers {
-            event: 0,
-            number: 0,
-            length: 0,
-        },
-        Event::Command(length) => EventNumbers {
-            event: 1,
-            number: 0,
-            length,
-        },
-        Event::GoOn => EventNumbers {
-            event: 2,
-            number: 0,
-            length: 0,
-        },
-        Event::Refused(number) => EventNumbers {
-            event: 3,
+    fn from(event: Event) -> EventNumbers {
+        let (event, number, length) = match event {
+            Event::Quiet => (0, 0, 0),
+            Event::Command(length) => (1, 0, length),
+            Event::GoOn => (2, 0, 0),
+            Event::Refused(refusal) => (3, refusal.number(), 0),
+            Event::TooSmall => (4, 0, 0),
+        };
+        EventNumbers {
+            event,
             number,
-            length: 0,
-        },
-        Event::TooSmall => EventNumbers {
-            event: 4,
-            number: 0,
-            length: 0,
-        },
+            length,
+        }
     }
 }

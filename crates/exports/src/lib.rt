@@ -32,9 +32,7 @@ ghost use Rattle.exports.specs.Outcomes.{handed_outcome, plain_table, Into, walk
 use compaction::compact_words;
 use list_line::{Attributes, Criteria};
 use octets::least;
-use outcomes::{
-    Done, LineParts, Outcome, collected_outcome, command_done, line_parts, written_outcome,
-};
+use outcomes::{Done, LineParts, Outcome, command_done, number_or_0, written_outcome};
 use records::{Record, copy_back, copy_in, no_words};
 use summary::{check_summed, summarize_words};
 
@@ -61,7 +59,7 @@ pub fn luspemaro_summarize(records: &[Record], count: usize, area: &[u8], summar
 {
     let mut words = no_words();
     let n = copy_in(records, count, &mut words);
-    summarize_words(&words[..n], count, area, summary)
+    number_or_0(summarize_words(&words[..n], count, area, summary))
 }
 
 // Check 1 of a packed table, which has no summary.
@@ -123,7 +121,7 @@ pub fn luspemaro_answer(
         &mut words, lent, count, reader, area, summary, namespaces, line, out,
     );
     copy_back(records, done.from, done.to, &words);
-    done.outcome
+    done.answer
 }
 
 // That over records, each as a number, of which the first `lent` are lent.
@@ -137,8 +135,8 @@ fn answer_words(
     namespaces: &[u8],
     line: &[u8],
     out: &mut [u8],
-) -> Done
-    ensures result { result.outcome ≡ handed_outcome (word_command words.old lent count reader area.old summary.old
+) -> Done<Outcome>
+    ensures result { result.answer ≡ handed_outcome (word_command words.old lent count reader area.old summary.old
         namespaces.now line.now out.old) }
     ensures bytes { out.new ≡ buffer_after out.old (word_command words.old lent count reader area.old summary.old
         namespaces.now line.now out.old).reply }
@@ -179,9 +177,13 @@ pub fn luspemaro_compact(
 {
     let mut words = no_words();
     let lent = copy_in(records, summary.len(), &mut words);
-    let moved = compact_words(&mut words, lent, count, area, summary);
-    copy_back(records, moved.from, moved.to, &words);
-    moved.number
+    match compact_words(&mut words, lent, count, area, summary) {
+        Ok(moved) => {
+            copy_back(records, moved.from, moved.to, &words);
+            0
+        }
+        Err(refusal) => refusal.number(),
+    }
 }
 
 // The whole walk of a reader: finds at the front of `found`, the names that were asked below at the front of `pending`.
@@ -251,7 +253,7 @@ fn collect_words(
         result found.new pending.new }
     ensures numbers { allowed_outcome result ≡ true }
 {
-    collected_outcome(collector::collect_words(
+    Outcome::from(collector::collect_words(
         words, count, reader, area, summary, option, scratch, found, pending,
     ))
 }
@@ -278,7 +280,7 @@ pub fn luspemaro_collect_packed(
         result found.new pending.new }
     ensures numbers { allowed_outcome result ≡ true }
 {
-    collected_outcome(collector::collect_packed(table, reader, option, scratch, found, pending))
+    Outcome::from(collector::collect_packed(table, reader, option, scratch, found, pending))
 }
 
 // The line writer: the line of these parts at the front of `out`. The criteria are those that CHILDINFO names: 1 SUBSCRIBED, 2
@@ -295,7 +297,7 @@ pub fn luspemaro_write_line(attributes: u16, name: &[u8], criteria: u8, out: &mu
 pub fn luspemaro_read_line(line: &[u8]) -> LineParts
     ensures { result ≡ parts_of (read_line line.now) }
 {
-    line_parts(line_reader::read_line(line))
+    LineParts::from(line_reader::read_line(line))
 }
 
 // The joined command of these parts at the front of `out`. The options are a set by its number: of the selection 1 SUBSCRIBED, 2 REMOTE,

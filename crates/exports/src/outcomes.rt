@@ -1,12 +1,14 @@
-// Answers as C takes them: structs of numbers, where the crates below have an enum.
+// Answers as C takes them: structs of numbers, where the crates below have results.
 //
 // Each struct has more than 16 bytes, so that it comes back in memory of the caller.
 ghost use Rattle.std.specs.Prelude.{◌≡◌};
-ghost use Rattle.exports.specs.Outcomes.{as_number, done_case, written_case, collected_case, line_case};
+ghost use Rattle.octets.specs.Refusals.{numbered};
+ghost use Rattle.summary.specs.Counts.{number_or_0};
+ghost use Rattle.exports.specs.Outcomes.{done_case, written_case, collected_case, line_case};
 
-use collector::Collected;
-use line_reader::{Line, Read};
-use octets::Written;
+use collector::Walked;
+use line_reader::Parts;
+use octets::{Refusal, filled};
 use server::Stored;
 
 // What a call that writes into lent memory answers: 0 and the length of what it wrote, for a walk with the number of commands
@@ -33,49 +35,48 @@ pub struct LineParts {
     pub name: [u8; 200],
 }
 
-// What a command over words comes to: its outcome, and the words that changed or moved, `from` up to `to`.
+// What a call over words comes to: its answer in C's form, and the words that may have changed or moved, `from` up to `to`.
 #[derive(Clone, Copy)]
-pub(crate) struct Done {
-    pub outcome: Outcome,
+pub(crate) struct Done<T> {
+    pub answer: T,
     pub from: usize,
     pub to: usize,
 }
 
 // A command's case.
-pub(crate) fn command_done(stored: Stored) -> Done
+pub(crate) fn command_done(stored: Stored) -> Done<Outcome>
     ensures { result ≡ done_case stored }
 {
-    let written = stored.written;
-    let outcome = written_outcome(written, as_number(stored.from < stored.to), stored.count);
+    let changed = u8::from(stored.from < stored.to);
     Done {
-        outcome,
+        answer: written_outcome(stored.written, changed, stored.count),
         from: stored.from,
         to: stored.to,
     }
 }
 
-// 1 for yes.
-pub(crate) fn as_number(yes: bool) -> u8
-    ensures { result ≡ as_number yes }
+// The number of a refusal, or 0.
+pub(crate) fn number_or_0(answer: Result<(), Refusal>) -> u8
+    ensures { result ≡ number_or_0 answer }
 {
-    if yes {
-        return 1;
+    match answer {
+        Ok(()) => 0,
+        Err(refusal) => refusal.number(),
     }
-    0
 }
 
-pub(crate) fn written_outcome(written: Written, changed: u8, count: usize) -> Outcome
-    ensures { result ≡ written_case written changed count }
+pub(crate) fn written_outcome(written: Result<usize, Refusal>, changed: u8, count: usize) -> Outcome
+    ensures { result ≡ written_case (numbered written) changed count }
 {
     match written {
-        Written::Done(length) => Outcome {
+        Ok(length) => Outcome {
             number: 0,
             changed,
             length,
             count,
         },
-        Written::Refused(number) => Outcome {
-            number,
+        Err(refusal) => Outcome {
+            number: refusal.number(),
             changed,
             length: 0,
             count,
@@ -83,44 +84,52 @@ pub(crate) fn written_outcome(written: Written, changed: u8, count: usize) -> Ou
     }
 }
 
-pub(crate) fn collected_outcome(collected: Collected) -> Outcome
-    ensures { result ≡ collected_case collected }
-{
-    match collected {
-        Collected::Done(count, length) => Outcome {
-            number: 0,
-            changed: 0,
-            length,
-            count,
-        },
-        Collected::Refused(number) => Outcome {
-            number,
-            changed: 0,
-            length: 0,
-            count: 0,
-        },
+impl From<Result<Walked, Refusal>> for Outcome {
+    ghost from_gives = { λ collected r. r ≡ collected_case (numbered collected) };
+
+    fn from(collected: Result<Walked, Refusal>) -> Outcome {
+        match collected {
+            Ok(walked) => Outcome {
+                number: 0,
+                changed: 0,
+                length: walked.found,
+                count: walked.count,
+            },
+            Err(refusal) => Outcome {
+                number: refusal.number(),
+                changed: 0,
+                length: 0,
+                count: 0,
+            },
+        }
     }
 }
 
-pub(crate) fn line_parts(read: Read) -> LineParts
-    ensures { result ≡ line_case read.line read.name }
-{
-    let line = read.line;
-    let name = read.name;
-    match line {
-        Line::Parts(attributes, length, criteria) => LineParts {
-            number: 0,
-            criteria: criteria.bits,
-            attributes: attributes.bits,
-            length,
-            name,
-        },
-        Line::Refused(number) => LineParts {
-            number,
-            criteria: 0,
-            attributes: 0,
-            length: 0,
-            name,
-        },
+impl From<Result<Parts, Refusal>> for LineParts {
+    ghost from_gives = { λ read r. r ≡ line_case (numbered read) };
+
+    fn from(read: Result<Parts, Refusal>) -> LineParts {
+        match read {
+            Ok(parts) => {
+                let name = parts.name;
+                LineParts {
+                    number: 0,
+                    criteria: parts.criteria.bits,
+                    attributes: parts.attributes.bits,
+                    length: parts.len,
+                    name,
+                }
+            }
+            Err(refusal) => {
+                let name = filled(0);
+                LineParts {
+                    number: refusal.number(),
+                    criteria: 0,
+                    attributes: 0,
+                    length: 0,
+                    name,
+                }
+            }
+        }
     }
 }

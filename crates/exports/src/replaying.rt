@@ -9,10 +9,10 @@ ghost use Rattle.records.specs.Lent.{lent_of};
 ghost use Rattle.records.specs.Stores.{Between};
 ghost use Rattle.exports.specs.Replays.{lent_replay, word_replay, replay_report, report_case, lent_piece, word_piece, piece_report, fed_case, state_in, state_back};
 
-use crate::outcomes::as_number;
+use crate::outcomes::Done;
 use octets::least;
 use records::{Record, copy_back, copy_in, no_words};
-use replay::{Piece, Replayed, Replaying, replay_piece};
+use replay::{Piece, Replayed, Replaying, Verdict, replay_piece};
 
 // What a replay reports: 0, or 13 where it was stopped; the number of the frame that stopped it, of the first frame of 43 whose answer differs, or 0 where all
 // agree; and how many records are rows at the end.
@@ -48,21 +48,6 @@ pub struct FedPiece {
     pub state: ReplayState,
 }
 
-// A report, or what comes of a piece, over words, and the words that may have changed, `from` up to `to`.
-#[derive(Clone, Copy)]
-pub(crate) struct ReportDone {
-    pub report: Report,
-    pub from: usize,
-    pub to: usize,
-}
-
-#[derive(Clone, Copy)]
-pub(crate) struct PieceDone {
-    pub fed: FedPiece,
-    pub from: usize,
-    pub to: usize,
-}
-
 // A whole log run over the records, of which the first `count` are rows: records, area and summary are then as its commands left them.
 pub fn luspemaro_replay(
     records: &mut [Record],
@@ -85,7 +70,7 @@ pub fn luspemaro_replay(
     let lent = copy_in(records, summary.len(), &mut words);
     let done = replay_words(&mut words, lent, count, area, summary, namespaces, log);
     copy_back(records, done.from, done.to, &words);
-    done.report
+    done.answer
 }
 
 // That over records, each as a number, of which the first `lent` are lent.
@@ -97,8 +82,8 @@ fn replay_words(
     summary: &mut [u64],
     namespaces: &[u8],
     log: &[u8],
-) -> ReportDone
-    ensures result { result.report ≡ replay_report (word_replay words.old lent count area.old summary.old
+) -> Done<Report>
+    ensures result { result.answer ≡ replay_report (word_replay words.old lent count area.old summary.old
         namespaces.now log.now) }
     ensures area { area.new ≡ (word_replay words.old lent count area.old summary.old
         namespaces.now log.now).area }
@@ -111,9 +96,8 @@ fn replay_words(
     let n = least(lent, words.len());
     let to = least(n, summary.len());
     let replayed = replay::replay_words(&mut words[..n], summary, count, area, namespaces, log);
-    let report = report_of(replayed);
-    ReportDone {
-        report,
+    Done {
+        answer: Report::from(replayed),
         from: 0,
         to,
     }
@@ -150,7 +134,7 @@ pub fn luspemaro_replay_feed(
         &mut words, lent, count, state, area, summary, namespaces, pending, line, piece,
     );
     copy_back(records, came.from, came.to, &words);
-    came.fed
+    came.answer
 }
 
 // That over records, each as a number, of which the first `lent` are lent.
@@ -165,8 +149,8 @@ fn feed_words(
     pending: &mut [u8],
     line: &mut [u8],
     piece: &[u8],
-) -> PieceDone
-    ensures result { result.fed ≡ piece_report (word_piece words.old lent count state area.old summary.old
+) -> Done<FedPiece>
+    ensures result { result.answer ≡ piece_report (word_piece words.old lent count state area.old summary.old
         namespaces.now pending.old line.old piece.now) }
     ensures area { area.new ≡ (word_piece words.old lent count state area.old summary.old
         namespaces.now pending.old line.old piece.now).area }
@@ -194,36 +178,40 @@ fn feed_words(
         line,
         piece,
     );
-    let fed = fed_of(given);
-    PieceDone {
-        fed,
+    Done {
+        answer: fed_of(given, held),
         from: 0,
         to: end,
     }
 }
 
-fn report_of(replayed: Replayed) -> Report
-    ensures { result ≡ report_case replayed }
-{
-    let verdict = replayed.verdict;
-    Report {
-        number: verdict.number(),
-        frame: verdict.frame(),
-        count: replayed.count,
+impl From<Replayed> for Report {
+    ghost from_gives = { λ replayed r. r ≡ report_case replayed };
+
+    fn from(replayed: Replayed) -> Report {
+        let verdict = replayed.verdict;
+        Report {
+            number: verdict.number(),
+            frame: verdict.frame(),
+            count: replayed.count,
+        }
     }
 }
 
-fn fed_of(piece: Piece) -> FedPiece
-    ensures { result ≡ fed_case piece }
+// Of a piece that was not taken: no verdict, and the state as it was.
+fn fed_of(given: Option<Piece>, held: Replaying) -> FedPiece
+    ensures { result ≡ fed_case held given }
 {
-    let verdict = piece.verdict;
-    let held = piece.state;
+    let piece = given.unwrap_or(Piece {
+        verdict: Verdict::Agrees,
+        state: held,
+    });
     FedPiece {
-        taken: as_number(piece.taken),
-        number: verdict.number(),
-        frame: verdict.frame(),
-        count: held.rows,
-        state: state_of(held),
+        taken: u8::from(given.is_some()),
+        number: piece.verdict.number(),
+        frame: piece.verdict.frame(),
+        count: piece.state.rows,
+        state: ReplayState::from(piece.state),
     }
 }
 
@@ -241,14 +229,16 @@ fn replaying_of(state: ReplayState, count: usize) -> Replaying
     }
 }
 
-fn state_of(held: Replaying) -> ReplayState
-    ensures { result ≡ state_back held }
-{
-    ReplayState {
-        frames: held.frames,
-        first: held.first,
-        due: held.due,
-        gathered: held.gathered,
-        stopped: as_number(held.stopped),
+impl From<Replaying> for ReplayState {
+    ghost from_gives = { λ held st. st ≡ state_back held };
+
+    fn from(held: Replaying) -> ReplayState {
+        ReplayState {
+            frames: held.frames,
+            first: held.first,
+            due: held.due,
+            gathered: held.gathered,
+            stopped: u8::from(held.stopped),
+        }
     }
 }

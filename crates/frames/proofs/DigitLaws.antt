@@ -1,13 +1,15 @@
 -- Laws of digits: a character's value, the bytes of a run of characters, and the digits of a run of bytes, each from a place on.
 -- Rests on the library alone.
-use Rattle.listing_rules.proofs.Prelude.{◌∙◌, ◌≡◌, refl, sym, Bool, ◌&&◌, and-false, cond, false, true, Option, option_get_or, none, some, List, []}
+use Rattle.std.specs.Prelude.{Option as Maybe}
+use Rattle.std.specs.Option.{unwrap_or, is_some as has_value}
+use Rattle.std.specs.List.{list_all}
+use Rattle.listing_rules.proofs.Prelude.{◌∙◌, ◌≡◌, ap, refl, sym, Bool, ◌&&◌, and-false, cond, false, true, Option, option_get_or, none, some, List, []}
 use Rattle.listing_rules.proofs.Prelude.{◌++◌, ◌∷◌, ◌%◌, ◌*◌, ◌+◌, ◌-◌, ◌/◌, ◌<◌, ◌≤◌, suc, ℕ, add-one, arith, eqb, leb, drop, drop_of_length-le}
 use Rattle.listing_rules.proofs.Prelude.{get_or, length, length-drop, drop-cons, eq-eqb, leb-true, ne_eqb}
 use Rattle.listing_rules.specs.Bytes.{within, all}
 use Rattle.listing_rules.specs.Tokens.{◌>>=◌}
 use Rattle.listing_rules.specs.Frames.{digit, bytes_of, hex}
 use Rattle.listing_rules.proofs.Bools.{and_l, and_r}
-use Rattle.frames.specs.declared.hexadecimal.Digit.TheVariants.{Value, Other}
 use Rattle.frames.specs.Hexadecimal.{digit_is, is_some, value_of, pair_of, decoded}
 
 -- a digit's value is below 16
@@ -30,24 +32,14 @@ value_small c = digits (within 48 57 c) refl
     digits true e = omega (arith, range 48 57 e)
     digits false e = large (within 65 70 c) refl
 
--- a digit by the code's answer
-known_some : (o : Option ℕ) (v : ℕ) → digit_is o ≡ Value v → o ≡ some v
-unfolding digit_is
-known_some none v e = cc
-known_some (some w) v e = cc
-
-known_none : (o : Option ℕ) → digit_is o ≡ Other → o ≡ none
-unfolding digit_is
-known_none none e = refl
-known_none (some w) e = cc
-
-pub value_known : (c v : ℕ) → digit_is (digit c) ≡ Value v → value_of c ≡ v
-unfolding value_of
-value_known c v e = rw (known_some (digit c) v e)
-
-pub value_none : (c : ℕ) → digit_is (digit c) ≡ Other → value_of c ≡ 0
-unfolding value_of
-value_none c e = rw (known_none (digit c) e)
+-- a digit's value by the code's answer
+pub value_or : (c : ℕ) (r : Maybe ℕ) → r ≡ digit_is (digit c) → unwrap_or r 0 ≡ value_of c
+unfolding value_of digit_is
+value_or c r e = ap (λ (q : Maybe ℕ). unwrap_or q 0) e ∙ go (digit c)
+  where
+    go : (o : Option ℕ) → unwrap_or (digit_is o) 0 ≡ option_get_or o 0
+    go none = refl
+    go (some v) = refl
 
 -- the character is a digit
 unfoldable pub is_digit : ℕ → Bool
@@ -77,18 +69,22 @@ hex_odd line h = hex_is line ∙ rw (ne_eqb (length line % 2) 0 h)
 pub hex_even : (line : List ℕ) → length line % 2 ≡ 0 → all is_digit line ≡ is_some (bytes_of line)
 hex_even line h = sym (hex_is line ∙ rw (eq-eqb (length line % 2) 0 h))
 
-module _ (line : List ℕ) (i : ℕ) where
-  pub digits_more : (v : ℕ) → i < length line → digit_is (digit (get_or line i 0)) ≡ Value v → all is_digit (drop i line) ≡ all is_digit (drop (i + 1) line)
-  unfolding all is_digit is_some
-  digits_more v h e = rw (add-one, drop-cons line i 0 h, known_some (digit (get_or line i 0)) v e)
+-- the code's answer to each character, and to all of them
+abbrev pub found : ℕ → Bool
+found c = has_value (digit_is (digit c))
 
-  pub digits_stop : i < length line → digit_is (digit (get_or line i 0)) ≡ Other → all is_digit (drop i line) ≡ false
-  unfolding all is_digit is_some
-  digits_stop h e = rw (drop-cons line i 0 h, known_none (digit (get_or line i 0)) e)
+found_is : (c : ℕ) → found c ≡ is_digit c
+unfolding is_digit is_some digit_is
+found_is c = go (digit c)
+  where
+    go : (o : Option ℕ) → has_value (digit_is o) ≡ is_some o
+    go none = refl
+    go (some v) = refl
 
-  pub digits_end : length line ≤ i → all is_digit (drop i line) ≡ true
-  unfolding all
-  digits_end h = rw (drop_of_length-le line h)
+pub all_found : (line : List ℕ) → list_all found line ≡ all is_digit line
+unfolding all
+all_found [] = refl
+all_found (c ∷ t) = λ i. found_is c i && all_found t i
 
 -- the bytes of characters that are digits
 pub bytes_are : (line : List ℕ) → is_some (bytes_of line) ≡ true → bytes_of line ≡ some (decoded line)

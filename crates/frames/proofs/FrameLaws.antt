@@ -1,5 +1,6 @@
 -- Laws of frames: which characters are bad, what a frame with a first byte answers and holds, and that the answer and the bytes
 -- at its side mean the frame. Rests on DigitLaws.
+use Rattle.std.specs.Prelude.{Option as Maybe, Some, None}
 use Rattle.listing_rules.proofs.Prelude.{◌∙◌, ◌≡◌, ap, refl, sym, Bool, cond, false, true, ◌⊎◌, inl, inr, ⊎_elim, Option, none, some, List, [], ◌∷◌}
 use Rattle.listing_rules.proofs.Prelude.{◌-◌, ◌/◌, ◌<◌, ◌≤◌, suc, ℕ, arith, eqb, leb, drop, get_or, length, length-drop, take, length-sets, sets}
 use Rattle.listing_rules.proofs.Prelude.{take-append_seam, le-leb, leb-true, lt-leb, ne_eqb}
@@ -7,7 +8,7 @@ use Rattle.listing_rules.specs.Frames.{Frame as Meant, table_bytes, namespace_by
 use Rattle.listing_rules.specs.Frames.{frame_of, read_frame}
 use Rattle.octets.proofs.Puts.{front}
 use Rattle.frames.specs.declared.reading.Frame.{Frame}
-use Rattle.frames.specs.declared.reading.Frame.TheVariants.{Table, Namespaces, Command, Walk, Bad}
+use Rattle.frames.specs.declared.reading.Frame.TheVariants.{Table, Namespaces, Command, Walk}
 use Rattle.frames.specs.Hexadecimal.{is_some, pair_of, decoded}
 use Rattle.frames.specs.Reading.{frame_is, answer_is, behind_kind, size_of, fitting, read_within, kind_is, FrameRead}
 use Rattle.frames.proofs.DigitLaws.{bytes_are, no_bytes, length_decoded, decoded_at}
@@ -65,8 +66,8 @@ module _ (k : ℕ) where
   kind_answer_lem bs r o = go (eqb k 0x4D) (eqb k 0x4E) (eqb k 0x43) (eqb k 0x57) bs
     where
       go : (m n c w : Bool) (xs : List ℕ) → (1 ≤ length xs → r ≡ get_or xs 0 0) → (2 ≤ length xs → o ≡ get_or xs 1 0) →
-          cond m (Table (length xs)) (cond n (Namespaces (length xs))
-          (cond c (cond (eqb (length xs) 0) Bad (Command r (length xs - 1))) (cond w (cond (eqb (length xs) 2) (Walk r o) Bad) Bad))) ≡ answer_is
+          cond m (Some (Table (length xs))) (cond n (Some (Namespaces (length xs)))
+          (cond c (cond (eqb (length xs) 0) None (Some (Command r (length xs - 1)))) (cond w (cond (eqb (length xs) 2) (Some (Walk r o)) None) None))) ≡ answer_is
           (cond m (table_bytes xs) (cond n (namespace_bytes xs) (cond c (command_frame xs) (cond w (walk_frame xs) bad_frame))))
       go true n c w xs h g = refl
       go false true c w xs h g = refl
@@ -85,7 +86,7 @@ module _ (k : ℕ) where
       go false false false true (x ∷ y ∷ z ∷ t) h g = rw (ne_eqb (suc (suc (suc (length t)))) 2 (λ e. omega arith))
 
 -- only a bad frame is answered so
-answer_bad : (f : Meant) → answer_is f ≡ Bad → f ≡ bad_frame
+answer_bad : (f : Meant) → answer_is f ≡ None → f ≡ bad_frame
 unfolding answer_is
 answer_bad (table_bytes bs) e = cc
 answer_bad (namespace_bytes bs) e = cc
@@ -156,7 +157,7 @@ answer_size_lem (walk_with r o) = refl
 answer_size_lem bad_frame = refl
 
 -- the answer and the bytes are all that a reading promises
-frame_read : (line d e : List ℕ) (r : Frame) → r ≡ answer_is (read_within (length d) line) → e ≡ sets d 0 (behind_kind (read_within (length d) line)) →
+frame_read : (line d e : List ℕ) (r : Maybe Frame) → r ≡ answer_is (read_within (length d) line) → e ≡ sets d 0 (behind_kind (read_within (length d) line)) →
     FrameRead line d e r
 frame_read line d e r a b =
     record {
@@ -170,12 +171,12 @@ frame_read line d e r a b =
     }
 
 -- a bad frame
-pub frame_bad : (line d : List ℕ) → read_within (length d) line ≡ bad_frame → FrameRead line d d Bad
+pub frame_bad : (line d : List ℕ) → read_within (length d) line ≡ bad_frame → FrameRead line d d None
 unfolding answer_is behind_kind
-frame_bad line d e = frame_read line d d Bad (rw e) (rw e)
+frame_bad line d e = frame_read line d d None (rw e) (rw e)
 
 -- the answer by the first byte, by how many bytes stand behind it, and by the second and third byte
-abbrev pub kind_answer : List ℕ → Frame
+abbrev pub kind_answer : List ℕ → Maybe Frame
 kind_answer line =
     kind_is (pair_of (get_or line 0 0) (get_or line 1 0)) (length line / 2 - 1) (pair_of (get_or line 2 0) (get_or line 3 0))
     (pair_of (get_or line 4 0) (get_or line 5 0))
@@ -201,7 +202,7 @@ module _ (line : List ℕ) (most : length line ≤ 4102) (least : 2 ≤ length l
 
   module _ (d : List ℕ) where
     -- it does not fit
-    pub frame_short : length d < length line / 2 - 1 → FrameRead line d d Bad
+    pub frame_short : length d < length line / 2 - 1 → FrameRead line d d None
     unfolding read_within fitting
     frame_short h = frame_bad line d (⊎_elim (within_bad (length d) line) small read_holds)
       where
@@ -215,15 +216,18 @@ module _ (line : List ℕ) (most : length line ≤ 4102) (least : 2 ≤ length l
       fits =
           ⊎_elim (λ e. within_bad (length d) line e ∙ sym e) (λ e. within_some (length d) line (omega (arith, ap length e, behind_length))) read_holds
 
-      pub frame_other : kind_answer line ≡ Bad → FrameRead line d d Bad
+      pub frame_other : kind_answer line ≡ None → FrameRead line d d None
       frame_other e = frame_bad line d (within_bad (length d) line (answer_bad (read_frame line) (sym read_answer ∙ e)))
 
-      pub frame_good : (e : List ℕ) (r : Frame) → r ≡ kind_answer line → (r ≡ Bad → ⊥) → e ≡ sets d 0 (decoded (drop 2 line)) → FrameRead line d e r
+      pub frame_good : (e : List ℕ) (f : Frame) → kind_answer line ≡ Some f → e ≡ sets d 0 (decoded (drop 2 line)) → FrameRead line d e (Some f)
       unfolding answer_is
-      frame_good e r a n b = frame_read line d e r answers (b ∙ ap (sets d 0) holds)
+      frame_good e f a b = frame_read line d e (Some f) answers (b ∙ ap (sets d 0) holds)
         where
-          answers : r ≡ answer_is (read_within (length d) line)
-          answers = a ∙ read_answer ∙ ap answer_is (sym fits)
+          answers : Some f ≡ answer_is (read_within (length d) line)
+          answers = sym a ∙ read_answer ∙ ap answer_is (sym fits)
+
+          never : read_frame line ≡ bad_frame → ⊥
+          never q = let z : Some f ≡ None = sym a ∙ read_answer ∙ ap answer_is q in cc
 
           holds : decoded (drop 2 line) ≡ behind_kind (read_within (length d) line)
-          holds = ⊎_elim (λ q. absurd (n (a ∙ read_answer ∙ ap answer_is q))) (λ q. sym q ∙ ap behind_kind (sym fits)) read_holds
+          holds = ⊎_elim (λ q. absurd (never q)) (λ q. sym q ∙ ap behind_kind (sym fits)) read_holds

@@ -1,7 +1,8 @@
 -- Laws of the frames of a log: what a first byte says, and one law for each way out of `read_recorded` and of `read_command`; the digits of a recorded
 -- answer compared with bytes. Rests on FrameLaws and DigitLaws.
+use Rattle.std.specs.Prelude.{Option as Maybe, Some, None}
 use Rattle.listing_rules.proofs.Prelude.{◌∙◌, ◌≡◌, ap, refl, subst, sym, Bool, cond, false, false≢true, true, ◌⊎◌, inl, inr, ⊎_elim, some, List, []}
-use Rattle.listing_rules.proofs.Prelude.{◌∷◌, ◌++◌, ◌*◌, ◌+◌, ◌/◌, ◌%◌, ◌<◌, ◌≤◌, ℕ, add-one, arith, eqb, leb, drop, drop_of_length-le, get_or, length}
+use Rattle.listing_rules.proofs.Prelude.{◌∷◌, ◌++◌, ◌*◌, ◌+◌, ◌/◌, ◌%◌, ◌<◌, ◌≤◌, suc, ℕ, add-one, arith, eqb, leb, drop, drop_of_length-le, get_or, length}
 use Rattle.listing_rules.proofs.Prelude.{length-drop, sets, drop-cons, eq-eqb, eqb-true, le-leb, lt-leb, leb-true, leb-false, ne_eqb}
 use Rattle.listing_rules.specs.Bytes.{same}
 use Rattle.listing_rules.specs.Server.{Reply, refusal, answered}
@@ -9,12 +10,12 @@ use Rattle.listing_rules.specs.Frames.{Frame as Meant, table_bytes, namespace_by
 use Rattle.listing_rules.specs.Frames.{read_frame}
 use Rattle.listing_rules.specs.Replay.{Logged, asked, recorded, unreadable, asked_in, number_in, logged_of, log_limit, read_logged}
 use Rattle.frames.specs.declared.reading.Frame.{Frame}
-use Rattle.frames.specs.declared.reading.Frame.TheVariants.{Table, Namespaces, Command, Walk, Bad}
+use Rattle.frames.specs.declared.reading.Frame.TheVariants.{Table, Namespaces, Command, Walk}
 use Rattle.frames.specs.declared.logs.Recorded.{Recorded}
-use Rattle.frames.specs.declared.logs.Recorded.TheVariants.{Answer, Number, Other}
+use Rattle.frames.specs.declared.logs.Recorded.TheVariants.{Answer, Number}
 use Rattle.frames.specs.Hexadecimal.{is_some, pair_of, decoded}
 use Rattle.frames.specs.Reading.{answer_is, behind_kind, fitting, read_within, FrameRead}
-use Rattle.frames.specs.Logged.{recorded_is, command_bytes, fitting_bytes, CommandRead}
+use Rattle.frames.specs.Logged.{recorded_is, command_bytes, fitting_bytes, length_some, CommandRead}
 use Rattle.frames.proofs.DigitLaws.{hex_odd, bytes_are, no_bytes, length_decoded, decoded_at, decoded_end}
 use Rattle.octets.proofs.Same.{same_lengths}
 use Rattle.frames.proofs.FrameLaws.{bad_text, behind_small}
@@ -108,21 +109,21 @@ module _ (line : List ℕ) where
         none_of (x ∷ y ∷ l) q = ap number_in q ∙ (unfold number_in in refl)
 
     -- any other first byte records no answer
-    pub log_other : (kind ≡ 0x41 → ⊥) → (kind ≡ 0x52 → ⊥) → recorded_is (read_logged line) ≡ Other
+    pub log_other : (kind ≡ 0x41 → ⊥) → (kind ≡ 0x52 → ⊥) → recorded_is (read_logged line) ≡ None
     log_other a n =
         ap recorded_is (logged_by line (logged_of (some (kind ∷ rest))) (of_kind kind refl))
         ∙ (unfold logged_of in rw (ne_eqb kind 0x41 a, ne_eqb kind 0x52 n) (go (eqb kind 0x43) rest))
       where
-        limit : (b : Bool) (f : Logged) → recorded_is f ≡ Other → recorded_is (cond b f unreadable) ≡ Other
+        limit : (b : Bool) (f : Logged) → recorded_is f ≡ None → recorded_is (cond b f unreadable) ≡ None
         limit true f e = e
         limit false f e = unfold recorded_is in refl
 
-        from : (xs : List ℕ) → recorded_is (asked_in xs) ≡ Other
+        from : (xs : List ℕ) → recorded_is (asked_in xs) ≡ None
         from [] = unfold recorded_is asked_in in refl
         from (x ∷ xs) = unfold recorded_is asked_in in refl
 
         go : (b : Bool) (xs : List ℕ)
-            → recorded_is (cond (leb (length line) (log_limit (cond b (asked_in xs) unreadable))) (cond b (asked_in xs) unreadable) unreadable) ≡ Other
+            → recorded_is (cond (leb (length line) (log_limit (cond b (asked_in xs) unreadable))) (cond b (asked_in xs) unreadable) unreadable) ≡ None
         go true xs = limit (leb (length line) (log_limit (asked_in xs))) (asked_in xs) (from xs)
         go false xs = limit (leb (length line) (log_limit unreadable)) unreadable (unfold recorded_is in refl)
 
@@ -232,38 +233,48 @@ module _ (line : List ℕ) where
         )
 
     -- how many bytes the code counts by the program's reading
-    abbrev count_in : Frame → ℕ
-    count_in (Command r n) = n + 1
-    count_in (Table n) = 0
-    count_in (Namespaces n) = 0
-    count_in (Walk r o) = 0
-    count_in Bad = 0
+    abbrev count_in : Maybe Frame → Maybe ℕ
+    count_in (Some (Command r n)) = Some (n + 1)
+    count_in (Some (Table n)) = None
+    count_in (Some (Namespaces n)) = None
+    count_in (Some (Walk r o)) = None
+    count_in None = None
 
-    pub command_read : (d e : List ℕ) (f g : Frame) → f ≡ g → FrameRead line d e f → CommandRead line d e (count_in g)
+    counted : (m : Meant) → count_in (answer_is m) ≡ length_some (read_bytes m)
+    unfolding answer_is length_some
+    counted (command r l) = let e : length l + 1 ≡ suc (length l) = omega arith in ap (λ (n : ℕ). Some n) e
+    counted (table_bytes bs) = refl
+    counted (namespace_bytes bs) = refl
+    counted (walk_with r o) = refl
+    counted bad_frame = refl
+
+    pub command_read : (d e : List ℕ) (f g : Maybe Frame) → f ≡ g → FrameRead line d e f → CommandRead line d e (count_in g)
     command_read d e f g q r =
         record {
-          answer = ap count_in (sym q ∙ r.answer) ∙ counted (read_within (length d) line) ∙ ap length (within_bytes (length d)).1;
+          answer = ap count_in (sym q ∙ r.answer) ∙ counted (read_within (length d) line) ∙ ap length_some (within_bytes (length d)).1;
           bytes = r.bytes ∙ ap (sets d 0) (within_bytes (length d)).0;
         }
-      where
-        counted : (m : Meant) → count_in (answer_is m) ≡ length (read_bytes m)
-        counted (command r l) = unfold answer_is in omega arith
-        counted (table_bytes bs) = unfold answer_is in refl
-        counted (namespace_bytes bs) = unfold answer_is in refl
-        counted (walk_with r o) = unfold answer_is in refl
-        counted bad_frame = unfold answer_is in refl
+
+    -- another frame than a command
+    pub command_other : (d e : List ℕ) (r : Maybe Frame) (f : Frame) → r ≡ Some f → ((k n : ℕ) → f ≡ Command k n → ⊥) → FrameRead line d e r
+        → CommandRead line d e None
+    command_other d e r (Table n) q other x = command_read d e r (Some (Table n)) q x
+    command_other d e r (Namespaces n) q other x = command_read d e r (Some (Namespaces n)) q x
+    command_other d e r (Command k n) q other x = absurd (other k n refl)
+    command_other d e r (Walk k o) q other x = command_read d e r (Some (Walk k o)) q x
 
 -- a frame that is no command leaves the lent bytes
 fitting_none : (room : ℕ) → fitting_bytes room [] ≡ []
 unfolding fitting_bytes
 fitting_none room = rw (le-leb 0 room (omega arith))
 
-pub command_none : (line d : List ℕ) → command_bytes (read_logged line) ≡ [] → CommandRead line d d 0
+pub command_none : (line d : List ℕ) → command_bytes (read_logged line) ≡ [] → CommandRead line d d None
+unfolding length_some
 command_none line d e =
     let none-fits : fitting_bytes (length d) (command_bytes (read_logged line)) ≡ [] = ap (fitting_bytes (length d)) e ∙ fitting_none (length d) in
-    record { answer = sym (ap length none-fits); bytes = sym (ap (sets d 0) none-fits) }
+    record { answer = sym (ap length_some none-fits); bytes = sym (ap (sets d 0) none-fits) }
 
-pub command_unreadable : (line d : List ℕ) → read_logged line ≡ unreadable → CommandRead line d d 0
+pub command_unreadable : (line d : List ℕ) → read_logged line ≡ unreadable → CommandRead line d d None
 command_unreadable line d e = command_none line d (ap command_bytes e ∙ (unfold command_bytes in refl))
 
 -- no command has more than 2,050 bytes
@@ -294,15 +305,15 @@ answer_in (recorded (refusal k)) = []
 answer_in (asked r l) = []
 answer_in unreadable = []
 
-abbrev IsOther : Recorded → Type 0
-IsOther Answer = ⊥
-IsOther (Number k) = Unit {0}
-IsOther Other = Unit {0}
+abbrev IsOther : Maybe Recorded → Type 0
+IsOther (Some Answer) = ⊥
+IsOther (Some (Number k)) = Unit {0}
+IsOther None = Unit {0}
 
 pub answer_digits : (line a : List ℕ) → read_logged line ≡ recorded (answered a) → (2 ≤ length line) × (decoded (drop 2 line) ≡ a)
 answer_digits line a e = by_length (leb 2 (length line)) refl
   where
-    as_answer : recorded_is (read_logged line) ≡ Answer
+    as_answer : recorded_is (read_logged line) ≡ Some Answer
     as_answer = unfold recorded_is in ap recorded_is e
 
     never : (f : Logged) → read_logged line ≡ f → (IsAnswer f → ⊥) → ⊥
@@ -352,21 +363,26 @@ module _ (digits bytes : List ℕ) where
   pub digits_lengths : (length digits / 2 ≡ length bytes → ⊥) → same (decoded digits) bytes ≡ false
   digits_lengths h = same_lengths (decoded digits) bytes (λ e. h (sym (length_decoded digits) ∙ e))
 
-  module _ (at i : ℕ) (place : at ≡ 2 * i) (long : length digits / 2 ≡ length bytes) where
+  module _ (i : ℕ) (long : length digits / 2 ≡ length bytes) where
+    abbrev at : ℕ
+    at = 2 * i
+
     pub digits_differ : i < length bytes → (pair_of (get_or digits at 0) (get_or digits (at + 1) 0) ≡ get_or bytes i 0 → ⊥) →
         same (decoded (drop at digits)) (drop i bytes) ≡ false
     unfolding same
     digits_differ h n =
         rw
-        (decoded_at digits at (omega (arith, place, long, h)), drop-cons bytes i 0 h, ne_eqb (pair_of (get_or digits at 0) (get_or digits (at + 1) 0)) (get_or bytes i 0) n)
+        (decoded_at digits at (omega (arith, long, h)), drop-cons bytes i 0 h, ne_eqb (pair_of (get_or digits at 0) (get_or digits (at + 1) 0)) (get_or bytes i 0) n)
 
     pub digits_step : i < length bytes → pair_of (get_or digits at 0) (get_or digits (at + 1) 0) ≡ get_or bytes i 0
-        → same (decoded (drop at digits)) (drop i bytes) ≡ same (decoded (drop (at + 2) digits)) (drop (i + 1) bytes)
+        → same (decoded (drop at digits)) (drop i bytes) ≡ same (decoded (drop (2 * (i + 1)) digits)) (drop (i + 1) bytes)
     unfolding same
     digits_step h e =
-        rw (decoded_at digits at (omega (arith, place, long, h)), drop-cons bytes i 0 h, eq-eqb (pair_of (get_or digits at 0) (get_or digits (at + 1) 0)) (get_or bytes i 0) e, add-one)
+        let next : 2 * (i + 1) ≡ at + 2 = omega arith in
+        rw
+        (next, decoded_at digits at (omega (arith, long, h)), drop-cons bytes i 0 h, eq-eqb (pair_of (get_or digits at 0) (get_or digits (at + 1) 0)) (get_or bytes i 0) e, add-one)
         refl
 
     pub digits_end : length bytes ≤ i → same (decoded (drop at digits)) (drop i bytes) ≡ true
     unfolding same
-    digits_end h = rw (decoded_end digits at (omega (arith, place, long, h)), drop_of_length-le bytes h)
+    digits_end h = rw (decoded_end digits at (omega (arith, long, h)), drop_of_length-le bytes h)

@@ -1,14 +1,13 @@
 -- Hexadecimal characters to the code: a digit's answer, and the bytes of pairs of digits.
+use Rattle.std.specs.Prelude.{Option as Maybe, Some, None}
 use Rattle.std.specs.Prelude.{List, [], ◌∷◌, Bool, true, false, ℕ, ◌+◌, ◌*◌}
 use Rattle.std.proofs.Math.Option.{Option, none, some, get_or}
 use Rattle.listing_rules.specs.Frames.{digit}
-use Rattle.frames.specs.declared.hexadecimal.Digit.{Digit}
-use Rattle.frames.specs.declared.hexadecimal.Digit.TheVariants.{Value, Other}
 
 -- the code's answer to a character
-unfoldable pub digit_is : Option ℕ → Digit
-digit_is none = Other
-digit_is (some v) = Value v
+unfoldable pub digit_is : Option ℕ → Maybe ℕ
+digit_is none = None
+digit_is (some v) = Some v
 
 -- there is something
 unfoldable pub is_some : {A : Type 0} → Option A → Bool

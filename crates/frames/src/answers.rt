@@ -8,7 +8,7 @@ use crate::hexadecimal::{put_hex, put_pair};
 use crate::kinds::{REFUSAL, WALK};
 use octets::LF;
 
-// "52 and the number in one byte".
+// "52 and the number in one byte". The number is no Refusal: any number has a line.
 pub fn put_refusal(buf: &mut [u8], at: usize, number: u8) -> usize
     ensures { Put buf.old buf.new at (refusal_line number) result }
 {

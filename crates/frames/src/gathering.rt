@@ -5,25 +5,24 @@ ghost use Rattle.frames.specs.Gathering.{Gathers, IsEmpty, GatheredRead};
 
 use crate::reading::{Frame, MAX_DIGITS, read_frame};
 
-// How many characters lie at the front of the line, and whether there were more than a frame may have.
+// How many characters lie at the front of the line; none where there were more than a frame may have.
 #[derive(Clone, Copy)]
 pub struct Gathered {
-    pub len: usize,
-    pub over: bool,
+    pub len: Option<usize>,
 }
 
 impl Gathered {
     // No character yet: what any line holds at the start of a frame.
-    pub const NONE: Gathered = Gathered {
-        len: 0,
-        over: false,
-    };
+    pub const NONE: Gathered = Gathered { len: Some(0) };
 
     // Whether there was no character yet.
     pub fn is_empty(self) -> bool
         ensures { IsEmpty self result }
     {
-        !self.over & (self.len == 0)
+        match self.len {
+            Some(n) => n == 0,
+            None => false,
+        }
     }
 }
 
@@ -32,32 +31,25 @@ impl Gathered {
 pub fn gather(line: &mut [u8], g: Gathered, c: u8) -> Gathered
     ensures { Gathers line.old line.new g c result }
 {
-    let n = g.len;
-    if g.over {
+    let Some(n) = g.len else {
         return g;
-    }
+    };
     if n < MAX_DIGITS {
         if n < line.len() {
             line[n] = c;
-            return Gathered {
-                len: n + 1,
-                over: false,
-            };
+            return Gathered { len: Some(n + 1) };
         }
     }
-    Gathered { len: n, over: true }
+    Gathered { len: None }
 }
 
-// The frame of the characters gathered: bad if there were too many of them, else what read_frame finds.
-pub fn read_gathered(line: &[u8], g: Gathered, bytes: &mut [u8]) -> Frame
+// The frame of the characters gathered: none if there were too many of them, else what read_frame finds.
+pub fn read_gathered(line: &[u8], g: Gathered, bytes: &mut [u8]) -> Option<Frame>
     ensures { GatheredRead line.now g bytes.old bytes.new result }
 {
-    let n = g.len;
-    if g.over {
-        return Frame::Bad;
-    }
+    let n = g.len?;
     if line.len() < n {
-        return Frame::Bad;
+        return None;
     }
     read_frame(&line[..n], bytes)
 }

@@ -5,37 +5,27 @@ ghost use Rattle.listing_rules.specs.Frames.{digit, bytes_of, hex_digit, hex};
 ghost use Rattle.octets.specs.Put.{Put};
 ghost use Rattle.frames.specs.Hexadecimal.{digit_is, is_some, value_of, pair_of, decoded};
 
-// A character as a hexadecimal digit: its value, 0 to 15.
-#[derive(Clone, Copy)]
-pub(crate) enum Digit {
-    Value(u8),
-    Other,
-}
-
 // "either case": 0 to 9, A to F and a to f, which stand for 10 to 15.
-pub(crate) fn read_digit(c: u8) -> Digit
+pub(crate) fn read_digit(c: u8) -> Option<u8>
     ensures { result ≡ digit_is (digit c) }
 {
     if (b'0' <= c) & (c <= b'9') {
-        return Digit::Value(c - 48);
+        return Some(c - 48);
     }
     if (b'A' <= c) & (c <= b'F') {
-        return Digit::Value(c - 55);
+        return Some(c - 55);
     }
     if (b'a' <= c) & (c <= b'f') {
-        return Digit::Value(c - 87);
+        return Some(c - 87);
     }
-    Digit::Other
+    None
 }
 
 // The value of a digit; 0 for another character, which is_hex tells apart.
 fn digit_value(c: u8) -> u8
     ensures { (result ≡ value_of c) × (result < 16) }
 {
-    match read_digit(c) {
-        Digit::Value(v) => v,
-        Digit::Other => 0,
-    }
+    read_digit(c).unwrap_or(0)
 }
 
 // The byte of two digits, the high one first.
@@ -52,14 +42,7 @@ pub(crate) fn is_hex(line: &[u8]) -> bool
     if line.len() % 2 != 0 {
         return false;
     }
-    let mut i = 0;
-    while i < line.len() {
-        let Digit::Value(_) = read_digit(line[i]) else {
-            return false;
-        };
-        i += 1;
-    }
-    true
+    line.iter().all(|c| read_digit(*c).is_some())
 }
 
 // The bytes of the pairs of digits, from a place on. A last digit with none beside it gives no byte.
@@ -67,10 +50,8 @@ pub(crate) fn put_decoded(buf: &mut [u8], at: usize, line: &[u8]) -> usize
     ensures { Put buf.old buf.new at (decoded line.now) result }
 {
     let mut to = at;
-    let mut i = 0;
-    while i + 1 < line.len() {
-        to = octets::put(buf, to, pair_value(line[i], line[i + 1]));
-        i += 2;
+    for i in 0..line.len() / 2 {
+        to = octets::put(buf, to, pair_value(line[2 * i], line[2 * i + 1]));
     }
     to
 }
@@ -99,10 +80,8 @@ pub(crate) fn put_hex(buf: &mut [u8], at: usize, bytes: &[u8]) -> usize
     ensures { Put buf.old buf.new at (hex bytes.now) result }
 {
     let mut to = at;
-    let mut i = 0;
-    while i < bytes.len() {
-        to = put_pair(buf, to, bytes[i]);
-        i += 1;
+    for b in bytes {
+        to = put_pair(buf, to, *b);
     }
     to
 }

@@ -17,4 +17,4 @@ pub use gathering::{Gathered, gather, read_gathered};
 pub use kinds::ANSWER;
 pub use logs::{MAX_COMMAND, Recorded, read_command, read_recorded, same_digits};
 pub use reading::{Frame, MAX_DIGITS};
-pub use storing::{Stored, store};
+pub use storing::store;

@@ -17,57 +17,54 @@ const MAX_ANSWER_DIGITS: usize = 32770;
 // The longest command of a log: a reader, and the 2,049 bytes that 4,102 digits leave beside it and the first byte.
 pub const MAX_COMMAND: usize = 2050;
 
-// What a frame of a log records as answered: 41, whose bytes stay in the digits after its first two; 52 and its number; or nothing.
+// What a frame of a log records as answered: 41, whose bytes stay in the digits after its first two; or 52 and its number.
 #[derive(Clone, Copy)]
 pub enum Recorded {
     Answer,
     Number(u8),
-    Other,
 }
 
-// The answer that the characters before a line feed record.
-pub fn read_recorded(line: &[u8]) -> Recorded
+// The answer that the characters before a line feed record, if they do.
+pub fn read_recorded(line: &[u8]) -> Option<Recorded>
     ensures { result ≡ recorded_is (read_logged line.now) }
 {
     if MAX_ANSWER_DIGITS < line.len() {
-        return Recorded::Other;
+        return None;
     }
     if line.len() < 2 {
-        return Recorded::Other;
+        return None;
     }
     if !is_hex(line) {
-        return Recorded::Other;
+        return None;
     }
     let kind = pair_value(line[0], line[1]);
     if kind == ANSWER {
-        return Recorded::Answer;
+        return Some(Recorded::Answer);
     }
     if kind != REFUSAL {
-        return Recorded::Other;
+        return None;
     }
     if line.len() != 4 {
-        return Recorded::Other;
+        return None;
     }
-    Recorded::Number(pair_value(line[2], line[3]))
+    Some(Recorded::Number(pair_value(line[2], line[3])))
 }
 
-// The command of the characters before a line feed: how many bytes it has, its reader first and then its line, at the front of the lent bytes;
-// 0, and no byte changes, where the characters are none or it does not fit. 2,050 lent bytes are enough for any command.
-pub fn read_command(line: &[u8], bytes: &mut [u8]) -> usize
+// The command of the characters before a line feed: how many bytes it has, its reader first and then its line, at the front of the lent bytes.
+// Where the characters are none or it does not fit, no byte changes. 2,050 lent bytes are enough for any command.
+pub fn read_command(line: &[u8], bytes: &mut [u8]) -> Option<usize>
     ensures { CommandRead line.now bytes.old bytes.new result }
 {
     if line.len() < 2 {
-        return 0;
+        return None;
     }
     if pair_value(line[0], line[1]) != COMMAND {
-        return 0;
+        return None;
     }
-    match read_frame(line, bytes) {
-        Frame::Command(_, n) => n + 1,
-        Frame::Table(_) => 0,
-        Frame::Namespaces(_) => 0,
-        Frame::Walk(_, _) => 0,
-        Frame::Bad => 0,
+    let frame = read_frame(line, bytes)?;
+    match frame {
+        Frame::Command(_, n) => Some(n + 1),
+        _ => None,
     }
 }
 
@@ -78,14 +75,11 @@ pub fn same_digits(digits: &[u8], bytes: &[u8]) -> bool
     if digits.len() / 2 != bytes.len() {
         return false;
     }
-    let mut at = 0;
-    let mut i = 0;
-    while i < bytes.len() {
-        if pair_value(digits[at], digits[at + 1]) != bytes[i] {
+    for (i, b) in bytes.iter().enumerate() {
+        let at = 2 * i;
+        if pair_value(digits[at], digits[at + 1]) != *b {
             return false;
         }
-        at += 2;
-        i += 1;
     }
     true
 }

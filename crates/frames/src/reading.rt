@@ -17,58 +17,54 @@ pub enum Frame {
     Namespaces(usize),
     Command(u8, usize),
     Walk(u8, u8),
-    Bad,
 }
 
-// The frame of a first byte with n bytes behind it, of which these are the first two.
-fn kind_of(kind: u8, n: usize, reader: u8, option: u8) -> Frame
+// The frame of a first byte with n bytes behind it, of which these are the first two; none where no such frame begins so.
+fn kind_of(kind: u8, n: usize, reader: u8, option: u8) -> Option<Frame>
     ensures { result ≡ kind_is kind n reader option }
 {
     match kind {
-        TABLE => Frame::Table(n),
-        NAMESPACES => Frame::Namespaces(n),
+        TABLE => Some(Frame::Table(n)),
+        NAMESPACES => Some(Frame::Namespaces(n)),
         COMMAND => {
             if n == 0 {
-                Frame::Bad
+                None
             } else {
-                Frame::Command(reader, n - 1)
+                Some(Frame::Command(reader, n - 1))
             }
         },
         WALK => {
             if n == 2 {
-                Frame::Walk(reader, option)
+                Some(Frame::Walk(reader, option))
             } else {
-                Frame::Bad
+                None
             }
         },
-        _ => Frame::Bad,
+        _ => None,
     }
 }
 
-// The frame of the characters before a line feed. A frame whose bytes do not fit the lent bytes is bad as well; 2,050 are
+// The frame of the characters before a line feed; none where they are bad, or where its bytes do not fit the lent bytes: 2,050 are
 // enough for any frame. A bad frame changes no byte, any other only the bytes that it holds.
-pub(crate) fn read_frame(line: &[u8], bytes: &mut [u8]) -> Frame
+pub(crate) fn read_frame(line: &[u8], bytes: &mut [u8]) -> Option<Frame>
     ensures { FrameRead line.now bytes.old bytes.new result }
 {
     if MAX_DIGITS < line.len() {
-        return Frame::Bad;
+        return None;
     }
     if line.len() < 2 {
-        return Frame::Bad;
+        return None;
     }
     if !is_hex(line) {
-        return Frame::Bad;
+        return None;
     }
     let n = line.len() / 2 - 1;
     if bytes.len() < n {
-        return Frame::Bad;
+        return None;
     }
     let reader = pair_value(octets::byte_at(line, 2), octets::byte_at(line, 3));
     let option = pair_value(octets::byte_at(line, 4), octets::byte_at(line, 5));
-    let frame = kind_of(pair_value(line[0], line[1]), n, reader, option);
-    if let Frame::Bad = frame {
-        return Frame::Bad;
-    }
+    let frame = kind_of(pair_value(line[0], line[1]), n, reader, option)?;
     put_decoded(bytes, 0, &line[2..]);
-    frame
+    Some(frame)
 }

@@ -2,26 +2,19 @@
 
 ghost use Rattle.frames.specs.Storing.{Stores};
 
-// How many bytes are stored now, or that there was no room and nothing was added.
-#[derive(Clone, Copy)]
-pub enum Stored {
-    Now(usize),
-    NoRoom,
-}
-
 // The bytes behind the first `used` ones of the area, where at most `limit` are stored then. A limit that the area does not
 // hold has no room. The bytes behind what is stored stay as they are.
-pub fn store(area: &mut [u8], used: usize, limit: usize, bytes: &[u8]) -> Stored
+pub fn store(area: &mut [u8], used: usize, limit: usize, bytes: &[u8]) -> Option<usize>
     ensures { Stores area.old area.new used limit bytes.now result }
 {
     if area.len() < limit {
-        return Stored::NoRoom;
+        return None;
     }
     if limit < used {
-        return Stored::NoRoom;
+        return None;
     }
     if limit - used < bytes.len() {
-        return Stored::NoRoom;
+        return None;
     }
-    Stored::Now(octets::put_all(area, used, bytes))
+    Some(octets::put_all(area, used, bytes))
 }

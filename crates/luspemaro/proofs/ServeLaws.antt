@@ -1,5 +1,6 @@
 -- Laws of bytes that are answered: what was fed and sent, the bytes of a read part by part, the end of the input, and a run of reads.
 -- Rests on TurnLaws, PartLaws, and on session's FeedLaws and Cut.
+use Rattle.std.specs.Prelude.{Ok, Err}
 use Rattle.listing_rules.proofs.Prelude.{◌∙◌, ◌≡◌, ap, refl, subst, sym, Bool, false, not, true, List, [], ◌++◌, ◌+◌, ◌-◌, ◌<◌, ◌^◌, ◌≤◌, min, ℕ}
 use Rattle.listing_rules.proofs.Prelude.{arith, drop, length, length-append, length-drop, take, length-take-le, take-add, take_all, take-take}
 use Rattle.listing_rules.specs.Frames.{Session, start, fed_all, program_output}
@@ -9,12 +10,12 @@ use Rattle.session.specs.Feeding.{start_is, ready, ready_in, Holds, Finishes}
 use Rattle.session.proofs.FeedLaws.{sizes, ready_again, holds_start}
 use Rattle.session.proofs.Cut.{said_front}
 use Rattle.luspemaro.specs.declared.calls.Got.{Got}
+use Rattle.luspemaro.specs.declared.calls.Unsent.{Unsent}
 use Rattle.luspemaro.specs.declared.calls.Got.TheVariants.{Bytes}
-use Rattle.luspemaro.specs.declared.calls.Sent.{Sent}
+use Rattle.luspemaro.specs.Calling.{GotSome, Sent, is_whole, Sends}
 use Rattle.luspemaro.specs.declared.feeding.Turn.{Turn}
 use Rattle.luspemaro.specs.declared.serving.Place.{Place}
 use Rattle.luspemaro.specs.declared.serving.Round.{Round}
-use Rattle.luspemaro.specs.Calling.{GotSome, Sends}
 use Rattle.luspemaro.proofs.TurnLaws.{frames_append}
 use Rattle.luspemaro.proofs.PartLaws.{through_none, through_part, through_append, in_turn_says}
 use Rattle.luspemaro.specs.Serving.{place_made, Sized, frames_in, Turns, Rounds, Serves, Ends, ReadsOn, Memory, memory, HoldsIn, Part, input_of}
@@ -27,6 +28,11 @@ got {room} x e = subst (GotSome room) e x
 -- a ready memory has room for a line
 pub room_of : (d : Lent) (line : List ℕ) (st : State) → ready_in d line st ≡ true → 32771 ≤ length d.out
 room_of d line st h = (sizes (length d.table) (length d.records) (length d.namespaces) (length line) (length d.out) st h).out
+
+-- what no error came of was sent whole
+pub whole_by : (r : Sent) → ((u : Unsent) → r ≡ Err u → ⊥) → is_whole r ≡ true
+whole_by (Ok n) h = refl
+whole_by (Err u) h = absurd (h u refl)
 
 -- what was fed was sent
 pub rounds : {bytes : List ℕ} {d e : Lent} {line line' : List ℕ} {st : State} {t : Turn} {sent : Sent} → Turns bytes d e line line' st t →
@@ -100,7 +106,7 @@ module _ {bytes : List ℕ} {d : Lent} {line : List ℕ} {st : State} {f : ℕ} 
   along_takes less x = (omega (arith, x.inside, left_length), x.onward (omega (arith, left_length)))
 
   -- a round whose answers were sent whole is a part more
-  pub along_more : (e' : Lent) (line'' : List ℕ) (r : Round) → at < length bytes → Rounds left e e' line' line'' st' r → r.sent.whole ≡ true →
+  pub along_more : (e' : Lent) (line'' : List ℕ) (r : Round) → at < length bytes → Rounds left e e' line' line'' st' r → is_whole r.sent ≡ true →
       length e'.table ≡ length e.table → length e'.records ≡ length e.records → length e'.namespaces ≡ length e.namespaces →
       length line'' ≡ length line' → length e'.out ≡ length e.out → (f'' : ℕ) → f'' ≡ min (f' + r.frames) (2 ^ 64 - 1) →
       Along bytes d line st f e' line'' r.state f'' (at + r.used)
@@ -162,7 +168,7 @@ module _ (d : Lent) (line : List ℕ) (p : Place) (o : List ℕ) (r : ready_in d
   ready_then =
       subst (λ (n : ℕ). ready (length d.table) (length d.records) (length d.namespaces) (length line) n p.state ≡ true) (sym same) r
 
-  pub reads_end : (frames : ℕ) (sent : Sent) → Ends o p.state sent → sent.whole ≡ true →
+  pub reads_end : (frames : ℕ) (sent : Sent) → Ends o p.state sent → is_whole sent ≡ true →
       ReadsOn d then line line p (place_made p.state frames false false)
   reads_end frames sent e w =
       record {
@@ -228,8 +234,8 @@ goes_on_lem false e = refl
 
 pub stands_on : {d₀ d e : Lent} {line₀ line line' : List ℕ} {p r : Place} {turns : ℕ} → Stands (memory d₀ line₀ start_is) d line p turns →
     p.more ≡ true →
-    0 < turns → ReadsOn d e line line' p r → Stands (memory d₀ line₀ start_is) e line' r (turns - 1)
-stands_on {r = r} st m less x =
+    (rest : ℕ) → turns ≡ rest + 1 → ReadsOn d e line line' p r → Stands (memory d₀ line₀ start_is) e line' r rest
+stands_on {r = r} st m rest less x =
     let before = st.going m in
     record {
       going =
@@ -238,7 +244,7 @@ stands_on {r = r} st m less x =
             before.0 ++ b.0,
             (
               through_append before.1.0 (b.1.1.answers (goes_on_lem r.failed (sym k ∙ b.1.1.onward))),
-              omega (arith, before.1.1, b.1.0, length-append before.0 b.0),
+              omega (arith, before.1.1, b.1.0, length-append before.0 b.0, less),
             ),
           );
       ended = λ k f. ran before.1.0 (x.ends k f);

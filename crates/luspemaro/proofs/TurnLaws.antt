@@ -1,5 +1,6 @@
 -- Laws of bytes that are fed frame by frame, their answers gathered in one output: as the loop of `feed_all` meets them, and where it
 -- ends. Rests on session's LineLaws, FeedLaws and Cut, and on listing_rules' InputCut.
+use Rattle.std.specs.Prelude.{Option, Some, None}
 use Rattle.listing_rules.proofs.Prelude.{◌∙◌, ◌≡◌, ap, refl, subst, sym, Bool, cond, false, true, ◌⊎◌, inl, inr, List, [], ◌++◌, ◌∷◌, ◌*◌, ◌+◌, ◌-◌}
 use Rattle.listing_rules.proofs.Prelude.{◌<◌, ◌≤◌, suc, ℕ, arith, eqb, drop, get_or, length, length-append, length-drop, take, get_or-drop}
 use Rattle.listing_rules.proofs.Prelude.{length-take-le, take-add, take_all, take-append-add, take-append-le}
@@ -8,8 +9,6 @@ use Rattle.listing_rules.specs.Frames.{Session, Fed as Came, behind, fed_all}
 use Rattle.listing_rules.proofs.InputCut.{fed_all_append}
 use Rattle.session.specs.declared.State.{State}
 use Rattle.session.specs.declared.Taken.{Taken as Took}
-use Rattle.session.specs.declared.Fed.{Fed}
-use Rattle.session.specs.declared.Fed.TheVariants.{Taken, Refused}
 use Rattle.kept_table.specs.Kept.{Lent, lent}
 use Rattle.session.specs.Feeding.{ready_in, Holds, through_line, Feeds, FeedIs}
 use Rattle.session.proofs.LineLaws.{through_inside, through_less}
@@ -132,13 +131,13 @@ module _ {bytes : List ℕ} {d : Lent} {line : List ℕ} {st : State} {t w n o l
       ready_again (length t) (length w) (length n) (length l) (length room_left) st₁
       (record { table = z.table; records = z.records; namespaces = z.namespaces; line = z.line; out = omega (arith, room_length); rows = z.rows; entries = z.entries; digits = z.digits })
 
-  pub dead : (e : Lent) (l' : List ℕ) (r : Fed) → 32771 ≤ length o - written → FeedIs left (lent t w n room_left) e l l' st₁ r → r ≡ Refused → ⊥
-  dead e l' r h f q = never_refused left (lent t w n room_left) e l l' st₁ (still_ready h) (subst (λ (x : Fed). FeedIs left (lent t w n room_left) e l l' st₁ x) q f)
+  pub dead : (e : Lent) (l' : List ℕ) (r : Option Took) → 32771 ≤ length o - written → FeedIs left (lent t w n room_left) e l l' st₁ r → r ≡ None → ⊥
+  dead e l' r h f q = never_refused left (lent t w n room_left) e l l' st₁ (still_ready h) (subst (λ (x : Option Took). FeedIs left (lent t w n room_left) e l l' st₁ x) q f)
 
-  module _ (t' w' n' p l' : List ℕ) (x : Fed) (r : Took) (more : used < length bytes) (room : 32771 ≤ length o - written)
-      (answer : FeedIs left (lent t w n room_left) (lent t' w' n' p) l l' st₁ x) (known : x ≡ Taken r) where
+  module _ (t' w' n' p l' : List ℕ) (x : Option Took) (r : Took) (more : used < length bytes) (room : 32771 ≤ length o - written)
+      (answer : FeedIs left (lent t w n room_left) (lent t' w' n' p) l l' st₁ x) (known : x ≡ Some r) where
     f : Feeds left (lent t w n room_left) (lent t' w' n' p) l l' st₁ r
-    f = (subst (λ (y : Fed). FeedIs left (lent t w n room_left) (lent t' w' n' p) l l' st₁ y) known answer).1
+    f = (subst (λ (y : Option Took). FeedIs left (lent t w n room_left) (lent t' w' n' p) l l' st₁ y) known answer).1
 
     -- it takes a byte at least, and none behind the last
     pub takes : (used + r.used ≤ length bytes) × (0 < r.used)

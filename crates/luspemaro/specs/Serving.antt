@@ -5,7 +5,7 @@ use Rattle.listing_rules.specs.Frames.{Session, Fed, start, fed_all, at_end, pro
 use Rattle.session.specs.declared.State.{State}
 use Rattle.kept_table.specs.Kept.{Lent}
 use Rattle.session.specs.Feeding.{start_is, ready_in, Holds}
-use Rattle.luspemaro.specs.declared.calls.Sent.{Sent}
+use Rattle.luspemaro.specs.Calling.{Sent, sent_bytes, is_whole}
 use Rattle.luspemaro.specs.declared.feeding.Turn.{Turn}
 use Rattle.luspemaro.specs.declared.serving.Place.{Place}
 use Rattle.luspemaro.specs.declared.serving.Round.{Round}
@@ -56,8 +56,8 @@ pub record Rounds (bytes : List ℕ) (d e : Lent) (line line' : List ℕ) (st : 
   pub inside : r.used ≤ length bytes
   pub holds : (s : Session) → Holds d line st s → Holds e line' r.state (fed_all s (take r.used bytes)).session
   pub sent :
-      r.sent.whole ≡ true
-      → (s : Session) → Holds d line st s → take r.sent.bytes e.out ≡ (fed_all s (take r.used bytes)).output
+      is_whole r.sent ≡ true
+      → (s : Session) → Holds d line st s → take (sent_bytes r.sent) e.out ≡ (fed_all s (take r.used bytes)).output
   pub frames : r.frames ≡ frames_in (take r.used bytes)
   pub onward : 0 < length bytes → 0 < r.used
   pub ready_on : ready_in e line' r.state ≡ true
@@ -82,14 +82,14 @@ pub record Part : Type 0 where
 
 -- what was sent of a part: the first bytes of the output
 abbrev pub sent_of : Part → List ℕ
-sent_of x = take x.sent.bytes x.left.areas.out
+sent_of x = take (sent_bytes x.sent) x.left.areas.out
 
 -- The part was answered over the memory `m`: whatever session that held, it holds the one after the part's bytes then, and their answers
 -- were sent whole.
 pub record Answers (m : Memory) (x : Part) : Type 0 where
   pub holds : (s : Session) → HoldsIn m s → HoldsIn x.left (fed_all s x.bytes).session
   pub says : (s : Session) → HoldsIn m s → sent_of x ≡ (fed_all s x.bytes).output
-  pub whole : x.sent.whole ≡ true
+  pub whole : is_whole x.sent ≡ true
 
 -- Parts answered one after the other, the newest first: the memory after them, and that each was answered over what the one before left.
 abbrev pub left_by : Memory → List Part → Memory
@@ -127,14 +127,14 @@ pub record Serves (bytes : List ℕ) (d e : Lent) (line line' : List ℕ) (p r :
 -- took that.
 abbrev pub Ends : List ℕ → State → Sent → Type 0
 Ends p st r =
-    r.whole ≡ true → (d : Lent) (line : List ℕ) (s : Session) → Holds d line st s → take r.bytes p ≡ at_end s
+    is_whole r ≡ true → (d : Lent) (line : List ℕ) (s : Session) → Holds d line st s → take (sent_bytes r) p ≡ at_end s
 
 -- The input ended over the memory `m`, which is `n` now: it holds the same session, and what that has the end say was sent whole.
 pub record Finished (m n : Memory) : Type 0 where
   pub sent : Sent
   pub holds : (s : Session) → HoldsIn m s → HoldsIn n s
-  pub says : (s : Session) → HoldsIn m s → take sent.bytes n.areas.out ≡ at_end s
-  pub whole : sent.whole ≡ true
+  pub says : (s : Session) → HoldsIn m s → take (sent_bytes sent) n.areas.out ≡ at_end s
+  pub whole : is_whole sent ≡ true
 
 -- One read. The program reads on only after bytes, one at least, that were all answered; without a failure it stops reading only at the
 -- end of the input, which was answered.
@@ -152,7 +152,7 @@ pub record Ran (m n : Memory) (more : Bool) : Type 0 where
   pub holds : HoldsIn n (fed_all start (input_of parts)).session
   pub end :
       more ≡ false
-      → (sent : Sent) × ((sent.whole ≡ true) × (all_sent parts ++ take sent.bytes n.areas.out ≡ program_output (input_of parts)))
+      → (sent : Sent) × ((is_whole sent ≡ true) × (all_sent parts ++ take (sent_bytes sent) n.areas.out ≡ program_output (input_of parts)))
   pub long : more ≡ true → 2 ^ 64 - 1 ≤ length (input_of parts)
 
 abbrev pub Runs : Lent → Lent → List ℕ → List ℕ → Place → Type 0

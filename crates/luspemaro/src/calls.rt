@@ -1,10 +1,10 @@
 // The calls of the system, made again where they were interrupted or would have blocked.
 
-ghost use Rattle.std.specs.Prelude.{◌^◌, ◌<◌, ◌≤◌, ◌≡◌, pos, negsuc, drop, length};
+ghost use Rattle.std.specs.Prelude.{◌≤◌, ◌≡◌, false, pos, drop, length, Ok, is_ok};
 ghost use Rattle.std.specs.Result.{ForOk, ForErr};
-ghost use Rattle.io.specs.Counts.{IsPrefixLen, clamp_len};
-ghost use Rattle.luspemaro.specs.declared.calls.Got.TheVariants.{End, Failed};
-ghost use Rattle.luspemaro.specs.Calling.{is_repeated, Moved, Fails, GotSome, Leaves, Sends};
+ghost use Rattle.io.specs.Counts.{IsPrefixLen};
+ghost use Rattle.luspemaro.specs.declared.calls.Got.TheVariants.{End};
+ghost use Rattle.luspemaro.specs.Calling.{is_repeated, Moved, Fails, GotSome, Takes, Sends};
 
 use std::io::{Error, Read, Write};
 use std::thread;
@@ -27,19 +27,11 @@ pub(crate) enum Got {
     Failed(i32),
 }
 
-// How many bytes the system took of those to be written, and whether they were all; if not, the error.
+// Bytes that were not all written: how many the system took, and the error.
 #[derive(Clone, Copy)]
-pub(crate) struct Sent {
+pub(crate) struct Unsent {
     pub bytes: usize,
-    pub whole: bool,
     pub error: i32,
-}
-
-// What the system answered to a call: how many bytes it moved, or -1 and the error.
-#[derive(Clone, Copy)]
-struct Called {
-    answer: isize,
-    error: i32,
 }
 
 // Waits a thousandth of a second.
@@ -58,30 +50,23 @@ fn is_to_be_repeated(rt: &HostRuntime, error: i32) -> bool
     error == EINTR
 }
 
-// The answer of a call that was handed so many bytes, as the system gives it: the very count, or -1.
-fn answer_of(moved: std::io::Result<usize>, most: usize) -> Called
-    requires within { ForOk moved (λ n. n ≤ most) }
-    requires small { most < 2 ^ 63 }
-    ensures bounded { Moved most result.answer }
-    ensures count { ForOk moved (λ n. result.answer ≡ pos n) }
-    ensures failed { ForErr moved (λ e. result.answer ≡ negsuc 0) }
+// The answer of a call that was handed so many bytes: how many it moved, or its error.
+fn answer_of(moved: std::io::Result<usize>, most: usize) -> Result<usize, i32>
+    requires { ForOk moved (λ n. n ≤ most) }
+    ensures bounded { Moved most result }
+    ensures count { ForOk moved (λ n. result ≡ Ok n) }
+    ensures failed { ForErr moved (λ e. is_ok result ≡ false) }
 {
     match moved {
-        Ok(n) => Called {
-            answer: n as isize,
-            error: 0,
-        },
-        Err(e) => Called {
-            answer: -1,
-            error: e.raw_os_error().unwrap_or(0),
-        },
+        Ok(n) => Ok(n),
+        Err(e) => Err(e.raw_os_error().unwrap_or(0)),
     }
 }
 
 // One call of the system's read. No contract says what a descriptor is: that it is standard input is asked of the caller.
-fn read_from(rt: &HostRuntime, descriptor: i32, chunk: &mut [u8]) -> Called
+fn read_from(rt: &HostRuntime, descriptor: i32, chunk: &mut [u8]) -> Result<usize, i32>
     requires { descriptor ≡ pos 0 }
-    ensures { Moved (length chunk.old) result.answer }
+    ensures { Moved (length chunk.old) result }
 {
     let most = chunk.len();
     let moved = rt.stdin().read(chunk);
@@ -89,9 +74,9 @@ fn read_from(rt: &HostRuntime, descriptor: i32, chunk: &mut [u8]) -> Called
 }
 
 // One call of the system's write, to standard output alone.
-fn write_to(rt: &HostRuntime, descriptor: i32, bytes: &[u8]) -> Called
+fn write_to(rt: &HostRuntime, descriptor: i32, bytes: &[u8]) -> Result<usize, i32>
     requires { descriptor ≡ pos 1 }
-    ensures { Moved (length bytes.now) result.answer }
+    ensures { Moved (length bytes.now) result }
 {
     if descriptor == STDOUT_FILENO {
         let moved = rt.stdout().write(bytes);
@@ -102,109 +87,95 @@ fn write_to(rt: &HostRuntime, descriptor: i32, bytes: &[u8]) -> Called
 }
 
 // A read that answers 0 has met the end of the input.
-fn end_of(got: isize) -> Got
-    requires { got ≡ pos 0 }
+fn end_of(moved: Result<usize, i32>) -> Got
+    requires { moved ≡ Ok 0 }
     ensures { result ≡ End }
 {
     Got::End
 }
 
-// A read is given up only if it failed, by an error after which it is not to be made again.
-fn give_up(got: isize, error: i32) -> Got
-    requires { Fails got error }
-    ensures { result ≡ Failed error }
+// A call is given up only if it failed, by an error after which it is not to be made again.
+fn given_up(moved: Result<usize, i32>, error: i32) -> i32
+    requires { Fails moved error }
+    ensures { result ≡ error }
 {
-    Got::Failed(error)
+    error
 }
 
 // One read, of a byte or more. A loop has to end: the tries are more than any machine makes.
 pub(crate) fn read_some(rt: &HostRuntime, chunk: &mut [u8]) -> Got
     ensures { GotSome (length chunk.old) result }
 {
-    let mut tries = u64::MAX;
-    while 0 < tries {
-        let call = read_from(rt, STDIN_FILENO, chunk);
-        let got = call.answer;
-        if 0 < got {
-            return Got::Bytes(io::count(got, chunk));
+    for _ in 0..u64::MAX {
+        let moved = read_from(rt, STDIN_FILENO, chunk);
+        match moved {
+            Ok(n) => {
+                if 0 < n {
+                    return Got::Bytes(n);
+                }
+                return end_of(moved);
+            },
+            Err(error) => {
+                if !is_to_be_repeated(rt, error) {
+                    return Got::Failed(given_up(moved, error));
+                }
+            },
         }
-        if got == 0 {
-            return end_of(got);
-        }
-        let error = call.error;
-        if !is_to_be_repeated(rt, error) {
-            return give_up(got, error);
-        }
-        tries -= 1;
     }
     Got::Failed(EAGAIN)
 }
 
-// The bytes after those that a write took, by its answer.
-fn left_of(bytes: &[u8], put: isize) -> &[u8]
-    ensures { result.now ≡ drop (clamp_len put (length bytes.now)) bytes.now }
+// One write, which takes a byte or more: how many it took, or the error by which it was given up. A write that takes nothing and does
+// not fail would have blocked.
+fn write_some(rt: &HostRuntime, bytes: &[u8]) -> Result<usize, i32>
+    ensures { Takes (length bytes.now) result }
 {
-    let n = io::count(put, bytes);
-    &bytes[n..]
-}
-
-// A write is given up only if it failed so, too: all its bytes are left.
-fn all_left(bytes: &[u8], put: isize, error: i32) -> &[u8]
-    requires { Fails put error }
-    ensures { result.now ≡ bytes.now }
-{
-    bytes
-}
-
-// One write, which takes a byte or more: the bytes that are left after it, or all where it failed, and then its error. A write that
-// takes nothing and does not fail would have blocked.
-fn write_some<'a>(rt: &HostRuntime, bytes: &'a [u8], error: &mut i32) -> &'a [u8]
-    ensures { Leaves bytes.now result.now }
-{
-    let mut tries = u64::MAX;
-    while 0 < tries {
-        let call = write_to(rt, STDOUT_FILENO, bytes);
-        let put = call.answer;
-        if 0 < put {
-            return left_of(bytes, put);
+    for _ in 0..u64::MAX {
+        let moved = write_to(rt, STDOUT_FILENO, bytes);
+        match moved {
+            Ok(taken) => {
+                if 0 < taken {
+                    return Ok(taken);
+                }
+                pause(rt);
+            },
+            Err(reason) => {
+                if !is_to_be_repeated(rt, reason) {
+                    return Err(given_up(moved, reason));
+                }
+            },
         }
-        if put == 0 {
-            pause(rt);
-        } else {
-            let reason = call.error;
-            if !is_to_be_repeated(rt, reason) {
-                *error = reason;
-                return all_left(bytes, put, reason);
-            }
-        }
-        tries -= 1;
     }
-    bytes
+    Err(EAGAIN)
 }
 
-// Writes the first bytes of `out`, in as many calls as it takes: each is handed what the one before has left.
-pub(crate) fn send(rt: &HostRuntime, out: &[u8], written: usize) -> Sent
+// The bytes after those that a write took.
+fn left_of(bytes: &[u8], taken: usize) -> &[u8]
+    requires { taken ≤ length bytes.now }
+    ensures { result.now ≡ drop taken bytes.now }
+{
+    &bytes[taken..]
+}
+
+// Writes the first bytes of `out`, in as many calls as it takes: each is handed what the one before has left. All were taken, or so
+// many until a write failed.
+pub(crate) fn send(rt: &HostRuntime, out: &[u8], written: usize) -> Result<usize, Unsent>
     requires { written ≤ length out.now }
     ensures { Sends written result }
 {
-    let mut error = EAGAIN;
     let mut rest = &out[..written];
+
+    // A `while`: each turn leaves as many bytes less as the system took.
     while 0 < rest.len() {
-        let left = write_some(rt, rest, &mut error);
-        if rest.len() <= left.len() {
-            return Sent {
-                bytes: written - rest.len(),
-                whole: false,
-                error,
-            };
+        match write_some(rt, rest) {
+            Ok(n) => rest = left_of(rest, n),
+            Err(error) => {
+                let bytes = written - rest.len();
+                return Err(Unsent { bytes, error });
+            },
         }
-        rest = left;
     }
-    Sent {
-        bytes: written,
-        whole: true,
-        error: 0,
-    }
+    Ok(written)
 }
 
 // One line on standard error: what failed, the number of the frame, and why, as the system puts it.
@@ -233,14 +204,11 @@ fn put_reason(text: &mut [u8], error: i32) -> usize {
 
 // Where the number begins that ends the first n bytes of the text, as " (os error 28)" does; n where there is none.
 fn before_number(text: &[u8], n: usize) -> usize {
-    let mut k = at_most(n, text);
-    while 0 < k {
-        k -= 1;
-        if text[k] == b'(' {
-            return k.saturating_sub(1);
-        }
+    let front = &text[..at_most(n, text)];
+    match front.iter().rposition(|b| *b == b'(') {
+        Some(k) => k.saturating_sub(1),
+        None => n,
     }
-    n
 }
 
 // A number of the text's bytes: n, or all of them.

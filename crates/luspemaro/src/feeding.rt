@@ -6,7 +6,7 @@ ghost use Rattle.session.specs.Feeding.{ready_in};
 ghost use Rattle.luspemaro.specs.Serving.{turn_is, ends_frame, Turns};
 
 use octets::LF;
-use session::{Fed, MAX_LINE, State, feed};
+use session::{MAX_LINE, State, feed};
 
 // The state after the bytes that were taken, how many they were, how many frames ended in them, and how many bytes of output lie at
 // the front of `out`.
@@ -39,13 +39,15 @@ pub(crate) fn feed_all(
     let mut used = 0;
     let mut frames = 0;
     let mut written = 0;
+
+    // A `while`: each turn takes as many bytes as `feed` did, to its first line feed.
     while used < bytes.len() {
         if out.len() - written < MAX_LINE {
             return turn_of(state, used, frames, written);
         }
         let left = &bytes[used..];
         let rest = &mut out[written..];
-        let Fed::Taken(taken) = feed(state, left, table, records, namespaces, line, rest) else {
+        let Some(taken) = feed(state, left, table, records, namespaces, line, rest) else {
             return turn_of(state, used, frames, written);
         };
         state = taken.state;

@@ -19,45 +19,12 @@ mod calls;
 mod feeding;
 mod serving;
 
-ghost use Rattle.std.specs.Prelude.{◌≡◌, length};
 ghost use Rattle.kept_table.specs.Kept.{lent};
 ghost use Rattle.luspemaro.specs.Serving.{Runs, Sized};
 
 use kept_table::MAX_NUMBERS;
+use octets::filled;
 use serving::{Place, read_on};
-
-// The areas in document 01's sizes: stored bytes 16,384 and 1,024, digits 4,102.
-fn table_area() -> [u8; 16384]
-    ensures { 16384 ≡ length result }
-{
-    [0; 16384]
-}
-
-// "The program keeps 512 records"; and a summary for each.
-fn records_area() -> [u64; MAX_NUMBERS]
-    ensures { 1024 ≡ length result }
-{
-    [0u64; MAX_NUMBERS]
-}
-
-fn namespaces_area() -> [u8; 1024]
-    ensures { 1024 ≡ length result }
-{
-    [0; 1024]
-}
-
-fn digits_area() -> [u8; 4102]
-    ensures { 4102 ≡ length result }
-{
-    [0; 4102]
-}
-
-// Room for the longest line four times, so that a read's answers mostly go out together.
-fn output_area() -> [u8; 131084]
-    ensures { 131084 ≡ length result }
-{
-    [0; 131084]
-}
 
 // The whole input. A loop has to end: the turns are more than any input has bytes.
 fn run(
@@ -75,23 +42,24 @@ fn run(
         line.old line.new result }
 {
     let mut place = Place::start();
-    let mut turns = u64::MAX;
-    while 0 < turns {
+    for turn in 0..u64::MAX {
         if !place.more {
             break;
         }
         place = read_on(rt, place, table, records, namespaces, line, out);
-        turns -= 1;
     }
     place
 }
 
 fn main(rt: HostRuntime) {
-    let mut table = table_area();
-    let mut records = records_area();
-    let mut namespaces = namespaces_area();
-    let mut line = digits_area();
-    let mut out = output_area();
+    // Document 01's sizes: stored bytes 16,384 and 1,024, digits 4,102; "the program keeps 512 records", and a summary for each.
+    let mut table: [u8; 16384] = filled(0);
+    let mut records: [u64; MAX_NUMBERS] = filled(0);
+    let mut namespaces: [u8; 1024] = filled(0);
+    let mut line: [u8; 4102] = filled(0);
+
+    // Room for the longest line four times, so that a read's answers mostly go out together.
+    let mut out: [u8; 131084] = filled(0);
     run(
         &rt,
         &mut table,

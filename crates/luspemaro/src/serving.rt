@@ -5,7 +5,7 @@ ghost use Rattle.kept_table.specs.Kept.{lent};
 ghost use Rattle.session.specs.Feeding.{start_is, ready_in};
 ghost use Rattle.luspemaro.specs.Serving.{place_made, Rounds, Serves, Ends, ReadsOn};
 
-use crate::calls::{Got, Sent, read_some, send, tell};
+use crate::calls::{Got, Unsent, read_some, send, tell};
 use crate::feeding::feed_all;
 use session::{State, finish};
 
@@ -34,7 +34,7 @@ struct Round {
     state: State,
     used: usize,
     frames: usize,
-    sent: Sent,
+    sent: Result<usize, Unsent>,
 }
 
 // As many bytes as one output has room for, fed and answered.
@@ -85,13 +85,14 @@ fn serve(
     let mut state = place.state;
     let mut frames = place.frames;
     let mut at = 0;
+
+    // A `while`: each turn takes as many bytes as the output had room for.
     while at < bytes.len() {
         let left = &bytes[at..];
         let round = answer_some(rt, state, left, table, records, namespaces, line, out);
         state = round.state;
-        let sent = round.sent;
-        if !sent.whole {
-            return write_failed(rt, state, frames, sent);
+        if let Err(lost) = round.sent {
+            return write_failed(rt, state, frames, lost);
         }
         at += round.used;
         frames = octets::advance(frames, round.frames);
@@ -100,7 +101,7 @@ fn serve(
 }
 
 // The end of the input: what document 01 has it say goes out.
-fn answer_end(rt: &HostRuntime, state: State, out: &mut [u8]) -> Sent
+fn answer_end(rt: &HostRuntime, state: State, out: &mut [u8]) -> Result<usize, Unsent>
     requires { 32771 ≤ length out.old }
     ensures { Ends out.new state result }
 {
@@ -120,15 +121,14 @@ fn place_at(state: State, frames: usize, more: bool, failed: bool) -> Place
 }
 
 // Not all was sent: the frame after those that have ended is told.
-fn write_failed(rt: &HostRuntime, state: State, frames: usize, sent: Sent) -> Place
-    requires { sent.whole ≡ false }
+fn write_failed(rt: &HostRuntime, state: State, frames: usize, unsent: Unsent) -> Place
     ensures { result ≡ place_made state frames false true }
 {
     tell(
         rt,
         b"luspemaro: write failed at frame ",
         octets::advance(frames, 1),
-        sent.error,
+        unsent.error,
     );
     place_at(state, frames, false, true)
 }
@@ -176,9 +176,8 @@ pub(crate) fn read_on(
             out,
         ),
         Got::End => {
-            let end = answer_end(rt, state, out);
-            if !end.whole {
-                return write_failed(rt, state, frames, end);
+            if let Err(unsent) = answer_end(rt, state, out) {
+                return write_failed(rt, state, frames, unsent);
             }
             place_at(state, frames, false, false)
         },

@@ -1,4 +1,5 @@
 -- A piece of a log taken line by line: where the loop of `feed` stands, and one law for each way through its body. Rests on HoldLaws and GatherLaws.
+use Rattle.std.specs.Prelude.{Option, Some}
 use Rattle.listing_rules.proofs.Prelude.{◌∙◌, ◌≡◌, ap, subst, sym, ◌&&◌, ◌||◌, false, true, ⊎_elim, List, [], ◌++◌, ◌∷◌, append_assoc, ◌*◌, ◌+◌, ◌-◌}
 use Rattle.listing_rules.proofs.Prelude.{◌<◌, ◌^◌, ◌≤◌, ℕ, arith, eqb, leb, ltb, drop, length, length-drop, length-take-le, take, take_all, take-add}
 use Rattle.listing_rules.proofs.Prelude.{take-append-drop, eqb-true, leb-true, ltb-true}
@@ -6,8 +7,6 @@ use Rattle.listing_rules.specs.Bytes.{all, LF}
 use Rattle.listing_rules.proofs.AnswerLines.{not_lf}
 use Rattle.listing_rules.proofs.Bools.{and_l, and_r, or_cases}
 use Rattle.replay.specs.declared.Replaying.{Replaying as State}
-use Rattle.replay.specs.declared.Fed.{Fed}
-use Rattle.replay.specs.declared.Fed.TheVariants.{Taken}
 use Rattle.replay.specs.Holding.{Memory, memory, Goes}
 use Rattle.replay.specs.Gathering.{before_feed, Gathered}
 use Rattle.replay.specs.Framing.{EndsFrame}
@@ -128,6 +127,6 @@ module _ {spaces chunk : List ℕ} {d : Memory} {st : State} {words sums area pe
               ∙ ap (λ (k : ℕ). take k chunk) n
 
 -- a piece that was taken
-pub feed_taken : {spaces chunk : List ℕ} {d e : Memory} {st su : State} {r : Fed} → r ≡ Taken su → ready_in d chunk st ≡ true → Goes spaces chunk d e st su
+pub feed_taken : {spaces chunk : List ℕ} {d e : Memory} {st su : State} {r : Option State} → r ≡ Some su → ready_in d chunk st ≡ true → Goes spaces chunk d e st su
     → FeedIs spaces chunk d e st r
-feed_taken {spaces} {chunk} {d} {e} {st} {su} {r} q h g = subst (λ (x : Fed). FeedIs spaces chunk d e st x) (sym q) (h, g)
+feed_taken {spaces} {chunk} {d} {e} {st} {su} {r} q h g = subst (λ (x : Option State). FeedIs spaces chunk d e st x) (sym q) (h, g)

@@ -1,5 +1,7 @@
 -- A frame of a log at its line feed, where a command is due and where an answer is. Rests on LogLaws of frames and on RunLaws.
-use Rattle.listing_rules.proofs.Prelude.{◌∙◌, ◌≡◌, ap, refl, subst, sym, Bool, cond, false, false≢true, true, Option, none, some, List, [], ◌∷◌, ◌+◌}
+use Rattle.std.specs.Prelude.{Option as Maybe, Some, None}
+use Rattle.std.specs.Option.{unwrap_or}
+use Rattle.listing_rules.proofs.Prelude.{◌∙◌, ◌≡◌, ap, refl, sym, Bool, cond, false, true, Option, none, some, List, [], ◌∷◌, ◌+◌}
 use Rattle.listing_rules.proofs.Prelude.{◌≤◌, suc, ℕ, arith, eqb, leb, drop, get_or, length, length-sets, length-take-le, sets, take, take_all, take_at}
 use Rattle.listing_rules.proofs.Prelude.{eq-eqb, ne_eqb, le-leb, leb-true, leb-false}
 use Rattle.listing_rules.specs.Bytes.{same, LF}
@@ -10,7 +12,7 @@ use Rattle.listing_rules.specs.Replay.{Replaying, waiting, stopped_at, frame_end
 use Rattle.octets.proofs.Puts.{front}
 use Rattle.frames.specs.declared.logs.Recorded.{Recorded}
 use Rattle.frames.specs.declared.logs.Recorded.TheVariants.{Answer, Number}
-use Rattle.frames.specs.Logged.{recorded_is, command_bytes, fitting_bytes, CommandRead}
+use Rattle.frames.specs.Logged.{recorded_is, command_bytes, fitting_bytes, length_some, CommandRead}
 use Rattle.frames.proofs.LogLaws.{log_long, command_small, answer_digits, recorded_long}
 use Rattle.replay.specs.declared.Replaying.{Replaying as State}
 use Rattle.replay.specs.declared.run.Ran.{Ran}
@@ -18,7 +20,7 @@ use Rattle.replay.specs.Holding.{Memory, memory, table_of, table_in, first_as, d
 use Rattle.replay.specs.Holding.{notes_after}
 use Rattle.replay.specs.Running.{agreeing, TableMemory, table, summed_in, TableKept, rerun_of, Runs}
 use Rattle.replay.proofs.HoldLaws.{kept_same}
-use Rattle.replay.specs.Framing.{is_answer, framed_is, Asks, Settles, EndsFrame}
+use Rattle.replay.specs.Framing.{framed_is, Asks, Settles, EndsFrame}
 
 -- a frame of which no more than 32,771 characters are held is read as the whole is
 cut_reads : (p : List ℕ) → read_logged (take 32771 p) ≡ read_logged p
@@ -124,10 +126,10 @@ asks_goes spaces words sums area pending line e st su goes none-due room x =
     fits = whole_fits text pending room
 
     state_due : su.due ≡ length (command_bytes f)
-    state_due = x.read.answer ∙ ap length fits
+    state_due = x.due ∙ ap length fits
 
     bytes : e ≡ sets pending 0 (command_bytes f)
-    bytes = x.read.bytes ∙ ap (sets pending 0) fits
+    bytes = x.bytes ∙ ap (sets pending 0) fits
 
     due_is : due_as (take st.due pending) ≡ command_due
     due_is = ap (λ (n : ℕ). due_as (take n pending)) none-due ∙ (unfold due_as in refl)
@@ -149,42 +151,50 @@ asks_goes spaces words sums area pending line e st su goes none-due room x =
     long = ap length bytes ∙ length-sets pending 0 (command_bytes f)
 
 -- Where an answer is due: what the frame records, as the code reads it.
-settled_stop : (f : Logged) → is_answer (recorded_is f) ≡ false → (spaces : List ℕ) (n reader : ℕ) (l : List ℕ) (first : Option ℕ) (m : Summed)
+settled_stop : (f : Logged) → recorded_is f ≡ None → (spaces : List ℕ) (n reader : ℕ) (l : List ℕ) (first : Option ℕ) (m : Summed)
     → frame_ended spaces n (answer_due reader l) first m f ≡ stopped_at (suc n) first m
-unfolding is_answer recorded_is frame_ended
+unfolding recorded_is frame_ended
 settled_stop (asked q k) h spaces n reader l first m = refl
 settled_stop unreadable h spaces n reader l first m = refl
-settled_stop (recorded (answered a)) h spaces n reader l first m = absurd (false≢true (sym h))
-settled_stop (recorded (refusal k)) h spaces n reader l first m = absurd (false≢true (sym h))
+settled_stop (recorded (answered a)) h spaces n reader l first m = cc
+settled_stop (recorded (refusal k)) h spaces n reader l first m = cc
 
-settled_run : (text : List ℕ) (f : Logged) → read_logged text ≡ f → is_answer (recorded_is f) ≡ true
+settled_run : (text : List ℕ) (f : Logged) → read_logged text ≡ f → (seen : Recorded) → recorded_is f ≡ Some seen
     → (spaces : List ℕ) (n reader : ℕ) (l : List ℕ) (first : Option ℕ) (m : Summed)
     → frame_ended spaces n (answer_due reader l) first m f
-    ≡ waiting (suc n) command_due (noted n (agreeing (rerun spaces m reader l).reply (recorded_is f) (drop 2 text)) first) (rerun spaces m reader l).left
-unfolding is_answer recorded_is frame_ended
-settled_run text (asked q k) e h spaces n reader l first m = absurd (false≢true h)
-settled_run text unreadable e h spaces n reader l first m = absurd (false≢true h)
-settled_run text (recorded (refusal j)) e h spaces n reader l first m =
-    ap (λ (b : Bool). waiting (suc n) command_due (noted n b first) (rerun spaces m reader l).left) (go (rerun spaces m reader l).reply)
+    ≡ waiting (suc n) command_due (noted n (agreeing (rerun spaces m reader l).reply seen (drop 2 text)) first) (rerun spaces m reader l).left
+unfolding recorded_is frame_ended
+settled_run text (asked q k) e seen h spaces n reader l first m = cc
+settled_run text unreadable e seen h spaces n reader l first m = cc
+settled_run text (recorded (refusal j)) e seen h spaces n reader l first m =
+    ap (λ (b : Bool). waiting (suc n) command_due (noted n b first) (rerun spaces m reader l).left)
+    (go (rerun spaces m reader l).reply ∙ ap (λ (r : Recorded). agreeing (rerun spaces m reader l).reply r (drop 2 text)) is)
   where
+    is : Number j ≡ seen
+    is = cc
+
     go : (r : Reply) → same_reply (refusal j) r ≡ agreeing r (Number j) (drop 2 text)
     go (refusal k) = unfold same_reply agreeing in refl
     go (answered a) = unfold same_reply agreeing in refl
-settled_run text (recorded (answered s)) e h spaces n reader l first m =
-    ap (λ (b : Bool). waiting (suc n) command_due (noted n b first) (rerun spaces m reader l).left) (go (rerun spaces m reader l).reply)
+settled_run text (recorded (answered s)) e seen h spaces n reader l first m =
+    ap (λ (b : Bool). waiting (suc n) command_due (noted n b first) (rerun spaces m reader l).left)
+    (go (rerun spaces m reader l).reply ∙ ap (λ (r : Recorded). agreeing (rerun spaces m reader l).reply r (drop 2 text)) is)
   where
+    is : Answer ≡ seen
+    is = cc
+
     go : (r : Reply) → same_reply (answered s) r ≡ agreeing r Answer (drop 2 text)
     go (refusal k) = unfold same_reply agreeing in refl
     go (answered a) = unfold same_reply agreeing in ap (λ (x : List ℕ). same x a) (sym (answer_digits text s e).1)
 
 -- a frame that records an answer has the two digits of its first byte
-pub answer_long : (text : List ℕ) → is_answer (recorded_is (read_logged text)) ≡ true → 2 ≤ length text
-answer_long text h = go (read_logged text) refl h
+pub answer_long : (text : List ℕ) (seen : Recorded) → recorded_is (read_logged text) ≡ Some seen → 2 ≤ length text
+answer_long text seen h = go (read_logged text) refl h
   where
-    go : (f : Logged) → read_logged text ≡ f → is_answer (recorded_is f) ≡ true → 2 ≤ length text
+    go : (f : Logged) → read_logged text ≡ f → recorded_is f ≡ Some seen → 2 ≤ length text
     go (recorded r) e h = recorded_long text r e
-    go (asked q k) e h = absurd (false≢true (unfold is_answer recorded_is in h))
-    go unreadable e h = absurd (false≢true (unfold is_answer recorded_is in h))
+    go (asked q k) e h = unfold recorded_is in cc
+    go unreadable e h = unfold recorded_is in cc
 
 -- the command that stands in some bytes
 due_command : (command : List ℕ) → 1 ≤ length command → due_as command ≡ answer_due (get_or command 0 0) (drop 1 command)
@@ -196,7 +206,7 @@ module _ (spaces command text : List ℕ) (d : TableMemory) (st : State) (filled
   abbrev settled : Replaying
   settled = frame_ended spaces st.frames (due_as command) (first_as st.first) (summed_in d st.rows) (read_logged text)
 
-  pub settles_stop : is_answer (recorded_is (read_logged text)) ≡ false → (su : State) → su ≡ framed_is st st.first 0 true st.rows →
+  pub settles_stop : recorded_is (read_logged text) ≡ None → (su : State) → su ≡ framed_is st st.first 0 true st.rows →
       Settles spaces command text d d st su
   unfolding stopped_at due_as stop_as
   settles_stop h su e =
@@ -213,12 +223,11 @@ module _ (spaces command text : List ℕ) (d : TableMemory) (st : State) (filled
           ap (λ (q : Due). frame_ended spaces st.frames q (first_as st.first) (summed_in d st.rows) (read_logged text)) (due_command command filled)
           ∙ settled_stop (read_logged text) h spaces st.frames (get_or command 0 0) (drop 1 command) (first_as st.first) (summed_in d st.rows)
 
-  pub settles_run : is_answer (recorded_is (read_logged text)) ≡ true → (e : TableMemory) (seen : Recorded) → seen ≡ recorded_is (read_logged text)
-      → (digits : List ℕ) → digits ≡ drop 2 text → (ran : Ran) → Runs spaces command seen digits st.rows d e ran
+  pub settles_run : (e : TableMemory) (seen : Recorded) → recorded_is (read_logged text) ≡ Some seen → (digits : List ℕ) → digits ≡ drop 2 text → (ran : Ran) → Runs spaces command seen digits st.rows d e ran
       → (first : ℕ) → first_as first ≡ noted st.frames ran.same (first_as st.first) → (su : State) → su ≡ framed_is st first 0 false ran.rows
       → Settles spaces command text d e st su
   unfolding waiting due_as stop_as
-  settles_run h e seen q digits p ran x first f su s =
+  settles_run e seen h digits p ran x first f su s =
       rw s (record {
         holds = λ pending line. rw is (record { frames = omega arith; due = refl; first = noted_first; stop = refl; left = sym x.left; partial = refl });
         kept = x.kept;
@@ -231,16 +240,16 @@ module _ (spaces command text : List ℕ) (d : TableMemory) (st : State) (filled
       came = rerun_of spaces command (summed_in d st.rows)
 
       agree : Bool
-      agree = agreeing came.reply (recorded_is (read_logged text)) (drop 2 text)
+      agree = agreeing came.reply seen (drop 2 text)
 
       is : settled ≡ waiting (suc st.frames) command_due (noted st.frames agree (first_as st.first)) came.left
       is =
           ap (λ (y : Due). frame_ended spaces st.frames y (first_as st.first) (summed_in d st.rows) (read_logged text)) (due_command command filled)
-          ∙ settled_run text (read_logged text) refl h spaces st.frames (get_or command 0 0) (drop 1 command) (first_as st.first) (summed_in d st.rows)
+          ∙ settled_run text (read_logged text) refl seen h spaces st.frames (get_or command 0 0) (drop 1 command) (first_as st.first) (summed_in d st.rows)
 
       noted_first : noted st.frames agree (first_as st.first) ≡ first_as first
       noted_first =
-          ap (λ (b : Bool). noted st.frames b (first_as st.first)) (sym (x.same ∙ (λ i. agreeing came.reply (q i) (p i)))) ∙ sym f
+          ap (λ (b : Bool). noted st.frames b (first_as st.first)) (sym (x.same ∙ ap (agreeing came.reply seen) p)) ∙ sym f
 
 pub settles_goes : (spaces words sums area words' sums' area' pending line : List ℕ) (st su : State) → st.stopped ≡ false → 1 ≤ st.due →
     st.due ≤ length pending
@@ -280,11 +289,21 @@ unfolding noted
 noted_now first frame agree e t h =
     first_some frame (λ z. omega (arith, h, z)) ∙ sym (ap (noted frame agree) (first_none first e) ∙ ap (λ (b : Bool). cond b none (some frame)) t)
 
+-- how many bytes the command has, or 0
+length_or : (xs : List ℕ) → unwrap_or (length_some xs) 0 ≡ length xs
+unfolding length_some
+length_or [] = refl
+length_or (x ∷ xs) = refl
+
 -- what the code's reading and its state come to
-pub asks_by : {text d e : List ℕ} {n : ℕ} {st su : State} → CommandRead text d e n → su ≡ framed_is st st.first n (eqb n 0) st.rows → Asks text d e st su
-asks_by {text} {d} {e} {n} {st} {su} r q =
-    let due_is : n ≡ su.due = sym (ap (λ (s : State). s.due) q) in
+pub asks_by : {text d e : List ℕ} {q : Maybe ℕ} {n : ℕ} {st su : State} → CommandRead text d e q → n ≡ unwrap_or q 0
+    → su ≡ framed_is st st.first n (eqb n 0) st.rows → Asks text d e st su
+asks_by {text} {d} {e} {q} {n} {st} {su} r w s =
+    let due_is : n ≡ su.due = sym (ap (λ (x : State). x.due) s) in
     record {
-      read = subst (λ (k : ℕ). CommandRead text d e k) due_is r;
-      state = q ∙ ap (λ (k : ℕ). framed_is st st.first k (eqb k 0) st.rows) due_is;
+      due =
+          sym due_is ∙ w ∙ ap (λ (x : Maybe ℕ). unwrap_or x 0) r.answer
+          ∙ length_or (fitting_bytes (length d) (command_bytes (read_logged text)));
+      bytes = r.bytes;
+      state = s ∙ ap (λ (k : ℕ). framed_is st st.first k (eqb k 0) st.rows) due_is;
     }

@@ -1,9 +1,13 @@
 -- The characters of a frame in a piece of a log: those before its first line feed, as the loop finds them, as they are gathered, and as document 02 takes
 -- them. Rests on HoldLaws.
+use Rattle.std.specs.Prelude.{Option as Maybe, Some, None}
+use Rattle.std.specs.Option.{unwrap_or}
+use Rattle.std.specs.List.{position_or_len}
+use Rattle.std.proofs.lemmas.List.Recursion.{is_position_or_len}
 use Rattle.listing_rules.proofs.Prelude.{◌∙◌, ◌≡◌, ap, refl, sym, Bool, cond, false, not, not-true, true, none, List, [], ◌++◌, ◌∷◌, append_assoc}
-use Rattle.listing_rules.proofs.Prelude.{append-nil, ◌*◌, ◌+◌, ◌-◌, ◌<◌, ◌≤◌, min, suc, ℕ, add-one, arith, eqb, leb, ltb, drop, drop_of_length-le}
-use Rattle.listing_rules.proofs.Prelude.{get_or, length, length-append, length-take, length-take-le, length-sets, set, sets, sets-eq, take, take_all}
-use Rattle.listing_rules.proofs.Prelude.{take-append-add, take-append-le, take_at, take-nil, drop-cons, eq-eqb, ne_eqb, eqb-true, ltb-true, ltb-false}
+use Rattle.listing_rules.proofs.Prelude.{append-nil, ◌*◌, ◌+◌, ◌-◌, ◌<◌, ◌≤◌, min, suc, ℕ, arith, eqb, leb, ltb, drop}
+use Rattle.listing_rules.proofs.Prelude.{length, length-append, length-take, length-take-le, length-sets, set, sets, sets-eq, take, take_all}
+use Rattle.listing_rules.proofs.Prelude.{take-append-add, take-append-le, take_at, take-nil, eqb-true, ltb-true, ltb-false}
 use Rattle.listing_rules.proofs.Prelude.{leb-true, leb-false}
 use Rattle.listing_rules.specs.Bytes.{all}
 use Rattle.listing_rules.specs.Replay.{Replaying, with_character, replay_on, replay_byte, replay_all}
@@ -15,19 +19,42 @@ use Rattle.replay.specs.Running.{table}
 use Rattle.replay.proofs.HoldLaws.{kept_same}
 use Rattle.replay.specs.Gathering.{before_feed, kept_of, with_gathered, Gathered}
 
--- the characters before the line feed, from a place on
-module _ (s : List ℕ) (i : ℕ) where
-  pub before_more : i < length s → (get_or s i 0 ≡ 10 → ⊥) → before_feed (drop i s) ≡ get_or s i 0 ∷ before_feed (drop (i + 1) s)
-  unfolding before_feed
-  before_more h e = rw (add-one, drop-cons s i 0 h, ne_eqb (get_or s i 0) 10 e)
+-- the characters before the line feed are as many as its place says
+before_count : (s : List ℕ) → length (before_feed s) ≡ position_or_len (λ c. eqb c 10) s
+unfolding before_feed
+before_count = is_position_or_len (λ s. length (before_feed s)) (λ c. eqb c 10) refl step
+  where
+    either : (b : Bool) (x : ℕ) (r : List ℕ) → length (cond b [] (x ∷ r)) ≡ cond b 0 (1 + length r)
+    either true x r = refl
+    either false x r = omega arith
 
-  pub before_feed_lem : i < length s → get_or s i 0 ≡ 10 → before_feed (drop i s) ≡ []
-  unfolding before_feed
-  before_feed_lem h e = rw (drop-cons s i 0 h, eq-eqb (get_or s i 0) 10 e)
+    step : (x : ℕ) (xs : List ℕ) → length (before_feed (x ∷ xs)) ≡ cond (eqb x 10) 0 (1 + length (before_feed xs))
+    step x xs = either (eqb x 10) x (before_feed xs)
 
-  pub before_end : length s ≤ i → before_feed (drop i s) ≡ []
-  unfolding before_feed
-  before_end h = rw (drop_of_length-le s h)
+pub before_inside : (s : List ℕ) → length (before_feed s) ≤ length s
+unfolding before_feed
+before_inside [] = omega arith
+before_inside (c ∷ t) = either (eqb c 10) (before_inside t)
+  where
+    either : (b : Bool) → length (before_feed t) ≤ length t → length (cond b [] (c ∷ before_feed t)) ≤ suc (length t)
+    either true h = omega arith
+    either false h = omega (arith, h)
+
+-- by the library's answer
+pub before_found : (s : List ℕ) (r : Maybe ℕ) (n : ℕ)
+    → r ≡ cond (ltb (position_or_len (λ c. eqb c 10) s) (length s)) (Some (position_or_len (λ c. eqb c 10) s)) None → n ≡ unwrap_or r (length s)
+    → n ≡ length (before_feed s)
+before_found s r n e q = q ∙ ap (λ (x : Maybe ℕ). unwrap_or x (length s)) e ∙ go (ltb place (length s)) refl ∙ sym (before_count s)
+  where
+    place : ℕ
+    place = position_or_len (λ c. eqb c 10) s
+
+    inside : place ≤ length s
+    inside = omega (arith, before_count s, before_inside s)
+
+    go : (b : Bool) → ltb place (length s) ≡ b → unwrap_or (cond b (Some place) None) (length s) ≡ place
+    go true h = refl
+    go false h = omega (arith, inside, ltb-false place (length s) h)
 
 -- a piece by its first line feed: the characters before it, itself, and the rest; or the characters alone
 pub before_plain : (s : List ℕ) → all not_lf (before_feed s) ≡ true

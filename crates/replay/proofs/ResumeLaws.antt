@@ -1,17 +1,15 @@
 -- A replay between two pieces as a state: memory holds the replay that the state resumes, and the state is its own again after the piece. Rests on
 -- FeedLaws.
+use Rattle.std.specs.Prelude.{Option, Some, None}
 use Rattle.listing_rules.proofs.Prelude.{◌∙◌, ◌≡◌, ap, refl, subst, sym, Bool, cond, false, true, none, some, List, [], ◌∷◌, ◌-◌, ◌<◌, ◌^◌, ◌≤◌, min}
 use Rattle.listing_rules.proofs.Prelude.{ℕ, arith, eqb, length, length-take, length-take-le, take, take_all, eqb-true}
 use Rattle.listing_rules.specs.Replay.{all_agree, Replaying, replay_all, replay_end}
 use Rattle.replay.specs.declared.Replaying.{Replaying as State}
-use Rattle.replay.specs.declared.Fed.{Fed}
-use Rattle.replay.specs.declared.Fed.TheVariants.{Taken, Refused}
 use Rattle.replay.specs.declared.verdict.Verdict.{Verdict}
-use Rattle.replay.specs.declared.verdict.Verdict.TheVariants.{Agrees}
 use Rattle.replay.specs.Holding.{Memory, table_in, first_as, due_as, stop_as, Holds, Notes, notes_of, notes_after, Goes}
 use Rattle.replay.specs.Reports.{verdict_is, Finishes}
 use Rattle.replay.specs.Feeding.{ready_in, FeedIs}
-use Rattle.replay.specs.Resuming.{first_number, due_length, has_stopped, state_of, resumed, Pieced, pieced, pieced_in, Resumes}
+use Rattle.replay.specs.Resuming.{first_number, due_length, has_stopped, state_of, resumed, Pieced, pieced, pieced_in, is_taken, verdict_then, state_then, Resumes}
 use Rattle.replay.proofs.FeedLaws.{Sized, sized}
 
 -- each number comes back
@@ -97,8 +95,8 @@ module _ (spaces piece : List ℕ) (d : Memory) (st : State) where
   so b h = unfold pieced in ap (λ (x : Bool). cond x taken refused) h
 
   -- a piece that is refused leaves all as it is
-  left_so : ready_in d piece st ≡ false → Resumes spaces piece d d st (record { taken = false; verdict = Agrees; state = st })
-  unfolding verdict_is
+  left_so : ready_in d piece st ≡ false → Resumes spaces piece d d st None
+  unfolding verdict_is is_taken verdict_then state_then
   left_so h =
       let w = so false h in
       record {
@@ -111,14 +109,15 @@ module _ (spaces piece : List ℕ) (d : Memory) (st : State) where
         kept = record { words_after_lem = refl; sums_after_lem = refl; words_long = refl; sums_long = refl; area_long = refl };
       }
 
-  module _ (e : Memory) (r : Fed) (fed : FeedIs spaces piece d e st r) where
-    pub piece_refused : r ≡ Refused → Resumes spaces piece d e st (record { taken = false; verdict = Agrees; state = st })
+  module _ (e : Memory) (r : Option State) (fed : FeedIs spaces piece d e st r) where
+    pub piece_refused : r ≡ None → Resumes spaces piece d e st None
     piece_refused q =
         let x = subst (FeedIs spaces piece d e st) q fed in
-        subst (λ (m : Memory). Resumes spaces piece d m st (record { taken = false; verdict = Agrees; state = st })) (sym x.1) (left_so x.0)
+        subst (λ (m : Memory). Resumes spaces piece d m st None) (sym x.1) (left_so x.0)
 
-    pub piece_taken : (su : State) → r ≡ Taken su → (v : Verdict) → Finishes su v
-        → Resumes spaces piece d e st (record { taken = true; verdict = v; state = su })
+    pub piece_taken : (su : State) → r ≡ Some su → (v : Verdict) → Finishes su v
+        → Resumes spaces piece d e st (Some (record { verdict = v; state = su }))
+    unfolding is_taken verdict_then state_then
     piece_taken su q v x =
         record {
           taken = sym (ap (λ (c : Pieced). c.taken) w);
@@ -130,7 +129,7 @@ module _ (spaces piece : List ℕ) (d : Memory) (st : State) where
           kept = g.kept;
         }
       where
-        y : FeedIs spaces piece d e st (Taken su)
+        y : FeedIs spaces piece d e st (Some su)
         y = subst (FeedIs spaces piece d e st) q fed
 
         g : Goes spaces piece d e st su

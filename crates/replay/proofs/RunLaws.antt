@@ -1,5 +1,7 @@
 -- One command run again: its reply beside the answer recorded, and what it leaves of the lent table. Rests on ReplayLaws, SummaryCommands and SummaryLengths
 -- of listing_rules.
+use Rattle.std.specs.Prelude.{Result, Ok, Err}
+use Rattle.octets.specs.declared.refusals.Refusal.{Refusal}
 use Rattle.listing_rules.proofs.Prelude.{◌∙◌, ◌≡◌, ap, refl, sym, Bool, ◌&&◌, false, false≢true, true, List, [], ◌∷◌, ◌++◌, map, ◌+◌, ◌-◌, ◌*◌, ◌/◌}
 use Rattle.listing_rules.proofs.Prelude.{◌%◌, ◌≤◌, min, ℕ, arith, div-div-eq-div-mul, drop, get_or, length, length-append, length-drop, length-map}
 use Rattle.listing_rules.proofs.Prelude.{length-take, take, take_at, drop_at, drop-drop, drop-paste, paste}
@@ -15,8 +17,8 @@ use Rattle.listing_rules.proofs.CommandLaws.{refusal_not, edit_stored_lem}
 use Rattle.listing_rules.proofs.SummaryCommands.{stranger_summed, disagrees_refused, reply_with, answer_passed}
 use Rattle.listing_rules.proofs.SummaryLengths.{edited_length}
 use Rattle.listing_rules.proofs.ReplayLaws.{not_accepted_leaves}
+use Rattle.octets.specs.Refusals.{numbered, number_of}
 use Rattle.octets.specs.Written.{written_is}
-use Rattle.octets.specs.declared.Written.{Written}
 use Rattle.records.specs.Words.{record_of}
 use Rattle.records.specs.Numbers.{summary_of}
 use Rattle.records.specs.Lent.{lent_of}
@@ -27,26 +29,26 @@ use Rattle.frames.specs.declared.logs.Recorded.{Recorded}
 use Rattle.replay.specs.Running.{agreeing, said_so, answer_length, table, summed_in, TableKept, rerun_of, Runs}
 
 -- by what the code knows of the reply and of the frame
-pub said_by_lem : {w v : Written} {f g : Recorded} {b : Bool} (answer digits : List ℕ) → w ≡ v → f ≡ g → b ≡ said_so v answer g digits → b ≡ said_so w answer f digits
+pub said_by_lem : {w v : Result ℕ Refusal} {f g : Recorded} {b : Bool} (answer digits : List ℕ) → w ≡ v → f ≡ g → b ≡ said_so v answer g digits → b ≡ said_so w answer f digits
 said_by_lem answer digits e q h = h ∙ sym (λ i. said_so (e i) answer (q i) digits)
 
 -- the server's answer lies in its buffer, and is the reply
-pub answer_fits : (r : Reply) {w : Written} (b a : List ℕ) → w ≡ written_is r → a ≡ buffer_after b r → answer_length w ≤ length a
+pub answer_fits : (r : Reply) (w : Result ℕ Refusal) (b a : List ℕ) → numbered w ≡ written_is r → a ≡ buffer_after b r → answer_length w ≤ length a
 unfolding answer_length written_is buffer_after
-answer_fits r b a e m = rw e (go r m)
-  where
-    go : (r : Reply) → a ≡ buffer_after b r → answer_length (written_is r) ≤ length a
-    go (refusal k) m = omega arith
-    go (answered x) m = omega (arith, ap length m, length-append x (drop (length x) b))
+answer_fits r (Err k) b a e m = omega arith
+answer_fits (refusal k) (Ok n) b a e m = cc
+answer_fits (answered x) (Ok n) b a e m = let z : n ≡ length x = cc in omega (arith, z, ap length m, length-append x (drop (length x) b))
 
-said_is : (r : Reply) (w : Written) (b a : List ℕ) (f : Recorded) (digits : List ℕ) → w ≡ written_is r → a ≡ buffer_after b r →
+said_is : (r : Reply) (w : Result ℕ Refusal) (b a : List ℕ) (f : Recorded) (digits : List ℕ) → numbered w ≡ written_is r → a ≡ buffer_after b r →
     said_so w a f digits ≡ agreeing r f digits
 unfolding said_so written_is buffer_after
-said_is r w b a f digits e m = ap (λ (v : Written). said_so v a f digits) e ∙ go r m
-  where
-    go : (r : Reply) → a ≡ buffer_after b r → said_so (written_is r) a f digits ≡ agreeing r f digits
-    go (refusal k) m = refl
-    go (answered x) m = ap (λ (l : List ℕ). agreeing (answered l) f digits) (ap (take (length x)) m ∙ take_at x (drop (length x) b) (length x) refl)
+said_is (refusal k) (Err j) b a f digits e m = let z : number_of j ≡ k = cc in ap (λ (n : ℕ). agreeing (refusal n) f digits) z
+said_is (refusal k) (Ok n) b a f digits e m = cc
+said_is (answered x) (Err j) b a f digits e m = cc
+said_is (answered x) (Ok n) b a f digits e m =
+    let z : n ≡ length x = cc in
+    ap (λ (l : List ℕ). agreeing (answered l) f digits)
+    (ap (λ (k : ℕ). take k a) z ∙ ap (take (length x)) m ∙ take_at x (drop (length x) b) (length x) refl)
 
 -- words after those that are lent stay
 behind_stays : {us vs : List ℕ} {lent start to : ℕ} → Between us vs lent start to → drop lent vs ≡ drop lent us
@@ -208,7 +210,7 @@ module _ (words sums area spaces command l answer : List ℕ) (rows : ℕ) (line
       ∙ ap (λ (c : SummedCommand). agreeing c.reply seen digits) as_rerun
 
   pub run_fits : answer_length done.written ≤ length answer'
-  run_fits = answer_fits here.reply answer answer' a.written a.bytes
+  run_fits = answer_fits here.reply done.written answer answer' a.written a.bytes
 
   pub runs : length area' ≡ length area → (seen : Recorded) (digits : List ℕ) (b : Bool) → b ≡ said_so done.written answer' seen digits
       → Runs spaces command seen digits rows (table words sums area) (table words' sums' area') (record { rows = done.count; same = b })

@@ -1,11 +1,10 @@
 -- A whole log is one piece of it: from the first state, which any memory holds, to the end. Rests on ReplayPieces of listing_rules.
+use Rattle.std.specs.Prelude.{Option, Some, None}
 use Rattle.listing_rules.proofs.Prelude.{◌∙◌, ◌≡◌, ap, refl, subst, sym, false≢true, true, List, ◌-◌, ◌<◌, ◌^◌, ◌≤◌, ℕ, arith, length, le-leb}
 use Rattle.listing_rules.proofs.Prelude.{lt-ltb}
 use Rattle.listing_rules.specs.Replay.{Replayed as Meant, Replaying, replay_start, replay_all, replay_end, replay, reporting}
 use Rattle.listing_rules.proofs.ReplayPieces.{replay_in_pieces}
 use Rattle.replay.specs.declared.Replaying.{Replaying as State}
-use Rattle.replay.specs.declared.Fed.{Fed}
-use Rattle.replay.specs.declared.Fed.TheVariants.{Taken, Refused}
 use Rattle.replay.specs.declared.verdict.Verdict.{Verdict}
 use Rattle.replay.specs.Holding.{Memory, memory, table_in, first_as, due_as, stop_as, Holds, Goes}
 use Rattle.replay.specs.Running.{table}
@@ -24,7 +23,7 @@ ready_start pending line chunk rows p l c = rw (le-leb 2050 pending p, le-leb 32
 
 module _ (spaces log words sums area pending line : List ℕ) (count : ℕ) (words' sums' area' pending' line' : List ℕ)
     (room : 2050 ≤ length pending) (long : 32771 ≤ length line) (few : length log < 2 ^ 64 - 1) (st : State) (begins : st ≡ start_is count)
-    (r : Fed) (fed : FeedIs spaces log (memory words sums area pending line) (memory words' sums' area' pending' line') st r) where
+    (r : Option State) (fed : FeedIs spaces log (memory words sums area pending line) (memory words' sums' area' pending' line') st r) where
   abbrev d : Memory
   d = memory words sums area pending line
 
@@ -37,10 +36,10 @@ module _ (spaces log words sums area pending line : List ℕ) (count : ℕ) (wor
   is_ready : ready_in d log (start_is count) ≡ true
   is_ready = ready_start (length pending) (length line) (length log) count room long few
 
-  pub never_refused : r ≡ Refused → ⊥
+  pub never_refused : r ≡ None → ⊥
   never_refused q = false≢true (sym (subst (FeedIs spaces log d e (start_is count)) q f).0 ∙ is_ready)
 
-  pub whole_taken : (su : State) → r ≡ Taken su → (v : Verdict) → Finishes su v →
+  pub whole_taken : (su : State) → r ≡ Some su → (v : Verdict) → Finishes su v →
       Replays spaces log count (table words sums area) (table words' sums' area') (record { verdict = v; count = su.rows })
   whole_taken su q v x =
       record {

@@ -1,7 +1,7 @@
 -- A log fed in pieces: a run of calls of `feed`. That no cut makes a difference to the verdict and to the table is proved in proofs/Cut.antt.
+use Rattle.std.specs.Prelude.{Some}
 use Rattle.std.specs.Prelude.{◌≡◌, List, [], ◌∷◌, map, take, ℕ}
 use Rattle.replay.specs.declared.Replaying.{Replaying as State}
-use Rattle.replay.specs.declared.Fed.TheVariants.{Taken}
 use Rattle.replay.specs.Holding.{Memory, table_in}
 use Rattle.replay.specs.Feeding.{FeedIs}
 
@@ -24,7 +24,7 @@ abbrev pub Calls : List ℕ → State → Memory → List Call → Type 0
 Calls spaces st d [] = Unit
 Calls spaces st d (x ∷ xs) =
     LentAgain st d x.before
-    × FeedIs spaces x.chunk x.before x.after st (Taken x.state)
+    × FeedIs spaces x.chunk x.before x.after st (Some x.state)
     × Calls spaces x.state x.after xs
 
 -- the pieces, and the state and the memory after the last of them

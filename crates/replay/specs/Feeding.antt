@@ -1,8 +1,7 @@
 -- What feeding a piece of a log promises.
+use Rattle.std.specs.Prelude.{Option, Some, None}
 use Rattle.std.specs.Prelude.{◌≡◌, List, Bool, true, false, ◌&&◌, ◌||◌, eqb, leb, ltb, length, ℕ, ◌-◌, ◌^◌}
 use Rattle.replay.specs.declared.Replaying.{Replaying as State}
-use Rattle.replay.specs.declared.Fed.{Fed}
-use Rattle.replay.specs.declared.Fed.TheVariants.{Taken, Refused}
 use Rattle.replay.specs.Holding.{Memory, Goes}
 
 -- no frame yet
@@ -21,6 +20,6 @@ abbrev pub ready_in : Memory → List ℕ → State → Bool
 ready_in d chunk st = ready (length d.pending) (length d.line) (length chunk) st
 
 -- It is refused exactly if memory and state are not ready, and then every byte stays.
-abbrev pub FeedIs : List ℕ → List ℕ → Memory → Memory → State → Fed → Type 0
-FeedIs spaces chunk d e st (Taken su) = (ready_in d chunk st ≡ true) × Goes spaces chunk d e st su
-FeedIs spaces chunk d e st Refused = (ready_in d chunk st ≡ false) × (e ≡ d)
+abbrev pub FeedIs : List ℕ → List ℕ → Memory → Memory → State → Option State → Type 0
+FeedIs spaces chunk d e st (Some su) = (ready_in d chunk st ≡ true) × Goes spaces chunk d e st su
+FeedIs spaces chunk d e st None = (ready_in d chunk st ≡ false) × (e ≡ d)

@@ -1,18 +1,12 @@
 -- A frame of a log at its line feed.
-use Rattle.std.specs.Prelude.{◌≡◌, List, [], ◌∷◌, Bool, true, false, eqb, ℕ, ◌+◌}
+use Rattle.std.specs.Prelude.{◌≡◌, List, [], ◌∷◌, Bool, eqb, length, ℕ, ◌+◌}
+use Rattle.std.proofs.lemmas.List.Edits.{sets}
 use Rattle.listing_rules.specs.Bytes.{LF}
 use Rattle.listing_rules.specs.Replay.{read_logged, frame_ended}
-use Rattle.frames.specs.declared.logs.Recorded.{Recorded}
-use Rattle.frames.specs.declared.logs.Recorded.TheVariants.{Answer, Number, Other}
-use Rattle.frames.specs.Logged.{CommandRead}
+use Rattle.frames.specs.Logged.{command_bytes, fitting_bytes}
 use Rattle.replay.specs.declared.Replaying.{Replaying as State}
 use Rattle.replay.specs.Holding.{Memory, memory, first_as, due_as, Holds, Goes}
 use Rattle.replay.specs.Running.{TableMemory, summed_in, TableKept}
-
-unfoldable pub is_answer : Recorded → Bool
-is_answer Answer = true
-is_answer (Number k) = true
-is_answer Other = false
 
 -- a state after one frame more
 abbrev pub framed_is : State → ℕ → ℕ → Bool → ℕ → State
@@ -21,7 +15,8 @@ framed_is st first due stopped rows =
 
 -- The frame `text` was read where a command is due; `pending` was `d` and is `e`.
 pub record Asks (text d e : List ℕ) (st su : State) : Type 0 where
-  pub read : CommandRead text d e su.due
+  pub due : su.due ≡ length (fitting_bytes (length d) (command_bytes (read_logged text)))
+  pub bytes : e ≡ sets d 0 (fitting_bytes (length d) (command_bytes (read_logged text)))
   pub state : su ≡ framed_is st st.first su.due (eqb su.due 0) st.rows
 
 -- The frame `text` was read where the answer to the command is due; the table was `d` and is `e`. Whatever lies in `pending` and in the line, the memory

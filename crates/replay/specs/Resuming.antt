@@ -1,10 +1,13 @@
 -- A piece of a log from a state on: each piece is one equation.
 use Rattle.std.specs.Prelude.{◌≡◌, List, Bool, true, false, cond, length, take, ℕ, suc, min}
+use Rattle.std.specs.Prelude.{Option as Maybe, Some, None}
 use Rattle.std.proofs.Math.Option.{Option, none, some}
 use Rattle.listing_rules.specs.Summary.{Summed}
 use Rattle.listing_rules.specs.Replay.{Verdict as Meant, all_agree, Due, command_due, answer_due, Replaying, replay_all, replay_end}
 use Rattle.replay.specs.declared.Replaying.{Replaying as State}
 use Rattle.replay.specs.declared.piece.Piece.{Piece}
+use Rattle.replay.specs.declared.verdict.Verdict.{Verdict}
+use Rattle.replay.specs.declared.verdict.Verdict.TheVariants.{Agrees}
 use Rattle.replay.specs.Holding.{Memory, table_of, table_in, first_as, due_as, stop_as, notes_after}
 use Rattle.replay.specs.Running.{TableKept}
 use Rattle.replay.specs.Feeding.{ready}
@@ -78,12 +81,25 @@ pieced m spaces st pending line piece =
 abbrev pub pieced_in : Memory → List ℕ → State → List ℕ → Pieced
 pieced_in d spaces st piece = pieced (table_in d st.rows) spaces st d.pending d.line piece
 
+-- what the code's answer says: whether the piece was taken, the verdict, and the state, which stays where the piece is not taken
+unfoldable pub is_taken : Maybe Piece → Bool
+is_taken None = false
+is_taken (Some p) = true
+
+unfoldable pub verdict_then : Maybe Piece → Verdict
+verdict_then None = Agrees
+verdict_then (Some p) = p.verdict
+
+unfoldable pub state_then : State → Maybe Piece → State
+state_then st None = st
+state_then st (Some p) = p.state
+
 -- What `replay_piece` promises, over the memory that was `d` and is `e`, from the state `st` on.
-pub record Resumes (spaces piece : List ℕ) (d e : Memory) (st : State) (r : Piece) : Type 0 where
-  pub taken : r.taken ≡ (pieced_in d spaces st piece).taken
-  pub verdict : r.verdict ≡ verdict_is (pieced_in d spaces st piece).verdict
-  pub state : r.state ≡ (pieced_in d spaces st piece).state
-  pub left : table_in e r.state.rows ≡ (pieced_in d spaces st piece).left
+pub record Resumes (spaces piece : List ℕ) (d e : Memory) (st : State) (r : Maybe Piece) : Type 0 where
+  pub taken : is_taken r ≡ (pieced_in d spaces st piece).taken
+  pub verdict : verdict_then r ≡ verdict_is (pieced_in d spaces st piece).verdict
+  pub state : state_then st r ≡ (pieced_in d spaces st piece).state
+  pub left : table_in e (state_then st r).rows ≡ (pieced_in d spaces st piece).left
   pub pending : e.pending ≡ (pieced_in d spaces st piece).pending
   pub line : e.line ≡ (pieced_in d spaces st piece).line
   -- what lies after the records that are lent

@@ -1,34 +1,33 @@
 -- One command run again: the reply and the answer recorded, and what the command leaves.
+use Rattle.std.specs.Prelude.{Result, Ok, Err}
+use Rattle.octets.specs.declared.refusals.Refusal.{Refusal}
+use Rattle.octets.specs.Refusals.{number_of}
 use Rattle.std.specs.Prelude.{◌≡◌, List, Bool, false, eqb, length, take, drop, get_or, ℕ}
 use Rattle.listing_rules.specs.Bytes.{same}
 use Rattle.listing_rules.specs.Server.{Reply, refusal, answered}
 use Rattle.listing_rules.specs.Summary.{Summed, SummedCommand}
 use Rattle.listing_rules.specs.Replay.{rerun}
-use Rattle.octets.specs.declared.Written.{Written}
-use Rattle.octets.specs.declared.Written.TheVariants.{Done, Refused}
 use Rattle.records.specs.Lent.{lent_of, word_summed}
 use Rattle.frames.specs.Hexadecimal.{decoded}
 use Rattle.frames.specs.declared.logs.Recorded.{Recorded}
-use Rattle.frames.specs.declared.logs.Recorded.TheVariants.{Answer, Number, Other}
+use Rattle.frames.specs.declared.logs.Recorded.TheVariants.{Answer, Number}
 use Rattle.replay.specs.declared.run.Ran.{Ran}
 
 -- whether a reply is the recorded one, of which the digits are lent where it is an answer
 unfoldable pub agreeing : Reply → Recorded → List ℕ → Bool
 agreeing (answered a) Answer digits = same (decoded digits) a
 agreeing (answered a) (Number k) digits = false
-agreeing (answered a) Other digits = false
 agreeing (refusal k) Answer digits = false
 agreeing (refusal k) (Number j) digits = eqb j k
-agreeing (refusal k) Other digits = false
 
 -- of a reply as the server gives it: an answer lies at the front of its buffer
-unfoldable pub said_so : Written → List ℕ → Recorded → List ℕ → Bool
-said_so (Done n) answer recorded digits = agreeing (answered (take n answer)) recorded digits
-said_so (Refused k) answer recorded digits = agreeing (refusal k) recorded digits
+unfoldable pub said_so : Result ℕ Refusal → List ℕ → Recorded → List ℕ → Bool
+said_so (Ok n) answer recorded digits = agreeing (answered (take n answer)) recorded digits
+said_so (Err k) answer recorded digits = agreeing (refusal (number_of k)) recorded digits
 
-unfoldable pub answer_length : Written → ℕ
-answer_length (Done n) = n
-answer_length (Refused k) = 0
+unfoldable pub answer_length : Result ℕ Refusal → ℕ
+answer_length (Ok n) = n
+answer_length (Err k) = 0
 
 -- the lent table: records as numbers, the numbers of their summary, and the area of names
 pub record TableMemory : Type 0 where

@@ -4,11 +4,11 @@ ghost use Rattle.std.specs.Prelude.{◌≡◌, false, ◌+◌, ◌-◌, ◌*◌,
 ghost use Rattle.listing_rules.specs.Replay.{noted};
 ghost use Rattle.replay.specs.Holding.{first_as, memory};
 ghost use Rattle.replay.specs.Running.{table};
-ghost use Rattle.replay.specs.Framing.{is_answer, framed_is, Asks, Settles, EndsFrame};
+ghost use Rattle.replay.specs.Framing.{framed_is, Asks, Settles, EndsFrame};
 
 use crate::Replaying;
 use crate::run::run;
-use frames::{Recorded, read_command, read_recorded};
+use frames::{read_command, read_recorded};
 
 // The state after one frame more.
 fn counted(state: Replaying, first: usize, due: usize, stopped: bool, rows: usize) -> Replaying
@@ -30,21 +30,10 @@ fn ask(state: Replaying, pending: &mut [u8], text: &[u8]) -> Replaying
     requires { state.frames < 2 ^ 64 - 1 }
     ensures { Asks text.now pending.old pending.new state result }
 {
-    let n = read_command(text, pending);
+    let n = read_command(text, pending).unwrap_or(0);
     let first = state.first;
     let rows = state.rows;
     counted(state, first, n, n == 0, rows)
-}
-
-// Whether a frame records an answer.
-fn is_answer(recorded: Recorded) -> bool
-    ensures { result ≡ is_answer recorded }
-{
-    match recorded {
-        Recorded::Answer => true,
-        Recorded::Number(_) => true,
-        Recorded::Other => false,
-    }
 }
 
 // The first difference so far, 0 for none, after the command of a frame.
@@ -81,10 +70,9 @@ fn settle(
     let so_far = state.first;
     let frame = state.frames;
     let rows = state.rows;
-    let recorded = read_recorded(text);
-    if !is_answer(recorded) {
+    let Some(recorded) = read_recorded(text) else {
         return counted(state, so_far, 0, true, rows);
-    }
+    };
     let ran = run(
         words,
         sums,

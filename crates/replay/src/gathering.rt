@@ -11,16 +11,11 @@ pub(crate) const MAX_GATHERED: usize = 32771;
 
 // The place of the first line feed from a place on, or the end.
 pub(crate) fn line_end(chunk: &[u8], at: usize) -> usize
+    requires { at ≤ length chunk.now }
     ensures { result ≡ at + length (before_feed (drop at chunk.now)) }
 {
-    let mut i = at;
-    while i < chunk.len() {
-        if chunk[i] == LF {
-            return i;
-        }
-        i += 1;
-    }
-    i
+    let rest = &chunk[at..];
+    at + rest.iter().position(|c| *c == LF).unwrap_or(rest.len())
 }
 
 // Characters of a frame added to those that the line holds, as far as they are kept.

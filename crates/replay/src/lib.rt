@@ -3,7 +3,7 @@
 // The log is fed in pieces of any length and is read once; between two pieces the state and the lent memory hold all that is kept of it, so
 // memory does not grow with the log. An answer is not decoded: its digits are compared with the bytes that are answered now.
 //
-// Records are lent as numbers (`records::word_of`), and the numbers of their summary beside them: as many records as there are of both.
+// Records are lent as numbers (`word_of` of records/specs), and the numbers of their summary beside them: as many records as there are of both.
 #![tactic(auto)]
 
 mod frame;
@@ -27,6 +27,8 @@ pub use whole::{Replayed, replay_words};
 // A replay between two pieces of its log: how many frames have ended; the number of the first frame of 43 whose answer differs, or 0; how many
 // bytes of `pending` are the command whose answer is due, its reader first, or 0; whether the last frame stopped it; how many characters of the
 // frame so far `line` holds; and how many records are rows.
+//
+// `first` and `due` stay numbers, 0 for none: C hands over the same, and any number is taken.
 #[derive(Clone, Copy)]
 pub struct Replaying {
     pub frames: usize,
@@ -53,14 +55,6 @@ impl Replaying {
     }
 }
 
-// What feeding answers: the state after the piece; or that it is refused, and no byte changed, where the lent memory is too short, the state is
-// invalid, or there may be more frames than a number can count.
-#[derive(Clone, Copy)]
-pub enum Fed {
-    Taken(Replaying),
-    Refused,
-}
-
 // Whether 2,050 bytes are lent for the command whose answer is due and 32,771 for the characters of a frame, the state lies within them, and
 // every byte of the piece might end a frame.
 fn is_ready(state: Replaying, pending: usize, line: usize, chunk: usize) -> bool
@@ -84,19 +78,21 @@ pub fn feed(
     pending: &mut [u8],
     line: &mut [u8],
     chunk: &[u8],
-) -> Fed
+) -> Option<Replaying>
     ensures { FeedIs namespaces.now chunk.now
         (memory words.old sums.old area.old pending.old line.old)
         (memory words.new sums.new area.new pending.new line.new) state result }
 {
     if !is_ready(state, pending.len(), line.len(), chunk.len()) {
-        return Fed::Refused;
+        return None;
     }
     let mut held = state;
     let mut at = 0;
+
+    // A `while`: each turn takes the characters before the next line feed, however many, and that line feed if there is one.
     while at < chunk.len() {
         if held.stopped {
-            return Fed::Taken(held);
+            return Some(held);
         }
         let end = line_end(chunk, at);
         held = gather(held, line, &chunk[at..end]);
@@ -107,5 +103,5 @@ pub fn feed(
             at = end;
         }
     }
-    Fed::Taken(held)
+    Some(held)
 }

@@ -4,12 +4,11 @@ ghost use Rattle.std.specs.Prelude.{◌≡◌};
 ghost use Rattle.replay.specs.Holding.{memory};
 ghost use Rattle.replay.specs.Resuming.{Resumes};
 
-use crate::{Fed, Replaying, Verdict, feed, finish};
+use crate::{Replaying, Verdict, feed, finish};
 
-// What comes of a piece: whether it was taken; the report if the log ends with it; and the state then, of which `rows` is the number of rows.
+// What comes of a piece: the report if the log ends with it, and the state then, of which `rows` is the number of rows.
 #[derive(Clone, Copy)]
 pub struct Piece {
-    pub taken: bool,
     pub verdict: Verdict,
     pub state: Replaying,
 }
@@ -24,24 +23,15 @@ pub fn replay_piece(
     pending: &mut [u8],
     line: &mut [u8],
     piece: &[u8],
-) -> Piece
+) -> Option<Piece>
     ensures { Resumes namespaces.now piece.now
         (memory words.old sums.old area.old pending.old line.old)
         (memory words.new sums.new area.new pending.new line.new) state result }
 {
-    match feed(state, words, sums, area, namespaces, pending, line, piece) {
-        Fed::Taken(next) => {
-            let verdict = finish(next);
-            Piece {
-                taken: true,
-                verdict,
-                state: next,
-            }
-        },
-        Fed::Refused => Piece {
-            taken: false,
-            verdict: Verdict::Agrees,
-            state,
-        },
-    }
+    let next = feed(state, words, sums, area, namespaces, pending, line, piece)?;
+    let verdict = finish(next);
+    Some(Piece {
+        verdict,
+        state: next,
+    })
 }

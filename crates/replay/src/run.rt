@@ -1,10 +1,10 @@
 // One command of a log run again, and whether its reply is the recorded one.
 
-ghost use Rattle.std.specs.Prelude.{◌≡◌, ◌≤◌, length, replicate};
+ghost use Rattle.std.specs.Prelude.{◌≡◌, ◌≤◌, length};
 ghost use Rattle.replay.specs.Running.{said_so, answer_length, Runs, table};
 
 use frames::{Recorded, same_digits};
-use octets::Written;
+use octets::{Refusal, filled};
 use server::answer_words;
 
 // How many records are rows after a command, and whether it was answered as recorded.
@@ -14,33 +14,21 @@ pub(crate) struct Ran {
     pub same: bool,
 }
 
-// "with an answer buffer of 16,384 bytes".
-fn no_answer() -> [u8; 16384]
-    ensures { result ≡ replicate 16384 0 }
-{
-    [0; 16384]
-}
-
 // Whether a reply is the recorded one: an answer at the front of its buffer, whose bytes are these digits', or the number of a refusal.
-fn same_reply(written: Written, answer: &[u8], recorded: Recorded, digits: &[u8]) -> bool
+fn same_reply(
+    written: Result<usize, Refusal>,
+    answer: &[u8],
+    recorded: Recorded,
+    digits: &[u8],
+) -> bool
     requires { answer_length written ≤ length answer.now }
     ensures { result ≡ said_so written answer.now recorded digits.now }
 {
-    match written {
-        Written::Done(n) => {
-            match recorded {
-                Recorded::Answer => same_digits(digits, &answer[..n]),
-                Recorded::Number(_) => false,
-                Recorded::Other => false,
-            }
-        },
-        Written::Refused(number) => {
-            match recorded {
-                Recorded::Number(k) => k == number,
-                Recorded::Answer => false,
-                Recorded::Other => false,
-            }
-        },
+    match (written, recorded) {
+        (Ok(n), Recorded::Answer) => same_digits(digits, &answer[..n]),
+        (Ok(_), Recorded::Number(_)) => false,
+        (Err(_), Recorded::Answer) => false,
+        (Err(refusal), Recorded::Number(k)) => k == refusal.number(),
     }
 }
 
@@ -60,7 +48,8 @@ pub(crate) fn run(
         (table words.old sums.old area.old)
         (table words.new sums.new area.new) result }
 {
-    let mut answer = no_answer();
+    // "with an answer buffer of 16,384 bytes"
+    let mut answer: [u8; 16384] = filled(0);
     let reader = command[0];
     let done = answer_words(
         words,

@@ -5,8 +5,7 @@ ghost use Rattle.listing_rules.specs.Replay.{replay_number, replay_frame};
 ghost use Rattle.replay.specs.Reports.{meant_by, Finishes};
 
 use crate::Replaying;
-use octets::advance;
-use octets::refusals::BAD_FRAME;
+use octets::{Refusal, advance};
 
 // The number of a frame where there is none to report.
 const NO_FRAME: usize = 0;
@@ -27,7 +26,7 @@ impl Verdict {
         match self {
             Verdict::Agrees => 0,
             Verdict::Differs(_) => 0,
-            Verdict::Stopped(_) => BAD_FRAME,
+            Verdict::Stopped(_) => Refusal::BadFrame.number(),
         }
     }
 

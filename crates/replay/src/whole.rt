@@ -1,30 +1,16 @@
 // A whole log as one piece.
 
-ghost use Rattle.std.specs.Prelude.{◌≡◌, replicate};
 ghost use Rattle.replay.specs.Running.{table};
 ghost use Rattle.replay.specs.Whole.{Replays};
 
-use crate::{Fed, Replaying, Verdict, feed, finish};
+use crate::{Replaying, Verdict, feed, finish};
+use octets::filled;
 
 // The report, and how many records are rows at the end.
 #[derive(Clone, Copy)]
 pub struct Replayed {
     pub verdict: Verdict,
     pub count: usize,
-}
-
-// A buffer for the command whose answer is due.
-fn no_command() -> [u8; 2050]
-    ensures { result ≡ replicate 2050 0 }
-{
-    [0; 2050]
-}
-
-// A buffer for the characters of a frame.
-fn no_line() -> [u8; 32771]
-    ensures { result ≡ replicate 32771 0 }
-{
-    [0; 32771]
 }
 
 // The log run over the records, of which the first `count` are rows: words, summary and area are then as its commands left them.
@@ -40,8 +26,9 @@ pub fn replay_words(
         (table words.old sums.old area.old)
         (table words.new sums.new area.new) result }
 {
-    let mut pending = no_command();
-    let mut line = no_line();
+    // for the command whose answer is due, and for the characters of a frame
+    let mut pending: [u8; 2050] = filled(0);
+    let mut line: [u8; 32771] = filled(0);
     let state = Replaying::start(count);
     match feed(
         state,
@@ -53,7 +40,7 @@ pub fn replay_words(
         &mut line,
         log,
     ) {
-        Fed::Taken(held) => {
+        Some(held) => {
             let verdict = finish(held);
             let rows = held.rows;
             Replayed {
@@ -61,7 +48,7 @@ pub fn replay_words(
                 count: rows,
             }
         },
-        Fed::Refused => Replayed {
+        None => Replayed {
             verdict: Verdict::Agrees,
             count,
         },

@@ -1,21 +1,22 @@
 -- Laws of frames carried out: bytes added, and what each kind of frame leaves. Rests on LentLaws and frames' StoreLaws.
+use Rattle.std.specs.Prelude.{Option, Some, None}
 use Rattle.listing_rules.proofs.Prelude.{◌∙◌, ◌≡◌, ap, refl, sym, Bool, cond, false, true, List, [], ◌++◌, ◌+◌, ◌≤◌, ℕ, arith, leb, drop, length}
 use Rattle.listing_rules.proofs.Prelude.{length-append, take, drop_at, length-take-le, sets, sets-eq, le-leb, leb-true}
 use Rattle.listing_rules.specs.Walk.{walk_by}
 use Rattle.listing_rules.specs.Frames.{bytes, Stored, Stepped, refusal_line, walk_line, kept_seen, answering, add_row_to, add_row, add_entry, framed}
 use Rattle.octets.specs.Put.{Put}
 use Rattle.frames.specs.declared.reading.Frame.{Frame}
-use Rattle.frames.specs.declared.reading.Frame.TheVariants.{Table, Namespaces, Command, Walk, Bad}
+use Rattle.frames.specs.declared.reading.Frame.TheVariants.{Table, Namespaces, Command, Walk}
 use Rattle.frames.specs.Reading.{frame_is, size_of}
-use Rattle.frames.specs.declared.storing.Stored.{Stored as StoredNow}
-use Rattle.frames.specs.declared.storing.Stored.TheVariants.{Now, NoRoom}
 use Rattle.frames.specs.Storing.{has_place, Stores}
 use Rattle.frames.proofs.StoreLaws.{stored_now, stored_full}
 use Rattle.kept_table.specs.declared.Lengths.{Lengths}
 use Rattle.kept_table.specs.declared.outcome.Outcome.{Outcome}
 use Rattle.session.specs.declared.carrying.Added.{Added}
 use Rattle.kept_table.specs.Kept.{Lent, lent, kept_of, kept_in, stored_in, Within, is_held, lengths_is, outcome_is, Says, Carries}
-use Rattle.session.specs.Carrying.{Keeps, AddsRow, numbers_framed, CarriesOut}
+use Rattle.session.specs.Carrying.{Keeps, AddsRow, numbers_framed, CarriesOut, Ended}
+use Rattle.frames.specs.declared.gathering.Gathered.{Gathered}
+use Rattle.frames.specs.Gathering.{GatheredRead}
 use Rattle.kept_table.specs.Commanding.{ObeysLent}
 use Rattle.kept_table.proofs.LentLaws.{says_none, says_refusal, is_held_lem, is_within_lem, carries_said}
 
@@ -27,8 +28,8 @@ behind_added d bs used h =
     (omega (arith, length-append (take used d) bs, length-take-le used d (omega arith)))
 
 -- bytes added, or no room for them
-module _ {d e : List ℕ} {used limit : ℕ} {bs : List ℕ} {r : StoredNow} (inside : limit ≤ length d) (s : Stores d e used limit bs r) where
-  pub keeps_now : (number u : ℕ) (o : List ℕ) → r ≡ Now u → Keeps limit number used bs d e o o (record { len = u; written = 0 })
+module _ {d e : List ℕ} {used limit : ℕ} {bs : List ℕ} {r : Option ℕ} (inside : limit ≤ length d) (s : Stores d e used limit bs r) where
+  pub keeps_now : (number u : ℕ) (o : List ℕ) → r ≡ Some u → Keeps limit number used bs d e o o (record { len = u; written = 0 })
   unfolding has_place
   keeps_now number u o a =
       let q = stored_now s a in
@@ -41,7 +42,7 @@ module _ {d e : List ℕ} {used limit : ℕ} {bs : List ℕ} {r : StoredNow} (in
         says = rw q.0 (says_none o);
       }
 
-  pub keeps_full : (number w : ℕ) (o p : List ℕ) → used ≤ limit → r ≡ NoRoom → Put o p 0 (refusal_line number) w →
+  pub keeps_full : (number w : ℕ) (o p : List ℕ) → used ≤ limit → r ≡ None → Put o p 0 (refusal_line number) w →
       Keeps limit number used bs d e o p (record { len = used; written = w })
   keeps_full number w o p h a put =
       let q = stored_full s a inside in
@@ -105,13 +106,13 @@ module _ (n : Lengths) (row t o : List ℕ) (rows : n.table ≤ 16384) where
       })
 
 -- a frame by the code's answer to its characters, over the bytes at its side
-module _ (d : Lent) (n : Lengths) (w : Within n d.table d.records d.namespaces) (f : Frame) (bs : List ℕ) where
-  pub kind_row : (size : ℕ) (t o : List ℕ) (r : Outcome) → f ≡ Table size → AddsRow n (take size bs) d.table t d.out o r →
+module _ (d : Lent) (n : Lengths) (w : Within n d.table d.records d.namespaces) (f : Option Frame) (bs : List ℕ) where
+  pub kind_row : (size : ℕ) (t o : List ℕ) (r : Outcome) → f ≡ Some (Table size) → AddsRow n (take size bs) d.table t d.out o r →
       CarriesOut n bs f d (lent t d.records d.namespaces o) r
   unfolding framed frame_is numbers_framed
   kind_row size t o r e x = rw e (record { carried = x d.records d.namespaces w.entries; numbers = refl })
 
-  pub kind_entry : (size : ℕ) (m o : List ℕ) (k : Added) → f ≡ Namespaces size →
+  pub kind_entry : (size : ℕ) (m o : List ℕ) (k : Added) → f ≡ Some (Namespaces size) →
       Keeps 1024 2 n.namespaces (take size bs) d.namespaces m d.out o k →
       CarriesOut n bs f d (lent d.table d.records m o) (outcome_is (lengths_is n.table k.len n.edited) k.written)
   unfolding framed frame_is numbers_framed
@@ -133,7 +134,7 @@ module _ (d : Lent) (n : Lengths) (w : Within n d.table d.records d.namespaces) 
             says = x.says;
           })
 
-  pub kind_command : (reader size part : ℕ) (t v o : List ℕ) (r : Outcome) → f ≡ Command reader size →
+  pub kind_command : (reader size part : ℕ) (t v o : List ℕ) (r : Outcome) → f ≡ Some (Command reader size) →
       ObeysLent n reader (take part (drop 1 bs)) d (lent t v d.namespaces o) r →
       part ≡ size → CarriesOut n bs f d (lent t v d.namespaces o) r
   unfolding framed frame_is numbers_framed
@@ -141,7 +142,7 @@ module _ (d : Lent) (n : Lengths) (w : Within n d.table d.records d.namespaces) 
       let y = x.obeys (is_within_lem w) in
       rw (e, sym same) (record { carried = y.carried; numbers = y.numbers })
 
-  pub kind_walk : (reader option : ℕ) (o : List ℕ) (k : ℕ) → f ≡ Walk reader option →
+  pub kind_walk : (reader option : ℕ) (o : List ℕ) (k : ℕ) → f ≡ Some (Walk reader option) →
       Says (cond (is_held n d.table d.records) (walk_line (walk_by reader (kept_seen reader (kept_in d n)) option 16384 8192 8192)) [])
       d.out o k →
       CarriesOut n bs f d (lent d.table d.records d.namespaces o) (outcome_is n k)
@@ -154,22 +155,33 @@ module _ (d : Lent) (n : Lengths) (w : Within n d.table d.records d.namespaces) 
         numbers = refl;
       })
 
-  pub kind_bad : (o : List ℕ) (k : ℕ) → f ≡ Bad → Put d.out o 0 (refusal_line 13) k →
+  pub kind_bad : (o : List ℕ) (k : ℕ) → f ≡ None → Put d.out o 0 (refusal_line 13) k →
       CarriesOut n bs f d (lent d.table d.records d.namespaces o) (outcome_is n k)
   unfolding framed frame_is numbers_framed
   kind_bad o k e x =
       rw e (record { carried = carries_said d n w.held.rows w.entries (refusal_line 13) o k (says_refusal 13 x); numbers = refl })
 
 -- the bytes that a frame speaks of are there
-module _ {f : Frame} {n : ℕ} (s : List ℕ) (h : size_of f ≤ length s) where
-  pub whole_row : f ≡ Table n → n ≡ length (take n s)
+module _ {f : Option Frame} {n : ℕ} (s : List ℕ) (h : size_of f ≤ length s) where
+  pub whole_row : f ≡ Some (Table n) → n ≡ length (take n s)
   unfolding size_of
   whole_row e = sym (length-take-le n s (rw e at h))
 
-  pub whole_entry : f ≡ Namespaces n → n ≡ length (take n s)
+  pub whole_entry : f ≡ Some (Namespaces n) → n ≡ length (take n s)
   unfolding size_of
   whole_entry e = sym (length-take-le n s (rw e at h))
 
-  pub whole_command : {reader : ℕ} → f ≡ Command reader n → n + 1 ≤ length s
+  pub whole_command : {reader : ℕ} → f ≡ Some (Command reader n) → n + 1 ≤ length s
   unfolding size_of
   whole_command e = rw e at h
+
+-- the frame of the characters gathered, carried out
+pub ended : {line : List ℕ} {g : Gathered} {n : Lengths} {d e : Lent} (bs cs : List ℕ) (read f : Option Frame) (r : Outcome)
+    → GatheredRead line g bs cs read → 2050 ≤ length bs → read ≡ f → CarriesOut n cs f d e r → Ended line g n d e r
+ended bs cs read f r x room q y =
+    record {
+      frame = _;
+      read = λ p h. ap (frame_is cs) (sym q) ∙ x.means room p h;
+      carried = y.carried;
+      numbers = y.numbers;
+    }

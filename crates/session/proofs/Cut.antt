@@ -1,16 +1,16 @@
 -- How the input is cut into pieces, and a piece into calls of `feed`, makes no difference: the calls hand out what document 01 says of
 -- the whole input. Rests on LineLaws, FeedLaws and listing_rules' InputCut.
-use Rattle.listing_rules.proofs.Prelude.{◌∙◌, ◌≡◌, ap, refl, sym, Bool, false, true, List, [], ◌++◌, ◌∷◌, ◌+◌, ◌≤◌, ℕ, arith, drop, length, take}
+use Rattle.std.specs.Prelude.{Option, Some, None}
+use Rattle.listing_rules.proofs.Prelude.{◌∙◌, ◌≡◌, ap, refl, sym, true, List, [], ◌++◌, ◌∷◌, ◌+◌, ◌≤◌, ℕ, arith, drop, length, take}
 use Rattle.listing_rules.proofs.Prelude.{take-append-drop, sets-eq, take-append-le, take_at}
 use Rattle.listing_rules.specs.Lists.{joined}
 use Rattle.listing_rules.specs.Frames.{Session, Fed as Came, behind, fed_all, start, at_end, program_output}
 use Rattle.listing_rules.proofs.InputCut.{fed_all_append}
-use Rattle.frames.specs.Gathering.{HoldsIf}
+use Rattle.frames.specs.Gathering.{HoldsLen}
 use Rattle.session.specs.declared.State.{State}
-use Rattle.session.specs.declared.Fed.TheVariants.{Refused}
 use Rattle.kept_table.specs.Kept.{Lent, Says}
 use Rattle.session.specs.Feeding.{start_is, ready_in, Holds, Comes, FeedIs, Finishes, through_line}
-use Rattle.session.specs.Cutting.{feedings, Call, LentAgain, Calls, Through, said_by, state_after}
+use Rattle.session.specs.Cutting.{feedings, Call, held_len, LentAgain, Calls, Through, said_by, state_after}
 use Rattle.session.proofs.LineLaws.{through_inside}
 use Rattle.session.proofs.FeedLaws.{sizes, holds_start}
 
@@ -34,7 +34,7 @@ program_cut ps = ap (λ (f : Came). f.output ++ at_end f.session) (cutting start
 
 -- a ready memory is never refused
 pub never_refused : (chunk : List ℕ) (d e : Lent) (line line' : List ℕ) (st : State) → ready_in d line st ≡ true →
-    FeedIs chunk d e line line' st Refused → ⊥
+    FeedIs chunk d e line line' st None → ⊥
 never_refused chunk d e line line' st h r = let z : ◌≡◌ {A = ℕ} 0 1 = cc in absurd (omega arith)
 
 -- a line that is said lies at the front of an output with room for it
@@ -43,10 +43,10 @@ said_front {line} {o} {p} {r} x h =
     ap (take r) (x.bytes ∙ sets-eq line o 0 (omega arith)) ∙ take_at line (drop (0 + length line) o) r (sym x.written)
 
 -- memory that is lent again holds the same session
-lent_frame : (over : Bool) (len : ℕ) (line line' p : List ℕ) → 4102 ≤ length line' → take len line' ≡ take len line → HoldsIf over len line p →
-    HoldsIf over len line' p
-lent_frame true len line line' p room e h = h
-lent_frame false len line line' p room e h = (h.0 ∙ sym e, omega (arith, h.2), h.2)
+lent_frame : (g : Option ℕ) (line line' p : List ℕ) → 4102 ≤ length line' → take (held_len g) line' ≡ take (held_len g) line → HoldsLen g line p →
+    HoldsLen g line' p
+lent_frame None line line' p room e h = h
+lent_frame (Some len) line line' p room e h = (h.0 ∙ sym e, omega (arith, room, h.2), h.2)
 
 holds_again : {d e : Lent} {line line' : List ℕ} {st : State} {s : Session} → LentAgain st d e line line' → ready_in e line' st ≡ true →
     Holds d line st s → Holds e line' st s
@@ -55,7 +55,7 @@ holds_again {d} {e} {line} {line'} {st} {s} a r h =
     record {
       table = a.table ∙ h.table;
       namespaces = a.namespaces ∙ h.namespaces;
-      frame = lent_frame st.gathered.over st.gathered.len line line' s.partial z.line a.frame h.frame;
+      frame = lent_frame st.gathered.len line line' s.partial z.line a.frame h.frame;
     }
 
 -- what calls come to: what they said, and a memory that holds the session

@@ -1,20 +1,19 @@
 -- Laws of feeding: what a ready memory is, that it holds a session always, and what a piece without a line feed and one with it
 -- come to. Rests on LineLaws and LentLaws.
-use Rattle.listing_rules.proofs.Prelude.{◌∙◌, ◌≡◌, ap, refl, subst, sym, Bool, ◌&&◌, ◌||◌, cond, false, true, List, [], ◌++◌, ◌+◌, ◌<◌, ◌≤◌, ℕ, arith}
+use Rattle.std.specs.Prelude.{Option, Some, None}
+use Rattle.listing_rules.proofs.Prelude.{◌∙◌, ◌≡◌, ap, refl, subst, sym, Bool, ◌&&◌, cond, false, true, List, [], ◌++◌, ◌+◌, ◌<◌, ◌≤◌, ℕ, arith}
 use Rattle.listing_rules.proofs.Prelude.{leb, length, length-replicate, replicate, take, take_all, le-leb, le-ltb, leb-true, lt-ltb}
 use Rattle.listing_rules.specs.Frames.{Stepped, Session, Fed as Came, refusal_line, read_frame, framed, step, fed_all, at_end, start}
 use Rattle.listing_rules.proofs.Bools.{and_l, and_r}
 use Rattle.frames.specs.declared.gathering.Gathered.{Gathered}
-use Rattle.frames.specs.Gathering.{HoldsIf, Holds as HoldsFrame, gathered_none, IsEmpty}
+use Rattle.frames.specs.Gathering.{HoldsLen, Holds as HoldsFrame, gathered_none, IsEmpty}
 use Rattle.frames.proofs.GatherLaws.{holds_none}
 use Rattle.session.specs.declared.State.{State}
 use Rattle.session.specs.declared.Taken.{Taken as Took}
-use Rattle.session.specs.declared.Fed.{Fed}
-use Rattle.session.specs.declared.Fed.TheVariants.{Taken}
 use Rattle.kept_table.specs.declared.outcome.Outcome.{Outcome}
 use Rattle.kept_table.specs.Kept.{Lent, stored_in, Within, Says}
 use Rattle.session.specs.Carrying.{numbers_framed, Ended}
-use Rattle.session.specs.Feeding.{start_is, ready, ready_in, Holds, through_line, before_line, gathered_all, line_after, Comes, Feeds, FeedIs}
+use Rattle.session.specs.Feeding.{start_is, len_within, ready, ready_in, Holds, through_line, before_line, gathered_all, line_after, Comes, Feeds, FeedIs}
 use Rattle.session.specs.Feeding.{has_line, numbers_fed, Finishes}
 use Rattle.session.proofs.LineLaws.{before_all, through_line_lem, holds_all, fed_before, fed_line}
 use Rattle.kept_table.proofs.LentLaws.{says_none}
@@ -28,11 +27,11 @@ pub record Sizes (t w n l o : ℕ) (st : State) : Type 0 where
   pub out : 32771 ≤ o
   pub rows : st.stored.table ≤ 16384
   pub entries : st.stored.namespaces ≤ 1024
-  pub digits : (st.gathered.over || leb st.gathered.len 4102) ≡ true
+  pub digits : len_within st.gathered.len ≡ true
 
 pub sizes : (t w n l o : ℕ) (st : State) → ready t w n l o st ≡ true → Sizes t w n l o st
 sizes t w n l o st h =
-    let d = st.gathered.over || leb st.gathered.len 4102 in
+    let d = len_within st.gathered.len in
     let e = leb st.stored.namespaces 1024 && d in
     let r = leb st.stored.table 16384 && e in
     let u = leb 32771 o && r in
@@ -83,19 +82,19 @@ unfolding start
 holds_start d line = record { table = refl; namespaces = refl; frame = holds_none line }
 
 -- a ready memory holds some session always
-frame_some : (over : Bool) (len : ℕ) (line : List ℕ) → 4102 ≤ length line → (over || leb len 4102) ≡ true → (p : List ℕ) × HoldsIf over len line p
-frame_some true len line h e = (replicate 4103 0, omega (arith, length-replicate {A = ℕ} 4103 0))
-frame_some false len line h e = (take len line, (refl, omega (arith, leb-true len 4102 e), leb-true len 4102 e))
+frame_some : (g : Option ℕ) (line : List ℕ) → 4102 ≤ length line → len_within g ≡ true → (p : List ℕ) × HoldsLen g line p
+frame_some None line h e = (replicate 4103 0, omega (arith, length-replicate {A = ℕ} 4103 0))
+frame_some (Some len) line h e = (take len line, (refl, omega (arith, h, leb-true len 4102 e), leb-true len 4102 e))
 
 pub holds_some : (d : Lent) (line : List ℕ) (st : State) → ready_in d line st ≡ true → (s : Session) × Holds d line st s
 holds_some d line st h =
     let z = sizes (length d.table) (length d.records) (length d.namespaces) (length line) (length d.out) st h in
-    let f = frame_some st.gathered.over st.gathered.len line z.line z.digits in
+    let f = frame_some st.gathered.len line z.line z.digits in
     (record { stored = stored_in d st.stored; partial = f.0 }, record { table = refl; namespaces = refl; frame = f.1 })
 
-frame_bounded : (over : Bool) (len : ℕ) (line p : List ℕ) → HoldsIf over len line p → (over || leb len 4102) ≡ true
-frame_bounded true len line p h = refl
-frame_bounded false len line p h = le-leb len 4102 h.2
+frame_bounded : (g : Option ℕ) (line p : List ℕ) → HoldsLen g line p → len_within g ≡ true
+frame_bounded None line p h = refl
+frame_bounded (Some len) line p h = le-leb len 4102 h.2
 
 -- the stored bytes of a session that the memory holds
 stored_is_lem : {d : Lent} {line : List ℕ} {st : State} {s : Session} → Holds d line st s → stored_in d st.stored ≡ s.stored
@@ -127,7 +126,7 @@ module _ (chunk : List ℕ) (d : Lent) (line line' : List ℕ) (st : State) (g :
       let w = before_all chunk (omega arith) in
       let whole : take (through_line chunk) chunk ≡ before_line chunk = take_all (through_line chunk) chunk (omega (arith, w.1)) ∙ sym w.0 in
       let z = is_sized in
-      let some = frame_some st.gathered.over st.gathered.len line z.line z.digits in
+      let some = frame_some st.gathered.len line z.line z.digits in
       record {
         used = omega (arith, u, w.1, ap length w.0);
         comes =
@@ -156,7 +155,7 @@ module _ (chunk : List ℕ) (d : Lent) (line line' : List ℕ) (st : State) (g :
               out = z.out;
               rows = z.rows;
               entries = z.entries;
-              digits = frame_bounded g.over g.len line' (some.0 ++ before_line chunk) (goes_on_lem some.0 some.1);
+              digits = frame_bounded g.len line' (some.0 ++ before_line chunk) (goes_on_lem some.0 some.1);
             });
       }
 
@@ -206,9 +205,9 @@ module _ (chunk : List ℕ) (d : Lent) (line line' : List ℕ) (st : State) (g :
       }
 
 -- an answer by the piece that was taken
-pub feed_taken : {chunk : List ℕ} {d e : Lent} {line line' : List ℕ} {st : State} {r : Fed} (t : Took) → r ≡ Taken t → ready_in d line st ≡ true →
+pub feed_taken : {chunk : List ℕ} {d e : Lent} {line line' : List ℕ} {st : State} {r : Option Took} (t : Took) → r ≡ Some t → ready_in d line st ≡ true →
     Feeds chunk d e line line' st t → FeedIs chunk d e line line' st r
-feed_taken {chunk} {d} {e} {line} {line'} {st} t q so f = subst (λ (x : Fed). FeedIs chunk d e line line' st x) (sym q) (so, f)
+feed_taken {chunk} {d} {e} {line} {line'} {st} t q so f = subst (λ (x : Option Took). FeedIs chunk d e line line' st x) (sym q) (so, f)
 
 -- the end of the input: nothing was gathered, or a frame without its line feed
 pub finishes : (o p : List ℕ) (st : State) (r : ℕ) (empty : Bool) → IsEmpty st.gathered empty → Says (cond empty [] (refusal_line 13)) o p r →

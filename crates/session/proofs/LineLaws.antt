@@ -147,5 +147,6 @@ module _ {chunk d : List ℕ} {g : Gathered} {e : List ℕ} {q : Gathered} {i : 
   pub part_feed : i < length chunk → get_or chunk i 0 ≡ 10 → Runs chunk d e g (record { gathered = q; used = i })
   part_feed h x = ends (before_feed_lem chunk i h x)
 
-  pub part_end : length chunk ≤ i → Runs chunk d e g (record { gathered = q; used = i })
-  part_end h = ends (before_end chunk i h)
+  pub part_end : length chunk ≤ i → Runs chunk d e g (record { gathered = q; used = length chunk })
+  part_end h =
+      let w = ends (before_end chunk i h) in record { used = omega (arith, h, p.inside, w.used); gathered = w.gathered; line = w.line }

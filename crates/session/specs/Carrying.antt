@@ -1,4 +1,5 @@
 -- A frame carried out over the lent memory, and what it leaves there.
+use Rattle.std.specs.Prelude.{Option}
 use Rattle.std.specs.Prelude.{◌≡◌, List, [], ◌++◌, cond, leb, length, take, drop, ℕ, ◌+◌, ◌≤◌}
 use Rattle.listing_rules.specs.Frames.{Frame as Meant, table_bytes, namespace_bytes, command, walk_with, bad_frame, Stored}
 use Rattle.listing_rules.specs.Frames.{refusal_line, read_frame, add_row, framed}
@@ -35,7 +36,7 @@ numbers_framed s (walk_with reader o) numbers = numbers
 numbers_framed s bad_frame numbers = numbers
 
 -- a frame that was read, its bytes at its side, was carried out over what is stored
-pub record CarriesOut (stored : Lengths) (bs : List ℕ) (frame : Frame) (d e : Lent) (r : Outcome) : Type 0 where
+pub record CarriesOut (stored : Lengths) (bs : List ℕ) (frame : Option Frame) (d e : Lent) (r : Outcome) : Type 0 where
   pub carried : Carries (framed (stored_in d stored) (frame_is bs frame)) d e r
   pub numbers : e.records ≡ numbers_framed (stored_in d stored) (frame_is bs frame) d.records
 

@@ -1,13 +1,12 @@
 -- The session that the lent memory holds between two pieces of input, and what feeding a piece comes to.
-use Rattle.std.specs.Prelude.{◌≡◌, List, [], ◌∷◌, ◌++◌, Bool, true, false, not, cond, ◌&&◌, ◌||◌, eqb, leb, ltb, length, take, drop, ℕ, suc}
+use Rattle.std.specs.Prelude.{Option, Some, None}
+use Rattle.std.specs.Prelude.{◌≡◌, List, [], ◌∷◌, ◌++◌, Bool, true, false, cond, ◌&&◌, eqb, leb, ltb, length, take, drop, ℕ, suc}
 use Rattle.listing_rules.specs.Frames.{Session, Fed as Meant, refusal_line, read_frame, start, fed_all, at_end}
 use Rattle.frames.specs.declared.gathering.Gathered.{Gathered}
-use Rattle.frames.specs.Gathering.{Holds as HoldsFrame, gathered_none, gathered_is, gathered_line}
+use Rattle.frames.specs.Gathering.{Holds as HoldsFrame, gathered_none, gathered_is, gathered_line, none_yet}
 use Rattle.kept_table.specs.declared.Lengths.{Lengths}
 use Rattle.session.specs.declared.State.{State}
 use Rattle.session.specs.declared.Taken.{Taken as Took}
-use Rattle.session.specs.declared.Fed.{Fed}
-use Rattle.session.specs.declared.Fed.TheVariants.{Taken, Refused}
 use Rattle.session.specs.declared.gathering.Run.{Run}
 use Rattle.kept_table.specs.Kept.{Lent, kept_in, reach, Says}
 use Rattle.session.specs.Carrying.{numbers_framed}
@@ -15,6 +14,11 @@ use Rattle.session.specs.Carrying.{numbers_framed}
 -- nothing stored and no frame begun
 abbrev pub start_is : State
 start_is = record { stored = record { table = 0; namespaces = 0; edited = false }; gathered = gathered_none }
+
+-- no more characters are gathered than a frame may have
+abbrev pub len_within : Option ℕ → Bool
+len_within None = true
+len_within (Some n) = leb n 4102
 
 -- The memory is lent in document 01's sizes, and the state lies within them: stored bytes 16,384 and 1,024, digits 4,102; a line
 -- of output has at most 2 digits for each of 1 + 16,384 bytes and a line feed. There are numbers for 512 records and their summary.
@@ -26,7 +30,7 @@ ready table records namespaces line out st =
     && (leb 4102 line
     && (leb 32771 out
     && (leb st.stored.table 16384
-    && (leb st.stored.namespaces 1024 && (st.gathered.over || leb st.gathered.len 4102)))))))
+    && (leb st.stored.namespaces 1024 && len_within st.gathered.len))))))
 
 abbrev pub ready_in : Lent → List ℕ → State → Bool
 ready_in d line st = ready (length d.table) (length d.records) (length d.namespaces) (length line) (length d.out) st
@@ -101,16 +105,16 @@ pub record Feeds (chunk : List ℕ) (d e : Lent) (line line' : List ℕ) (st : S
   pub ready_on : ready_in d line r.state ≡ true
 
 -- the answer of a piece that was taken
-abbrev pub taken_is : Lengths → Gathered → ℕ → ℕ → Fed
-taken_is stored g used written = Taken (record { state = record { stored = stored; gathered = g }; used = used; written = written })
+abbrev pub taken_is : Lengths → Gathered → ℕ → ℕ → Option Took
+taken_is stored g used written = Some (record { state = record { stored = stored; gathered = g }; used = used; written = written })
 
 -- What `feed` promises: it is refused exactly if the memory and the state are not ready, and then every byte stays.
-abbrev pub FeedIs : List ℕ → Lent → Lent → List ℕ → List ℕ → State → Fed → Type 0
-FeedIs chunk d e line line' st (Taken r) = (ready_in d line st ≡ true) × Feeds chunk d e line line' st r
-FeedIs chunk d e line line' st Refused = (ready_in d line st ≡ false) × (e ≡ d) × (line' ≡ line)
+abbrev pub FeedIs : List ℕ → Lent → Lent → List ℕ → List ℕ → State → Option Took → Type 0
+FeedIs chunk d e line line' st (Some r) = (ready_in d line st ≡ true) × Feeds chunk d e line line' st r
+FeedIs chunk d e line line' st None = (ready_in d line st ≡ false) × (e ≡ d) × (line' ≡ line)
 
 -- What `finish` promises: whatever session the memory held, the end of the input says what document 01 has it say. Whatever the
 -- state is, it decides: 13 is said unless nothing was gathered.
 pub record Finishes (o p : List ℕ) (st : State) (r : ℕ) : Type 0 where
   pub says : (d : Lent) (line : List ℕ) (s : Session) → Holds d line st s → Says (at_end s) o p r
-  pub answer : Says (cond (not st.gathered.over && eqb st.gathered.len 0) [] (refusal_line 13)) o p r
+  pub answer : Says (cond (none_yet st.gathered.len) [] (refusal_line 13)) o p r

@@ -1,14 +1,15 @@
 // A frame carried out over what is stored: bytes added, records changed, or one line of output written.
-ghost use Rattle.std.specs.Prelude.{◌≡◌, ◌≤◌, length, replicate};
+ghost use Rattle.std.specs.Prelude.{◌≤◌, length, Some};
 ghost use Rattle.frames.specs.Reading.{size_of};
 ghost use Rattle.kept_table.specs.Kept.{lent, Within};
+ghost use Rattle.octets.specs.Refusals.{number_of};
 ghost use Rattle.session.specs.Carrying.{Keeps, AddsRow, CarriesOut, Ended};
 
-use frames::{Frame, Gathered, Stored, put_refusal, read_gathered, store};
+use frames::{Frame, Gathered, put_refusal, read_gathered, store};
 use kept_table::{
     Lengths, MAX_NAMESPACES, MAX_TABLE, Outcome, obey, said, walk_line, with_entries, with_rows,
 };
-use octets::refusals::{BAD_FRAME, NAMESPACES, TABLE};
+use octets::{Refusal, filled};
 
 // How many bytes of one area are stored after some were to be added, and how many bytes of output lie at the front of `out`.
 #[derive(Clone, Copy)]
@@ -17,30 +18,23 @@ struct Added {
     written: usize,
 }
 
-// Room for the bytes of any frame.
-fn frame_buffer() -> [u8; 2050]
-    ensures { result ≡ replicate 2050 0 }
-{
-    [0; 2050]
-}
-
 // Bytes added after the first `used` ones of an area; without room nothing is added, and the refusal is written.
 fn keep(
     area: &mut [u8],
     used: usize,
     limit: usize,
-    number: u8,
+    refusal: Refusal,
     bytes: &[u8],
     out: &mut [u8],
 ) -> Added
     requires used_le_limit { used ≤ limit }
     requires limit_in_bounds { limit ≤ length area.old }
-    ensures { Keeps limit number used bytes.now area.old area.new out.old out.new result }
+    ensures { Keeps limit (number_of refusal) used bytes.now area.old area.new out.old out.new result }
 {
     match store(area, used, limit, bytes) {
-        Stored::Now(len) => Added { len, written: 0 },
-        Stored::NoRoom => {
-            let written = put_refusal(out, 0, number);
+        Some(len) => Added { len, written: 0 },
+        None => {
+            let written = put_refusal(out, 0, refusal.number());
             Added { len: used, written }
         },
     }
@@ -53,9 +47,9 @@ fn add_row(stored: Lengths, row: &[u8], table: &mut [u8], out: &mut [u8]) -> Out
     ensures { AddsRow stored row.now table.old table.new out.old out.new result }
 {
     if stored.edited {
-        return said(stored, put_refusal(out, 0, BAD_FRAME));
+        return said(stored, put_refusal(out, 0, Refusal::BadFrame.number()));
     }
-    let added = keep(table, stored.table, MAX_TABLE, TABLE, row, out);
+    let added = keep(table, stored.table, MAX_TABLE, Refusal::Table, row, out);
     with_rows(stored, added.len, added.written)
 }
 
@@ -69,9 +63,9 @@ fn carry_out(
     namespaces: &mut [u8],
     out: &mut [u8],
 ) -> Outcome
-    requires frame_in_bounds { size_of frame ≤ length bytes.now }
+    requires frame_in_bounds { size_of (Some frame) ≤ length bytes.now }
     requires within { Within stored table.old records.old namespaces.old }
-    ensures { CarriesOut stored bytes.now frame
+    ensures { CarriesOut stored bytes.now (Some frame)
         (lent table.old records.old namespaces.old out.old)
         (lent table.new records.new namespaces.new out.new) result }
 {
@@ -80,7 +74,14 @@ fn carry_out(
         Frame::Table(n) => add_row(stored, &bytes[..n], table, out),
         Frame::Namespaces(n) => {
             let part = &bytes[..n];
-            let added = keep(namespaces, entries, MAX_NAMESPACES, NAMESPACES, part, out);
+            let added = keep(
+                namespaces,
+                entries,
+                MAX_NAMESPACES,
+                Refusal::Namespaces,
+                part,
+                out,
+            );
             with_entries(stored, added.len, added.written)
         },
         Frame::Command(reader, n) => {
@@ -93,7 +94,6 @@ fn carry_out(
                 walk_line(stored, reader, table, records, option, out),
             )
         },
-        Frame::Bad => said(stored, put_refusal(out, 0, BAD_FRAME)),
     }
 }
 
@@ -112,7 +112,10 @@ pub(crate) fn end_frame(
         (lent table.old records.old namespaces.old out.old)
         (lent table.new records.new namespaces.new out.new) result }
 {
-    let mut bytes = frame_buffer();
-    let frame = read_gathered(line, gathered, &mut bytes);
-    carry_out(frame, &bytes, stored, table, records, namespaces, out)
+    // room for the bytes of any frame
+    let mut bytes: [u8; 2050] = filled(0);
+    match read_gathered(line, gathered, &mut bytes) {
+        Some(frame) => carry_out(frame, &bytes, stored, table, records, namespaces, out),
+        None => said(stored, put_refusal(out, 0, Refusal::BadFrame.number())),
+    }
 }

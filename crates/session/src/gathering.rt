@@ -17,14 +17,14 @@ pub(crate) fn gather_line(line: &mut [u8], g: Gathered, chunk: &[u8]) -> Run
     ensures { Runs chunk.now line.old line.new g result }
 {
     let mut gathered = g;
-    let mut i = 0;
-    while i < chunk.len() {
-        let c = chunk[i];
-        if c == LF {
+    for (i, c) in chunk.iter().enumerate() {
+        if *c == LF {
             return Run { gathered, used: i };
         }
-        gathered = gather(line, gathered, c);
-        i += 1;
+        gathered = gather(line, gathered, *c);
     }
-    Run { gathered, used: i }
+    Run {
+        gathered,
+        used: chunk.len(),
+    }
 }

@@ -18,7 +18,7 @@ use carrying::end_frame;
 use frames::{Gathered, MAX_DIGITS, put_refusal};
 use gathering::gather_line;
 use kept_table::{Lengths, MAX_NAMESPACES, MAX_NUMBERS, MAX_TABLE};
-use octets::refusals::BAD_FRAME;
+use octets::Refusal;
 
 // The longest line of output: two digits for each of 1 + 16,384 bytes, and a line feed.
 pub const MAX_LINE: usize = 32771;
@@ -54,13 +54,6 @@ pub struct Taken {
     pub written: usize,
 }
 
-// What feeding answers. It is refused, and no byte changed, where the lent memory is too short or the state is none.
-#[derive(Clone, Copy)]
-pub enum Fed {
-    Taken(Taken),
-    Refused,
-}
-
 // Whether the memory has document 01's sizes and the state speaks of bytes within them.
 fn is_ready(
     state: State,
@@ -73,7 +66,7 @@ fn is_ready(
     ensures { result ≡ ready table records namespaces line out state }
 {
     let stored = state.stored;
-    let g = state.gathered;
+    let digits = state.gathered.len;
     (MAX_TABLE <= table)
         & ((MAX_NUMBERS <= records)
             & ((MAX_NAMESPACES <= namespaces)
@@ -81,12 +74,12 @@ fn is_ready(
                     & ((MAX_LINE <= out)
                         & ((stored.table <= MAX_TABLE)
                             & ((stored.namespaces <= MAX_NAMESPACES)
-                                & (g.over | (g.len <= MAX_DIGITS))))))))
+                                & digits.is_none_or(|n| n <= MAX_DIGITS)))))))
 }
 
 // The bytes of the piece through its first line feed, or all if there is none. `table` and `namespaces` hold the stored bytes at
 // their front, `line` the digits of the frame so far; `out` takes the line that the frame answers. Once an edit was accepted, the first
-// 512 of `records` are the records, each as a number (`records::word_of`), the next 512 their summary, and the first 16,384 bytes of `table` their names'
+// 512 of `records` are the records, each as a number (`word_of` of records/specs), the next 512 their summary, and the first 16,384 bytes of `table` their names'
 // area.
 pub fn feed(
     state: State,
@@ -96,7 +89,7 @@ pub fn feed(
     namespaces: &mut [u8],
     line: &mut [u8],
     out: &mut [u8],
-) -> Fed
+) -> Option<Taken>
     ensures { FeedIs chunk.now
         (lent table.old records.old namespaces.old out.old)
         (lent table.new records.new namespaces.new out.new)
@@ -111,7 +104,7 @@ pub fn feed(
         out.len(),
     );
     if !sized {
-        return Fed::Refused;
+        return None;
     }
     let so_far = state.gathered;
     let stored = state.stored;
@@ -127,7 +120,7 @@ pub fn feed(
 }
 
 // The answer of a piece that was taken.
-fn answer_taken(stored: Lengths, gathered: Gathered, used: usize, written: usize) -> Fed
+fn answer_taken(stored: Lengths, gathered: Gathered, used: usize, written: usize) -> Option<Taken>
     ensures { result ≡ taken_is stored gathered used written }
 {
     let state = State { stored, gathered };
@@ -136,7 +129,7 @@ fn answer_taken(stored: Lengths, gathered: Gathered, used: usize, written: usize
         used,
         written,
     };
-    Fed::Taken(taken)
+    Some(taken)
 }
 
 // The end of the input: a frame without its line feed is 13.
@@ -147,5 +140,5 @@ pub fn finish(state: State, out: &mut [u8]) -> usize
     if g.is_empty() {
         return 0;
     }
-    put_refusal(out, 0, BAD_FRAME)
+    put_refusal(out, 0, Refusal::BadFrame.number())
 }

@@ -6,4 +6,4 @@ use Rattle.exports.proofs.collect_words.Goals as goal
 
 pub returns : goal.returns
 returns c =
-    record { result = c.collected_outcome.ensures ∙ ap collected_case c.collect_words.ensures.result ∙ collected_case_lem _; scratch = c.collect_words.ensures.scratch; found = c.collect_words.ensures.found; pending = c.collect_words.ensures.pending; demand3 = λ is ok lawful. whole_outcome _ c.collected_outcome.ensures (c.collect_words.ensures.demand3 is ok lawful); numbers = ap allowed_outcome c.collected_outcome.ensures ∙ collected_allowed _ c.collect_words.ensures.numbers }
+    record { result = c.from.ensures ∙ ap collected_case c.collect_words.ensures.result ∙ collected_case_lem _; scratch = c.collect_words.ensures.scratch; found = c.collect_words.ensures.found; pending = c.collect_words.ensures.pending; demand3 = λ is ok lawful. whole_outcome _ c.from.ensures (c.collect_words.ensures.demand3 is ok lawful); numbers = ap allowed_outcome c.from.ensures ∙ collected_allowed _ c.collect_words.ensures.numbers }

@@ -1,7 +1,7 @@
 -- `luspemaro_join` meets its contract: `command_writer::join`'s promise, in C's form.
-use Rattle.listing_rules.proofs.Prelude.{◌∙◌, ap, false}
+use Rattle.std.specs.Prelude.{Result}
+use Rattle.listing_rules.proofs.Prelude.{◌∙◌, ap, false, ℕ}
 use Rattle.listing_rules.specs.Joining.{joined_into}
-use Rattle.octets.specs.declared.Written.{Written}
 use Rattle.exports.specs.Outcomes.{as_number, written_case}
 use Rattle.exports.proofs.OutcomeLaws.{written_case_lem}
 use Rattle.exports.proofs.luspemaro_join.Goals as goal
@@ -9,4 +9,4 @@ use Rattle.exports.proofs.luspemaro_join.Goals as goal
 pub returns : goal.returns
 unfolding joined_into as_number
 returns c =
-    (c.written_outcome.ensures ∙ ap (λ (w : Written). written_case w 0 0) c.join.ensures.0 ∙ written_case_lem _ false 0, c.join.ensures.1)
+    (c.written_outcome.ensures ∙ ap (λ (w : Result ℕ ℕ). written_case w 0 0) c.join.ensures.0 ∙ written_case_lem _ false 0, c.join.ensures.1)

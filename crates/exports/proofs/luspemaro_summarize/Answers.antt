@@ -9,6 +9,6 @@ pub returns : goal.returns
 returns c =
     let same = summarized_alike _ _ _ (plain_alike _ _ _ _ _ _ _ c.no_words-words.ensures c.copy_in-n.ensures) in
     record {
-      result = c.summarize_words.ensures.result ∙ ap (λ (m : Summarized). m.number) same;
+      result = c.number_or_0.ensures ∙ c.summarize_words.ensures.result ∙ ap (λ (m : Summarized). m.number) same;
       summary = c.summarize_words.ensures.summary ∙ ap (λ (m : Summarized). m.summary) same;
     }

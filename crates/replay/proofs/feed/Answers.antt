@@ -17,6 +17,9 @@ returns-then-held c =
     feed_taken refl (sym c.is_ready.ensures ∙ c.if-not-is_ready.false)
     (part_stopped c.loop-at.invariant c.if-held.true)
 
+pub line_end-end-requires : goal.line_end-end-requires
+line_end-end-requires c = c.loop-at.invariant.inside
+
 pub slice_bounds-gather-end : goal.slice_bounds-gather-end
 slice_bounds-gather-end c =
     line_inside c.loop-at.invariant _ c.line_end-end.ensures

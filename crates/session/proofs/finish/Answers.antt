@@ -8,4 +8,4 @@ returns-then-is_empty c = finishes _ _ _ _ _ c.is_empty.ensures (rw c.if-is_empt
 
 pub returns : goal.returns
 returns c =
-    finishes _ _ _ _ _ c.is_empty.ensures (rw c.if-is_empty.false (says_refusal 13 c.put_refusal.ensures))
+    finishes _ _ _ _ _ c.is_empty.ensures (rw c.if-is_empty.false (says_refusal 13 (rw c.number.ensures at c.put_refusal.ensures)))

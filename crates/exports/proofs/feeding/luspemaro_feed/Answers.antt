@@ -4,4 +4,4 @@ use Rattle.exports.proofs.feeding.luspemaro_feed.Goals as goal
 
 pub returns : goal.returns
 returns c =
-    feeds_chunk _ _ _ _ _ c.machine_of.ensures c.feed.ensures c.fed_chunk.ensures
+    feeds_chunk _ _ _ _ _ c.from.ensures c.feed.ensures c.from-2.ensures

@@ -12,4 +12,4 @@ slice_bounds-replay_words-end-2 c =
 pub returns : goal.returns
 returns c =
     let n = c.least-n.ensures in
-    let x = c.replay_words-replayed.ensures in record { result = c.report_of-report.ensures ∙ report_is _ _ _ _ _ _ _ n _ _ _ _ _ x; area = log_area _ _ _ _ _ _ _ n _ _ _ _ _ x; summary = log_summary _ _ _ _ _ _ _ n _ _ _ _ _ x; words = (log_words _ _ _ _ _ _ _ n _ _ _ _ _ x, log_moved _ _ _ _ _ _ _ n _ _ _ _ _ x _ c.least-to.ensures) }
+    let x = c.replay_words-replayed.ensures in record { result = c.from.ensures ∙ report_is _ _ _ _ _ _ _ n _ _ _ _ _ x; area = log_area _ _ _ _ _ _ _ n _ _ _ _ _ x; summary = log_summary _ _ _ _ _ _ _ n _ _ _ _ _ x; words = (log_words _ _ _ _ _ _ _ n _ _ _ _ _ x, log_moved _ _ _ _ _ _ _ n _ _ _ _ _ x _ c.least-to.ensures) }

@@ -1,13 +1,9 @@
 -- `frames::hexadecimal::digit_value` meets its contract. Rests on DigitLaws.
-use Rattle.listing_rules.proofs.Prelude.{◌∙◌, sym, arith}
-use Rattle.frames.proofs.DigitLaws.{value_small, value_known, value_none}
+use Rattle.listing_rules.proofs.Prelude.{◌∙◌, arith}
+use Rattle.frames.proofs.DigitLaws.{value_small, value_or}
 use Rattle.frames.proofs.hexadecimal.digit_value.Goals as goal
 
-pub returns-in-Value : goal.returns-in-Value
-returns-in-Value c =
-    let e = value_known _ _ (sym c.read_digit.ensures ∙ c.in-Value.is) in
-    (sym e, omega (arith, e, value_small c.args.c))
-
-pub returns-in-Other : goal.returns-in-Other
-returns-in-Other c =
-    (sym (value_none _ (sym c.read_digit.ensures ∙ c.in-Other.is)), omega arith)
+pub returns : goal.returns
+returns c =
+    let e = c.unwrap_or.ensures ∙ value_or c.args.c _ c.read_digit.ensures in
+    (e, omega (arith, e, value_small c.args.c))

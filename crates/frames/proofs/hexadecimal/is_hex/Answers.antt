@@ -1,23 +1,16 @@
--- `frames::hexadecimal::is_hex` meets its contract. The loop's invariant: the characters from i on are digits exactly if the
--- characters have bytes. Rests on DigitLaws.
+-- `frames::hexadecimal::is_hex` meets its contract: the characters have bytes exactly if all are digits. Rests on DigitLaws.
+use Rattle.std.proofs.Common.{rules, tests}
+use Rattle.std.proofs.lemmas.Iterator.{YieldsList-from_slice}
+use Rattle.std.proofs.lemmas.Iterator.Search.{all_from_yields_List}
 use Rattle.listing_rules.proofs.Prelude.{◌∙◌, sym}
-use Rattle.frames.proofs.DigitLaws.{hex_odd, hex_even, digits_more, digits_stop, digits_end}
+use Rattle.frames.proofs.DigitLaws.{hex_odd, hex_even, found, all_found}
 use Rattle.frames.proofs.hexadecimal.is_hex.Goals as goal
 
 pub returns-then-line-ne0 : goal.returns-then-line-ne0
 returns-then-line-ne0 c = sym (hex_odd _ c.if-line-ne0.true)
 
-pub loop-i-init : goal.loop-i-init
-loop-i-init c = hex_even _ c.if-line-ne0.false
-
-pub returns-in_default : goal.returns-in_default
-returns-in_default c =
-    sym (digits_stop _ _ c.loop-i-test.true (sym c.read_digit.ensures ∙ c.in_default.is)) ∙ c.loop-i.invariant
-
-pub loop-i-preserved : goal.loop-i-preserved
-loop-i-preserved c =
-    sym (digits_more _ _ _ c.loop-i-test.true (sym c.read_digit.ensures ∙ c.in-Value.is)) ∙ c.loop-i.invariant
-
 pub returns : goal.returns
 returns c =
-    sym (digits_end _ _ c.loop-i-test.false) ∙ c.loop-i.invariant
+    let line = c.args.line.now in
+    let by_call = all_from_yields_List found _ _ _ c.all.ensures.ran (YieldsList-from_slice line cc) (λ x b q k. search (rules, tests)) in
+    by_call ∙ all_found line ∙ hex_even line c.if-line-ne0.false

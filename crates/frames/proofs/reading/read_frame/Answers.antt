@@ -1,4 +1,5 @@
 -- `frames::reading::read_frame` meets its contract: one law for each way out. Rests on FrameLaws.
+use Rattle.std.specs.Prelude.{None}
 use Rattle.listing_rules.proofs.Prelude.{◌∙◌, ◌≡◌, ap, sym, true, List, ◌-◌, ℕ, arith, drop, length, length-drop, sets, take_all}
 use Rattle.listing_rules.specs.Frames.{bytes_of}
 use Rattle.frames.specs.Hexadecimal.{is_some, decoded}
@@ -20,10 +21,10 @@ returns-then-bytes-n c =
     let hexed : is_some (bytes_of c.args.line.now) ≡ true = sym c.is_hex.ensures ∙ c.if-not-is_hex.false in
     frame_short _ c.if-line-gt-MAX_DIGITS.false c.if-line-lt2.false hexed _ c.if-bytes-n.true
 
-pub returns-in-Bad : goal.returns-in-Bad
-returns-in-Bad c =
+pub returns-in_err-frame : goal.returns-in_err-frame
+returns-in_err-frame c =
     let hexed : is_some (bytes_of c.args.line.now) ≡ true = sym c.is_hex.ensures ∙ c.if-not-is_hex.false in
-    let kinded : c.kind_of-frame.result ≡ kind_answer c.args.line.now = c.kind_of-frame.ensures ∙ rw (
+    let kinded : c.kind_of.result ≡ kind_answer c.args.line.now = c.kind_of.ensures ∙ rw (
       c.pair_value.ensures,
       c.pair_value-reader.ensures,
       c.pair_value-option.ensures,
@@ -32,13 +33,14 @@ returns-in-Bad c =
       c.byte_at-3.ensures,
       c.byte_at-4.ensures,
     ) in
-    frame_other _ c.if-line-gt-MAX_DIGITS.false c.if-line-lt2.false hexed _ c.if-bytes-n.false
-    (sym kinded ∙ c.in-Bad.is)
+    let gone : c.from_residual.result ≡ None = grind arith in
+    rw gone (frame_other _ c.if-line-gt-MAX_DIGITS.false c.if-line-lt2.false hexed _ c.if-bytes-n.false
+    (sym kinded ∙ c.in_err-frame.was))
 
 pub returns : goal.returns
 returns c =
     let hexed : is_some (bytes_of c.args.line.now) ≡ true = sym c.is_hex.ensures ∙ c.if-not-is_hex.false in
-    let kinded : c.kind_of-frame.result ≡ kind_answer c.args.line.now = c.kind_of-frame.ensures ∙ rw (
+    let kinded : c.kind_of.result ≡ kind_answer c.args.line.now = c.kind_of.ensures ∙ rw (
       c.pair_value.ensures,
       c.pair_value-reader.ensures,
       c.pair_value-option.ensures,
@@ -49,6 +51,5 @@ returns c =
     ) in
     let a = c.args in
     let whole = take_all (length a.line.now - 2) (drop 2 a.line.now) (omega (arith, length-drop 2 a.line.now)) in
-    frame_good _ c.if-line-gt-MAX_DIGITS.false c.if-line-lt2.false hexed _ c.if-bytes-n.false _ _ kinded
-    c.in_default.not-Bad
+    frame_good _ c.if-line-gt-MAX_DIGITS.false c.if-line-lt2.false hexed _ c.if-bytes-n.false _ _ (sym kinded ∙ c.in_ok-frame.was)
     (c.put_decoded.ensures.bytes ∙ ap (λ (x : List ℕ). sets a.bytes.now 0 (decoded x)) whole)

@@ -1,6 +1,6 @@
 -- `frames::storing::store` meets its contract: one law for each way out. Rests on StoreLaws.
+use Rattle.std.specs.Prelude.{Some}
 use Rattle.listing_rules.proofs.Prelude.{ap, arith}
-use Rattle.frames.specs.declared.storing.Stored.TheVariants.{Now}
 use Rattle.frames.proofs.StoreLaws.{stores_outside, stores_over, stores_now}
 use Rattle.frames.proofs.storing.store.Goals as goal
 
@@ -14,4 +14,4 @@ pub returns-then-limit-used-2 : goal.returns-then-limit-used-2
 returns-then-limit-used-2 c = stores_over _ _ _ _ (omega arith)
 
 pub returns : goal.returns
-returns c = stores_now _ _ _ _ _ _ (omega arith) (omega arith) (ap Now (omega arith)) c.put_all.ensures.bytes
+returns c = stores_now _ _ _ _ _ _ (omega arith) (omega arith) (ap Some (omega arith)) c.put_all.ensures.bytes

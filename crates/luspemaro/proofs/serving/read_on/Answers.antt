@@ -1,7 +1,7 @@
 -- `luspemaro::serving::read_on` meets its contract: bytes, the end of the input, or a failure. Rests on ServeLaws.
-use Rattle.luspemaro.proofs.ServeLaws.{got, room_of, reads_bytes, reads_end, reads_none}
+use Rattle.luspemaro.proofs.ServeLaws.{got, room_of, reads_bytes, reads_end, reads_none, whole_by}
 use Rattle.kept_table.specs.Kept.{Lent, lent}
-use Rattle.listing_rules.proofs.Prelude.{not-false, not-true, refl, subst, sym, ℕ, ◌<◌, arith, length-take-le}
+use Rattle.listing_rules.proofs.Prelude.{refl, subst, sym, ℕ, ◌<◌, arith, length-take-le}
 use Rattle.luspemaro.proofs.serving.read_on.Goals as goal
 
 pub slice_bounds-chunk-end : goal.slice_bounds-chunk-end
@@ -13,21 +13,17 @@ slice_bounds-serve-end c =
     sym (length-take-le _ _ (omega
     (arith, (got c.read_some.ensures c.in-Bytes.is).1, c.read_some.auto.chunk)))
 
-pub answer_end-end-requires : goal.answer_end-end-requires
-answer_end-end-requires c =
+pub answer_end-requires : goal.answer_end-requires
+answer_end-requires c =
     let memory : Lent = lent c.args.table.now c.args.records.now c.args.namespaces.now c.args.out.now in
     room_of memory
     c.args.line.now c.args.place.state c.requires
 
-pub write_failed-requires : goal.write_failed-requires
-write_failed-requires c =
-    not-true _ c.if-not-end.true
-
-pub returns-then-not-end : goal.returns-then-not-end
-returns-then-not-end c =
+pub returns-in-Err : goal.returns-in-Err
+returns-in-Err c =
     let memory : Lent = lent c.args.table.now c.args.records.now c.args.namespaces.now c.args.out.now in
     rw
-    c.write_failed.ensures (reads_none memory _ _ _ c.requires c.answer_end-end.auto.out _)
+    c.write_failed.ensures (reads_none memory _ _ _ c.requires c.answer_end.auto.out _)
 
 pub returns-in-Bytes : goal.returns-in-Bytes
 returns-in-Bytes c =
@@ -35,13 +31,13 @@ returns-in-Bytes c =
     reads_bytes c.serve.ensures
     (subst (λ (k : ℕ). 0 < k) (sym (length-take-le _ _ (omega (arith, some.1, c.read_some.auto.chunk)))) some.0)
 
-pub returns-else-not-end : goal.returns-else-not-end
-returns-else-not-end c =
+pub returns-in_default : goal.returns-in_default
+returns-in_default c =
     let memory : Lent = lent c.args.table.now c.args.records.now c.args.namespaces.now c.args.out.now in
     rw
-    c.place_at.ensures (reads_end memory _ _ _ c.requires c.answer_end-end.auto.out _
-    c.answer_end-end.result c.answer_end-end.ensures
-    (not-false _ c.if-not-end.false))
+    c.place_at.ensures (reads_end memory _ _ _ c.requires c.answer_end.auto.out _
+    c.answer_end.result c.answer_end.ensures
+    (whole_by _ c.in_default.not-Err))
 
 pub returns-in-Failed : goal.returns-in-Failed
 returns-in-Failed c =

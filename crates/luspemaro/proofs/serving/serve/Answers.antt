@@ -1,7 +1,6 @@
 -- `luspemaro::serving::serve` meets its contract. The loop's invariant: the first bytes are answered. Rests on ServeLaws.
-use Rattle.luspemaro.proofs.ServeLaws.{along_none, along_takes, along_more, serves_all, serves_none}
-use Rattle.listing_rules.proofs.Prelude.{refl, not-false, not-true, arith}
-use Rattle.listing_rules.proofs.Prelude.{◌-◌}
+use Rattle.luspemaro.proofs.ServeLaws.{along_none, along_takes, along_more, serves_all, serves_none, whole_by}
+use Rattle.listing_rules.proofs.Prelude.{refl, arith}
 use Rattle.luspemaro.proofs.serving.serve.Goals as goal
 
 pub loop-at-init : goal.loop-at-init
@@ -12,11 +11,8 @@ pub answer_some-round-requires : goal.answer_some-round-requires
 answer_some-round-requires c =
     c.loop-at.invariant.ready_on
 
-pub write_failed-requires : goal.write_failed-requires
-write_failed-requires c = not-true _ c.if-not-sent.true
-
-pub returns-then-not-sent : goal.returns-then-not-sent
-returns-then-not-sent c =
+pub returns-in-Err : goal.returns-in-Err
+returns-in-Err c =
     rw
     c.write_failed.ensures (serves_none _ _ _ _ _ c.answer_some-round.ensures.ready_on)
 
@@ -32,7 +28,7 @@ loop-at-smaller c =
 
 pub loop-at-preserved : goal.loop-at-preserved
 loop-at-preserved c =
-    along_more c.loop-at.invariant _ _ _ c.loop-at-test.true c.answer_some-round.ensures (not-false _ c.if-not-sent.false)
+    along_more c.loop-at.invariant _ _ _ c.loop-at-test.true c.answer_some-round.ensures (whole_by _ c.in_default.not-Err)
     c.answer_some-round.auto.table c.answer_some-round.auto.records
     c.answer_some-round.auto.namespaces c.answer_some-round.auto.line c.answer_some-round.auto.out _ c.advance-frames.ensures
 

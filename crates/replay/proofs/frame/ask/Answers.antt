@@ -4,4 +4,4 @@ use Rattle.replay.proofs.frame.ask.Goals as goal
 
 pub returns : goal.returns
 returns c =
-    asks_by c.read_command-n.ensures c.counted.ensures
+    asks_by c.read_command.ensures c.unwrap_or-n.ensures c.counted.ensures

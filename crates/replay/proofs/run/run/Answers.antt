@@ -11,11 +11,11 @@ pub same_reply-same-requires : goal.same_reply-same-requires
 same_reply-same-requires c =
     let args = c.args in
     run_fits args.words.now args.sums.now args.area.now args.namespaces.now args.command.now _ _ args.rows (line_is_lem args.command.now)
-    (ap length c.no_answer-answer.ensures ∙ length-replicate {A = ℕ} 16384 0) _ _ _ _ _ c.answer_words-done.ensures
+    (ap length c.filled-answer.ensures ∙ length-replicate {A = ℕ} 16384 0) _ _ _ _ _ c.answer_words-done.ensures
 
 pub returns : goal.returns
 returns c =
     let args = c.args in
     runs args.words.now args.sums.now args.area.now args.namespaces.now args.command.now _ _ args.rows (line_is_lem args.command.now)
-    (ap length c.no_answer-answer.ensures ∙ length-replicate {A = ℕ} 16384 0) _ _ _ _ _ c.answer_words-done.ensures c.answer_words-done.auto.area _ _
+    (ap length c.filled-answer.ensures ∙ length-replicate {A = ℕ} 16384 0) _ _ _ _ _ c.answer_words-done.ensures c.answer_words-done.auto.area _ _
     _ c.same_reply-same.ensures

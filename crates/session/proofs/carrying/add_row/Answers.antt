@@ -4,7 +4,7 @@ use Rattle.session.proofs.carrying.add_row.Goals as goal
 
 pub returns-then-stored : goal.returns-then-stored
 returns-then-stored c =
-    λ words namespaces entries. rw c.said.ensures (adds_not _ _ _ _ c.requires.table_bound _ _ c.if-stored.true c.put_refusal.ensures words namespaces entries)
+    λ words namespaces entries. rw c.said.ensures (adds_not _ _ _ _ c.requires.table_bound _ _ c.if-stored.true (rw c.number.ensures at c.put_refusal.ensures) words namespaces entries)
 
 pub returns : goal.returns
 returns c =

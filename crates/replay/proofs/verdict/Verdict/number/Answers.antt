@@ -1,5 +1,5 @@
 -- `replay::Verdict::number` meets its contract, case by case.
-use Rattle.listing_rules.proofs.Prelude.{ap, sym}
+use Rattle.listing_rules.proofs.Prelude.{◌∙◌, ap, sym}
 use Rattle.listing_rules.specs.Replay.{replay_number}
 use Rattle.replay.specs.declared.verdict.Verdict.{Verdict}
 use Rattle.replay.specs.Reports.{meant_by}
@@ -15,4 +15,4 @@ returns-in-Differs c = sym (ap (λ (v : Verdict). replay_number (meant_by v)) c.
 
 pub returns-in-Stopped : goal.returns-in-Stopped
 unfolding replay_number meant_by
-returns-in-Stopped c = sym (ap (λ (v : Verdict). replay_number (meant_by v)) c.in-Stopped.is)
+returns-in-Stopped c = c.number.ensures ∙ sym (ap (λ (v : Verdict). replay_number (meant_by v)) c.in-Stopped.is)

@@ -1,6 +1,6 @@
--- `report_of` is the definition, field by field.
+-- `ReportFromReplayed::from` is the definition, field by field.
 use Rattle.exports.specs.Replays.{report_case}
-use Rattle.exports.proofs.replaying.report_of.Goals as goal
+use Rattle.exports.proofs.replaying.ReportFromReplayed.from.Goals as goal
 
 pub returns : goal.returns
 unfolding report_case

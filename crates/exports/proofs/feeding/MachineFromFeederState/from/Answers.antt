@@ -1,6 +1,6 @@
--- `machine_of` is the definition, field by field.
+-- `MachineFromFeederState::from` is the definition, field by field.
 use Rattle.exports.specs.Feeding.{machine_of, cr_of}
-use Rattle.exports.proofs.feeding.machine_of.Goals as goal
+use Rattle.exports.proofs.feeding.MachineFromFeederState.from.Goals as goal
 
 pub returns : goal.returns
 unfolding machine_of

@@ -1,9 +1,0 @@
--- What holds at each turn of the loop of `before_number`, and what falls.
-use Rattle.std.proofs.Common.{◌≤◌, length}
-use Rattle.luspemaro.proofs.calls.before_number.Given as goal
-
-abbrev pub invariant-loop-k : goal.invariant-loop-k
-invariant-loop-k l = l.k ≤ length l.text
-
-abbrev pub decreases-loop-k : goal.decreases-loop-k
-decreases-loop-k l = l.k

@@ -79,9 +79,12 @@ impl Cursor {
         ensures bare_in { BareIn text.now self.at result }
     {
         let start = self.at;
-        let length = text
+        if text.len() < start {
+            return None;
+        }
+        // From the slice on: `skip` would count its way there at each token.
+        let length = text[start..]
             .iter()
-            .skip(start)
             .take_while(|b| class.holds(**b))
             .count();
         if length == 0 {

@@ -83,10 +83,14 @@ fn skip(line: &[u8], at: usize, text: &[u8]) -> Option<usize>
     requires { at ≤ length line.now }
     ensures { Skips line.now at text.now result }
 {
-    if !line[at..].starts_with(text) {
+    if line.len() - at < text.len() {
         return None;
     }
-    Some(at + text.len())
+    let end = at + text.len();
+    if !same_bytes(text, &line[at..end]) {
+        return None;
+    }
+    Some(end)
 }
 
 // The sixteen in order: which of them stand here.

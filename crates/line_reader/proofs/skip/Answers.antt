@@ -1,13 +1,16 @@
--- `skip` meets its contract, as the library compares a text with the front of a run (`Skipping`).
-use Rattle.listing_rules.proofs.Prelude.{◌∙◌, sym}
-use Rattle.line_reader.proofs.Skipping.{skip_other, skip_found, skip_inside}
+-- `skip` meets its contract: a text that has room is compared at once (`Skipping`).
+use Rattle.listing_rules.proofs.Prelude.{◌∙◌, sym, arith}
+use Rattle.line_reader.proofs.Skipping.{skip_short, skip_other, skip_found}
 use Rattle.line_reader.proofs.skip.Goals as goal
 
-pub returns-then-not-starts_with : goal.returns-then-not-starts_with
-returns-then-not-starts_with c = skip_other c.args.line.now _ c.args.at (sym c.starts_with.ensures.value ∙ c.if-not-starts_with.true)
+pub returns-then-line-at : goal.returns-then-line-at
+returns-then-line-at c =
+    skip_short _ _ c.args.at c.if-line-at.true
+
+pub returns-then-not-same_bytes : goal.returns-then-not-same_bytes
+returns-then-not-same_bytes c =
+    skip_other _ _ _ c.if-line-at.false (sym c.same_bytes.ensures ∙ c.if-not-same_bytes.true)
 
 pub returns : goal.returns
-returns c = (
-  skip_found c.args.line.now _ c.args.at (sym c.starts_with.ensures.value ∙ c.if-not-starts_with.false),
-  skip_inside c.args.line.now _ c.args.at c.requires (c.starts_with.ensures.bound c.if-not-starts_with.false),
-)
+returns c =
+    (skip_found _ _ _ c.if-line-at.false (sym c.same_bytes.ensures ∙ c.if-not-same_bytes.false), omega arith)

@@ -9,6 +9,7 @@ pub mod HeldLaws
 mod AnswerLaws
 mod PackedLaws
 mod LinkLaws
+mod CopyLaws
 mod LayoutLaws
 mod PassLaws
 mod FindLaws

@@ -1,5 +1,5 @@
 // Records over an area of name bytes, as raw words: copied into the lent words, checked, and held against each other's bytes.
-ghost use Rattle.std.specs.Prelude.{map, take};
+ghost use Rattle.std.specs.Prelude.{◌≡◌, map, ◌++◌, ◌≤◌, length, take, drop};
 ghost use Rattle.records.specs.Words.{record_of};
 ghost use Rattle.records.specs.Lent.{word_table};
 ghost use Rattle.mailbox_table.specs.Find.{Finds};
@@ -19,7 +19,7 @@ pub(crate) fn find_words(area: &[u8], raw: &[u64], count: usize, words: &mut [u6
     if raw.len().min(words.len()).min(MAX_ROWS) < count {
         return None;
     }
-    words[..count].copy_from_slice(&raw[..count]);
+    copy_words(raw, count, words);
     if !rows_pass(area, &mut words[..count]) {
         return None;
     }
@@ -28,4 +28,14 @@ pub(crate) fn find_words(area: &[u8], raw: &[u64], count: usize, words: &mut [u6
         return None;
     }
     Some(count)
+}
+
+// The first `count` of the raw words, to the front of `words`.
+fn copy_words(raw: &[u64], count: usize, words: &mut [u64])
+    requires { (count ≤ length raw.now) × (count ≤ length words.old) }
+    ensures { words.new ≡ take count raw.now ++ drop count words.old }
+{
+    for i in 0..count {
+        words[i] = raw[i];
+    }
 }

@@ -1,10 +1,9 @@
 -- Laws of writes: a run of them is one write of the bytes joined, in a loop too, and a write at the front that fits is the bytes and what
 -- lay after them. Rests on the library's laws of `sets`.
 use Rattle.listing_rules.proofs.Prelude.{◌∙◌, ◌≡◌, ap, refl, sym, ◌⊎◌, inl, inr, ⊎_elim, List, [], ◌++◌, ◌∷◌, append_assoc, append-nil, ◌+◌, ◌-◌, ◌<◌}
-use Rattle.listing_rules.proofs.Prelude.{◌^◌, ◌≤◌, min, suc, ℕ, add-suc, add-zero, suc-add, zero-add, dec_le, arith, drop, length}
+use Rattle.listing_rules.proofs.Prelude.{◌^◌, ◌≤◌, min, suc, ℕ, add-suc, add-zero, suc-add, zero-add, add-one, dec_le, arith, drop, get_or, length}
 use Rattle.listing_rules.proofs.Prelude.{length-append, set, take, take-append-drop, length-sets, length-take-le, set_out, sets, sets-eq, take_all}
-use borrow.Rule.Slice.PartMut.{put_mid}
-use Rattle.std.proofs.lemmas.Slice.{put_mid-paste}
+use Rattle.listing_rules.proofs.Prelude.{take-suc}
 use Rattle.octets.specs.Put.{Put}
 
 pub either : (a b : ℕ) → (a ≤ b) ⊎ (b < a)
@@ -19,6 +18,14 @@ sets_out : (d : List ℕ) (k : ℕ) (ys : List ℕ) → length d ≤ k → sets 
 sets_out d k [] h = refl
 sets_out d k (y ∷ ys) h = rw (set_out d k y h) (sets_out d (suc k) ys (omega arith))
 
+-- one byte more
+pub sets_more : (d s : List ℕ) (at i : ℕ) → i < length s → set (sets d at (take i s)) (at + i) (get_or s i 0) ≡ sets d at (take (i + 1) s)
+sets_more d s at i h =
+    rw (add-one, take-suc s i 0 h, sets_append d at (take i s) (get_or s i 0 ∷ [])) (ap (λ (k : ℕ). set (sets d at (take i s)) k (get_or s i 0)) (omega (arith, taken)))
+  where
+    taken : length (take i s) ≡ i
+    taken = length-take-le i s (omega arith)
+
 -- what does not fit is not stored
 pub sets_part : (d s : List ℕ) (at n : ℕ) → n ≡ min (length s) (length d - at) → sets d at (take n s) ≡ sets d at s
 sets_part d s at n e = ⊎_elim whole part (either (length s) (length d - at))
@@ -32,18 +39,6 @@ sets_part d s at n e = ⊎_elim whole part (either (length s) (length d - at))
         (ap (λ (x : List ℕ). sets d at x) (sym (take-append-drop n s))
         ∙ sets_append d at (take n s) (drop n s)
         ∙ sets_out (sets d at (take n s)) (at + length (take n s)) (drop n s) (omega (arith, length-sets d at (take n s), length-take-le n s (omega arith))))
-
--- the bytes that fit, in one piece
-pub sets_piece : (d s : List ℕ) (at n k : ℕ) (ys : List ℕ) → n ≡ min (length s) (length d - at) → 0 < n → k ≡ n → ys ≡ take n s → put_mid at k d ys ≡ sets d at s
-sets_piece d s at n k ys e h g w =
-    put_mid-paste at k d ys (take n s) n w (sym g) (sym taken)
-    ∙ ap (λ x. take at d ++ x ++ drop (at + n) d) (take_all n (take n s) (omega (arith, taken)))
-    ∙ ap (λ x. take at d ++ take n s ++ drop (at + x) d) (sym taken)
-    ∙ sym (sets-eq (take n s) d at (omega (arith, taken)))
-    ∙ sets_part d s at n e
-  where
-    taken : length (take n s) ≡ n
-    taken = length-take-le n s (omega arith)
 
 module _ {d e : List ℕ} {at : ℕ} {xs : List ℕ} {r : ℕ} where
   -- a write keeps the buffer's length

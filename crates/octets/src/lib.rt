@@ -111,8 +111,8 @@ pub fn put_all(buf: &mut [u8], at: usize, s: &[u8]) -> usize
     ensures { Put buf.old buf.new at s.now result }
 {
     let n = room_for(buf.len(), at, s.len());
-    if 0 < n {
-        buf[at..at + n].copy_from_slice(&s[..n]);
+    for i in 0..n {
+        buf[at + i] = s[i];
     }
     advance(at, s.len())
 }

@@ -1,4 +1,5 @@
-// Words and bytes changed in place: flags set, a word put in or taken out, a name cleared. Rows move by one place.
+// Words and bytes changed in place: flags set, a word put in or taken out, a name cleared. Rows move by one place; the loop of an
+// insertion begins at the far end, that of a removal at the near one, so that no word is lost.
 ghost use Rattle.std.specs.Prelude.{◌≡◌, ◌+◌, ◌≤◌, ◌<◌, length, get_or, set, replicate};
 ghost use Rattle.listing_rules.specs.Subscriptions.{overwritten};
 ghost use Rattle.subscriptions.specs.Applied.{with_flags, new_word, inserted_at, removed_at};
@@ -40,7 +41,9 @@ pub(crate) fn put_word(words: &mut [u64], count: usize, k: usize, word: u64)
     requires { (k ≤ count) × (count < length words.old) }
     ensures { words.new ≡ inserted_at words.old count k word }
 {
-    words[k..count + 1].rotate_right(1);
+    for i in (k..count).rev() {
+        words[i + 1] = words[i];
+    }
     words[k] = word;
 }
 
@@ -50,7 +53,9 @@ pub(crate) fn remove_word(words: &mut [u64], count: usize, k: usize)
     ensures { words.new ≡ removed_at words.old count k }
 {
     let last = count - 1;
-    words[k..count].rotate_left(1);
+    for i in k..last {
+        words[i] = words[i + 1];
+    }
     words[last] = 0;
 }
 

@@ -7,8 +7,9 @@ pub(crate) fn restart(words: &mut [u64], places: &[u16])
     requires { Starts words.old (length places.now) }
     ensures { words.new ≡ map (restarted places.now) words.old }
 {
-    for w in words.iter_mut() {
-        let start = *w / 65536 % 65536;
-        *w = *w - 65536 * start + 65536 * (places[start as usize] as u64);
+    for i in 0..words.len() {
+        let w = words[i];
+        let start = w / 65536 % 65536;
+        words[i] = w - 65536 * start + 65536 * (places[start as usize] as u64);
     }
 }

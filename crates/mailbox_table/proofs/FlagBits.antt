@@ -3,8 +3,13 @@ use Rattle.listing_rules.proofs.Prelude.{◌∙◌, ◌≡◌, ap, refl, Bool, �
 use Rattle.listing_rules.specs.Bytes.{bit}
 use Rattle.listing_rules.specs.Lists.{any_of}
 use Rattle.listing_rules.specs.Flags.{uses, has_use}
+use Rattle.mailbox_table.specs.declared.flags.TheConstants.Flags.{NONE}
 use Rattle.octets.specs.Sets.{touches, set_with}
 use Rattle.octets.proofs.Sets.{touches_bits}
+
+-- the empty set has no member
+pub none_is : NONE ≡ record { bits = 0 }
+none_is = refl
 
 -- bits 8 to 14
 pub some_use : (f : ℕ) → touches f 32512 ≡ has_use f

@@ -13,6 +13,12 @@ use Rattle.records.specs.Words.{record_of}
 use Rattle.mailbox_table.specs.Index.{nth_row}
 use Rattle.mailbox_table.specs.Layout.{covers, Marked, Mapped}
 
+-- no names lie without overlap
+pub apart_none : (ws : List ℕ) → length ws ≡ 0 → true ≡ all_apart (map record_of ws)
+unfolding all_apart
+apart_none [] h = refl
+apart_none (w ∷ ws) h = absurd (omega (arith, h))
+
 module _ (start len k : ℕ) where
   covers_true : covers start len k ≡ true → (start ≤ k) × (k < start + len)
   unfolding covers

@@ -3,13 +3,12 @@ use Rattle.std.specs.Prelude.{Option, Some, None, MatchOption}
 use Rattle.std.specs.Option.{option_partial_cmp}
 use Rattle.std.specs.Ordering as Ordering
 use Rattle.std.specs.Ordering.{nat_cmp, partial_lt}
-use Rattle.std.specs.List.{HoldsAt, prefix_len, zip}
-use Rattle.std.proofs.lemmas.List.Folds.{length-prefix_len}
+use Rattle.std.specs.List.{HoldsAt}
 use Rattle.std.proofs.lemmas.Bool.Decides.{nat_tests}
 use denote.Ref.{Bor}
-use Rattle.listing_rules.proofs.Prelude.{◌∙◌, ◌≡◌, ap, take, refl, sym, Bool, cond, false, false≢true, true, List, [], ◌∷◌, ◌<◌, ◌≤◌}
-use Rattle.listing_rules.proofs.Prelude.{compare, suc, ℕ, dec_le, arith, eqb, ltb, get_or, length}
-use Rattle.listing_rules.proofs.Prelude.{eqb-false, eqb-true, le-ltb, lt-ltb}
+use Rattle.listing_rules.proofs.Prelude.{◌∙◌, ◌≡◌, ap, refl, sym, Bool, cond, false, false≢true, true, ◌⊎◌, inl, inr, List, [], ◌∷◌, ◌+◌, ◌<◌, ◌≤◌}
+use Rattle.listing_rules.proofs.Prelude.{compare, min, suc, ℕ, add-zero, add-one, dec_le, arith, eqb, ltb, drop, drop_of_length-le, get_or, length}
+use Rattle.listing_rules.proofs.Prelude.{drop-cons, eq-eqb, eqb-false, eqb-true, le-ltb, lt-ltb, ne_eqb}
 use Rattle.listing_rules.specs.Orders.{lex_by, byte_order, then_by, is_lt}
 use Rattle.listing_rules.proofs.Order.{View, less, equal, more, view, eq_compare}
 use Rattle.mailbox_table.specs.Shared.{shared_len}
@@ -62,16 +61,36 @@ shared_le_r (x ∷ a) (y ∷ b) = go (eqb x y) (shared_le_r a b)
     go true h = omega arith
     go false h = omega arith
 
--- what is taken from the front of both while it is equal
-shared_front : (a b : List ℕ) → prefix_len (λ (p : ℕ × ℕ). eqb p.0 p.1) (zip a b) ≡ shared_len a b
+shared_nil : (a : List ℕ) → shared_len a [] ≡ 0
 unfolding shared_len
-shared_front [] b = refl
-shared_front (x ∷ a) [] = refl
-shared_front (x ∷ a) (y ∷ b) = rw (shared_front a b) (ap (λ (n : ℕ). cond (eqb x y) n 0) (omega arith))
+shared_nil [] = refl
+shared_nil (x ∷ a) = refl
 
-pub shared_taken : (a b : List ℕ) →
-    length (take (prefix_len (λ (p : ℕ × ℕ). eqb p.0 p.1) (zip a b)) (zip a b)) ≡ shared_len a b
-shared_taken a b = length-prefix_len (λ (p : ℕ × ℕ). eqb p.0 p.1) (zip a b) ∙ shared_front a b
+-- a loop over the bytes that are alike
+module _ (a b : List ℕ) (i : ℕ) where
+  pub shared_more : i < length a → i < length b → get_or a i 0 ≡ get_or b i 0 → i + shared_len (drop i a) (drop i b) ≡ i + 1 + shared_len (drop (i + 1) a) (drop (i + 1) b)
+  shared_more h k e =
+      rw
+      (add-one i, drop-cons a i 0 h, drop-cons b i 0 k, shared_same (get_or a i 0) (get_or b i 0) (drop (suc i) a) (drop (suc i) b) (eq-eqb (get_or a i 0) (get_or b i 0) e))
+      (omega arith)
+
+  pub shared_stop : i < length a → i < length b → (get_or a i 0 ≡ get_or b i 0 → ⊥) → i + shared_len (drop i a) (drop i b) ≡ i
+  shared_stop h k e =
+      rw
+      (drop-cons a i 0 h, drop-cons b i 0 k, shared_other (get_or a i 0) (get_or b i 0) (drop (suc i) a) (drop (suc i) b) (ne_eqb (get_or a i 0) (get_or b i 0) e))
+      (add-zero i)
+
+  pub least : min (length a) (length b) ≤ i → (length a ≤ i) ⊎ (length b ≤ i)
+  least h = go (dec_le (length a) i)
+    where
+      go : Dec (length a ≤ i) → (length a ≤ i) ⊎ (length b ≤ i)
+      go (yes k) = inl k
+      go (no k) = inr (omega arith)
+
+  pub shared_out : (length a ≤ i) ⊎ (length b ≤ i) → i + shared_len (drop i a) (drop i b) ≡ i
+  unfolding shared_len
+  shared_out (inl h) = rw (drop_of_length-le a h) (add-zero i)
+  shared_out (inr h) = rw (drop_of_length-le b h, shared_nil (drop i a)) (add-zero i)
 
 -- a prefix first
 order_nil_nil : is_lt (byte_order [] []) ≡ false

@@ -76,7 +76,13 @@ fn next_row(area: &[u8], previous: Row, word: u64) -> Option<Row>
 fn common(a: &[u8], b: &[u8]) -> usize
     ensures { result ≡ shared_len a.now b.now }
 {
-    a.iter().zip(b).take_while(|(x, y)| x == y).count()
+    let n = a.len().min(b.len());
+    for i in 0..n {
+        if a[i] != b[i] {
+            return i;
+        }
+    }
+    n
 }
 
 // Whether a comes before b by bytes, a prefix first: the first place where they differ decides.

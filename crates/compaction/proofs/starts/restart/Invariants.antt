@@ -1,7 +1,7 @@
--- What holds at each turn of a loop of `restart`, and what falls.
+-- What holds at each turn of the loop of `restart`.
 use Rattle.compaction.specs.Moves.{restarted}
 use Rattle.compaction.proofs.StartLaws.{Mapped}
 use Rattle.compaction.proofs.starts.restart.Given as goal
 
-abbrev pub invariant-loop-w : goal.invariant-loop-w
-invariant-loop-w l = Mapped (restarted l.places) l.initial.words l.words l.w-index
+abbrev pub invariant-loop-i : goal.invariant-loop-i
+invariant-loop-i l = Mapped (restarted l.places) l.initial.words l.words l.i

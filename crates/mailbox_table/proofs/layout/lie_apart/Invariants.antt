@@ -2,5 +2,5 @@
 use Rattle.mailbox_table.proofs.LayoutLaws.{Laying}
 use Rattle.mailbox_table.proofs.layout.lie_apart.Given as goal
 
-abbrev pub invariant-loop-word : goal.invariant-loop-word
-invariant-loop-word l = Laying l.words l.used l.word-index
+abbrev pub invariant-loop-i : goal.invariant-loop-i
+invariant-loop-i l = Laying l.words l.used l.i

@@ -1,17 +1,26 @@
--- `mailbox_table::link::common` meets its contract: what the two share is what is taken from both while it is equal. By SharedLaws.
-use Rattle.std.proofs.lemmas.Iterator.{YieldsList-from_slice, YieldsList-from_zip}
-use Rattle.std.proofs.lemmas.Iterator.Search.{YieldsList-from_take_while}
-use Rattle.std.proofs.lemmas.Iterator.Consumers.{count_from_yields_List}
-use Rattle.listing_rules.proofs.Prelude.{◌∙◌, ℕ, eqb, rules}
-use Rattle.mailbox_table.proofs.SharedLaws.{shared_taken}
+-- `mailbox_table::link::common` meets its contract: i bytes are alike, and what the rests share is added. By SharedLaws.
+use Rattle.listing_rules.proofs.Prelude.{◌∙◌, ◌≡◌, sym, zero-add, arith}
+use Rattle.mailbox_table.proofs.SharedLaws.{shared_more, shared_stop, shared_out, least}
 use Rattle.mailbox_table.proofs.link.common.Goals as goal
+
+pub loop-i-init : goal.loop-i-init
+loop-i-init c = (omega arith, zero-add _)
+
+pub returns-then-a-i : goal.returns-then-a-i
+returns-then-a-i c =
+    let a = c.args.a.now in
+    let b = c.args.b.now in
+    sym (shared_stop a b _ (omega (arith, c.min-n.ensures)) (omega (arith, c.min-n.ensures)) c.if-a-i.true) ∙ c.loop-i.invariant.1
+
+pub loop-i-preserved : goal.loop-i-preserved
+loop-i-preserved c =
+    let a = c.args.a.now in
+    let b = c.args.b.now in
+    (omega arith, sym (shared_more a b _ (omega (arith, c.min-n.ensures)) (omega (arith, c.min-n.ensures)) c.if-a-i.false) ∙ c.loop-i.invariant.1)
 
 pub returns : goal.returns
 returns c =
     let a = c.args.a.now in
     let b = c.args.b.now in
-    count_from_yields_List c.take_while.result c.count.result c.count.ensures.ran
-    (YieldsList-from_take_while _ (λ (p : ℕ × ℕ). eqb p.0 p.1)
-    (YieldsList-from_zip (YieldsList-from_slice a cc) (YieldsList-from_slice b cc))
-    c.take_while.ensures.closure c.take_while.ensures.done (λ x r q k. search rules))
-    ∙ shared_taken a b
+    let end : c.min-n.result ≡ c.loop-i.i = omega (arith, c.loop-i.invariant.0, c.loop-i-test.false) in
+    end ∙ sym (shared_out a b _ (least a b _ (omega (arith, c.min-n.ensures, c.loop-i-test.false)))) ∙ c.loop-i.invariant.1

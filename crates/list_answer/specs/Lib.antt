@@ -5,4 +5,3 @@ pub mod Attributes
 pub mod Marks
 pub mod Ready
 pub mod Shown
-pub mod Measured

@@ -1,5 +1,6 @@
 // The whole LIST or LSUB answer: the lines of the names that are listed, in ascending order, and the tagged line.
 ghost use Rattle.std.specs.Prelude.{◌≡◌, cond, ◌<◌, ◌-◌, length};
+ghost use Rattle.listing_rules.specs.Server.{answered};
 ghost use Rattle.octets.specs.Put.{Put};
 ghost use Rattle.octets.specs.Written.{Gives};
 ghost use Rattle.mailbox_table.specs.Index.{Index};
@@ -8,7 +9,7 @@ ghost use Rattle.list_answer.specs.Shown.{view_name, view_row, view_rows, view_a
 
 use super::decide::{Beginning, decide, front_of};
 use super::marks::mark_rows;
-use super::measured::write_measured;
+use super::measured::{Answer, write_measured};
 use super::question::{Question, is_one_at_most};
 use super::view::View;
 use command_line::Options;
@@ -83,7 +84,31 @@ fn write_answer(
         patterns,
         question,
     };
-    write_measured(|buf: &mut [u8]| put_answer(buf, view, tag), out)
+    write_marked(view, tag, out)
+}
+
+// The answer over rows that are marked.
+fn write_marked(view: View, tag: &[u8], out: &mut [u8]) -> Result<usize, Refusal>
+    ensures { IsReady view.entry → Gives (answered (view_answer view.entry tag.now)) out.old out.new result }
+{
+    write_measured(Listing { view, tag }, out)
+}
+
+// What an answer is made from: a view and the tag.
+#[derive(Clone, Copy)]
+struct Listing<'a, 'b> {
+    view: View<'a>,
+    tag: &'b [u8],
+}
+
+impl Answer for Listing<'_, '_> {
+    ghost text = { λ a. view_answer a.view a.tag.now };
+
+    ghost is_ready = { λ a. IsReady a.view };
+
+    fn put(self, buf: &mut [u8]) -> usize {
+        put_answer(buf, self.view, self.tag)
+    }
 }
 
 // The lines and the tagged line.

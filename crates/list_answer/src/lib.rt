@@ -16,4 +16,4 @@ mod question;
 mod view;
 
 pub use answer::{write_list, write_lsub};
-pub use measured::write_measured;
+pub use measured::{Answer, write_measured};

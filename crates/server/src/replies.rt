@@ -8,7 +8,7 @@ ghost use Rattle.server.specs.Replies.{spaces_text, spaces_reply, root_text, roo
 
 use super::asked::{Asked, Rows};
 use command_line::put_patterns;
-use list_answer::{write_list, write_lsub, write_measured};
+use list_answer::{Answer, write_list, write_lsub, write_measured};
 use list_line::{put_ok_line, put_root_line};
 use namespace_list::put_namespaces;
 use octets::{Refusal, filled};
@@ -28,7 +28,24 @@ pub(crate) fn write_namespaces(
 ) -> Result<usize, Refusal>
     ensures { Gives (spaces_reply namespaces.now tag.now) out.old out.new result }
 {
-    write_measured(|buf: &mut [u8]| put_spaces(buf, namespaces, tag), out)
+    write_measured(Spaces { namespaces, tag }, out)
+}
+
+// What the NAMESPACE answer is made from.
+#[derive(Clone, Copy)]
+struct Spaces<'a, 'b> {
+    namespaces: &'a [u8],
+    tag: &'b [u8],
+}
+
+impl Answer for Spaces<'_, '_> {
+    ghost text = { λ a. spaces_text a.namespaces.now a.tag.now };
+
+    ghost is_ready = { λ _. Unit };
+
+    fn put(self, buf: &mut [u8]) -> usize {
+        put_spaces(buf, self.namespaces, self.tag)
+    }
 }
 
 // The root line and the tagged line.
@@ -42,7 +59,23 @@ fn put_root(buf: &mut [u8], tag: &[u8]) -> usize
 pub(crate) fn write_root(tag: &[u8], out: &mut [u8]) -> Result<usize, Refusal>
     ensures { Gives (root_reply tag.now) out.old out.new result }
 {
-    write_measured(|buf: &mut [u8]| put_root(buf, tag), out)
+    write_measured(Root { tag }, out)
+}
+
+// What the root answer is made from.
+#[derive(Clone, Copy)]
+struct Root<'a> {
+    tag: &'a [u8],
+}
+
+impl Answer for Root<'_> {
+    ghost text = { λ a. root_text a.tag.now };
+
+    ghost is_ready = { λ _. Unit };
+
+    fn put(self, buf: &mut [u8]) -> usize {
+        put_root(buf, self.tag)
+    }
 }
 
 // Whether the tagged line alone, the answer to an edit, fits a buffer of this size.

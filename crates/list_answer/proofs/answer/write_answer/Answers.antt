@@ -1,8 +1,7 @@
 -- `list_answer::answer::write_answer` meets its contract: the marked words are an index of the same rows. By Marking.
-use Rattle.listing_rules.proofs.Prelude.{◌∙◌, ◌≡◌, ap, subst, sym, List, ℕ, arith, map, rules}
+use Rattle.listing_rules.proofs.Prelude.{◌∙◌, ◌≡◌, ap, subst, sym, List, ℕ, arith, map}
 use Rattle.list_answer.specs.Marks.{marked_word}
 use Rattle.list_answer.specs.Ready.{Ready}
-use Rattle.list_answer.specs.Shown.{answer_text}
 use Rattle.list_answer.proofs.Marking.{marked_ready, marked_reply}
 use Rattle.list_answer.proofs.answer.write_answer.Goals as goal
 
@@ -17,5 +16,4 @@ returns c =
     λ index.
     let ready = subst (λ (ws : List ℕ). Ready a.area.now ws a.patterns.now a.question) (sym marked)
     (marked_ready _ _ _ _ index c.requires) in
-    let text = answer_text a.area.now c.mark_rows.new.words a.patterns.now a.question a.tag.now in
-    rw (← marked_reply _ _ _ _ _ _ marked) (c.write_measured.ensures text (λ before r after e. search (rules, ready)))
+    rw (← marked_reply _ _ _ _ _ _ marked) (c.write_marked.ensures ready)

@@ -5,10 +5,10 @@ use Rattle.list_answer.proofs.measured.write_measured.Goals as goal
 
 pub returns-then-out-need : goal.returns-then-out-need
 returns-then-out-need g c =
-    λ text puts. written_short c.args.out.now text (omega (arith, (puts _ _ _ c.put-need.ensures).place))
+    λ ready. written_short c.args.out.now _ (omega (arith, (c.put-need.ensures ready).place))
 
 pub returns : goal.returns
 returns g c =
-    λ text puts.
-    let written = puts _ _ _ c.put.ensures in
-    written_fits _ _ written (omega (arith, (puts _ _ _ c.put-need.ensures).place, written.fits))
+    λ ready.
+    let written = c.put.ensures ready in
+    written_fits _ _ written (omega (arith, (c.put-need.ensures ready).place, written.fits))

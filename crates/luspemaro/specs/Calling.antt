@@ -28,10 +28,9 @@ GotSome room (Failed error) = Unit
 abbrev pub Leaves : List ℕ → List ℕ → Type 0
 Leaves bytes left = (n : ℕ) × ((n ≤ length bytes) × (left ≡ drop n bytes))
 
--- a write of n bytes that was not given up took one at least
-abbrev pub Takes : ℕ → Result ℕ ℤ → Type 0
-Takes n (Ok k) = (0 < k) × (k ≤ n)
-Takes n (Err error) = Unit
+-- a write that was not given up took one at least
+abbrev pub LeavesLess : List ℕ → List ℕ → Type 0
+LeavesLess bytes left = Leaves bytes left × (length left < length bytes)
 
 -- what came of bytes that were to be sent: how many the system took, and whether they were all
 abbrev pub Sent : Type 0

@@ -1,10 +1,10 @@
 // The calls of the system, made again where they were interrupted or would have blocked.
 
 ghost use Rattle.std.specs.Prelude.{◌≤◌, ◌≡◌, false, pos, drop, length, Ok, is_ok};
-ghost use Rattle.std.specs.Result.{ForOk, ForErr};
+ghost use Rattle.std.specs.Result.{ForOk, ForErr, IfOk};
 ghost use Rattle.io.specs.Counts.{IsPrefixLen};
 ghost use Rattle.luspemaro.specs.declared.calls.Got.TheVariants.{End};
-ghost use Rattle.luspemaro.specs.Calling.{is_repeated, Moved, Fails, GotSome, Takes, Sends};
+ghost use Rattle.luspemaro.specs.Calling.{is_repeated, Moved, Fails, GotSome, LeavesLess, Sends};
 
 use std::io::{Error, Read, Write};
 use std::thread;
@@ -125,17 +125,17 @@ pub(crate) fn read_some(rt: &HostRuntime, chunk: &mut [u8]) -> Got
     Got::Failed(EAGAIN)
 }
 
-// One write, which takes a byte or more: how many it took, or the error by which it was given up. A write that takes nothing and does
-// not fail would have blocked.
-fn write_some(rt: &HostRuntime, bytes: &[u8]) -> Result<usize, i32>
-    ensures { Takes (length bytes.now) result }
+// One write, which takes a byte or more: the bytes that are left after it, or the error by which it was given up. A write that takes
+// nothing and does not fail would have blocked.
+fn write_some<'a>(rt: &HostRuntime, bytes: &'a [u8]) -> Result<&'a [u8], i32>
+    ensures { IfOk result (λ left. LeavesLess bytes.now left.now) }
 {
     for _ in 0..u64::MAX {
         let moved = write_to(rt, STDOUT_FILENO, bytes);
         match moved {
             Ok(taken) => {
                 if 0 < taken {
-                    return Ok(taken);
+                    return Ok(left_of(bytes, taken));
                 }
                 pause(rt);
             },
@@ -168,7 +168,7 @@ pub(crate) fn send(rt: &HostRuntime, out: &[u8], written: usize) -> Result<usize
     // A `while`: each turn leaves as many bytes less as the system took.
     while 0 < rest.len() {
         match write_some(rt, rest) {
-            Ok(n) => rest = left_of(rest, n),
+            Ok(left) => rest = left,
             Err(error) => {
                 let bytes = written - rest.len();
                 return Err(Unsent { bytes, error });
